@@ -1,0 +1,3 @@
+pub mod TabledLemmas
+pub mod GridLemmas
+pub mod PortLemmas

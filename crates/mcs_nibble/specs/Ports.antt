@@ -1,0 +1,32 @@
+-- The port of a 4001: what its latch holds and what the processor reads, line by line.
+-- Source: MCS-4 Users Manual, 4001; that an output line reads the constant of its mask is our own choice.
+use Rattle.std.specs.Prelude.{ℕ, Bool, true, false, List, slice_index_or, if◌then◌else◌}
+use Rattle.mcs_nibble.specs.Bits.{bit_of, nibble_of}
+use Rattle.mcs_nibble.specs.declared.lines.LineMask.{LineMask}
+use Rattle.mcs_nibble.specs.declared.lines.LineMask.TheVariants.{Input, Zero, One}
+
+-- whether a mask makes its line an input
+abbrev pub is_input : LineMask → Bool
+is_input Input = true
+is_input Zero = false
+is_input One = false
+
+-- the mask of line k
+abbrev pub mask_at : List LineMask → ℕ → LineMask
+mask_at mask k = slice_index_or mask k Input
+
+-- bit k of what the latch holds once n is written: that of n on an output line, 0 on an input line
+abbrev pub held_bit : List LineMask → ℕ → ℕ → ℕ
+held_bit mask n k = if is_input (mask_at mask k) then 0 else bit_of n k
+
+-- what the latch holds once n is written
+unfoldable pub held : List LineMask → ℕ → ℕ
+held mask n = nibble_of (held_bit mask n)
+
+-- bit k of what is read, where `inputs` gives the level of each input line
+abbrev pub read_bit : (ℕ → ℕ) → List LineMask → ℕ → ℕ
+read_bit inputs mask k = elim (mask_at mask k) [ Input ↦ inputs k | Zero ↦ 0 | One ↦ 1 ]
+
+-- what is read at the port
+unfoldable pub read_lines : (ℕ → ℕ) → List LineMask → ℕ
+read_lines inputs mask = nibble_of (read_bit inputs mask)

@@ -1,0 +1,83 @@
+//! Addresses of the program memory.
+ghost use Rattle.std.specs.Prelude.{◌≡◌, ℕ, ◌+◌, ◌*◌, ◌/◌, ◌%◌, ◌<◌, ◌↔◌, IsSome, IfSome};
+
+use crate::nibbles::Nibble;
+use std::marker::Model;
+
+/// An address of the program memory, 0 to 4095. Its upper four bits are its page, which is also the
+/// number of the ROM; the lower eight select the word.
+#[derive(Clone, Copy, Debug, Default, PartialEq, Eq, PartialOrd, Ord, Hash)]
+pub struct Addr {
+    value: u16,
+}
+
+impl Model for Addr {
+    ghost Value = { ℕ };
+
+    ghost view = { λ a. a.value };
+
+    ghost invariant = { λ a. a.value < 4096 };
+
+    ghost inverse = { λ v. record { value = v } };
+}
+
+impl Addr {
+    /// The first address, 0.
+    pub const ZERO: Addr = Addr { value: 0 };
+
+    /// The last address, 4095.
+    pub const MAX: Addr = Addr { value: 4095 };
+
+    /// The address of a number, or none where it is above 4095.
+    pub fn of(value: u16) -> Option<Addr>
+        ensures in_range { IsSome result ↔ (value < 4096) }
+        ensures value { IfSome result (λ a. a ≡ value) }
+    {
+        if value < 4096 {
+            Some(Addr { value })
+        } else {
+            None
+        }
+    }
+
+    /// The address of word `low` on a page.
+    pub fn on_page(page: Nibble, low: u8) -> Addr
+        ensures { result ≡ 256 * page + low }
+    {
+        Addr {
+            value: u16::from(page.get()) * 256 + u16::from(low),
+        }
+    }
+
+    /// The number, 0 to 4095.
+    pub fn get(self) -> u16
+        ensures value { result ≡ self }
+        ensures in_range { result < 4096 }
+    {
+        self.value
+    }
+
+    /// The page, which is the number of the ROM that the address selects.
+    pub fn page(self) -> Nibble
+        ensures page { result ≡ self / 256 }
+        ensures in_range { self / 256 < 16 }
+    {
+        Nibble::low_of((self.value / 256) as u8)
+    }
+
+    /// The word on the page.
+    pub fn low(self) -> u8
+        ensures { result ≡ self % 256 }
+    {
+        (self.value % 256) as u8
+    }
+
+    /// The address `n` words on; behind the last address comes the first.
+    pub fn plus(self, n: u16) -> Addr
+        ensures { result ≡ (self + n) % 4096 }
+    {
+        Addr {
+            value: (self.value + n % 4096) % 4096,
+        }
+    }
+}

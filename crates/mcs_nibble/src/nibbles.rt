@@ -1,0 +1,123 @@
+//! Nibbles.
+ghost use Rattle.std.specs.Prelude.{◌≡◌, ℕ, ◌+◌, ◌-◌, ◌*◌, ◌/◌, ◌%◌, ◌<◌, ◌↔◌, IsSome, IfSome};
+ghost use Rattle.mcs_nibble.specs.Bits.{bit_of};
+
+use crate::bits::Bit;
+use std::marker::Model;
+
+/// Four bits, 0 to 15: what the accumulator, a register, a RAM character or a port holds.
+#[derive(Clone, Copy, Debug, Default, PartialEq, Eq, PartialOrd, Ord, Hash)]
+pub struct Nibble {
+    value: u8,
+}
+
+impl Model for Nibble {
+    ghost Value = { ℕ };
+
+    ghost view = { λ n. n.value };
+
+    ghost invariant = { λ n. n.value < 16 };
+
+    ghost inverse = { λ v. record { value = v } };
+}
+
+impl Nibble {
+    /// The nibble 0.
+    pub const ZERO: Nibble = Nibble { value: 0 };
+
+    /// The nibble 1.
+    pub const ONE: Nibble = Nibble { value: 1 };
+
+    /// The greatest nibble, 15.
+    pub const MAX: Nibble = Nibble { value: 15 };
+
+    /// The nibble of a number, or none where it is above 15.
+    pub fn of(value: u8) -> Option<Nibble>
+        ensures in_range { IsSome result ↔ (value < 16) }
+        ensures value { IfSome result (λ n. n ≡ value) }
+    {
+        if value < 16 {
+            Some(Nibble { value })
+        } else {
+            None
+        }
+    }
+
+    /// The lower four bits of a byte.
+    pub fn low_of(byte: u8) -> Nibble
+        ensures { result ≡ byte % 16 }
+    {
+        Nibble { value: byte % 16 }
+    }
+
+    /// The upper four bits of a byte.
+    pub fn high_of(byte: u8) -> Nibble
+        ensures { result ≡ byte / 16 }
+    {
+        Nibble { value: byte / 16 }
+    }
+
+    /// The nibble of four bits, bit 0 first.
+    pub fn of_bits(b0: Bit, b1: Bit, b2: Bit, b3: Bit) -> Nibble
+        ensures value { result ≡ b0 + 2 * b1 + 4 * b2 + 8 * b3 }
+        ensures bit_0 { bit_of result 0 ≡ b0 }
+        ensures bit_1 { bit_of result 1 ≡ b1 }
+        ensures bit_2 { bit_of result 2 ≡ b2 }
+        ensures bit_3 { bit_of result 3 ≡ b3 }
+    {
+        Nibble {
+            value: b0.get() + 2 * b1.get() + 4 * b2.get() + 8 * b3.get(),
+        }
+    }
+
+    /// The number, 0 to 15.
+    pub fn get(self) -> u8
+        ensures value { result ≡ self }
+        ensures in_range { result < 16 }
+    {
+        self.value
+    }
+
+    /// The sum with `n` and a carry: the nibble modulo 16, and the carry out of it.
+    /// Source: Intel MCS-4 Users Manual, ADD.
+    pub fn add(self, n: Nibble, cy: Bit) -> (Nibble, Bit)
+        ensures sum { result.0 ≡ (self + n + cy) % 16 }
+        ensures carry { result.1 ≡ (self + n + cy) / 16 }
+    {
+        let sum = self.value + n.value + cy.get();
+        (Nibble::low_of(sum), Bit::low_of(sum / 16))
+    }
+
+    /// The difference to `n` with a borrow, as the 4004 makes it: the sum with the complements of
+    /// `n` and of the carry. A carry of 1 out of it says that nothing was borrowed.
+    /// Source: Intel MCS-4 Users Manual, SUB.
+    pub fn sub_borrow(self, n: Nibble, cy: Bit) -> (Nibble, Bit)
+        ensures sum { result.0 ≡ (self + (15 - n) + (1 - cy)) % 16 }
+        ensures carry { result.1 ≡ (self + (15 - n) + (1 - cy)) / 16 }
+    {
+        let sum = self.value + (15 - n.value) + (1 - cy.get());
+        (Nibble::low_of(sum), Bit::low_of(sum / 16))
+    }
+
+    /// The nibble with each bit turned over.
+    pub fn complement(self) -> Nibble
+        ensures { result ≡ 15 - self }
+    {
+        Nibble {
+            value: 15 - self.value,
+        }
+    }
+
+    /// Bit `k`, where bit 0 is the lowest.
+    pub fn bit(self, k: u8) -> Bit
+        requires { k < 4 }
+        ensures { result ≡ bit_of self k }
+    {
+        Bit::low_of(match k {
+            0 => self.value,
+            1 => self.value / 2,
+            2 => self.value / 4,
+            _ => self.value / 8,
+        })
+    }
+}
