@@ -1,0 +1,4 @@
+pub mod Decoding
+pub mod Digits
+pub mod Rising
+pub mod RunLemmas

@@ -1,0 +1,64 @@
+-- Runs without breakpoints: each comes to where its cycles do, one after the other.
+use Rattle.std.proofs.Common.{◌≡◌, ℕ, ◌+◌, ◌-◌, ◌<◌, zero, suc, Bool, true, false, ◌&&◌, cond, [], Option, Some, None, is_some, is_none, unwrap_or, ◌⊎◌, inl, inr, refl, sym, ap, ◌∙◌, arith, find, eqb}
+use Rattle.std.specs.List.{range_with_len}
+use Rattle.std.proofs.Math.Nat.{add-suc}
+use Rattle.std.proofs.lemmas.Bool.{eqb-true}
+use Rattle.mcs_model.specs.declared.regs.Regs.{Regs}
+use Rattle.mcs_model.specs.declared.stop.Stop.TheVariants.{Outside, Breakpoint, Ended}
+use Rattle.mcs_model.specs.Bus.{BusState}
+use Rattle.mcs_model.specs.Effect.{cycle_of}
+use Rattle.mcs_model.specs.Running.{Machine, is_outside, cycled, at_break, stop_at, after_run}
+
+-- the machine after one cycle
+abbrev next : Machine → Machine
+next s = unwrap_or (cycle_of s.0 s.1) s
+
+stays_for : (o : Option (Regs × BusState)) (s : Machine) → is_none o ≡ true → unwrap_or o s ≡ s
+stays_for None s _ = refl
+stays_for (Some t) s e = cc
+
+-- a machine that no cycle can follow stays as it is
+cycled-outside : (k : ℕ) (s : Machine) → is_outside s ≡ true → cycled k s ≡ s
+cycled-outside zero s h = refl
+cycled-outside (suc k) s h = ap next (cycled-outside k s h) ∙ stays_for (cycle_of s.0 s.1) s h
+
+pub cycled-add : (a b : ℕ) (s : Machine) → cycled (a + b) s ≡ cycled b (cycled a s)
+cycled-add a zero s = ap (λ n. cycled n s) (omega arith)
+cycled-add a (suc b) s = ap (λ n. cycled n s) (add-suc a b) ∙ ap next (cycled-add a b s)
+
+-- what holds of each number that passes, and of the default, holds of the first that passes
+found : (p : ℕ → Bool) (Q : ℕ → Type 0) (d : ℕ) → Q d → (a n : ℕ) → ((k : ℕ) → k < a + n → p k ≡ true → Q k) → Q (unwrap_or (find p (range_with_len a n)) d)
+found p Q d holds a zero h = holds
+found p Q d holds a (suc n) h =
+    elim (p a) as (λ v. p a ≡ v → Q (unwrap_or (cond v (Some a) (find p (range_with_len (a + 1) n))) d)) [
+      | true ↦ λ e. h a (omega arith) e
+      | false ↦ λ _. found p Q d holds (a + 1) n (λ k l e. h k (omega arith) e)
+    ] refl
+
+and_false : (x : Bool) → (x && false) ≡ false
+and_false true = refl
+and_false false = refl
+
+some_stop : (v b w : Bool) → b ≡ false → is_some (cond v (Some Outside) (cond b (Some Breakpoint) (cond w (Some Ended) None))) ≡ true → (v ≡ true) ⊎ (w ≡ true)
+some_stop true b w f e = inl refl
+some_stop false true w f e = cc
+some_stop false false true f e = inr refl
+some_stop false false false f e = cc
+
+-- without breakpoints, a run stops where no cycle can follow or at its end
+stop_cases : (n k : ℕ) (s : Machine) → is_some (stop_at [] n k s) ≡ true → (is_outside s ≡ true) ⊎ (eqb k n ≡ true)
+stop_cases n k s e = some_stop (is_outside s) (at_break [] k s) (eqb k n) (and_false _) e
+
+pub after_run-nil : (n : ℕ) (s : Machine) → after_run [] n s ≡ cycled n s
+after_run-nil n s =
+    found (λ k. is_some (stop_at [] n k (cycled k s))) (λ k. cycled k s ≡ cycled n s) n refl 0 (n + 1)
+    (λ k l e.
+    elim (stop_cases n k (cycled k s) e) [
+      | inl outside ↦ sym (ap (λ m. cycled m s) (let same : n ≡ k + (n - k) = omega arith in same) ∙ cycled-add k (n - k) s ∙ cycled-outside (n - k) (cycled k s) outside)
+      | inr ended ↦ ap (λ m. cycled m s) (eqb-true k n ended)
+    ])
+
+-- two runs one after the other, without breakpoints, come to where one run of all their cycles does
+pub after_run-after_run : (a b : ℕ) (s : Machine) → after_run [] b (after_run [] a s) ≡ after_run [] (a + b) s
+after_run-after_run a b s =
+    after_run-nil b (after_run [] a s) ∙ ap (cycled b) (after_run-nil a s) ∙ sym (cycled-add a b s) ∙ sym (after_run-nil (a + b) s)

@@ -1,0 +1,8 @@
+use Rattle.std.proofs.Common.{◌≡◌}
+use Rattle.mcs_model.proofs.Rising.{length-rising}
+use Rattle.mcs_model.proofs.image.Image.pairs.Goals as goal
+
+pub returns-clause-few : goal.returns-clause-few
+returns-clause-few c =
+    let is : c.deref.result.now ≡ c.self.inside.pairs.items = c.deref.ensures.value in
+    rw is (length-rising c.self.inside.pairs.items c.self.invariant)

@@ -1,0 +1,11 @@
+-- Both are computed, code by code.
+use Rattle.std.proofs.Common.{refl}
+use Rattle.mcs_model.specs.Table.{row_of}
+use Rattle.mcs_model.proofs.laws.codes_are_in_one_row.Goals as goal
+
+pub returns-clause-outside : goal.returns-clause-outside
+unfolding row_of
+returns-clause-outside c = refl
+
+pub returns-clause-at_most_one : goal.returns-clause-at_most_one
+returns-clause-at_most_one c = refl

@@ -1,0 +1,94 @@
+-- What the processor reaches outside itself: the board, and what its chips hold.
+use Rattle.std.specs.Prelude.{ℕ, ◌+◌, ◌*◌, ◌/◌, List, [], replicate, Bool, slice_index, slice_set, if◌then◌else◌, nat_lt}
+use Rattle.mcs_model.specs.declared.board.BoardParts.{BoardParts}
+use Rattle.mcs_model.specs.Boards.{empty_parts}
+
+pub record BusState : Type 0 where
+  pub board : BoardParts
+  -- the bytes of the ROMs, by address: 4,096, those of absent ROMs 0
+  pub rom : List ℕ
+  -- the RAM characters, at bank * 256 + SRC byte: 2,048, absent ones 0
+  pub ram : List ℕ
+  -- the status characters, at (bank * 16 + upper nibble of SRC) * 4 + k: 512, absent ones 0
+  pub status : List ℕ
+  -- the port latches of the RAM chips, at bank * 4 + chip: 32, absent ones 0
+  pub ram_ports : List ℕ
+  -- the port latches of the ROMs: 16, absent ones and the bits of input lines 0
+  pub rom_ports : List ℕ
+  -- the SRC byte that the ROMs keep
+  pub rom_src : ℕ
+  -- the SRC byte that each bank keeps, 0 in a bank without chips (that each keeps its own is our own choice)
+  pub ram_src : List ℕ
+  -- the bits of each chain, bit 0 first
+  pub chains : List (List ℕ)
+  -- the keys, row by row: 1 where one is down
+  pub keys : List ℕ
+  -- the level of the TEST pin, set by a command (our own choice: 1 on a new board)
+  pub test : ℕ
+
+-- the empty board, all 0
+unfoldable pub zero_bus : BusState
+zero_bus = record {
+  board = empty_parts;
+  rom = replicate 4096 0;
+  ram = replicate 2048 0;
+  status = replicate 512 0;
+  ram_ports = replicate 32 0;
+  rom_ports = replicate 16 0;
+  rom_src = 0;
+  ram_src = replicate 8 0;
+  chains = [];
+  keys = [];
+  test = 0;
+}
+
+-- the ROM byte at an address; an absent ROM reads 00 (4001 data sheet; absent parts are our own choice)
+unfoldable pub fetch_of : BusState → ℕ → ℕ
+fetch_of s at = slice_index s.rom at
+
+-- how many chips a bank has
+abbrev pub wired_of : BusState → ℕ → ℕ
+wired_of s bank = slice_index s.board.banks bank
+
+-- the SRC byte that a bank keeps: its upper two bits select the chip, the next two the register, the
+-- lower nibble the character (4002 data sheet)
+abbrev pub src_of : BusState → ℕ → ℕ
+src_of s bank = slice_index s.ram_src bank
+
+-- whether a bank has the chip that an SRC byte selects
+abbrev pub has_chip : BusState → ℕ → ℕ → Bool
+has_chip s bank src = nat_lt (src / 64) (wired_of s bank)
+
+-- SRC sends a byte: the ROMs keep it, and the designated bank where it has chips
+-- (MCS-4 Users Manual, SRC; that the other banks keep their own is our own choice)
+unfoldable pub after_src : BusState → ℕ → ℕ → BusState
+after_src s bank byte =
+    if nat_lt 0 (wired_of s bank)
+    then record s { rom_src = byte; ram_src = slice_set s.ram_src bank byte }
+    else record s { rom_src = byte }
+
+-- the selected character of a bank (4002 data sheet; an absent one reads 0)
+unfoldable pub ram_of : BusState → ℕ → ℕ
+ram_of s bank = slice_index s.ram (bank * 256 + src_of s bank)
+
+-- a write to the selected character of a bank; one to an absent chip is lost
+unfoldable pub after_ram : BusState → ℕ → ℕ → BusState
+after_ram s bank n =
+    if has_chip s bank (src_of s bank)
+    then record s { ram = slice_set s.ram (bank * 256 + src_of s bank) n }
+    else s
+
+-- where status character k of the selected register stands among the 64 of its bank
+abbrev pub status_place : ℕ → ℕ → ℕ
+status_place src k = src / 16 * 4 + k
+
+-- status character k of the selected register of a bank (4002 data sheet; an absent one reads 0)
+unfoldable pub status_of : BusState → ℕ → ℕ → ℕ
+status_of s bank k = slice_index s.status (bank * 64 + status_place (src_of s bank) k)
+
+-- a write to status character k of the selected register of a bank; one to an absent chip is lost
+unfoldable pub after_status : BusState → ℕ → ℕ → ℕ → BusState
+after_status s bank k n =
+    if has_chip s bank (src_of s bank)
+    then record s { status = slice_set s.status (bank * 64 + status_place (src_of s bank) k) n }
+    else s

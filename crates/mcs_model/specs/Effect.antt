@@ -1,0 +1,161 @@
+-- The effect of each instruction, and one instruction cycle.
+-- (Intel MCS-4 Users Manual, instruction set: each rule is the description of the instruction that it
+-- names, in the manual's three groups. Our own choice are: codes outside the table, the list of return
+-- addresses that BBL leaves, an SRC byte for each bank, and that an instruction of two cycles does all
+-- its work in the first.)
+use Rattle.std.specs.Prelude.{ℕ, ◌+◌, ◌-◌, ◌*◌, ◌/◌, ◌%◌, Bool, ◌&&◌, ◌||◌, not, [], ◌∷◌, Option, Some, None, slice_index, if◌then◌else◌, nat_lt, ◌==◌}
+use Rattle.mcs_model.specs.declared.regs.Regs.{Regs}
+use Rattle.mcs_model.specs.declared.op.Op.{Op}
+use Rattle.mcs_model.specs.declared.op.Op.TheVariants.{Nop, Jcn, Fim, Src, Fin, Jin, Jun, Jms, Inc, Isz, Add, Sub, Ld, Xch, Bbl, Ldm, Wrm, Wmp, Wrr, Wr0, Wr1, Wr2, Wr3, Sbm, Rdm, Rdr, Adm, Rd0, Rd1, Rd2, Rd3, Clb, Clc, Iac, Cmc, Cma, Ral, Rar, Tcc, Dac, Tcs, Stc, Daa, Kbp, Dcl}
+use Rattle.mcs_model.specs.Numbers.{page_of, word_on_page}
+use Rattle.mcs_model.specs.Registers.{register_of, pair_of, with_register, with_pair}
+use Rattle.mcs_model.specs.Bus.{BusState, fetch_of, after_src, ram_of, after_ram, status_of, after_status}
+use Rattle.mcs_model.specs.Levels.{after_ram_port, after_rom_port, port_of}
+use Rattle.mcs_model.specs.Table.{decoded, words_of, cycles_of}
+
+-- the accumulator set
+abbrev pub with_acc : Regs → ℕ → Regs
+with_acc s n = record s { acc = n }
+
+-- a sum put into carry and accumulator
+abbrev pub with_sum : Regs → ℕ → Regs
+with_sum s x = record s { acc = x % 16; cy = x / 16 }
+
+-- word w on the page of an address
+abbrev pub beside : ℕ → ℕ → ℕ
+beside address w = word_on_page (page_of address) w
+
+-- the counter set to a word on its own page: behind an instruction's words that is the page of the next
+-- instruction (Manual, JCN, ISZ, FIN and JIN at the end of a page)
+abbrev pub with_word : Regs → ℕ → Regs
+with_word s w = record s { pc = beside s.pc w }
+
+-- JCN: whether the jump is taken. Condition bit 2 asks for an accumulator of 0, bit 1 for a carry of 1,
+-- bit 0 for a TEST of 0, and bit 3 turns the answer over.
+abbrev pub is_taken : ℕ → Regs → ℕ → Bool
+is_taken condition s test =
+    let holds =
+    (condition / 4 % 2 == 1 && s.acc == 0) || (condition / 2 % 2 == 1 && s.cy == 1) || (condition % 2 == 1 && test == 0) in
+    if condition / 8 % 2 == 1 then not holds else holds
+
+-- JCN: the counter where the jump is taken
+abbrev pub jumped : ℕ → ℕ → Regs → ℕ → Regs
+jumped condition w s test = if is_taken condition s test then with_word s w else s
+
+-- ISZ: register r counted up, and the counter where it is not 0 then
+abbrev pub counted : ℕ → ℕ → Regs → Regs
+counted r w s =
+    let n = (register_of s r + 1) % 16 in
+    if n == 0 then with_register s r n else with_word (with_register s r n) w
+
+-- JMS: the counter becomes the first return address, and the last one is lost
+abbrev pub called : ℕ → Regs → Regs
+called target s = record s { pc = target; ret = s.pc ∷ slice_index s.ret 0 ∷ slice_index s.ret 1 ∷ [] }
+
+-- BBL: back to the first return address; the counter becomes the last one (our own choice)
+abbrev pub returned : Regs → Regs
+returned s = record s { pc = slice_index s.ret 0; ret = slice_index s.ret 1 ∷ slice_index s.ret 2 ∷ s.pc ∷ [] }
+
+-- RAR: accumulator and carry one place to the right, round
+abbrev pub rotated_right : Regs → Regs
+rotated_right s = record s { acc = 8 * s.cy + s.acc / 2; cy = s.acc % 2 }
+
+-- DAA: 6 is added where the carry is 1 or the accumulator is above 9; the carry is set and never cleared
+abbrev pub adjusted : Regs → Regs
+adjusted s =
+    if s.cy == 1 || nat_lt 9 s.acc
+    then record s { acc = (s.acc + 6) % 16; cy = if nat_lt 15 (s.acc + 6) then 1 else s.cy }
+    else s
+
+-- KBP: the number of the only line that is 1, counted from 1; 0 for none, 15 for several
+abbrev pub key_of : ℕ → ℕ
+key_of n =
+    if n == 0 then 0
+    else if n == 1 then 1
+    else if n == 2 then 2
+    else if n == 4 then 3
+    else if n == 8 then 4
+    else 15
+
+-- The registers after an instruction on a bus, where the counter already stands behind its words: first
+-- the machine instructions (NOP to LDM), then those for RAM and ports (WRM to RD3), then the
+-- accumulator group (CLB to DCL).
+abbrev pub registers_after : Op → Regs → BusState → Regs
+registers_after Nop s _ = s
+registers_after (Jcn c b) s m = jumped c b s m.test
+registers_after (Fim k b) s _ = with_pair s k b
+registers_after (Src _) s _ = s
+registers_after (Fin k) s m = with_pair s k (fetch_of m (beside s.pc (pair_of s 0)))
+registers_after (Jin k) s _ = with_word s (pair_of s k)
+registers_after (Jun h b) s _ = record s { pc = word_on_page h b }
+registers_after (Jms h b) s _ = called (word_on_page h b) s
+registers_after (Inc r) s _ = with_register s r ((register_of s r + 1) % 16)
+registers_after (Isz r b) s _ = counted r b s
+registers_after (Add r) s _ = with_sum s (s.acc + register_of s r + s.cy)
+registers_after (Sub r) s _ = with_sum s (s.acc + (15 - register_of s r) + (1 - s.cy))
+registers_after (Ld r) s _ = with_acc s (register_of s r)
+registers_after (Xch r) s _ = with_acc (with_register s r s.acc) (register_of s r)
+registers_after (Bbl d) s _ = with_acc (returned s) d
+registers_after (Ldm d) s _ = with_acc s d
+registers_after Wrm s _ = s
+registers_after Wmp s _ = s
+registers_after Wrr s _ = s
+registers_after Wr0 s _ = s
+registers_after Wr1 s _ = s
+registers_after Wr2 s _ = s
+registers_after Wr3 s _ = s
+registers_after Sbm s m = with_sum s (s.acc + (15 - ram_of m s.dcl) + (1 - s.cy))
+registers_after Rdm s m = with_acc s (ram_of m s.dcl)
+registers_after Rdr s m = with_acc s (port_of m)
+registers_after Adm s m = with_sum s (s.acc + ram_of m s.dcl + s.cy)
+registers_after Rd0 s m = with_acc s (status_of m s.dcl 0)
+registers_after Rd1 s m = with_acc s (status_of m s.dcl 1)
+registers_after Rd2 s m = with_acc s (status_of m s.dcl 2)
+registers_after Rd3 s m = with_acc s (status_of m s.dcl 3)
+registers_after Clb s _ = record s { acc = 0; cy = 0 }
+registers_after Clc s _ = record s { cy = 0 }
+registers_after Iac s _ = with_sum s (s.acc + 1)
+registers_after Cmc s _ = record s { cy = 1 - s.cy }
+registers_after Cma s _ = with_acc s (15 - s.acc)
+registers_after Ral s _ = with_sum s (2 * s.acc + s.cy)
+registers_after Rar s _ = rotated_right s
+registers_after Tcc s _ = record s { acc = s.cy; cy = 0 }
+registers_after Dac s _ = with_sum s (s.acc + 15)
+registers_after Tcs s _ = record s { acc = 9 + s.cy; cy = 0 }
+registers_after Stc s _ = record s { cy = 1 }
+registers_after Daa s _ = adjusted s
+registers_after Kbp s _ = with_acc s (key_of s.acc)
+registers_after Dcl s _ = record s { dcl = s.acc % 8 }
+
+-- The bus after an instruction: SRC and those that write RAM, status or a port change it (Manual, SRC and
+-- the input, output and RAM instructions).
+abbrev pub bus_after : Op → Regs → BusState → BusState
+bus_after (Src k) s m = after_src m s.dcl (pair_of s k)
+bus_after Wrm s m = after_ram m s.dcl s.acc
+bus_after Wmp s m = after_ram_port m s.dcl s.acc
+bus_after Wrr s m = after_rom_port m s.acc
+bus_after Wr0 s m = after_status m s.dcl 0 s.acc
+bus_after Wr1 s m = after_status m s.dcl 1 s.acc
+bus_after Wr2 s m = after_status m s.dcl 2 s.acc
+bus_after Wr3 s m = after_status m s.dcl 3 s.acc
+bus_after _ _ m = m
+
+-- the counter moved behind an instruction's words, with the cycles that it still takes after this one
+abbrev pub behind_words : Op → Regs → Regs
+behind_words op s = record s { pc = (s.pc + words_of op) % 4096; owed = cycles_of op - 1 }
+
+-- processor and bus after an instruction
+abbrev pub effect : Op → Regs → BusState → Regs × BusState
+effect op s m = (registers_after op (behind_words op s) m, bus_after op s m)
+
+-- the instruction at the counter, if its code is in the table; the word behind address 4095 is at 0
+abbrev pub instruction_at : Regs → BusState → Option Op
+instruction_at s m = decoded (fetch_of m s.pc) (fetch_of m ((s.pc + 1) % 4096))
+
+-- One instruction cycle: an idle one where one is owed, else the instruction at the counter. It has
+-- no value where that code is outside the table.
+unfoldable pub cycle_of : Regs → BusState → Option (Regs × BusState)
+cycle_of s m =
+    if s.owed == 1
+    then Some (record s { owed = 0 }, m)
+    else elim (instruction_at s m) [ Some op ↦ Some (effect op s m) | None ↦ None ]

@@ -1,0 +1,104 @@
+-- The levels of lines, and what reading and writing a port does.
+use Rattle.std.specs.Prelude.{ℕ, ◌+◌, ◌*◌, ◌/◌, Bool, false, ◌&&◌, ◌==◌, List, [], ◌∷◌, Option, Some, None, length, take, slice_index, slice_index_or, slice_set, if◌then◌else◌}
+use Rattle.std.specs.List.{list_any, range_with_len}
+use Rattle.mcs_nibble.specs.Bits.{bit_of}
+use Rattle.mcs_nibble.specs.Ports.{held, read_lines}
+use Rattle.mcs_nibble.specs.Tabled.{tabled}
+use Rattle.mcs_model.specs.declared.board.KeyMatrix.{KeyMatrix}
+use Rattle.mcs_model.specs.declared.board.Line.{Line}
+use Rattle.mcs_model.specs.declared.board.Line.TheVariants.{Rom, Ram, Chain}
+use Rattle.mcs_model.specs.Boards.{masks_on, input_on, chain_part, chain_count}
+use Rattle.mcs_model.specs.Bus.{BusState, src_of, has_chip}
+
+abbrev pub bit_when : Bool → ℕ
+bit_when b = if b then 1 else 0
+
+-- bit i of a chain
+abbrev pub chain_bit : BusState → ℕ → ℕ → ℕ
+chain_bit s n i = slice_index (slice_index_or s.chains n []) i
+
+-- whether a column is line k of a ROM
+abbrev pub names : ℕ → ℕ → Line → Bool
+names chip k (Rom c j) = c == chip && j == k
+names chip k _ = false
+
+-- whether row r drives column j: the row's chain bit is 1, and the key of that row and column is down
+abbrev pub drives : List ℕ → List ℕ → KeyMatrix → ℕ → ℕ → Bool
+drives bits keys m j r =
+    slice_index bits (m.first + r) == 1 && slice_index keys (r * length m.columns.items + j) == 1
+
+-- whether some column names line k of a ROM and some row drives that column
+abbrev pub pulled : List ℕ → List ℕ → KeyMatrix → ℕ → ℕ → Bool
+pulled bits keys m chip k =
+    list_any (λ j. names chip k (slice_index_or m.columns.items j (Rom 0 0)) && list_any (drives bits keys m j) (range_with_len 0 m.rows))
+    (range_with_len 0 (length m.columns.items))
+
+-- whether a key pulls line k of a ROM to 1 (our own choice: each key has a diode)
+unfoldable pub keyed : BusState → ℕ → ℕ → Bool
+keyed s chip k =
+    elim s.board.keys [
+      | None ↦ false
+      | Some m ↦ pulled (slice_index_or s.chains m.chain []) s.keys m chip k
+    ]
+
+-- the bit that the latch of a port line holds
+unfoldable pub latch_of : BusState → Line → ℕ
+latch_of s (Rom c k) = bit_of (slice_index s.rom_ports c) k
+latch_of s (Ram b c k) = bit_of (slice_index s.ram_ports (b * 4 + c)) k
+latch_of s _ = 0
+
+-- the level of a line: the latch bit of an output line, the bit of a chain, and at an input line
+-- whether a key pulls it
+unfoldable pub level : BusState → Line → ℕ
+level s (Rom c k) = if input_on s.board c k then bit_when (keyed s c k) else latch_of s (Rom c k)
+level s (Ram b c k) = latch_of s (Ram b c k)
+level s (Chain n i) = chain_bit s n i
+
+-- the level of each chain's clock line
+unfoldable pub clock_levels : BusState → List ℕ
+clock_levels s = tabled (chain_count s.board) (λ i. level s (chain_part s.board i).clock)
+
+-- the bits of chain i behind a port write that left s and found its clock line at `was`: where that
+-- rose, each bit moves one place up, the data line's level becomes bit 0, and the last bit is lost
+-- (4003 data sheet; edge, order and data level are our own choice)
+unfoldable pub clocked : BusState → ℕ → ℕ → List ℕ → List ℕ
+clocked s i was row =
+    if was == 0 && level s (chain_part s.board i).clock == 1
+    then take (length row) (level s (chain_part s.board i).data_in ∷ row)
+    else row
+
+-- the chains clocked, where their clock lines were at `before`
+unfoldable pub moved : List ℕ → BusState → BusState
+moved before s = record s {
+  chains = tabled (chain_count s.board) (λ i. clocked s i (slice_index before i) (slice_index_or s.chains i []));
+}
+
+abbrev pub with_rom_latch : BusState → ℕ → ℕ → BusState
+with_rom_latch s c n = record s { rom_ports = slice_set s.rom_ports c n }
+
+abbrev pub with_ram_latch : BusState → ℕ → ℕ → BusState
+with_ram_latch s i n = record s { ram_ports = slice_set s.ram_ports i n }
+
+-- a write to the port of the selected RAM chip of a bank; one to an absent chip is lost
+-- (4002 data sheet, WMP)
+unfoldable pub after_ram_port : BusState → ℕ → ℕ → BusState
+after_ram_port s bank n =
+    if has_chip s bank (src_of s bank)
+    then moved (clock_levels s) (with_ram_latch s (bank * 4 + src_of s bank / 64) n)
+    else s
+
+-- a write to the port of the selected ROM; one to an absent ROM is lost (4001 data sheet, WRR)
+unfoldable pub after_rom_port : BusState → ℕ → BusState
+after_rom_port s n =
+    elim (masks_on s.board (s.rom_src / 16)) [
+      | Some mask ↦ moved (clock_levels s) (with_rom_latch s (s.rom_src / 16) (held mask n))
+      | None ↦ s
+    ]
+
+-- what is read at the port of the selected ROM; an absent ROM reads 0 (4001 data sheet, RDR)
+unfoldable pub port_of : BusState → ℕ
+port_of s =
+    elim (masks_on s.board (s.rom_src / 16)) [
+      | Some mask ↦ read_lines (λ k. bit_when (keyed s (s.rom_src / 16) k)) mask
+      | None ↦ 0
+    ]

@@ -1,0 +1,25 @@
+-- Bytes with their addresses.
+use Rattle.std.specs.Prelude.{ℕ, ◌+◌, ◌<◌, ◌↔◌, Bool, ◌&&◌, List, [], ◌∷◌, nat_lt, nat_le}
+use Rattle.std.specs.List.{list_any, All, AllPairs, Contains}
+
+-- some bytes from an address on, each with its address
+abbrev pub from_address : ℕ → List ℕ → List (ℕ × ℕ)
+from_address at [] = []
+from_address at (b ∷ bytes) = (at, b) ∷ from_address (at + 1) bytes
+
+-- whether one of the addresses from `at` on, that many, has a byte
+abbrev pub overlaps : List (ℕ × ℕ) → ℕ → ℕ → Bool
+overlaps pairs at count = list_any (λ p. nat_le at p.0 && nat_lt p.0 (at + count)) pairs
+
+-- by rising address, so no address comes twice
+abbrev pub IsRising : List (ℕ × ℕ) → Type 0
+IsRising image = AllPairs (λ p q. p.0 < q.0) image
+
+-- a list that an image can be
+pub record IsImage (image : List (ℕ × ℕ)) : Type 0 where
+  pub rising : IsRising image
+  pub in_range : All (λ p. (p.0 < 4096) × (p.1 < 256)) image
+
+-- the same pairs, by rising address
+abbrev pub IsImageOf : List (ℕ × ℕ) → List (ℕ × ℕ) → Type 0
+IsImageOf image pairs = IsRising image × ((p : ℕ × ℕ) → Contains image p ↔ Contains pairs p)

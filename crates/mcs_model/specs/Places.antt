@@ -1,0 +1,75 @@
+-- What a board's chips hold, changed at one place, by a reset, and by a new board.
+-- Source: MCS-4 Users Manual, the chips; that writes to absent chips are lost, and what a reset and a new
+-- board clear, are our own choice.
+use Rattle.std.specs.Prelude.{ℕ, ◌+◌, ◌*◌, ◌/◌, List, [], Some, None, is_some, map, replicate, slice_index, slice_index_or, slice_set, if◌then◌else◌, nat_lt}
+use Rattle.mcs_nibble.specs.Tabled.{tabled}
+use Rattle.mcs_nibble.specs.Ports.{held}
+use Rattle.mcs_model.specs.declared.board.BoardParts.{BoardParts}
+use Rattle.mcs_model.specs.declared.board.ChainPart.{ChainPart}
+use Rattle.mcs_model.specs.Boards.{masks_on, key_count, key_place}
+use Rattle.mcs_model.specs.Bus.{BusState, has_chip, wired_of}
+use Rattle.mcs_model.specs.Levels.{with_rom_latch, with_ram_latch}
+
+-- the ROM byte at an address; lost where the ROM is absent
+unfoldable pub with_rom_byte : BusState → ℕ → ℕ → BusState
+with_rom_byte s at byte = if is_some (masks_on s.board (at / 256)) then record s { rom = slice_set s.rom at byte } else s
+
+-- the RAM character of a bank and an SRC byte; lost where the chip is absent
+unfoldable pub with_ram : BusState → ℕ → ℕ → ℕ → BusState
+with_ram s bank src n = if has_chip s bank src then record s { ram = slice_set s.ram (bank * 256 + src) n } else s
+
+-- where status character k of the register with SRC high nibble `high` of a bank stands
+abbrev pub status_at : ℕ → ℕ → ℕ → ℕ
+status_at bank high k = bank * 64 + (high * 4 + k)
+
+-- the status character of a bank, an SRC high nibble and k; lost where the chip is absent
+unfoldable pub with_status : BusState → ℕ → ℕ → ℕ → ℕ → BusState
+with_status s bank high k n = if nat_lt (high / 4) (wired_of s bank) then record s { status = slice_set s.status (status_at bank high k) n } else s
+
+-- the port latch of a RAM chip, nothing being clocked; lost where the chip is absent
+unfoldable pub with_ram_port : BusState → ℕ → ℕ → ℕ → BusState
+with_ram_port s bank chip n = if nat_lt chip (wired_of s bank) then with_ram_latch s (bank * 4 + chip) n else s
+
+-- the port latch of a ROM, nothing being clocked: n on its output lines, 0 on its input lines; lost where the ROM is
+-- absent
+unfoldable pub with_rom_port : BusState → ℕ → ℕ → BusState
+with_rom_port s chip n = elim (masks_on s.board chip) [ Some mask ↦ with_rom_latch s chip (held mask n) | None ↦ s ]
+
+-- the SRC byte that a bank keeps; one without chips stays at 0
+unfoldable pub with_ram_src : BusState → ℕ → ℕ → BusState
+with_ram_src s bank byte = if nat_lt 0 (wired_of s bank) then record s { ram_src = slice_set s.ram_src bank byte } else s
+
+-- bit i of a chain; nothing is shifted
+abbrev pub with_chain_bit : BusState → ℕ → ℕ → ℕ → BusState
+with_chain_bit s n i bit = record s { chains = slice_set s.chains n (slice_set (slice_index_or s.chains n []) i bit) }
+
+-- the key of a row and a column: 1 where it is down
+abbrev pub with_key : BusState → ℕ → ℕ → ℕ → BusState
+with_key s row column bit = record s { keys = slice_set s.keys (key_place s.board row column) bit }
+
+-- the chains of a board, all bits 0
+abbrev pub blank_chains : BoardParts → List (List ℕ)
+blank_chains b = map (λ (c : ChainPart). replicate (10 * c.chips) 0) b.chains.items
+
+-- a power cycle: RAM, port latches, SRC bytes and chains become 0; nothing is shifted; ROM, keys, TEST and the board stay
+abbrev pub after_reset : BusState → BusState
+after_reset s = record s {
+  ram = replicate 2048 0;
+  status = replicate 512 0;
+  ram_ports = replicate 32 0;
+  rom_ports = replicate 16 0;
+  rom_src = 0;
+  ram_src = replicate 8 0;
+  chains = blank_chains s.board;
+}
+
+-- the bytes of the ROMs that a board has, 0 at the others
+unfoldable pub kept_rom : BoardParts → List ℕ → List ℕ
+kept_rom b rom = tabled 4096 (λ at. if is_some (masks_on b (at / 256)) then slice_index rom at else 0)
+
+-- another board: all keys are up, all that a reset clears is cleared, the bytes of ROMs that it lacks become 0
+abbrev pub after_wire : BusState → BoardParts → BusState
+after_wire s b = record (after_reset (record s { board = b })) {
+  rom = kept_rom b s.rom;
+  keys = replicate (key_count b) 0;
+}

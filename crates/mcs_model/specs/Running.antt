@@ -1,0 +1,68 @@
+-- A run and a step: the cycle repeated up to the first reason to stop. (Our own choice.)
+use Rattle.std.specs.Prelude.{◌≡◌, ℕ, ◌+◌, zero, suc, Bool, ◌&&◌, List, [], Option, Some, None, is_none, is_some, if◌then◌else◌, nat_lt, ◌==◌, unwrap_or, find}
+use Rattle.std.specs.List.{range_with_len, list_any}
+use Rattle.mcs_model.specs.declared.regs.Regs.{Regs}
+use Rattle.mcs_model.specs.declared.stop.Stop.{Stop}
+use Rattle.mcs_model.specs.declared.stop.Stop.TheVariants.{Outside, Breakpoint, Ended}
+use Rattle.mcs_model.specs.Bus.{BusState}
+use Rattle.mcs_model.specs.Effect.{cycle_of}
+
+-- a processor on a bus
+abbrev pub Machine : Type 0
+Machine = Regs × BusState
+
+-- whether no cycle can follow: none is owed, and the code at the counter is outside the table
+abbrev pub is_outside : Machine → Bool
+is_outside s = is_none (cycle_of s.0 s.1)
+
+-- a machine after k cycles; where no cycle can follow it stays as it is
+abbrev pub cycled : ℕ → Machine → Machine
+cycled zero s = s
+cycled (suc k) s = unwrap_or (cycle_of (cycled k s).0 (cycled k s).1) (cycled k s)
+
+-- whether a run is at a breakpoint after k cycles: none at its start counts, and none between the two
+-- cycles of an instruction
+abbrev pub at_break : List ℕ → ℕ → Machine → Bool
+at_break breaks k s = nat_lt 0 k && s.0.owed == 0 && list_any (λ a. a == s.0.pc) breaks
+
+-- whether a run of n cycles stops after k of them, at the machine s, and why
+abbrev pub stop_at : List ℕ → ℕ → ℕ → Machine → Option Stop
+stop_at breaks n k s =
+    if is_outside s then Some Outside
+    else if at_break breaks k s then Some Breakpoint
+    else if k == n then Some Ended
+    else None
+
+-- how many cycles a run of n cycles takes: the least k at which it stops
+abbrev pub run_length : List ℕ → ℕ → Machine → ℕ
+run_length breaks n s = unwrap_or (find (λ k. is_some (stop_at breaks n k (cycled k s))) (range_with_len 0 (n + 1))) n
+
+-- the machine after a run of n cycles
+abbrev pub after_run : List ℕ → ℕ → Machine → Machine
+after_run breaks n s = cycled (run_length breaks n s) s
+
+-- why a run of n cycles stops
+abbrev pub run_stop : List ℕ → ℕ → Machine → Stop
+run_stop breaks n s = unwrap_or (stop_at breaks n (run_length breaks n s) (after_run breaks n s)) Ended
+
+-- whether a step stops after k cycles, at the machine s, and why: at its start where no cycle can
+-- follow, else behind the instruction
+abbrev pub step_at : ℕ → Machine → Option Stop
+step_at zero s = if is_outside s then Some Outside else None
+step_at (suc k) s = if s.0.owed == 0 then Some Ended else None
+
+-- how many cycles a step takes, at most 2: the least k at which it stops
+abbrev pub step_length : Machine → ℕ
+step_length s = unwrap_or (find (λ k. is_some (step_at k (cycled k s))) (range_with_len 0 3)) 2
+
+-- the machine after a step
+abbrev pub after_step : Machine → Machine
+after_step s = cycled (step_length s) s
+
+-- why a step stops
+abbrev pub step_stop : Machine → Stop
+step_stop s = unwrap_or (step_at (step_length s) (after_step s)) Ended
+
+-- where no breakpoint is set, two runs come to where one run of all their cycles does
+abbrev pub RunsCompose : Type 0
+RunsCompose = (s : Machine) (a b : ℕ) → after_run [] b (after_run [] a s) ≡ after_run [] (a + b) s

@@ -1,0 +1,568 @@
+//! What is on a board.
+
+ghost use Rattle.std.specs.Prelude.{◌≡◌, ◌<◌, ◌*◌, ◌||◌, not, MatchOption, Ok, Err, None, nat_lt, nat_le, length, slice_get, slice_index};
+ghost use Rattle.std.specs.List.{list_any};
+ghost use Rattle.mcs_model.specs.Boards.{fault_of, in_range, exists_on, masks_on, is_input_line, is_output_line, is_chain_size, is_matrix_size, has_bad_matrix, has_bad_value, lacks_rows, lacks_line, has_wrong_direction, any_chain_line, any_column, any_lamp, any_line, input_on, chain_bits, chain_count, chain_part, has_key, empty_parts, IsSized};
+
+use crate::limits::{
+    BANK_CHIPS, BANKS, CHAIN_BITS, CHAIN_CHIPS, CHAINS, KEY_COLUMNS, KEY_ROWS, LAMPS, ROMS,
+};
+use arrayvec::ArrayVec;
+use mcs_nibble::LineMask;
+use std::marker::Model;
+use thiserror::Error;
+
+/// A line of a board. Its numbers may be any: whether a board has such a line is asked of the board.
+#[derive(Clone, Copy, Debug, PartialEq, Eq)]
+pub enum Line {
+    /// A port line of a ROM: the chip 0 to 15, and the line 0 to 3.
+    Rom(u8, u8),
+    /// An output line of a RAM chip: the bank 0 to 7, the chip 0 to 3, and the line 0 to 3.
+    Ram(u8, u8, u8),
+    /// An output of a chain of shift registers: the chain, and the bit.
+    Chain(u8, u8),
+}
+
+impl Default for Line {
+    fn default() -> Line {
+        Line::Rom(0, 0)
+    }
+}
+
+/// A chain of 4003 shift registers, each of ten bits.
+#[derive(Clone, Copy, Debug, Default, PartialEq, Eq)]
+pub struct ChainPart {
+    /// The output line that clocks it.
+    pub clock: Line,
+    /// The output line whose level it takes in.
+    pub data_in: Line,
+    /// How many chips it has.
+    pub chips: u8,
+}
+
+impl ChainPart {
+    /// How many bits it has: ten for each of its chips.
+    pub fn bits(self) -> u16
+        ensures { result ≡ 10 * self.chips }
+    {
+        10 * u16::from(self.chips)
+    }
+}
+
+/// A matrix of keys, between the outputs of a chain and input lines of ROMs.
+#[derive(Debug, Drop)]
+pub struct KeyMatrix {
+    /// The chain that drives the rows.
+    pub chain: u8,
+    /// The bit of the chain that drives row 0; row r is driven by bit `first + r`.
+    pub first: u8,
+    /// How many rows it has.
+    pub rows: u8,
+    /// The line that each column pulls.
+    pub columns: ArrayVec<Line, KEY_COLUMNS>,
+}
+
+/// The parts of a board. They may be any: whether they make a board is asked of them.
+#[derive(Debug, Drop)]
+pub struct BoardParts {
+    /// The ROMs by their number, with what each port line is; line 0 first.
+    pub roms: [Option<[LineMask; 4]>; ROMS],
+    /// How many 4002 chips each bank has.
+    pub banks: [u8; BANKS],
+    /// The chains of shift registers.
+    pub chains: ArrayVec<ChainPart, CHAINS>,
+    /// The keys, if there are any.
+    pub keys: Option<KeyMatrix>,
+    /// The lines that the lamps show.
+    pub lamps: ArrayVec<Line, LAMPS>,
+}
+
+/// Why parts make no board: the first of these that is so.
+#[derive(Clone, Copy, Debug, PartialEq, Eq, Error)]
+pub enum BoardFault {
+    /// A number is out of its range, or a key matrix has no column.
+    #[error("a number is out of its range")]
+    BadValue,
+    /// A line, a chain or a row's bit is not on the board.
+    #[error("no such line on the board")]
+    NoSuchLine,
+    /// An input line where an output line is wanted, or the other way round.
+    #[error("a line of the wrong direction")]
+    WrongDirection,
+}
+
+/// Whether the numbers of a line are in their ranges.
+fn is_in_range(line: Line) -> bool
+    ensures { result ≡ in_range line }
+{
+    match line {
+        Line::Rom(chip, k) => usize::from(chip) < ROMS && k < 4,
+        Line::Ram(bank, chip, k) => usize::from(bank) < BANKS && chip < BANK_CHIPS && k < 4,
+        Line::Chain(n, i) => usize::from(n) < CHAINS && i < CHAIN_BITS,
+    }
+}
+
+/// Whether some line has a number out of its range.
+fn has_line_out_of_range(lines: &[Line]) -> bool
+    ensures { result ≡ list_any (λ line. not (in_range line)) lines.now }
+{
+    lines.iter().any(|line| !is_in_range(*line))
+}
+
+/// Whether the clock or the data line of a chain has a number out of its range.
+fn has_bad_line(chain: ChainPart) -> bool
+    ensures { result ≡ (not (in_range chain.clock) || not (in_range chain.data_in)) }
+{
+    !is_in_range(chain.clock) || !is_in_range(chain.data_in)
+}
+
+/// Whether a chain has a number of chips that a chain can have.
+fn is_sized(chain: ChainPart) -> bool
+    ensures { result ≡ is_chain_size chain }
+{
+    0 < chain.chips && chain.chips <= CHAIN_CHIPS
+}
+
+impl KeyMatrix {
+    /// Whether its numbers are in their ranges.
+    fn is_sized(&self) -> bool
+        ensures { result ≡ is_matrix_size self.now }
+    {
+        if usize::from(self.chain) >= CHAINS {
+            return false;
+        }
+        if self.first >= CHAIN_BITS {
+            return false;
+        }
+        0 < self.rows && self.rows <= KEY_ROWS && 0 < self.columns.len()
+    }
+}
+
+impl BoardParts {
+    /// The masks of a ROM, if it is there.
+    fn mask(&self, chip: u8) -> Option<[LineMask; 4]>
+        ensures { result ≡ masks_on self.now chip }
+    {
+        let at = usize::from(chip);
+        if at < ROMS { self.roms[at] } else { None }
+    }
+
+    /// How many chips a bank has; 0 of a bank that no board has.
+    fn bank_chips(&self, bank: u8) -> u8
+        ensures { result ≡ slice_index self.now.banks bank }
+    {
+        let at = usize::from(bank);
+        if at < BANKS { self.banks[at] } else { 0 }
+    }
+
+    /// How many bits a chain has; 0 where there is no such chain.
+    fn chain_bits(&self, n: u8) -> u16
+        ensures { result ≡ chain_bits self.now n }
+    {
+        match self.chains.get(usize::from(n)) {
+            Some(chain) => chain.bits(),
+            None => 0,
+        }
+    }
+
+    fn has_line(&self, line: Line) -> bool
+        ensures { result ≡ exists_on self.now line }
+    {
+        match line {
+            Line::Rom(chip, k) => self.mask(chip).is_some() && k < 4,
+            Line::Ram(bank, chip, k) => chip < self.bank_chips(bank) && k < 4,
+            Line::Chain(n, i) => u16::from(i) < self.chain_bits(n),
+        }
+    }
+
+    fn has_input_line(&self, line: Line) -> bool
+        ensures { result ≡ is_input_line self.now line }
+    {
+        match line {
+            Line::Rom(chip, k) => match self.mask(chip) {
+                Some(mask) => k < 4 && mask[usize::from(k)] == LineMask::Input,
+                None => false,
+            },
+            Line::Ram(_, _, _) | Line::Chain(_, _) => false,
+        }
+    }
+
+    fn has_output_line(&self, line: Line) -> bool
+        ensures { result ≡ is_output_line self.now line }
+    {
+        match line {
+            Line::Rom(chip, k) => match self.mask(chip) {
+                Some(mask) => k < 4 && mask[usize::from(k)] != LineMask::Input,
+                None => false,
+            },
+            Line::Ram(bank, chip, k) => self.has_line(Line::Ram(bank, chip, k)),
+            Line::Chain(_, _) => false,
+        }
+    }
+
+    fn has_large_bank(&self) -> bool
+        ensures { result ≡ list_any (λ n. nat_lt BANK_CHIPS n) self.now.banks }
+    {
+        self.banks.iter().any(|chips| *chips > BANK_CHIPS)
+    }
+
+    fn has_bad_chain(&self) -> bool
+        ensures { result ≡ list_any (λ chain. not (is_chain_size chain)) self.now.chains.items }
+    {
+        self.chains.iter().any(|chain| !is_sized(*chain))
+    }
+
+    fn has_bad_matrix(&self) -> bool
+        ensures { result ≡ has_bad_matrix self.now }
+    {
+        match &self.keys {
+            Some(keys) => !keys.is_sized(),
+            None => false,
+        }
+    }
+
+    fn has_bad_chain_line(&self) -> bool
+        ensures { result ≡ any_chain_line (λ line. not (in_range line)) self.now }
+    {
+        self.chains.iter().any(|chain| has_bad_line(*chain))
+    }
+
+    fn has_bad_column(&self) -> bool
+        ensures { result ≡ any_column (λ line. not (in_range line)) self.now }
+    {
+        match &self.keys {
+            Some(keys) => has_line_out_of_range(keys.columns.as_slice()),
+            None => false,
+        }
+    }
+
+    fn has_bad_lamp(&self) -> bool
+        ensures { result ≡ any_lamp (λ line. not (in_range line)) self.now }
+    {
+        has_line_out_of_range(self.lamps.as_slice())
+    }
+
+    /// Whether a number is out of its range.
+    fn has_bad_value(&self) -> bool
+        ensures { result ≡ has_bad_value self.now }
+    {
+        if self.has_large_bank() {
+            return true;
+        }
+        if self.has_bad_chain() {
+            return true;
+        }
+        if self.has_bad_matrix() {
+            return true;
+        }
+        if self.has_bad_chain_line() {
+            return true;
+        }
+        if self.has_bad_column() {
+            return true;
+        }
+        self.has_bad_lamp()
+    }
+
+    /// Whether some line is not on the board.
+    fn lacks_one_of(&self, lines: &[Line]) -> bool
+        ensures { result ≡ list_any (λ line. not (exists_on self.now line)) lines.now }
+    {
+        lines.iter().any(|line| !self.has_line(*line))
+    }
+
+    fn lacks_line_of(&self, chain: ChainPart) -> bool
+        ensures { result ≡ (not (exists_on self.now chain.clock) || not (exists_on self.now chain.data_in)) }
+    {
+        !self.has_line(chain.clock) || !self.has_line(chain.data_in)
+    }
+
+    fn lacks_chain_line(&self) -> bool
+        ensures { result ≡ any_chain_line (λ line. not (exists_on self.now line)) self.now }
+    {
+        self.chains.iter().any(|chain| self.lacks_line_of(*chain))
+    }
+
+    fn lacks_column(&self) -> bool
+        ensures { result ≡ any_column (λ line. not (exists_on self.now line)) self.now }
+    {
+        match &self.keys {
+            Some(keys) => self.lacks_one_of(keys.columns.as_slice()),
+            None => false,
+        }
+    }
+
+    fn lacks_lamp(&self) -> bool
+        ensures { result ≡ any_lamp (λ line. not (exists_on self.now line)) self.now }
+    {
+        self.lacks_one_of(self.lamps.as_slice())
+    }
+
+    fn lacks_rows(&self) -> bool
+        ensures { result ≡ lacks_rows self.now }
+    {
+        match &self.keys {
+            Some(keys) => {
+                if usize::from(keys.chain) >= self.chains.len() {
+                    return true;
+                }
+                u16::from(keys.first) + u16::from(keys.rows) > self.chain_bits(keys.chain)
+            }
+            None => false,
+        }
+    }
+
+    /// Whether a line is named, or a row wanted, that the board lacks.
+    fn lacks_line(&self) -> bool
+        ensures { result ≡ lacks_line self.now }
+    {
+        if self.lacks_chain_line() {
+            return true;
+        }
+        if self.lacks_column() {
+            return true;
+        }
+        if self.lacks_lamp() {
+            return true;
+        }
+        self.lacks_rows()
+    }
+
+    /// Whether some line is no input line.
+    fn has_other_than_input(&self, lines: &[Line]) -> bool
+        ensures { result ≡ list_any (λ line. not (is_input_line self.now line)) lines.now }
+    {
+        lines.iter().any(|line| !self.has_input_line(*line))
+    }
+
+    fn has_undriven_line(&self, chain: ChainPart) -> bool
+        ensures { result ≡ (not (is_output_line self.now chain.clock) || not (is_output_line self.now chain.data_in)) }
+    {
+        !self.has_output_line(chain.clock) || !self.has_output_line(chain.data_in)
+    }
+
+    fn has_undriven_chain(&self) -> bool
+        ensures { result ≡ any_chain_line (λ line. not (is_output_line self.now line)) self.now }
+    {
+        self.chains
+            .iter()
+            .any(|chain| self.has_undriven_line(*chain))
+    }
+
+    fn has_unread_column(&self) -> bool
+        ensures { result ≡ any_column (λ line. not (is_input_line self.now line)) self.now }
+    {
+        match &self.keys {
+            Some(keys) => self.has_other_than_input(keys.columns.as_slice()),
+            None => false,
+        }
+    }
+
+    fn has_input_lamp(&self) -> bool
+        ensures { result ≡ any_lamp (is_input_line self.now) self.now }
+    {
+        self.lamps.iter().any(|line| self.has_input_line(*line))
+    }
+
+    /// Whether a line has the wrong direction for its use.
+    fn has_wrong_direction(&self) -> bool
+        ensures { result ≡ has_wrong_direction self.now }
+    {
+        if self.has_undriven_chain() {
+            return true;
+        }
+        if self.has_unread_column() {
+            return true;
+        }
+        self.has_input_lamp()
+    }
+
+    /// The parts, whose lists have the lengths that their types say.
+    fn sized(&self) -> &BoardParts
+        ensures same { result.now ≡ self.now }
+        ensures sized { IsSized self.now }
+    {
+        let _rom = self.roms[0];
+        let _bank = self.banks[0];
+        let _chains = self.chains.as_slice();
+        let _lamps = self.lamps.as_slice();
+        self
+    }
+
+    /// What is wrong with the parts, if anything is.
+    fn fault(&self) -> Option<BoardFault>
+        ensures { result ≡ fault_of self.now }
+    {
+        if self.has_bad_value() {
+            return Some(BoardFault::BadValue);
+        }
+        if self.lacks_line() {
+            return Some(BoardFault::NoSuchLine);
+        }
+        if self.has_wrong_direction() {
+            return Some(BoardFault::WrongDirection);
+        }
+        None
+    }
+
+    /// Equal parts.
+    fn copy(&self) -> BoardParts
+        ensures { result ≡ self.now }
+    {
+        let keys = match &self.keys {
+            None => None,
+            Some(keys) => Some(KeyMatrix {
+                chain: keys.chain,
+                first: keys.first,
+                rows: keys.rows,
+                columns: copied(&keys.columns),
+            }),
+        };
+        BoardParts {
+            roms: self.roms,
+            banks: self.banks,
+            chains: copied(&self.chains),
+            keys,
+            lamps: copied(&self.lamps),
+        }
+    }
+}
+
+/// The same elements.
+fn copied<T: Copy + Default + Drop, const CAP: usize>(items: &ArrayVec<T, CAP>) -> ArrayVec<T, CAP>
+    ensures { result.items ≡ items.now.items }
+{
+    let mut copy = ArrayVec::new();
+    for item in items.as_slice() {
+        copy.push(*item);
+    }
+    copy
+}
+
+/// A board: parts with which nothing is wrong. Contracts see it as its parts.
+#[derive(Debug, Drop)]
+pub struct Board {
+    parts: BoardParts,
+}
+
+impl Model for Board {
+    ghost use Rattle.mcs_model.specs.declared.board.BoardParts.{BoardParts};
+
+    ghost Value = { BoardParts };
+
+    ghost use Rattle.std.specs.Prelude.{◌≡◌, None};
+    ghost use Rattle.mcs_model.specs.Boards.{fault_of};
+
+    ghost view = { λ b. b.parts };
+
+    ghost invariant = { λ b. fault_of b.parts ≡ None };
+}
+
+impl Board {
+    /// The board with nothing on it.
+    pub fn empty() -> Board
+        ensures { result ≡ empty_parts }
+    {
+        Board {
+            parts: BoardParts {
+                roms: [None; ROMS],
+                banks: [0; BANKS],
+                chains: ArrayVec::new(),
+                keys: None,
+                lamps: ArrayVec::new(),
+            },
+        }
+    }
+
+    /// The board of these parts, or what is wrong with them.
+    pub fn of(parts: BoardParts) -> Result<Board, BoardFault>
+        ensures { MatchOption (fault_of parts) (result ≡ Ok parts) (λ fault. result ≡ Err fault) }
+    {
+        match parts.fault() {
+            Some(fault) => Err(fault),
+            None => Ok(Board { parts }),
+        }
+    }
+
+    /// The parts. Nothing is wrong with them.
+    pub fn parts(&self) -> &BoardParts
+        ensures same { result.now ≡ self.now }
+        ensures valid { fault_of self.now ≡ None }
+        ensures sized { IsSized self.now }
+    {
+        self.parts.sized()
+    }
+
+    /// An equal board.
+    pub fn copy(&self) -> Board
+        ensures { result ≡ self.now }
+    {
+        Board {
+            parts: self.parts.copy(),
+        }
+    }
+
+    /// The masks of the four port lines of a ROM, line 0 first, if the board has that ROM.
+    pub fn mask(&self, chip: u8) -> Option<[LineMask; 4]>
+        ensures { result ≡ masks_on self.now chip }
+    {
+        self.parts.mask(chip)
+    }
+
+    /// How many chains the board has.
+    pub fn chain_count(&self) -> usize
+        ensures { result ≡ chain_count self.now }
+    {
+        self.parts.chains.len()
+    }
+
+    /// Chain `n`, counted from 0.
+    pub fn chain(&self, n: usize) -> ChainPart
+        requires { n < chain_count self.now }
+        ensures { result ≡ chain_part self.now n }
+    {
+        self.parts.chains[n]
+    }
+
+    /// The line of lamp `i`, counted from 0, or none where there is no such lamp.
+    pub fn lamp_line(&self, i: usize) -> Option<Line>
+        ensures { result ≡ slice_get self.now.lamps.items i }
+    {
+        self.parts.lamps.get(i).copied()
+    }
+
+    /// How many chips a bank has.
+    pub fn bank_chips(&self, bank: u8) -> u8
+        ensures { result ≡ slice_index self.now.banks bank }
+    {
+        self.parts.bank_chips(bank)
+    }
+
+    /// Whether line `k`, 0 to 3, of a ROM is an input line of the board.
+    pub fn is_input(&self, chip: u8, k: u8) -> bool
+        requires { k < 4 }
+        ensures { result ≡ input_on self.now chip k }
+    {
+        match self.parts.mask(chip) {
+            Some(mask) => mask[usize::from(k)] == LineMask::Input,
+            None => false,
+        }
+    }
+
+    /// Whether the board has a line.
+    pub fn has_line(&self, line: Line) -> bool
+        ensures { result ≡ exists_on self.now line }
+    {
+        self.parts.has_line(line)
+    }
+
+    /// Whether the board has the key of a row and a column.
+    pub fn has_key(&self, row: u8, column: u8) -> bool
+        ensures { result ≡ has_key self.now row column }
+    {
+        match &self.parts.keys {
+            Some(keys) => row < keys.rows && usize::from(column) < keys.columns.len(),
+            None => false,
+        }
+    }
+}

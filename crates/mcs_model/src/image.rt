@@ -1,0 +1,56 @@
+//! The bytes that a program puts into ROM.
+ghost use Rattle.std.specs.Prelude.{◌≡◌, ◌<◌, ◌≤◌, ◌∷◌, ◌++◌, [], All, IfOk, OnOk, OnErr, length};
+ghost use Rattle.mcs_model.specs.Pairs.{IsImage};
+
+use mcs_nibble::Addr;
+use std::alloc::{AllocError, Global};
+use std::marker::Model;
+
+/// Bytes with their addresses, by rising address and no address twice.
+#[derive(Debug, Drop)]
+pub struct Image {
+    pairs: Vec<(Addr, u8)>,
+}
+
+impl Model for Image {
+    ghost use Rattle.std.specs.Prelude.{List, ℕ};
+    ghost use Rattle.mcs_model.specs.Pairs.{IsImage};
+
+    ghost Value = { List (ℕ × ℕ) };
+
+    ghost view = { λ i. i.pairs.items };
+
+    ghost invariant = { λ i. IsImage i.pairs.items };
+}
+
+impl Image {
+    /// An image without bytes, with room for a page of them. It fails where that memory is
+    /// refused.
+    pub fn new(alloc: Global) -> Result<Image, AllocError>
+        ensures { IfOk result (λ i. i ≡ []) }
+    {
+        Ok(Image {
+            pairs: Vec::with_capacity(alloc, 256)?,
+        })
+    }
+
+    /// Adds a byte at an address above all others. Where the memory is refused the image is as it
+    /// was.
+    pub fn push(&mut self, at: Addr, byte: u8) -> Result<(), AllocError>
+        requires { All (λ p. p.0 < at) self.old }
+        ensures added { OnOk result (self.new ≡ self.old ++ (at, byte) ∷ []) }
+        ensures unchanged { OnErr result (self.new ≡ self.old) }
+    {
+        self.pairs.push((at, byte))?;
+        Ok(())
+    }
+
+    /// The bytes with their addresses, by rising address.
+    pub fn pairs(&self) -> &[(Addr, u8)]
+        ensures pairs { result.now ≡ self.now }
+        ensures image { IsImage result.now }
+        ensures few { length result.now ≤ 4096 }
+    {
+        &self.pairs
+    }
+}

@@ -1,0 +1,17 @@
+//! What a bench is about: its limits, its commands and their refusals, and the definitions in
+//! `specs/` that every crate above is proved against.
+#![tactic(auto)]
+
+pub mod board;
+pub mod command;
+pub mod image;
+pub mod laws;
+pub mod limits;
+pub mod mnemonic;
+pub mod numeral;
+pub mod op;
+pub mod query;
+pub mod refusals;
+pub mod regs;
+pub mod spelling;
+pub mod stop;

@@ -1,0 +1,55 @@
+//! All limits of a bench and of its session.
+
+/// 4001 chips of a board, one for each page of addresses.
+pub const ROMS: usize = 16;
+
+/// Banks of 4002 chips, one for each value of the command register.
+pub const BANKS: usize = 8;
+
+/// 4002 chips of a bank.
+pub const BANK_CHIPS: u8 = 4;
+
+/// Chains of 4003 chips of a board.
+pub const CHAINS: usize = 2;
+
+/// 4003 chips of a chain.
+pub const CHAIN_CHIPS: u8 = 4;
+
+/// Bits of a chain.
+pub const CHAIN_BITS: u8 = 40;
+
+/// Rows of a key matrix.
+pub const KEY_ROWS: u8 = 10;
+
+/// Columns of a key matrix.
+pub const KEY_COLUMNS: usize = 8;
+
+/// Lamps of a board.
+pub const LAMPS: usize = 64;
+
+/// Breakpoints that are set at one time.
+pub const BREAKPOINTS: usize = 32;
+
+/// Instruction cycles of one run.
+pub const RUN_CYCLES: u32 = 100_000;
+
+/// Instruction cycles that a session's log may take to be done again.
+pub const REPLAY_CYCLES: u32 = 4_000_000;
+
+/// Accepted commands of one session.
+pub const ACCEPTED_COMMANDS: u32 = 4_294_967_295;
+
+/// Bytes of a line, without its end.
+pub const LINE_BYTES: usize = 255;
+
+/// Bytes of a text, its line feeds among them.
+pub const TEXT_BYTES: usize = 16_384;
+
+/// Names that one source text defines.
+pub const NAMES: usize = 512;
+
+/// Bytes of a name.
+pub const NAME_BYTES: usize = 16;
+
+/// Bytes that one run of the shell reads.
+pub const INPUT_BYTES: usize = 16_777_216;

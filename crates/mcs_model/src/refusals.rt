@@ -1,0 +1,44 @@
+//! The refusals of a bench, and their numbers.
+ghost use Rattle.std.specs.Prelude.{◌≡◌};
+ghost use Rattle.mcs_model.specs.Refusal.{number_of};
+
+use thiserror::Error;
+
+/// Why a bench refuses a command. Nothing has changed then.
+#[derive(Clone, Copy, Debug, PartialEq, Eq, Error)]
+pub enum BenchFault {
+    /// The board has no such key.
+    #[error("no such key")]
+    NoKey,
+    /// The address lies in a ROM that the board lacks.
+    #[error("no such ROM")]
+    NoRom,
+    /// The place lies in a RAM chip that the board lacks.
+    #[error("no such place")]
+    NoSuchPlace,
+    /// A run of no cycle, or of too many.
+    #[error("not a number of cycles for a run")]
+    BadCount,
+    /// All breakpoints are taken.
+    #[error("all breakpoints are set")]
+    BreaksFull,
+    /// The session has accepted all the commands that it can count.
+    #[error("the session is worn")]
+    Worn,
+}
+
+impl BenchFault {
+    /// The number that the refusal is told by.
+    pub fn number(self) -> u8
+        ensures { result ≡ number_of self }
+    {
+        match self {
+            BenchFault::NoKey => 41,
+            BenchFault::NoRom => 42,
+            BenchFault::NoSuchPlace => 43,
+            BenchFault::BadCount => 44,
+            BenchFault::BreaksFull => 45,
+            BenchFault::Worn => 46,
+        }
+    }
+}

@@ -1,0 +1,12 @@
+//! Why a run stops.
+
+/// Why a run or a step stopped.
+#[derive(Clone, Copy, Debug, PartialEq, Eq)]
+pub enum Stop {
+    /// The code at the counter is outside the table.
+    Outside,
+    /// The counter is a breakpoint.
+    Breakpoint,
+    /// All its instruction cycles are done.
+    Ended,
+}
