@@ -1,0 +1,59 @@
+//! The code table of the 4004: from codes to instructions and back.
+//!
+//! `instructions!` lists the 45 instructions once. Each function here, and each user of the table,
+//! expands that list in its body with a macro of its own.
+//! Source: Intel MCS-4 Users Manual, instruction set.
+#![tactic(auto)]
+
+ghost use Rattle.std.specs.Prelude.{◌≡◌, ◌↔◌, IsSome, Some, unwrap_or};
+ghost use Rattle.std.specs.Option.{option_map_or};
+ghost use Rattle.mcs_model.specs.Table.{decoded, words_of, cycles_of};
+
+pub use mcs_model::op::Op;
+use mcs_nibble::{Nibble, PairNo, RegNo};
+use rows::{built, cycles_rows, decode_rows, encode_rows, spelled, word_count_rows, words_rows};
+pub use spelling::Words;
+
+mod rows;
+mod spelling;
+#[cfg(test)]
+mod tests;
+
+/// The instruction that two words spell, or none where the first is outside the table.
+#[tactic(auto, unfolding(mcs_model::specs::Table::decoded, mcs_model::specs::Table::row_of))]
+pub fn decode(first: u8, second: u8) -> Option<Op>
+    ensures { result ≡ decoded first second }
+{
+    instructions!(decode_rows!(first, second))
+}
+
+/// The words of an instruction.
+#[tactic(auto, unfolding(mcs_model::specs::Table::decoded, mcs_model::specs::Table::row_of))]
+pub fn encode(op: Op) -> Words
+    ensures decodes { decoded result.first (unwrap_or result.second 0) ≡ Some op }
+    ensures second { IsSome result.second ↔ (words_of op ≡ 2) }
+{
+    instructions!(encode_rows!(op))
+}
+
+/// How many words an instruction with that first word has, 1 or 2; 1 for a code outside the table.
+#[tactic(auto, unfolding(mcs_model::specs::Table::decoded, mcs_model::specs::Table::row_of))]
+pub fn words(code: u8) -> u8
+    ensures { result ≡ option_map_or words_of (decoded code 0) 1 }
+{
+    instructions!(words_rows!(code))
+}
+
+/// How many words an instruction has, 1 or 2.
+pub fn word_count(op: Op) -> u8
+    ensures { result ≡ words_of op }
+{
+    instructions!(word_count_rows!(op))
+}
+
+/// How many instruction cycles an instruction takes, 1 or 2.
+pub fn cycles(op: Op) -> u8
+    ensures { result ≡ cycles_of op }
+{
+    instructions!(cycles_rows!(op))
+}

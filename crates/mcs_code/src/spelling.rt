@@ -1,0 +1,11 @@
+//! The words of an instruction.
+
+/// The words that spell an instruction.
+#[derive(Clone, Copy, Debug, PartialEq, Eq)]
+pub struct Words {
+    /// The code.
+    pub first: u8,
+
+    /// The word behind it, of an instruction of two words.
+    pub second: Option<u8>,
+}

@@ -1,0 +1,60 @@
+//! What the processor reaches outside itself.
+ghost use Rattle.std.specs.Prelude.{◌≡◌, ℕ, ◌<◌};
+ghost use Rattle.mcs_model.specs.Bus.{BusState, fetch_of, after_src, ram_of, after_ram, status_of, after_status};
+ghost use Rattle.mcs_model.specs.Levels.{after_ram_port, after_rom_port, port_of};
+
+use mcs_nibble::{Addr, Bit, Nibble};
+
+/// The chips that the processor drives, and the TEST pin. Its meaning is a flat state, before and
+/// after each call. A bank is named by the value of the command register, 0 to 7.
+pub trait Bus {
+    ghost flat: { Self → BusState };
+
+    /// The ROM byte at an address.
+    fn fetch(&self, at: Addr) -> u8
+        ensures { result ≡ fetch_of (flat self.now) at };
+
+    /// Sends a byte out, as SRC does: the ROMs keep it, and the bank.
+    fn src(&mut self, bank: u8, byte: u8)
+        requires { bank < 8 }
+        ensures { flat self.new ≡ after_src (flat self.old) bank byte };
+
+    /// The selected RAM character of a bank.
+    fn ram_read(&self, bank: u8) -> Nibble
+        requires { bank < 8 }
+        ensures { result ≡ ram_of (flat self.now) bank };
+
+    /// Writes the selected RAM character of a bank.
+    fn ram_write(&mut self, bank: u8, n: Nibble)
+        requires { bank < 8 }
+        ensures { flat self.new ≡ after_ram (flat self.old) bank n };
+
+    /// Status character `k` of the selected register of a bank.
+    fn status_read(&self, bank: u8, k: u8) -> Nibble
+        requires bank { bank < 8 }
+        requires k { k < 4 }
+        ensures { result ≡ status_of (flat self.now) bank k };
+
+    /// Writes status character `k` of the selected register of a bank.
+    fn status_write(&mut self, bank: u8, k: u8, n: Nibble)
+        requires bank { bank < 8 }
+        requires k { k < 4 }
+        ensures { flat self.new ≡ after_status (flat self.old) bank k n };
+
+    /// Writes the port of the selected RAM chip of a bank.
+    fn ram_port(&mut self, bank: u8, n: Nibble)
+        requires { bank < 8 }
+        ensures { flat self.new ≡ after_ram_port (flat self.old) bank n };
+
+    /// Writes the port of the selected ROM.
+    fn rom_port(&mut self, n: Nibble)
+        ensures { flat self.new ≡ after_rom_port (flat self.old) n };
+
+    /// Reads the port of the selected ROM.
+    fn port_read(&self) -> Nibble
+        ensures { result ≡ port_of (flat self.now) };
+
+    /// The level of the TEST pin.
+    fn test(&self) -> Bit
+        ensures { result ≡ (flat self.now).test };
+}

@@ -1,0 +1,162 @@
+//! The processor and its instruction cycle.
+ghost use Rattle.std.specs.Prelude.{◌≡◌, ℕ, ◌<◌, ◌↔◌, IsNone, IsTrue, unwrap_or};
+ghost use Rattle.mcs_model.specs.Flat.{new_regs};
+ghost use Rattle.mcs_model.specs.Registers.{with_register};
+ghost use Rattle.mcs_model.specs.Effect.{cycle_of, effect};
+
+use crate::bus::Bus;
+use crate::execute::execute;
+use mcs_code::Op;
+use mcs_model::regs::Regs;
+use mcs_nibble::{Addr, Bit, Nibble, RegNo};
+use std::marker::Model;
+
+/// The first cycle of an instruction, which does all its work.
+fn perform<B: Bus>(regs: &mut Regs, bus: &mut B, op: Op)
+    requires { regs.old.dcl < 8 }
+    ensures effect { (regs.new, B.flat bus.new) ≡ effect op regs.old (B.flat bus.old) }
+    ensures dcl { regs.new.dcl < 8 }
+    ensures owed { regs.new.owed < 2 }
+{
+    let (counted, timed) = (op, op);
+    let words = mcs_code::word_count(counted);
+    regs.pc = regs.pc.plus(u16::from(words));
+    regs.owed = mcs_code::cycles(timed) - 1;
+    execute(regs, bus, op);
+}
+
+/// What an instruction cycle did.
+#[derive(Clone, Copy, Debug, PartialEq, Eq)]
+pub enum Cycle {
+    /// It did an instruction.
+    Done,
+    /// It was the second cycle of an instruction, in which nothing else happens.
+    Idle,
+    /// The code at the counter is outside the table: nothing changed.
+    Outside,
+}
+
+/// A 4004, as its registers.
+#[derive(Debug, Drop)]
+pub struct Cpu {
+    regs: Regs,
+}
+
+impl Model for Cpu {
+    ghost use Rattle.std.specs.Prelude.{◌<◌};
+    ghost use Rattle.mcs_model.specs.declared.regs.Regs.{Regs};
+
+    ghost Value = { Regs };
+
+    ghost view = { λ c. c.regs };
+
+    ghost invariant = { λ c. (c.regs.dcl < 8) × (c.regs.owed < 2) };
+}
+
+impl Cpu {
+    /// After power-on: all registers are 0.
+    pub fn new() -> Cpu
+        ensures { result ≡ new_regs }
+    {
+        Cpu { regs: Regs::new() }
+    }
+
+    /// One instruction cycle on a bus.
+    #[tactic(auto, unfolding(mcs_model::specs::Effect::cycle_of))]
+    pub fn cycle<B: Bus>(&mut self, bus: &mut B) -> Cycle
+        ensures outside { (result ≡ Cycle.Outside) ↔ IsNone (cycle_of self.old (B.flat bus.old)) }
+        ensures idle { (result ≡ Cycle.Idle) ↔ (self.old.owed ≡ 1) }
+        ensures state { (self.new, B.flat bus.new) ≡ unwrap_or (cycle_of self.old (B.flat bus.old)) (self.old, B.flat bus.old) }
+    {
+        if self.regs.owed == 1 {
+            self.regs.owed = 0;
+            return Cycle::Idle;
+        }
+        let at = self.regs.pc;
+        let second = at.plus(1);
+        match mcs_code::decode(bus.fetch(at), bus.fetch(second)) {
+            None => Cycle::Outside,
+            Some(op) => {
+                perform(&mut self.regs, bus, op);
+                Cycle::Done
+            }
+        }
+    }
+
+    /// Whether the next cycle on a bus would be `Outside`.
+    #[tactic(auto, unfolding(mcs_model::specs::Effect::cycle_of))]
+    pub fn is_outside<B: Bus>(&self, bus: &B) -> bool
+        ensures { IsTrue result ↔ IsNone (cycle_of self.now (B.flat bus.now)) }
+    {
+        let at = self.regs.pc;
+        let second = at.plus(1);
+        self.regs.owed != 1 && mcs_code::decode(bus.fetch(at), bus.fetch(second)).is_none()
+    }
+
+    /// All registers.
+    pub fn regs(&self) -> Regs
+        ensures same { result ≡ self.now }
+        ensures dcl { result.dcl < 8 }
+        ensures owed { result.owed < 2 }
+    {
+        self.regs
+    }
+
+    /// Sets the accumulator.
+    pub fn set_acc(&mut self, acc: Nibble)
+        ensures { self.new ≡ record self.old { acc = acc } }
+    {
+        self.regs.acc = acc;
+    }
+
+    /// Sets the carry.
+    pub fn set_cy(&mut self, cy: Bit)
+        ensures { self.new ≡ record self.old { cy = cy } }
+    {
+        self.regs.cy = cy;
+    }
+
+    /// Sets all index registers, `R0` first.
+    pub fn set_r(&mut self, r: [Nibble; 16])
+        ensures { self.new ≡ record self.old { r = r } }
+    {
+        self.regs.r = r;
+    }
+
+    /// Sets one index register.
+    pub fn set_register(&mut self, r: RegNo, n: Nibble)
+        ensures { self.new ≡ with_register self.old r n }
+    {
+        self.regs.set_register(r, n);
+    }
+
+    /// Sets the program counter.
+    pub fn set_pc(&mut self, pc: Addr)
+        ensures { self.new ≡ record self.old { pc = pc } }
+    {
+        self.regs.pc = pc;
+    }
+
+    /// Sets the return addresses, the one that BBL takes first.
+    pub fn set_ret(&mut self, ret: [Addr; 3])
+        ensures { self.new ≡ record self.old { ret = ret } }
+    {
+        self.regs.ret = ret;
+    }
+
+    /// Sets the command register.
+    pub fn set_dcl(&mut self, dcl: u8)
+        requires { dcl < 8 }
+        ensures { self.new ≡ record self.old { dcl = dcl } }
+    {
+        self.regs.dcl = dcl;
+    }
+
+    /// Sets how many idle cycles are owed.
+    pub fn set_owed(&mut self, owed: u8)
+        requires { owed < 2 }
+        ensures { self.new ≡ record self.old { owed = owed } }
+    {
+        self.regs.owed = owed;
+    }
+}
