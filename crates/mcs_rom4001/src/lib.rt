@@ -1,0 +1,164 @@
+//! The 4001: 256 bytes of program memory and a port of four lines.
+#![tactic(auto)]
+
+ghost use Rattle.std.specs.Prelude.{◌≡◌, ℕ, ◌<◌, slice_index, slice_set, replicate, length};
+ghost use Rattle.mcs_nibble.specs.Bits.{bit_of};
+ghost use Rattle.mcs_nibble.specs.Ports.{held, held_bit, read_bit, read_lines};
+
+use mcs_nibble::{Bit, LineMask, Nibble};
+use std::marker::Model;
+
+/// A 4001, by the MCS-4 Users Manual: 256 bytes and a port of four lines, each of which its mask makes an
+/// input or an output. The latch holds a value on the output lines; its bit at an input line is 0.
+#[derive(Debug, Drop)]
+pub struct Rom {
+    mask: [LineMask; 4],
+    bytes: [u8; 256],
+    port: Nibble,
+}
+
+impl Model for Rom {
+    ghost use Rattle.std.specs.Prelude.{◌≡◌};
+    ghost use Rattle.mcs_nibble.specs.Ports.{held};
+    ghost use Rattle.mcs_rom4001.specs.Roms.{RomState};
+
+    ghost Value = { RomState };
+
+    ghost view = { λ r. record { mask = r.mask; bytes = r.bytes; port = r.port } };
+
+    ghost invariant = { λ r. held r.mask r.port ≡ r.port };
+}
+
+/// What the latch holds on line `k` once `n` is written.
+fn held_line(mask: &[LineMask; 4], n: Nibble, k: u8) -> Bit
+    requires { k < 4 }
+    ensures { result ≡ held_bit mask.now n k }
+{
+    match mask[usize::from(k)] {
+        LineMask::Input => Bit::ZERO,
+        LineMask::Zero | LineMask::One => n.bit(k),
+    }
+}
+
+/// What the processor reads at line `k`, where `inputs` has the levels of the input lines.
+fn read_line(mask: &[LineMask; 4], inputs: Nibble, k: u8) -> Bit
+    requires { k < 4 }
+    ensures { result ≡ read_bit (bit_of inputs) mask.now k }
+{
+    match mask[usize::from(k)] {
+        LineMask::Input => inputs.bit(k),
+        LineMask::Zero => Bit::ZERO,
+        LineMask::One => Bit::ONE,
+    }
+}
+
+/// What the latch holds once `n` is written.
+#[tactic(auto, unfolding(mcs_nibble::specs::Ports::held))]
+fn held_port(mask: &[LineMask; 4], n: Nibble) -> Nibble
+    ensures { result ≡ held mask.now n }
+{
+    Nibble::of_bits(
+        held_line(mask, n, 0),
+        held_line(mask, n, 1),
+        held_line(mask, n, 2),
+        held_line(mask, n, 3),
+    )
+}
+
+/// What the processor reads at the port, where `inputs` has the levels of the input lines.
+#[tactic(auto, unfolding(mcs_nibble::specs::Ports::read_lines))]
+fn read_port_of(mask: &[LineMask; 4], inputs: Nibble) -> Nibble
+    ensures { result ≡ read_lines (bit_of inputs) mask.now }
+{
+    Nibble::of_bits(
+        read_line(mask, inputs, 0),
+        read_line(mask, inputs, 1),
+        read_line(mask, inputs, 2),
+        read_line(mask, inputs, 3),
+    )
+}
+
+impl Rom {
+    /// A ROM with these masks, of which mask `k` is that of line `k`. All bytes and the latch are 0.
+    pub fn new(mask: [LineMask; 4]) -> Rom
+        ensures { result ≡ record { mask = mask; bytes = replicate 256 0; port = 0 } }
+    {
+        Rom {
+            mask,
+            bytes: [0; 256],
+            port: Nibble::ZERO,
+        }
+    }
+
+    /// The byte of word `at`.
+    pub fn byte(&self, at: u8) -> u8
+        ensures { result ≡ slice_index self.now.bytes at }
+    {
+        self.bytes[usize::from(at)]
+    }
+
+    /// Sets the byte of word `at`.
+    pub fn set_byte(&mut self, at: u8, byte: u8)
+        ensures byte { self.new ≡ record self.old { bytes = slice_set self.old.bytes at byte } }
+        ensures whole { length self.old.bytes ≡ 256 }
+    {
+        self.bytes[usize::from(at)] = byte;
+    }
+
+    /// Holds a value on the output lines until the next such write, as WRR does. Nothing happens on input
+    /// lines.
+    pub fn write_port(&mut self, n: Nibble)
+        ensures { self.new ≡ record self.old { port = held self.old.mask n } }
+    {
+        self.port = held_port(&self.mask, n);
+    }
+
+    /// The port as RDR reads it, where bit `k` of `inputs` is the level of line `k`: that level on an input
+    /// line, and the constant of its mask on an output line.
+    pub fn read_port(&self, inputs: Nibble) -> Nibble
+        ensures { result ≡ read_lines (bit_of inputs) self.now.mask }
+    {
+        read_port_of(&self.mask, inputs)
+    }
+
+    /// What the latch holds on line `k`, 0 to 3; 0 on an input line.
+    pub fn line(&self, k: u8) -> Bit
+        requires { k < 4 }
+        ensures { result ≡ bit_of self.now.port k }
+    {
+        self.port().bit(k)
+    }
+
+    /// What the latch holds.
+    pub fn port(&self) -> Nibble
+        ensures port { result ≡ self.now.port }
+        ensures inputs_are_0 { held self.now.mask result ≡ result }
+    {
+        self.port
+    }
+
+    /// Sets the latch, whose bits at input lines stay 0.
+    pub fn set_port(&mut self, n: Nibble)
+        ensures { self.new ≡ record self.old { port = held self.old.mask n } }
+    {
+        self.write_port(n);
+    }
+
+    /// Makes the latch 0.
+    pub fn clear_port(&mut self)
+        ensures { self.new ≡ record self.old { port = 0 } }
+    {
+        self.port = Nibble::ZERO;
+    }
+
+    /// Changes the masks and makes the latch 0; the bytes stay.
+    pub fn rewire(&mut self, mask: [LineMask; 4])
+        ensures { self.new ≡ record self.old { mask = mask; port = 0 } }
+    {
+        self.clear_port();
+        self.mask = mask;
+    }
+}
+
+#[cfg(test)]
+mod tests;
