@@ -1,0 +1,193 @@
+-- Cells against pairs.
+use Rattle.std.proofs.Common.{◌≡◌, ◌≢◌, ℕ, suc, zero, ◌+◌, ◌-◌, ◌<◌, ◌≤◌, Bool, true, false, ◌&&◌, ◌||◌, ltb, leb, List, [], ◌∷◌, ◌++◌, length, get_or, set, take, drop, Option, Some, None, refl, sym, ap, subst, ◌∙◌, ◌⊎◌, inl, inr, arith, append_assoc, append-nil, replicate}
+use Rattle.std.specs.Prelude.{is_some}
+use Rattle.std.specs.List.{list_any, Contains}
+use Rattle.std.proofs.lemmas.List.{get_or-set_same, get_or-set_other, length-set}
+use Rattle.std.proofs.lemmas.List.Elements.{Contains-push, Contains-push_cases, Contains-append_left, Contains-append_right, Contains-append_cases, Contains-get_or}
+use Rattle.std.proofs.lemmas.List.Kept.{AllPairs-cons}
+use Rattle.std.proofs.lemmas.List.{get_or-replicate, length-replicate, replicate_more, get_or_past, get_or-drop}
+use Rattle.std.proofs.lemmas.Bool.{cases_eq, cases_lt, lt-ltb, le-leb, leb-true, ltb-true, and_parts, true≢false, false≢true}
+use Rattle.std.proofs.lemmas.List.Folds.{list_any_at}
+use Rattle.mcs_model.specs.Pairs.{from_address, overlaps, IsRising, IsImageOf}
+use Rattle.mcs_asm.specs.Cells.{written, raised, IsKept}
+
+abbrev pub within : ℕ → ℕ → ℕ × ℕ → Bool
+within at n p = leb at p.0 && ltb p.0 (at + n)
+
+-- no pair at an address
+abbrev pub IsFree : List (ℕ × ℕ) → ℕ → Type 0
+IsFree pairs a = (b : ℕ) → Contains pairs (a, b) → ⊥
+
+some_same : (b c : ℕ) → Some b ≡ Some c → b ≡ c
+some_same b c e = ap (λ (o : Option ℕ). elim o [ Some x ↦ x | None ↦ 0 ]) e
+
+-- one more byte
+one_kept : (cells : List (Option ℕ)) (pairs : List (ℕ × ℕ)) (x b : ℕ) → x < 4096 → IsKept cells pairs → IsFree pairs x → IsKept (set cells x (Some b)) (pairs ++ (x, b) ∷ [])
+one_kept cells pairs x b lt kept free =
+    let within : x < length cells = omega (arith, kept.0) in (
+      length-set cells x (Some b) ∙ kept.0,
+      λ a c. (
+        (λ e. elim (cases_eq a x) [
+          | inl same ↦
+              let here : get_or (set cells x (Some b)) x None ≡ Some c = subst (λ (k : ℕ). get_or (set cells x (Some b)) k None ≡ Some c) same e in
+              let value : b ≡ c = some_same b c (sym (get_or-set_same cells x (Some b) None within) ∙ here) in
+              subst (λ (p : ℕ × ℕ). Contains (pairs ++ (x, b) ∷ []) p) (rw (same, value) refl) (Contains-push pairs (x, b))
+          | inr other ↦ Contains-append_left pairs ((x, b) ∷ []) (a, c) ((kept.1 a c).0 (sym (get_or-set_other cells x a (Some b) None other) ∙ e))
+        ]),
+        (λ h. elim (Contains-push_cases pairs (x, b) (a, c) h) [
+          | inl old ↦ elim (cases_eq a x) [
+            | inl same ↦ absurd (free c (subst (λ (k : ℕ). Contains pairs (k, c)) same old))
+            | inr other ↦ get_or-set_other cells x a (Some b) None other ∙ (kept.1 a c).1 old
+          ]
+          | inr e ↦
+              let same : x ≡ a = ap (λ (p : ℕ × ℕ). p.0) e in
+              let value : b ≡ c = ap (λ (p : ℕ × ℕ). p.1) e in
+              rw (← same, ← value) (get_or-set_same cells x (Some b) None within)
+        ]),
+      ),
+    )
+
+pub free_more : (pairs : List (ℕ × ℕ)) (x b y : ℕ) → x ≢ y → IsFree pairs y → IsFree (pairs ++ (x, b) ∷ []) y
+free_more pairs x b y other free c h = elim (Contains-push_cases pairs (x, b) (y, c) h) [
+  | inl old ↦ free c old
+  | inr e ↦ other (ap (λ (p : ℕ × ℕ). p.0) e)
+]
+
+-- bytes written where no pair was
+pub all_kept : (bytes : List ℕ) (x : ℕ) (cells : List (Option ℕ)) (pairs : List (ℕ × ℕ)) → x + length bytes ≤ 4096 → IsKept cells pairs → ((y : ℕ) → x ≤ y → y < x + length bytes → IsFree pairs y)
+    → IsKept (written x bytes cells) (pairs ++ from_address x bytes)
+all_kept [] x cells pairs le kept free = subst (λ (ps : List (ℕ × ℕ)). IsKept cells ps) (sym (append-nil pairs)) kept
+all_kept (b ∷ bytes) x cells pairs le kept free =
+    let le' : x + 1 + length bytes ≤ 4096 = omega (arith, le) in
+    let here : IsFree pairs x = free x (omega arith) (omega arith) in
+    let one : IsKept (set cells x (Some b)) (pairs ++ (x, b) ∷ []) = one_kept cells pairs x b (omega (arith, le)) kept here in
+    let rest : IsKept (written (x + 1) bytes (set cells x (Some b))) ((pairs ++ (x, b) ∷ []) ++ from_address (x + 1) bytes) =
+    all_kept bytes (x + 1) (set cells x (Some b)) (pairs ++ (x, b) ∷ []) le' one
+    (λ y low high. free_more pairs x b y (λ e. omega (arith, e, low)) (free y (omega (arith, low)) (omega (arith, high)))) in
+    subst (λ (ps : List (ℕ × ℕ)). IsKept (written (x + 1) bytes (set cells x (Some b))) ps) (append_assoc pairs ((x, b) ∷ []) (from_address (x + 1) bytes)) rest
+
+-- the test on pairs says where no pair is
+pub free_from : (pairs : List (ℕ × ℕ)) (x n : ℕ) → overlaps pairs x n ≡ false → (y : ℕ) → x ≤ y → y < x + n → IsFree pairs y
+free_from pairs x n untaken y low high b has =
+    let P : ℕ × ℕ → Bool = λ p. leb x p.0 && ltb p.0 (x + n) in
+    let yes : list_any P pairs ≡ true = list_any_at P pairs has.0 (y, b) (has.1) (rw has.2 (rw (le-leb x y low, lt-ltb y (x + n) high) refl)) in
+    absurd (true≢false (sym yes ∙ untaken))
+
+-- ---- in order of addresses
+
+none_some : (b : ℕ) → ◌≡◌ {A = Option ℕ} None (Some b) → ⊥
+none_some b e = true≢false (ap (λ (o : Option ℕ). elim o [ Some x ↦ false | None ↦ true ]) e)
+
+Contains-cons_cases : (p : ℕ × ℕ) (ps : List (ℕ × ℕ)) (q : ℕ × ℕ) → Contains (p ∷ ps) q → (p ≡ q) ⊎ Contains ps q
+Contains-cons_cases p ps q has = elim (Contains-append_cases (p ∷ []) ps q has) [
+  | inl (zero, lt, e) ↦ inl e
+  | inl (suc k, lt, e) ↦ absurd (omega (arith, lt))
+  | inr more ↦ inr more
+]
+
+Contains-head : (p : ℕ × ℕ) (ps : List (ℕ × ℕ)) → Contains (p ∷ ps) p
+Contains-head p ps = (0, omega arith, refl)
+
+-- each raised pair lies at `at` or above, and is what the cell holds
+raised_from : (cells : List (Option ℕ)) (at a b : ℕ) → Contains (raised at cells) (a, b) → (at ≤ a) × (get_or cells (a - at) None ≡ Some b)
+raised_from [] at a b has = absurd (omega (arith, has.1))
+raised_from (None ∷ cells) at a b has =
+    let r = raised_from cells (at + 1) a b has in
+    let e : a - at ≡ suc (a - (at + 1)) = omega (arith, r.0) in
+    (omega (arith, r.0), rw e r.1)
+raised_from (Some v ∷ cells) at a b has = elim (Contains-cons_cases (at, v) (raised (at + 1) cells) (a, b) has) [
+  | inl here ↦
+      let same : at ≡ a = ap (λ (p : ℕ × ℕ). p.0) here in
+      let e : a - at ≡ 0 = omega (arith, same) in
+      (omega (arith, same), rw e (ap (λ (p : ℕ × ℕ). Some p.1) here))
+  | inr more ↦
+      let r = raised_from cells (at + 1) a b more in
+      let e : a - at ≡ suc (a - (at + 1)) = omega (arith, r.0) in
+      (omega (arith, r.0), rw e r.1)
+]
+
+raised_has : (cells : List (Option ℕ)) (at k b : ℕ) → get_or cells k None ≡ Some b → Contains (raised at cells) (at + k, b)
+raised_has [] at k b e = absurd (none_some b e)
+raised_has (None ∷ cells) at zero b e = absurd (none_some b e)
+raised_has (Some v ∷ cells) at zero b e =
+    subst (λ (p : ℕ × ℕ). Contains ((at, v) ∷ raised (at + 1) cells) p) (rw (some_same v b e) (ap (λ (n : ℕ). (n, b)) (omega arith))) (Contains-head (at, v) (raised (at + 1) cells))
+raised_has (None ∷ cells) at (suc k) b e =
+    subst (λ (n : ℕ). Contains (raised (at + 1) cells) (n, b)) (omega arith) (raised_has cells (at + 1) k b e)
+raised_has (Some v ∷ cells) at (suc k) b e =
+    Contains-append_right ((at, v) ∷ []) (raised (at + 1) cells) (at + suc k, b) (subst (λ (n : ℕ). Contains (raised (at + 1) cells) (n, b)) (omega arith) (raised_has cells (at + 1) k b e))
+
+raised_rises : (cells : List (Option ℕ)) (at : ℕ) → IsRising (raised at cells)
+raised_rises [] at = λ i j d lt within. absurd (omega (arith, within))
+raised_rises (None ∷ cells) at = raised_rises cells (at + 1)
+raised_rises (Some v ∷ cells) at = AllPairs-cons (λ (p q : ℕ × ℕ). p.0 < q.0) (at, v) (raised (at + 1) cells)
+    (λ k d lt. omega (arith, (raised_from cells (at + 1) (get_or (raised (at + 1) cells) k d).0 (get_or (raised (at + 1) cells) k d).1 (Contains-get_or (raised (at + 1) cells) k d lt)).0)) (raised_rises cells (at + 1))
+
+-- the cells, raised, are the image of their pairs
+pub image_of_kept : (cells : List (Option ℕ)) (pairs : List (ℕ × ℕ)) → IsKept cells pairs → IsImageOf (raised 0 cells) pairs
+image_of_kept cells pairs kept = (
+  raised_rises cells 0,
+  λ p. (
+    (λ has. (kept.1 p.0 p.1).0 (subst (λ (n : ℕ). get_or cells n None ≡ Some p.1) (omega arith) (raised_from cells 0 p.0 p.1 has).1)),
+    (λ has. subst (λ (n : ℕ). Contains (raised 0 cells) (n, p.1)) (omega arith) (raised_has cells 0 p.0 p.1 ((kept.1 p.0 p.1).1 has))),
+  ),
+)
+
+replicate_none : (n a b : ℕ) → get_or (replicate {A = Option ℕ} n None) a None ≡ Some b → ⊥
+replicate_none n a b e = elim (cases_lt a n) [
+  | inl lt ↦ none_some b (sym (get_or-replicate n a None None lt) ∙ e)
+  | inr le ↦ none_some b (sym (get_or_past (replicate n None) a None (omega (arith, le, length-replicate {A = Option ℕ} n None))) ∙ e)
+]
+
+pub none_kept : IsKept (replicate 4096 None) []
+none_kept = (length-replicate {A = Option ℕ} 4096 None, λ a b. ((λ e. absurd (replicate_none 4096 a b e)), (λ has. absurd (omega (arith, has.1)))))
+
+-- ---- the test on cells is the test on pairs
+
+has_taken : (cells : List (Option ℕ)) (n : ℕ) → list_any is_some (take n cells) ≡ true → (k : ℕ) × (b : ℕ) × (k < n) × (get_or cells k None ≡ Some b)
+has_taken [] zero e = absurd (false≢true e)
+has_taken [] (suc n) e = absurd (false≢true e)
+has_taken (c ∷ cells) zero e = absurd (false≢true e)
+has_taken (Some v ∷ cells) (suc n) e = (0, v, omega arith, refl)
+has_taken (None ∷ cells) (suc n) e =
+    let r = has_taken cells n e in
+    (suc r.0, r.1, omega (arith, r.2), r.3)
+
+is_taken : (cells : List (Option ℕ)) (n k b : ℕ) → k < n → get_or cells k None ≡ Some b → list_any is_some (take n cells) ≡ true
+is_taken [] n k b lt e = absurd (none_some b e)
+is_taken (c ∷ cells) zero k b lt e = absurd (omega (arith, lt))
+is_taken (Some v ∷ cells) (suc n) k b lt e = refl
+is_taken (None ∷ cells) (suc n) zero b lt e = absurd (none_some b e)
+is_taken (None ∷ cells) (suc n) (suc k) b lt e = is_taken cells n k b (omega (arith, lt)) e
+
+has_pair : (p : ℕ × ℕ → Bool) (pairs : List (ℕ × ℕ)) → list_any p pairs ≡ true → (x : ℕ × ℕ) × Contains pairs x × (p x ≡ true)
+has_pair p [] e = absurd (false≢true e)
+has_pair p (x ∷ pairs) e =
+    let Q : Bool → Type 0 = λ t. p x ≡ t → (t || list_any p pairs) ≡ true → (y : ℕ × ℕ) × Contains (x ∷ pairs) y × (p y ≡ true) in
+    (elim (p x) as Q [
+      | true ↦ λ yes h. (x, Contains-head x pairs, yes)
+      | false ↦ λ not_here h. let r = has_pair p pairs h in (r.0, Contains-append_right (x ∷ []) pairs r.0 r.1, r.2)
+    ]) refl e
+
+same_truth : (s t : Bool) → (s ≡ true → t ≡ true) → (t ≡ true → s ≡ true) → s ≡ t
+same_truth true t f g = sym (f refl)
+same_truth false true f g = g refl
+same_truth false false f g = refl
+
+pub taken_is : (cells : List (Option ℕ)) (pairs : List (ℕ × ℕ)) (at n : ℕ) → IsKept cells pairs → list_any is_some (take n (drop at cells)) ≡ overlaps pairs at n
+taken_is cells pairs at n kept = same_truth (list_any is_some (take n (drop at cells))) (overlaps pairs at n)
+    (λ e.
+    let r = has_taken (drop at cells) n e in
+    let there : get_or cells (at + r.0) None ≡ Some r.1 = sym (get_or-drop at cells r.0 None) ∙ r.3 in
+    let has = (kept.1 (at + r.0) r.1).0 there in
+    list_any_at (within at n) pairs has.0 (at + r.0, r.1) has.1 (rw has.2 (rw (le-leb at (at + r.0) (omega arith), lt-ltb (at + r.0) (at + n) (omega (arith, r.2))) refl)))
+    (λ e.
+    let r = has_pair (within at n) pairs e in
+    let parts = and_parts (leb at r.0.0) (ltb r.0.0 (at + n)) r.2 in
+    let low : at ≤ r.0.0 = leb-true at r.0.0 parts.0 in
+    let high : r.0.0 < at + n = ltb-true r.0.0 (at + n) parts.1 in
+    let k : ℕ = r.0.0 - at in
+    let there : get_or cells r.0.0 None ≡ Some r.0.1 = (kept.1 r.0.0 r.0.1).1 r.1 in
+    let back : at + k ≡ r.0.0 = omega (arith, low) in
+    is_taken (drop at cells) n k r.0.1 (omega (arith, low, high)) (get_or-drop at cells k None ∙ rw back there))
+
+pub ruleset new_rules = (replicate_more, length-replicate)

@@ -1,0 +1,95 @@
+-- Where a word ends, and what is behind it.
+use Rattle.std.proofs.Common.{◌≡◌, ℕ, suc, ◌+◌, ◌<◌, ◌≤◌, Bool, true, false, cond, eqb, List, [], ◌∷◌, ◌++◌, length, take, drop, refl, sym, ap, ◌⊎◌, ◌||◌, ◌≢◌, ◌∙◌, append_assoc, arith, inl, inr}
+use Rattle.std.specs.List.{prefix_len}
+use Rattle.std.proofs.lemmas.Bool.{eqb-true}
+use Rattle.std.proofs.lemmas.Bool.Decides.{eqb_tells}
+use Rattle.std.proofs.lemmas.List.{append-nil, length-take}
+use Rattle.mcs_model.specs.Lexical.{Token, Word, Other, is_word, is_blank, symbol, word_then, tokens_after, tokens}
+
+-- what stands behind the end of a word
+abbrev pub behind_word : List ℕ → List Token
+behind_word [] = []
+behind_word (b ∷ bytes) = cond (is_blank b) (tokens bytes) (cond (eqb b 59) [] (symbol b ∷ tokens bytes))
+
+pub word_ends : (word bytes : List ℕ) → tokens_after word bytes ≡ word_then (word ++ take (prefix_len is_word bytes) bytes) (behind_word (drop (prefix_len is_word bytes) bytes))
+unfolding tokens_after
+word_ends word [] = ap (λ w. word_then w []) (sym (append-nil word))
+word_ends word (b ∷ bytes) =
+    let n : ℕ = prefix_len is_word bytes in
+    let up : 1 + n ≡ suc n = omega arith in
+    let Q : Bool → Type 0 = λ t. cond t (tokens_after (word ++ b ∷ []) bytes) (word_then word (behind_word (b ∷ bytes))) ≡ word_then (word ++ take (cond t (1 + n) 0) (b ∷ bytes)) (behind_word (drop (cond t (1 + n) 0) (b ∷ bytes))) in
+    elim (is_word b) as Q [
+      | true ↦ word_ends (word ++ b ∷ []) bytes ∙ rw (up, append_assoc word (b ∷ []) (take n bytes)) refl
+      | false ↦ rw (append-nil word) refl
+    ]
+
+in_no_word : (b : ℕ) → (b ≡ 32) ⊎ (b ≡ 9) → is_word b ≡ false
+in_no_word b (inl e) = rw e refl
+in_no_word b (inr e) = rw e refl
+
+either_blank : (s t : Bool) (b : ℕ) → eqb b 32 ≡ s → eqb b 9 ≡ t → (s || t) ≡ true → (b ≡ 32) ⊎ (b ≡ 9)
+either_blank true t b p q e = inl (eqb-true _ _ p)
+either_blank false true b p q e = inr (eqb-true _ _ q)
+either_blank false false b p q e = absurd cc
+
+pub no_word : (b : ℕ) → is_blank b ≡ true → is_word b ≡ false
+no_word b e = in_no_word b (either_blank (eqb b 32) (eqb b 9) b refl refl e)
+
+pub blanks_before : (bytes : List ℕ) → tokens bytes ≡ tokens (drop (prefix_len is_blank bytes) bytes)
+unfolding tokens_after
+blanks_before [] = refl
+blanks_before (b ∷ bytes) =
+    let n : ℕ = prefix_len is_blank bytes in
+    let up : 1 + n ≡ suc n = omega arith in
+    let Q : Bool → Type 0 = λ t. is_blank b ≡ t → tokens (b ∷ bytes) ≡ tokens (drop (cond t (1 + n) 0) (b ∷ bytes)) in
+    (elim (is_blank b) as Q [
+      | true ↦ λ yes. rw (no_word b yes, yes, up) (blanks_before bytes)
+      | false ↦ λ no. refl
+    ]) refl
+
+-- with no word in front, the tokens are those behind the empty word
+pub none_in_front : (bytes : List ℕ) → prefix_len is_word bytes ≡ 0 → tokens bytes ≡ behind_word bytes
+none_in_front bytes e = word_ends [] bytes ∙ rw e refl
+
+pub not_first : (p : ℕ → Bool) (x : ℕ) (xs : List ℕ) → prefix_len p (x ∷ xs) ≡ 0 → p x ≡ false
+not_first p x xs e =
+    let Q : Bool → Type 0 = λ t. cond t (1 + prefix_len p xs) 0 ≡ 0 → t ≡ false in
+    (elim (p x) as Q [ true ↦ λ h. absurd (omega arith) | false ↦ λ h. refl ]) e
+
+no_eq : (a b : ℕ) → a ≢ b → eqb a b ≡ false
+no_eq a b h = elim (eqb_tells a b) [ inl e ↦ absurd (h e.1) | inr e ↦ e.0 ]
+
+pub stops : (p : ℕ → Bool) (xs : List ℕ) → prefix_len p (drop (prefix_len p xs) xs) ≡ 0
+stops p [] = refl
+stops p (x ∷ xs) =
+    let n : ℕ = prefix_len p xs in
+    let up : 1 + n ≡ suc n = omega arith in
+    let Q : Bool → Type 0 = λ t. p x ≡ t → prefix_len p (drop (cond t (1 + n) 0) (x ∷ xs)) ≡ 0 in
+    (elim (p x) as Q [
+      | true ↦ λ yes. rw up (stops p xs)
+      | false ↦ λ no. rw no refl
+    ]) refl
+
+-- behind the longest word comes no word
+pub behind_is : (bytes : List ℕ) → behind_word (drop (prefix_len is_word bytes) bytes) ≡ tokens (drop (prefix_len is_word bytes) bytes)
+behind_is bytes = sym (none_in_front (drop (prefix_len is_word bytes) bytes) (stops is_word bytes))
+
+-- a word, and what is behind it
+pub word_first : (word rest bytes : List ℕ) (n : ℕ) → n ≡ prefix_len is_word bytes → 0 < n → word ≡ take n bytes → rest ≡ drop n bytes → n ≤ length bytes → tokens bytes ≡ Word word ∷ tokens rest
+word_first [] rest bytes n len some front back within = absurd (omega (arith, ap length front, length-take n bytes))
+word_first (b ∷ word) rest bytes n len some front back within =
+    let front' : take (prefix_len is_word bytes) bytes ≡ b ∷ word = rw (← len) (sym front) in
+    word_ends [] bytes ∙ rw (front', behind_is bytes, ← len, ← back) refl
+
+-- a byte of no kind
+pub other_first : (b : ℕ) (rest : List ℕ) → prefix_len is_word (b ∷ rest) ≡ 0 → prefix_len is_blank (b ∷ rest) ≡ 0 → b ≢ 59 → b ≢ 44 → b ≢ 58 → b ≢ 61 → tokens (b ∷ rest) ≡ Other ∷ tokens rest
+other_first b rest no_w no_b comment comma colon equals =
+    none_in_front (b ∷ rest) no_w ∙ rw (not_first is_blank b rest no_b, no_eq b 59 comment, no_eq b 44 comma, no_eq b 58 colon, no_eq b 61 equals) refl
+
+pub trimmed_same : (line bytes : List ℕ) (n : ℕ) → n ≡ prefix_len is_blank line → bytes ≡ drop n line → tokens bytes ≡ tokens line
+trimmed_same line bytes n len back = rw (back, len) (sym (blanks_before line))
+
+pub trimmed_bare : (line bytes : List ℕ) (n : ℕ) → n ≡ prefix_len is_blank line → bytes ≡ drop n line → prefix_len is_blank bytes ≡ 0
+trimmed_bare line bytes n len back = rw (back, len) (stops is_blank line)
+
+pub ruleset trimmed_rules = (trimmed_same, trimmed_bare)

@@ -1,0 +1,49 @@
+-- Reading operands one after the other, as a loop does.
+use Rattle.std.proofs.Common.{◌≡◌, List, [], ◌∷◌, ◌++◌, Option, Some, None, refl, sym, ap, ◌∙◌, append_assoc}
+use Rattle.mcs_model.specs.Lexical.{Token, Word, Comma, Colon, Equals, Other}
+use Rattle.mcs_model.specs.Lines.{Operand, ◌>>=◌, operand_of, list_item, operands_of}
+
+-- what was read before, and what is still read
+abbrev pub with_front : List Operand → Option (List Operand) → Option (List Operand)
+with_front front None = None
+with_front front (Some vs) = Some (front ++ vs)
+
+abbrev pub listed : Option (Operand × Option (List Token)) → Option (List Operand)
+listed None = None
+listed (Some (v, None)) = Some (v ∷ [])
+listed (Some (v, Some more)) = operands_of more >>= λ vs. Some (v ∷ vs)
+
+last_is : (o : Option Operand) → (o >>= λ v. Some (v ∷ [])) ≡ listed (o >>= λ v. Some (v, None))
+last_is None = refl
+last_is (Some v) = refl
+
+next_is : (o : Option Operand) (more : List Token) → (o >>= λ v. operands_of more >>= λ vs. Some (v ∷ vs)) ≡ listed (o >>= λ v. Some (v, Some more))
+next_is None more = refl
+next_is (Some v) more = refl
+
+by_item : (ts : List Token) → operands_of ts ≡ listed (list_item ts)
+unfolding operands_of
+by_item [] = refl
+by_item (Word w ∷ []) = last_is (operand_of w)
+by_item (Word w ∷ Comma ∷ more) = next_is (operand_of w) more
+by_item (Word w ∷ Word x ∷ more) = refl
+by_item (Word w ∷ Colon ∷ more) = refl
+by_item (Word w ∷ Equals ∷ more) = refl
+by_item (Word w ∷ Other ∷ more) = refl
+by_item (Comma ∷ ts) = refl
+by_item (Colon ∷ ts) = refl
+by_item (Equals ∷ ts) = refl
+by_item (Other ∷ ts) = refl
+
+added : (front : List Operand) (v : Operand) (o : Option (List Operand)) → with_front front (o >>= λ vs. Some (v ∷ vs)) ≡ with_front (front ++ v ∷ []) o
+added front v None = refl
+added front v (Some vs) = ap (λ (l : List Operand). Some l) (sym (append_assoc front (v ∷ []) vs))
+
+pub stops_there : (front : List Operand) (ts : List Token) (total : Option (List Operand)) → None ≡ list_item ts → with_front front (operands_of ts) ≡ total → None ≡ total
+stops_there front ts total e so_far = ap (λ (o : Option (Operand × Option (List Token))). with_front front (listed o)) e ∙ (ap (with_front front) (sym (by_item ts)) ∙ so_far)
+
+pub is_last : (front : List Operand) (v : Operand) (ts : List Token) (total : Option (List Operand)) → Some (v, None) ≡ list_item ts → with_front front (operands_of ts) ≡ total → Some (front ++ v ∷ []) ≡ total
+is_last front v ts total e so_far = ap (λ (o : Option (Operand × Option (List Token))). with_front front (listed o)) e ∙ (ap (with_front front) (sym (by_item ts)) ∙ so_far)
+
+pub goes_on : (front : List Operand) (v : Operand) (more ts : List Token) (total : Option (List Operand)) → Some (v, Some more) ≡ list_item ts → with_front front (operands_of ts) ≡ total → with_front (front ++ v ∷ []) (operands_of more) ≡ total
+goes_on front v more ts total e so_far = sym (added front v (operands_of more)) ∙ (ap (λ (o : Option (Operand × Option (List Token))). with_front front (listed o)) e ∙ (ap (with_front front) (sym (by_item ts)) ∙ so_far))

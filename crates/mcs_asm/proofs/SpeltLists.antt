@@ -1,0 +1,105 @@
+-- One line's bytes, in cells and in pairs.
+use Rattle.std.proofs.Common.{◌≡◌, ℕ, ◌+◌, ◌≤◌, Bool, true, false, List, ◌++◌, length, take, drop, Option, Result, Ok, Err, refl, sym, ◌∙◌}
+use Rattle.std.proofs.Common.{suc, ltb, leb, ap, subst, arith, ◌||◌, None, Some, ◌&&◌, [], ◌∷◌}
+use Rattle.std.proofs.lemmas.Bool.{true≢false, ltb-false}
+use Rattle.std.specs.List.{list_all}
+use Rattle.mcs_model.specs.declared.mnemonic.LineFault.{LineFault}
+use Rattle.mcs_model.specs.declared.op.Op.{Op}
+use Rattle.mcs_model.specs.declared.op.Op.TheVariants as op
+use Rattle.mcs_model.specs.Lines as asm
+use Rattle.mcs_model.specs.Table.{words_of}
+use Rattle.mcs_model.specs.Spelling.{spelling}
+use Rattle.mcs_model.specs.Assembly.{Names, value_in, values_in, bytes_at, size, known, within, on_page, is_near, line_bytes, passes_end}
+use Rattle.std.specs.Prelude.{is_some}
+use Rattle.std.specs.List.{list_any}
+use Rattle.mcs_model.specs.declared.mnemonic.LineFault.TheVariants.{Overlap}
+use Rattle.mcs_model.specs.Pairs.{from_address, overlaps}
+use Rattle.mcs_model.specs.Assembly.{Spelt, with_bytes, with_second, next_at}
+use Rattle.mcs_asm.specs.Cells.{written, IsKept}
+use Rattle.mcs_asm.proofs.CellPairs.{taken_is, all_kept, free_from}
+
+pub taken_stops : (cells : List (Option ℕ)) (pairs : List (ℕ × ℕ)) (at next : ℕ) (bytes : List ℕ) → list_any is_some (take (length bytes) (drop at cells)) ≡ true → IsKept cells pairs
+    → with_bytes (record { at = at; pairs = pairs }) next (Ok bytes) ≡ Err Overlap
+taken_stops cells pairs at next bytes taken kept =
+    let over : overlaps pairs at (length bytes) ≡ true = sym (taken_is cells pairs at (length bytes) kept) ∙ taken in
+    rw over refl
+
+pub free_goes : (cells : List (Option ℕ)) (pairs : List (ℕ × ℕ)) (at next : ℕ) (bytes : List ℕ) → at + length bytes ≤ 4096 → list_any is_some (take (length bytes) (drop at cells)) ≡ false → IsKept cells pairs
+    → (s : Spelt) × (with_bytes (record { at = at; pairs = pairs }) next (Ok bytes) ≡ Ok s) × (s.at ≡ next) × IsKept (written at bytes cells) s.pairs
+free_goes cells pairs at next bytes within free kept =
+    let over : overlaps pairs at (length bytes) ≡ false = sym (taken_is cells pairs at (length bytes) kept) ∙ free in
+    (record { at = next; pairs = pairs ++ from_address at bytes }, rw over refl, refl, all_kept bytes at cells pairs within kept (free_from pairs at (length bytes) over))
+
+-- what a line that has a form adds
+pub second_is : (names : Names) (s : Spelt) (l : Option asm.Line) (line : asm.Line) (bytes : List ℕ) (next : ℕ) (wanted : Result Spelt LineFault) → Some line ≡ l → line_bytes s.at names line ≡ Ok bytes → next ≡ next_at line s.at
+    → with_bytes s next (Ok bytes) ≡ wanted → with_second names s l ≡ wanted
+second_is names s l line bytes next wanted form is at goes =
+    subst (λ (o : Option asm.Line). with_second names s o ≡ wanted) form
+    (ap (λ (r : Result (List ℕ) LineFault). with_bytes s (next_at line s.at) r) is ∙ (ap (λ (n : ℕ). with_bytes s n (Ok bytes)) (sym at) ∙ goes))
+
+-- ---- the bytes of a line fit, where class one found no fault
+
+spelling_size : (o : Op) → length (spelling o) ≡ words_of o
+spelling_size (op.Jcn r b) = refl
+spelling_size _ = refl
+
+-- what an answer that is Ok went through
+abbrev pub HasLength : ℕ → Result (List ℕ) LineFault → Type 0
+HasLength n (Ok bytes) = length bytes ≡ n
+HasLength n (Err f) = Unit {0}
+
+within_has : (n : ℕ) (t : Bool) (r : Result (List ℕ) LineFault) → HasLength n r → HasLength n (within t r)
+within_has n true r h = h
+within_has n false r h = tt
+
+page_has : (n : ℕ) (t : Bool) (r : Result (List ℕ) LineFault) → HasLength n r → HasLength n (on_page t r)
+page_has n true r h = h
+page_has n false r h = tt
+
+known_has : (n : ℕ) (o : Option ℕ) (f : ℕ → Result (List ℕ) LineFault) → ((x : ℕ) → HasLength n (f x)) → HasLength n (known o f)
+known_has n None f h = tt
+known_has n (Some x) f h = h x
+
+some_list : (xs ys : List ℕ) → Some xs ≡ Some ys → ys ≡ xs
+some_list xs ys e = sym (ap (λ (o : Option (List ℕ)). elim o [ Some x ↦ x | None ↦ xs ]) e)
+
+more_length : (a : Option ℕ) (b : Option (List ℕ)) (ns : List ℕ) (n : ℕ) → ((ms : List ℕ) → b ≡ Some ms → length ms ≡ n) → asm.◌>>=◌ a (λ x. asm.◌>>=◌ b (λ xs. Some (x ∷ xs))) ≡ Some ns → length ns ≡ suc n
+more_length None b ns n h e = absurd (true≢false (ap (λ (o : Option (List ℕ)). elim o [ Some x ↦ false | None ↦ true ]) e))
+more_length (Some x) None ns n h e = absurd (true≢false (ap (λ (o : Option (List ℕ)). elim o [ Some x ↦ false | None ↦ true ]) e))
+more_length (Some x) (Some xs) ns n h e = ap length (some_list (x ∷ xs) ns e) ∙ ap suc (h xs refl)
+
+values_length : (names : Names) (vs : List asm.Operand) (ns : List ℕ) → values_in names vs ≡ Some ns → length ns ≡ length vs
+values_length names [] ns e = ap length (sym (some_list ns [] (sym e)))
+values_length names (v ∷ vs) ns e = more_length (value_in names v) (values_in names vs) ns (length vs) (λ ms f. values_length names vs ms f) e
+
+values_has : (names : Names) (vs : List asm.Operand) (f : List ℕ → Bool) (o : Option (List ℕ)) → values_in names vs ≡ o → HasLength (length vs) (known o (λ ns. within (f ns) (Ok ns)))
+values_has names vs f None e = tt
+values_has names vs f (Some ns) e = within_has (length vs) (f ns) (Ok ns) (values_length names vs ns e)
+
+pub bytes_size : (at : ℕ) (names : Names) (s : asm.Statement) → HasLength (size s) (bytes_at at names s)
+bytes_size at names (asm.Origin n) = refl
+bytes_size at names (asm.Data vs) = values_has names vs (λ ns. list_all (λ n. ltb n 256) ns) (values_in names vs) refl
+bytes_size at names (asm.Whole o) = spelling_size o
+bytes_size at names (asm.Ldm v) = known_has 1 (value_in names v) _ (λ n. within_has 1 (ltb n 16) _ refl)
+bytes_size at names (asm.Bbl v) = known_has 1 (value_in names v) _ (λ n. within_has 1 (ltb n 16) _ refl)
+bytes_size at names (asm.Jun v) = known_has 2 (value_in names v) _ (λ n. within_has 2 (ltb n 4096) _ refl)
+bytes_size at names (asm.Jms v) = known_has 2 (value_in names v) _ (λ n. within_has 2 (ltb n 4096) _ refl)
+bytes_size at names (asm.Fim p v) = known_has 2 (value_in names v) _ (λ n. within_has 2 (ltb n 256) _ refl)
+bytes_size at names (asm.Jcn v w) = known_has 2 (value_in names v) _ (λ n. known_has 2 (value_in names w) _ (λ t. within_has 2 (ltb n 16 && ltb t 4096) _ (page_has 2 (is_near at t) _ refl)))
+bytes_size at names (asm.Isz r w) = known_has 2 (value_in names w) _ (λ t. within_has 2 (ltb t 4096) _ (page_has 2 (is_near at t) _ refl))
+
+or_second : (s t : Bool) → (s || t) ≡ false → t ≡ false
+or_second true t e = absurd (true≢false e)
+or_second false t e = e
+
+pub fits : (at : ℕ) (names : Names) (line : asm.Line) (bytes : List ℕ) → line_bytes at names line ≡ Ok bytes → passes_end line at ≡ false → at ≤ 4096 → at + length bytes ≤ 4096
+fits at names (asm.Define w n) bytes e room le =
+    let none : HasLength 0 (Ok bytes) = subst (HasLength 0) e refl in
+    omega (arith, none, le)
+fits at names (asm.Code label None) bytes e room le =
+    let none : HasLength 0 (Ok bytes) = subst (HasLength 0) e refl in
+    omega (arith, none, le)
+fits at names (asm.Code label (Some s)) bytes e room le =
+    let len : HasLength (size s) (Ok bytes) = subst (HasLength (size s)) e (bytes_size at names s) in
+    let end : at + size s ≤ 4096 = ltb-false 4096 (at + size s) (or_second (is_some label && leb 4096 at) (ltb 4096 (at + size s)) room) in
+    omega (arith, len, end)

@@ -1,0 +1,17 @@
+//! The assembler: from a source text to its image, or to its first fault.
+#![tactic(auto)]
+
+mod bytes;
+mod cells;
+mod fault;
+mod names;
+mod passes;
+mod statements;
+#[cfg(test)]
+mod tests;
+mod text;
+mod tokens;
+mod words;
+
+pub use fault::{AsmFault, FaultKind, LineFault};
+pub use passes::assemble;

@@ -1,0 +1,223 @@
+//! The names of a text, and the addresses of its statements.
+ghost use Rattle.std.specs.Prelude.{◌≡◌, ◌<◌, ◌≤◌, ◌^◌, ◌&&◌, length, map, option_map, is_some, IfSome, [], None, false, nat_le, ◌+◌};
+ghost use Rattle.std.specs.Option.{option_copied};
+ghost use Rattle.std.specs.List.{list_any};
+ghost use Rattle.std.specs.Str.{bytes_eq};
+ghost use Rattle.mcs_asm.specs.View.{statement_view, line_view, operand_view};
+ghost use Rattle.mcs_model.specs.Assembly.{Before, start, size, statement_size, is_known, is_known_name, defined, is_bad_statement, is_bad_place, next_statement, next_at, passes_end, fault_one, after, value_of, value_in};
+
+use crate::fault::LineFault;
+use crate::statements::{Line, Operand, Statement};
+use arrayvec::ArrayVec;
+use mcs_code::word_count;
+use mcs_model::limits::NAMES;
+use std::marker::Model;
+
+/// What the lines so far say: their names with their values, and where the next statement stands.
+#[derive(Drop)]
+pub struct Names<'a> {
+    at: u16,
+    names: ArrayVec<(&'a [u8], u16), NAMES>,
+}
+
+impl<'a> Model for Names<'a> {
+    //! The names of a text, and the addresses of its statements.
+    ghost use Rattle.std.specs.Prelude.{map, ◌≤◌};
+    ghost use Rattle.mcs_model.specs.Assembly.{Before};
+
+    ghost Value = { Before };
+
+    ghost view = { λ n. record { at = n.at; names = map (λ e. (e.0.now, e.1)) n.names.items } };
+
+    ghost invariant = { λ n. n.at ≤ 4096 };
+}
+
+fn statement_size(statement: &Option<Statement<'_>>) -> usize
+    ensures { result ≡ statement_size (option_map statement_view statement.now) }
+{
+    match statement {
+        None => 0,
+        Some(statement) => size(statement),
+    }
+}
+
+/// How many bytes a statement spells.
+fn size(statement: &Statement<'_>) -> usize
+    ensures { result ≡ size (statement_view statement.now) }
+{
+    match statement {
+        Statement::Origin(_) => 0,
+        Statement::Data(values) => values.len(),
+        Statement::Whole(op) => usize::from(word_count(*op)),
+        Statement::Ldm(_) | Statement::Bbl(_) => 1,
+        Statement::Jun(_) | Statement::Jms(_) => 2,
+        Statement::Fim(_, _) | Statement::Jcn(_, _) | Statement::Isz(_, _) => 2,
+    }
+}
+
+impl<'a> Names<'a> {
+    /// Before the first line.
+    pub fn new() -> Names<'a>
+        ensures { result ≡ start }
+    {
+        Names {
+            at: 0,
+            names: ArrayVec::new(),
+        }
+    }
+
+    fn is_known(&self, name: &[u8]) -> bool
+        ensures { result ≡ is_known name.now self.now.names }
+    {
+        knows(&self.names, name)
+    }
+
+    fn is_known_name(&self, name: Option<&[u8]>) -> bool
+        ensures { result ≡ is_known_name (option_copied name.entry) self.now.names }
+    {
+        match name {
+            None => false,
+            Some(name) => self.is_known(name),
+        }
+    }
+
+    fn is_full(&self) -> bool
+        ensures { result ≡ nat_le 512 (length self.now.names) }
+    {
+        self.names.len() >= NAMES
+    }
+
+    /// Where the next statement stands.
+    fn at(&self) -> u16
+        ensures at { result ≡ self.now.at }
+        ensures within { result ≤ 4096 }
+    {
+        self.at
+    }
+
+    /// The first fault of class one that a line has, of those that a line with a form can have.
+    pub fn fault(&self, line: &Line<'a>) -> Option<LineFault>
+        ensures { result ≡ fault_one self.now (line_view line.now) }
+    {
+        let name = defined(line);
+        if is_bad_place(line) {
+            Some(LineFault::OutOfRange)
+        } else if self.is_known_name(name) {
+            Some(LineFault::DoubleName)
+        } else if name.is_some() && self.is_full() {
+            Some(LineFault::TooManyNames)
+        } else if passes_end(line, self.at()) {
+            Some(LineFault::PastEnd)
+        } else {
+            None
+        }
+    }
+
+    /// Adds what a line without such a fault says.
+    pub fn add(&mut self, line: &Line<'a>)
+        requires { fault_one self.old (line_view line.now) ≡ None }
+        ensures { self.new ≡ after self.old (line_view line.now) }
+    {
+        match line {
+            Line::Code(Some(name), _) => self.names.push((*name, self.at)),
+            Line::Code(None, _) => {}
+            Line::Define(name, n) => self.names.push((*name, *n as u16)),
+        }
+        self.at = next_at(line, self.at);
+    }
+
+    /// The value of an operand, where it has one.
+    pub fn value(&self, operand: &Operand<'_>) -> Option<u64>
+        ensures { result ≡ value_in self.now.names (operand_view operand.now) }
+    {
+        match operand {
+            Operand::Number(n) => Some(*n),
+            Operand::Name(name) => value_of(&self.names, name),
+        }
+    }
+}
+
+fn knows(names: &[(&[u8], u16)], name: &[u8]) -> bool
+    ensures { result ≡ list_any (λ e. bytes_eq e.0.now name.now) names.now }
+{
+    names.iter().any(|e| e.0 == name)
+}
+
+fn value_of(names: &[(&[u8], u16)], name: &[u8]) -> Option<u64>
+    ensures { result ≡ value_of name.now (map (λ e. (e.0.now, e.1)) names.now) }
+{
+    for e in names {
+        if e.0 == name {
+            return Some(u64::from(e.1));
+        }
+    }
+    None
+}
+
+/// The name that a line defines.
+fn defined<'a>(line: &Line<'a>) -> Option<&'a [u8]>
+    ensures { option_copied result ≡ defined (line_view line.now) }
+{
+    match line {
+        Line::Code(label, _) => *label,
+        Line::Define(name, _) => Some(*name),
+    }
+}
+
+fn is_bad_statement(statement: &Option<Statement<'_>>) -> bool
+    ensures { result ≡ is_bad_statement (option_map statement_view statement.now) }
+{
+    match statement {
+        Some(Statement::Origin(n)) => *n >= 4096,
+        _ => false,
+    }
+}
+
+/// Whether a line puts a statement or a name outside the addresses.
+fn is_bad_place(line: &Line<'_>) -> bool
+    ensures { result ≡ is_bad_place (line_view line.now) }
+{
+    match line {
+        Line::Define(_, n) => *n >= 4096,
+        Line::Code(_, statement) => is_bad_statement(statement),
+    }
+}
+
+/// Whether a line has its label, or a byte, past the last address.
+fn passes_end(line: &Line<'_>, at: u16) -> bool
+    requires { at ≤ 4096 }
+    ensures { result ≡ passes_end (line_view line.now) at }
+{
+    match line {
+        Line::Define(_, _) => false,
+        Line::Code(label, statement) => {
+            (label.is_some() && at >= 4096) || statement_size(statement) > 4096 - usize::from(at)
+        }
+    }
+}
+
+fn next_statement(statement: &Option<Statement<'_>>, at: u16) -> u16
+    requires place { is_bad_statement (option_map statement_view statement.now) ≡ false }
+    requires room { at + statement_size (option_map statement_view statement.now) ≤ 4096 }
+    ensures at { result ≡ next_statement (option_map statement_view statement.now) at }
+    ensures within { result ≤ 4096 }
+{
+    match statement {
+        Some(Statement::Origin(n)) => *n as u16,
+        _ => at + statement_size(statement) as u16,
+    }
+}
+
+/// Where the statement of the next line stands, behind a line without a fault of class one.
+pub fn next_at(line: &Line<'_>, at: u16) -> u16
+    requires start { at ≤ 4096 }
+    requires place { is_bad_place (line_view line.now) ≡ false }
+    requires room { passes_end (line_view line.now) at ≡ false }
+    ensures at { result ≡ next_at (line_view line.now) at }
+    ensures within { result ≤ 4096 }
+{
+    match line {
+        Line::Define(_, _) => at,
+        Line::Code(_, statement) => next_statement(statement, at),
+    }
+}

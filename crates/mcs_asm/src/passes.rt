@@ -1,0 +1,132 @@
+//! The two passes over the lines of a text: first the names, then the bytes.
+ghost use Rattle.std.specs.Prelude.{List, ℕ, ◌+◌, length, Ok, ◌≡◌, ◌<◌, ◌≤◌, ◌^◌, map};
+ghost use Rattle.mcs_model.specs.Lexical.{tokens};
+ghost use Rattle.mcs_model.specs.Lines.{line_of};
+ghost use Rattle.mcs_model.specs.Assembly.{start, with_line, class_one, class_two, nothing_spelt, pairs_of, assembled, with_bytes, with_second};
+ghost use Rattle.mcs_asm.specs.View.{Steps, Passes, Assembles, NumbersLine, Keeps, Adds, Spells, HasNoFault};
+ghost use Rattle.mcs_asm.specs.Cells.{IsKept};
+
+use crate::bytes::line_bytes;
+use crate::cells::Cells;
+use crate::fault::{AsmFault, FaultKind, LineFault};
+use crate::names::{Names, next_at};
+use crate::statements::read_line;
+use crate::text::lines;
+use mcs_model::image::Image;
+use std::alloc::{AllocError, Global};
+
+/// Adds what one more line says of names and addresses.
+fn step<'a>(alloc: Global, names: &mut Names<'a>, line: &'a [u8]) -> Result<(), FaultKind>
+    ensures { Steps result names.new (with_line names.old (line_of (tokens line.now))) }
+{
+    let Some(line) = read_line(alloc, line)? else {
+        return Err(FaultKind::Refused(LineFault::BadStatement));
+    };
+    match names.fault(&line) {
+        Some(fault) => Err(FaultKind::Refused(fault)),
+        None => {
+            names.add(&line);
+            Ok(())
+        }
+    }
+}
+
+/// A fault of the line that has this index.
+fn at_line(index: usize, kind: FaultKind) -> AsmFault
+    requires { index < 2 ^ 63 }
+    ensures { (result.kind ≡ kind) × NumbersLine kind index result.line }
+{
+    match kind {
+        FaultKind::NoMemory => AsmFault { line: 0, kind },
+        FaultKind::Refused(_) => AsmFault {
+            line: index + 1,
+            kind,
+        },
+    }
+}
+
+/// What all lines say of names and addresses, or the first fault of class one.
+fn first_pass<'a>(alloc: Global, lines: &[&'a [u8]]) -> Result<Names<'a>, AsmFault>
+    ensures { Passes result (class_one 1 start (map (λ l. l.now) lines.now)) }
+{
+    let mut names = Names::new();
+    for i in 0..lines.len() {
+        match step(alloc, &mut names, lines[i]) {
+            Ok(()) => {}
+            Err(kind) => return Err(at_line(i, kind)),
+        }
+    }
+    Ok(names)
+}
+
+/// What the lines so far spell, and where the next statement stands.
+#[derive(Drop)]
+struct Spelt {
+    at: u16,
+    cells: Cells,
+    ghost in_range: { at ≤ 4096 },
+}
+
+impl Spelt {
+    /// Adds the bytes of a line; the next statement stands at `next`.
+    #[tactic(auto, using(crate::proofs::SpeltLists::taken_stops, crate::proofs::SpeltLists::free_goes))]
+    fn add(&mut self, bytes: &[u8], next: u16) -> Result<(), LineFault>
+        requires room { self.old.at + length bytes.now ≤ 4096 }
+        requires next { next ≤ 4096 }
+        ensures { (pairs : List (ℕ × ℕ)) → IsKept self.old.cells pairs → Keeps result self.new.at self.new.cells (with_bytes (record { at = self.old.at; pairs = pairs }) next (Ok bytes.now)) }
+    {
+        let at = usize::from(self.at);
+        if self.cells.is_taken(at, bytes.len()) {
+            return Err(LineFault::Overlap);
+        }
+        self.cells.write(at, bytes);
+        self.at = next;
+        Ok(())
+    }
+
+    /// Adds the bytes of one more line, which has no fault of class one.
+    fn spell(&mut self, alloc: Global, names: &Names<'_>, line: &[u8]) -> Result<(), FaultKind>
+        requires { HasNoFault self.old.at (line_of (tokens line.now)) }
+        ensures { (pairs : List (ℕ × ℕ)) → IsKept self.old.cells pairs → Adds result self.new.at self.new.cells (with_second names.now.names (record { at = self.old.at; pairs = pairs }) (line_of (tokens line.now))) }
+    {
+        let Some(line) = read_line(alloc, line)? else {
+            return Err(FaultKind::Refused(LineFault::BadStatement));
+        };
+        let bytes = line_bytes(alloc, self.at, names, &line)?;
+        let next = next_at(&line, self.at);
+        self.add(&bytes, next)?;
+        Ok(())
+    }
+}
+
+/// What all lines spell, or the first fault of class two.
+fn second_pass(alloc: Global, names: &Names<'_>, lines: &[&[u8]]) -> Result<Cells, AsmFault>
+    requires { class_one 1 start (map (λ l. l.now) lines.now) ≡ Ok names.now }
+    ensures { Spells result (pairs_of (class_two 1 names.now.names nothing_spelt (map (λ l. l.now) lines.now))) }
+{
+    let mut spelt = Spelt {
+        at: 0,
+        cells: Cells::new(alloc)?,
+    };
+    for i in 0..lines.len() {
+        match spelt.spell(alloc, names, lines[i]) {
+            Ok(()) => {}
+            Err(kind) => return Err(at_line(i, kind)),
+        }
+    }
+    Ok(spelt.cells)
+}
+
+/// The image of a source text, or its first fault with the number of its line, from 1.
+///
+/// A line is an optional label `NAME:`, an optional statement and an optional comment from `;` on,
+/// or `NAME = NUMBER`. It fails with [`FaultKind::NoMemory`] and line 0 where memory is refused.
+pub fn assemble(alloc: Global, source: &str) -> Result<Image, AsmFault>
+    ensures { Assembles result (assembled source.now) }
+{
+    let lines = lines(alloc, source.as_bytes())?;
+    let names = first_pass(alloc, &lines)?;
+    let cells = second_pass(alloc, &names, &lines)?;
+    let image = cells.image(alloc)?;
+    Ok(image)
+}

@@ -1,0 +1,320 @@
+//! What a line of a source text says.
+ghost use Rattle.std.specs.Prelude.{◌≡◌, ◌&&◌, map, option_map, IfOk, MatchOption, ◌∷◌, Some, None};
+ghost use Rattle.std.specs.Option.{option_copied};
+ghost use Rattle.mcs_model.specs.Lexical.{Word, Colon, Equals, tokens, Token};
+ghost use Rattle.mcs_model.specs.Lines.{Whole, word_only, word_first, name_of, operand_of, one_operand, one_number, one_register, one_pair, first_operand, first_register, first_pair, rest_if, list_item, operands_of, behind_mnemonic, statement_of, nothing, rest_of, unlabelled, line_of};
+ghost use Rattle.mcs_model.specs.declared.mnemonic.Mnemonic.TheVariants.{Org, Jcn, Fim, Isz};
+ghost use Rattle.mcs_asm.specs.View.{operand_view, statement_view, line_view, NoLabel, NoDefinition};
+
+use crate::tokens::{Token, Tokens};
+use crate::words::{is_name, mnemonic_in, pair_in, register_in};
+use mcs_model::mnemonic::Mnemonic;
+use mcs_model::numeral::number;
+use mcs_model::op::Op;
+use mcs_nibble::{PairNo, RegNo};
+use std::alloc::{AllocError, Global};
+
+/// A value as it is written. A number from 4,294,967,296 on counts as 4,294,967,296.
+#[derive(Clone, Copy, Debug)]
+pub enum Operand<'a> {
+    Number(u64),
+    Name(&'a [u8]),
+}
+
+/// A statement as it is written. `Whole` is an instruction that needs no name's value.
+#[derive(Debug, Drop)]
+pub enum Statement<'a> {
+    Origin(u64),
+    Data(Vec<Operand<'a>>),
+    Whole(Op),
+    Ldm(Operand<'a>),
+    Bbl(Operand<'a>),
+    Jun(Operand<'a>),
+    Jms(Operand<'a>),
+    Fim(PairNo, Operand<'a>),
+    Jcn(Operand<'a>, Operand<'a>),
+    Isz(RegNo, Operand<'a>),
+}
+
+/// A line that has a form: with its label and its statement, or a definition of a name.
+#[derive(Debug, Drop)]
+pub enum Line<'a> {
+    Code(Option<&'a [u8]>, Option<Statement<'a>>),
+    Define(&'a [u8], u64),
+}
+
+/// The value that a word writes.
+fn operand_in(word: &[u8]) -> Option<Operand<'_>>
+    ensures { option_map operand_view result ≡ operand_of word.now }
+{
+    match number(word) {
+        Some(n) => Some(Operand::Number(n)),
+        None if is_name(word) => Some(Operand::Name(word)),
+        None => None,
+    }
+}
+
+/// The word that is all that is left.
+fn only<'a>(tokens: &mut Tokens<'a>) -> Option<&'a [u8]>
+    ensures { option_copied result ≡ word_only tokens.old }
+{
+    let Some(Token::Word(word)) = tokens.next() else {
+        return None;
+    };
+    if tokens.next().is_some() {
+        return None;
+    }
+    Some(word)
+}
+
+/// The word in front of a comma.
+fn first<'a>(tokens: &mut Tokens<'a>) -> Option<&'a [u8]>
+    ensures { option_map (λ w. (w, tokens.new)) (option_copied result) ≡ word_first tokens.old }
+{
+    let Some(Token::Word(word)) = tokens.next() else {
+        return None;
+    };
+    match tokens.next() {
+        Some(Token::Comma) => Some(word),
+        _ => None,
+    }
+}
+
+fn one_operand<'a>(tokens: &mut Tokens<'a>) -> Option<Operand<'a>>
+    ensures { option_map operand_view result ≡ one_operand tokens.old }
+{
+    operand_in(only(tokens)?)
+}
+
+fn one_number(tokens: &mut Tokens<'_>) -> Option<u64>
+    ensures { result ≡ one_number tokens.old }
+{
+    number(only(tokens)?)
+}
+
+fn one_register(tokens: &mut Tokens<'_>) -> Option<RegNo>
+    ensures { result ≡ one_register tokens.old }
+{
+    register_in(only(tokens)?)
+}
+
+fn one_pair(tokens: &mut Tokens<'_>) -> Option<PairNo>
+    ensures { result ≡ one_pair tokens.old }
+{
+    pair_in(only(tokens)?)
+}
+
+fn first_operand<'a>(tokens: &mut Tokens<'a>) -> Option<Operand<'a>>
+    ensures { option_map (λ v. (operand_view v, tokens.new)) result ≡ first_operand tokens.old }
+{
+    operand_in(first(tokens)?)
+}
+
+fn first_register(tokens: &mut Tokens<'_>) -> Option<RegNo>
+    ensures { option_map (λ r. (r, tokens.new)) result ≡ first_register tokens.old }
+{
+    register_in(first(tokens)?)
+}
+
+fn first_pair(tokens: &mut Tokens<'_>) -> Option<PairNo>
+    ensures { option_map (λ p. (p, tokens.new)) result ≡ first_pair tokens.old }
+{
+    pair_in(first(tokens)?)
+}
+
+/// An instruction without operands.
+fn nothing<'a>(op: Op, tokens: &mut Tokens<'a>) -> Option<Statement<'a>>
+    ensures { option_map statement_view result ≡ nothing op tokens.old }
+{
+    if tokens.is_empty() {
+        Some(Statement::Whole(op))
+    } else {
+        None
+    }
+}
+
+/// The operand in front, and whether a comma follows it.
+fn list_item<'a>(tokens: &mut Tokens<'a>) -> Option<(Operand<'a>, bool)>
+    ensures { option_map (λ x. (operand_view x.0, rest_if x.1 tokens.new)) result ≡ list_item tokens.old }
+{
+    let Some(Token::Word(word)) = tokens.next() else {
+        return None;
+    };
+    let value = operand_in(word)?;
+    match tokens.next() {
+        None => Some((value, false)),
+        Some(Token::Comma) => Some((value, true)),
+        Some(_) => None,
+    }
+}
+
+/// One or more values with commas between.
+fn operands<'a>(
+    alloc: Global,
+    tokens: &mut Tokens<'a>,
+) -> Result<Option<Vec<Operand<'a>>>, AllocError>
+    ensures { IfOk result (λ o. option_map (λ vs. map operand_view vs.items) o ≡ operands_of tokens.old) }
+{
+    let mut found = Vec::new(alloc);
+    loop {
+        let Some((value, more)) = list_item(tokens) else {
+            return Ok(None);
+        };
+        found.push(value)?;
+        if !more {
+            return Ok(Some(found));
+        }
+    }
+}
+
+/// The operands of JCN.
+fn jump_if<'a>(tokens: &mut Tokens<'a>) -> Option<Statement<'a>>
+    ensures { option_map statement_view result ≡ behind_mnemonic Jcn tokens.old }
+{
+    let condition = first_operand(tokens)?;
+    let target = one_operand(tokens)?;
+    Some(Statement::Jcn(condition, target))
+}
+
+/// The operands of FIM.
+fn fetch<'a>(tokens: &mut Tokens<'a>) -> Option<Statement<'a>>
+    ensures { option_map statement_view result ≡ behind_mnemonic Fim tokens.old }
+{
+    let pair = first_pair(tokens)?;
+    let value = one_operand(tokens)?;
+    Some(Statement::Fim(pair, value))
+}
+
+/// The operands of ISZ.
+fn count<'a>(tokens: &mut Tokens<'a>) -> Option<Statement<'a>>
+    ensures { option_map statement_view result ≡ behind_mnemonic Isz tokens.old }
+{
+    let register = first_register(tokens)?;
+    let target = one_operand(tokens)?;
+    Some(Statement::Isz(register, target))
+}
+
+/// The operand of `ORG`.
+fn origin<'a>(tokens: &mut Tokens<'a>) -> Option<Statement<'a>>
+    ensures { option_map statement_view result ≡ behind_mnemonic Org tokens.old }
+{
+    let at = one_number(tokens)?;
+    Some(Statement::Origin(at))
+}
+
+fn whole<'a>(op: Option<Op>) -> Option<Statement<'a>>
+    ensures { option_map statement_view result ≡ option_map (λ o. Whole o) op }
+{
+    let op = op?;
+    Some(Statement::Whole(op))
+}
+
+/// The statement that a mnemonic begins, from what follows it.
+fn behind<'a>(
+    alloc: Global,
+    mnemonic: Mnemonic,
+    tokens: &mut Tokens<'a>,
+) -> Result<Option<Statement<'a>>, AllocError>
+    ensures { IfOk result (λ s. option_map statement_view s ≡ behind_mnemonic mnemonic tokens.old) }
+{
+    match mnemonic {
+        Mnemonic::Org => Ok(origin(tokens)),
+        Mnemonic::Db => Ok(operands(alloc, tokens)?.map(Statement::Data)),
+        Mnemonic::Jcn => Ok(jump_if(tokens)),
+        Mnemonic::Fim => Ok(fetch(tokens)),
+        Mnemonic::Isz => Ok(count(tokens)),
+        Mnemonic::Jun => Ok(one_operand(tokens).map(Statement::Jun)),
+        Mnemonic::Jms => Ok(one_operand(tokens).map(Statement::Jms)),
+        Mnemonic::Bbl => Ok(one_operand(tokens).map(Statement::Bbl)),
+        Mnemonic::Ldm => Ok(one_operand(tokens).map(Statement::Ldm)),
+        Mnemonic::Src => Ok(whole(one_pair(tokens).map(Op::Src))),
+        Mnemonic::Fin => Ok(whole(one_pair(tokens).map(Op::Fin))),
+        Mnemonic::Jin => Ok(whole(one_pair(tokens).map(Op::Jin))),
+        Mnemonic::Inc => Ok(whole(one_register(tokens).map(Op::Inc))),
+        Mnemonic::Add => Ok(whole(one_register(tokens).map(Op::Add))),
+        Mnemonic::Sub => Ok(whole(one_register(tokens).map(Op::Sub))),
+        Mnemonic::Ld => Ok(whole(one_register(tokens).map(Op::Ld))),
+        Mnemonic::Xch => Ok(whole(one_register(tokens).map(Op::Xch))),
+        Mnemonic::Bare(op) => Ok(nothing(op, tokens)),
+    }
+}
+
+/// The statement that the tokens are, all of them.
+#[tactic(auto, unfolding(mcs_model::specs::Lines::statement_of))]
+fn read_statement<'a>(
+    alloc: Global,
+    tokens: &mut Tokens<'a>,
+) -> Result<Option<Statement<'a>>, AllocError>
+    ensures { IfOk result (λ s. option_map statement_view s ≡ statement_of tokens.old) }
+{
+    let Some(Token::Word(word)) = tokens.next() else {
+        return Ok(None);
+    };
+    let Some(mnemonic) = mnemonic_in(word) else {
+        return Ok(None);
+    };
+    behind(alloc, mnemonic, tokens)
+}
+
+/// What stands behind a label, or in front where there is none.
+fn rest<'a>(
+    alloc: Global,
+    label: Option<&'a [u8]>,
+    tokens: &mut Tokens<'a>,
+) -> Result<Option<Line<'a>>, AllocError>
+    ensures { IfOk result (λ o. option_map line_view o ≡ rest_of (option_copied label.entry) tokens.old) }
+{
+    if tokens.is_empty() {
+        return Ok(Some(Line::Code(label, None)));
+    }
+    match read_statement(alloc, tokens)? {
+        None => Ok(None),
+        Some(statement) => Ok(Some(Line::Code(label, Some(statement)))),
+    }
+}
+
+/// The word in front of a colon, and what follows.
+fn label_of<'a>(line: &'a [u8]) -> Option<(&'a [u8], Tokens<'a>)>
+    ensures { MatchOption result (NoLabel (tokens line.now)) (λ x. tokens line.now ≡ Word x.0.now ∷ Colon ∷ x.1) }
+{
+    let mut tokens = Tokens::new(line);
+    match (tokens.next(), tokens.next()) {
+        (Some(Token::Word(word)), Some(Token::Colon)) => Some((word, tokens)),
+        _ => None,
+    }
+}
+
+/// The word in front of a `=`, and what follows.
+fn defined_name<'a>(line: &'a [u8]) -> Option<(&'a [u8], Tokens<'a>)>
+    ensures { MatchOption result (NoDefinition (tokens line.now)) (λ x. tokens line.now ≡ Word x.0.now ∷ Equals ∷ x.1) }
+{
+    let mut tokens = Tokens::new(line);
+    match (tokens.next(), tokens.next()) {
+        (Some(Token::Word(word)), Some(Token::Equals)) => Some((word, tokens)),
+        _ => None,
+    }
+}
+
+/// What a line without a label says.
+fn read_unlabelled<'a>(alloc: Global, line: &'a [u8]) -> Result<Option<Line<'a>>, AllocError>
+    ensures { IfOk result (λ o. option_map line_view o ≡ unlabelled (tokens line.now)) }
+{
+    match defined_name(line) {
+        None => rest(alloc, None, &mut Tokens::new(line)),
+        Some((name, mut tokens)) if is_name(name) => {
+            Ok(one_number(&mut tokens).map(|n| Line::Define(name, n)))
+        }
+        Some(_) => Ok(None),
+    }
+}
+
+/// What a line says; None where it has no form.
+pub fn read_line<'a>(alloc: Global, line: &'a [u8]) -> Result<Option<Line<'a>>, AllocError>
+    ensures { IfOk result (λ o. option_map line_view o ≡ line_of (tokens line.now)) }
+{
+    match label_of(line) {
+        None => read_unlabelled(alloc, line),
+        Some((name, mut tokens)) if is_name(name) => rest(alloc, Some(name), &mut tokens),
+        Some(_) => Ok(None),
+    }
+}

@@ -1,0 +1,136 @@
+//! The tokens of a line.
+ghost use Rattle.std.specs.Prelude.{◌≡◌, ◌≤◌, ◌∷◌, [], length, drop, IsTrue, ◌↔◌, MatchOption};
+ghost use Rattle.std.specs.List.{prefix_len};
+ghost use Rattle.mcs_model.specs.Lexical.{is_word, is_blank, tokens};
+ghost use Rattle.mcs_asm.specs.View.{token_view};
+
+use std::marker::Model;
+
+/// A piece of a line; `Other` is a byte that is in no form.
+#[derive(Clone, Copy, Debug)]
+pub enum Token<'a> {
+    Word(&'a [u8]),
+    Comma,
+    Colon,
+    Equals,
+    Other,
+}
+
+fn is_word(b: u8) -> bool
+    ensures { result ≡ is_word b }
+{
+    b.is_ascii_digit() || b.is_ascii_uppercase() || b.is_ascii_lowercase() || b == b'_'
+}
+
+fn is_blank(b: u8) -> bool
+    ensures { result ≡ is_blank b }
+{
+    b == b' ' || b == b'\t'
+}
+
+/// How many bytes the word in front has.
+fn word_len(bytes: &[u8]) -> usize
+    ensures len { result ≡ prefix_len is_word bytes.now }
+    ensures within { result ≤ length bytes.now }
+{
+    for (i, b) in bytes.iter().enumerate() {
+        if !is_word(*b) {
+            return i;
+        }
+    }
+    bytes.len()
+}
+
+/// How many spaces and tabs stand in front.
+fn blank_len(bytes: &[u8]) -> usize
+    ensures len { result ≡ prefix_len is_blank bytes.now }
+    ensures within { result ≤ length bytes.now }
+{
+    for (i, b) in bytes.iter().enumerate() {
+        if !is_blank(*b) {
+            return i;
+        }
+    }
+    bytes.len()
+}
+
+/// A line without the spaces and tabs in front.
+#[tactic(auto, using(crate::proofs::Lexing::trimmed_rules))]
+fn trimmed(line: &[u8]) -> &[u8]
+    ensures same { tokens result.now ≡ tokens line.now }
+    ensures bare { prefix_len is_blank result.now ≡ 0 }
+{
+    let (_, bytes) = line.split_at(blank_len(line));
+    bytes
+}
+
+/// The token of the byte in front.
+#[tactic(auto, using(crate::proofs::Lexing::other_first), unfolding(mcs_model::specs::Lexical::tokens_after))]
+fn symbol(bytes: &[u8]) -> Option<(Token<'_>, &[u8])>
+    requires no_word { prefix_len is_word bytes.now ≡ 0 }
+    requires no_blank { prefix_len is_blank bytes.now ≡ 0 }
+    ensures { MatchOption result (tokens bytes.now ≡ []) (λ x. tokens bytes.now ≡ token_view x.0 ∷ tokens x.1.now) }
+{
+    match bytes {
+        [] | [b';', ..] => None,
+        [b',', rest @ ..] => Some((Token::Comma, rest)),
+        [b':', rest @ ..] => Some((Token::Colon, rest)),
+        [b'=', rest @ ..] => Some((Token::Equals, rest)),
+        [_, rest @ ..] => Some((Token::Other, rest)),
+    }
+}
+
+/// The first token of a line, and what follows it.
+#[tactic(auto, using(crate::proofs::Lexing::word_first))]
+fn front(line: &[u8]) -> Option<(Token<'_>, &[u8])>
+    ensures { MatchOption result (tokens line.now ≡ []) (λ x. tokens line.now ≡ token_view x.0 ∷ tokens x.1.now) }
+{
+    let bytes = trimmed(line);
+    let len = word_len(bytes);
+    if len == 0 {
+        return symbol(bytes);
+    }
+    let (word, rest) = bytes.split_at(len);
+    Some((Token::Word(word), rest))
+}
+
+/// The tokens of a line that are left.
+#[derive(Drop)]
+pub struct Tokens<'a> {
+    rest: &'a [u8],
+}
+
+impl<'a> Model for Tokens<'a> {
+    //! The tokens of a line.
+    ghost use Rattle.std.specs.Prelude.{List};
+    ghost use Rattle.mcs_model.specs.Lexical.{Token, tokens};
+
+    ghost Value = { List Token };
+
+    ghost view = { λ t. tokens t.rest.now };
+}
+
+impl<'a> Tokens<'a> {
+    /// All tokens of a line.
+    pub fn new(line: &'a [u8]) -> Tokens<'a>
+        ensures { result ≡ tokens line.now }
+    {
+        Tokens { rest: line }
+    }
+
+    /// Whether no token is left.
+    pub fn is_empty(&self) -> bool
+        ensures { IsTrue result ↔ (self.now ≡ []) }
+    {
+        front(self.rest).is_none()
+    }
+
+    /// The next token.
+    pub fn next(&mut self) -> Option<Token<'a>>
+        ensures { MatchOption result (self.old ≡ []) (λ t. self.old ≡ token_view t ∷ self.new) }
+    {
+        let (token, rest) = front(self.rest)?;
+        self.rest = rest;
+        Some(token)
+    }
+}

@@ -1,0 +1,7 @@
+pub mod ReadBack
+pub mod LinesAgain
+pub mod Clean
+pub mod Pieces
+pub mod Whole
+pub mod Loops
+pub mod RangePairs

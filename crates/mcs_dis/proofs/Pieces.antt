@@ -1,0 +1,63 @@
+-- What stands in front of some bytes, and what its line says.
+use Rattle.std.proofs.Common.{◌≡◌, ℕ, ◌+◌, ◌<◌, ◌≤◌, Bool, true, false, cond, leb, List, [], ◌∷◌, length, take, Option, Some, None, Ok, refl, ap, ◌∙◌, ◌⊎◌, inl, inr, arith}
+use Rattle.std.proofs.lemmas.Bool.{lt-ltb, leb-true}
+use Rattle.mcs_model.specs.declared.op.Op.{Op}
+use Rattle.mcs_model.specs.Lexical.{tokens}
+use Rattle.mcs_model.specs.Lines as asm
+use Rattle.mcs_model.specs.Table.{decoded, words_of}
+use Rattle.mcs_model.specs.Assembly.{bytes_at, size, is_bad_statement, next_statement}
+use Rattle.mcs_model.specs.Text.{op_at, whole_or_byte, second_word, piece_text, piece_size}
+use Rattle.mcs_dis.specs.Again.{statement}
+use Rattle.mcs_dis.proofs.ReadBack.{read_back, spells, byte_back, size_is, next_is, fine_is}
+use Rattle.mcs_dis.proofs.Clean.{Clean, byte_clean, text_clean}
+use Rattle.mcs_model.proofs.Decoding.{decoded_spells, one_or_two}
+
+abbrev pub piece_statement : ℕ → ℕ → Option Op → asm.Statement
+piece_statement at b None = asm.Data (asm.Number b ∷ [])
+piece_statement at b (Some o) = statement at o
+
+pub record IsPiece (at b : ℕ) (rest : List ℕ) (x : Option Op) : Type 0 where
+  pub reads : asm.line_of (tokens (piece_text at b x)) ≡ Some (asm.Code None (Some (piece_statement at b x)))
+  pub bytes : bytes_at at [] (piece_statement at b x) ≡ Ok (take (piece_size x) (b ∷ rest))
+  pub size_of : size (piece_statement at b x) ≡ piece_size x
+  pub next : next_statement (Some (piece_statement at b x)) at ≡ at + piece_size x
+  pub fine : is_bad_statement (Some (piece_statement at b x)) ≡ false
+  pub some : 1 ≤ piece_size x
+  pub fits : piece_size x ≤ 1 + length rest
+  pub clean : Clean (piece_text at b x)
+
+byte_piece : (at b : ℕ) (rest : List ℕ) → b < 256 → IsPiece at b rest None
+byte_piece at b rest lt = record { reads = byte_back b lt; bytes = rw (lt-ltb b 256 lt) refl; size_of = refl; next = refl; fine = refl; some = omega arith; fits = omega arith; clean = byte_clean b lt }
+
+take_words : (n b : ℕ) (rest : List ℕ) → (n ≡ 1) ⊎ (n ≡ 2) → n ≤ 1 + length rest → take n (b ∷ second_word rest ∷ []) ≡ take n (b ∷ rest)
+take_words n b rest (inl e) le = rw e refl
+take_words n b [] (inr e) le = absurd (omega (arith, e, le))
+take_words n b (c ∷ rest) (inr e) le = rw e refl
+
+op_piece : (at b : ℕ) (rest : List ℕ) (o : Op) → second_word rest < 256 → decoded b (second_word rest) ≡ Some o → words_of o ≤ 1 + length rest → IsPiece at b rest (Some o)
+op_piece at b rest o lt e le =
+    let s = decoded_spells b (second_word rest) o lt e in
+    record {
+      reads = read_back at o s.0;
+      bytes = spells at o [] s.0 ∙ ap Ok (s.1 ∙ take_words (words_of o) b rest (one_or_two o) le);
+      size_of = size_is at o;
+      next = next_is at at o;
+      fine = fine_is at o;
+      some = elim (one_or_two o) [ inl e ↦ omega (arith, e) | inr e ↦ omega (arith, e) ];
+      fits = le;
+      clean = text_clean at o s.0;
+    }
+
+pub piece_is : (at b : ℕ) (rest : List ℕ) → b < 256 → second_word rest < 256 → IsPiece at b rest (op_at b rest)
+unfolding op_at
+piece_is at b rest lt second =
+    let P : Option Op → Type 0 = λ d. decoded b (second_word rest) ≡ d → IsPiece at b rest (whole_or_byte d b rest) in
+    (elim (decoded b (second_word rest)) as P [
+      | None ↦ λ e. byte_piece at b rest lt
+      | Some o ↦ λ e.
+          let Q : Bool → Type 0 = λ t. leb (words_of o) (1 + length rest) ≡ t → IsPiece at b rest (cond t (Some o) None) in
+          (elim (leb (words_of o) (1 + length rest)) as Q [
+            | true ↦ λ yes. op_piece at b rest o second e (leb-true (words_of o) (1 + length rest) yes)
+            | false ↦ λ not_whole. byte_piece at b rest lt
+          ]) refl
+    ]) refl

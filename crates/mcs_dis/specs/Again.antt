@@ -1,0 +1,31 @@
+-- The statement that the text of an instruction is.
+use Rattle.std.specs.Prelude.{◌≡◌, ℕ, ◌+◌, ◌*◌, ◌<◌, ◌≤◌, ◌↔◌, List, Some, None, slice_index}
+use Rattle.std.specs.List.{Contains}
+use Rattle.mcs_model.specs.Pairs.{from_address}
+use Rattle.mcs_model.specs.declared.op.Op.{Op}
+use Rattle.mcs_model.specs.declared.op.Op.TheVariants.{Jcn, Fim, Jun, Jms, Isz, Bbl, Ldm}
+use Rattle.mcs_model.specs.Lexical.{tokens}
+use Rattle.mcs_model.specs.Lines as asm
+use Rattle.mcs_model.specs.Text.{text_of, near_page, range}
+
+-- the address that JCN and ISZ at an address reach
+abbrev pub near : ℕ → ℕ → asm.Operand
+near at b = asm.Number (near_page at * 256 + b)
+
+abbrev pub statement : ℕ → Op → asm.Statement
+statement at (Jcn c b) = asm.Jcn (asm.Number c) (near at b)
+statement at (Isz r b) = asm.Isz r (near at b)
+statement at (Fim p b) = asm.Fim p (asm.Number b)
+statement at (Jun h b) = asm.Jun (asm.Number (h * 256 + b))
+statement at (Jms h b) = asm.Jms (asm.Number (h * 256 + b))
+statement at (Bbl d) = asm.Bbl (asm.Number d)
+statement at (Ldm d) = asm.Ldm (asm.Number d)
+statement at o = asm.Whole o
+
+-- the text of an instruction at an address reads as the statement that spells it
+abbrev pub ReadsAs : ℕ → Op → Type 0
+ReadsAs at o = asm.line_of (tokens (text_of at o)) ≡ Some (asm.Code None (Some (statement at o)))
+
+-- the pairs of a range are exactly the pairs of an address `from` to below `to` and the byte of the ROM there
+abbrev pub AreItsPairs : List ℕ → ℕ → ℕ → Type 0
+AreItsPairs rom from to = (p : ℕ × ℕ) → Contains (from_address from (range rom from to)) p ↔ ((from ≤ p.0) × (p.0 < to) × (slice_index rom p.0 ≡ p.1))

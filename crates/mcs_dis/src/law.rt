@@ -1,0 +1,19 @@
+//! The laws of the texts: they hold for each ROM, and the functions do nothing.
+ghost use Rattle.std.specs.Prelude.{◌≡◌, ℕ, ◌<◌, ◌≤◌, List, length};
+ghost use Rattle.std.specs.List.{AllByRecursion};
+ghost use Rattle.mcs_dis.specs.Again.{AreItsPairs, ReadsAs};
+ghost use Rattle.mcs_model.specs.Spelling.{IsOp};
+ghost use Rattle.mcs_model.specs.Text.{SpellsItself};
+ghost use Rattle.mcs_model.specs.declared.op.Op.{Op};
+
+/// The text of an instruction reads as the statement that spells it.
+pub fn reads_back()
+    ensures { (at : ℕ) (o : Op) → IsOp o → ReadsAs at o }
+{}
+
+/// The source of a range of a ROM assembles, without a fault, to exactly the bytes of the range,
+/// each at its address.
+pub fn source_law()
+    ensures spelled { (rom : List ℕ) (from to : ℕ) → length rom ≡ 4096 → AllByRecursion (λ b. b < 256) rom → from < to → to ≤ 4096 → SpellsItself rom from to }
+    ensures pairs { (rom : List ℕ) (from to : ℕ) → length rom ≡ 4096 → to ≤ 4096 → AreItsPairs rom from to }
+{}

@@ -1,0 +1,12 @@
+//! The disassembler: texts of instructions, listings of a ROM, and sources that assemble to it again.
+#![tactic(auto)]
+
+mod decoding;
+mod law;
+mod listings;
+#[cfg(test)]
+mod tests;
+mod texts;
+
+pub use law::{reads_back, source_law};
+pub use listings::{line_of, listing, source};

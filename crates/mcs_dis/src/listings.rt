@@ -1,0 +1,91 @@
+//! The text of one instruction, the listing of a ROM, and the source of a range of it.
+ghost use Rattle.std.specs.Prelude.{◌≡◌, ◌<◌, ◌≤◌, ◌++◌, length, slice_index, drop, string_bytes, IfOk};
+ghost use Rattle.mcs_model.specs.Text.{op_at, piece_size, piece_text, as_line, listed_line, line_text, listing_text, source_text};
+
+use crate::decoding::{front, op_of, second, size};
+use crate::texts::{push_columns, push_origin, push_piece};
+use mcs_nibble::Addr;
+use std::alloc::{AllocError, Global};
+
+/// The text of the instruction that stands at an address, by its words. A code outside the table,
+/// and a first word whose second word is past the end (None), is `DB 0xHH`. A second word behind an
+/// instruction of one word counts for nothing.
+pub fn line_of(alloc: Global, at: Addr, first: u8, second: Option<u8>) -> Result<String, AllocError>
+    ensures { IfOk result (λ s. string_bytes s ≡ line_text at first second) }
+{
+    let mut out = String::new(alloc);
+    push_piece(&mut out, at, first, op_of(first, second))?;
+    Ok(out)
+}
+
+/// Writes the line of the piece in front, and tells how many bytes it has.
+#[tactic(auto, using(crate::proofs::Loops::front_fits, crate::proofs::Loops::front_some))]
+fn push_source_line(out: &mut String, at: Addr, bytes: &[u8]) -> Result<usize, AllocError>
+    requires { 0 < length bytes.now }
+    ensures size { IfOk result (λ n. n ≡ piece_size (op_at (slice_index bytes.now 0) (drop 1 bytes.now))) }
+    ensures within { IfOk result (λ n. (0 < n) × (n ≤ length bytes.now)) }
+    ensures line { IfOk result (λ n. string_bytes out.new ≡ string_bytes out.old ++ as_line (piece_text at (slice_index bytes.now 0) (op_at (slice_index bytes.now 0) (drop 1 bytes.now)))) }
+{
+    let piece = front(bytes);
+    let size = size(&piece);
+    push_piece(out, at, bytes[0], piece)?;
+    out.push('\n')?;
+    Ok(size)
+}
+
+/// Writes the listed line of the piece in front, and tells how many bytes it has.
+#[tactic(auto, using(crate::proofs::Loops::front_fits, crate::proofs::Loops::front_some))]
+fn push_listed_line(out: &mut String, at: Addr, bytes: &[u8]) -> Result<usize, AllocError>
+    requires { 0 < length bytes.now }
+    ensures size { IfOk result (λ n. n ≡ piece_size (op_at (slice_index bytes.now 0) (drop 1 bytes.now))) }
+    ensures within { IfOk result (λ n. (0 < n) × (n ≤ length bytes.now)) }
+    ensures line { IfOk result (λ n. string_bytes out.new ≡ string_bytes out.old ++ as_line (listed_line at (slice_index bytes.now 0) (drop 1 bytes.now) (op_at (slice_index bytes.now 0) (drop 1 bytes.now)))) }
+{
+    let piece = front(bytes);
+    let size = size(&piece);
+    push_columns(out, at, bytes[0], second(bytes, &piece))?;
+    push_piece(out, at, bytes[0], piece)?;
+    out.push('\n')?;
+    Ok(size)
+}
+
+/// The listing of a ROM from an address on: so many lines `AAA BB BB TEXT`, each ended by LF, or
+/// fewer where the last address comes first. An instruction of one word has two spaces in place of
+/// the second word.
+pub fn listing(alloc: Global, rom: &[u8], from: Addr, lines: usize) -> Result<String, AllocError>
+    requires { length rom.now ≡ 4096 }
+    ensures { IfOk result (λ s. string_bytes s ≡ listing_text rom.now from lines) }
+{
+    let mut out = String::new(alloc);
+    let mut at = from.get();
+    let mut rest = &rom[usize::from(at)..];
+    for _line in 0..lines {
+        if rest.is_empty() {
+            return Ok(out);
+        }
+        let size = push_listed_line(&mut out, Addr::ZERO.plus(at), rest)?;
+        rest = &rest[size..];
+        at += size as u16;
+    }
+    Ok(out)
+}
+
+/// The source of the addresses `from` to below `to`: the line `ORG 0xHHH`, and a line for each
+/// instruction, each ended by LF. It assembles to exactly the bytes of these addresses.
+pub fn source(alloc: Global, rom: &[u8], from: Addr, to: u16) -> Result<String, AllocError>
+    requires rom { length rom.now ≡ 4096 }
+    requires some { from < to }
+    requires end { to ≤ 4096 }
+    ensures { IfOk result (λ s. string_bytes s ≡ source_text rom.now from to) }
+{
+    let mut out = String::new(alloc);
+    push_origin(&mut out, from)?;
+    let mut at = from.get();
+    let mut rest = &rom[usize::from(at)..usize::from(to)];
+    while !rest.is_empty() {
+        let size = push_source_line(&mut out, Addr::ZERO.plus(at), rest)?;
+        rest = &rest[size..];
+        at += size as u16;
+    }
+    Ok(out)
+}

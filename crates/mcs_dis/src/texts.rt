@@ -1,0 +1,144 @@
+//! The texts of instructions.
+ghost use Rattle.std.specs.Prelude.{◌≡◌, ◌++◌, ◌/◌, ◌%◌, codes, string_bytes, OnOk};
+ghost use Rattle.std.specs.Fmt.{decimal};
+ghost use Rattle.mcs_model.specs.Text.{hex_2, address, near_page, name, operands, text_of, piece_text, origin_text, as_line, address_digits, word_columns, columns};
+
+use mcs_code::{Op, instructions, taken};
+use mcs_nibble::{Addr, Nibble};
+use std::alloc::AllocError;
+
+/// The name, by the row of the instruction.
+macro_rules! name_rows {
+    (($op:ident) $($codes:pat, $name:ident $kind:ident $words:literal $cycles:literal $text:literal;)*) => {
+        match *$op {
+            $(taken!(_a _b $name $kind) => $text,)*
+        }
+    };
+}
+
+/// The name of an instruction.
+fn name(op: &Op) -> &'static str
+    ensures { result.now ≡ name op.now }
+{
+    instructions!(name_rows!(op))
+}
+
+/// Writes a decimal number behind a text.
+fn push_number(out: &mut String, front: &str, n: u8) -> Result<(), AllocError>
+    ensures { OnOk result (string_bytes out.new ≡ string_bytes out.old ++ (front.now ++ decimal n)) }
+{
+    write!(out, "{front}{n}")
+}
+
+/// Writes an address as `0xHHH` behind a text.
+#[tactic(auto, using(std::proofs::lemmas::Fmt::hex_one_digit, std::proofs::lemmas::Fmt::hex_byte))]
+fn push_address(out: &mut String, front: &str, page: Nibble, word: u8) -> Result<(), AllocError>
+    ensures { OnOk result (string_bytes out.new ≡ string_bytes out.old ++ (front.now ++ address page word)) }
+{
+    let page = page.get();
+    write!(out, "{front}0x{page:X}{word:02X}")
+}
+
+/// Writes a pair and a byte.
+#[tactic(auto, using(std::proofs::lemmas::Fmt::hex_byte))]
+fn push_pair_and_byte(out: &mut String, pair: u8, byte: u8) -> Result<(), AllocError>
+    ensures { OnOk result (string_bytes out.new ≡ string_bytes out.old ++ (codes " P" ++ (decimal pair ++ (codes ", 0x" ++ hex_2 byte)))) }
+{
+    write!(out, " P{pair}, 0x{byte:02X}")
+}
+
+/// Writes a number behind a text, and an address on the page that JCN and ISZ at `at` reach.
+fn push_near(out: &mut String, front: &str, n: u8, at: Addr, word: u8) -> Result<(), AllocError>
+    ensures { OnOk result (string_bytes out.new ≡ string_bytes out.old ++ (front.now ++ (decimal n ++ (codes ", " ++ address (near_page at) word)))) }
+{
+    push_number(out, front, n)?;
+    push_address(out, ", ", at.plus(2).page(), word)
+}
+
+/// Writes the operands of an instruction.
+fn push_operands(out: &mut String, at: Addr, op: Op) -> Result<(), AllocError>
+    ensures { OnOk result (string_bytes out.new ≡ string_bytes out.old ++ operands at op) }
+{
+    match op {
+        Op::Jcn(condition, word) => push_near(out, " ", condition.get(), at, word),
+        Op::Isz(register, word) => push_near(out, " R", register.get(), at, word),
+        Op::Fim(pair, byte) => push_pair_and_byte(out, pair.get(), byte),
+        Op::Jun(page, word) | Op::Jms(page, word) => push_address(out, " ", page, word),
+        Op::Src(pair) | Op::Fin(pair) | Op::Jin(pair) => push_number(out, " P", pair.get()),
+        Op::Inc(register)
+        | Op::Add(register)
+        | Op::Sub(register)
+        | Op::Ld(register)
+        | Op::Xch(register) => push_number(out, " R", register.get()),
+        Op::Bbl(value) | Op::Ldm(value) => push_number(out, " ", value.get()),
+        _ => Ok(()),
+    }
+}
+
+/// Writes the text of an instruction that stands at an address.
+fn push_op(out: &mut String, at: Addr, op: Op) -> Result<(), AllocError>
+    ensures { OnOk result (string_bytes out.new ≡ string_bytes out.old ++ text_of at op) }
+{
+    out.push_str(name(&op))?;
+    push_operands(out, at, op)
+}
+
+/// Writes the text of a piece that stands at an address: an instruction, or its first word as a
+/// byte.
+#[tactic(auto, using(std::proofs::lemmas::Fmt::hex_byte))]
+pub fn push_piece(
+    out: &mut String,
+    at: Addr,
+    first: u8,
+    piece: Option<Op>,
+) -> Result<(), AllocError>
+    ensures { OnOk result (string_bytes out.new ≡ string_bytes out.old ++ piece_text at first piece) }
+{
+    match piece {
+        None => write!(out, "DB 0x{first:02X}"),
+        Some(op) => push_op(out, at, op),
+    }
+}
+
+/// Writes the line that says where the bytes behind it stand.
+pub fn push_origin(out: &mut String, at: Addr) -> Result<(), AllocError>
+    ensures { OnOk result (string_bytes out.new ≡ string_bytes out.old ++ as_line (origin_text at)) }
+{
+    push_address(out, "ORG ", at.page(), at.low())?;
+    out.push('\n')?;
+    Ok(())
+}
+
+/// Writes the three digits of an address.
+#[tactic(auto, using(std::proofs::lemmas::Fmt::hex_one_digit, std::proofs::lemmas::Fmt::hex_byte))]
+fn push_digits(out: &mut String, at: Addr) -> Result<(), AllocError>
+    ensures { OnOk result (string_bytes out.new ≡ string_bytes out.old ++ address_digits (at / 256) (at % 256)) }
+{
+    let page = at.page().get();
+    let word = at.low();
+    write!(out, "{page:X}{word:02X}")
+}
+
+/// Writes the words that stand before a listed text, behind the address.
+#[tactic(auto, using(std::proofs::lemmas::Fmt::hex_byte))]
+fn push_words(out: &mut String, first: u8, second: Option<u8>) -> Result<(), AllocError>
+    ensures { OnOk result (string_bytes out.new ≡ string_bytes out.old ++ word_columns first second) }
+{
+    match second {
+        Some(second) => write!(out, " {first:02X} {second:02X} "),
+        None => write!(out, " {first:02X}    "),
+    }
+}
+
+/// Writes the address and the words that stand before a listed text.
+pub fn push_columns(
+    out: &mut String,
+    at: Addr,
+    first: u8,
+    second: Option<u8>,
+) -> Result<(), AllocError>
+    ensures { OnOk result (string_bytes out.new ≡ string_bytes out.old ++ columns at first second) }
+{
+    push_digits(out, at)?;
+    push_words(out, first, second)
+}
