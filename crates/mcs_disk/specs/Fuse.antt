@@ -1,0 +1,15 @@
+-- Which calls a disk with a fuse fails.
+use Rattle.std.specs.Prelude.{◌≡◌, ℕ, ◌≤◌}
+use Rattle.mcs_disk.specs.declared.fuse.Fuse.{Fuse}
+use Rattle.mcs_disk.specs.declared.fuse.Fuse.TheVariants.{Whole, AllAfter, OneAfter}
+use Rattle.mcs_disk.specs.declared.fuse.FuseDisk.{FuseDisk}
+
+-- the call behind n more calls fails
+abbrev pub Fails : Fuse → ℕ → Type 0
+Fails Whole n = ⊥
+Fails (AllAfter passed) n = passed ≤ n
+Fails (OneAfter passed) n = n ≡ passed
+
+-- the disk fails the call behind n more calls, and does not pass it on
+abbrev pub FailsAfter : FuseDisk → ℕ → Type 0
+FailsAfter disk n = Fails disk.fuse n

@@ -1,0 +1,4 @@
+pub mod Disk
+pub mod Fuse
+pub mod Memory
+pub mod Moments

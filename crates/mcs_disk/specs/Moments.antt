@@ -1,0 +1,69 @@
+-- Stretches of calls on a disk, from one of its states to a later one: what stays, what a crash at any moment may leave, and what is
+-- safe behind them. (Our own choice.)
+use Rattle.std.specs.Prelude.{◌≡◌, ◌⊎◌, ◌↔◌, ℕ, ◌+◌, ◌≤◌, min, List, replicate, Result, OnOk}
+use Rattle.mcs_disk.specs.Disk.{DiskState, Only, most_faults}
+
+-- all that is there is on the disk: a crash now leaves the current bytes, and since this moment there is no other image
+pub record IsDurable (disk : DiskState) : Type 0 where
+  pub only : Only disk.bytes disk.images
+  pub fresh : (c : List ℕ) → disk.since disk.clock c → c ≡ disk.bytes
+
+-- size and honesty stayed, and the count of faults rose by one where a call failed, and nowhere else
+pub record Counts (old new : DiskState) (failed : Type 0) : Type 0 where
+  pub size : new.size ≡ old.size
+  pub honest : new.honest ↔ old.honest
+  pub fault : failed → new.faults ≡ min (old.faults + 1) most_faults
+  pub no_fault : ¬ failed → new.faults ≡ old.faults
+
+-- nothing but the count of faults has changed
+pub record Stays (old new : DiskState) : Type 0 where
+  pub bytes : new.bytes ≡ old.bytes
+  pub clock : new.clock ≡ old.clock
+  pub images : (c : List ℕ) → new.images c ↔ old.images c
+  pub since : (t : ℕ) (c : List ℕ) → new.since t c ↔ old.since t c
+
+-- nothing that a contract sees has changed
+pub record IsSame (old new : DiskState) : Type 0 where
+  pub size : new.size ≡ old.size
+  pub faults : new.faults ≡ old.faults
+  pub honest : new.honest ↔ old.honest
+  pub stays : Stays old new
+
+-- an honest disk of n zeros that no call has reached
+pub record IsNew (n : ℕ) (disk : DiskState) : Type 0 where
+  pub honest : disk.honest
+  pub size : disk.size ≡ n
+  pub faults : disk.faults ≡ 0
+  pub bytes : disk.bytes ≡ replicate n 0
+  pub clock : disk.clock ≡ 0
+  pub durable : IsDurable disk
+
+-- calls that changed no byte and left nothing else behind (reads and syncs)
+pub record Rests (old new : DiskState) : Type 0 where
+  pub bytes : new.bytes ≡ old.bytes
+  pub images : (c : List ℕ) → new.images c → old.images c
+  pub later : old.clock ≤ new.clock
+  pub nothing_else : (t : ℕ) (c : List ℕ) → t ≤ old.clock → new.since t c → old.since t c
+  pub keeps : (t : ℕ) (c : List ℕ) → t ≤ old.clock → old.since t c → new.since t c
+
+-- An image at a moment since the start has P. Since an earlier time there are what there was since then, and what there is since the start.
+pub record LeavesOnly (old new : DiskState) (P : List ℕ → Type 0) : Type 0 where
+  pub later : old.clock ≤ new.clock
+  pub each : (c : List ℕ) → new.since old.clock c → P c
+  pub before : (t : ℕ) (c : List ℕ) → t ≤ old.clock → new.since t c → old.since t c ⊎ new.since old.clock c
+  pub keeps : (t : ℕ) (c : List ℕ) → t ≤ old.clock → old.since t c → new.since t c
+
+-- nothing is said of what the stretch left behind
+abbrev pub GoesOn : DiskState → DiskState → Type 0
+GoesOn old new = LeavesOnly old new (λ c. Unit {0})
+
+-- nothing was done yet, or all of it
+abbrev pub Either : (List ℕ → Type 0) → (List ℕ → Type 0) → List ℕ → Type 0
+Either P Q c = P c ⊎ Q c
+
+-- A change in so many steps. Until Ok, a crash leaves what has Before or what has After; from then on what has After alone.
+pub record Changes {T E : Type 0} (steps : ℕ) (old new : DiskState) (Before After : List ℕ → Type 0) (result : Result T E) : Type 0 where
+  pub after : OnOk result (After new.bytes)
+  pub durable : OnOk result (IsDurable new)
+  pub ticks : OnOk result (new.clock ≡ old.clock + steps)
+  pub moments : LeavesOnly old new (Either Before After)

@@ -1,0 +1,45 @@
+//! A disk of a fixed size, honest or not.
+ghost use Rattle.std.specs.Prelude.{◌≡◌, ◌≤◌, ◌+◌, length};
+ghost use Rattle.mcs_disk.specs.Disk.{DiskState, IsCall, Reads, Writes, Syncs, IsLawful};
+
+use thiserror::Error;
+
+/// The device refused a call.
+#[derive(Clone, Copy, Debug, PartialEq, Eq, Error)]
+#[error("the device refused the call")]
+pub struct DiskFault;
+
+/// A device of bytes that can be read and written in ranges, and synced.
+///
+/// Every disk owes its size and the count of faults. The rest is owed by an honest disk alone: between two syncs a crash may
+/// leave any bytes in a written range, and after a good sync it leaves the current bytes.
+pub trait Disk {
+    /// What contracts see.
+    ghost state: { Self → DiskState };
+
+    /// The number of bytes, which no call changes.
+    fn size(&self) -> usize
+        ensures { result ≡ (state self.now).size };
+
+    /// Reads the bytes from `at` on.
+    fn read(&mut self, at: usize, into: &mut [u8]) -> Result<(), DiskFault>
+        requires { at + length into.old ≤ (state self.old).size }
+        ensures call { IsCall (state self.old) (state self.new) result }
+        ensures honest { (state self.old).honest
+            → Reads at into.old into.new (state self.old) (state self.new) result };
+
+    /// Writes over the bytes from `at` on. Until a sync, a crash may leave any bytes in that range.
+    fn write(&mut self, at: usize, from: &[u8]) -> Result<(), DiskFault>
+        requires { at + length from.now ≤ (state self.old).size }
+        ensures call { IsCall (state self.old) (state self.new) result }
+        ensures honest { (state self.old).honest
+            → Writes at from.now (state self.old) (state self.new) result };
+
+    /// Makes what was written stable: after an Ok, a crash leaves what a read gives.
+    fn sync(&mut self) -> Result<(), DiskFault>
+        ensures call { IsCall (state self.old) (state self.new) result }
+        ensures honest { (state self.old).honest → Syncs (state self.old) (state self.new) result };
+
+    /// What holds of an honest disk at each moment.
+    ghost lawful: { (disk : Self) → (state disk).honest → IsLawful (state disk) };
+}

@@ -1,0 +1,132 @@
+//! A disk in memory.
+ghost use Rattle.std.specs.Prelude.{◌≡◌, ◌+◌, ◌-◌, ◌^◌, ◌≤◌, [], ◌∷◌, ◌++◌, length, reverse, IfOk, OnOk, OnErr, min};
+ghost use Rattle.mcs_disk.specs.Disk.{most_faults, IsCall, Reads, Writes, Syncs};
+ghost use Rattle.mcs_disk.specs.Moments.{IsNew, Stays};
+ghost use Rattle.mcs_disk.specs.Memory.{bytes_after, put, memory_state, memory_lawful};
+
+use crate::{Disk, DiskFault};
+use std::alloc::{AllocError, Global};
+
+/// A call that answered Ok.
+#[derive(Drop)]
+pub(crate) enum Call {
+    Read,
+    Write(usize, Vec<u8>),
+    Sync,
+}
+
+/// An honest disk in memory.
+///
+/// It keeps a record of the calls that answered Ok, from which contracts read what a crash may have left at each moment. Where
+/// that record cannot grow, the call is a device fault, and changes nothing but the count of faults.
+#[derive(Drop)]
+pub struct MemDisk {
+    alloc: Global,
+    pub(crate) bytes: Vec<u8>,
+    pub(crate) calls: Vec<Call>,
+    pub(crate) faults: u64,
+    ghost kept: { bytes.items ≡ bytes_after (length bytes.items) (reverse calls.items) },
+}
+
+impl MemDisk {
+    /// A disk of `size` bytes of 0.
+    pub fn new(alloc: Global, size: usize) -> Result<MemDisk, AllocError>
+        ensures { IfOk result (λ disk. IsNew size (⟦<MemDisk as Disk>⟧.state disk)) }
+    {
+        Ok(MemDisk {
+            alloc,
+            bytes: vec![in alloc; 0u8; size]?,
+            calls: Vec::new(alloc),
+            faults: 0,
+        })
+    }
+
+    // Counts a fault and does nothing else.
+    pub(crate) fn fail(&mut self) -> DiskFault
+        ensures bytes { self.new.bytes ≡ self.old.bytes }
+        ensures calls { self.new.calls ≡ self.old.calls }
+        ensures fault { self.new.faults ≡ min (self.old.faults + 1) most_faults }
+    {
+        self.faults = self.faults.saturating_add(1);
+        DiskFault
+    }
+}
+
+// Keeps a call, or counts a fault where the record can't grow.
+fn keep(calls: &mut Vec<Call>, faults: &mut u64, call: Call) -> Result<(), DiskFault>
+    ensures ok { OnOk result (calls.new.items ≡ calls.old.items ++ call ∷ []) }
+    ensures err { OnErr result (calls.new.items ≡ calls.old.items) }
+    ensures same { OnOk result (faults.new ≡ faults.old) }
+    ensures fault { OnErr result (faults.new ≡ min (faults.old + 1) most_faults) }
+{
+    match calls.push(call) {
+        Ok(()) => Ok(()),
+        Err(_) => {
+            *faults = faults.saturating_add(1);
+            Err(DiskFault)
+        }
+    }
+}
+
+// Writes over the bytes from `at` on.
+fn overwrite(bytes: &mut [u8], at: usize, from: &[u8])
+    requires { at + length from.now ≤ length bytes.old }
+    ensures { bytes.new ≡ put at from.now bytes.old }
+{
+    bytes[at..at + from.len()].copy_from_slice(from);
+}
+
+impl Disk for MemDisk {
+    ghost state = { λ m. memory_state m.faults m.bytes.items m.calls.items };
+
+    ghost lawful = { λ m honest. memory_lawful m.faults m.bytes.items m.calls.items m.kept };
+
+    fn size(&self) -> usize {
+        self.bytes.len()
+    }
+
+    fn read(&mut self, at: usize, into: &mut [u8]) -> Result<(), DiskFault>
+        requires { at + length into.old ≤ (⟦<MemDisk as Disk>⟧.state self.old).size }
+        ensures call { IsCall (⟦<MemDisk as Disk>⟧.state self.old)
+            (⟦<MemDisk as Disk>⟧.state self.new) result }
+        ensures honest { (⟦<MemDisk as Disk>⟧.state self.old).honest
+            → Reads at into.old into.new (⟦<MemDisk as Disk>⟧.state self.old)
+            (⟦<MemDisk as Disk>⟧.state self.new) result }
+        ensures refused { OnErr result (Stays (⟦<MemDisk as Disk>⟧.state self.old)
+            (⟦<MemDisk as Disk>⟧.state self.new)) }
+    {
+        keep(&mut self.calls, &mut self.faults, Call::Read)?;
+        into.copy_from_slice(&self.bytes[at..at + into.len()]);
+        Ok(())
+    }
+
+    fn write(&mut self, at: usize, from: &[u8]) -> Result<(), DiskFault>
+        requires { at + length from.now ≤ (⟦<MemDisk as Disk>⟧.state self.old).size }
+        ensures call { IsCall (⟦<MemDisk as Disk>⟧.state self.old)
+            (⟦<MemDisk as Disk>⟧.state self.new) result }
+        ensures honest { (⟦<MemDisk as Disk>⟧.state self.old).honest
+            → Writes at from.now (⟦<MemDisk as Disk>⟧.state self.old)
+            (⟦<MemDisk as Disk>⟧.state self.new) result }
+        ensures refused { OnErr result (Stays (⟦<MemDisk as Disk>⟧.state self.old)
+            (⟦<MemDisk as Disk>⟧.state self.new)) }
+    {
+        let Ok(copy) = from.to_vec(self.alloc) else {
+            return Err(self.fail());
+        };
+        keep(&mut self.calls, &mut self.faults, Call::Write(at, copy))?;
+        overwrite(&mut self.bytes, at, from);
+        Ok(())
+    }
+
+    fn sync(&mut self) -> Result<(), DiskFault>
+        ensures call { IsCall (⟦<MemDisk as Disk>⟧.state self.old)
+            (⟦<MemDisk as Disk>⟧.state self.new) result }
+        ensures honest { (⟦<MemDisk as Disk>⟧.state self.old).honest
+            → Syncs (⟦<MemDisk as Disk>⟧.state self.old)
+            (⟦<MemDisk as Disk>⟧.state self.new) result }
+        ensures refused { OnErr result (Stays (⟦<MemDisk as Disk>⟧.state self.old)
+            (⟦<MemDisk as Disk>⟧.state self.new)) }
+    {
+        keep(&mut self.calls, &mut self.faults, Call::Sync)
+    }
+}

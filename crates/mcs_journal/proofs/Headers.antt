@@ -1,0 +1,36 @@
+-- What the first 16 bytes say.
+use Rattle.std.proofs.Common.{◌≡◌, ◌≢◌, Bool, true, false, not, List, ℕ, sym, refl, ◌∙◌, ap, arith, get_or, take, drop}
+use Rattle.std.proofs.lemmas.Slice.Eq.{bytes_eq-Decides}
+use Rattle.std.specs.Str.{bytes_eq}
+use Rattle.mcs_disk.specs.Disk.{part}
+use Rattle.mcs_journal.specs.File.{magic, seven_zeros, slot_named}
+use Rattle.mcs_journal.specs.Writing.{IsHeader}
+use Rattle.mcs_journal.specs.declared.slot.Slot.{Slot}
+use Rattle.mcs_journal.proofs.Parts.{part_part, part_at}
+
+yes : (b : Bool) → false ≡ not b → b ≡ true
+yes true e = refl
+yes false e = cc
+
+no : (b : Bool) → true ≡ not b → b ≡ false
+no true e = cc
+no false e = refl
+
+pub same_bytes : (xs ys : List ℕ) → false ≡ not (bytes_eq xs ys) → xs ≡ ys
+same_bytes xs ys e = let decides = bytes_eq-Decides xs ys in decides.0 (yes (bytes_eq xs ys) e)
+
+pub other_bytes : (xs ys : List ℕ) → true ≡ not (bytes_eq xs ys) → xs ≢ ys
+other_bytes xs ys e same = let decides = bytes_eq-Decides xs ys in let both : true ≡ false = sym (decides.1 same) ∙ no (bytes_eq xs ys) e in cc
+
+module _ (f header : List ℕ) (is : header ≡ part 0 16 f) where
+  pub front : take 8 header ≡ part 0 8 f
+  front = ap (λ (l : List ℕ). take 8 l) is ∙ part_part 0 16 0 8 16 f (omega arith) (omega arith)
+
+  pub back : take 7 (drop 9 header) ≡ part 9 7 f
+  back = ap (λ (l : List ℕ). take 7 (drop 9 l)) is ∙ part_part 0 16 9 7 7 f (omega arith) (omega arith)
+
+  pub turn : get_or header 8 0 ≡ get_or f 8 0
+  turn = ap (λ (l : List ℕ). get_or l 8 0) is ∙ part_at 0 16 f 8 (omega arith)
+
+  pub header_is : (slot : Slot) → false ≡ not (bytes_eq (take 8 header) magic) → false ≡ not (bytes_eq (take 7 (drop 9 header)) seven_zeros) → slot_named (get_or header 8 0) ≡ slot → IsHeader f slot
+  header_is slot named zeroed at = record { name = sym front ∙ same_bytes _ _ named; zeros = sym back ∙ same_bytes _ _ zeroed; active = ap slot_named (sym turn) ∙ at }

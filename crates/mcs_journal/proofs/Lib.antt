@@ -1,0 +1,13 @@
+pub mod Adding
+pub mod Creating
+pub mod Headers
+pub mod Logs
+pub mod NextRecord
+pub mod OnOk
+pub mod Pairs
+pub mod Parts
+pub mod Refusing
+pub mod Stretch
+pub mod Swapping
+pub mod Unique
+pub mod Walk

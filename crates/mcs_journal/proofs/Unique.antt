@@ -1,0 +1,43 @@
+-- A file holds one pair at most.
+use Rattle.std.proofs.Common.{◌≡◌, ◌≢◌, ◌≤◌, ◌+◌, ◌/◌, ◌%◌, List, [], ◌∷◌, ◌++◌, ℕ, length, take, drop, refl, sym, ◌∙◌, ap, arith, append_assoc}
+use Rattle.std.proofs.lemmas.List.{take_at, drop_at}
+use Rattle.mcs_disk.specs.Disk.{part}
+use Rattle.mcs_journal.specs.File.{HoldsPair, IsLog, spelled, be32, slot_at}
+
+-- two numbers of the same two bytes
+same_16 : (m n : ℕ) → m / 256 ≡ n / 256 → m % 256 ≡ n % 256 → m ≡ n
+same_16 m n high low = omega (arith, high, low)
+
+-- records of the same bytes, up to a closed gate
+pub same_records : (rs ss : List (List ℕ)) (g h : ℕ) (xs ys : List ℕ) → g ≢ 1 → h ≢ 1 → spelled rs ++ g ∷ xs ≡ spelled ss ++ h ∷ ys → rs ≡ ss
+same_records [] [] g h xs ys shut closed same = refl
+same_records [] (s ∷ ss) g h xs ys shut closed same = let one : g ≡ 1 = cc in absurd (shut one)
+same_records (r ∷ rs) [] g h xs ys shut closed same = let one : h ≡ 1 = cc in absurd (closed one)
+same_records (r ∷ rs) (s ∷ ss) g h xs ys shut closed same =
+    let high : length r / 256 ≡ length s / 256 = cc in
+    let low : length r % 256 ≡ length s % 256 = cc in
+    let long = same_16 (length r) (length s) high low in
+    let tails : (r ++ spelled rs) ++ g ∷ xs ≡ (s ++ spelled ss) ++ h ∷ ys = cc in
+    let apart : r ++ (spelled rs ++ g ∷ xs) ≡ s ++ (spelled ss ++ h ∷ ys) = sym (append_assoc r (spelled rs) (g ∷ xs)) ∙ tails ∙ append_assoc s (spelled ss) (h ∷ ys) in
+    let head : r ≡ s = sym (take_at r (spelled rs ++ g ∷ xs) (length r) refl) ∙ ap (λ (l : List ℕ). take (length r) l) apart ∙ take_at s (spelled ss ++ h ∷ ys) (length r) (sym long) in
+    let rest : spelled rs ++ g ∷ xs ≡ spelled ss ++ h ∷ ys = sym (drop_at r (spelled rs ++ g ∷ xs) (length r) refl) ∙ ap (λ (l : List ℕ). drop (length r) l) apart ∙ drop_at s (spelled ss ++ h ∷ ys) (length r) (sym long) in
+    let more = same_records rs ss g h xs ys shut closed rest in
+    (λ k. head k ∷ more k)
+
+pub same_log : (rs ss : List (List ℕ)) (log : List ℕ) → IsLog rs log → IsLog ss log → rs ≡ ss
+same_log rs ss log a b = same_records rs ss a.gate b.gate a.rest b.rest a.closed b.closed (sym a.is ∙ b.is)
+
+-- two numbers of the same four bytes
+same_32 : (m n : ℕ) → m ≤ 16380 → n ≤ 16380 → be32 m ≡ be32 n → m ≡ n
+same_32 m n small short same =
+    let high : m / 256 % 256 ≡ n / 256 % 256 = cc in
+    let low : m % 256 ≡ n % 256 = cc in
+    omega (arith, high, low)
+
+pub same_snap : (file snap other : List ℕ) (rs ss : List (List ℕ)) → HoldsPair file snap rs → HoldsPair file other ss → snap ≡ other
+same_snap file snap other rs ss a b =
+    let long = same_32 (length snap) (length other) a.short b.short (sym a.snap_length ∙ b.snap_length) in
+    sym a.snap_bytes ∙ ap (λ (n : ℕ). part (slot_at file + 4) n file) long ∙ b.snap_bytes
+
+pub same_pair : (file snap other : List ℕ) (rs ss : List (List ℕ)) → HoldsPair file snap rs → HoldsPair file other ss → rs ≡ ss
+same_pair file snap other rs ss a b = same_log rs ss _ a.log b.log

@@ -1,0 +1,77 @@
+-- The walk over a log: the records so far, and the rest.
+use Rattle.std.proofs.Common.{◌≡◌, ◌≢◌, ◌≤◌, ◌<◌, ◌+◌, ◌-◌, ◌/◌, ◌%◌, List, [], ◌∷◌, ◌++◌, ℕ, length, take, drop, get_or, refl, sym, ◌∙◌, ap, arith, append_assoc, length-append, length-drop, take-append-drop}
+use Rattle.std.proofs.lemmas.List.{take_at, drop_at, drop-drop, drop_more}
+use Rattle.mcs_disk.specs.Disk.{part}
+use Rattle.mcs_journal.specs.File.{IsLog, AreRecords, spelled, framed}
+use Rattle.mcs_journal.specs.Writing.{IsNext, IsNoRecord}
+use Rattle.mcs_journal.proofs.Parts.{part_at, part_part, length-part}
+use Rattle.mcs_journal.proofs.Logs.{spelled-push, AreRecords-push, length-framed}
+
+-- what was read of a log, whose rest starts at this place
+pub record IsPrefix (records : List (List ℕ)) (used : ℕ) (log : List ℕ) : Type 0 where
+  pub is : log ≡ spelled records ++ drop used log
+  pub count : used ≡ length (spelled records)
+  pub good : AreRecords records
+
+pub nothing_read : (log : List ℕ) → IsPrefix [] 0 log
+nothing_read log = record { is = refl; count = refl; good = tt }
+
+module _ (f : List ℕ) (at : ℕ) (fits : at + 65536 ≤ length f) (rs : List (List ℕ)) (used : ℕ) where
+  abbrev log : List ℕ
+  log = part at 65536 f
+
+  pub one_more : (r : List ℕ) → IsPrefix rs used log → IsNext f (at + used) r → length r + 4 ≤ 65536 - used → IsPrefix (rs ++ r ∷ []) (used + (length r + 3)) log
+  one_more r so_far next room = record {
+    is =
+        so_far.is
+        ∙ ap (λ (l : List ℕ). spelled rs ++ l) (sym (take-append-drop (length r + 3) (drop used log)) ∙ (λ k. here k ++ behind k))
+        ∙ sym (append_assoc (spelled rs) (framed r) (drop (used + (length r + 3)) log))
+        ∙ ap (λ (l : List ℕ). l ++ drop (used + (length r + 3)) log) (sym (spelled-push rs r));
+    count = omega (arith, so_far.count, ap length (spelled-push rs r), length-append (spelled rs) (framed r), length-framed r);
+    good = AreRecords-push rs r so_far.good next.good;
+  }
+    where
+      here : take (length r + 3) (drop used log) ≡ framed r
+      here = part_part at 65536 used (length r + 3) (65536 - used) f (omega (arith, room)) (omega (arith, room)) ∙ next.is
+
+      behind : drop (length r + 3) (drop used log) ≡ drop (used + (length r + 3)) log
+      behind = drop-drop (length r + 3) used log
+
+  pub ends : IsPrefix rs used log → get_or f (at + used) 0 ≢ 1 → used < 65536 → IsLog rs log
+  ends so_far shut inside = record {
+    gate = get_or log used 0;
+    rest = drop (used + 1) log;
+    is = so_far.is ∙ ap (λ (l : List ℕ). spelled rs ++ l) (drop_more log used 0 (omega (arith, inside, length-part at 65536 f fits)));
+    closed = λ one. shut (sym (part_at at 65536 f used inside) ∙ one);
+    records_ok = so_far.good;
+  }
+
+  pub no_log : IsPrefix rs used log → used < 65536 → IsNoRecord f (at + used) (65536 - used) → (ss : List (List ℕ)) → IsLog ss log → ⊥
+  no_log so_far inside no_record ss a = walk rs ss a.records_ok (sym a.is ∙ so_far.is)
+    where
+      gate_is : get_or (drop used log) 0 0 ≡ 1
+      gate_is =
+          ap (λ (l : List ℕ). get_or l 0 0) (drop_more log used 0 (omega (arith, inside, length-part at 65536 f fits)))
+          ∙ part_at at 65536 f used inside ∙ no_record.opened
+
+      long : length (drop used log) ≡ 65536 - used
+      long = omega (arith, length-drop used log, length-part at 65536 f fits)
+
+      walk : (ps qs : List (List ℕ)) → AreRecords qs → spelled qs ++ a.gate ∷ a.rest ≡ spelled ps ++ drop used log → ⊥
+      walk [] [] good same = a.closed (ap (λ (l : List ℕ). get_or l 0 0) same ∙ gate_is)
+      walk [] (q ∷ qs) good same =
+          let tail = spelled qs ++ a.gate ∷ a.rest in
+          let apart : framed q ++ tail ≡ drop used log = sym (append_assoc (framed q) (spelled qs) (a.gate ∷ a.rest)) ∙ same in
+          let room : length q + 4 ≤ 65536 - used = omega (arith, long, ap length apart, length-append (framed q) tail, length-append (spelled qs) (a.gate ∷ a.rest), length-framed q) in
+          let here : part (at + used) (length q + 3) f ≡ framed q =
+          sym (part_part at 65536 used (length q + 3) (65536 - used) f (omega (arith, inside)) (omega (arith, room)))
+          ∙ ap (λ (l : List ℕ). take (length q + 3) l) (sym apart) ∙ take_at (framed q) tail (length q + 3) (length-framed q) in
+          no_record.none q room (record { good = good.0; is = here })
+      walk (p ∷ ps) [] good same = let one : a.gate ≡ 1 = cc in a.closed one
+      walk (p ∷ ps) (q ∷ qs) good same =
+          let high : length q / 256 ≡ length p / 256 = cc in
+          let low : length q % 256 ≡ length p % 256 = cc in
+          let count : length q ≡ length p = omega (arith, high, low) in
+          let tails : (q ++ spelled qs) ++ a.gate ∷ a.rest ≡ (p ++ spelled ps) ++ drop used log = cc in
+          let apart : q ++ (spelled qs ++ a.gate ∷ a.rest) ≡ p ++ (spelled ps ++ drop used log) = sym (append_assoc q (spelled qs) (a.gate ∷ a.rest)) ∙ tails ∙ append_assoc p (spelled ps) (drop used log) in
+          walk ps qs good.1 (sym (drop_at q (spelled qs ++ a.gate ∷ a.rest) (length q) refl) ∙ ap (λ (l : List ℕ). drop (length q) l) apart ∙ drop_at p (spelled ps ++ drop used log) (length q) (sym count))

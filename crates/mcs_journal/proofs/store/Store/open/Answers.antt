@@ -1,0 +1,45 @@
+use Rattle.std.proofs.Common.{rules, List, ℕ, inl, sym, ◌∙◌, ap, subst, Err}
+use Rattle.mcs_disk.proofs.Composing.{rests_still}
+use Rattle.mcs_journal.specs.File.{HoldsPair, slot_of}
+use Rattle.mcs_journal.specs.declared.fault.OpenFault.TheVariants.{Device}
+use Rattle.mcs_journal.proofs.Refusing.{counts_ok, counts_err, refuses_open}
+use Rattle.mcs_journal.proofs.store.Store.open.Goals as goal
+
+pub returns-then-size-ne-FILE_SIZE-clause-refused : goal.returns-then-size-ne-FILE_SIZE-clause-refused
+returns-then-size-ne-FILE_SIZE-clause-refused g c = λ h. (inl (λ same. c.if-size-ne-FILE_SIZE.true (c.size.ensures ∙ same)), rests_still _)
+
+pub returns-in-Err-read_pair-clause-refusal_counts : goal.returns-in-Err-read_pair-clause-refusal_counts
+returns-in-Err-read_pair-clause-refusal_counts g c = counts_err _ _ _ Device _ c.in-Err-read_pair.is c.read_pair.ensures.tells
+
+pub returns-in-Err-read_pair-clause-refused : goal.returns-in-Err-read_pair-clause-refused
+returns-in-Err-read_pair-clause-refused g c = λ h. (
+  refuses_open _ _ (sym c.size.ensures ∙ c.if-size-ne-FILE_SIZE.false)
+      (λ fault. c.read_pair.ensures.no_session h (c.in-Err-read_pair.is ∙ ap Err fault))
+      (λ fault. c.read_pair.ensures.session h (c.in-Err-read_pair.is ∙ ap Err fault))
+      (λ fault. c.read_pair.ensures.damaged h (c.in-Err-read_pair.is ∙ ap Err fault)),
+  c.read_pair.ensures.rests h,
+)
+
+pub returns-in-Ok-read_pair-clause-counts : goal.returns-in-Ok-read_pair-clause-counts
+returns-in-Ok-read_pair-clause-counts g c = counts_ok _ _ _ Device _ c.in-Ok-read_pair.is c.read_pair.ensures.tells
+
+pub returns-in-Ok-read_pair-clause-opened : goal.returns-in-Ok-read_pair-clause-opened
+returns-in-Ok-read_pair-clause-opened g c = λ h. record { holds = c.in-Ok-read_pair.ensures.holds h; rests = c.read_pair.ensures.rests h; durable = c.in-Ok-read_pair.ensures.durable h }
+
+pub invariant_of-store : goal.invariant_of-store
+invariant_of-store g c = record {
+  disk_size = c.read_pair.ensures.tells.size ∙ sym c.size.ensures ∙ c.if-size-ne-FILE_SIZE.false;
+  within = c.in-Ok-read_pair.ensures.within;
+  room = search rules;
+  settled = λ live h.
+      let was = c.read_pair.ensures.tells.honest.0 h in
+      let same = (c.read_pair.ensures.rests was).bytes in
+      record {
+        durable = c.in-Ok-read_pair.ensures.durable was;
+        active = ap slot_of same ∙ c.in-Ok-read_pair.ensures.active was;
+        snap = c.in-Ok-read_pair.field-0.snap;
+        records = c.in-Ok-read_pair.field-0.log.records.items;
+        holds = subst (λ (f : List ℕ). HoldsPair f c.in-Ok-read_pair.field-0.snap c.in-Ok-read_pair.field-0.log.records.items) (sym same) (c.in-Ok-read_pair.ensures.holds was);
+        count = c.in-Ok-read_pair.ensures.count was;
+      };
+}

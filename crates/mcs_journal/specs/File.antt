@@ -1,0 +1,102 @@
+-- What a session file holds: a snapshot and the records behind it. (Our own choice; the layout is told in docs/FORMAT.md.)
+use Rattle.std.specs.Prelude.{◌≡◌, ◌≢◌, ◌==◌, ℕ, ◌+◌, ◌/◌, ◌%◌, ◌≤◌, List, [], ◌∷◌, ◌++◌, length, slice_index, if◌then◌else◌}
+use Rattle.mcs_disk.specs.Disk.{part}
+use Rattle.mcs_journal.specs.declared.slot.Slot.{Slot}
+use Rattle.mcs_journal.specs.declared.slot.Slot.TheVariants.{A, B}
+
+-- sizes in bytes: the whole file, a slot's snapshot area, its log; the most bytes of a snapshot, and of a record
+abbrev pub file_size : ℕ
+file_size = 163856
+
+abbrev pub area_size : ℕ
+area_size = 16384
+
+abbrev pub log_size : ℕ
+log_size = 65536
+
+abbrev pub most_snap : ℕ
+most_snap = 16380
+
+abbrev pub most_record : ℕ
+most_record = 8192
+
+-- the name at the start, in bytes: MCS4BEN1
+abbrev pub magic : List ℕ
+magic = 77 ∷ 67 ∷ 83 ∷ 52 ∷ 66 ∷ 69 ∷ 78 ∷ 49 ∷ []
+
+-- the bytes behind the turn
+abbrev pub seven_zeros : List ℕ
+seven_zeros = 0 ∷ 0 ∷ 0 ∷ 0 ∷ 0 ∷ 0 ∷ 0 ∷ []
+
+-- where each slot starts
+abbrev pub start_of : Slot → ℕ
+start_of A = 16
+start_of B = 81936
+
+-- an even turn names the first slot, an odd one the second
+abbrev pub slot_named : ℕ → Slot
+slot_named turn = if turn % 2 == 0 then A else B
+
+-- the slot that a file's turn names, and where it starts
+abbrev pub slot_of : List ℕ → Slot
+slot_of file = slot_named (slice_index file 8)
+
+abbrev pub slot_at : List ℕ → ℕ
+slot_at file = start_of (slot_of file)
+
+-- a number in two bytes and in four, the highest first
+abbrev pub be16 : ℕ → List ℕ
+be16 n = n / 256 ∷ n % 256 ∷ []
+
+abbrev pub be32 : ℕ → List ℕ
+be32 n = n / 16777216 ∷ n / 65536 % 256 ∷ n / 256 % 256 ∷ n % 256 ∷ []
+
+-- a record in a log: an open gate, its length, its bytes
+abbrev pub framed : List ℕ → List ℕ
+framed record_bytes = 1 ∷ (be16 (length record_bytes) ++ record_bytes)
+
+-- records in a log, one behind another
+abbrev pub spelled : List (List ℕ) → List ℕ
+spelled [] = []
+spelled (r ∷ rs) = framed r ++ spelled rs
+
+abbrev pub IsRecord : List ℕ → Type 0
+IsRecord r = (1 ≤ length r) × (length r ≤ most_record)
+
+abbrev pub AreRecords : List (List ℕ) → Type 0
+AreRecords [] = Unit {0}
+AreRecords (r ∷ rs) = IsRecord r × AreRecords rs
+
+-- a log holds these records: it spells them, then comes a closed gate, then anything
+pub record IsLog (records : List (List ℕ)) (log : List ℕ) : Type 0 where
+  pub gate : ℕ
+  pub rest : List ℕ
+  pub is : log ≡ spelled records ++ gate ∷ rest
+  pub closed : gate ≢ 1
+  pub records_ok : AreRecords records
+
+-- a file holds a snapshot and records: the name, a turn, seven zeros, and in the slot that the turn names the snapshot behind its
+-- length, and the log of the records
+pub record HoldsPair (file : List ℕ) (snap : List ℕ) (records : List (List ℕ)) : Type 0 where
+  pub size : length file ≡ file_size
+  pub name : part 0 8 file ≡ magic
+  pub zeros : part 9 7 file ≡ seven_zeros
+  pub short : length snap ≤ most_snap
+  pub snap_length : part (slot_at file) 4 file ≡ be32 (length snap)
+  pub snap_bytes : part (slot_at file + 4) (length snap) file ≡ snap
+  pub log : IsLog records (part (slot_at file + area_size) log_size file)
+
+-- a file holds at most one pair
+abbrev pub OnePair : Type 0
+OnePair = (file snap other : List ℕ) (records more : List (List ℕ)) → HoldsPair file snap records → HoldsPair file other more → (snap ≡ other) × (records ≡ more)
+
+-- a record of so many bytes has room behind so many bytes of records: gate, length and bytes, and a closed gate behind it
+abbrev pub HasRoom : ℕ → ℕ → Type 0
+HasRoom used len = used + 3 + len + 1 ≤ log_size
+
+abbrev pub sixteen_zeros : List ℕ
+sixteen_zeros = 0 ∷ 0 ∷ 0 ∷ 0 ∷ 0 ∷ 0 ∷ 0 ∷ 0 ∷ 0 ∷ 0 ∷ 0 ∷ 0 ∷ 0 ∷ 0 ∷ 0 ∷ 0 ∷ []
+
+-- a disk that a session may be made on: it has the size of a session file, and its first 16 bytes are 0
+abbrev pub IsBlank : ℕ → List ℕ → Type 0
+IsBlank size file = (size ≡ file_size) × (part 0 16 file ≡ sixteen_zeros)

@@ -1,0 +1,4 @@
+pub mod Answers
+pub mod File
+pub mod Store
+pub mod Writing

@@ -1,0 +1,69 @@
+-- The parts of a file that the steps of reading and writing speak of.
+use Rattle.std.specs.Prelude.{◌≡◌, ℕ, ◌+◌, ◌≤◌, List, [], ◌∷◌, ◌⊎◌, length, slice_index, Result, OnOk}
+use Rattle.mcs_disk.specs.Disk.{DiskState, part, Torn}
+use Rattle.mcs_disk.specs.Moments.{IsDurable}
+use Rattle.mcs_journal.specs.File.{IsRecord, framed, spelled, slot_at, be32, magic, seven_zeros, area_size, log_size, most_snap, slot_of}
+use Rattle.mcs_journal.specs.declared.slot.Slot.{Slot}
+use Rattle.mcs_journal.specs.declared.slot.Slot.TheVariants.{A, B}
+
+-- a snapshot area and the first gate of the log behind it
+abbrev pub stage_size : ℕ
+stage_size = 16385
+
+abbrev pub other_slot : Slot → Slot
+other_slot A = B
+other_slot B = A
+
+-- the turn that is written to name a slot
+abbrev pub turn_of : Slot → ℕ
+turn_of A = 0
+turn_of B = 1
+
+-- the gate behind the last record, with room for one more of n bytes
+pub record IsGate (file : List ℕ) (records : List (List ℕ)) (gate n : ℕ) : Type 0 where
+  pub at : gate ≡ slot_at file + area_size + length (spelled records)
+  pub room : length (spelled records) + n + 4 ≤ log_size
+
+-- this record stands there behind an open gate
+pub record IsNext (file : List ℕ) (at : ℕ) (r : List ℕ) : Type 0 where
+  pub good : IsRecord r
+  pub is : part at (length r + 3) file ≡ framed r
+
+-- the gate is open, and no record with room behind it follows
+pub record IsNoRecord (file : List ℕ) (at room : ℕ) : Type 0 where
+  pub opened : slice_index file at ≡ 1
+  pub none : (r : List ℕ) → length r + 4 ≤ room → IsNext file at r → ⊥
+
+-- a snapshot area of these bytes, and a closed gate behind it
+pub record IsArea (snap area : List ℕ) : Type 0 where
+  pub long : length area ≡ stage_size
+  pub short : length snap ≤ most_snap
+  pub snap_length : part 0 4 area ≡ be32 (length snap)
+  pub snap_bytes : part 4 (length snap) area ≡ snap
+  pub closed : slice_index area area_size ≡ 0
+
+-- the first 16 bytes, and the slot that they name
+pub record IsHeader (file : List ℕ) (slot : Slot) : Type 0 where
+  pub name : part 0 8 file ≡ magic
+  pub zeros : part 9 7 file ≡ seven_zeros
+  pub active : slot_of file ≡ slot
+
+-- the snapshot of the slot that starts there
+pub record IsSnap (file : List ℕ) (start : ℕ) (snap : List ℕ) : Type 0 where
+  pub short : length snap ≤ most_snap
+  pub snap_length : part start 4 file ≡ be32 (length snap)
+  pub snap_bytes : part (start + 4) (length snap) file ≡ snap
+
+-- the name, the turn of the first slot, seven zeros
+abbrev pub first_header : List ℕ
+first_header = 77 ∷ 67 ∷ 83 ∷ 52 ∷ 66 ∷ 69 ∷ 78 ∷ 49 ∷ 0 ∷ 0 ∷ 0 ∷ 0 ∷ 0 ∷ 0 ∷ 0 ∷ 0 ∷ []
+
+-- a write of these bytes, and a sync
+pub record Commits {T E : Type 0} (at : ℕ) (from : List ℕ) (old new : DiskState) (result : Result T E) : Type 0 where
+  pub written : OnOk result (part at (length from) new.bytes ≡ from)
+  pub outside : Torn at (length from) old.bytes new.bytes
+  pub durable : OnOk result (IsDurable new)
+  pub ticks : OnOk result (new.clock ≡ old.clock + 2)
+  pub later : old.clock ≤ new.clock
+  pub moments : (t : ℕ) (c : List ℕ) → t ≤ old.clock → new.since t c → old.since t c ⊎ (new.since old.clock c × ((d : List ℕ) × old.images d × Torn at (length from) d c))
+  pub keeps : (t : ℕ) (c : List ℕ) → t ≤ old.clock → old.since t c → new.since t c

@@ -1,0 +1,65 @@
+//! What [`open`](crate::Store::open) hands out: the snapshot, and the records.
+ghost use Rattle.std.specs.Prelude.{◌≡◌, ◌<◌, ◌↔◌, [], length, slice_get, Some, IsTrue};
+
+use std::marker::Model;
+
+/// Bytes that were read from a disk. Contracts see the list of them.
+#[derive(Drop)]
+pub struct Bytes {
+    pub(crate) bytes: Vec<u8>,
+}
+
+impl Model for Bytes {
+    ghost use Rattle.std.specs.Prelude.{List, ℕ};
+
+    ghost Value = { List ℕ };
+
+    ghost view = { λ b. b.bytes.items };
+}
+
+impl Bytes {
+    /// All of them, in order.
+    pub fn bytes(&self) -> &[u8]
+        ensures { result.now ≡ self.now }
+    {
+        &self.bytes
+    }
+}
+
+/// The records of a log, in order. Contracts see the list of their bytes.
+#[derive(Drop)]
+pub struct Records {
+    pub(crate) records: Vec<Bytes>,
+}
+
+impl Model for Records {
+    ghost use Rattle.std.specs.Prelude.{List, ℕ};
+
+    ghost Value = { List (List ℕ) };
+
+    ghost view = { λ r. r.records.items };
+}
+
+impl Records {
+    /// The number of records.
+    pub fn len(&self) -> usize
+        ensures { result ≡ length self.now }
+    {
+        self.records.len()
+    }
+
+    /// There is no record.
+    pub fn is_empty(&self) -> bool
+        ensures { IsTrue result ↔ (self.now ≡ []) }
+    {
+        self.records.is_empty()
+    }
+
+    /// The bytes of a record, counted from 0.
+    pub fn get(&self, i: usize) -> &[u8]
+        requires { i < length self.now }
+        ensures { slice_get self.now i ≡ Some result.now }
+    {
+        self.records[i].bytes()
+    }
+}

@@ -1,0 +1,197 @@
+//! Reads the pair that a disk holds. Nothing here writes.
+ghost use Rattle.std.specs.Prelude.{◌≡◌, ◌≢◌, ◌≤◌, ◌<◌, ◌+◌, ◌^◌, List, ℕ, length, slice_index, IfOk, IfSome, IfNone, OnOk, IsErrOf};
+ghost use Rattle.mcs_disk.specs.Disk.{IsCall, part};
+ghost use Rattle.mcs_disk.specs.Moments.{Counts, IsDurable, Rests};
+ghost use Rattle.mcs_journal.specs.File.{HoldsPair, IsLog, area_size, file_size, log_size, magic, seven_zeros, slot_of, spelled, start_of};
+ghost use Rattle.mcs_journal.specs.Writing.{IsHeader, IsNext, IsNoRecord, IsSnap};
+
+use crate::bytes::Bytes;
+use crate::fault::OpenFault;
+use crate::format::{
+    AREA_SIZE, HEADER_SIZE, LOG_SIZE, MOST_RECORD, MOST_SNAP, NAME, NAME_SIZE, OPEN_GATE,
+    RECORD_PLACE, SNAP_PLACE, TURN_PLACE, ZEROS, ZEROS_PLACE,
+};
+use crate::slot::Slot;
+use mcs_disk::{Disk, DiskFault};
+use std::alloc::Global;
+
+/// Reads the bytes from `at` on; a disk at rest stays so.
+pub fn read_at<D: Disk>(disk: &mut D, at: usize, into: &mut [u8]) -> Result<(), DiskFault>
+    requires { at + length into.old ≤ (D.state disk.old).size }
+    ensures call { IsCall (D.state disk.old) (D.state disk.new) result }
+    ensures rests { (D.state disk.old).honest → Rests (D.state disk.old) (D.state disk.new) }
+    ensures durable { (D.state disk.old).honest → IsDurable (D.state disk.old)
+        → OnOk result (IsDurable (D.state disk.new)) }
+    ensures ticks { (D.state disk.old).honest
+        → OnOk result ((D.state disk.new).clock ≡ (D.state disk.old).clock + 1) }
+    ensures given { (D.state disk.old).honest
+        → OnOk result (into.new ≡ part at (length into.old) (D.state disk.old).bytes) }
+{
+    disk.read(at, into)
+}
+
+/// Reads the record at `at`, of which `room` bytes of the log are left. None: its gate is closed.
+pub fn read_record<D: Disk>(
+    alloc: Global,
+    disk: &mut D,
+    at: usize,
+    room: usize,
+) -> Result<Option<Bytes>, OpenFault>
+    requires inside { at + room ≤ (D.state disk.old).size }
+    requires fits { (D.state disk.old).size < 2 ^ 64 }
+    requires some { 1 ≤ room }
+    ensures tells { Counts (D.state disk.old) (D.state disk.new) (IsErrOf result OpenFault.Device) }
+    ensures rests { (D.state disk.old).honest → Rests (D.state disk.old) (D.state disk.new) }
+    ensures durable { (D.state disk.old).honest → IsDurable (D.state disk.old)
+        → OnOk result (IsDurable (D.state disk.new)) }
+    ensures fits_in { IfOk result (λ o. IfSome o (λ r. length r + 4 ≤ room)) }
+    ensures closed { (D.state disk.old).honest
+        → IfOk result (λ o. IfNone o (slice_index (D.state disk.old).bytes at ≢ 1)) }
+    ensures next { (D.state disk.old).honest
+        → IfOk result (λ o. IfSome o (λ r. IsNext (D.state disk.old).bytes at r)) }
+    ensures damaged { (D.state disk.old).honest → IsErrOf result OpenFault.Damaged
+        → IsNoRecord (D.state disk.old).bytes at room }
+    ensures named { IsErrOf result OpenFault.NotASession → ⊥ }
+{
+    let mut gate = [0u8];
+    read_at(disk, at, &mut gate)?;
+    if gate[0] != OPEN_GATE {
+        return Ok(None);
+    }
+    if room < RECORD_PLACE + 2 {
+        return Err(OpenFault::Damaged);
+    }
+    let mut prefix = [0u8; 2];
+    read_at(disk, at + 1, &mut prefix)?;
+    let len = prefix[0] as usize * 256 + prefix[1] as usize;
+    if len == 0 || len > MOST_RECORD || room < RECORD_PLACE + len + 1 {
+        return Err(OpenFault::Damaged);
+    }
+    let mut bytes = vec![in alloc; 0u8; len]?;
+    read_at(disk, at + RECORD_PLACE, &mut bytes)?;
+    Ok(Some(Bytes { bytes }))
+}
+
+/// The records of a log, and how many bytes they take.
+#[derive(Drop)]
+pub struct Log {
+    pub records: Vec<Bytes>,
+    pub used: usize,
+}
+
+/// Reads the log at `at`, up to its first closed gate.
+pub fn read_log<D: Disk>(alloc: Global, disk: &mut D, at: usize) -> Result<Log, OpenFault>
+    requires inside { at + log_size ≤ (D.state disk.old).size }
+    requires fits { (D.state disk.old).size < 2 ^ 64 }
+    ensures tells { Counts (D.state disk.old) (D.state disk.new) (IsErrOf result OpenFault.Device) }
+    ensures rests { (D.state disk.old).honest → Rests (D.state disk.old) (D.state disk.new) }
+    ensures durable { (D.state disk.old).honest → IsDurable (D.state disk.old)
+        → OnOk result (IsDurable (D.state disk.new)) }
+    ensures within { IfOk result (λ log. log.used + 1 ≤ log_size) }
+    ensures found { (D.state disk.old).honest
+        → IfOk result (λ log. IsLog log.records.items (part at log_size (D.state disk.old).bytes)
+        × (log.used ≡ length (spelled log.records.items))) }
+    ensures damaged { (D.state disk.old).honest → IsErrOf result OpenFault.Damaged
+        → (records : List (List ℕ)) → IsLog records (part at log_size (D.state disk.old).bytes)
+        → ⊥ }
+    ensures named { IsErrOf result OpenFault.NotASession → ⊥ }
+{
+    let mut records = Vec::new(alloc);
+    let mut used = 0;
+    while let Some(record) = read_record(alloc, disk, at + used, LOG_SIZE - used)? {
+        used += record.bytes().len() + RECORD_PLACE;
+        records.push(record)?;
+    }
+    Ok(Log { records, used })
+}
+
+/// Reads the header: the slot that its turn names.
+pub fn read_header<D: Disk>(disk: &mut D) -> Result<Slot, OpenFault>
+    requires size { (D.state disk.old).size ≡ file_size }
+    ensures tells { Counts (D.state disk.old) (D.state disk.new) (IsErrOf result OpenFault.Device) }
+    ensures rests { (D.state disk.old).honest → Rests (D.state disk.old) (D.state disk.new) }
+    ensures durable { (D.state disk.old).honest → IsDurable (D.state disk.old)
+        → OnOk result (IsDurable (D.state disk.new)) }
+    ensures header { (D.state disk.old).honest
+        → IfOk result (λ slot. IsHeader (D.state disk.old).bytes slot) }
+    ensures no_session { (D.state disk.old).honest → IsErrOf result OpenFault.NotASession
+        → part 0 8 (D.state disk.old).bytes ≢ magic }
+    ensures damaged { (D.state disk.old).honest → IsErrOf result OpenFault.Damaged
+        → (part 0 8 (D.state disk.old).bytes ≡ magic) × (part 9 7
+        (D.state disk.old).bytes ≢ seven_zeros) }
+{
+    let mut header = [0u8; HEADER_SIZE];
+    read_at(disk, 0, &mut header)?;
+    if header[..NAME_SIZE] != NAME[..] {
+        return Err(OpenFault::NotASession);
+    }
+    if header[ZEROS_PLACE..] != ZEROS[..] {
+        return Err(OpenFault::Damaged);
+    }
+    Ok(Slot::named(header[TURN_PLACE]))
+}
+
+/// Reads the snapshot of the slot that starts there.
+pub fn read_snap<D: Disk>(alloc: Global, disk: &mut D, start: usize) -> Result<Bytes, OpenFault>
+    requires inside { start + area_size ≤ (D.state disk.old).size }
+    requires fits { (D.state disk.old).size < 2 ^ 64 }
+    ensures tells { Counts (D.state disk.old) (D.state disk.new) (IsErrOf result OpenFault.Device) }
+    ensures rests { (D.state disk.old).honest → Rests (D.state disk.old) (D.state disk.new) }
+    ensures durable { (D.state disk.old).honest → IsDurable (D.state disk.old)
+        → OnOk result (IsDurable (D.state disk.new)) }
+    ensures snap { (D.state disk.old).honest
+        → IfOk result (λ snap. IsSnap (D.state disk.old).bytes start snap) }
+    ensures damaged { (D.state disk.old).honest → IsErrOf result OpenFault.Damaged
+        → (snap : List ℕ) → IsSnap (D.state disk.old).bytes start snap → ⊥ }
+    ensures named { IsErrOf result OpenFault.NotASession → ⊥ }
+{
+    let mut prefix = [0u8; SNAP_PLACE];
+    read_at(disk, start, &mut prefix)?;
+    let len = prefix[2] as usize * 256 + prefix[3] as usize;
+    if prefix[0] != 0 || prefix[1] != 0 || len > MOST_SNAP {
+        return Err(OpenFault::Damaged);
+    }
+    let mut bytes = vec![in alloc; 0u8; len]?;
+    read_at(disk, start + SNAP_PLACE, &mut bytes)?;
+    Ok(Bytes { bytes })
+}
+
+/// What a disk was found to hold.
+#[derive(Drop)]
+pub struct Found {
+    pub slot: Slot,
+    pub snap: Bytes,
+    pub log: Log,
+}
+
+/// Syncs, and reads the pair that the disk holds.
+///
+/// Without the sync, what is read may be lost by a crash that comes after the answer.
+pub fn read_pair<D: Disk>(alloc: Global, disk: &mut D) -> Result<Found, OpenFault>
+    requires size { (D.state disk.old).size ≡ file_size }
+    ensures tells { Counts (D.state disk.old) (D.state disk.new) (IsErrOf result OpenFault.Device) }
+    ensures rests { (D.state disk.old).honest → Rests (D.state disk.old) (D.state disk.new) }
+    ensures within { IfOk result (λ found. found.log.used + 1 ≤ log_size) }
+    ensures durable { (D.state disk.old).honest → OnOk result (IsDurable (D.state disk.new)) }
+    ensures active { (D.state disk.old).honest
+        → IfOk result (λ found. slot_of (D.state disk.old).bytes ≡ found.slot) }
+    ensures count { (D.state disk.old).honest
+        → IfOk result (λ found. found.log.used ≡ length (spelled found.log.records.items)) }
+    ensures holds { (D.state disk.old).honest
+        → IfOk result (λ found. HoldsPair
+        (D.state disk.old).bytes found.snap found.log.records.items) }
+    ensures damaged { (D.state disk.old).honest → IsErrOf result OpenFault.Damaged
+        → (snap : List ℕ) (records : List (List ℕ))
+        → HoldsPair (D.state disk.old).bytes snap records → ⊥ }
+    ensures session { (D.state disk.old).honest → IsErrOf result OpenFault.Damaged
+        → part 0 8 (D.state disk.old).bytes ≡ magic }
+    ensures no_session { (D.state disk.old).honest → IsErrOf result OpenFault.NotASession
+        → part 0 8 (D.state disk.old).bytes ≢ magic }
+{
+    disk.sync()?;
+    let slot = read_header(disk)?;
+    let start = slot.start();
+    let snap = read_snap(alloc, disk, start)?;
+    let log = read_log(alloc, disk, start + AREA_SIZE)?;
+    Ok(Found { slot, snap, log })
+}

@@ -1,0 +1,53 @@
+//! The two slots of a session file.
+ghost use Rattle.std.specs.Prelude.{◌≡◌};
+
+use crate::format::{FIRST_SLOT, SECOND_SLOT};
+
+/// A slot: a snapshot area and a log.
+#[derive(Clone, Copy, Debug, PartialEq, Eq)]
+pub enum Slot {
+    A,
+    B,
+}
+
+impl Slot {
+    ghost use Rattle.mcs_journal.specs.File.{slot_named, start_of};
+    ghost use Rattle.mcs_journal.specs.Writing.{other_slot, turn_of};
+
+    /// The slot that a turn names: the first by an even turn, the second by an odd one.
+    pub fn named(turn: u8) -> Slot
+        ensures { result ≡ slot_named turn }
+    {
+        if turn % 2 == 0 { Slot::A } else { Slot::B }
+    }
+
+    /// Where it starts in the file.
+    pub fn start(self) -> usize
+        ensures { result ≡ start_of self }
+    {
+        match self {
+            Slot::A => FIRST_SLOT,
+            Slot::B => SECOND_SLOT,
+        }
+    }
+
+    /// The turn that is written to name it.
+    pub fn turn(self) -> u8
+        ensures { result ≡ turn_of self }
+    {
+        match self {
+            Slot::A => 0,
+            Slot::B => 1,
+        }
+    }
+
+    /// The other of the two.
+    pub fn other(self) -> Slot
+        ensures { result ≡ other_slot self }
+    {
+        match self {
+            Slot::A => Slot::B,
+            Slot::B => Slot::A,
+        }
+    }
+}

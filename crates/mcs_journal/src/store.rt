@@ -1,0 +1,237 @@
+//! A store: a snapshot and records on a disk.
+ghost use Rattle.std.specs.Prelude.{◌≡◌, ◌≢◌, ◌⊎◌, ◌≤◌, ◌+◌, ◌↔◌, List, [], ◌∷◌, ◌++◌, ℕ, length, is_ok, IsTrue, IsErr, IsErrAnd, OnOk, OnErr, IfErr, IfOk};
+ghost use Rattle.mcs_disk.specs.Moments.{Changes, Counts, Rests};
+ghost use Rattle.mcs_journal.specs.Answers.{Creates, Opens, RefusesCreate, RefusesOpen};
+ghost use Rattle.mcs_journal.specs.File.{HasRoom, HoldsPair, IsRecord, file_size, most_record, most_snap, spelled};
+
+use crate::bytes::{Bytes, Records};
+use crate::fault::{CreateFault, OpenFault};
+use crate::format::{AREA_SIZE, FILE_SIZE, LOG_SIZE, RECORD_PLACE, STAGE_SIZE};
+use crate::reading::{Found, Log, read_pair};
+use crate::slot::Slot;
+use crate::writing::{add_record, check_blank, replace_pair, write_first};
+use mcs_disk::{Disk, DiskFault};
+use std::alloc::Global;
+use std::marker::Model;
+
+/// A snapshot and the records behind it, on a disk.
+///
+/// Once a call on it has answered a device fault, it is closed: what the disk then holds is the pair of before that call or of
+/// after it, and opening it again tells which.
+#[derive(Drop)]
+pub struct Store<D: Disk + Drop> {
+    disk: D,
+    slot: Slot,
+    used: usize,
+    live: bool,
+    buffer: Vec<u8>,
+}
+
+impl<D: Disk + Drop> Model for Store<D> {
+    ghost use Rattle.mcs_journal.specs.Store.{StoreView, IsStore};
+
+    ghost Value = { StoreView D };
+
+    ghost view = { λ s. record { disk = s.disk; live = s.live; used = s.used } };
+
+    ghost invariant = { λ s. IsStore (D.state s.disk) s.live s.slot s.used s.buffer.items };
+}
+
+/// What a disk holds, and the store that goes on from there.
+#[derive(Drop)]
+pub struct Opened<D: Disk + Drop> {
+    pub store: Store<D>,
+    /// The snapshot, of at most 16,380 bytes.
+    pub snap: Bytes,
+    /// The records behind it, the oldest first.
+    pub records: Records,
+}
+
+impl<D: Disk + Drop> Store<D> {
+    /// Makes a store of `snap` and no records, on a disk of [`FILE_SIZE`](crate::FILE_SIZE) bytes whose first 16 are 0.
+    ///
+    /// A refusal hands the disk back, and `NotBlank` has written nothing. A stop inside the call may leave anything.
+    pub fn create(alloc: Global, disk: D, snap: &[u8]) -> Result<Store<D>, (CreateFault, D)>
+        requires short { length snap.now ≤ most_snap }
+
+        // on any disk
+        ensures live { IfOk result (λ store. IsTrue store.live × (store.used ≡ 0)) }
+        ensures counts { IfOk result (λ store. Counts (D.state disk) (D.state store.disk) ⊥) }
+        ensures refusal_counts { IfErr result (λ refused.
+            Counts (D.state disk) (D.state refused.1) (refused.0 ≡ CreateFault.Device)) }
+        ensures no_memory { IfErr result (λ refused.
+            refused.0 ≡ CreateFault.NoMemory → refused.1 ≡ disk) }
+        ensures wrong_size { (D.state disk).size ≢ file_size → IsErrAnd result (λ refused.
+            ((refused.0 ≡ CreateFault.NotBlank) ⊎ (refused.0 ≡ CreateFault.NoMemory))
+            × (refused.1 ≡ disk)) }
+
+        // on an honest disk
+        ensures created { (D.state disk).honest → IfOk result (λ store.
+            Creates (D.state disk) (D.state store.disk) snap.now) }
+        ensures refused { (D.state disk).honest → IfErr result (λ refused.
+            RefusesCreate refused.0 (D.state disk) (D.state refused.1)) }
+    {
+        let mut buffer = match vec![in alloc; 0u8; STAGE_SIZE] {
+            Ok(buffer) => buffer,
+            Err(_) => return Err((CreateFault::NoMemory, disk)),
+        };
+        if disk.size() != FILE_SIZE {
+            return Err((CreateFault::NotBlank, disk));
+        }
+        let mut disk = disk;
+        match check_blank(&mut disk) {
+            Ok(()) => {}
+            Err(fault) => return Err((fault, disk)),
+        }
+        match write_first(&mut disk, buffer.as_mut_slice(), snap) {
+            Ok(()) => Ok(Store {
+                disk,
+                slot: Slot::A,
+                used: 0,
+                live: true,
+                buffer,
+            }),
+            Err(DiskFault) => Err((CreateFault::Device, disk)),
+        }
+    }
+
+    /// Opens the pair that the disk holds. It writes nothing, and a refusal hands the disk back.
+    pub fn open(alloc: Global, disk: D) -> Result<Opened<D>, (OpenFault, D)>
+        // on any disk
+        ensures live { IfOk result (λ opened. IsTrue opened.store.live) }
+        ensures counts { IfOk result (λ opened.
+            Counts (D.state disk) (D.state opened.store.disk) ⊥) }
+        ensures refusal_counts { IfErr result (λ refused.
+            Counts (D.state disk) (D.state refused.1) (refused.0 ≡ OpenFault.Device)) }
+        ensures wrong_size { (D.state disk).size ≢ file_size → IsErrAnd result (λ refused.
+            ((refused.0 ≡ OpenFault.NotASession) ⊎ (refused.0 ≡ OpenFault.NoMemory))
+            × (refused.1 ≡ disk)) }
+
+        // on an honest disk
+        ensures opened { (D.state disk).honest → IfOk result (λ opened.
+            Opens (D.state disk) (D.state opened.store.disk) opened.snap opened.records) }
+        ensures used { (D.state disk).honest → IfOk result (λ opened.
+            opened.store.used ≡ length (spelled opened.records)) }
+        ensures refused { (D.state disk).honest → IfErr result (λ refused.
+            RefusesOpen refused.0 (D.state disk) × Rests (D.state disk) (D.state refused.1)) }
+    {
+        let buffer = match vec![in alloc; 0u8; STAGE_SIZE] {
+            Ok(buffer) => buffer,
+            Err(_) => return Err((OpenFault::NoMemory, disk)),
+        };
+        if disk.size() != FILE_SIZE {
+            return Err((OpenFault::NotASession, disk));
+        }
+        let mut disk = disk;
+        match read_pair(alloc, &mut disk) {
+            Ok(Found { slot, snap, log }) => {
+                let Log { records, used } = log;
+                let store = Store {
+                    disk,
+                    slot,
+                    used,
+                    live: true,
+                    buffer,
+                };
+                Ok(Opened {
+                    store,
+                    snap,
+                    records: Records { records },
+                })
+            }
+            Err(fault) => Err((fault, disk)),
+        }
+    }
+
+    /// No call on it has answered a device fault.
+    pub fn is_open(&self) -> bool
+        ensures { result ≡ self.now.live }
+    {
+        self.live
+    }
+
+    /// A record of `len` bytes fits behind the records of its log.
+    pub fn has_room(&self, len: usize) -> bool
+        requires { len ≤ most_record }
+        ensures room { IsTrue result ↔ HasRoom self.now.used len }
+        ensures used { IsTrue self.now.live → (D.state self.now.disk).honest
+            → (snap : List ℕ) (records : List (List ℕ))
+            → HoldsPair (D.state self.now.disk).bytes snap records
+            → self.now.used ≡ length (spelled records) }
+    {
+        self.used + RECORD_PLACE + len + 1 <= LOG_SIZE
+    }
+
+    /// Adds a record of 1 to 8,192 bytes behind the others. At a device fault the store is closed.
+    pub fn append(&mut self, payload: &[u8]) -> Result<(), DiskFault>
+        requires live { IsTrue self.old.live }
+        requires good { IsRecord payload.now }
+        requires room { HasRoom self.old.used (length payload.now) }
+        ensures live { self.new.live ≡ is_ok result }
+        ensures used { OnOk result (self.new.used ≡ self.old.used + 3 + length payload.now) }
+        ensures same_used { OnErr result (self.new.used ≡ self.old.used) }
+        ensures counts { Counts (D.state self.old.disk) (D.state self.new.disk) (IsErr result) }
+        ensures appends { (D.state self.old.disk).honest
+            → (snap : List ℕ) (records : List (List ℕ))
+            → HoldsPair (D.state self.old.disk).bytes snap records
+            → Changes 4 (D.state self.old.disk) (D.state self.new.disk)
+            (λ c. HoldsPair c snap records)
+            (λ c. HoldsPair c snap (records ++ payload.now ∷ [])) result }
+    {
+        let gate = self.slot.start() + AREA_SIZE + self.used;
+        match add_record(&mut self.disk, &mut self.buffer, gate, payload) {
+            Ok(()) => {
+                self.used += payload.len() + RECORD_PLACE;
+                Ok(())
+            }
+            Err(fault) => {
+                self.live = false;
+                Err(fault)
+            }
+        }
+    }
+
+    /// Puts a snapshot of at most 16,380 bytes and no records in the place of what it holds. At a device fault the store is
+    /// closed.
+    pub fn replace(&mut self, snap: &[u8]) -> Result<(), DiskFault>
+        requires live { IsTrue self.old.live }
+        requires short { length snap.now ≤ most_snap }
+        ensures live { self.new.live ≡ is_ok result }
+        ensures used { OnOk result (self.new.used ≡ 0) }
+        ensures same_used { OnErr result (self.new.used ≡ self.old.used) }
+        ensures counts { Counts (D.state self.old.disk) (D.state self.new.disk) (IsErr result) }
+        ensures replaces { (D.state self.old.disk).honest
+            → (old_snap : List ℕ) (records : List (List ℕ))
+            → HoldsPair (D.state self.old.disk).bytes old_snap records
+            → Changes 4 (D.state self.old.disk) (D.state self.new.disk)
+            (λ c. HoldsPair c old_snap records)
+            (λ c. HoldsPair c snap.now []) result }
+    {
+        let other = self.slot.other();
+        match replace_pair(&mut self.disk, &mut self.buffer, other, snap) {
+            Ok(()) => {
+                self.slot = other;
+                self.used = 0;
+                Ok(())
+            }
+            Err(fault) => {
+                self.live = false;
+                Err(fault)
+            }
+        }
+    }
+
+    /// The disk, with what it holds.
+    pub fn into_disk(self) -> D
+        ensures { result ≡ self.disk }
+    {
+        let Store {
+            disk,
+            slot: _,
+            used: _,
+            live: _,
+            buffer: _,
+        } = self;
+        disk
+    }
+}

@@ -1,0 +1,150 @@
+//! The writes of a store. Each change is two steps: bytes that nothing reads yet, and the byte that makes them count. Each step
+//! is a write and a sync, so that the second byte never reaches the disk before the bytes that it speaks of.
+ghost use Rattle.std.specs.Prelude.{◌≡◌, ◌≤◌, ◌+◌, List, [], ◌∷◌, ◌++◌, ℕ, length, take, slice_index, OnOk, IsErrOf};
+ghost use Rattle.mcs_disk.specs.Disk.{IsCall};
+ghost use Rattle.mcs_disk.specs.Moments.{Changes, Counts, GoesOn, IsDurable, Rests};
+ghost use Rattle.mcs_journal.specs.File.{HoldsPair, IsBlank, IsRecord, be16, file_size, most_record, most_snap, slot_of};
+ghost use Rattle.mcs_journal.specs.Writing.{Commits, IsArea, IsGate, other_slot, stage_size};
+
+use crate::fault::CreateFault;
+use crate::format::{
+    AREA_SIZE, CLOSED_GATE, FIRST_HEADER, HEADER_SIZE, OPEN_GATE, RECORD_PLACE, SNAP_PLACE,
+    TURN_PLACE,
+};
+use crate::reading::read_at;
+use crate::slot::Slot;
+use mcs_disk::{Disk, DiskFault};
+
+/// Writes, and syncs.
+pub fn commit<D: Disk>(disk: &mut D, at: usize, from: &[u8]) -> Result<(), DiskFault>
+    requires { at + length from.now ≤ (D.state disk.old).size }
+    ensures call { IsCall (D.state disk.old) (D.state disk.new) result }
+    ensures commits { (D.state disk.old).honest
+        → Commits at from.now (D.state disk.old) (D.state disk.new) result }
+{
+    disk.write(at, from)?;
+    disk.sync()
+}
+
+/// Spells what stands behind a record's gate: its length, its bytes, and a closed gate.
+pub fn spell_record(buffer: &mut [u8], payload: &[u8])
+    requires room { length payload.now + 3 ≤ length buffer.old }
+    requires short { length payload.now ≤ most_record }
+    ensures { take (length payload.now + 3) buffer.new ≡ be16
+        (length payload.now) ++ payload.now ++ 0 ∷ [] }
+{
+    let n = payload.len();
+    buffer[0] = (n / 256) as u8;
+    buffer[1] = (n % 256) as u8;
+    buffer[2..2 + n].copy_from_slice(payload);
+    buffer[2 + n] = CLOSED_GATE;
+}
+
+/// Adds a record behind the closed gate at `gate`, and opens the gate.
+pub fn add_record<D: Disk>(
+    disk: &mut D,
+    buffer: &mut [u8],
+    gate: usize,
+    payload: &[u8],
+) -> Result<(), DiskFault>
+    requires inside { gate + length payload.now + 4 ≤ (D.state disk.old).size }
+    requires small { (D.state disk.old).size ≡ file_size }
+    requires room { length payload.now + 3 ≤ length buffer.old }
+    requires good { IsRecord payload.now }
+    ensures call { IsCall (D.state disk.old) (D.state disk.new) result }
+    ensures turn { (D.state disk.old).honest → 16 ≤ gate
+        → slice_index (D.state disk.new).bytes 8 ≡ slice_index (D.state disk.old).bytes 8 }
+    ensures changes { (D.state disk.old).honest → IsDurable (D.state disk.old)
+        → (snap : List ℕ) (records : List (List ℕ))
+        → HoldsPair (D.state disk.old).bytes snap records
+        → IsGate (D.state disk.old).bytes records gate (length payload.now)
+        → Changes 4 (D.state disk.old) (D.state disk.new) (λ c. HoldsPair c snap records)
+        (λ c. HoldsPair c snap (records ++ payload.now ∷ [])) result }
+{
+    spell_record(buffer, payload);
+    commit(disk, gate + 1, &buffer[..payload.len() + RECORD_PLACE])?;
+    commit(disk, gate, &[OPEN_GATE])
+}
+
+/// Spells a snapshot area and a closed gate behind it.
+pub fn spell_snap(buffer: &mut [u8], snap: &[u8])
+    requires room { length buffer.old ≡ stage_size }
+    requires short { length snap.now ≤ most_snap }
+    ensures { IsArea snap.now buffer.new }
+{
+    let n = snap.len();
+    buffer[0] = 0;
+    buffer[1] = 0;
+    buffer[2] = (n / 256) as u8;
+    buffer[3] = (n % 256) as u8;
+    buffer[SNAP_PLACE..SNAP_PLACE + n].copy_from_slice(snap);
+    buffer[AREA_SIZE] = CLOSED_GATE;
+}
+
+/// Writes the pair of a snapshot and no records into the slot that is not named, and then names it.
+pub fn replace_pair<D: Disk>(
+    disk: &mut D,
+    buffer: &mut [u8],
+    other: Slot,
+    snap: &[u8],
+) -> Result<(), DiskFault>
+    requires size { (D.state disk.old).size ≡ file_size }
+    requires room { length buffer.old ≡ stage_size }
+    requires short { length snap.now ≤ most_snap }
+    ensures call { IsCall (D.state disk.old) (D.state disk.new) result }
+    ensures named { (D.state disk.old).honest
+        → OnOk result (slot_of (D.state disk.new).bytes ≡ other) }
+    ensures changes { (D.state disk.old).honest → IsDurable (D.state disk.old)
+        → (old_snap : List ℕ) (records : List (List ℕ))
+        → HoldsPair (D.state disk.old).bytes old_snap records
+        → other ≡ other_slot (slot_of (D.state disk.old).bytes)
+        → Changes 4 (D.state disk.old) (D.state disk.new) (λ c. HoldsPair c old_snap records)
+        (λ c. HoldsPair c snap.now []) result }
+{
+    spell_snap(buffer, snap);
+    commit(disk, other.start(), buffer)?;
+    commit(disk, TURN_PLACE, &[other.turn()])
+}
+
+/// The disk has the size of a session file, and its first 16 bytes are 0.
+pub fn check_blank<D: Disk>(disk: &mut D) -> Result<(), CreateFault>
+    requires size { (D.state disk.old).size ≡ file_size }
+    ensures tells { Counts (D.state disk.old) (D.state disk.new)
+        (IsErrOf result CreateFault.Device) }
+    ensures rests { (D.state disk.old).honest → Rests (D.state disk.old) (D.state disk.new) }
+    ensures ticks { (D.state disk.old).honest
+        → OnOk result ((D.state disk.new).clock ≡ (D.state disk.old).clock + 1) }
+    ensures blank { (D.state disk.old).honest
+        → OnOk result (IsBlank (D.state disk.old).size (D.state disk.old).bytes) }
+    ensures not_blank { (D.state disk.old).honest → IsErrOf result CreateFault.NotBlank
+        → IsBlank (D.state disk.old).size (D.state disk.old).bytes → ⊥ }
+    ensures no_memory { IsErrOf result CreateFault.NoMemory → ⊥ }
+{
+    let mut header = [0u8; HEADER_SIZE];
+    read_at(disk, 0, &mut header)?;
+    if header != [0u8; HEADER_SIZE] {
+        return Err(CreateFault::NotBlank);
+    }
+    Ok(())
+}
+
+/// Writes a first pair into the first slot: the snapshot and no records. Then it writes the header that names the slot.
+pub fn write_first<D: Disk>(disk: &mut D, buffer: &mut [u8], snap: &[u8]) -> Result<(), DiskFault>
+    requires size { (D.state disk.old).size ≡ file_size }
+    requires room { length buffer.old ≡ stage_size }
+    requires short { length snap.now ≤ most_snap }
+    ensures call { IsCall (D.state disk.old) (D.state disk.new) result }
+    ensures room { length buffer.new ≡ stage_size }
+    ensures goes_on { (D.state disk.old).honest → GoesOn (D.state disk.old) (D.state disk.new) }
+    ensures ticks { (D.state disk.old).honest
+        → OnOk result ((D.state disk.new).clock ≡ (D.state disk.old).clock + 4) }
+    ensures made { (D.state disk.old).honest
+        → OnOk result (HoldsPair (D.state disk.new).bytes snap.now []) }
+    ensures named { (D.state disk.old).honest
+        → OnOk result (slot_of (D.state disk.new).bytes ≡ Slot.A) }
+    ensures durable { (D.state disk.old).honest → OnOk result (IsDurable (D.state disk.new)) }
+{
+    spell_snap(buffer, snap);
+    commit(disk, Slot::A.start(), buffer)?;
+    commit(disk, 0, &FIRST_HEADER)
+}

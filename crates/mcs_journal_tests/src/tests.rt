@@ -1,0 +1,223 @@
+use mcs_disk::{Disk, FuseDisk, MemDisk};
+use mcs_journal::{CreateFault, FILE_SIZE, OpenFault, Opened, Store};
+use std::alloc::Global;
+use std::process::Abort;
+use std::test::Fail;
+
+const SNAP: [u8; 3] = [1, 2, 3];
+
+const NEXT_SNAP: [u8; 2] = [8, 9];
+
+const RECORD: [u8; 4] = [7, 3, 5, 9];
+
+fn blank(alloc: Global, rt: &impl Abort) -> MemDisk {
+    MemDisk::new(alloc, FILE_SIZE).expect(rt, "memory")
+}
+
+fn created(alloc: Global, rt: &impl Abort) -> Store<MemDisk> {
+    match Store::create(alloc, blank(alloc, rt), &SNAP) {
+        Ok(store) => store,
+        Err(_) => panic!(rt; "create was refused"),
+    }
+}
+
+/// The disk holds these bytes there.
+fn expect_bytes(rt: &impl Abort, disk: &mut MemDisk, at: usize, want: &[u8]) {
+    let mut got = [0u8; 16];
+    assert!(rt; want.len() <= 16 && at <= disk.size() && want.len() <= disk.size() - at);
+    let found = &mut got[..want.len()];
+    disk.read(at, found).expect(rt, "a read");
+    assert_eq!(rt; &*found, want, "at {at}");
+}
+
+/// Writes these bytes there, as another program or a stop may have left them.
+fn damage(rt: &impl Abort, disk: &mut MemDisk, at: usize, bytes: &[u8]) {
+    assert!(rt; bytes.len() <= FILE_SIZE && at <= disk.size() && bytes.len() <= disk.size() - at);
+    disk.write(at, bytes).expect(rt, "a write");
+}
+
+/// The disk holds this snapshot, and so many times the record.
+fn expect_pair<D: Disk + Drop>(
+    alloc: Global,
+    rt: &impl Abort,
+    disk: D,
+    snap: &[u8],
+    records: usize,
+) -> D {
+    match Store::open(alloc, disk) {
+        Ok(
+            Opened {
+                store,
+                snap: found,
+                records: list,
+            },
+        ) => {
+            assert_eq!(rt; found.bytes(), snap);
+            assert_eq!(rt; list.len(), records);
+            assert_eq!(rt; list.is_empty(), records == 0);
+            for i in 0..list.len() {
+                assert_eq!(rt; list.get(i), RECORD.as_slice());
+            }
+            store.into_disk()
+        }
+        Err(_) => panic!(rt; "open was refused"),
+    }
+}
+
+fn reopened(alloc: Global, rt: &impl Abort, disk: MemDisk) -> Store<MemDisk> {
+    match Store::open(alloc, disk) {
+        Ok(opened) => opened.store,
+        Err(_) => panic!(rt; "open was refused"),
+    }
+}
+
+fn expect_refusal<D: Disk + Drop>(alloc: Global, rt: &impl Abort, disk: D, want: OpenFault) {
+    match Store::open(alloc, disk) {
+        Ok(_) => panic!(rt; "the disk was taken"),
+        Err((fault, _)) => assert_eq!(rt; fault, want),
+    }
+}
+
+#[test]
+fn writes_the_format(rt: HostRuntime) -> Result<(), Fail> {
+    let alloc = rt.alloc();
+    let mut disk = created(alloc, &rt).into_disk();
+    expect_bytes(&rt, &mut disk, 0, b"MCS4BEN1\0\0\0\0\0\0\0\0");
+    expect_bytes(&rt, &mut disk, 16, &[0, 0, 0, 3, 1, 2, 3]);
+    expect_bytes(&rt, &mut disk, 16_400, &[0]);
+
+    let mut store = reopened(alloc, &rt, disk);
+    assert!(rt; store.is_open() && store.has_room(RECORD.len()));
+    store.append(&RECORD)?;
+    let mut disk = expect_pair(alloc, &rt, store.into_disk(), &SNAP, 1);
+    expect_bytes(&rt, &mut disk, 16_400, &[1, 0, 4, 7, 3, 5, 9, 0]);
+
+    let mut store = reopened(alloc, &rt, disk);
+    assert!(rt; store.is_open());
+    store.replace(&NEXT_SNAP)?;
+    assert!(rt; store.is_open() && store.has_room(RECORD.len()));
+    store.append(&RECORD)?;
+    let mut disk = expect_pair(alloc, &rt, store.into_disk(), &NEXT_SNAP, 1);
+    expect_bytes(&rt, &mut disk, 8, &[1]);
+    expect_bytes(&rt, &mut disk, 81_936, &[0, 0, 0, 2, 8, 9]);
+    expect_bytes(&rt, &mut disk, 98_320, &[1, 0, 4, 7, 3, 5, 9, 0]);
+
+    let mut store = reopened(alloc, &rt, disk);
+    assert!(rt; store.is_open());
+    store.replace(&SNAP)?;
+    let mut disk = expect_pair(alloc, &rt, store.into_disk(), &SNAP, 0);
+    expect_bytes(&rt, &mut disk, 8, &[0]);
+    Ok(())
+}
+
+/// Creates, appends and replaces until a call fails. They make 5, 4 and 4 device calls.
+fn run_until_fault(alloc: Global, rt: &impl Abort, passed: usize) -> FuseDisk {
+    let mut store = match Store::create(alloc, FuseDisk::after(blank(alloc, rt), passed), &SNAP) {
+        Ok(store) => store,
+        Err((fault, disk)) => {
+            assert!(rt; fault == CreateFault::Device && passed < 5);
+            return disk;
+        }
+    };
+    assert!(rt; passed >= 5 && store.is_open() && store.has_room(RECORD.len()));
+    let appended = store.append(&RECORD).is_ok();
+    assert_eq!(rt; appended, passed >= 9);
+    if store.is_open() {
+        let replaced = store.replace(&NEXT_SNAP).is_ok();
+        assert_eq!(rt; replaced, passed >= 13);
+        assert_eq!(rt; store.is_open(), replaced);
+    }
+    store.into_disk()
+}
+
+#[test]
+fn stops_at_each_device_call(rt: HostRuntime) {
+    let alloc = rt.alloc();
+    for passed in 0..4 {
+        let mut disk = run_until_fault(alloc, &rt, passed);
+        disk.mend();
+        expect_refusal(alloc, &rt, disk, OpenFault::NotASession);
+    }
+    for (passed, records) in [
+        (4, 0),
+        (5, 0),
+        (6, 0),
+        (7, 0),
+        (8, 1),
+        (9, 1),
+        (10, 1),
+        (11, 1),
+    ] {
+        let mut disk = run_until_fault(alloc, &rt, passed);
+        disk.mend();
+        let _disk = expect_pair(alloc, &rt, disk, &SNAP, records);
+    }
+    for passed in [12, 13] {
+        let mut disk = run_until_fault(alloc, &rt, passed);
+        disk.mend();
+        let _disk = expect_pair(alloc, &rt, disk, &NEXT_SNAP, 0);
+    }
+}
+
+#[test]
+fn fails_one_call_alone(rt: HostRuntime) {
+    let alloc = rt.alloc();
+    for passed in 0..5 {
+        match Store::create(alloc, FuseDisk::once(blank(alloc, &rt), passed), &SNAP) {
+            Ok(_) => panic!(rt; "the call {passed} did not fail"),
+            Err((fault, disk)) => {
+                assert_eq!(rt; fault, CreateFault::Device);
+                if passed < 4 {
+                    assert!(rt; Store::create(alloc, disk, &SNAP).is_ok(), "after {passed}");
+                }
+            }
+        }
+    }
+}
+
+#[test]
+fn finds_what_a_stop_left(rt: HostRuntime) {
+    let alloc = rt.alloc();
+    for (at, left, snap, records) in [
+        (16_401, &[255u8, 255, 7, 3, 5, 9, 1][..], &SNAP[..], 0),
+        (16_400, &[37, 0, 4, 7, 3, 5, 9, 0][..], &SNAP[..], 0),
+        (16_400, &[1, 0, 4, 7, 3, 5, 9, 0][..], &SNAP[..], 1),
+        (8, &[0x7E][..], &SNAP[..], 0),
+        (8, &[0x7F][..], &[][..], 0),
+    ] {
+        let mut disk = created(alloc, &rt).into_disk();
+        damage(&rt, &mut disk, at, left);
+        let _disk = expect_pair(alloc, &rt, disk, snap, records);
+    }
+}
+
+#[test]
+fn refuses_what_holds_no_pair(rt: HostRuntime) {
+    let alloc = rt.alloc();
+    for (at, left, fault) in [
+        (0, &[0u8][..], OpenFault::NotASession),
+        (9, &[1][..], OpenFault::Damaged),
+        (16, &[0, 0, 64, 0][..], OpenFault::Damaged),
+        (16_400, &[1, 0, 0][..], OpenFault::Damaged),
+        (16_400, &[1, 32, 1][..], OpenFault::Damaged),
+    ] {
+        let mut disk = created(alloc, &rt).into_disk();
+        damage(&rt, &mut disk, at, left);
+        expect_refusal(alloc, &rt, disk, fault);
+    }
+    let short = MemDisk::new(alloc, FILE_SIZE - 1).expect(&rt, "memory");
+    expect_refusal(alloc, &rt, short, OpenFault::NotASession);
+}
+
+#[test]
+fn makes_a_store_on_a_blank_disk_only(rt: HostRuntime) {
+    let alloc = rt.alloc();
+    let short = MemDisk::new(alloc, FILE_SIZE - 1).expect(&rt, "memory");
+    let used = created(alloc, &rt).into_disk();
+    for disk in [short, used] {
+        match Store::create(alloc, disk, &SNAP) {
+            Ok(_) => panic!(rt; "a disk that is not blank was taken"),
+            Err((fault, _)) => assert_eq!(rt; fault, CreateFault::NotBlank),
+        }
+    }
+}
