@@ -1,0 +1,209 @@
+-- What a command leaves, by its answer, and what a line leaves.
+use Rattle.std.proofs.Common.{◌≡◌, ◌≢◌, ℕ, ◌<◌, ◌≤◌, true, false, List, [], ◌∷◌, Option, Some, None, Result, Ok, Err, length, nat_lt, sym, ap, ◌∙◌, refl, rules, subst}
+use Rattle.std.specs.Io.KnownBytes.{Appends}
+use Rattle.std.specs.Io.BufRead.{strip_last}
+use Rattle.std.specs.List.{list_all}
+use Rattle.mcs_disk.specs.Disk.{DiskState, IsLawful}
+use Rattle.mcs_model.specs.declared.command.Command.{Command}
+use Rattle.mcs_model.specs.declared.command.Reply.{Reply}
+use Rattle.mcs_model.specs.declared.query.Query.{Query}
+use Rattle.mcs_model.specs.declared.refusals.BenchFault.{BenchFault}
+use Rattle.mcs_model.specs.Command.{refusal, after, reply}
+use Rattle.mcs_model.specs.Refusal.{number_of}
+use Rattle.mcs_model.specs.Flat.{Flat}
+use Rattle.mcs_shell.specs.declared.faults.SessionFault.{SessionFault}
+use Rattle.mcs_shell.specs.declared.faults.SessionFault.TheVariants as fault
+use Rattle.mcs_shell.specs.declared.outcome.Outcome.{Outcome}
+use Rattle.mcs_shell.specs.declared.outcome.Outcome.TheVariants.{Plain, Full, Device, Closed}
+use Rattle.mcs_shell.specs.declared.requests.LineFault.{LineFault}
+use Rattle.mcs_shell.specs.declared.requests.Request.{Request}
+use Rattle.mcs_shell.specs.declared.requests.Request.TheVariants.{Refused, Ask, Change}
+use Rattle.mcs_shell.specs.Inputs.{Input, Blank, TooLong, Line, input_of, is_blank_byte, judged}
+use Rattle.mcs_shell.specs.Requests.{request_of}
+use Rattle.mcs_shell.specs.Standing.{Applied, Closes, Log, Open, Recorded, SessionState, Shut, Stage, number_of_fault}
+use Rattle.mcs_shell.specs.Transcript.{MayEnd, answer, change_text, commands, commands_of_request, if_accepted, no_text, ok_text, plain_text, unless_refused, reached, reached_by_request, request_text}
+use Rattle.mcs_shell.specs.Kept.{IsSettled, Kept}
+use Rattle.mcs_shell.specs.Serving.{Answered, Changed, CutShort, Failed, Fares, GotSome, KeptBy, Leaves, RequestDone, WentOn}
+use Rattle.mcs_shell.proofs.Keeping.{acknowledged_keeps, failed_keeps, stays_keeps, whole_nothing}
+
+abbrev pub at : Log → Flat → DiskState → SessionState
+at log s d = record { standing = record { log = log; state = s }; disk = d }
+
+-- what `apply` says of the session and its disk
+pub record Tried (log : Log) (s : Flat) (d : DiskState) (c : Command) (result : Result Reply SessionFault) (b : SessionState) : Type 0 where
+  pub applied : Applied log s c result b.standing.state
+  pub closes : Closes log d.faults c result b.standing.log b.disk.faults
+  pub honest : d.honest → b.disk.honest
+  pub records : d.honest → Recorded result d b.disk s c
+  pub lawful : b.disk.honest → IsLawful b.disk
+
+-- what it says of a known result
+pub known : (q r : Result Reply SessionFault) (log : Log) (s : Flat) (d : DiskState) (b : SessionState) (c : Command) → q ≡ r → Tried log s d c q b → Tried log s d c r b
+known q r log s d b c same h = subst (λ x. Tried log s d c x b) same h
+
+accepted_alone : (s : Flat) (c : Command) → refusal s c ≡ None → if_accepted s c ≡ c ∷ []
+accepted_alone s c e = ap (λ (v : Option BenchFault). unless_refused v c) e
+
+refused_none : (s : Flat) (c : Command) (f : BenchFault) → refusal s c ≡ Some f → if_accepted s c ≡ []
+refused_none s c f e = ap (λ (v : Option BenchFault). unless_refused v c) e
+
+text_accepted : (s : Flat) (c : Command) → refusal s c ≡ None → ok_text (reply s c) (after s c) ≡ change_text s c Plain
+text_accepted s c e = sym (ap (λ (v : Option BenchFault). plain_text v s c) e)
+
+text_refused : (s : Flat) (c : Command) (f : BenchFault) → refusal s c ≡ Some f → no_text (number_of f) ≡ change_text s c Plain
+text_refused s c f e = sym (ap (λ (v : Option BenchFault). plain_text v s c) e)
+
+pub ok_changed : (r : Reply) (log : Log) (s : Flat) (d : DiskState) (b : SessionState) (c : Command) (told : List ℕ) → Tried log s d c (Ok r) b → told ≡ ok_text r b.standing.state → Changed (at log s d) c Plain told b
+ok_changed r Shut s d b c told h k = absurd (h.applied)
+ok_changed r (Open used) s d b c told h k =
+    let yes : refusal s c ≡ None = h.applied.0 in
+    let P : List Command → Type 0 = λ cs. Leaves (at (Open used) s d) Plain cs cs b in
+    record {
+      may = λ e. h.applied.1;
+      told_is = k ∙ ap (λ v. ok_text v b.standing.state) (h.applied.2) ∙ ap (ok_text (reply s c)) (h.applied.3) ∙ text_accepted s c yes;
+      leaves = subst P (sym (accepted_alone s c yes)) (record {
+        state = h.applied.3;
+        closes = h.closes;
+        honest = h.honest;
+        kept = λ given. acknowledged_keeps d b.disk s c (h.records given.honest.1) (h.lawful (h.honest given.honest.1));
+      });
+    }
+
+pub refused_changed : (f : BenchFault) (log : Log) (s : Flat) (d : DiskState) (b : SessionState) (c : Command) (told : List ℕ) → Tried log s d c (Err (fault.Refused f)) b → told ≡ no_text (number_of_fault (fault.Refused f)) → Changed (at log s d) c Plain told b
+refused_changed f Shut s d b c told h k = absurd (h.applied)
+refused_changed f (Open used) s d b c told h k =
+    let no : refusal s c ≡ Some f = h.applied.0 in
+    let P : List Command → Type 0 = λ cs. Leaves (at (Open used) s d) Plain cs cs b in
+    record {
+      may = λ e. absurd (cc (no, e));
+      told_is = k ∙ text_refused s c f no;
+      leaves = subst P (sym (refused_none s c f no)) (record {
+        state = h.applied.1;
+        closes = h.closes;
+        honest = h.honest;
+        kept = λ given. stays_keeps d b.disk s (h.records given.honest.1) given.settled;
+      });
+    }
+
+pub full_changed : (log : Log) (s : Flat) (d : DiskState) (b : SessionState) (c : Command) (told : List ℕ) → Tried log s d c (Err fault.Full) b → told ≡ no_text 52 → Changed (at log s d) c Full told b
+full_changed Shut s d b c told h k = absurd (h.applied)
+full_changed (Open used) s d b c told h k = record {
+  may = (h.applied.0, h.applied.1);
+  told_is = k;
+  leaves = record { state = h.applied.2; closes = h.closes; honest = h.honest; kept = λ given. stays_keeps d b.disk s (h.records given.honest.1) given.settled };
+}
+
+pub device_changed : (log : Log) (s : Flat) (d : DiskState) (b : SessionState) (c : Command) (told : List ℕ) → Tried log s d c (Err fault.Device) b → told ≡ no_text 53 → Changed (at log s d) c Device told b
+device_changed Shut s d b c told h k = absurd (h.applied)
+device_changed (Open used) s d b c told h k = record {
+  may = (h.applied.0, h.applied.1);
+  told_is = k;
+  leaves = record { state = h.applied.2; closes = h.closes; honest = h.honest; kept = λ given. failed_keeps d b.disk s c (h.records given.honest.1) (h.lawful (h.honest given.honest.1)) };
+}
+
+pub closed_changed : (log : Log) (s : Flat) (d : DiskState) (b : SessionState) (c : Command) (told : List ℕ) → Tried log s d c (Err fault.Closed) b → told ≡ no_text 54 → Changed (at log s d) c Closed told b
+closed_changed (Open used) s d b c told h k = absurd (h.applied)
+closed_changed Shut s d b c told h k = record {
+  may = tt;
+  told_is = k;
+  leaves = record { state = h.applied; closes = h.closes; honest = h.honest; kept = λ given. absurd (cc given.honest.0) };
+}
+
+-- ---- requests that change nothing
+
+pub leaves_nothing : (a : SessionState) → Leaves a Plain [] [] a
+leaves_nothing a = record { state = refl; closes = (refl, refl); honest = λ h. h; kept = λ given. whole_nothing a.disk a.standing.state given.settled }
+
+pub refused_done : (a : SessionState) (f : LineFault) (told : List ℕ) → told ≡ request_text a.standing.state (Refused f) Plain → RequestDone a (Refused f) Plain told a
+refused_done a f told k = record { may = refl; told_is = k; leaves = leaves_nothing a }
+
+pub ask_done : (a : SessionState) (q : Query) (told : List ℕ) → told ≡ request_text a.standing.state (Ask q) Plain → RequestDone a (Ask q) Plain told a
+ask_done a q told k = record { may = refl; told_is = k; leaves = leaves_nothing a }
+
+pub change_done : (a b : SessionState) (c : Command) (o : Outcome) (told : List ℕ) → Changed a c o told b → RequestDone a (Change c) o told b
+change_done a b c o told h = record { may = h.may; told_is = h.told_is; leaves = h.leaves }
+
+pub done_of : (a b : SessionState) (r q : Request) (o : Outcome) (told : List ℕ) → r ≡ q → RequestDone a q o told b → RequestDone a r o told b
+done_of a b r q o told same h = subst (λ (x : Request). RequestDone a x o told b) (sym same) h
+
+-- ---- a line
+
+nat_lt-false : (m n : ℕ) → n ≤ m → nat_lt m n ≡ false
+nat_lt-false m n h = search rules
+
+nat_lt-true : (m n : ℕ) → m < n → nat_lt m n ≡ true
+nat_lt-true m n h = search rules
+
+-- a line that is neither too long nor blank
+pub is_line : (raw line : List ℕ) → line ≡ strip_last 13 raw → length line ≤ 255 → list_all is_blank_byte line ≡ false → input_of raw ≡ Line line
+unfolding input_of
+is_line raw line e h b = ap judged (sym e) ∙ rw (nat_lt-false 255 (length line) h, b) refl
+
+pub is_blank_line : (raw line : List ℕ) → line ≡ strip_last 13 raw → length line ≤ 255 → list_all is_blank_byte line ≡ true → input_of raw ≡ Blank
+unfolding input_of
+is_blank_line raw line e h b = ap judged (sym e) ∙ rw (nat_lt-false 255 (length line) h, b) refl
+
+pub is_long_line : (raw line : List ℕ) → line ≡ strip_last 13 raw → 255 < length line → input_of raw ≡ TooLong
+unfolding input_of
+is_long_line raw line e h = ap judged (sym e) ∙ rw (nat_lt-true 255 (length line) h) refl
+
+pub answered_line : (a b : SessionState) (i : Input) (line : List ℕ) (o : Outcome) (told : List ℕ)
+    → i ≡ Line line → RequestDone a (request_of line) o told b → Answered a i o told b
+unfolding answer commands reached MayEnd
+answered_line a b i line o told e h = let P : Input → Type 0 = λ x. Answered a x o told b in subst P (sym e) (record { may = h.may; told_is = h.told_is; leaves = h.leaves })
+
+pub answered_blank : (a : SessionState) (i : Input) (told : List ℕ) → i ≡ Blank → told ≡ [] → Answered a i Plain told a
+unfolding answer commands reached MayEnd
+answered_blank a i told e h = let P : Input → Type 0 = λ x. Answered a x Plain told a in subst P (sym e) (record { may = refl; told_is = h; leaves = leaves_nothing a })
+
+pub answered_long : (a : SessionState) (i : Input) (told : List ℕ) → i ≡ TooLong → told ≡ no_text 12 → Answered a i Plain told a
+unfolding answer commands reached MayEnd
+answered_long a i told e h = let P : Input → Type 0 = λ x. Answered a x Plain told a in subst P (sym e) (record { may = refl; told_is = h; leaves = leaves_nothing a })
+
+-- ---- a line that was answered
+
+reached_same : (s : Flat) (i : Input) (o : Outcome) → o ≢ Device → reached s i o ≡ commands s i o
+unfolding reached commands
+reached_same s Blank o h = refl
+reached_same s TooLong o h = refl
+reached_same s (Line line) o h = of_request s (request_of line) o h where
+  of_request : (s : Flat) (r : Request) (o : Outcome) → o ≢ Device → reached_by_request s r o ≡ commands_of_request s r o
+  of_request s (Refused f) o h = refl
+  of_request s (Ask q) o h = refl
+  of_request s (Change c) Plain h = refl
+  of_request s (Change c) Full h = refl
+  of_request s (Change c) Device h = absurd (h refl)
+  of_request s (Change c) Closed h = refl
+
+kept_of : (o : Outcome) (d e : DiskState) (s : Flat) (i : Input) → KeptBy o d e s (commands s i o) (reached s i o) → Kept d e s (commands s i o) (reached s i o)
+kept_of Device d e s i h = h
+kept_of Plain d e s i h = let P : List Command → Type 0 = λ cs. Kept d e s (commands s i Plain) cs in subst P (sym (reached_same s i Plain (λ x. absurd (cc x)))) h.kept
+kept_of Full d e s i h = let P : List Command → Type 0 = λ cs. Kept d e s (commands s i Full) cs in subst P (sym (reached_same s i Full (λ x. absurd (cc x)))) h.kept
+kept_of Closed d e s i h = let P : List Command → Type 0 = λ cs. Kept d e s (commands s i Closed) cs in subst P (sym (reached_same s i Closed (λ x. absurd (cc x)))) h.kept
+
+pub fares_of : (a b : SessionState) (i : Input) (o : Outcome) (told : List ℕ) → Answered a i o told b → Fares IsSettled a [] a.standing i o b
+fares_of a b i o told h = record {
+  may = h.may;
+  state = h.leaves.state;
+  closes = h.leaves.closes;
+  honest = h.leaves.honest;
+  kept = λ given. kept_of o a.disk b.disk a.standing.state i (h.leaves.kept given);
+}
+
+pub cut_of : (a : SessionState) (b : Stage) (i : Input) (o : Outcome) (told : List ℕ) (out : Option (List ℕ)) → Answered a i o told b.session → GotSome out b.out told → CutShort IsSettled a [] a.standing i out b
+cut_of a b i o told out h got = record { outcome = o; fares = fares_of a b.session i o told h; written = subst (λ (x : List ℕ). GotSome out b.out x) h.told_is got }
+
+pub failed_of : (a : SessionState) (b : Stage) (i : Input) (o : Outcome) (told : List ℕ) (out : Option (List ℕ)) → Answered a i o told b.session → o ≡ Device → Appends out b.out told → Failed IsSettled a [] a.standing i out b
+failed_of a b i Device told out h is got = let P : List ℕ → Type 0 = λ x. Appends out b.out x in record { fares = fares_of a b.session i Device told h; written = subst P h.told_is got }
+failed_of a b i Plain told out h is got = absurd (cc is)
+failed_of a b i Full told out h is got = absurd (cc is)
+failed_of a b i Closed told out h is got = absurd (cc is)
+
+pub went_of : (a b : Stage) (i : Input) (o : Outcome) (told : List ℕ) → Answered a.session i o told b.session → o ≢ Device → Appends a.out b.out told → WentOn a i b
+went_of a b i Device told h is got = absurd (is refl)
+went_of a b i Plain told h is got = let P : List ℕ → Type 0 = λ x. Appends a.out b.out x in
+    record { outcome = Plain; may = (is, h.may); written = subst P h.told_is got; carries = record { standing = λ k. record { log = h.leaves.closes.0 k; state = h.leaves.state k }; same_faults = h.leaves.closes.1; honest = h.leaves.honest; kept = h.leaves.kept } }
+went_of a b i Full told h is got = let P : List ℕ → Type 0 = λ x. Appends a.out b.out x in
+    record { outcome = Full; may = (is, h.may); written = subst P h.told_is got; carries = record { standing = λ k. record { log = h.leaves.closes.0 k; state = h.leaves.state k }; same_faults = h.leaves.closes.1; honest = h.leaves.honest; kept = h.leaves.kept } }
+went_of a b i Closed told h is got = let P : List ℕ → Type 0 = λ x. Appends a.out b.out x in
+    record { outcome = Closed; may = (is, h.may); written = subst P h.told_is got; carries = record { standing = λ k. record { log = h.leaves.closes.0 k; state = h.leaves.state k }; same_faults = h.leaves.closes.1; honest = h.leaves.honest; kept = h.leaves.kept } }

@@ -1,0 +1,16 @@
+pub mod Codec
+pub mod Stands
+pub mod Standing
+pub mod SessionView
+pub mod Inputs
+pub mod Words
+pub mod Requests
+pub mod Transcript
+pub mod Kept
+pub mod Serving
+pub mod Shell
+pub mod Finishing
+pub mod CommandLine
+pub mod FileCalls
+pub mod FileDisk
+pub mod StoredCalls

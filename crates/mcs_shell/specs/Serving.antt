@@ -1,0 +1,135 @@
+-- How serving one line, or a stretch of bytes, ends.
+use Rattle.std.specs.Prelude.{◌≡◌, ◌<◌, ◌+◌, min, Bool, ℕ, List, [], ◌∷◌, ◌++◌, length, map, take, Option, Result, Ok, Err}
+use Rattle.std.specs.Io.KnownBytes.{Appends}
+use Rattle.mcs_disk.specs.Disk.{DiskState, most_faults}
+use Rattle.mcs_model.specs.declared.command.Command.{Command}
+use Rattle.mcs_model.specs.Flat.{Flat}
+use Rattle.mcs_model.specs.Fold.{fold}
+use Rattle.mcs_shell.specs.declared.outcome.Outcome.{Outcome}
+use Rattle.mcs_shell.specs.declared.outcome.Outcome.TheVariants.{Device}
+use Rattle.mcs_shell.specs.declared.outcome.Stop.{Stop}
+use Rattle.mcs_shell.specs.declared.outcome.Stop.TheVariants.{Write, Fault}
+use Rattle.mcs_shell.specs.declared.requests.Request.{Request}
+use Rattle.mcs_shell.specs.declared.requests.Request.TheVariants.{Change}
+use Rattle.mcs_shell.specs.Inputs.{Input, inputs, HasNoFeed}
+use Rattle.mcs_shell.specs.Standing.{Log, Shut, Stage, Standing, SessionState, logged, on}
+use Rattle.mcs_shell.specs.Transcript.{ChangeMayEnd, RequestMayEnd, MayEnd, MayGo, Served, answer, commands, reached, reached_by_request, change_text, commands_of_request, request_text, Went, transcript, all_commands}
+use Rattle.mcs_shell.specs.Kept.{Carries, IsSettled, Kept, KeptWhole}
+
+-- the writer has got some of the first bytes, and not all
+pub record GotSome (old new : Option (List ℕ)) (bytes : List ℕ) : Type 0 where
+  pub count : ℕ
+  pub fewer : count < length bytes
+  pub got : Appends old new (take count bytes)
+
+-- ---- one input
+
+-- the session was closed where the device failed, and there alone; `log` is what it is else
+abbrev pub ClosesAt : Outcome → Log → ℕ → Log → ℕ → Type 0
+ClosesAt Device log faults new_log new_faults = (new_log ≡ Shut) × (new_faults ≡ min (faults + 1) most_faults)
+ClosesAt o log faults new_log new_faults = (new_log ≡ log) × (new_faults ≡ faults)
+
+-- what the disk keeps of a command that met this outcome
+abbrev pub KeptBy : Outcome → DiskState → DiskState → Flat → List Command → List Command → Type 0
+KeptBy Device old new s done reached_too = Kept old new s done reached_too
+KeptBy o old new s done reached_too = KeptWhole old new s done
+
+-- an outcome's effects on the session and its disk, beside its answer
+pub record Leaves (a : SessionState) (o : Outcome) (done reached_too : List Command) (b : SessionState) : Type 0 where
+  pub state : b.standing.state ≡ fold a.standing.state done
+  pub closes : ClosesAt o (logged a.standing.log done) a.disk.faults b.standing.log b.disk.faults
+  pub honest : a.disk.honest → b.disk.honest
+  pub kept : IsSettled a → KeptBy o a.disk b.disk a.standing.state done reached_too
+
+-- a command was tried: its answer is this
+pub record Changed (a : SessionState) (c : Command) (o : Outcome) (told : List ℕ) (b : SessionState) : Type 0 where
+  pub may : ChangeMayEnd a.standing.log a.standing.state c o
+  pub told_is : told ≡ change_text a.standing.state c o
+  pub leaves : Leaves a o (commands_of_request a.standing.state (Change c) o) (reached_by_request a.standing.state (Change c) o) b
+
+-- a request was done: its answer is this
+pub record RequestDone (a : SessionState) (r : Request) (o : Outcome) (told : List ℕ) (b : SessionState) : Type 0 where
+  pub may : RequestMayEnd a.standing r o
+  pub told_is : told ≡ request_text a.standing.state r o
+  pub leaves : Leaves a o (commands_of_request a.standing.state r o) (reached_by_request a.standing.state r o) b
+
+-- a line was judged and its request done: its answer is this
+pub record Answered (a : SessionState) (i : Input) (o : Outcome) (told : List ℕ) (b : SessionState) : Type 0 where
+  pub may : MayEnd a.standing i o
+  pub told_is : told ≡ answer a.standing.state i o
+  pub leaves : Leaves a o (commands a.standing.state i o) (reached a.standing.state i o) b
+
+-- the line was served, and the shell goes on
+pub record WentOn (a : Stage) (i : Input) (b : Stage) : Type 0 where
+  pub outcome : Outcome
+  pub may : MayGo a.session.standing i outcome
+  pub written : Appends a.out b.out (answer a.session.standing.state i outcome)
+  pub carries : Carries IsSettled a.session b.session (commands a.session.standing.state i outcome)
+
+-- After these commands from a, the session standing at m: one more input met this outcome, and what the disk keeps
+-- from a on.
+pub record Fares (Given : SessionState → Type 0) (a : SessionState) (cs : List Command) (m : Standing) (i : Input) (o : Outcome) (b : SessionState) : Type 0 where
+  pub may : MayEnd m i o
+  pub state : b.standing.state ≡ fold m.state (commands m.state i o)
+  pub closes : ClosesAt o (logged m.log (commands m.state i o)) a.disk.faults b.standing.log b.disk.faults
+  pub honest : a.disk.honest → b.disk.honest
+  pub kept : Given a → Kept a.disk b.disk a.standing.state (cs ++ commands m.state i o) (cs ++ reached m.state i o)
+
+abbrev pub LastStep : Type 1
+LastStep = (SessionState → Type 0) → SessionState → List Command → Standing → Input → Option (List ℕ) → Stage → Type 0
+
+-- its answer could not be written whole
+pub record CutShort (Given : SessionState → Type 0) (a : SessionState) (cs : List Command) (m : Standing) (i : Input) (out : Option (List ℕ)) (b : Stage) : Type 0 where
+  pub outcome : Outcome
+  pub fares : Fares Given a cs m i outcome b.session
+  pub written : GotSome out b.out (answer m.state i outcome)
+
+-- the device failed, and that was answered
+pub record Failed (Given : SessionState → Type 0) (a : SessionState) (cs : List Command) (m : Standing) (i : Input) (out : Option (List ℕ)) (b : Stage) : Type 0 where
+  pub fares : Fares Given a cs m i Device b.session
+  pub written : Appends out b.out (answer m.state i Device)
+
+abbrev pub LastBy : Stop → LastStep
+LastBy Write = CutShort
+LastBy Fault = Failed
+
+-- the line was the last that was served
+abbrev pub StopsAt : Stop → Stage → Input → Stage → Type 0
+StopsAt stop a i b = LastBy stop IsSettled a.session [] a.session.standing i a.out b
+
+abbrev pub ServedLine : {T : Type 0} → Result T Stop → Stage → Input → Stage → Type 0
+ServedLine (Ok _) = WentOn
+ServedLine (Err stop) = StopsAt stop
+
+-- ---- a stretch of bytes
+
+-- From the unfinished line `line0` on, these bytes were served, and the unfinished line is now `line`.
+pub record Progress (m : Standing) (out0 out : Option (List ℕ)) (line0 line bytes : List ℕ) : Type 0 where
+  pub served : Served
+  pub went : Went m served
+  pub written : Appends out0 out (transcript m.state served)
+  -- however the bytes go on
+  pub spelled : (more : List ℕ) (whole : Bool) → inputs (line0 ++ (bytes ++ more)) whole
+      ≡ map (λ p. p.0) served ++ inputs (line ++ more) whole
+  pub no_feed : HasNoFeed line
+
+-- a stretch of bytes was served, and the shell goes on
+pub record WentFurther (a b : Stage) (line new_line bytes : List ℕ) : Type 0 where
+  pub progress : Progress a.session.standing a.out b.out line new_line bytes
+  pub carries : Carries IsSettled a.session b.session (all_commands a.session.standing.state progress.served)
+
+-- Serving stopped within these bytes: the inputs before were served, and then one was answered in part, or met a
+-- fault of the device.
+pub record StoppedAt (Last : LastStep) (a b : Stage) (line bytes : List ℕ) : Type 0 where
+  pub served : Served
+  pub last : Input
+  pub went : Went a.session.standing served
+  pub middle : Option (List ℕ)
+  pub written : Appends a.out middle (transcript a.session.standing.state served)
+  pub ended : Last IsSettled a.session (all_commands a.session.standing.state served) (on a.session.standing (all_commands a.session.standing.state served)) last middle b
+  -- whatever comes after these bytes
+  pub spelled : (more : List ℕ) (whole : Bool) → (rest : List Input) × (inputs (line ++ (bytes ++ more)) whole
+      ≡ map (λ p. p.0) served ++ last ∷ rest)
+
+abbrev pub Stopped : Stop → Stage → Stage → List ℕ → List ℕ → Type 0
+Stopped stop = StoppedAt (LastBy stop)

@@ -1,0 +1,96 @@
+-- What a shell read, wrote and did, by how it ended.
+use Rattle.std.specs.Prelude.{◌≡◌, ◌⊎◌, ◌<◌, ◌≤◌, Bool, true, false, ℕ, List, [], ◌∷◌, ◌++◌, length, map, Option}
+use Rattle.std.specs.Io.KnownBytes.{Appends, Consumes, IsAtEnd}
+use Rattle.mcs_shell.specs.declared.ends.ShellEnd.{ShellEnd}
+use Rattle.mcs_shell.specs.declared.ends.ShellEnd.TheVariants.{End, ReadFault, WriteFault, DeviceFault, InputLimit, NoMemory}
+use Rattle.mcs_shell.specs.declared.outcome.Stop.{Stop}
+use Rattle.mcs_shell.specs.declared.outcome.Stop.TheVariants.{Write, Fault}
+use Rattle.mcs_shell.specs.Inputs.{Input, inputs}
+use Rattle.mcs_shell.specs.Standing.{SessionState, Stage, on}
+use Rattle.mcs_shell.specs.Transcript.{Served, Went, all_commands, session_text, transcript}
+use Rattle.mcs_shell.specs.Kept.{Carries, IsHonest, IsSettled}
+use Rattle.mcs_shell.specs.Serving.{CutShort, Failed, GotSome, LastStep}
+
+-- how many bytes a shell reads at most
+abbrev pub input_limit : ℕ
+input_limit = 16777216
+
+-- every input of the bytes was served
+pub record ServedAll (Given : SessionState → Type 0) (whole : Bool) (bytes : List ℕ) (a b : Stage) : Type 0 where
+  pub served : Served
+  pub spelled : inputs bytes whole ≡ map (λ p. p.0) served
+  pub went : Went a.session.standing served
+  pub written : Appends a.out b.out (transcript a.session.standing.state served)
+  pub carries : Carries Given a.session b.session (all_commands a.session.standing.state served)
+
+-- some first inputs of the bytes were served, and then one was answered in part, or met a fault of the device
+pub record ServedSome (Given : SessionState → Type 0) (Last : LastStep) (whole : Bool) (bytes : List ℕ) (a b : Stage) : Type 0 where
+  pub served : Served
+  pub last : Input
+  pub rest : List Input
+  pub spelled : inputs bytes whole ≡ map (λ p. p.0) served ++ last ∷ rest
+  pub went : Went a.session.standing served
+  pub middle : Option (List ℕ)
+  pub written : Appends a.out middle (transcript a.session.standing.state served)
+  pub ended : Last Given a.session (all_commands a.session.standing.state served) (on a.session.standing (all_commands a.session.standing.state served)) last middle b
+
+-- what was done after the first line of the transcript, by the end and the bytes read; `left` is what the reader has left
+abbrev pub EndsBy : (SessionState → Type 0) → ShellEnd → List ℕ → Option (List ℕ) → Stage → Stage → Type 0
+EndsBy Given End bytes left a b = (length bytes < input_limit) × IsAtEnd left × ServedAll Given true bytes a b
+EndsBy Given ReadFault bytes left a b = (length bytes < input_limit) × ServedAll Given false bytes a b
+EndsBy Given InputLimit bytes left a b = (length bytes ≡ input_limit) × ServedAll Given false bytes a b
+EndsBy Given WriteFault bytes left a b = (whole : Bool) × (length bytes ≤ input_limit) × ServedSome Given CutShort whole bytes a b
+EndsBy Given DeviceFault bytes left a b = (whole : Bool) × (length bytes ≤ input_limit) × ServedSome Given Failed whole bytes a b
+EndsBy Given NoMemory bytes left a b = ⊥
+
+pub record LoopRan (Given : SessionState → Type 0) (end : ShellEnd) (reader reader' : Option (List ℕ)) (a b : Stage) : Type 0 where
+  pub bytes : List ℕ
+  pub consumed : Consumes reader reader' bytes
+  pub ends : EndsBy Given end bytes reader' a b
+
+-- the loop ran, under the premise that its steps hand on
+abbrev pub LoopSettled : ShellEnd → Option (List ℕ) → Option (List ℕ) → Stage → Stage → Type 0
+LoopSettled = LoopRan IsSettled
+
+-- nothing was read or done
+pub record Untouched (Given : SessionState → Type 0) (reader reader' : Option (List ℕ)) (a b : SessionState) : Type 0 where
+  pub consumed : Consumes reader reader' []
+  pub carries : Carries Given a b []
+
+-- the first line of the transcript was written, and then the loop ran
+pub record Began (Given : SessionState → Type 0) (end : ShellEnd) (reader reader' : Option (List ℕ)) (a b : Stage) : Type 0 where
+  pub started : Option (List ℕ)
+  pub first : Appends a.out started (session_text a.session.standing.state)
+  pub ran : LoopRan Given end reader reader' (record { session = a.session; out = started }) b
+
+-- The shell ran: the first line of the transcript stands before the answers.
+abbrev pub RanGiven : (SessionState → Type 0) → ShellEnd → Option (List ℕ) → Option (List ℕ) → Stage → Stage → Type 0
+RanGiven Given NoMemory reader reader' a b = Untouched Given reader reader' a.session b.session × Appends a.out b.out []
+RanGiven Given WriteFault reader reader' a b =
+    (Untouched Given reader reader' a.session b.session × GotSome a.out b.out (session_text a.session.standing.state))
+    ⊎ Began Given WriteFault reader reader' a b
+RanGiven Given end reader reader' a b = Began Given end reader reader' a b
+
+-- the same under the premise that the session is open and its disk honest
+abbrev pub Ran : ShellEnd → Option (List ℕ) → Option (List ℕ) → Stage → Stage → Type 0
+Ran = RanGiven IsHonest
+
+-- a read gave these n bytes, none only at the end
+pub record ReadSome (n most : ℕ) (old new : Option (List ℕ)) (bytes : List ℕ) : Type 0 where
+  pub within : n ≤ most
+  pub count : length bytes ≡ n
+  pub consumed : Consumes old new bytes
+  pub at_end : n ≡ 0 → IsAtEnd new
+
+abbrev pub end_by : Stop → ShellEnd
+end_by Write = WriteFault
+end_by Fault = DeviceFault
+
+-- the exit status of an end
+abbrev pub status_of : ShellEnd → ℕ
+status_of End = 0
+status_of ReadFault = 1
+status_of WriteFault = 1
+status_of DeviceFault = 1
+status_of InputLimit = 1
+status_of NoMemory = 3

@@ -1,0 +1,130 @@
+-- What is answered to inputs, and what they do.
+use Rattle.std.specs.Prelude.{◌≡◌, ◌≢◌, true, false, ℕ, List, [], ◌∷◌, ◌++◌, codes, Option, Some, None}
+use Rattle.std.specs.Fmt.{decimal}
+use Rattle.mcs_model.specs.declared.command.Command.{Command}
+use Rattle.mcs_model.specs.declared.command.Reply.{Reply}
+use Rattle.mcs_model.specs.declared.command.Reply.TheVariants.{Done}
+use Rattle.mcs_model.specs.declared.refusals.BenchFault.{BenchFault}
+use Rattle.mcs_model.specs.Flat.{Flat}
+use Rattle.mcs_model.specs.Command.{refusal, after, reply}
+use Rattle.mcs_model.specs.Fold.{fold}
+use Rattle.mcs_model.specs.Refusal.{number_of}
+use Rattle.mcs_model.specs.QueryText.{text}
+use Rattle.mcs_shell.specs.declared.requests.Request.{Request}
+use Rattle.mcs_shell.specs.declared.requests.Request.TheVariants.{Refused, Ask, Change}
+use Rattle.mcs_shell.specs.declared.outcome.Outcome.{Outcome}
+use Rattle.mcs_shell.specs.declared.outcome.Outcome.TheVariants.{Plain, Full, Device, Closed}
+use Rattle.mcs_shell.specs.Inputs.{Input, Blank, TooLong, Line}
+use Rattle.mcs_shell.specs.Requests.{request_of, number_of_fault}
+use Rattle.mcs_shell.specs.Standing.{Log, Open, Shut, Standing, fits, on}
+
+-- ---- texts
+
+abbrev pub line_feed : List ℕ
+line_feed = 10 ∷ []
+
+-- the first line of a transcript
+abbrev pub session_text : Flat → List ℕ
+session_text s = codes "session " ++ (decimal s.seq ++ line_feed)
+
+-- the answer to an accepted command, from its reply and the state after it
+abbrev pub ok_text : Reply → Flat → List ℕ
+ok_text Done s = codes "ok " ++ (decimal s.seq ++ line_feed)
+
+-- the answer to what is refused
+abbrev pub no_text : ℕ → List ℕ
+no_text number = codes "no " ++ (decimal number ++ line_feed)
+
+-- ---- one input
+
+-- the answer to a command on an open session, by why the state refuses it
+abbrev pub plain_text : Option BenchFault → Flat → Command → List ℕ
+plain_text None s c = ok_text (reply s c) (after s c)
+plain_text (Some f) s c = no_text (number_of f)
+
+-- the answer to a command
+abbrev pub change_text : Flat → Command → Outcome → List ℕ
+change_text s c Plain = plain_text (refusal s c) s c
+change_text s c Full = no_text 52
+change_text s c Device = no_text 53
+change_text s c Closed = no_text 54
+
+abbrev pub request_text : Flat → Request → Outcome → List ℕ
+request_text s (Refused f) o = no_text (number_of_fault f)
+request_text s (Ask q) o = text q s ++ line_feed
+request_text s (Change c) o = change_text s c o
+
+-- the answer to an input
+unfoldable pub answer : Flat → Input → Outcome → List ℕ
+answer s Blank o = []
+answer s TooLong o = no_text 12
+answer s (Line line) o = request_text s (request_of line) o
+
+-- a command that the state does not refuse
+abbrev pub unless_refused : Option BenchFault → Command → List Command
+unless_refused None c = c ∷ []
+unless_refused (Some f) c = []
+
+abbrev pub if_accepted : Flat → Command → List Command
+if_accepted s c = unless_refused (refusal s c) c
+
+abbrev pub commands_of_request : Flat → Request → Outcome → List Command
+commands_of_request s (Change c) Plain = if_accepted s c
+commands_of_request s r o = []
+
+-- the command that was answered `ok`, if any
+unfoldable pub commands : Flat → Input → Outcome → List Command
+commands s (Line line) o = commands_of_request s (request_of line) o
+commands s i o = []
+
+abbrev pub reached_by_request : Flat → Request → Outcome → List Command
+reached_by_request s (Change c) Plain = if_accepted s c
+reached_by_request s (Change c) Device = c ∷ []
+reached_by_request s r o = []
+
+-- the command that may have reached the disk, if any: it was answered `ok` or `no 53`
+unfoldable pub reached : Flat → Input → Outcome → List Command
+reached s (Line line) o = reached_by_request s (request_of line) o
+reached s i o = []
+
+-- What may come of a command. On an open session it is refused as the state refuses it; else it is done where its record
+-- has room and the device does not fail. On a closed session nothing is done.
+abbrev pub ChangeMayEnd : Log → Flat → Command → Outcome → Type 0
+ChangeMayEnd (Open used) s c Plain = refusal s c ≡ None → fits used c ≡ true
+ChangeMayEnd (Open used) s c Full = (refusal s c ≡ None) × (fits used c ≡ false)
+ChangeMayEnd (Open used) s c Device = (refusal s c ≡ None) × (fits used c ≡ true)
+ChangeMayEnd Shut s c Closed = Unit {0}
+ChangeMayEnd log s c o = ⊥
+
+abbrev pub RequestMayEnd : Standing → Request → Outcome → Type 0
+RequestMayEnd m (Change c) o = ChangeMayEnd m.log m.state c o
+RequestMayEnd m r o = o ≡ Plain
+
+-- what may come of the last input
+unfoldable pub MayEnd : Standing → Input → Outcome → Type 0
+MayEnd m (Line line) o = RequestMayEnd m (request_of line) o
+MayEnd m i o = o ≡ Plain
+
+-- what may come of an input that others follow: the shell ends where the device fails
+abbrev pub MayGo : Standing → Input → Outcome → Type 0
+MayGo m i o = (o ≢ Device) × MayEnd m i o
+
+-- ---- inputs in turn, each with what came of it
+
+abbrev pub Served : Type 0
+Served = List (Input × Outcome)
+
+-- the answers, in turn
+unfoldable pub transcript : Flat → Served → List ℕ
+transcript s [] = []
+transcript s (p ∷ rest) = answer s p.0 p.1 ++ transcript (fold s (commands s p.0 p.1)) rest
+
+-- the commands answered `ok`, in turn
+unfoldable pub all_commands : Flat → Served → List Command
+all_commands s [] = []
+all_commands s (p ∷ rest) = commands s p.0 p.1 ++ all_commands (fold s (commands s p.0 p.1)) rest
+
+-- each outcome is one that may come of its input in its turn
+unfoldable pub Went : Standing → Served → Type 0
+Went m [] = Unit {0}
+Went m (p ∷ rest) = MayGo m p.0 p.1 × Went (on m (commands m.state p.0 p.1)) rest

@@ -1,0 +1,104 @@
+//! The bench as a program: `mcs4 new FILE` and `mcs4 open FILE`.
+#![tactic(auto)]
+
+mod answering;
+pub mod bench;
+mod call_record;
+pub mod codec;
+pub mod command_line;
+pub mod ends;
+pub mod faults;
+pub mod file_disk;
+pub mod lines;
+pub mod outcome;
+pub mod requests;
+pub mod sending;
+mod serving;
+pub mod session;
+pub mod shell;
+mod telling;
+pub mod words;
+
+use crate::command_line::choice;
+use crate::ends::{ShellEnd, status};
+use crate::faults::{create_number, open_number};
+use crate::file_disk::{FileDisk, FileFault};
+use crate::session::Session;
+use crate::shell::run_shell;
+use crate::words::{Choice, WordsFault};
+use std::alloc::Global;
+use std::env;
+use std::io::{self, Write};
+use std::process::ExitCode;
+
+/// The exit status where the words are none of the program's.
+const WRONG_WORDS: u8 = 2;
+
+/// The exit status where the session is refused.
+const REFUSED: u8 = 3;
+
+/// The number of a refusal for want of memory.
+const NO_MEMORY: u8 = 90;
+
+/// The words of the command line, the program's name first.
+fn given_words(rt: &HostRuntime) -> io::Result<Vec<String>> {
+    Ok(env::args(rt)?.collect(rt.alloc())?)
+}
+
+/// Tells why there is no session.
+fn refuse(rt: &HostRuntime, number: u8) -> io::Result<ExitCode> {
+    println!(rt; "no {number}")?;
+    Ok(ExitCode::from(REFUSED))
+}
+
+/// Makes or opens the session in a file, or answers the number of the refusal.
+fn session_in(rt: &HostRuntime, choice: &Choice) -> Result<Session<FileDisk>, u8> {
+    let alloc = rt.alloc();
+    let (file, make) = match choice {
+        Choice::New(file) => (file, true),
+        Choice::Open(file) => (file, false),
+    };
+    let disk = match FileDisk::open_at(rt, alloc, file.as_str(), make) {
+        Ok(disk) => disk,
+        Err(FileFault::Device) => return Err(open_number(mcs_journal::OpenFault::Device)),
+        Err(FileFault::NoMemory) => return Err(NO_MEMORY),
+    };
+    if make {
+        match Session::create(alloc, disk) {
+            Ok(session) => Ok(session),
+            Err((fault, _disk)) => Err(create_number(fault)),
+        }
+    } else {
+        match Session::open(alloc, disk) {
+            Ok(session) => Ok(session),
+            Err((fault, _disk)) => Err(open_number(fault)),
+        }
+    }
+}
+
+fn main(rt: HostRuntime) -> io::Result<ExitCode> {
+    let Ok(words) = given_words(&rt) else {
+        return refuse(&rt, NO_MEMORY);
+    };
+    let choice = match choice(rt.alloc(), words.as_slice()) {
+        Ok(choice) => choice,
+        Err(WordsFault::Usage) => {
+            eprintln!(rt; "usage: mcs4 new FILE or mcs4 open FILE")?;
+            return Ok(ExitCode::from(WRONG_WORDS));
+        }
+        Err(WordsFault::NoMemory) => return refuse(&rt, NO_MEMORY),
+    };
+    let mut session = match session_in(&rt, &choice) {
+        Ok(session) => session,
+        Err(number) => return refuse(&rt, number),
+    };
+    match run_shell(rt.alloc(), &mut rt.stdin(), &mut rt.stdout(), &mut session) {
+        ShellEnd::NoMemory => refuse(&rt, NO_MEMORY),
+        end => Ok(ExitCode::from(status(end))),
+    }
+}
+
+#[cfg(test)]
+mod host_tests;
+#[cfg(test)]
+mod tests;

@@ -1,0 +1,118 @@
+//! The shell: it reads lines, does what they ask for, and writes the answers.
+ghost use Rattle.std.specs.Prelude.{◌≡◌, ◌<◌, ◌≤◌, take, length, IfOk, OnErr};
+ghost use Rattle.std.specs.Io.KnownBytes.{Keeps};
+ghost use Rattle.mcs_shell.specs.Inputs.{HasNoFeed};
+ghost use Rattle.mcs_shell.specs.SessionView.{staged};
+ghost use Rattle.mcs_shell.specs.Shell.{LoopSettled, Ran, ReadSome, end_by};
+ghost use Rattle.mcs_shell.specs.Finishing.{FinishedBy};
+
+use crate::ends::ShellEnd;
+use crate::outcome::Stop;
+use crate::sending::{WriteStopped, send};
+use crate::serving::{UnfinishedLine, serve_chunk, serve_line};
+use crate::session::Session;
+use crate::telling::{Answer, put_number};
+use mcs_disk::Disk;
+use mcs_model::limits::INPUT_BYTES;
+use std::alloc::Global;
+use std::io::{Read, Write};
+
+/// Bytes that one read asks for at most.
+const CHUNK_BYTES: usize = 4_096;
+
+/// A read failed.
+struct ReadFailed;
+
+/// Reads at most `most` bytes to the front of the buffer; none only where input has ended.
+fn read_some<R: Read>(reader: &mut R, buffer: &mut [u8], most: usize) -> Result<usize, ReadFailed>
+    requires some { 0 < most }
+    requires room { most ≤ length buffer.old }
+    ensures ok { IfOk result (λ n. ReadSome n most (R.remaining reader.old) (R.remaining reader.new) (take n buffer.new)) }
+    ensures err { OnErr result (Keeps (R.remaining reader.old) (R.remaining reader.new)) }
+{
+    match reader.read(&mut buffer[..most]) {
+        Ok(count) => Ok(count),
+        Err(_) => Err(ReadFailed),
+    }
+}
+
+/// The end that a stop in the middle gives.
+fn end_of(stop: Stop) -> ShellEnd
+    ensures { result ≡ end_by stop }
+{
+    match stop {
+        Stop::Write => ShellEnd::WriteFault,
+        Stop::Fault => ShellEnd::DeviceFault,
+    }
+}
+
+/// Serves the unfinished line where input has ended.
+fn finish<W: Write, D: Disk + Drop>(
+    line: &[u8],
+    writer: &mut W,
+    session: &mut Session<D>,
+) -> ShellEnd
+    requires { HasNoFeed line.now }
+    ensures { FinishedBy result line.now (staged (D.state session.old.disk) session.old (W.contents writer.old))
+        (staged (D.state session.new.disk) session.new (W.contents writer.new)) }
+{
+    if line.is_empty() {
+        return ShellEnd::End;
+    }
+    match serve_line(line, writer, session) {
+        Ok(()) => ShellEnd::End,
+        Err(stop) => end_of(stop),
+    }
+}
+
+/// Reads and serves until an end.
+fn run_loop<R: Read, W: Write, D: Disk + Drop>(
+    buffer: &mut [u8],
+    reader: &mut R,
+    writer: &mut W,
+    session: &mut Session<D>,
+) -> ShellEnd
+    requires { 0 < length buffer.old }
+    ensures { LoopSettled result (R.remaining reader.old) (R.remaining reader.new)
+        (staged (D.state session.old.disk) session.old (W.contents writer.old)) (staged (D.state session.new.disk) session.new (W.contents writer.new)) }
+{
+    let mut line = UnfinishedLine::new();
+    let mut total = 0;
+    while total < INPUT_BYTES {
+        let most = buffer.len().min(INPUT_BYTES - total);
+        match read_some(reader, buffer, most) {
+            Err(ReadFailed) => return ShellEnd::ReadFault,
+            Ok(0) => return finish(line.as_slice(), writer, session),
+            Ok(count) => match serve_chunk(&buffer[..count], &mut line, writer, session) {
+                Ok(()) => total += count,
+                Err(stop) => return end_of(stop),
+            },
+        }
+    }
+    ShellEnd::InputLimit
+}
+
+/// Serves the lines of a reader on a session, until input ends, something fails, or the limit of input is reached.
+///
+/// Each command is answered after it was recorded. Wherever the machine stops, what the disk then holds opens to the state
+/// after some first commands of those that were accepted, and each acknowledged one is among them.
+pub fn run_shell<R: Read, W: Write, D: Disk + Drop>(
+    alloc: Global,
+    reader: &mut R,
+    writer: &mut W,
+    session: &mut Session<D>,
+) -> ShellEnd
+    ensures { Ran result (R.remaining reader.old) (R.remaining reader.new)
+        (staged (D.state session.old.disk) session.old (W.contents writer.old)) (staged (D.state session.new.disk) session.new (W.contents writer.new)) }
+{
+    let seq = session.bench().seq();
+    let Ok(mut buffer) = vec![in alloc; 0u8; CHUNK_BYTES] else {
+        return ShellEnd::NoMemory;
+    };
+    let mut first = Answer::new();
+    put_number(&mut first, b"session ", seq);
+    match send(writer, first.as_slice()) {
+        Err(WriteStopped) => ShellEnd::WriteFault,
+        Ok(()) => run_loop(buffer.as_mut_slice(), reader, writer, session),
+    }
+}
