@@ -11,5 +11,3 @@ pub mod Steps
 pub mod Doing
 pub mod Looping
 pub mod DecimalDigits
-pub mod FileKept
-pub mod WordsGiven

@@ -10,7 +10,4 @@ pub mod Kept
 pub mod Serving
 pub mod Shell
 pub mod Finishing
-pub mod CommandLine
-pub mod FileCalls
-pub mod FileDisk
-pub mod StoredCalls
+pub mod Program

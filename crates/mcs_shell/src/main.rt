@@ -1,14 +1,16 @@
 //! The bench as a program: `mcs4 new FILE` and `mcs4 open FILE`.
 #![tactic(auto)]
 
+ghost use Rattle.std.specs.Prelude.{◌≡◌, IfOk, IfErr};
+ghost use Rattle.std.specs.Process.{exit_status};
+ghost use Rattle.mcs_shell.specs.Program.{Begins, IsRefusedBy};
+ghost use Rattle.mcs_shell.specs.Stands.{IsAt};
+
 mod answering;
 pub mod bench;
-mod call_record;
 pub mod codec;
-pub mod command_line;
 pub mod ends;
 pub mod faults;
-pub mod file_disk;
 pub mod lines;
 pub mod outcome;
 pub mod requests;
@@ -17,15 +19,13 @@ mod serving;
 pub mod session;
 pub mod shell;
 mod telling;
-pub mod words;
 
-use crate::command_line::choice;
 use crate::ends::{ShellEnd, status};
 use crate::faults::{create_number, open_number};
-use crate::file_disk::{FileDisk, FileFault};
 use crate::session::Session;
 use crate::shell::run_shell;
-use crate::words::{Choice, WordsFault};
+use mcs_disk::Disk;
+pub use mcs_host::{Choice, FileDisk, FileFault, FileName, WordsFault, choice};
 use std::alloc::Global;
 use std::env;
 use std::io::{self, Write};
@@ -46,13 +46,19 @@ fn given_words(rt: &HostRuntime) -> io::Result<Vec<String>> {
 }
 
 /// Tells why there is no session.
-fn refuse(rt: &HostRuntime, number: u8) -> io::Result<ExitCode> {
+fn refuse(rt: &HostRuntime, number: u8) -> io::Result<ExitCode>
+    ensures { IfOk result (λ code. exit_status code ≡ REFUSED) }
+{
     println!(rt; "no {number}")?;
     Ok(ExitCode::from(REFUSED))
 }
 
 /// Makes or opens the session in a file, or answers the number of the refusal.
-fn session_in(rt: &HostRuntime, choice: &Choice) -> Result<Session<FileDisk>, u8> {
+fn session_in(rt: &HostRuntime, choice: &Choice) -> Result<Session<FileDisk>, u8>
+    ensures begins { IfOk result (λ session. Begins choice.now session.log session.state) }
+    ensures at { IfOk result (λ session. (⟦<FileDisk as Disk>⟧.state session.disk).honest → IsAt (⟦<FileDisk as Disk>⟧.state session.disk) session.state) }
+    ensures refused { IfErr result (λ number. IsRefusedBy choice.now number) }
+{
     let alloc = rt.alloc();
     let (file, make) = match choice {
         Choice::New(file) => (file, true),
@@ -98,7 +104,5 @@ fn main(rt: HostRuntime) -> io::Result<ExitCode> {
     }
 }
 
-#[cfg(test)]
-mod host_tests;
 #[cfg(test)]
 mod tests;

@@ -1,9 +1,9 @@
 //! Whole sessions, over disks in memory and over a file of the host.
 ghost use Rattle.std.specs.Prelude.{Some, ◌≡◌};
 
+use crate::FileDisk;
 use crate::ends::{ShellEnd, status};
 use crate::faults::SessionFault;
-use crate::file_disk::FileDisk;
 use crate::session::Session;
 use crate::shell::run_shell;
 use mcs_disk::{Disk, FuseDisk, MemDisk};

@@ -1,0 +1,2 @@
+pub mod FileKept
+pub mod WordsGiven

@@ -1,0 +1,58 @@
+-- What a parse of the words gives: whether it entered a subcommand, which one, and the FILE in it.
+use Rattle.std.proofs.Common.{◌≡◌, ◌∙◌, sym, ap, refl, List, Bool, true, false, ◌||◌, if◌then◌else◌, Option, Some, None, codes, option_map}
+use Rattle.std.specs.Prelude.{option_and_then, Box}
+use Rattle.std.specs.Box.{box_value}
+use Rattle.std.specs.Str.{bytes_eq}
+use Rattle.clap.specs.Words.{Row, Text, first_of, first_value, found_of, rows_of, subcommand_name_of, subcommand_of, subcommand_rows, subcommand_rows_of}
+use Rattle.clap.specs.declared.parser.matches.ArgMatches.{ArgMatches}
+use Rattle.clap.specs.declared.parser.matches.ArgMatches.TheViews.{out-ArgMatches, out-SubCommand}
+use Rattle.clap.specs.declared.parser.matches.SubCommand.{SubCommand}
+use Rattle.clap.proofs.WalkLemmas.{first_value-rows}
+use Rattle.mcs_host.specs.CommandLine.{chosen, file_in, program}
+
+-- a name and rows that are there belong together
+both_there : (entered : Option (Text × List Row)) (name : Text) (rows : List Row) → option_map (λ p. p.0) entered ≡ Some name → option_map (λ p. p.1) entered ≡ Some rows → entered ≡ Some (name, rows)
+both_there None name rows named rowed = absurd (cc)
+both_there (Some p) name rows named rowed =
+    let same_name : p.0 ≡ name = cc in
+    let same_rows : p.1 ≡ rows = cc in
+    ap (λ n. Some (n, p.1)) same_name ∙ ap (λ r. Some (name, r)) same_rows
+
+-- the name that the matches tell is that of their rows
+names_agree : {Z : Type 0} (sub : Option (Box SubCommand Z)) → option_map (λ p. p.0) (subcommand_rows sub) ≡ option_map (λ b. (out-SubCommand (box_value b)).name.now) sub
+names_agree None = refl
+names_agree (Some b) = refl
+
+no_rows : {Z : Type 0} (sub : Option (Box SubCommand Z)) → option_map (λ b. (out-SubCommand (box_value b)).name.now) sub ≡ None → subcommand_rows sub ≡ None
+no_rows None unnamed = refl
+no_rows (Some b) unnamed = absurd (cc)
+
+-- the parse entered this subcommand
+pub chosen_from : (words : List Text) (m sub : ArgMatches) (name : Text) → subcommand_rows_of m ≡ subcommand_of program words
+    → subcommand_name_of m ≡ Some name
+    → option_map (λ p. p.1) (subcommand_rows (out-ArgMatches m).subcommand) ≡ Some (rows_of (found_of sub))
+    → chosen words ≡ file_in (name, rows_of (found_of sub))
+unfolding chosen
+chosen_from words m sub name parsed named rowed = ap (option_and_then file_in)
+    (sym parsed ∙ both_there (subcommand_rows_of m) name (rows_of (found_of sub)) (names_agree (out-ArgMatches m).subcommand ∙ named) rowed)
+
+-- the parse entered none
+pub chosen_none : (words : List Text) (m : ArgMatches) → subcommand_rows_of m ≡ subcommand_of program words → subcommand_name_of m ≡ None → chosen words ≡ None
+unfolding chosen
+chosen_none words m parsed unnamed = ap (option_and_then file_in) (sym parsed ∙ no_rows (out-ArgMatches m).subcommand unnamed)
+
+pub file_in_new : (sub : ArgMatches) (file : Text) → first_value (found_of sub) (codes "FILE") ≡ Some file → file_in (codes "new", rows_of (found_of sub)) ≡ Some (codes "new", file)
+file_in_new sub file found = ap (option_map (λ f. (codes "new", f))) (sym (first_value-rows (found_of sub) (codes "FILE")) ∙ found)
+
+pub file_in_open : (sub : ArgMatches) (file : Text) → first_value (found_of sub) (codes "FILE") ≡ Some file → file_in (codes "open", rows_of (found_of sub)) ≡ Some (codes "open", file)
+file_in_open sub file found = ap (option_map (λ f. (codes "open", f))) (sym (first_value-rows (found_of sub) (codes "FILE")) ∙ found)
+
+either_way : (v : Bool) (x : Option (Text × Text)) → (if v then x else x) ≡ x
+either_way true x = refl
+either_way false x = refl
+
+pub no_file : (sub : ArgMatches) (name : Text) → first_value (found_of sub) (codes "FILE") ≡ None → file_in (name, rows_of (found_of sub)) ≡ None
+no_file sub name missing =
+    let none : first_of (codes "FILE") (rows_of (found_of sub)) ≡ None = sym (first_value-rows (found_of sub) (codes "FILE")) ∙ missing in
+    ap (λ r. if bytes_eq name (codes "new") || bytes_eq name (codes "open") then option_map (λ f. (name, f)) r else None) none
+    ∙ either_way (bytes_eq name (codes "new") || bytes_eq name (codes "open")) None

@@ -1,0 +1,36 @@
+-- The command line of the program, and what its words mean by clap's definition of the matches. (Our own choice.)
+use Rattle.std.specs.Prelude.{List, Bool, true, codes, Option, None, ◌||◌, if◌then◌else◌, option_map, option_and_then}
+use Rattle.std.specs.Str.{bytes_eq}
+use Rattle.clap.specs.Words.{App, Row, Rule, Text, first_of, new_app, new_rule, subcommand_of, takes, with_rule, with_subcommand}
+use Rattle.mcs_host.specs.declared.words.Choice.{Choice}
+use Rattle.mcs_host.specs.declared.words.Choice.TheVariants.{New, Open}
+
+-- the word FILE, which has to be given
+abbrev pub file_rule : Rule
+file_rule = record (new_rule (codes "FILE")) { required = true }
+
+-- a subcommand of this name, with a FILE
+abbrev pub over_file : Text → App
+over_file name = with_rule (new_app name) file_rule
+
+-- `mcs4 new FILE` and `mcs4 open FILE`
+abbrev pub program : App
+program = with_subcommand (with_subcommand (new_app (codes "mcs4")) (over_file (codes "new")).top) (over_file (codes "open")).top
+
+-- clap's definition takes these words, the program's name first
+unfoldable pub is_taken : List Text → Bool
+is_taken words = takes program words
+
+-- `new` or `open`, with its FILE
+abbrev pub file_in : Text × List Row → Option (Text × Text)
+file_in entered = if bytes_eq entered.0 (codes "new") || bytes_eq entered.0 (codes "open")
+    then option_map (λ file. (entered.0, file)) (first_of (codes "FILE") entered.1) else None
+
+-- the subcommand and the FILE that clap's definition of the matches gives for these words
+unfoldable pub chosen : List Text → Option (Text × Text)
+chosen words = option_and_then file_in (subcommand_of program words)
+
+-- a choice as a subcommand and its FILE
+abbrev pub meant : Choice → Text × Text
+meant (New file) = (codes "new", file)
+meant (Open file) = (codes "open", file)

@@ -1,0 +1,4 @@
+pub mod CommandLine
+pub mod FileCalls
+pub mod FileDisk
+pub mod StoredCalls

@@ -1,0 +1,209 @@
+//! A session file of the host, as a disk.
+ghost use Rattle.std.specs.Prelude.{◌≡◌, ◌↔◌, ◌<◌, ◌≤◌, ◌^◌, ◌+◌, ℕ, List, IfOk, OnOk, IsTrue, length, min, vec_len};
+ghost use Rattle.mcs_disk.specs.Disk.{most_faults, part, IsCall, Reads, Torn, Writes};
+ghost use Rattle.mcs_disk.specs.Memory.{put};
+ghost use Rattle.mcs_host.specs.FileCalls.{bytes_behind};
+ghost use Rattle.mcs_host.specs.declared.file_disk.FileFault.TheVariants.{Device, NoMemory};
+
+use crate::call_record::{Call, CallRecord};
+use mcs_disk::{Disk, DiskFault};
+use std::alloc::{AllocError, Global};
+use std::fs::{File, OpenOptions};
+use std::io;
+use std::os::unix::fs::FileExt;
+use std::path::Path;
+use std::rt::Files;
+use thiserror::Error;
+
+/// The size of a session file in bytes.
+const SESSION_BYTES: usize = 163_856;
+
+/// So much is seen of a longer file: one byte more than a session file has, so that its size tells that it is none.
+const MOST_BYTES: usize = SESSION_BYTES + 1;
+
+/// Why a file was not opened.
+#[derive(Clone, Copy, Debug, PartialEq, Eq, Error)]
+pub enum FileFault {
+    /// The host refused to open the file, to make it, to fill it or to read it.
+    #[error("the host refused the file")]
+    Device,
+    /// There was no memory for the bytes of the file.
+    #[error("out of memory")]
+    NoMemory,
+}
+
+impl From<io::Error> for FileFault {
+    ghost from_gives = { λ _ e. e ≡ Device };
+
+    fn from(_: io::Error) -> Self {
+        FileFault::Device
+    }
+}
+
+impl From<AllocError> for FileFault {
+    ghost from_gives = { λ _ e. e ≡ NoMemory };
+
+    fn from(_: AllocError) -> Self {
+        FileFault::NoMemory
+    }
+}
+
+/// A session file of the host, as a disk.
+///
+/// The file stays open. Its bytes are read once, as it is opened, and kept in step with each write from then on. So a read that gives
+/// other bytes than those is found out, and is a device fault. What no call can find out is the premise, `honest`: that what is found in
+/// the file after a power cut is one of the images of a disk with these calls.
+///
+/// Of a file of more than 163,857 bytes only the first 163,857 are seen. No session file has that size.
+#[derive(Drop)]
+pub struct FileDisk {
+    file: File,
+    bytes: Vec<u8>,
+    faults: u64,
+    history: CallRecord,
+    ghost kept: { bytes.items ≡ bytes_behind history.start history.calls },
+}
+
+impl FileDisk {
+    ghost use Rattle.mcs_host.specs.FileDisk.{IsOpened};
+
+    /// Opens a file for reading and writing. Where `make` is true, the file is made where it is not there, and filled with 163,856
+    /// zero bytes where it is empty. What it holds is on the device by then.
+    ///
+    /// `Device` comes where the host refuses the file, and `NoMemory` where there is no memory for its bytes.
+    pub fn open_at<R: Files<File = File>>(
+        rt: &R,
+        alloc: Global,
+        file: &str,
+        make: bool,
+    ) -> Result<FileDisk, FileFault>
+        ensures opened { IfOk result (λ disk. IsOpened (⟦<FileDisk as Disk>⟧.state disk)) }
+        ensures at_most { IfOk result (λ disk. (⟦<FileDisk as Disk>⟧.state disk).size ≤ 163857) }
+        ensures not_empty { IsTrue make → IfOk result (λ disk. 0 < (⟦<FileDisk as Disk>⟧.state disk).size) }
+    {
+        // First, so that where there is no memory the host is asked for nothing.
+        let mut bytes = zeros(alloc, MOST_BYTES)?;
+        let opened = OpenOptions::new()
+            .read(true)
+            .write(true)
+            .create(make)
+            .open(rt, file)?;
+        let found = opened.metadata()?.len().min(MOST_BYTES as u64) as usize;
+        let is_filled = make && found == 0;
+        bytes.truncate(if is_filled { SESSION_BYTES } else { found });
+        if is_filled {
+            fill(&opened, &bytes)?;
+            sync_folder(rt, file)?;
+        }
+        opened.sync_all()?;
+        opened.read_exact_at(&mut bytes, 0)?;
+        let history = CallRecord::new(&bytes);
+        Ok(FileDisk {
+            file: opened,
+            bytes,
+            faults: 0,
+            history,
+        })
+    }
+
+    // The file holds these bytes from `at` on, as far as what was written to it tells.
+    fn holds(&self, at: usize, given: &[u8]) -> bool
+        requires { at + length given.now ≤ length self.now.bytes.items }
+        ensures { IsTrue result ↔ (given.now ≡ part at (length given.now) self.now.bytes.items) }
+    {
+        given == &self.bytes[at..at + given.len()]
+    }
+
+    // Counts a fault and does nothing else.
+    fn fail(&mut self) -> DiskFault
+        ensures bytes { self.new.bytes ≡ self.old.bytes }
+        ensures history { self.new.history ≡ self.old.history }
+        ensures fault { self.new.faults ≡ min (self.old.faults + 1) most_faults }
+    {
+        self.faults = self.faults.saturating_add(1);
+        DiskFault
+    }
+}
+
+// So many zero bytes.
+fn zeros(alloc: Global, size: usize) -> Result<Vec<u8>, AllocError>
+    ensures { IfOk result (λ bytes. vec_len bytes ≡ size) }
+{
+    vec![in alloc; 0u8; size]
+}
+
+// Writes these bytes, which are zeros, to an empty file. It has its size at once, so that a fill that stops half way leaves a file that
+// a new session can still be begun in.
+fn fill(file: &File, zeros: &[u8]) -> io::Result<()> {
+    file.set_len(zeros.len() as u64)?;
+    file.write_all_at(zeros, 0)
+}
+
+// Makes the name of a file that was made stay after a power cut.
+fn sync_folder<R: Files<File = File>>(rt: &R, file: &str) -> io::Result<()> {
+    let folder = match Path::new(file).parent() {
+        Some(folder) if !folder.as_str().is_empty() => folder.as_str(),
+        _ => ".",
+    };
+    File::open(rt, folder)?.sync_all()
+}
+
+// Writes over the bytes from `at` on.
+fn overwrite(bytes: &mut [u8], at: usize, from: &[u8])
+    requires { at + length from.now ≤ length bytes.old }
+    ensures { bytes.new ≡ put at from.now bytes.old }
+{
+    bytes[at..at + from.len()].copy_from_slice(from);
+}
+
+impl Disk for FileDisk {
+    ghost use Rattle.mcs_host.specs.FileDisk.{file_state, file_lawful};
+
+    ghost state = { λ d. file_state d.faults d.bytes.items d.history };
+
+    ghost lawful = { λ d honest. file_lawful d.faults d.bytes.items d.history d.kept };
+
+    fn size(&self) -> usize {
+        self.bytes.len()
+    }
+
+    fn read(&mut self, at: usize, into: &mut [u8]) -> Result<(), DiskFault>
+        requires { at + length into.old ≤ (⟦<FileDisk as Disk>⟧.state self.old).size }
+        ensures call { IsCall (⟦<FileDisk as Disk>⟧.state self.old) (⟦<FileDisk as Disk>⟧.state self.new) result }
+        ensures honest { (⟦<FileDisk as Disk>⟧.state self.old).honest → Reads at into.old into.new (⟦<FileDisk as Disk>⟧.state self.old) (⟦<FileDisk as Disk>⟧.state self.new) result }
+        // On every file, honest or not.
+        ensures given { OnOk result (into.new ≡ part at (length into.old) (⟦<FileDisk as Disk>⟧.state self.old).bytes) }
+    {
+        let answer = self.file.read_exact_at(into, at as u64);
+        if answer.is_err() || !self.holds(at, into) {
+            return Err(self.fail());
+        }
+        self.history.note(&Call::Read, &[]);
+        Ok(())
+    }
+
+    fn write(&mut self, at: usize, from: &[u8]) -> Result<(), DiskFault>
+        requires { at + length from.now ≤ (⟦<FileDisk as Disk>⟧.state self.old).size }
+        ensures call { IsCall (⟦<FileDisk as Disk>⟧.state self.old) (⟦<FileDisk as Disk>⟧.state self.new) result }
+        ensures honest { (⟦<FileDisk as Disk>⟧.state self.old).honest → Writes at from.now (⟦<FileDisk as Disk>⟧.state self.old) (⟦<FileDisk as Disk>⟧.state self.new) result }
+        // Also where the write failed: it may have reached any part of the range.
+        ensures torn { (d c : List ℕ) → (⟦<FileDisk as Disk>⟧.state self.old).images d → Torn at (length from.now) d c → (⟦<FileDisk as Disk>⟧.state self.new).images c }
+    {
+        if self.file.write_all_at(from, at as u64).is_err() {
+            self.history.note(&Call::FailedWrite(at), from);
+            return Err(self.fail());
+        }
+        self.history.note(&Call::Write(at), from);
+        overwrite(&mut self.bytes, at, from);
+        Ok(())
+    }
+
+    // The size of the file never changes here, so its data are all that has to be synced.
+    fn sync(&mut self) -> Result<(), DiskFault> {
+        if self.file.sync_data().is_err() {
+            return Err(self.fail());
+        }
+        self.history.note(&Call::Sync, &[]);
+        Ok(())
+    }
+}

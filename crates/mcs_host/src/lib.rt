@@ -1,0 +1,17 @@
+//! The host's side of the program: what the words of its command line choose, and a session file as a disk.
+//!
+//! [`choice`] reads the command line. [`FileDisk`] is a file of the host behind the trait `Disk` of mcs_disk; that it keeps what
+//! it was given over a power cut is a premise on the host and no theorem.
+#![tactic(auto)]
+
+mod call_record;
+mod command_line;
+mod file_disk;
+mod words;
+
+pub use command_line::choice;
+pub use file_disk::{FileDisk, FileFault};
+pub use words::{Choice, FileName, WordsFault};
+
+#[cfg(test)]
+mod tests;

@@ -1,0 +1,87 @@
+use crate::{Choice, FileDisk, FileFault, WordsFault, choice};
+use mcs_disk::{Disk, DiskFault};
+use std::alloc::Global;
+use std::fs;
+use std::test::Fail;
+
+#[test]
+fn a_new_file_is_blank_and_keeps_what_is_written(rt: HostRuntime) -> Result<(), Fail> {
+    let path = "mcs_host_file_disk_test.mcs";
+    let _ = fs::remove_file(&rt, path);
+    assert_eq!(rt;
+        FileDisk::open_at(&rt, rt.alloc(), path, false).err(),
+        Some(FileFault::Device)
+    );
+    let mut disk = FileDisk::open_at(&rt, rt.alloc(), path, true)?;
+    assert_eq!(rt; disk.size(), 163_856);
+    let mut bytes = [1u8; 4];
+    disk.read(163_852, &mut bytes)?;
+    assert_eq!(rt; bytes, [0, 0, 0, 0]);
+    disk.write(2, &[7, 8])?;
+    disk.sync()?;
+    let mut again = FileDisk::open_at(&rt, rt.alloc(), path, true)?;
+    assert_eq!(rt; again.size(), 163_856);
+    again.read(0, &mut bytes)?;
+    assert_eq!(rt; bytes, [0, 0, 7, 8]);
+    // The second handle has written here, so what the first reads is not what it wrote.
+    again.write(2, &[9])?;
+    assert_eq!(rt; disk.read(0, &mut bytes), Err(DiskFault));
+    fs::remove_file(&rt, path)?;
+    Ok(())
+}
+
+#[test]
+fn a_file_of_another_size_is_seen_as_one(rt: HostRuntime) -> Result<(), Fail> {
+    let path = "mcs_host_file_size_test.mcs";
+    fs::write(&rt, path, b"short".as_slice())?;
+    let short = FileDisk::open_at(&rt, rt.alloc(), path, true)?;
+    assert_eq!(rt; short.size(), 5);
+    let long = vec![in rt.alloc(); 1u8; 163_900]?;
+    fs::write(&rt, path, long.as_slice())?;
+    let mut seen = FileDisk::open_at(&rt, rt.alloc(), path, true)?;
+    assert_eq!(rt; seen.size(), 163_857);
+    let mut last = [0u8; 1];
+    seen.read(163_856, &mut last)?;
+    assert_eq!(rt; last, [1]);
+    fs::remove_file(&rt, path)?;
+    Ok(())
+}
+
+/// Whether the words choose a new session in this file.
+fn makes(alloc: Global, words: &[&str], name: &str) -> bool {
+    match choice(alloc, words) {
+        Ok(Choice::New(file)) => file.as_str() == name,
+        Ok(Choice::Open(_)) | Err(_) => false,
+    }
+}
+
+/// Whether the words choose the session that is in this file.
+fn opens(alloc: Global, words: &[&str], name: &str) -> bool {
+    match choice(alloc, words) {
+        Ok(Choice::Open(file)) => file.as_str() == name,
+        Ok(Choice::New(_)) | Err(_) => false,
+    }
+}
+
+/// Whether the words are none of the program's.
+fn is_usage(alloc: Global, words: &[&str]) -> bool {
+    match choice(alloc, words) {
+        Err(WordsFault::Usage) => true,
+        Ok(_) | Err(WordsFault::NoMemory) => false,
+    }
+}
+
+#[test]
+fn words_choose(rt: HostRuntime) -> Result<(), Fail> {
+    let alloc = rt.alloc();
+    assert_eq!(rt; makes(alloc, &["mcs4", "new", "s.mcs"], "s.mcs"), true);
+    assert_eq!(rt; opens(alloc, &["mcs4", "open", "s.mcs"], "s.mcs"), true);
+    assert_eq!(rt; is_usage(alloc, &["mcs4"]), true);
+    assert_eq!(rt; is_usage(alloc, &["mcs4", "frob"]), true);
+    assert_eq!(rt; is_usage(alloc, &["mcs4", "new"]), true);
+    assert_eq!(rt; is_usage(alloc, &["mcs4", "open"]), true);
+    assert_eq!(rt; is_usage(alloc, &["mcs4", "--help"]), true);
+    assert_eq!(rt; is_usage(alloc, &["mcs4", "help"]), true);
+    assert_eq!(rt; is_usage(alloc, &["mcs4", "new", "a", "b"]), true);
+    Ok(())
+}

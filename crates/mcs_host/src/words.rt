@@ -1,0 +1,62 @@
+//! What the words of the command line choose.
+ghost use Rattle.std.specs.Prelude.{◌≡◌, ℕ, List, string_bytes};
+ghost use Rattle.mcs_host.specs.declared.words.WordsFault.TheVariants.{NoMemory};
+
+use std::alloc::AllocError;
+use std::marker::Model;
+use thiserror::Error;
+
+/// The name of a session file, as the words give it. Contracts see its bytes.
+#[derive(Drop)]
+pub struct FileName {
+    name: String,
+}
+
+impl Model for FileName {
+    ghost Value = { List ℕ };
+
+    ghost view = { λ f. string_bytes f.name };
+}
+
+impl FileName {
+    pub(crate) fn new(name: String) -> FileName
+        ensures { result ≡ string_bytes name }
+    {
+        FileName { name }
+    }
+
+    /// The name, to open the file by.
+    pub fn as_str(&self) -> &str
+        ensures { result.now ≡ self.now }
+    {
+        self.name.as_str()
+    }
+}
+
+/// What the program is to do.
+#[derive(Drop)]
+pub enum Choice {
+    /// Begin a new session in this file.
+    New(FileName),
+    /// Go on with the session in this file.
+    Open(FileName),
+}
+
+/// Why words choose nothing.
+#[derive(Clone, Copy, Debug, PartialEq, Eq, Error)]
+pub enum WordsFault {
+    /// The words are none of the program's: the usage is shown.
+    #[error("usage: mcs4 new FILE or mcs4 open FILE")]
+    Usage,
+    /// There was no memory.
+    #[error("out of memory")]
+    NoMemory,
+}
+
+impl From<AllocError> for WordsFault {
+    ghost from_gives = { λ _ e. e ≡ NoMemory };
+
+    fn from(_: AllocError) -> Self {
+        WordsFault::NoMemory
+    }
+}
