@@ -1,9 +1,45 @@
--- A name among names, on slices and on lists.
-use Rattle.std.proofs.Common.{◌≡◌, ℕ, ◌||◌, List, [], ◌∷◌, map, refl, ap, Bor}
+-- A name among names, on slices and on lists, and in a map of the names.
+use Rattle.std.proofs.Common.{◌≡◌, true≢false, ℕ, ◌||◌, Bool, true, false, cond, List, [], ◌∷◌, ◌++◌, map, refl, sym, ap, ◌∙◌, Bor, Option, Some}
 use Rattle.std.specs.List.{list_any}
 use Rattle.std.specs.Str.{bytes_eq}
-use Rattle.mcs_model.specs.Assembly.{is_known}
+use Rattle.std.specs.Ordering.{nat_cmp}
+use Rattle.std.specs.Cmp.Lexicographic.{slice_cmp}
+use Rattle.std.specs.BTreeMap.{BTreeMap, UpdatesBy}
+use Rattle.std.proofs.lemmas.Map.Text.{btree_map_updates_str}
+use Rattle.std.proofs.lemmas.Slice.Eq.{bytes_eq-Decides}
+use Rattle.std.proofs.lemmas.List.{map_push}
+use Rattle.std.proofs.lemmas.Bool.{false_from_ne_true, or_parts}
+use Rattle.mcs_model.specs.Assembly.{Names, is_known, value_of}
+use Rattle.mcs_asm.specs.View.{Tells}
 
 pub known_seen : (w : List ℕ) (es : List (Bor (List ℕ) × ℕ)) → list_any (λ e. bytes_eq e.0.now w) es ≡ is_known w (map (λ e. (e.0.now, e.1)) es)
 known_seen w [] = refl
 known_seen w (e ∷ es) = ap (λ b. bytes_eq e.0.now w || b) (known_seen w es)
+
+-- ---- one more name
+
+apart : (m bs w : List ℕ) → bytes_eq m bs ≡ false → bytes_eq m w ≡ true → bytes_eq bs w ≡ false
+apart m bs w h e = false_from_ne_true (bytes_eq bs w) (λ t. true≢false (sym ((bytes_eq-Decides m bs).1 ((bytes_eq-Decides m w).0 e ∙ sym ((bytes_eq-Decides bs w).0 t))) ∙ h))
+
+kept : (a b : Bool) (first last rest whole : Option ℕ) → (a ≡ true → b ≡ false) → whole ≡ cond b last rest → cond a first whole ≡ cond b last (cond a first rest)
+kept true b first last rest whole h is = rw (h refl) refl
+kept false b first last rest whole h is = is
+
+value_pushed : (bs : List ℕ) (v : ℕ) (names : Names) → is_known bs names ≡ false → (w : List ℕ) → value_of w (names ++ (bs, v) ∷ []) ≡ cond (bytes_eq bs w) (Some v) (value_of w names)
+value_pushed bs v [] h w = refl
+value_pushed bs v (n ∷ names) h w =
+    kept (bytes_eq n.0 w) (bytes_eq bs w) (Some n.1) (Some v) (value_of w names) (value_of w (names ++ (bs, v) ∷ []))
+    (apart n.0 bs w (or_parts (bytes_eq n.0 bs) (is_known bs names) h).0) (value_pushed bs v names (or_parts (bytes_eq n.0 bs) (is_known bs names) h).1 w)
+
+pub tells_more : (bs : List ℕ) (v : ℕ) (old new : BTreeMap (Bor (List ℕ)) ℕ) (names : Names) → is_known bs names ≡ false
+    → UpdatesBy (λ x y. slice_cmp nat_cmp x.now y.now) (λ k. slice_cmp nat_cmp bs k.now) old new (Some v) → Tells old names → Tells new (names ++ (bs, v) ∷ [])
+tells_more bs v old new names h more before w =
+    btree_map_updates_str bs old new (Some v) more w ∙ (ap (λ (o : Option ℕ). cond (bytes_eq bs w) (Some v) o) (before w) ∙ sym (value_pushed bs v names h w))
+
+abbrev pub seen : List (Bor (List ℕ) × ℕ) → Names
+seen es = map (λ e. (e.0.now, e.1)) es
+
+pub tells_pushed : (name : Bor (List ℕ)) (v : ℕ) (old new : BTreeMap (Bor (List ℕ)) ℕ) (es more : List (Bor (List ℕ) × ℕ)) → more ≡ es ++ (name, v) ∷ [] → is_known name.now (seen es) ≡ false
+    → UpdatesBy (λ x y. slice_cmp nat_cmp x.now y.now) (λ k. slice_cmp nat_cmp name.now k.now) old new (Some v) → Tells old (seen es) → Tells new (seen more)
+tells_pushed name v old new es more is h updates before =
+    rw (is, map_push {Y = List ℕ × ℕ} (λ (e : Bor (List ℕ) × ℕ). (e.0.now, e.1)) es (name, v)) (tells_more name.now v old new (seen es) h updates before)

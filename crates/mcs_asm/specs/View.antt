@@ -1,6 +1,10 @@
 -- What tokens and statements of the program stand for.
 use Rattle.std.specs.Prelude.{◌≡◌, ◌+◌, ◌∷◌, [], List, ℕ, map, option_map, Option, Some, Result, Ok, Err, None, Bool, false, not, ◌==◌}
 use Rattle.std.specs.Option.{option_copied, option_to_list}
+use Rattle.std.specs.Borrow.{Bor}
+use Rattle.std.specs.Ordering.{nat_cmp}
+use Rattle.std.specs.Cmp.Lexicographic.{slice_cmp}
+use Rattle.std.specs.BTreeMap.{BTreeMap, get_by}
 use Rattle.mcs_code.specs.declared.spelling.Words.{Words}
 use Rattle.mcs_asm.specs.declared.tokens.Token.{Token}
 use Rattle.mcs_asm.specs.declared.tokens.Token.TheVariants as code
@@ -122,3 +126,7 @@ Spells (Err f) wanted = FailsAs f.kind f.line wanted
 abbrev pub HasNoFault : ℕ → Option lines.Line → Type 0
 HasNoFault at None = ⊥
 HasNoFault at (Some line) = (spelt.is_bad_place line ≡ false) × (spelt.passes_end line at ≡ false)
+
+-- a map has the names with their values
+abbrev pub Tells : BTreeMap (Bor (List ℕ)) ℕ → spelt.Names → Type 0
+Tells values names = (w : List ℕ) → get_by (λ k. slice_cmp nat_cmp w k.now) values ≡ spelt.value_of w names

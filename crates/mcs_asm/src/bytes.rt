@@ -14,10 +14,10 @@ use mcs_nibble::{Addr, Nibble};
 use std::alloc::{AllocError, Global};
 
 /// The values of some operands; None where a name has none.
-fn values(
+fn values<'a>(
     alloc: Global,
-    names: &Names<'_>,
-    operands: &[Operand<'_>],
+    names: &Names<'a>,
+    operands: &[Operand<'a>],
 ) -> Result<Option<Vec<u64>>, AllocError>
     ensures { IfOk result (λ o. option_map (λ v. v.items) o ≡ values_in names.now.names (map operand_view operands.now)) }
 {
@@ -51,7 +51,11 @@ fn cut(alloc: Global, values: &[u64]) -> Result<Vec<u8>, AllocError>
 }
 
 /// The bytes of a `DB`.
-fn data(alloc: Global, names: &Names<'_>, operands: &[Operand<'_>]) -> Result<Vec<u8>, FaultKind>
+fn data<'a>(
+    alloc: Global,
+    names: &Names<'a>,
+    operands: &[Operand<'a>],
+) -> Result<Vec<u8>, FaultKind>
     ensures { StepsTo (λ v. v.items) result (known (values_in names.now.names (map operand_view operands.now)) (λ ns. within (list_all (λ n. nat_lt n 256) ns) (Ok ns))) }
 {
     let Some(values) = values(alloc, names, operands)? else {
@@ -64,7 +68,7 @@ fn data(alloc: Global, names: &Names<'_>, operands: &[Operand<'_>]) -> Result<Ve
 }
 
 /// The value of an operand; a name that no line defines is refused.
-fn value(names: &Names<'_>, operand: &Operand<'_>) -> Result<u64, LineFault>
+fn value<'a>(names: &Names<'a>, operand: &Operand<'a>) -> Result<u64, LineFault>
     ensures { result ≡ known (value_in names.now.names (operand_view operand.now)) (λ n. Ok n) }
 {
     names.value(operand).ok_or(LineFault::UnknownName)
@@ -110,7 +114,7 @@ fn near(at: u16, target: Addr) -> Result<u8, LineFault>
 }
 
 /// The instruction of a statement at an address; an `ORG` has none.
-fn op(at: u16, names: &Names<'_>, statement: &Statement<'_>) -> Result<Option<Op>, LineFault>
+fn op<'a>(at: u16, names: &Names<'a>, statement: &Statement<'a>) -> Result<Option<Op>, LineFault>
     requires start { at ≤ 4096 }
     requires statement { IsNoData (statement_view statement.now) }
     ensures { SaysOp result (bytes_at at names.now.names (statement_view statement.now)) }
@@ -160,11 +164,11 @@ fn listed(alloc: Global, words: Words) -> Result<Vec<u8>, AllocError>
 }
 
 /// The bytes that a statement at an address spells.
-fn statement_bytes(
+fn statement_bytes<'a>(
     alloc: Global,
     at: u16,
-    names: &Names<'_>,
-    statement: &Statement<'_>,
+    names: &Names<'a>,
+    statement: &Statement<'a>,
 ) -> Result<Vec<u8>, FaultKind>
     requires { at ≤ 4096 }
     ensures { StepsTo (λ v. v.items) result (bytes_at at names.now.names (statement_view statement.now)) }
@@ -179,11 +183,11 @@ fn statement_bytes(
 }
 
 /// The bytes that a line at an address spells.
-pub fn line_bytes(
+pub fn line_bytes<'a>(
     alloc: Global,
     at: u16,
-    names: &Names<'_>,
-    line: &Line<'_>,
+    names: &Names<'a>,
+    line: &Line<'a>,
 ) -> Result<Vec<u8>, FaultKind>
     requires { at ≤ 4096 }
     ensures { StepsTo (λ v. v.items) result (line_bytes at names.now.names (line_view line.now)) }

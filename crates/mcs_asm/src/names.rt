@@ -1,16 +1,21 @@
 //! The names of a text, and the addresses of its statements.
-ghost use Rattle.std.specs.Prelude.{◌≡◌, ◌<◌, ◌≤◌, ◌^◌, ◌&&◌, length, map, option_map, is_some, IfSome, [], None, false, nat_le, ◌+◌};
+ghost use Rattle.std.specs.Prelude.{◌≡◌, ◌<◌, ◌≤◌, ◌^◌, ◌&&◌, ◌++◌, ◌∷◌, length, map, option_map, is_some, IfSome, OnOk, OnErr, [], None, false, nat_le, ◌+◌};
 ghost use Rattle.std.specs.Option.{option_copied};
 ghost use Rattle.std.specs.List.{list_any};
 ghost use Rattle.std.specs.Str.{bytes_eq};
+ghost use Rattle.std.specs.Ordering.{nat_cmp};
+ghost use Rattle.std.specs.Cmp.Lexicographic.{slice_cmp};
+ghost use Rattle.std.specs.BTreeMap.{get_by};
 ghost use Rattle.mcs_asm.specs.View.{statement_view, line_view, operand_view};
-ghost use Rattle.mcs_model.specs.Assembly.{Before, start, size, statement_size, is_known, is_known_name, defined, is_bad_statement, is_bad_place, next_statement, next_at, passes_end, fault_one, after, value_of, value_in};
+ghost use Rattle.mcs_model.specs.Assembly.{Before, start, size, statement_size, is_known, is_known_name, defined, is_bad_statement, is_bad_place, next_statement, next_at, passes_end, fault_one, after, value_in};
 
 use crate::fault::LineFault;
 use crate::statements::{Line, Operand, Statement};
 use arrayvec::ArrayVec;
 use mcs_code::word_count;
 use mcs_model::limits::NAMES;
+use std::alloc::{AllocError, Global};
+use std::collections::BTreeMap;
 use std::marker::Model;
 
 /// What the lines so far say: their names with their values, and where the next statement stands.
@@ -18,18 +23,21 @@ use std::marker::Model;
 pub struct Names<'a> {
     at: u16,
     names: ArrayVec<(&'a [u8], u16), NAMES>,
+    // The same by name: a value is asked for at each operand, so no search may go over all names.
+    values: BTreeMap<&'a [u8], u16>,
 }
 
 impl<'a> Model for Names<'a> {
     //! The names of a text, and the addresses of its statements.
     ghost use Rattle.std.specs.Prelude.{map, ◌≤◌};
     ghost use Rattle.mcs_model.specs.Assembly.{Before};
+    ghost use Rattle.mcs_asm.specs.View.{Tells};
 
     ghost Value = { Before };
 
     ghost view = { λ n. record { at = n.at; names = map (λ e. (e.0.now, e.1)) n.names.items } };
 
-    ghost invariant = { λ n. n.at ≤ 4096 };
+    ghost invariant = { λ n. (n.at ≤ 4096) × Tells n.values (map (λ e. (e.0.now, e.1)) n.names.items) };
 }
 
 fn statement_size(statement: &Option<Statement<'_>>) -> usize
@@ -57,12 +65,13 @@ fn size(statement: &Statement<'_>) -> usize
 
 impl<'a> Names<'a> {
     /// Before the first line.
-    pub fn new() -> Names<'a>
+    pub fn new(alloc: Global) -> Names<'a>
         ensures { result ≡ start }
     {
         Names {
             at: 0,
             names: ArrayVec::new(),
+            values: BTreeMap::new(alloc),
         }
     }
 
@@ -113,26 +122,40 @@ impl<'a> Names<'a> {
         }
     }
 
-    /// Adds what a line without such a fault says.
-    pub fn add(&mut self, line: &Line<'a>)
+    /// Adds what a line without such a fault says. Where memory is refused nothing is added.
+    pub fn add(&mut self, line: &Line<'a>) -> Result<(), AllocError>
         requires { fault_one self.old (line_view line.now) ≡ None }
-        ensures { self.new ≡ after self.old (line_view line.now) }
+        ensures added { OnOk result (self.new ≡ after self.old (line_view line.now)) }
+        ensures unchanged { OnErr result (self.new ≡ self.old) }
     {
         match line {
-            Line::Code(Some(name), _) => self.names.push((*name, self.at)),
+            Line::Code(Some(name), _) => self.define(name, self.at)?,
             Line::Code(None, _) => {}
-            Line::Define(name, n) => self.names.push((*name, *n as u16)),
+            Line::Define(name, n) => self.define(name, *n as u16)?,
         }
         self.at = next_at(line, self.at);
+        Ok(())
+    }
+
+    /// Adds a name that is not known, where there is room for one.
+    fn define(&mut self, name: &'a [u8], value: u16) -> Result<(), AllocError>
+        requires unknown { is_known name.now self.old.names ≡ false }
+        requires room { length self.old.names < 512 }
+        ensures added { OnOk result (self.new ≡ record { at = self.old.at; names = self.old.names ++ (name.now, value) ∷ [] }) }
+        ensures unchanged { OnErr result (self.new ≡ self.old) }
+    {
+        self.values.insert(name, value)?;
+        self.names.push((name, value));
+        Ok(())
     }
 
     /// The value of an operand, where it has one.
-    pub fn value(&self, operand: &Operand<'_>) -> Option<u64>
+    pub fn value(&self, operand: &Operand<'a>) -> Option<u64>
         ensures { result ≡ value_in self.now.names (operand_view operand.now) }
     {
         match operand {
             Operand::Number(n) => Some(*n),
-            Operand::Name(name) => value_of(&self.names, name),
+            Operand::Name(name) => value_of(&self.values, name),
         }
     }
 }
@@ -143,15 +166,11 @@ fn knows(names: &[(&[u8], u16)], name: &[u8]) -> bool
     names.iter().any(|e| e.0 == name)
 }
 
-fn value_of(names: &[(&[u8], u16)], name: &[u8]) -> Option<u64>
-    ensures { result ≡ value_of name.now (map (λ e. (e.0.now, e.1)) names.now) }
+/// The value of a name.
+fn value_of<'a>(values: &BTreeMap<&'a [u8], u16>, name: &'a [u8]) -> Option<u64>
+    ensures { result ≡ get_by (λ k. slice_cmp nat_cmp name.now k.now) values.now }
 {
-    for e in names {
-        if e.0 == name {
-            return Some(u64::from(e.1));
-        }
-    }
-    None
+    values.get(&name).map(|value| u64::from(*value))
 }
 
 /// The name that a line defines.

@@ -24,10 +24,7 @@ fn step<'a>(alloc: Global, names: &mut Names<'a>, line: &'a [u8]) -> Result<(), 
     };
     match names.fault(&line) {
         Some(fault) => Err(FaultKind::Refused(fault)),
-        None => {
-            names.add(&line);
-            Ok(())
-        }
+        None => Ok(names.add(&line)?),
     }
 }
 
@@ -49,7 +46,7 @@ fn at_line(index: usize, kind: FaultKind) -> AsmFault
 fn first_pass<'a>(alloc: Global, lines: &[&'a [u8]]) -> Result<Names<'a>, AsmFault>
     ensures { Passes result (class_one 1 start (map (λ l. l.now) lines.now)) }
 {
-    let mut names = Names::new();
+    let mut names = Names::new(alloc);
     for i in 0..lines.len() {
         match step(alloc, &mut names, lines[i]) {
             Ok(()) => {}
@@ -85,7 +82,12 @@ impl Spelt {
     }
 
     /// Adds the bytes of one more line, which has no fault of class one.
-    fn spell(&mut self, alloc: Global, names: &Names<'_>, line: &[u8]) -> Result<(), FaultKind>
+    fn spell<'a>(
+        &mut self,
+        alloc: Global,
+        names: &Names<'a>,
+        line: &'a [u8],
+    ) -> Result<(), FaultKind>
         requires { HasNoFault self.old.at (line_of (tokens line.now)) }
         ensures { (pairs : List (ℕ × ℕ)) → IsKept self.old.cells pairs → Adds result self.new.at self.new.cells (with_second names.now.names (record { at = self.old.at; pairs = pairs }) (line_of (tokens line.now))) }
     {
@@ -100,7 +102,7 @@ impl Spelt {
 }
 
 /// What all lines spell, or the first fault of class two.
-fn second_pass(alloc: Global, names: &Names<'_>, lines: &[&[u8]]) -> Result<Cells, AsmFault>
+fn second_pass<'a>(alloc: Global, names: &Names<'a>, lines: &[&'a [u8]]) -> Result<Cells, AsmFault>
     requires { class_one 1 start (map (λ l. l.now) lines.now) ≡ Ok names.now }
     ensures { Spells result (pairs_of (class_two 1 names.now.names nothing_spelt (map (λ l. l.now) lines.now))) }
 {
