@@ -1,0 +1,232 @@
+-- The flat state of chips that were made, put on a board or cleared, place by place.
+use Rattle.std.proofs.Common.{◌≡◌, ℕ, ◌*◌, ◌/◌, ◌%◌, ◌<◌, ◌≤◌, inl, inr, List, [], Option, Some, None, is_some, length, get_or, slice_index, replicate, refl, sym, ap, ◌∙◌, arith, if◌then◌else◌}
+use Rattle.std.proofs.lemmas.Bool.{cases_lt}
+use Rattle.std.proofs.lemmas.List.{get_or-replicate, get_or_past, length-replicate, length-map, get_or-map}
+use Rattle.mcs_nibble.specs.declared.lines.LineMask.{LineMask}
+use Rattle.mcs_nibble.specs.Tabled.{tabled, column, grid}
+use Rattle.mcs_nibble.proofs.TabledLemmas.{length-tabled, same_tabled, tabled_from}
+use Rattle.mcs_nibble.proofs.GridLemmas.{length-grid, length-column, blank-grid, blank-column}
+use Rattle.mcs_ram4002.specs.RamBank.{BankState, blank_bank}
+use Rattle.mcs_rom4001.specs.Roms.{RomState}
+use Rattle.mcs_model.specs.declared.board.BoardParts.{BoardParts}
+use Rattle.mcs_model.specs.declared.board.ChainPart.{ChainPart}
+use Rattle.mcs_model.specs.Boards.{masks_on, chain_count, chain_bits, no_chain, key_count, empty_parts}
+use Rattle.mcs_model.specs.Bus.{zero_bus}
+use Rattle.mcs_model.specs.Places.{kept_rom, blank_chains, after_reset, after_wire}
+use Rattle.mcs_board.specs.RigState.{no_bank, bytes_of_rom, port_of_rom, masks_of_rom, wired_chains, rig_of, Fitted}
+use Rattle.mcs_board.proofs.RigLemmas.{byte-of}
+use Rattle.mcs_board.proofs.ClockLemmas.{chain-read}
+use Rattle.mcs_board.specs.Fitting.{IsSizedBus, FitsCounts, bytes_in, rewired, silenced}
+
+-- a list of 0s is 0 at each index, and beyond its end
+pub zeros : (n k : ℕ) → slice_index (replicate n 0) k ≡ 0
+zeros n k =
+    elim (cases_lt k n) [
+      | inl h ↦ get_or-replicate n k 0 0 h
+      | inr h ↦ let l = length-replicate {A = ℕ} n 0 in get_or_past (replicate n 0) k 0 (omega arith)
+    ]
+
+same_grid : {X : Type 0} (n wide : ℕ) (f : X → List ℕ) (d : X) (xs ys : List X) → ((i : ℕ) → f (get_or xs i d) ≡ f (get_or ys i d)) → grid n wide f d xs ≡ grid n wide f d ys
+unfolding grid
+same_grid n wide f d xs ys h = same_tabled (n * wide) _ _ (λ k _. ap (λ zs. slice_index zs (k % wide)) (h (k / wide)))
+
+-- each bank is as it was made
+pub record AllBlank (banks : List BankState) (wired : ℕ → ℕ) : Type 0 where
+  pub at : (k : ℕ) → k < length banks → get_or banks k no_bank ≡ blank_bank (wired k)
+
+-- what a list of such banks shows
+record Zeros (banks : List BankState) : Type 0 where
+  ram : grid 8 256 (λ b. b.main) no_bank banks ≡ replicate 2048 0
+  status : grid 8 64 (λ b. b.status) no_bank banks ≡ replicate 512 0
+  ports : grid 8 4 (λ b. b.ports) no_bank banks ≡ replicate 32 0
+  src : column 8 (λ b. b.src) no_bank banks ≡ replicate 8 0
+
+blank-zeros : (banks : List BankState) (wired : ℕ → ℕ) → AllBlank banks wired → Zeros banks
+blank-zeros banks wired blank = record {
+  ram = blank-grid 8 256 (λ (b : BankState). b.main) no_bank banks (λ i k.
+      elim (cases_lt i (length banks)) [
+        | inl h ↦ ap (λ (b : BankState). slice_index b.main k) (blank.at i h) ∙ zeros 256 k
+        | inr h ↦ ap (λ (b : BankState). slice_index b.main k) (get_or_past banks i no_bank h)
+      ]);
+  status = blank-grid 8 64 (λ (b : BankState). b.status) no_bank banks (λ i k.
+      elim (cases_lt i (length banks)) [
+        | inl h ↦ ap (λ (b : BankState). slice_index b.status k) (blank.at i h) ∙ zeros 64 k
+        | inr h ↦ ap (λ (b : BankState). slice_index b.status k) (get_or_past banks i no_bank h)
+      ]);
+  ports = blank-grid 8 4 (λ (b : BankState). b.ports) no_bank banks (λ i k.
+      elim (cases_lt i (length banks)) [
+        | inl h ↦ ap (λ (b : BankState). slice_index b.ports k) (blank.at i h) ∙ zeros 4 k
+        | inr h ↦ ap (λ (b : BankState). slice_index b.ports k) (get_or_past banks i no_bank h)
+      ]);
+  src = blank-column 8 (λ (b : BankState). b.src) no_bank banks (λ i.
+      elim (cases_lt i (length banks)) [
+        | inl h ↦ ap (λ (b : BankState). b.src) (blank.at i h)
+        | inr h ↦ ap (λ (b : BankState). b.src) (get_or_past banks i no_bank h)
+      ]);
+}
+
+-- the chains of a board with all bits 0
+chains-blank : (b : BoardParts) (chains : List (List ℕ)) → chain_count b ≤ length chains → ((k : ℕ) → k < chain_count b → get_or chains k [] ≡ replicate (chain_bits b k) 0) → wired_chains b chains ≡ blank_chains b
+chains-blank b chains fit rows =
+    sym (tabled_from (chain_count b) (λ i. get_or chains i []) (blank_chains b) [] (length-map b.chains.items _)
+    (λ k h. get_or-map (λ (c : ChainPart). replicate (10 * c.chips) 0) b.chains.items k no_chain [] h ∙ sym (rows k h)))
+
+-- the latches of ROMs that all are 0
+ports-blank : (roms : List (Option RomState)) → ((k : ℕ) → port_of_rom (get_or roms k None) ≡ 0) → column 16 port_of_rom None roms ≡ replicate 16 0
+ports-blank roms h = blank-column 16 port_of_rom None roms h
+
+silenced-bytes : (rom : Option RomState) → bytes_of_rom (silenced rom) ≡ bytes_of_rom rom
+silenced-bytes (Some r) = refl
+silenced-bytes None = refl
+
+silenced-port : (rom : Option RomState) → port_of_rom (silenced rom) ≡ 0
+silenced-port (Some r) = refl
+silenced-port None = refl
+
+silenced-masks : (rom : Option RomState) → masks_of_rom (silenced rom) ≡ masks_of_rom rom
+silenced-masks (Some r) = refl
+silenced-masks None = refl
+
+rewired-masks : (mask : Option (List LineMask)) (rom : Option RomState) → masks_of_rom (rewired mask rom) ≡ mask
+rewired-masks (Some m) rom = refl
+rewired-masks None rom = refl
+
+rewired-port : (mask : Option (List LineMask)) (rom : Option RomState) → port_of_rom (rewired mask rom) ≡ 0
+rewired-port (Some m) rom = refl
+rewired-port None rom = refl
+
+bytes-in : (rom : Option RomState) (k : ℕ) → slice_index (bytes_in rom) k ≡ slice_index (bytes_of_rom rom) k
+bytes-in (Some r) k = refl
+bytes-in None k = zeros 256 k
+
+rewired-bytes : (mask : Option (List LineMask)) (rom : Option RomState) (k : ℕ) → slice_index (bytes_of_rom (rewired mask rom)) k ≡ (if is_some mask then slice_index (bytes_of_rom rom) k else 0)
+rewired-bytes (Some m) rom k = bytes-in rom k
+rewired-bytes None rom k = refl
+
+-- a byte of the flat list, by its ROM
+rom-at : (roms : List (Option RomState)) (at : ℕ) → at < 4096 → slice_index (grid 16 256 bytes_of_rom None roms) at ≡ slice_index (bytes_of_rom (get_or roms (at / 256) None)) (at % 256)
+rom-at roms at h = byte-of roms at (get_or roms (at / 256) None) h refl
+
+-- every place for a ROM, on a new board; beyond the places the board has none
+pub rewired-every : (b : BoardParts) (roms roms' : List (Option RomState)) → length roms' ≡ length roms → ((k : ℕ) → k < length roms → get_or roms' k None ≡ rewired (masks_on b k) (get_or roms k None)) → ((k : ℕ) → length roms ≤ k → masks_on b k ≡ None) → (k : ℕ) → get_or roms' k None ≡ rewired (masks_on b k) (get_or roms k None)
+rewired-every b roms roms' l h absent k =
+    elim (cases_lt k (length roms)) [
+      | inl below ↦ h k below
+      | inr beyond ↦ get_or_past roms' k None (omega arith) ∙ sym (ap (λ m. rewired m (get_or roms k None)) (absent k beyond))
+    ]
+
+pub silenced-every : (roms roms' : List (Option RomState)) → length roms' ≡ length roms → ((k : ℕ) → k < length roms → get_or roms' k None ≡ silenced (get_or roms k None)) → (k : ℕ) → get_or roms' k None ≡ silenced (get_or roms k None)
+silenced-every roms roms' l h k =
+    elim (cases_lt k (length roms)) [
+      | inl below ↦ h k below
+      | inr beyond ↦ get_or_past roms' k None (omega arith) ∙ sym (ap silenced (get_or_past roms k None beyond))
+    ]
+
+kept-bytes : (b : BoardParts) (roms roms' : List (Option RomState)) → ((k : ℕ) → get_or roms' k None ≡ rewired (masks_on b k) (get_or roms k None)) → grid 16 256 bytes_of_rom None roms' ≡ kept_rom b (grid 16 256 bytes_of_rom None roms)
+unfolding kept_rom
+kept-bytes b roms roms' every =
+    tabled_from 4096 (λ at. if is_some (masks_on b (at / 256)) then slice_index (grid 16 256 bytes_of_rom None roms) at else 0) (grid 16 256 bytes_of_rom None roms') 0 (length-grid 16 256 bytes_of_rom None roms')
+    (λ at h.
+    rom-at roms' at h
+    ∙ ap (λ r. slice_index (bytes_of_rom r) (at % 256)) (every (at / 256))
+    ∙ rewired-bytes (masks_on b (at / 256)) (get_or roms (at / 256) None) (at % 256)
+    ∙ ap (λ x. if is_some (masks_on b (at / 256)) then x else 0) (sym (rom-at roms at h)))
+
+-- the state of a rig on a new board
+pub wire-state : (b b' : BoardParts) (roms roms' : List (Option RomState)) (banks banks' : List BankState) (chains chains' : List (List ℕ)) (keys keys' : List ℕ) (rom_src test : ℕ) → ((k : ℕ) → get_or roms' k None ≡ rewired (masks_on b' k) (get_or roms k None)) → AllBlank banks' (slice_index b'.banks) → chain_count b' ≤ length chains' → ((k : ℕ) → k < chain_count b' → get_or chains' k [] ≡ replicate (chain_bits b' k) 0) → keys' ≡ replicate (key_count b') 0 → rig_of b' roms' banks' chains' keys' 0 test ≡ after_wire (rig_of b roms banks chains keys rom_src test) b'
+wire-state b b' roms roms' banks banks' chains chains' keys keys' rom_src test every blank fit rows up =
+    let z = blank-zeros banks' (slice_index b'.banks) blank in
+    let bytes = kept-bytes b' roms roms' every in
+    let ports = ports-blank roms' (λ k. ap port_of_rom (every k) ∙ rewired-port (masks_on b' k) (get_or roms k None)) in
+    let cs = chains-blank b' chains' fit rows in
+    rw (bytes, z.ram, z.status, z.ports, ports, z.src, cs, up) refl
+
+-- the state of a rig after a reset
+pub reset-state : (b : BoardParts) (roms roms' : List (Option RomState)) (banks banks' : List BankState) (wired : ℕ → ℕ) (chains chains' : List (List ℕ)) (keys : List ℕ) (rom_src test : ℕ) → ((k : ℕ) → get_or roms' k None ≡ silenced (get_or roms k None)) → AllBlank banks' wired → chain_count b ≤ length chains' → ((k : ℕ) → k < chain_count b → get_or chains' k [] ≡ replicate (chain_bits b k) 0) → rig_of b roms' banks' chains' keys 0 test ≡ after_reset (rig_of b roms banks chains keys rom_src test)
+reset-state b roms roms' banks banks' wired chains chains' keys rom_src test every blank fit rows =
+    let z = blank-zeros banks' wired blank in
+    let bytes = same_grid 16 256 bytes_of_rom None roms' roms (λ k. ap bytes_of_rom (every k) ∙ silenced-bytes (get_or roms k None)) in
+    let ports = ports-blank roms' (λ k. ap port_of_rom (every k) ∙ silenced-port (get_or roms k None)) in
+    let cs = chains-blank b chains' fit rows in
+    rw (bytes, z.ram, z.status, z.ports, ports, z.src, cs) refl
+
+-- the chips of a rig fit the board that it was put on
+pub wire-fitted : (b : BoardParts) (roms roms' : List (Option RomState)) (banks' : List BankState) (chains' : List (List ℕ)) (keys' : List ℕ) (rom_places bank_places chain_places chain_size : ℕ) → FitsCounts b rom_places bank_places chain_places chain_size → length roms' ≡ rom_places → length banks' ≡ bank_places → length chains' ≡ chain_places → ((k : ℕ) → get_or roms' k None ≡ rewired (masks_on b k) (get_or roms k None)) → AllBlank banks' (slice_index b.banks) → ((k : ℕ) → k < chain_count b → get_or chains' k [] ≡ replicate (chain_bits b k) 0) → keys' ≡ replicate (key_count b) 0 → Fitted b roms' banks' chains' keys' 0 rom_places bank_places chain_places
+wire-fitted b roms roms' banks' chains' keys' rom_places bank_places chain_places chain_size fits rl bl cl every blank rows up = record {
+  roms_len = rl;
+  banks_len = bl;
+  chains_len = cl;
+  keys_len = ap length up ∙ length-replicate {A = ℕ} (key_count b) 0;
+  chains_fit = fits.chains;
+  masks = λ k. ap masks_of_rom (every k) ∙ rewired-masks (masks_on b k) (get_or roms k None);
+  wired = λ k.
+      elim (cases_lt k (length banks')) [
+        | inl below ↦ ap (λ (x : BankState). x.wired) (blank.at k below)
+        | inr beyond ↦ ap (λ (x : BankState). x.wired) (get_or_past banks' k no_bank beyond) ∙ sym (fits.banks k (omega arith))
+      ];
+  bits = λ i h. ap length (rows i h) ∙ length-replicate {A = ℕ} (chain_bits b i) 0;
+  src = omega arith;
+}
+
+same-all : {X : Type 0} (n k : ℕ) (x : X) → get_or (replicate n x) k x ≡ x
+same-all n k x =
+    elim (cases_lt k n) [
+      | inl h ↦ get_or-replicate n k x x h
+      | inr h ↦ let l = length-replicate n x in get_or_past (replicate n x) k x (omega arith)
+    ]
+
+no-wired : (n k : ℕ) → (get_or (replicate n (blank_bank 0)) k no_bank).wired ≡ 0
+no-wired n k =
+    elim (cases_lt k n) [
+      | inl h ↦ ap (λ (x : BankState). x.wired) (get_or-replicate n k (blank_bank 0) no_bank h)
+      | inr h ↦ let l = length-replicate n (blank_bank 0) in ap (λ (x : BankState). x.wired) (get_or_past (replicate n (blank_bank 0)) k no_bank (omega arith))
+    ]
+
+-- the places of a new rig fit the empty board
+pub new-fitted : (b : BoardParts) (roms : List (Option RomState)) (banks : List BankState) (chains : List (List ℕ)) (keys : List ℕ) (rom_places bank_places chain_places : ℕ) → b ≡ empty_parts → roms ≡ replicate rom_places None → banks ≡ replicate bank_places (blank_bank 0) → chains ≡ replicate chain_places [] → keys ≡ [] → Fitted b roms banks chains keys 0 rom_places bank_places chain_places
+new-fitted b roms banks chains keys rom_places bank_places chain_places eb er ek ec ey =
+    rw (eb, er, ek, ec, ey) (record {
+      roms_len = length-replicate rom_places None;
+      banks_len = length-replicate bank_places (blank_bank 0);
+      chains_len = length-replicate chain_places [];
+      keys_len = refl;
+      chains_fit = omega arith;
+      masks = λ k. ap masks_of_rom (same-all rom_places k None) ∙ sym (same-all 16 k None);
+      wired = λ k. no-wired bank_places k ∙ sym (zeros 8 k);
+      bits = λ i h. absurd (omega arith);
+      src = omega arith;
+    })
+
+-- the state of a new rig
+pub new-state : (b : BoardParts) (roms : List (Option RomState)) (banks : List BankState) (chains : List (List ℕ)) (keys : List ℕ) (rom_places bank_places chain_places test : ℕ) → b ≡ empty_parts → roms ≡ replicate rom_places None → banks ≡ replicate bank_places (blank_bank 0) → keys ≡ [] → rig_of b roms banks chains keys 0 test ≡ record zero_bus { test = test }
+unfolding zero_bus tabled
+new-state b roms banks chains keys rom_places bank_places chain_places test eb er ek ey =
+    let blank : AllBlank (replicate bank_places (blank_bank 0)) (λ _. 0) = record { at = λ k h. let l = length-replicate bank_places (blank_bank 0) in get_or-replicate bank_places k (blank_bank 0) no_bank (omega arith) } in
+    let z = blank-zeros (replicate bank_places (blank_bank 0)) (λ _. 0) blank in
+    let bytes = blank-grid 16 256 bytes_of_rom None (replicate rom_places None) (λ i k. ap (λ r. slice_index (bytes_of_rom r) k) (same-all rom_places i None)) in
+    let ports = ports-blank (replicate rom_places None) (λ k. ap port_of_rom (same-all rom_places k None)) in
+    rw (eb, er, ek, ey, bytes, z.ram, z.status, z.ports, ports, z.src) refl
+
+no-rom : (rom : Option RomState) → masks_of_rom rom ≡ None → rom ≡ None
+no-rom (Some r) h = absurd (cc)
+no-rom None h = refl
+
+-- the lengths of the lists of a rig's state
+pub sized-state : (b : BoardParts) (roms : List (Option RomState)) (banks : List BankState) (chains : List (List ℕ)) (keys : List ℕ) (rom_src test rom_places bank_places chain_places : ℕ) → Fitted b roms banks chains keys rom_src rom_places bank_places chain_places → IsSizedBus (rig_of b roms banks chains keys rom_src test)
+sized-state b roms banks chains keys rom_src test rom_places bank_places chain_places v = record {
+  rom = length-grid 16 256 bytes_of_rom None roms;
+  ram = length-grid 8 256 (λ (x : BankState). x.main) no_bank banks;
+  status = length-grid 8 64 (λ (x : BankState). x.status) no_bank banks;
+  ram_ports = length-grid 8 4 (λ (x : BankState). x.ports) no_bank banks;
+  rom_ports = length-column 16 port_of_rom None roms;
+  rom_src = v.src;
+  ram_src = length-column 8 (λ (x : BankState). x.src) no_bank banks;
+  chains = length-tabled (chain_count b) _;
+  bits = λ i h. ap length (chain-read b chains i h) ∙ v.bits i h;
+  keys = v.keys_len;
+  absent = λ at none.
+      elim (cases_lt at 4096) [
+        | inl h ↦ rom-at roms at h ∙ ap (λ r. slice_index (bytes_of_rom r) (at % 256)) (no-rom (get_or roms (at / 256) None) (v.masks (at / 256) ∙ none))
+        | inr h ↦ let l = length-grid 16 256 bytes_of_rom None roms in get_or_past (grid 16 256 bytes_of_rom None roms) at 0 (omega arith)
+      ];
+}

@@ -1,0 +1,48 @@
+use Rattle.std.proofs.Common.{◌≡◌, ◌*◌, ◌<◌, ◌∙◌, [], sym, ap, arith, length, get_or, slice_set}
+use Rattle.std.proofs.lemmas.List.{get_or_default, length-set}
+use Rattle.mcs_model.specs.declared.board.ChainPart.{ChainPart}
+use Rattle.mcs_model.specs.Boards.{chain_count, chain_bits}
+use Rattle.mcs_model.specs.Bus.{BusState}
+use Rattle.mcs_model.specs.Places.{with_chain_bit}
+use Rattle.mcs_board.proofs.ClockLemmas.{chain-read, chain-write}
+use Rattle.mcs_board.proofs.FittedLemmas.{fitted-chain}
+use Rattle.mcs_board.proofs.PlaceLemmas.{chains-length, bit-no_chain, bit-beyond}
+use Rattle.mcs_board.proofs.rig.Rig.set_chain_bit.Goals as goal
+
+pub returns-then-n-chain_count : goal.returns-then-n-chain_count
+returns-then-n-chain_count g c =
+    let i = c.self.inside in
+    let many : length c.args.self.now.chains ≡ chain_count i.board = ap (λ (s : BusState). length s.chains) (sym c.self.view_is) ∙ chains-length i.board i.chains.items in
+    bit-no_chain c.args.self.now c.args.chain c.args.i c.args.bit (omega arith)
+
+pub returns-then-place-from : goal.returns-then-place-from
+returns-then-place-from g c =
+    let i = c.self.inside in
+    let s = c.args.self.now in
+    let within : c.args.chain < chain_count i.board = omega arith in
+    let row : get_or s.chains c.args.chain [] ≡ get_or i.chains.items c.args.chain [] = ap (λ (t : BusState). get_or t.chains c.args.chain []) (sym c.self.view_is) ∙ chain-read i.board i.chains.items c.args.chain within in
+    let bits : c.from.result ≡ chain_bits i.board c.args.chain = c.from.ensures ∙ c.bits.ensures ∙ ap (λ (p : ChainPart). 10 * p.chips) c.chain.ensures ∙ ap (chain_bits i.board) c.from-n.ensures in
+    let len : length (get_or s.chains c.args.chain []) ≡ c.from.result = ap length row ∙ c.self.invariant.bits c.args.chain within ∙ sym bits in
+    bit-beyond s c.args.chain c.args.i c.args.bit (omega arith)
+
+pub invariant_of-self : goal.invariant_of-self
+invariant_of-self g c =
+    let i = c.self.inside in
+    let there : c.from-n.result < length i.chains.items = omega (arith, c.self.invariant.chains_len, c.self.invariant.chains_fit) in
+    let row : c.index_mut.result.now ≡ get_or i.chains.items c.from-n.result [] = c.index_mut.ensures.value ∙ get_or_default i.chains.items c.from-n.result c.index_mut.result.now [] there in
+    fitted-chain c.self.invariant c.from-n.result c.set_bit.new.self there (ap length c.set_bit.ensures ∙ length-set c.index_mut.result.now c.from-place.result c.args.bit ∙ ap length row)
+
+pub returns : goal.returns
+returns g c =
+    let i = c.self.inside in
+    let s = c.args.self.now in
+    let n = c.from-n.result in
+    let within : n < chain_count i.board = omega arith in
+    let there : n < length i.chains.items = omega (arith, c.self.invariant.chains_len, c.self.invariant.chains_fit) in
+    let row : c.index_mut.result.now ≡ get_or s.chains n [] = c.index_mut.ensures.value ∙ get_or_default i.chains.items n c.index_mut.result.now [] there ∙ sym (chain-read i.board i.chains.items n within) ∙ ap (λ (t : BusState). get_or t.chains n []) c.self.view_is in
+    let new : c.set_bit.new.self ≡ slice_set (get_or s.chains n []) c.from-place.result c.args.bit = c.set_bit.ensures ∙ ap (λ xs. slice_set xs c.from-place.result c.args.bit) row in
+    chain-write i.board i.roms.items i.banks.items i.chains.items i.keys.items i.rom_src i.test n c.set_bit.new.self within there
+    ∙ ap (λ (t : BusState). record t { chains = slice_set t.chains n c.set_bit.new.self }) c.self.view_is
+    ∙ ap (λ d. record s { chains = slice_set s.chains n d }) new
+    ∙ ap (λ k. with_chain_bit s k c.from-place.result c.args.bit) c.from-n.ensures
+    ∙ ap (λ k. with_chain_bit s c.args.chain k c.args.bit) c.from-place.ensures

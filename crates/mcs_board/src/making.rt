@@ -1,0 +1,110 @@
+//! A rig made, put on another board, and reset.
+
+ghost use Rattle.std.specs.Prelude.{◌≡◌, ◌↔◌, IfOk, IsTrue};
+ghost use Rattle.mcs_model.specs.Bus.{zero_bus};
+ghost use Rattle.mcs_model.specs.Places.{after_reset, after_wire};
+ghost use Rattle.mcs_board.specs.Fitting.{FitsCounts, IsSizedBus};
+
+use crate::chips::{
+    banks_fit, chains_fit, clear_banks, clear_chains, clear_ports, keys_of, no_banks, no_chains,
+    no_roms, rewire_banks, rewire_chains, rewire_roms, roms_fit,
+};
+use crate::rig::Rig;
+use arrayvec::ArrayVec;
+use mcs_model::board::Board;
+use mcs_nibble::Bit;
+use std::alloc::{AllocError, Global};
+
+/// The most bits of a chain: half of the bytes that an address can tell apart, so that a chain of more would be
+/// larger than any memory.
+const MOST_BITS: usize = isize::MAX as usize / 2;
+
+/// A law: every board fits 16 ROMs, 8 banks, and 2 chains of 40 bits.
+pub fn every_board_fits_the_bench(board: &Board)
+    ensures { FitsCounts board.now 16 8 2 40 }
+{
+    let _parts = board.parts();
+}
+
+impl<const ROMS: usize, const BANKS: usize, const CHAINS: usize, const MAX: usize> Rig<
+    ROMS,
+    BANKS,
+    CHAINS,
+    MAX,
+> {
+    /// A rig with the empty board. All is 0, but TEST, which is 1.
+    ///
+    /// # Errors
+    ///
+    /// Where memory for the places of its chips is refused, or where one chain would not fit any memory. No other
+    /// call of a rig takes memory.
+    pub fn new(alloc: Global) -> Result<Self, AllocError>
+        ensures { IfOk result (λ rig. rig ≡ record zero_bus { test = 1 }) }
+    {
+        if MAX > MOST_BITS {
+            return Err(AllocError);
+        }
+        Ok(Rig {
+            board: Board::empty(),
+            roms: no_roms(alloc, ROMS)?,
+            banks: no_banks(alloc, BANKS)?,
+            chains: no_chains(alloc, CHAINS)?,
+            keys: ArrayVec::new(),
+            rom_src: 0,
+            test: Bit::ONE,
+        })
+    }
+
+    /// Puts the rig on another board, which has to fit its counts. All keys are up, all that a reset clears is
+    /// cleared, and the bytes of ROMs that the board lacks become 0; the other bytes and TEST stay.
+    pub fn wire(&mut self, board: &Board)
+        requires { FitsCounts board.now ROMS BANKS CHAINS MAX }
+        ensures { self.new ≡ after_wire self.old board.now }
+    {
+        rewire_roms(&mut self.roms, board);
+        rewire_banks(&mut self.banks, board);
+        self.keys = keys_of(board);
+        self.rom_src = 0;
+        self.board = board.copy();
+        // A rig without a place for a chain has none to put on the board.
+        if self.chains.as_slice().is_empty() {
+            return;
+        }
+        rewire_chains(&mut self.chains, board);
+    }
+
+    /// A power cycle: RAM, port latches, the kept SRC bytes and the chains become 0, and nothing is shifted. ROM,
+    /// keys, TEST and the board stay.
+    pub fn reset(&mut self)
+        ensures { self.new ≡ after_reset self.old }
+    {
+        clear_ports(&mut self.roms);
+        clear_banks(&mut self.banks);
+        self.rom_src = 0;
+        // A rig without a place for a chain has none to clear.
+        if self.chains.as_slice().is_empty() {
+            return;
+        }
+        clear_chains(&mut self.chains);
+    }
+
+    /// Whether a board fits the counts of the rig, so that the rig can be wired to it.
+    pub fn fits(board: &Board) -> bool
+        ensures { IsTrue result ↔ FitsCounts board.now ROMS BANKS CHAINS MAX }
+    {
+        if !roms_fit(board, ROMS) {
+            return false;
+        }
+        if !banks_fit(board, BANKS) {
+            return false;
+        }
+        board.chain_count() <= CHAINS && chains_fit(board, MAX)
+    }
+
+    /// A law: the lists of the state have the lengths that the board gives them, and what absent ROMs hold is 0.
+    pub fn lists_have_their_lengths(&self)
+        ensures { IsSizedBus self.now }
+    {
+        let _chains = &self.chains;
+    }
+}

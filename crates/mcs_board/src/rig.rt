@@ -1,0 +1,66 @@
+//! What a rig holds.
+ghost use Rattle.std.specs.Prelude.{◌≡◌, ◌<◌, None};
+ghost use Rattle.mcs_model.specs.Boards.{fault_of, chain_count, IsSized};
+ghost use Rattle.mcs_model.specs.Levels.{chain_bit};
+
+use arrayvec::ArrayVec;
+use mcs_model::board::{Board, BoardParts};
+use mcs_nibble::Bit;
+use mcs_ram4002::Bank;
+use mcs_rom4001::Rom;
+use mcs_shift4003::Chain;
+use std::marker::Model;
+
+/// A board and the chips on it: at most `ROMS` ROMs, `BANKS` banks of RAM chips, and `CHAINS` shift chains of at most
+/// `MAX` bits. Contracts see it as the flat state that its chips are in.
+#[derive(Drop)]
+pub struct Rig<const ROMS: usize, const BANKS: usize, const CHAINS: usize, const MAX: usize> {
+    pub(crate) board: Board,
+    pub(crate) roms: Vec<Option<Rom>>,
+    pub(crate) banks: Vec<Bank<4>>,
+    pub(crate) chains: Vec<Chain<MAX>>,
+    pub(crate) keys: ArrayVec<Bit, 80>,
+    pub(crate) rom_src: u8,
+    pub(crate) test: Bit,
+}
+
+impl<const ROMS: usize, const BANKS: usize, const CHAINS: usize, const MAX: usize> Model
+    for Rig<ROMS, BANKS, CHAINS, MAX> {
+    ghost use Rattle.mcs_model.specs.Bus.{BusState};
+    ghost use Rattle.mcs_board.specs.RigState.{rig_of, Fitted};
+
+    ghost Value = { BusState };
+
+    ghost view = { λ r. rig_of r.board r.roms.items r.banks.items r.chains.items r.keys.items r.rom_src r.test };
+
+    ghost invariant = { λ r. Fitted r.board r.roms.items r.banks.items r.chains.items r.keys.items r.rom_src ROMS BANKS CHAINS };
+}
+
+impl<const ROMS: usize, const BANKS: usize, const CHAINS: usize, const MAX: usize> Rig<
+    ROMS,
+    BANKS,
+    CHAINS,
+    MAX,
+> {
+    /// The parts of the board. Nothing is wrong with them.
+    pub(crate) fn parts(&self) -> &BoardParts
+        ensures same { result.now ≡ self.now.board }
+        ensures valid { fault_of self.now.board ≡ None }
+        ensures sized { IsSized self.now.board }
+    {
+        let _chains = &self.chains;
+        self.board.parts()
+    }
+
+    /// Bit `i` of chain `n`; 0 beyond its end.
+    pub(crate) fn row_bit(&self, n: usize, i: usize) -> Bit
+        requires { n < chain_count self.now.board }
+        ensures { result ≡ chain_bit self.now n i }
+    {
+        let chains = self.chains.as_slice();
+        match chains[n].bit(i) {
+            Some(bit) => bit,
+            None => Bit::ZERO,
+        }
+    }
+}

@@ -1,0 +1,8 @@
+//! Runs the processor and the commands of a board over rigs: worked boards, with a key matrix, a lamp row and several
+//! banks of RAM.
+#![tactic(auto)]
+
+#[cfg(test)]
+mod boards;
+#[cfg(test)]
+mod tests;
