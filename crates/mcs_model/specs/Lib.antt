@@ -6,6 +6,7 @@ pub mod Bus
 pub mod Levels
 pub mod Places
 pub mod Flat
+pub mod Validity
 pub mod Refusal
 pub mod Command
 pub mod Fold

@@ -1,0 +1,79 @@
+-- Which flat states are valid: the states that a bench can be in. (Our own choice, after what the chips keep.)
+use Rattle.std.specs.Prelude.{◌≡◌, ◌<◌, ◌≤◌, ◌+◌, ◌*◌, ◌/◌, ℕ, List, [], All, MatchOption, length, slice_index, slice_index_or, None}
+use Rattle.std.specs.List.Sorted.{IsStrictlyIncreasing}
+use Rattle.mcs_nibble.specs.Ports.{held}
+use Rattle.mcs_model.specs.declared.board.BoardParts.{BoardParts}
+use Rattle.mcs_model.specs.declared.limits.TheConstants.{ACCEPTED_COMMANDS, BREAKPOINTS}
+use Rattle.mcs_model.specs.declared.regs.Regs.{Regs}
+use Rattle.mcs_model.specs.Boards.{IsSized, fault_of, masks_on, chain_bits, chain_count, key_count}
+use Rattle.mcs_model.specs.Bus.{BusState, wired_of}
+use Rattle.mcs_model.specs.Flat.{Flat}
+
+-- so many numbers, each below a limit
+pub record AreBelow (count limit : ℕ) (items : List ℕ) : Type 0 where
+  pub count_is : length items ≡ count
+  pub below : All (λ n. n < limit) items
+
+-- ---- the board
+
+-- parts with which nothing is wrong, of the lengths that their types give
+pub record IsValidBoard (b : BoardParts) : Type 0 where
+  pub sized : IsSized b
+  pub valid : fault_of b ≡ None
+
+-- ---- what the chips hold
+
+-- each place holds a number of its kind, and there are as many places as the board gives
+pub record IsInRange (s : BusState) : Type 0 where
+  pub rom : AreBelow 4096 256 s.rom
+  pub ram : AreBelow 2048 16 s.ram
+  pub status : AreBelow 512 16 s.status
+  pub ram_ports : AreBelow 32 16 s.ram_ports
+  pub rom_ports : AreBelow 16 16 s.rom_ports
+  pub rom_src : s.rom_src < 256
+  pub ram_src : AreBelow 8 256 s.ram_src
+  pub chains : length s.chains ≡ chain_count s.board
+  pub chain_bits : (i : ℕ) → i < chain_count s.board → AreBelow (chain_bits s.board i) 2 (slice_index_or s.chains i [])
+  pub keys : AreBelow (key_count s.board) 2 s.keys
+  pub test : s.test < 2
+
+-- what is absent holds 0: ROMs, RAM chips, the SRC byte of a bank without chips, and the latch bits of input lines
+pub record IsAbsentZero (s : BusState) : Type 0 where
+  pub rom : (at : ℕ) → masks_on s.board (at / 256) ≡ None → slice_index s.rom at ≡ 0
+  pub ram : (bank src : ℕ) → src < 256 → wired_of s bank ≤ src / 64 → slice_index s.ram (bank * 256 + src) ≡ 0
+  pub status : (bank high k : ℕ) → high < 16 → k < 4 → wired_of s bank ≤ high / 4 → slice_index s.status ((bank * 16 + high) * 4 + k) ≡ 0
+  pub ram_ports : (bank chip : ℕ) → chip < 4 → wired_of s bank ≤ chip → slice_index s.ram_ports (bank * 4 + chip) ≡ 0
+  pub rom_ports : (chip : ℕ) → MatchOption (masks_on s.board chip) (slice_index s.rom_ports chip ≡ 0)
+      (λ mask. held mask (slice_index s.rom_ports chip) ≡ slice_index s.rom_ports chip)
+  pub ram_src : (bank : ℕ) → wired_of s bank ≡ 0 → slice_index s.ram_src bank ≡ 0
+
+-- a board and what its chips hold
+pub record IsValidBus (s : BusState) : Type 0 where
+  pub board : IsValidBoard s.board
+  pub in_range : IsInRange s
+  pub absent : IsAbsentZero s
+
+-- ---- the processor
+
+pub record IsValidRegs (s : Regs) : Type 0 where
+  pub acc : s.acc < 16
+  pub cy : s.cy < 2
+  pub r : AreBelow 16 16 s.r
+  pub pc : s.pc < 4096
+  pub ret : AreBelow 3 4096 s.ret
+  pub dcl : s.dcl < 8
+  pub owed : s.owed < 2
+
+-- ---- the whole
+
+-- at most 32 addresses, rising
+pub record AreBreakpoints (items : List ℕ) : Type 0 where
+  pub few : length items ≤ BREAKPOINTS
+  pub addresses : All (λ a. a < 4096) items
+  pub rising : IsStrictlyIncreasing items
+
+pub record IsValid (s : Flat) : Type 0 where
+  pub processor : IsValidRegs s.processor
+  pub bus : IsValidBus s.bus
+  pub breakpoints : AreBreakpoints s.breakpoints
+  pub seq : s.seq ≤ ACCEPTED_COMMANDS
