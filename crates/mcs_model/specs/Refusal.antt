@@ -2,11 +2,12 @@
 use Rattle.std.specs.Prelude.{ℕ}
 use Rattle.mcs_model.specs.declared.refusals.BenchFault.{BenchFault}
 use Rattle.mcs_model.specs.declared.refusals.BenchFault.TheVariants.{NoKey, NoRom, NoSuchPlace, BadCount, BreaksFull, Worn}
+use Rattle.mcs_model.specs.declared.refusal_numbers.TheConstants.{NO_KEY, NO_ROM, NO_SUCH_PLACE, BAD_COUNT, BREAKS_FULL, WORN}
 
 abbrev pub number_of : BenchFault → ℕ
-number_of NoKey = 41
-number_of NoRom = 42
-number_of NoSuchPlace = 43
-number_of BadCount = 44
-number_of BreaksFull = 45
-number_of Worn = 46
+number_of NoKey = NO_KEY
+number_of NoRom = NO_ROM
+number_of NoSuchPlace = NO_SUCH_PLACE
+number_of BadCount = BAD_COUNT
+number_of BreaksFull = BREAKS_FULL
+number_of Worn = WORN

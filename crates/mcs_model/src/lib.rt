@@ -11,6 +11,7 @@ pub mod mnemonic;
 pub mod numeral;
 pub mod op;
 pub mod query;
+pub mod refusal_numbers;
 pub mod refusals;
 pub mod regs;
 pub mod spelling;

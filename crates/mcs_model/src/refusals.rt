@@ -2,6 +2,7 @@
 ghost use Rattle.std.specs.Prelude.{◌≡◌};
 ghost use Rattle.mcs_model.specs.Refusal.{number_of};
 
+use crate::refusal_numbers;
 use thiserror::Error;
 
 /// Why a bench refuses a command. Nothing has changed then.
@@ -33,12 +34,12 @@ impl BenchFault {
         ensures { result ≡ number_of self }
     {
         match self {
-            BenchFault::NoKey => 41,
-            BenchFault::NoRom => 42,
-            BenchFault::NoSuchPlace => 43,
-            BenchFault::BadCount => 44,
-            BenchFault::BreaksFull => 45,
-            BenchFault::Worn => 46,
+            BenchFault::NoKey => refusal_numbers::NO_KEY,
+            BenchFault::NoRom => refusal_numbers::NO_ROM,
+            BenchFault::NoSuchPlace => refusal_numbers::NO_SUCH_PLACE,
+            BenchFault::BadCount => refusal_numbers::BAD_COUNT,
+            BenchFault::BreaksFull => refusal_numbers::BREAKS_FULL,
+            BenchFault::Worn => refusal_numbers::WORN,
         }
     }
 }
