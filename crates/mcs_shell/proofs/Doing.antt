@@ -11,8 +11,8 @@ use Rattle.mcs_model.specs.declared.refusals.BenchFault.{BenchFault}
 use Rattle.mcs_model.specs.Command.{refusal, after, reply}
 use Rattle.mcs_model.specs.Refusal.{number_of}
 use Rattle.mcs_model.specs.Flat.{Flat}
-use Rattle.mcs_shell.specs.declared.faults.SessionFault.{SessionFault}
-use Rattle.mcs_shell.specs.declared.faults.SessionFault.TheVariants as fault
+use Rattle.mcs_session.specs.declared.fault.SessionFault.{SessionFault}
+use Rattle.mcs_session.specs.declared.fault.SessionFault.TheVariants as fault
 use Rattle.mcs_shell.specs.declared.outcome.Outcome.{Outcome}
 use Rattle.mcs_shell.specs.declared.outcome.Outcome.TheVariants.{Plain, Full, Device, Closed}
 use Rattle.mcs_shell.specs.declared.requests.LineFault.{LineFault}
@@ -20,11 +20,13 @@ use Rattle.mcs_shell.specs.declared.requests.Request.{Request}
 use Rattle.mcs_shell.specs.declared.requests.Request.TheVariants.{Refused, Ask, Change}
 use Rattle.mcs_shell.specs.Inputs.{Input, Blank, TooLong, Line, input_of, is_blank_byte, judged}
 use Rattle.mcs_shell.specs.Requests.{request_of}
-use Rattle.mcs_shell.specs.Standing.{Applied, Closes, Log, Open, Recorded, SessionState, Shut, Stage, number_of_fault}
+use Rattle.mcs_session.specs.Standing.{Applied, Closes, Log, Open, Recorded, SessionState, Shut}
+use Rattle.mcs_shell.specs.Stage.{Stage}
+use Rattle.mcs_shell.specs.RefusalNumbers.{number_of_fault}
 use Rattle.mcs_shell.specs.Transcript.{MayEnd, answer, change_text, commands, commands_of_request, if_accepted, no_text, ok_text, plain_text, unless_refused, reached, reached_by_request, request_text}
-use Rattle.mcs_shell.specs.Kept.{IsSettled, Kept}
+use Rattle.mcs_session.specs.Kept.{IsSettled, Kept}
 use Rattle.mcs_shell.specs.Serving.{Answered, Changed, CutShort, Failed, Fares, GotSome, KeptBy, Leaves, RequestDone, WentOn}
-use Rattle.mcs_shell.proofs.Keeping.{acknowledged_keeps, failed_keeps, stays_keeps, whole_nothing}
+use Rattle.mcs_session.proofs.Keeping.{acknowledged_keeps, failed_keeps, stays_keeps, whole_nothing}
 
 abbrev pub at : Log → Flat → DiskState → SessionState
 at log s d = record { standing = record { log = log; state = s }; disk = d }

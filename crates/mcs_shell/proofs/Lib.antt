@@ -1,11 +1,7 @@
 pub mod Cutting
 pub mod LineWords
-pub mod NewText
 pub mod LineFeeds
 pub mod Served
-pub mod Keeping
-pub mod Replaying
-pub mod Recording
 pub mod GrowingBytes
 pub mod Steps
 pub mod Doing

@@ -10,17 +10,19 @@ use Rattle.mcs_shell.specs.declared.outcome.Stop.TheVariants.{Write, Fault}
 use Rattle.mcs_shell.specs.declared.ends.ShellEnd.{ShellEnd}
 use Rattle.mcs_shell.specs.declared.ends.ShellEnd.TheVariants.{End, ReadFault, WriteFault, DeviceFault, InputLimit, NoMemory}
 use Rattle.mcs_shell.specs.Inputs.{Input, HasNoFeed, input_of, inputs}
-use Rattle.mcs_shell.specs.Standing.{SessionState, Stage, Standing, on}
+use Rattle.mcs_session.specs.Standing.{SessionState, Standing, on}
+use Rattle.mcs_shell.specs.Stage.{Stage}
 use Rattle.mcs_shell.specs.Transcript.{Went, all_commands, session_text, transcript}
-use Rattle.mcs_shell.specs.Kept.{Carries, IsHonest, IsSettled}
+use Rattle.mcs_session.specs.Kept.{Carries, IsHonest, IsSettled}
 use Rattle.mcs_shell.specs.Serving.{CutShort, Failed, LastBy, LastStep, Stopped, StoppedAt, WentFurther, WentOn}
 use Rattle.mcs_shell.specs.Shell.{Began, EndsBy, LoopRan, RanGiven, ReadSome, ServedAll, ServedSome, Untouched, end_by, input_limit}
 use Rattle.mcs_shell.specs.Finishing.{FinishedBy}
 use Rattle.mcs_shell.proofs.Cutting.{nil_right}
 use Rattle.mcs_shell.proofs.GrowingBytes.{appends_more, appends_nothing, consumes_kept, consumes_more, consumes_nothing}
-use Rattle.mcs_shell.proofs.Keeping.{carries_more}
+use Rattle.mcs_session.proofs.Keeping.{carries_more}
 use Rattle.mcs_shell.proofs.LineFeeds.{inputs-cut, inputs-ended, nat_lt-true}
-use Rattle.mcs_shell.proofs.Served.{Went-append, Went-alone, Went-nothing, all_commands-alone, all_commands-further, all_commands-nothing, alone, map-append, on-further, transcript-alone, transcript-append, transcript-nothing}
+use Rattle.mcs_session.proofs.Folds.{on-further}
+use Rattle.mcs_shell.proofs.Served.{Went-append, Went-alone, Went-nothing, all_commands-alone, all_commands-further, all_commands-nothing, alone, map-append, transcript-alone, transcript-append, transcript-nothing}
 use Rattle.mcs_shell.proofs.Steps.{MovesBack, carries_none, cut_after, failed_after, went_stay, went_twice}
 
 -- how far the loop has come

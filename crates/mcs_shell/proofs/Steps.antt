@@ -11,13 +11,14 @@ use Rattle.mcs_shell.specs.declared.outcome.Outcome.TheVariants.{Device}
 use Rattle.mcs_shell.specs.declared.outcome.Stop.{Stop}
 use Rattle.mcs_shell.specs.declared.outcome.Stop.TheVariants.{Write, Fault}
 use Rattle.mcs_shell.specs.Inputs.{Input, HasNoFeed, input_of, inputs, is_line_feed}
-use Rattle.mcs_shell.specs.Standing.{SessionState, Stage, Standing, logged, on}
+use Rattle.mcs_session.specs.Standing.{SessionState, Standing, logged, on}
+use Rattle.mcs_shell.specs.Stage.{Stage}
 use Rattle.mcs_shell.specs.Transcript.{MayGo, Went, answer, commands, reached, transcript, all_commands}
-use Rattle.mcs_shell.specs.Kept.{Carries, IsSettled, Kept}
+use Rattle.mcs_session.specs.Kept.{Carries, IsSettled, Kept}
 use Rattle.mcs_shell.specs.Serving.{ClosesAt, CutShort, Failed, Fares, LastBy, LastStep, Progress, Stopped, StoppedAt, WentFurther, WentOn}
 use Rattle.mcs_shell.proofs.Cutting.{HasNone-snoc, nil_right}
 use Rattle.mcs_shell.proofs.GrowingBytes.{appends_more, appends_nothing}
-use Rattle.mcs_shell.proofs.Keeping.{carries_more, carries_nothing, kept_more, settled_on}
+use Rattle.mcs_session.proofs.Keeping.{carries_more, carries_nothing, kept_more, settled_on}
 use Rattle.mcs_shell.proofs.LineFeeds.{inputs-feed, inputs-dropped}
 use Rattle.mcs_shell.proofs.Served.{Went-append, Went-alone, Went-nothing, all_commands-alone, all_commands-further, all_commands-nothing, alone, map-append, transcript-append, transcript-alone, transcript-nothing}
 

@@ -2,8 +2,8 @@
 use Rattle.std.specs.Prelude.{List, ℕ, true}
 use Rattle.mcs_shell.specs.declared.ends.ShellEnd.{ShellEnd}
 use Rattle.mcs_shell.specs.declared.ends.ShellEnd.TheVariants.{End, WriteFault, DeviceFault}
-use Rattle.mcs_shell.specs.Kept.{IsSettled}
-use Rattle.mcs_shell.specs.Standing.{Stage}
+use Rattle.mcs_session.specs.Kept.{IsSettled}
+use Rattle.mcs_shell.specs.Stage.{Stage}
 use Rattle.mcs_shell.specs.Serving.{CutShort, Failed}
 use Rattle.mcs_shell.specs.Shell.{ServedAll, ServedSome}
 

@@ -1,12 +1,9 @@
-pub mod Codec
-pub mod Stands
-pub mod Standing
-pub mod SessionView
 pub mod Inputs
 pub mod Words
 pub mod Requests
+pub mod RefusalNumbers
+pub mod Stage
 pub mod Transcript
-pub mod Kept
 pub mod Serving
 pub mod Shell
 pub mod Finishing

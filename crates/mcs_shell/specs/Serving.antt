@@ -12,9 +12,10 @@ use Rattle.mcs_shell.specs.declared.outcome.Stop.TheVariants.{Write, Fault}
 use Rattle.mcs_shell.specs.declared.requests.Request.{Request}
 use Rattle.mcs_shell.specs.declared.requests.Request.TheVariants.{Change}
 use Rattle.mcs_shell.specs.Inputs.{Input, inputs, HasNoFeed}
-use Rattle.mcs_shell.specs.Standing.{Log, Shut, Stage, Standing, SessionState, logged, on}
+use Rattle.mcs_session.specs.Standing.{Log, Shut, Standing, SessionState, logged, on}
+use Rattle.mcs_shell.specs.Stage.{Stage}
 use Rattle.mcs_shell.specs.Transcript.{ChangeMayEnd, RequestMayEnd, MayEnd, MayGo, Served, answer, commands, reached, reached_by_request, change_text, commands_of_request, request_text, Went, transcript, all_commands}
-use Rattle.mcs_shell.specs.Kept.{Carries, IsSettled, Kept, KeptWhole}
+use Rattle.mcs_session.specs.Kept.{Carries, IsSettled, Kept, KeptWhole}
 
 -- the writer has got some of the first bytes, and not all
 pub record GotSome (old new : Option (List ℕ)) (bytes : List ℕ) : Type 0 where

@@ -6,9 +6,10 @@ use Rattle.mcs_shell.specs.declared.ends.ShellEnd.TheVariants.{End, ReadFault, W
 use Rattle.mcs_shell.specs.declared.outcome.Stop.{Stop}
 use Rattle.mcs_shell.specs.declared.outcome.Stop.TheVariants.{Write, Fault}
 use Rattle.mcs_shell.specs.Inputs.{Input, inputs}
-use Rattle.mcs_shell.specs.Standing.{SessionState, Stage, on}
+use Rattle.mcs_session.specs.Standing.{SessionState, on}
+use Rattle.mcs_shell.specs.Stage.{Stage}
 use Rattle.mcs_shell.specs.Transcript.{Served, Went, all_commands, session_text, transcript}
-use Rattle.mcs_shell.specs.Kept.{Carries, IsHonest, IsSettled}
+use Rattle.mcs_session.specs.Kept.{Carries, IsHonest, IsSettled}
 use Rattle.mcs_shell.specs.Serving.{CutShort, Failed, GotSome, LastStep}
 
 -- how many bytes a shell reads at most

@@ -16,7 +16,7 @@ use Rattle.mcs_shell.specs.declared.outcome.Outcome.{Outcome}
 use Rattle.mcs_shell.specs.declared.outcome.Outcome.TheVariants.{Plain, Full, Device, Closed}
 use Rattle.mcs_shell.specs.Inputs.{Input, Blank, TooLong, Line}
 use Rattle.mcs_shell.specs.Requests.{request_of, number_of_fault}
-use Rattle.mcs_shell.specs.Standing.{Log, Open, Shut, Standing, fits, on}
+use Rattle.mcs_session.specs.Standing.{Log, Open, Shut, Standing, fits, on}
 
 -- ---- texts
 

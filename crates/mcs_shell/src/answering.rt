@@ -1,19 +1,20 @@
 //! What is done and answered for a line.
 ghost use Rattle.std.specs.Prelude.{◌≡◌, []};
 ghost use Rattle.mcs_shell.specs.Inputs.{input_of};
-ghost use Rattle.mcs_shell.specs.SessionView.{seen};
+ghost use Rattle.mcs_session.specs.SessionView.{seen};
 ghost use Rattle.mcs_shell.specs.Serving.{Answered, Changed, RequestDone};
 
-use crate::faults::SessionFault;
+use crate::faults::session_number;
 use crate::lines::{is_blank, without_return};
 use crate::outcome::Outcome;
 use crate::requests::{LineFault, Request, read_request};
-use crate::session::Session;
 use crate::telling::{Answer, put_number, put_refusal, put_registers};
 use mcs_disk::Disk;
 use mcs_model::command::{Command, Reply};
 use mcs_model::limits::LINE_BYTES;
 use mcs_model::query::Query;
+use mcs_session::fault::SessionFault;
+use mcs_session::session::Session;
 
 /// Does a command, and tells of it in an empty answer.
 fn answer_change<D: Disk + Drop>(
@@ -30,19 +31,19 @@ fn answer_change<D: Disk + Drop>(
             Outcome::Plain
         }
         Err(SessionFault::Refused(fault)) => {
-            put_refusal(answer, SessionFault::Refused(fault).number());
+            put_refusal(answer, session_number(SessionFault::Refused(fault)));
             Outcome::Plain
         }
         Err(SessionFault::Full) => {
-            put_refusal(answer, SessionFault::Full.number());
+            put_refusal(answer, session_number(SessionFault::Full));
             Outcome::Full
         }
         Err(SessionFault::Device) => {
-            put_refusal(answer, SessionFault::Device.number());
+            put_refusal(answer, session_number(SessionFault::Device));
             Outcome::Device
         }
         Err(SessionFault::Closed) => {
-            put_refusal(answer, SessionFault::Closed.number());
+            put_refusal(answer, session_number(SessionFault::Closed));
             Outcome::Closed
         }
     }

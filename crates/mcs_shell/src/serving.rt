@@ -1,16 +1,16 @@
 //! Lines as they come, byte by byte.
 ghost use Rattle.std.specs.Prelude.{◌≡◌, ◌∷◌, [], OnOk, OnErr, IfErr};
 ghost use Rattle.mcs_shell.specs.Inputs.{HasNoFeed, input_of};
-ghost use Rattle.mcs_shell.specs.SessionView.{staged};
+ghost use Rattle.mcs_shell.specs.Stage.{staged};
 ghost use Rattle.mcs_shell.specs.Serving.{ServedLine, Stopped, StopsAt, WentFurther};
 
 use crate::answering::answer_line;
 use crate::outcome::{Outcome, Stop};
 use crate::sending::{WriteStopped, send};
-use crate::session::Session;
 use crate::telling::Answer;
 use arrayvec::ArrayVec;
 use mcs_disk::Disk;
+use mcs_session::session::Session;
 use std::io::Write;
 
 /// The bytes of an unfinished line. A line has 255 bytes at most, one carriage return may end it, and one more byte tells

@@ -2,7 +2,7 @@
 ghost use Rattle.std.specs.Prelude.{◌≡◌, ◌<◌, ◌≤◌, take, length, IfOk, OnErr};
 ghost use Rattle.std.specs.Io.KnownBytes.{Keeps};
 ghost use Rattle.mcs_shell.specs.Inputs.{HasNoFeed};
-ghost use Rattle.mcs_shell.specs.SessionView.{staged};
+ghost use Rattle.mcs_shell.specs.Stage.{staged};
 ghost use Rattle.mcs_shell.specs.Shell.{LoopSettled, Ran, ReadSome, end_by};
 ghost use Rattle.mcs_shell.specs.Finishing.{FinishedBy};
 
@@ -10,10 +10,10 @@ use crate::ends::ShellEnd;
 use crate::outcome::Stop;
 use crate::sending::{WriteStopped, send};
 use crate::serving::{UnfinishedLine, serve_chunk, serve_line};
-use crate::session::Session;
 use crate::telling::{Answer, put_number};
 use mcs_disk::Disk;
 use mcs_model::limits::INPUT_BYTES;
+use mcs_session::session::Session;
 use std::alloc::Global;
 use std::io::{Read, Write};
 

@@ -5,9 +5,9 @@ ghost use Rattle.arrayvec.specs.ArrayVec.{array_vec_len};
 ghost use Rattle.mcs_model.specs.QueryText.{address_text, digit_text, hex_digit, regs_text};
 ghost use Rattle.mcs_shell.specs.Transcript.{line_feed, no_text};
 
-use crate::bench::Bench;
 use arrayvec::ArrayVec;
 use mcs_nibble::{Addr, Nibble};
+use mcs_session::bench::Bench;
 
 /// The answer to one input; none has more bytes.
 pub type Answer = ArrayVec<u8, 96>;

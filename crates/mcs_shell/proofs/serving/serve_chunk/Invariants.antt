@@ -1,5 +1,5 @@
 use Rattle.std.proofs.Common.{take}
-use Rattle.mcs_shell.specs.SessionView.{staged}
+use Rattle.mcs_shell.specs.Stage.{staged}
 use Rattle.mcs_shell.specs.Serving.{WentFurther}
 use Rattle.mcs_shell.proofs.serving.serve_chunk.Given as goal
 

@@ -1,5 +1,5 @@
 use Rattle.std.proofs.Common.{◌≤◌, ◌<◌, ◌-◌, length}
-use Rattle.mcs_shell.specs.SessionView.{staged}
+use Rattle.mcs_shell.specs.Stage.{staged}
 use Rattle.mcs_shell.proofs.Looping.{SoFar}
 use Rattle.mcs_shell.proofs.shell.run_loop.Given as goal
 

@@ -1,9 +1,9 @@
 use Rattle.std.proofs.Common.{rules, ◌≡◌, inl}
-use Rattle.mcs_shell.specs.Kept.{IsHonest, IsSettled}
-use Rattle.mcs_shell.specs.SessionView.{seen}
+use Rattle.mcs_session.specs.Kept.{IsHonest, IsSettled}
+use Rattle.mcs_session.specs.SessionView.{seen}
 use Rattle.mcs_shell.specs.Transcript.{session_text}
 use Rattle.mcs_shell.proofs.GrowingBytes.{appends_nothing}
-use Rattle.mcs_shell.proofs.Keeping.{carries_nothing, settle}
+use Rattle.mcs_session.proofs.Keeping.{carries_nothing, settle}
 use Rattle.mcs_shell.proofs.Looping.{ran_after, untouched}
 use Rattle.mcs_shell.proofs.shell.run_shell.Goals as goal
 

@@ -1,0 +1,5 @@
+pub mod NewText
+pub mod Folds
+pub mod Keeping
+pub mod Replaying
+pub mod Recording

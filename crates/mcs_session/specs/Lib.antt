@@ -1,0 +1,5 @@
+pub mod Codec
+pub mod Stands
+pub mod Standing
+pub mod SessionView
+pub mod Kept

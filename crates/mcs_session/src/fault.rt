@@ -1,0 +1,20 @@
+//! Why a session does not record a command.
+use mcs_model::refusals::BenchFault;
+use thiserror::Error;
+
+/// Why a session does not record a command. The bench has not changed then.
+#[derive(Clone, Copy, Debug, PartialEq, Eq, Error)]
+pub enum SessionFault {
+    /// The bench refuses the command.
+    #[error("refused by the bench")]
+    Refused(BenchFault),
+    /// The log has no room for the record of the command.
+    #[error("the session is full")]
+    Full,
+    /// A call of the disk failed. The session is closed from then on.
+    #[error("the device failed")]
+    Device,
+    /// An earlier call of the disk failed.
+    #[error("the session is closed")]
+    Closed,
+}

@@ -1,0 +1,14 @@
+-- A session with what its shell has written.
+use Rattle.std.specs.Prelude.{ℕ, List, Option}
+use Rattle.mcs_disk.specs.Disk.{DiskState}
+use Rattle.mcs_session.specs.Standing.{SessionState}
+use Rattle.mcs_session.specs.SessionView.{SessionView, seen}
+
+-- a session, and what its shell has written so far, where the writer tells it
+pub record Stage : Type 1 where
+  pub session : SessionState
+  pub out : Option (List ℕ)
+
+-- the same with what its shell has written, where the writer tells it
+abbrev pub staged : {D : Type 0} → DiskState → SessionView D → Option (List ℕ) → Stage
+staged disk s out = record { session = seen disk s; out = out }

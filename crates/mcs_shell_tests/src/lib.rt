@@ -1,0 +1,340 @@
+//! Tests of whole sessions, over disks in memory and over a file of the host.
+#![tactic(auto)]
+
+ghost use Rattle.std.specs.Prelude.{Some, ◌≡◌};
+
+use mcs_disk::{Disk, FuseDisk, MemDisk};
+use mcs_journal::{CreateFault, FILE_SIZE, OpenFault};
+use mcs_model::command::{Command, Place, Reply};
+use mcs_nibble::{Nibble, RegNo};
+use mcs_session::fault::SessionFault;
+use mcs_session::session::Session;
+use mcs_shell::FileDisk;
+use mcs_shell::ends::{ShellEnd, status};
+use mcs_shell::shell::run_shell;
+use std::alloc::Global;
+use std::fs;
+use std::io::{self, Read, Write};
+use std::test::Fail;
+
+/// Gives these bytes, and fails behind the first of them.
+#[derive(Drop)]
+struct CutReader<'a> {
+    bytes: &'a [u8],
+    left: usize,
+}
+
+impl Read for CutReader<'_> {
+    ghost remaining = { λ r. Some r.bytes.now };
+
+    fn read(&mut self, buf: &mut [u8]) -> io::Result<usize> {
+        if self.left == 0 {
+            return Err(io::ErrorKind::Other.into());
+        }
+        let most = self.left.min(buf.len());
+        let count = self.bytes.read(&mut buf[..most])?;
+        self.left -= count;
+        Ok(count)
+    }
+}
+
+/// Takes some bytes, and then fails.
+#[derive(Drop)]
+struct CutWriter {
+    held: Vec<u8>,
+    left: usize,
+}
+
+impl Write for CutWriter {
+    ghost contents = { λ w. Some w.held.items };
+
+    fn write(&mut self, buf: &[u8]) -> io::Result<usize> {
+        if self.left == 0 {
+            return Err(io::ErrorKind::Other.into());
+        }
+        let count = self.left.min(buf.len());
+        self.held.extend_from_slice(&buf[..count])?;
+        self.left -= count;
+        Ok(count)
+    }
+
+    fn flush(&mut self) -> io::Result<()> {
+        Ok(())
+    }
+}
+
+/// Gives line feeds without end.
+#[derive(Drop)]
+struct EndlessReader;
+
+impl Read for EndlessReader {
+    fn read(&mut self, buf: &mut [u8]) -> io::Result<usize> {
+        buf.fill(b'\n');
+        Ok(buf.len())
+    }
+}
+
+const SCRIPT: &[u8] = b"poke r5 9\nseq\nregs\n";
+
+const ANSWERS: &[u8] =
+    b"session 0\nok 1\nseq 1\nacc 0 cy 0 pc 000 owed 0 dcl 0 test 1 r 0000090000000000 ret 000 000 000\n";
+
+/// A new session on a disk in memory.
+fn new_session(alloc: Global) -> Result<Session<MemDisk>, Fail> {
+    match Session::create(alloc, MemDisk::new(alloc, FILE_SIZE)?) {
+        Ok(session) => Ok(session),
+        Err(_) => Err("not made".into()),
+    }
+}
+
+/// What a new session answers to a script, and how its shell ends.
+fn run(alloc: Global, script: &[u8]) -> Result<(ShellEnd, Vec<u8>), Fail> {
+    let mut session = new_session(alloc)?;
+    let mut reader = script;
+    let mut writer = Vec::new(alloc);
+    let end = run_shell(alloc, &mut reader, &mut writer, &mut session);
+    Ok((end, writer))
+}
+
+/// All bytes of a disk.
+fn bytes_of<D: Disk>(alloc: Global, disk: &mut D) -> Result<Vec<u8>, Fail> {
+    let mut bytes = vec![in alloc; 0u8; disk.size()]?;
+    match disk.read(0, bytes.as_mut_slice()) {
+        Ok(()) => Ok(bytes),
+        Err(_) => Err("not read".into()),
+    }
+}
+
+#[test]
+fn the_bytes_of_a_new_session(rt: HostRuntime) -> Result<(), Fail> {
+    let alloc = rt.alloc();
+    let mut disk = new_session(alloc)?.into_disk();
+    let bytes = bytes_of(alloc, &mut disk)?;
+    assert_eq!(rt; bytes.len(), 163_856);
+    assert_eq!(rt; bytes.get(..8), Some(b"MCS4BEN1".as_slice()));
+    assert_eq!(rt; bytes.get(8..16), Some([0; 8].as_slice()));
+    assert_eq!(rt;
+        bytes.get(16..20),
+        Some([0x00, 0x00, 0x1a, 0xa6].as_slice())
+    );
+    assert_eq!(rt; bytes.get(20..24), Some([0; 4].as_slice()));
+    assert_eq!(rt; bytes.get(24..28), Some(b"----".as_slice()));
+    assert_eq!(rt; bytes.get(84..88), Some(b"----".as_slice()));
+    assert_eq!(rt; bytes.get(88..100), Some([0; 12].as_slice()));
+    assert_eq!(rt; bytes.get(6_839..6_842), Some([0, 1, 0].as_slice()));
+    assert_eq!(rt; bytes.get(16_400), Some(&0));
+    Ok(())
+}
+
+#[test]
+fn a_poke_is_answered_and_recorded(rt: HostRuntime) -> Result<(), Fail> {
+    let alloc = rt.alloc();
+    let mut session = new_session(alloc)?;
+    let mut reader = SCRIPT;
+    let mut writer = Vec::new(alloc);
+    let end = run_shell(alloc, &mut reader, &mut writer, &mut session);
+    assert_eq!(rt; end, ShellEnd::End);
+    assert_eq!(rt; writer.as_slice(), ANSWERS);
+    let mut disk = session.into_disk();
+    let bytes = bytes_of(alloc, &mut disk)?;
+    assert_eq!(rt; bytes.len(), 163_856);
+    assert_eq!(rt;
+        bytes.get(16_400..16_409),
+        Some([1, 0, 4, 7, 3, 5, 9, 0, 0].as_slice())
+    );
+    let Ok(mut again) = Session::open(alloc, disk) else {
+        return Err("not opened".into());
+    };
+    let mut writer = Vec::new(alloc);
+    let end = run_shell(alloc, &mut b"".as_slice(), &mut writer, &mut again);
+    assert_eq!(rt; end, ShellEnd::End);
+    assert_eq!(rt; writer.as_slice(), b"session 1\n".as_slice());
+    Ok(())
+}
+
+#[test]
+fn lines_are_judged(rt: HostRuntime) -> Result<(), Fail> {
+    let alloc = rt.alloc();
+    let long = [b'a'; 255];
+    let mut script = Vec::new(alloc);
+    script.extend_from_slice(
+        b"foo\npoke r16 1\npoke r1 16\npoke rx 1\npoke r 1\npoke r1 x\npoke r1\npoke r1 2 3\nPOKE r1 2\nregs 1\n",
+    )?;
+    script.extend_from_slice(
+        b"poke r99999999999999999999 1\npoke acc 1\npoke r1 0x\n \t \n\n\r\n",
+    )?;
+    script.extend_from_slice(&long)?;
+    script.extend_from_slice(b"\r\n")?;
+    script.extend_from_slice(&long)?;
+    script.extend_from_slice(
+        b"a\n\x00\n\xff\n  poke\tr0x0F  0x0000000000000000000c \r\nseq\rx\nseq",
+    )?;
+    let (end, told) = run(alloc, script.as_slice())?;
+    assert_eq!(rt; end, ShellEnd::End);
+    let wanted =
+        b"session 0\nno 10\nno 11\nno 11\nno 10\nno 10\nno 11\nno 10\nno 10\nno 10\nno 10\nno 11\nno 10\nno 11\nno 10\nno 12\nno 14\nno 14\nok 1\nno 14\nseq 1\n";
+    assert_eq!(rt; told.as_slice(), wanted.as_slice());
+    Ok(())
+}
+
+#[test]
+fn the_log_is_full_at_last(rt: HostRuntime) -> Result<(), Fail> {
+    let alloc = rt.alloc();
+    let mut session = new_session(alloc)?;
+    let poke = Command::Poke(Place::Register(RegNo::ZERO, Nibble::ONE));
+    for _ in 0..9_362 {
+        assert_eq!(rt; session.apply(&poke), Ok(Reply::Done));
+    }
+    assert_eq!(rt; session.apply(&poke), Err(SessionFault::Full));
+    let mut writer = Vec::new(alloc);
+    let _ = run_shell(
+        alloc,
+        &mut b"poke r0 1\nseq\n".as_slice(),
+        &mut writer,
+        &mut session,
+    );
+    assert_eq!(rt;
+        writer.as_slice(),
+        b"session 9362\nno 52\nseq 9362\n".as_slice()
+    );
+    let Ok(again) = Session::open(alloc, session.into_disk()) else {
+        return Err("not opened".into());
+    };
+    assert_eq!(rt; again.bench().seq(), 9_362);
+    Ok(())
+}
+
+#[test]
+fn the_reader_fails_after_each_count_of_bytes(rt: HostRuntime) -> Result<(), Fail> {
+    let alloc = rt.alloc();
+    for left in 0..SCRIPT.len() + 1 {
+        let mut session = new_session(alloc)?;
+        let mut reader = CutReader {
+            bytes: SCRIPT,
+            left,
+        };
+        let mut writer = Vec::new(alloc);
+        let end = run_shell(alloc, &mut reader, &mut writer, &mut session);
+        assert_eq!(rt; end, ShellEnd::ReadFault);
+        assert_eq!(rt; status(end), 1);
+        // the lines end behind 10, 14 and 19 bytes, and their answers behind 15, 21 and all
+        let told = match left {
+            0..10 => 10,
+            10..14 => 15,
+            14..19 => 21,
+            _ => ANSWERS.len(),
+        };
+        assert_eq!(rt; Some(writer.as_slice()), ANSWERS.get(..told));
+    }
+    Ok(())
+}
+
+#[test]
+fn the_writer_fails_after_each_count_of_bytes(rt: HostRuntime) -> Result<(), Fail> {
+    let alloc = rt.alloc();
+    for left in 0..ANSWERS.len() + 1 {
+        let mut session = new_session(alloc)?;
+        let mut writer = CutWriter {
+            held: Vec::new(alloc),
+            left,
+        };
+        let mut reader = SCRIPT;
+        let end = run_shell(alloc, &mut reader, &mut writer, &mut session);
+        assert_eq!(rt; end == ShellEnd::End, left == ANSWERS.len());
+        assert_eq!(rt; end == ShellEnd::WriteFault, left < ANSWERS.len());
+        assert_eq!(rt; Some(writer.held.as_slice()), ANSWERS.get(..left));
+        let Ok(again) = Session::open(alloc, session.into_disk()) else {
+            return Err("not opened".into());
+        };
+        assert_eq!(rt; again.bench().seq() == 1, 10 <= left);
+    }
+    Ok(())
+}
+
+#[test]
+fn input_is_limited(rt: HostRuntime) -> Result<(), Fail> {
+    let alloc = rt.alloc();
+    let mut session = new_session(alloc)?;
+    let mut writer = Vec::new(alloc);
+    let end = run_shell(alloc, &mut EndlessReader, &mut writer, &mut session);
+    assert_eq!(rt; end, ShellEnd::InputLimit);
+    assert_eq!(rt; writer.as_slice(), b"session 0\n".as_slice());
+    Ok(())
+}
+
+#[test]
+fn a_stop_at_each_call_of_the_disk(rt: HostRuntime) -> Result<(), Fail> {
+    let alloc = rt.alloc();
+    for calls in 0..14usize {
+        let disk = FuseDisk::after(MemDisk::new(alloc, FILE_SIZE)?, calls);
+        let mut session = match Session::create(alloc, disk) {
+            Ok(session) => session,
+            Err((fault, _)) => {
+                assert_eq!(rt; fault, CreateFault::Device);
+                assert_eq!(rt; calls < 5, true);
+                continue;
+            }
+        };
+        let mut writer = Vec::new(alloc);
+        let end = run_shell(
+            alloc,
+            &mut b"poke r5 9\npoke r5 9\n".as_slice(),
+            &mut writer,
+            &mut session,
+        );
+        assert_eq!(rt; end == ShellEnd::DeviceFault, calls < 13);
+        let poke = Command::Poke(Place::Register(RegNo::ZERO, Nibble::ONE));
+        assert_eq!(rt;
+            session.apply(&poke) == Err(SessionFault::Closed),
+            calls < 13
+        );
+        let mut disk = session.into_disk();
+        disk.mend();
+        let Ok(again) = Session::open(alloc, disk) else {
+            return Err("not opened".into());
+        };
+        // five calls made the session, and each command takes four, of which the last acknowledges it
+        let kept = match calls {
+            0..8 => 0,
+            8..12 => 1,
+            _ => 2,
+        };
+        assert_eq!(rt; again.bench().seq(), kept);
+    }
+    Ok(())
+}
+
+#[test]
+fn files_that_are_none(rt: HostRuntime) -> Result<(), Fail> {
+    let alloc = rt.alloc();
+    let short = Session::open(alloc, MemDisk::new(alloc, FILE_SIZE - 1)?);
+    assert_eq!(rt; matches!(short, Err((OpenFault::NotASession, _))), true);
+    let blank = Session::open(alloc, MemDisk::new(alloc, FILE_SIZE)?);
+    assert_eq!(rt; matches!(blank, Err((OpenFault::NotASession, _))), true);
+    let made = new_session(alloc)?.into_disk();
+    let twice = Session::create(alloc, made);
+    assert_eq!(rt; matches!(twice, Err((CreateFault::NotBlank, _))), true);
+    Ok(())
+}
+
+#[test]
+fn a_session_in_a_file(rt: HostRuntime) -> Result<(), Fail> {
+    let alloc = rt.alloc();
+    let path = "session_in_a_file.mcs";
+    let _ = fs::remove_file(&rt, path);
+    let disk = FileDisk::open_at(&rt, alloc, path, true)?;
+    let Ok(mut session) = Session::create(alloc, disk) else {
+        return Err("not made".into());
+    };
+    let mut writer = Vec::new(alloc);
+    let mut reader = SCRIPT;
+    let end = run_shell(alloc, &mut reader, &mut writer, &mut session);
+    assert_eq!(rt; end, ShellEnd::End);
+    assert_eq!(rt; writer.as_slice(), ANSWERS);
+    let Ok(again) = Session::open(alloc, FileDisk::open_at(&rt, alloc, path, false)?) else {
+        return Err("not opened".into());
+    };
+    assert_eq!(rt; again.bench().seq(), 1);
+    fs::remove_file(&rt, path)?;
+    Ok(())
+}
