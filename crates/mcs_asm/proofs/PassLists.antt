@@ -5,12 +5,12 @@ use Rattle.std.proofs.lemmas.List.{drop_more, drop_all}
 use lib.ListN.{replicate}
 use Rattle.mcs_asm.specs.declared.fault.FaultKind.{FaultKind}
 use Rattle.mcs_asm.specs.declared.fault.FaultKind.TheVariants.{NoMemory, Refused}
-use Rattle.mcs_model.specs.declared.mnemonic.LineFault.{LineFault}
-use Rattle.mcs_model.specs.declared.mnemonic.LineFault.TheVariants.{DoubleName, OutOfRange, Overlap, PastEnd, TooManyNames}
-use Rattle.mcs_model.specs.Lexical.{tokens}
-use Rattle.mcs_model.specs.Lines.{Line, line_of}
+use Rattle.mcs_source.specs.declared.mnemonic.LineFault.{LineFault}
+use Rattle.mcs_source.specs.declared.mnemonic.LineFault.TheVariants.{DoubleName, OutOfRange, Overlap, PastEnd, TooManyNames}
+use Rattle.mcs_source.specs.Lexical.{tokens}
+use Rattle.mcs_source.specs.Lines.{Line, line_of}
 use Rattle.mcs_model.specs.Pairs.{from_address, overlaps}
-use Rattle.mcs_model.specs.Assembly.{assembled, lines_of, then_two, Before, Names, Spelt, start, nothing_spelt, with_line, with_second, with_bytes, with_fault, fault_one, after, next_at, line_bytes, defined, is_known_name, is_bad_place, passes_end, pairs_of, go_on, class_one, class_two}
+use Rattle.mcs_source.specs.Assembly.{assembled, lines_of, then_two, Before, Names, Spelt, start, nothing_spelt, with_line, with_second, with_bytes, with_fault, fault_one, after, next_at, line_bytes, defined, is_known_name, is_bad_place, passes_end, pairs_of, go_on, class_one, class_two}
 use Rattle.mcs_asm.specs.Cells.{IsKept}
 use Rattle.mcs_asm.specs.View.{Steps, FailsAs, NumbersLine, Adds, HasNoFault}
 use Rattle.mcs_asm.proofs.CellPairs.{none_kept}

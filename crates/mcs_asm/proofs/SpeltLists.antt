@@ -3,18 +3,18 @@ use Rattle.std.proofs.Common.{◌≡◌, ℕ, ◌+◌, ◌≤◌, Bool, true, fa
 use Rattle.std.proofs.Common.{suc, ltb, leb, ap, subst, arith, ◌||◌, None, Some, ◌&&◌, [], ◌∷◌}
 use Rattle.std.proofs.lemmas.Bool.{true≢false, ltb-false}
 use Rattle.std.specs.List.{list_all}
-use Rattle.mcs_model.specs.declared.mnemonic.LineFault.{LineFault}
+use Rattle.mcs_source.specs.declared.mnemonic.LineFault.{LineFault}
 use Rattle.mcs_model.specs.declared.op.Op.{Op}
 use Rattle.mcs_model.specs.declared.op.Op.TheVariants as op
-use Rattle.mcs_model.specs.Lines as asm
+use Rattle.mcs_source.specs.Lines as asm
 use Rattle.mcs_model.specs.Table.{words_of}
-use Rattle.mcs_model.specs.Spelling.{spelling}
-use Rattle.mcs_model.specs.Assembly.{Names, value_in, values_in, bytes_at, size, known, within, on_page, is_near, line_bytes, passes_end}
+use Rattle.mcs_source.specs.Spelling.{spelling}
+use Rattle.mcs_source.specs.Assembly.{Names, value_in, values_in, bytes_at, size, known, within, on_page, is_near, line_bytes, passes_end}
 use Rattle.std.specs.Prelude.{is_some}
 use Rattle.std.specs.List.{list_any}
-use Rattle.mcs_model.specs.declared.mnemonic.LineFault.TheVariants.{Overlap}
+use Rattle.mcs_source.specs.declared.mnemonic.LineFault.TheVariants.{Overlap}
 use Rattle.mcs_model.specs.Pairs.{from_address, overlaps}
-use Rattle.mcs_model.specs.Assembly.{Spelt, with_bytes, with_second, next_at}
+use Rattle.mcs_source.specs.Assembly.{Spelt, with_bytes, with_second, next_at}
 use Rattle.mcs_asm.specs.Cells.{written, IsKept}
 use Rattle.mcs_asm.proofs.CellPairs.{taken_is, all_kept, free_from}
 

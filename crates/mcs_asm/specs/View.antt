@@ -17,13 +17,13 @@ use Rattle.mcs_asm.specs.declared.statements.Line.TheVariants as line
 use Rattle.mcs_asm.specs.declared.fault.FaultKind.{FaultKind}
 use Rattle.mcs_asm.specs.declared.fault.FaultKind.TheVariants.{NoMemory, Refused}
 use Rattle.mcs_asm.specs.declared.fault.AsmFault.{AsmFault}
-use Rattle.mcs_model.specs.declared.mnemonic.LineFault.{LineFault}
+use Rattle.mcs_source.specs.declared.mnemonic.LineFault.{LineFault}
 use Rattle.mcs_model.specs.declared.op.Op.{Op}
-use Rattle.mcs_model.specs.Spelling.{spelling}
-use Rattle.mcs_model.specs.Lexical as spec
-use Rattle.mcs_model.specs.Lines as lines
+use Rattle.mcs_source.specs.Spelling.{spelling}
+use Rattle.mcs_source.specs.Lexical as spec
+use Rattle.mcs_source.specs.Lines as lines
 use Rattle.mcs_model.specs.Pairs.{IsImageOf}
-use Rattle.mcs_model.specs.Assembly as spelt
+use Rattle.mcs_source.specs.Assembly as spelt
 use Rattle.mcs_asm.specs.Cells.{IsKept}
 
 abbrev pub token_view : Token → spec.Token

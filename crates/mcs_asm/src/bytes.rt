@@ -1,8 +1,8 @@
 //! The bytes that a statement spells.
 ghost use Rattle.std.specs.Prelude.{◌≡◌, ◌<◌, ◌≤◌, ◌/◌, ◌%◌, Bool, true, false, map, IfOk, length, nat_lt, Ok, Err, option_map};
 ghost use Rattle.std.specs.List.{list_all};
-ghost use Rattle.mcs_model.specs.Spelling.{spelling};
-ghost use Rattle.mcs_model.specs.Assembly.{value_in, values_in, bytes_at, line_bytes, is_near, known, within, on_page};
+ghost use Rattle.mcs_source.specs.Spelling.{spelling};
+ghost use Rattle.mcs_source.specs.Assembly.{value_in, values_in, bytes_at, line_bytes, is_near, known, within, on_page};
 ghost use Rattle.mcs_asm.specs.View.{operand_view, statement_view, line_view, words_view, StepsTo, SaysOp, IsNoData};
 
 use crate::fault::{FaultKind, LineFault};

@@ -1,5 +1,5 @@
 //! Why a text is refused.
-pub use mcs_model::mnemonic::LineFault;
+pub use mcs_source::mnemonic::LineFault;
 use std::alloc::AllocError;
 use thiserror::Error;
 

@@ -7,7 +7,7 @@ ghost use Rattle.std.specs.Ordering.{nat_cmp};
 ghost use Rattle.std.specs.Cmp.Lexicographic.{slice_cmp};
 ghost use Rattle.std.specs.BTreeMap.{get_by};
 ghost use Rattle.mcs_asm.specs.View.{statement_view, line_view, operand_view};
-ghost use Rattle.mcs_model.specs.Assembly.{Before, start, size, statement_size, is_known, is_known_name, defined, is_bad_statement, is_bad_place, next_statement, next_at, passes_end, fault_one, after, value_in};
+ghost use Rattle.mcs_source.specs.Assembly.{Before, start, size, statement_size, is_known, is_known_name, defined, is_bad_statement, is_bad_place, next_statement, next_at, passes_end, fault_one, after, value_in};
 
 use crate::fault::LineFault;
 use crate::statements::{Line, Operand, Statement};
@@ -30,7 +30,7 @@ pub struct Names<'a> {
 impl<'a> Model for Names<'a> {
     //! The names of a text, and the addresses of its statements.
     ghost use Rattle.std.specs.Prelude.{map, ◌≤◌};
-    ghost use Rattle.mcs_model.specs.Assembly.{Before};
+    ghost use Rattle.mcs_source.specs.Assembly.{Before};
     ghost use Rattle.mcs_asm.specs.View.{Tells};
 
     ghost Value = { Before };

@@ -1,8 +1,8 @@
 //! The two passes over the lines of a text: first the names, then the bytes.
 ghost use Rattle.std.specs.Prelude.{List, ℕ, ◌+◌, length, Ok, ◌≡◌, ◌<◌, ◌≤◌, ◌^◌, map};
-ghost use Rattle.mcs_model.specs.Lexical.{tokens};
-ghost use Rattle.mcs_model.specs.Lines.{line_of};
-ghost use Rattle.mcs_model.specs.Assembly.{start, with_line, class_one, class_two, nothing_spelt, pairs_of, assembled, with_bytes, with_second};
+ghost use Rattle.mcs_source.specs.Lexical.{tokens};
+ghost use Rattle.mcs_source.specs.Lines.{line_of};
+ghost use Rattle.mcs_source.specs.Assembly.{start, with_line, class_one, class_two, nothing_spelt, pairs_of, assembled, with_bytes, with_second};
 ghost use Rattle.mcs_asm.specs.View.{Steps, Passes, Assembles, NumbersLine, Keeps, Adds, Spells, HasNoFault};
 ghost use Rattle.mcs_asm.specs.Cells.{IsKept};
 

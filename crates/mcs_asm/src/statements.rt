@@ -1,14 +1,14 @@
 //! What a line of a source text says.
 ghost use Rattle.std.specs.Prelude.{◌≡◌, ◌&&◌, map, option_map, IfOk, MatchOption, ◌∷◌, Some, None};
 ghost use Rattle.std.specs.Option.{option_copied};
-ghost use Rattle.mcs_model.specs.Lexical.{Word, Colon, Equals, tokens, Token};
-ghost use Rattle.mcs_model.specs.Lines.{Whole, word_only, word_first, name_of, operand_of, one_operand, one_number, one_register, one_pair, first_operand, first_register, first_pair, rest_if, list_item, operands_of, behind_mnemonic, statement_of, nothing, rest_of, unlabelled, line_of};
-ghost use Rattle.mcs_model.specs.declared.mnemonic.Mnemonic.TheVariants.{Org, Jcn, Fim, Isz};
+ghost use Rattle.mcs_source.specs.Lexical.{Word, Colon, Equals, tokens, Token};
+ghost use Rattle.mcs_source.specs.Lines.{Whole, word_only, word_first, name_of, operand_of, one_operand, one_number, one_register, one_pair, first_operand, first_register, first_pair, rest_if, list_item, operands_of, behind_mnemonic, statement_of, nothing, rest_of, unlabelled, line_of};
+ghost use Rattle.mcs_source.specs.declared.mnemonic.Mnemonic.TheVariants.{Org, Jcn, Fim, Isz};
 ghost use Rattle.mcs_asm.specs.View.{operand_view, statement_view, line_view, NoLabel, NoDefinition};
 
 use crate::tokens::{Token, Tokens};
 use crate::words::{is_name, mnemonic_in, pair_in, register_in};
-use mcs_model::mnemonic::Mnemonic;
+use mcs_source::mnemonic::Mnemonic;
 use mcs_model::numeral::number;
 use mcs_model::op::Op;
 use mcs_nibble::{PairNo, RegNo};
@@ -240,7 +240,7 @@ fn behind<'a>(
 }
 
 /// The statement that the tokens are, all of them.
-#[tactic(auto, unfolding(mcs_model::specs::Lines::statement_of))]
+#[tactic(auto, unfolding(mcs_source::specs::Lines::statement_of))]
 fn read_statement<'a>(
     alloc: Global,
     tokens: &mut Tokens<'a>,

@@ -7,14 +7,14 @@ use Rattle.mcs_model.specs.QueryText.{hex_digit}
 use Rattle.std.specs.Char.{digit_value}
 use Rattle.mcs_model.specs.declared.op.Op.{Op}
 use Rattle.mcs_model.specs.declared.op.Op.TheVariants.{Nop, Jcn, Fim, Src, Fin, Jin, Jun, Jms, Inc, Isz, Add, Sub, Ld, Xch, Bbl, Ldm, Wrm, Wmp, Wrr, Wr0, Wr1, Wr2, Wr3, Sbm, Rdm, Rdr, Adm, Rd0, Rd1, Rd2, Rd3, Clb, Clc, Iac, Cmc, Cma, Ral, Rar, Tcc, Dac, Tcs, Stc, Daa, Kbp, Dcl}
-use Rattle.mcs_model.specs.Lexical.{Token, Word, Comma, tokens, tokens_after, word_then, is_word}
+use Rattle.mcs_source.specs.Lexical.{Token, Word, Comma, tokens, tokens_after, word_then, is_word}
 use Rattle.mcs_model.specs.Numerals.{capped, number_of}
-use Rattle.mcs_model.specs.Mnemonics.{mnemonic_of, orders, on_registers, on_ports, on_memory, on_accumulator, on_carry}
-use Rattle.mcs_model.specs.Lines as asm
-use Rattle.mcs_model.specs.Text.{byte_text, origin_text, hex_2, address, near_page}
-use Rattle.mcs_model.specs.Assembly.{Names, bytes_at, size, next_statement, is_bad_statement}
+use Rattle.mcs_source.specs.Mnemonics.{mnemonic_of, orders, on_registers, on_ports, on_memory, on_accumulator, on_carry}
+use Rattle.mcs_source.specs.Lines as asm
+use Rattle.mcs_source.specs.Text.{byte_text, origin_text, hex_2, address, near_page}
+use Rattle.mcs_source.specs.Assembly.{Names, bytes_at, size, next_statement, is_bad_statement}
 use Rattle.mcs_model.specs.Table.{words_of}
-use Rattle.mcs_model.specs.Spelling.{spelling, IsOp}
+use Rattle.mcs_source.specs.Spelling.{spelling, IsOp}
 use Rattle.mcs_dis.specs.Again.{statement, ReadsAs}
 
 -- a test of each number below n

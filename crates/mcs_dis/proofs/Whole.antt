@@ -4,11 +4,11 @@ use Rattle.std.proofs.lemmas.Bool.{le-ltb, lt-ltb, lt-leb}
 use Rattle.std.proofs.lemmas.List.{length-take, length-drop, take-append-drop}
 use Rattle.std.specs.List.{AllByRecursion}
 use Rattle.mcs_model.specs.declared.op.Op.{Op}
-use Rattle.mcs_model.specs.Lexical.{tokens}
-use Rattle.mcs_model.specs.Lines as asm
+use Rattle.mcs_source.specs.Lexical.{tokens}
+use Rattle.mcs_source.specs.Lines as asm
 use Rattle.mcs_model.specs.Pairs.{from_address, overlaps}
-use Rattle.mcs_model.specs.Assembly.{assembled, lines_of, start, nothing_spelt, Before, Spelt, with_line, with_second, class_one, class_two}
-use Rattle.mcs_model.specs.Text.{SpellsItself, origin_text, source_of, op_at, second_word, piece_text, piece_size, texts}
+use Rattle.mcs_source.specs.Assembly.{assembled, lines_of, start, nothing_spelt, Before, Spelt, with_line, with_second, class_one, class_two}
+use Rattle.mcs_source.specs.Text.{SpellsItself, origin_text, source_of, op_at, second_word, piece_text, piece_size, texts}
 use Rattle.mcs_dis.proofs.Clean.{line_is, address_clean}
 use Rattle.mcs_dis.proofs.LinesAgain.{IsLine, lines_again}
 use Rattle.mcs_dis.proofs.ReadBack.{origin_back}

@@ -7,7 +7,7 @@ use Rattle.std.proofs.lemmas.Bool.{eqb-true, and_parts, true≢false}
 use Rattle.mcs_model.specs.declared.op.Op.{Op}
 use Rattle.mcs_model.specs.declared.op.Op.TheVariants.{Jcn, Fim, Jun, Jms, Isz}
 use Rattle.mcs_model.specs.Table.{words_of, Row, rows, covers, row_of, decoded}
-use Rattle.mcs_model.specs.Spelling.{IsOp, spelling, IsSpelledBy}
+use Rattle.mcs_source.specs.Spelling.{IsOp, spelling, IsSpelledBy}
 
 -- the words of an instruction are these two, or the first; where the second is a byte, its operands are in their ranges
 abbrev pub Spells : ℕ → ℕ → Op → Type 0

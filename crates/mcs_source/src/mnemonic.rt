@@ -1,5 +1,5 @@
 //! The words of a source text, and what can be wrong with one of its lines.
-use crate::op::Op;
+use mcs_model::op::Op;
 use thiserror::Error;
 
 /// The word that begins a statement. A bare one has no operands.

@@ -2,13 +2,13 @@
 -- or a definition of a name. (Our own choice, with the operands of the MCS-4 Users Manual.)
 use Rattle.std.specs.Prelude.{ℕ, ◌-◌, Bool, true, false, not, ◌&&◌, ◌||◌, List, [], ◌∷◌, Option, Some, None, is_some, nat_le, ◌==◌, if◌then◌else◌, codes, length}
 use Rattle.std.specs.Str.{str_eq_ignore_ascii_case}
-use Rattle.mcs_model.specs.Lexical.{Token, Word, Comma, Colon, Equals, is_within}
+use Rattle.mcs_source.specs.Lexical.{Token, Word, Comma, Colon, Equals, is_within}
 use Rattle.mcs_model.specs.Numerals.{number_of, capped}
-use Rattle.mcs_model.specs.Mnemonics.{mnemonic_of}
+use Rattle.mcs_source.specs.Mnemonics.{mnemonic_of}
 use Rattle.mcs_model.specs.declared.op.Op.{Op}
 use Rattle.mcs_model.specs.declared.op.Op.TheVariants as op
-use Rattle.mcs_model.specs.declared.mnemonic.Mnemonic.{Mnemonic}
-use Rattle.mcs_model.specs.declared.mnemonic.Mnemonic.TheVariants as m
+use Rattle.mcs_source.specs.declared.mnemonic.Mnemonic.{Mnemonic}
+use Rattle.mcs_source.specs.declared.mnemonic.Mnemonic.TheVariants as m
 
 infixl 10 ◌>>=◌
 abbrev pub ◌>>=◌ : {A B : Type 0} → Option A → (A → Option B) → Option B

@@ -10,7 +10,7 @@ use Rattle.mcs_model.specs.Numbers.{page_of}
 use Rattle.mcs_model.specs.QueryText.{hex_digit}
 use Rattle.mcs_model.specs.Table.{decoded, words_of}
 use Rattle.mcs_model.specs.Pairs.{from_address}
-use Rattle.mcs_model.specs.Assembly.{assembled}
+use Rattle.mcs_source.specs.Assembly.{assembled}
 
 -- two upper case hexadecimal digits
 abbrev pub hex_2 : ℕ → List ℕ

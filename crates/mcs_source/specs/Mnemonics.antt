@@ -3,8 +3,8 @@
 use Rattle.std.specs.Prelude.{ℕ, List, [], ◌∷◌, Option, Some, None, codes, if◌then◌else◌}
 use Rattle.std.specs.Str.{str_eq_ignore_ascii_case}
 use Rattle.mcs_model.specs.declared.op.Op.TheVariants.{Nop, Wrm, Wmp, Wrr, Wr0, Wr1, Wr2, Wr3, Sbm, Rdm, Rdr, Adm, Rd0, Rd1, Rd2, Rd3, Clb, Clc, Iac, Cmc, Cma, Ral, Rar, Tcc, Dac, Tcs, Stc, Daa, Kbp, Dcl}
-use Rattle.mcs_model.specs.declared.mnemonic.Mnemonic.{Mnemonic}
-use Rattle.mcs_model.specs.declared.mnemonic.Mnemonic.TheVariants as m
+use Rattle.mcs_source.specs.declared.mnemonic.Mnemonic.{Mnemonic}
+use Rattle.mcs_source.specs.declared.mnemonic.Mnemonic.TheVariants as m
 
 -- what stands beside a word in a table, in either case
 abbrev pub named : List ℕ → List (List ℕ × Mnemonic) → Option Mnemonic

@@ -4,12 +4,12 @@ use Rattle.std.specs.Prelude.{ℕ, ◌+◌, ◌-◌, take, slice_index, ◌/◌,
 use Rattle.std.specs.List.{list_any, list_all}
 use Rattle.std.specs.Str.{bytes_eq}
 use Rattle.mcs_model.specs.declared.op.Op.TheVariants as op
-use Rattle.mcs_model.specs.declared.mnemonic.LineFault.{LineFault}
-use Rattle.mcs_model.specs.declared.mnemonic.LineFault.TheVariants.{BadStatement, DoubleName, UnknownName, OutOfRange, WrongPage, Overlap, PastEnd, TooManyNames}
-use Rattle.mcs_model.specs.Lexical.{tokens}
-use Rattle.mcs_model.specs.Lines.{◌>>=◌, Operand, Number, Name, Statement, Origin, Data, Whole, Ldm, Bbl, Jun, Jms, Fim, Jcn, Isz, Line, Code, Define, line_of}
+use Rattle.mcs_source.specs.declared.mnemonic.LineFault.{LineFault}
+use Rattle.mcs_source.specs.declared.mnemonic.LineFault.TheVariants.{BadStatement, DoubleName, UnknownName, OutOfRange, WrongPage, Overlap, PastEnd, TooManyNames}
+use Rattle.mcs_source.specs.Lexical.{tokens}
+use Rattle.mcs_source.specs.Lines.{◌>>=◌, Operand, Number, Name, Statement, Origin, Data, Whole, Ldm, Bbl, Jun, Jms, Fim, Jcn, Isz, Line, Code, Define, line_of}
 use Rattle.mcs_model.specs.Pairs.{from_address, overlaps}
-use Rattle.mcs_model.specs.Spelling.{spelling}
+use Rattle.mcs_source.specs.Spelling.{spelling}
 use Rattle.mcs_model.specs.Numbers.{page_of}
 use Rattle.mcs_model.specs.Table.{words_of}
 

@@ -1,0 +1,6 @@
+pub mod Spelling
+pub mod Lexical
+pub mod Mnemonics
+pub mod Lines
+pub mod Assembly
+pub mod Text
