@@ -13,5 +13,5 @@ mod text;
 mod tokens;
 mod words;
 
-pub use fault::{AsmFault, FaultKind, LineFault};
+pub use fault::{AsmFault, FaultKind, SourceFault};
 pub use passes::assemble;

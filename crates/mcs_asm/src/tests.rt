@@ -1,4 +1,4 @@
-use crate::{AsmFault, FaultKind, LineFault, assemble};
+use crate::{AsmFault, FaultKind, SourceFault, assemble};
 use mcs_nibble::Addr;
 use std::alloc::{AllocError, Global};
 use std::test::Fail;
@@ -7,7 +7,7 @@ use std::test::Fail;
 type ImageRow = (&'static str, &'static [(u16, u8)]);
 
 /// A text, and its first fault with the number of its line.
-type FaultRow = (&'static str, usize, LineFault);
+type FaultRow = (&'static str, usize, SourceFault);
 
 /// Each instruction once, in the order of the code table.
 const UPPER_CASE: &str =
@@ -48,7 +48,7 @@ fn has_codes(pairs: &[(Addr, u8)]) -> bool {
             .all(|((at, code), pair)| pair.0.get() == at && pair.1 == *code)
 }
 
-fn is_refused(alloc: Global, text: &str, line: usize, fault: LineFault) -> bool {
+fn is_refused(alloc: Global, text: &str, line: usize, fault: SourceFault) -> bool {
     match assemble(alloc, text) {
         Ok(_) => false,
         Err(found) => {
@@ -180,25 +180,25 @@ fn programs_spell_their_images(rt: HostRuntime) -> Result<(), Fail> {
 
 /// Texts with their first faults.
 const FIRST_FAULTS: [FaultRow; 19] = [
-    ("ORG 0x0FE\nJCN 1, 0x010\n", 2, LineFault::WrongPage),
-    ("LDM 1\nORG 0\nLDM 1\n", 3, LineFault::Overlap),
-    ("FOO\n", 1, LineFault::BadStatement),
-    ("A:\nA:\n", 2, LineFault::DoubleName),
-    ("LDM B\n", 1, LineFault::UnknownName),
-    ("LDM 16\n", 1, LineFault::OutOfRange),
-    ("ORG 4096\n", 1, LineFault::OutOfRange),
-    ("ORG 0xFFF\nJUN 0\n", 2, LineFault::PastEnd),
-    ("LDM 16\nFOO\n", 2, LineFault::BadStatement),
-    ("LDM5\n", 1, LineFault::BadStatement),
-    ("NOP \u{e4}\n", 1, LineFault::BadStatement),
-    ("r15 = 1\n", 1, LineFault::BadStatement),
-    ("abcdefghijklmnopq:\n", 1, LineFault::BadStatement),
-    ("JCN 16, foo\n", 1, LineFault::UnknownName),
-    ("JCN 16, 0x300\n", 1, LineFault::OutOfRange),
-    ("ORG 0xFFF\nNOP\nend:\n", 3, LineFault::PastEnd),
-    ("DB 99999999999999999999\n", 1, LineFault::OutOfRange),
-    ("LDM 16\nLDM x\n", 1, LineFault::OutOfRange),
-    ("a = 4096\n", 1, LineFault::OutOfRange),
+    ("ORG 0x0FE\nJCN 1, 0x010\n", 2, SourceFault::WrongPage),
+    ("LDM 1\nORG 0\nLDM 1\n", 3, SourceFault::Overlap),
+    ("FOO\n", 1, SourceFault::BadStatement),
+    ("A:\nA:\n", 2, SourceFault::DoubleName),
+    ("LDM B\n", 1, SourceFault::UnknownName),
+    ("LDM 16\n", 1, SourceFault::OutOfRange),
+    ("ORG 4096\n", 1, SourceFault::OutOfRange),
+    ("ORG 0xFFF\nJUN 0\n", 2, SourceFault::PastEnd),
+    ("LDM 16\nFOO\n", 2, SourceFault::BadStatement),
+    ("LDM5\n", 1, SourceFault::BadStatement),
+    ("NOP \u{e4}\n", 1, SourceFault::BadStatement),
+    ("r15 = 1\n", 1, SourceFault::BadStatement),
+    ("abcdefghijklmnopq:\n", 1, SourceFault::BadStatement),
+    ("JCN 16, foo\n", 1, SourceFault::UnknownName),
+    ("JCN 16, 0x300\n", 1, SourceFault::OutOfRange),
+    ("ORG 0xFFF\nNOP\nend:\n", 3, SourceFault::PastEnd),
+    ("DB 99999999999999999999\n", 1, SourceFault::OutOfRange),
+    ("LDM 16\nLDM x\n", 1, SourceFault::OutOfRange),
+    ("a = 4096\n", 1, SourceFault::OutOfRange),
 ];
 
 #[test]
@@ -220,17 +220,17 @@ fn each_instruction_is_read_in_either_case(rt: HostRuntime) -> Result<(), Fail> 
 
 /// Texts in which a line, or several, have more than one fault.
 const SEVERAL_FAULTS: [FaultRow; 8] = [
-    ("a = 1\na = 4096\n", 2, LineFault::OutOfRange),
-    ("ORG 0xFFF\nNOP\na = 0\na:\n", 4, LineFault::DoubleName),
-    ("LDM x\nORG 4096\n", 2, LineFault::OutOfRange),
-    ("DB 256, x\n", 1, LineFault::UnknownName),
-    ("JUN 0\nORG 0\nLDM 16\n", 3, LineFault::OutOfRange),
-    ("JUN 0\nORG 0\nJCN 1, 0x300\n", 3, LineFault::WrongPage),
-    ("JUN 0\nORG 1\nNOP\nLDM x\n", 3, LineFault::Overlap),
+    ("a = 1\na = 4096\n", 2, SourceFault::OutOfRange),
+    ("ORG 0xFFF\nNOP\na = 0\na:\n", 4, SourceFault::DoubleName),
+    ("LDM x\nORG 4096\n", 2, SourceFault::OutOfRange),
+    ("DB 256, x\n", 1, SourceFault::UnknownName),
+    ("JUN 0\nORG 0\nLDM 16\n", 3, SourceFault::OutOfRange),
+    ("JUN 0\nORG 0\nJCN 1, 0x300\n", 3, SourceFault::WrongPage),
+    ("JUN 0\nORG 1\nNOP\nLDM x\n", 3, SourceFault::Overlap),
     (
         "NOP\nNOP\nORG 0\nDB 1, 2, 3, x\nORG 4096\n",
         5,
-        LineFault::OutOfRange,
+        SourceFault::OutOfRange,
     ),
 ];
 
@@ -244,17 +244,17 @@ fn a_line_has_the_first_of_its_faults(rt: HostRuntime) -> Result<(), Fail> {
 
 /// Values, labels and bytes outside their ranges.
 const OUTSIDE_RANGES: [FaultRow; 11] = [
-    ("BBL 16\n", 1, LineFault::OutOfRange),
-    ("FIM P0, 256\n", 1, LineFault::OutOfRange),
-    ("JUN 4096\n", 1, LineFault::OutOfRange),
-    ("JMS 0x1000\n", 1, LineFault::OutOfRange),
-    ("DB 1, 256\n", 1, LineFault::OutOfRange),
-    ("ISZ R0, 4096\n", 1, LineFault::OutOfRange),
-    ("ISZ R0, 0x100\n", 1, LineFault::WrongPage),
-    ("ORG 0xFFE\nJCN 1, 0xFFF\n", 2, LineFault::WrongPage),
-    ("ORG 0xFFE\nDB 1, 2, 3\n", 2, LineFault::PastEnd),
-    ("ORG 0xFFF\nNOP\nNOP\n", 3, LineFault::PastEnd),
-    ("ORG 0xFFF\nNOP\nx: ORG 0\n", 3, LineFault::PastEnd),
+    ("BBL 16\n", 1, SourceFault::OutOfRange),
+    ("FIM P0, 256\n", 1, SourceFault::OutOfRange),
+    ("JUN 4096\n", 1, SourceFault::OutOfRange),
+    ("JMS 0x1000\n", 1, SourceFault::OutOfRange),
+    ("DB 1, 256\n", 1, SourceFault::OutOfRange),
+    ("ISZ R0, 4096\n", 1, SourceFault::OutOfRange),
+    ("ISZ R0, 0x100\n", 1, SourceFault::WrongPage),
+    ("ORG 0xFFE\nJCN 1, 0xFFF\n", 2, SourceFault::WrongPage),
+    ("ORG 0xFFE\nDB 1, 2, 3\n", 2, SourceFault::PastEnd),
+    ("ORG 0xFFF\nNOP\nNOP\n", 3, SourceFault::PastEnd),
+    ("ORG 0xFFF\nNOP\nx: ORG 0\n", 3, SourceFault::PastEnd),
 ];
 
 #[test]
@@ -308,7 +308,7 @@ const NO_FORMS: [&str; 35] = [
 fn lines_without_a_form_are_refused(rt: HostRuntime) -> Result<(), Fail> {
     for text in NO_FORMS {
         assert!(rt;
-            is_refused(rt.alloc(), text, 1, LineFault::BadStatement),
+            is_refused(rt.alloc(), text, 1, SourceFault::BadStatement),
             "at {text}"
         );
     }
@@ -329,14 +329,14 @@ fn names_and(alloc: Global, count: u32, last: &str) -> Result<String, AllocError
 fn a_513th_name_is_refused(rt: HostRuntime) -> Result<(), Fail> {
     let alloc = rt.alloc();
     let text = names_and(alloc, 513, "")?;
-    assert!(rt; is_refused(alloc, &text, 513, LineFault::TooManyNames));
+    assert!(rt; is_refused(alloc, &text, 513, SourceFault::TooManyNames));
     let text = names_and(alloc, 512, "LDM n511")?;
     assert!(rt; spells(alloc, &text, &[(0, 0xD0)]));
     let rows: [FaultRow; 4] = [
-        ("n0 = 0", 513, LineFault::DoubleName),
-        ("x = 4096", 513, LineFault::OutOfRange),
-        ("ORG 0xFFF\nNOP\nx:", 515, LineFault::TooManyNames),
-        ("LDM n512", 513, LineFault::UnknownName),
+        ("n0 = 0", 513, SourceFault::DoubleName),
+        ("x = 4096", 513, SourceFault::OutOfRange),
+        ("ORG 0xFFF\nNOP\nx:", 515, SourceFault::TooManyNames),
+        ("LDM n512", 513, SourceFault::UnknownName),
     ];
     for (last, line, fault) in rows {
         let text = names_and(alloc, 512, last)?;

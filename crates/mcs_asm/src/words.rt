@@ -3,7 +3,7 @@ ghost use Rattle.std.specs.Prelude.{◌≡◌, ◌<◌, IfSome, ◌↔◌, IsSom
 ghost use Rattle.std.specs.Str.{str_eq_ignore_ascii_case};
 ghost use Rattle.mcs_source.specs.Mnemonics.{orders, on_registers, on_ports, on_memory, on_accumulator, on_carry, mnemonic_of};
 ghost use Rattle.mcs_source.specs.declared.mnemonic.Mnemonic.TheVariants.{Bare};
-ghost use Rattle.mcs_source.specs.Lines.{begins_name, up_to_15, register_of, pair_of, is_reserved, is_name};
+ghost use Rattle.mcs_source.specs.Lines.{begins_name, up_to_15, register_named, pair_named, is_reserved, is_name};
 
 use mcs_model::limits::NAME_BYTES;
 use mcs_source::mnemonic::Mnemonic;
@@ -201,8 +201,8 @@ fn small_decimal(digits: &[u8]) -> Option<u8>
 }
 
 /// `R0` to `R15`, in either case.
-pub fn register_in(word: &[u8]) -> Option<RegNo>
-    ensures { result ≡ register_of word.now }
+pub fn register_named(word: &[u8]) -> Option<RegNo>
+    ensures { result ≡ register_named word.now }
 {
     match word {
         [b'R' | b'r', digits @ ..] => RegNo::of(small_decimal(digits)?),
@@ -211,8 +211,8 @@ pub fn register_in(word: &[u8]) -> Option<RegNo>
 }
 
 /// `P0` to `P7`, in either case.
-pub fn pair_in(word: &[u8]) -> Option<PairNo>
-    ensures { result ≡ pair_of word.now }
+pub fn pair_named(word: &[u8]) -> Option<PairNo>
+    ensures { result ≡ pair_named word.now }
 {
     match word {
         [b'P' | b'p', d] if (b'0'..=b'7').contains(d) => PairNo::of(*d - b'0'),
@@ -227,8 +227,8 @@ fn is_reserved(word: &[u8]) -> bool
 {
     mnemonic_in(word).is_some()
         || is_word(word, b"WPM")
-        || register_in(word).is_some()
-        || pair_in(word).is_some()
+        || register_named(word).is_some()
+        || pair_named(word).is_some()
 }
 
 fn begins_name(word: &[u8]) -> bool

@@ -3,10 +3,12 @@
 ghost use Rattle.std.specs.Prelude.{◌≡◌, ◌<◌, ◌*◌, ◌||◌, not, MatchOption, Ok, Err, None, nat_lt, nat_le, length, slice_get, slice_index};
 ghost use Rattle.std.specs.List.{list_any};
 ghost use Rattle.mcs_model.specs.Boards.{fault_of, in_range, exists_on, masks_on, is_input_line, is_output_line, is_chain_size, is_matrix_size, has_bad_matrix, has_bad_value, lacks_rows, lacks_line, has_wrong_direction, any_chain_line, any_column, any_lamp, any_line, input_on, chain_bits, chain_count, chain_part, has_key, empty_parts, IsSized};
+ghost use Rattle.mcs_model.specs.Refusal.{board_refusal_number};
 
 use crate::limits::{
     BANK_CHIPS, BANKS, CHAIN_BITS, CHAIN_CHIPS, CHAINS, KEY_COLUMNS, KEY_ROWS, LAMPS, ROMS,
 };
+use crate::refusal_numbers;
 use arrayvec::ArrayVec;
 use mcs_nibble::LineMask;
 use std::marker::Model;
@@ -80,15 +82,28 @@ pub struct BoardParts {
 /// Why parts make no board: the first of these that is so.
 #[derive(Clone, Copy, Debug, PartialEq, Eq, Error)]
 pub enum BoardFault {
-    /// A number is out of its range, or a key matrix has no column.
+    /// A number is out of its range, or a key matrix has no column (no 23).
     #[error("a number is out of its range")]
     BadValue,
-    /// A line, a chain or a row's bit is not on the board.
+    /// A line, a chain or a row's bit is not on the board (no 25).
     #[error("no such line on the board")]
     NoSuchLine,
-    /// An input line where an output line is wanted, or the other way round.
+    /// An input line where an output line is wanted, or the other way round (no 26).
     #[error("a line of the wrong direction")]
     WrongDirection,
+}
+
+impl BoardFault {
+    /// The number that the refusal is told by.
+    pub fn number(self) -> u8
+        ensures { result ≡ board_refusal_number self }
+    {
+        match self {
+            BoardFault::BadValue => refusal_numbers::BAD_VALUE,
+            BoardFault::NoSuchLine => refusal_numbers::NO_SUCH_LINE,
+            BoardFault::WrongDirection => refusal_numbers::WRONG_DIRECTION,
+        }
+    }
 }
 
 /// Whether the numbers of a line are in their ranges.

@@ -3,9 +3,10 @@
 use Rattle.std.specs.Prelude.{ℕ, ◌+◌, ◌-◌, take, slice_index, ◌/◌, ◌%◌, Bool, true, false, not, ◌&&◌, ◌||◌, List, [], ◌∷◌, ◌++◌, length, Option, Some, None, is_some, Result, Ok, Err, nat_lt, nat_le, ◌==◌, if◌then◌else◌}
 use Rattle.std.specs.List.{list_any, list_all}
 use Rattle.std.specs.Str.{bytes_eq}
+use Rattle.mcs_model.specs.declared.limits.TheConstants.{NAMES}
 use Rattle.mcs_model.specs.declared.op.Op.TheVariants as op
-use Rattle.mcs_source.specs.declared.mnemonic.LineFault.{LineFault}
-use Rattle.mcs_source.specs.declared.mnemonic.LineFault.TheVariants.{BadStatement, DoubleName, UnknownName, OutOfRange, WrongPage, Overlap, PastEnd, TooManyNames}
+use Rattle.mcs_source.specs.declared.fault.SourceFault.{SourceFault}
+use Rattle.mcs_source.specs.declared.fault.SourceFault.TheVariants.{BadStatement, DoubleName, UnknownName, OutOfRange, WrongPage, Overlap, PastEnd, TooManyNames}
 use Rattle.mcs_source.specs.Lexical.{tokens}
 use Rattle.mcs_source.specs.Lines.{◌>>=◌, Operand, Number, Name, Statement, Origin, Data, Whole, Ldm, Bbl, Jun, Jms, Fim, Jcn, Isz, Line, Code, Define, line_of}
 use Rattle.mcs_model.specs.Pairs.{from_address, overlaps}
@@ -45,8 +46,8 @@ pub record Before : Type 0 where
   pub at : ℕ
   pub names : Names
 
-abbrev pub start : Before
-start = record { at = 0; names = [] }
+abbrev pub nothing_before : Before
+nothing_before = record { at = 0; names = [] }
 
 -- how many bytes a statement spells, whatever its names are
 abbrev pub size : Statement → ℕ
@@ -69,9 +70,9 @@ abbrev pub is_known : List ℕ → Names → Bool
 is_known w names = list_any (λ n. bytes_eq n.0 w) names
 
 -- the name that a line defines
-abbrev pub defined : Line → Option (List ℕ)
-defined (Code label s) = label
-defined (Define w n) = Some w
+abbrev pub defined_name : Line → Option (List ℕ)
+defined_name (Code label s) = label
+defined_name (Define w n) = Some w
 
 abbrev pub is_known_name : Option (List ℕ) → Names → Bool
 is_known_name None names = false
@@ -92,11 +93,11 @@ passes_end (Define w n) at = false
 passes_end (Code label s) at = (is_some label && nat_le 4096 at) || nat_lt 4096 (at + statement_size s)
 
 -- the first of no 33, 31, 37 and 36 that a line has, if any
-abbrev pub fault_one : Before → Line → Option LineFault
+abbrev pub fault_one : Before → Line → Option SourceFault
 fault_one b line =
     if is_bad_place line then Some OutOfRange else
-    if is_known_name (defined line) b.names then Some DoubleName else
-    if is_some (defined line) && nat_le 512 (length b.names) then Some TooManyNames else
+    if is_known_name (defined_name line) b.names then Some DoubleName else
+    if is_some (defined_name line) && nat_le NAMES (length b.names) then Some TooManyNames else
     if passes_end line b.at then Some PastEnd else None
 
 abbrev pub next_statement : Option Statement → ℕ → ℕ
@@ -117,27 +118,27 @@ abbrev pub with_names : Line → ℕ → Names → Names
 with_names (Code label s) at names = with_label label at names
 with_names (Define w n) at names = names ++ (w, n) ∷ []
 
-abbrev pub after : Before → Line → Before
-after b line = record { at = next_at line b.at; names = with_names line b.at b.names }
+abbrev pub before_next : Before → Line → Before
+before_next b line = record { at = next_at line b.at; names = with_names line b.at b.names }
 
-abbrev pub with_fault : {A : Type 0} → Option LineFault → A → Result A LineFault
-with_fault (Some f) b = Err f
-with_fault None b = Ok b
+abbrev pub unless_fault : {A : Type 0} → Option SourceFault → A → Result A SourceFault
+unless_fault (Some f) b = Err f
+unless_fault None b = Ok b
 
 -- what the lines say with one more, or its fault; no 30 where it has no form
-abbrev pub with_line : Before → Option Line → Result Before LineFault
-with_line b None = Err BadStatement
-with_line b (Some line) = with_fault (fault_one b line) (after b line)
+abbrev pub before_with_line : Before → Option Line → Result Before SourceFault
+before_with_line b None = Err BadStatement
+before_with_line b (Some line) = unless_fault (fault_one b line) (before_next b line)
 
 -- a fault with the number of its line, or what comes of the lines behind
-abbrev pub go_on : {A B : Type 0} → ℕ → Result A LineFault → (A → Result B (ℕ × LineFault)) → Result B (ℕ × LineFault)
-go_on k (Err f) next = Err (k, f)
-go_on k (Ok b) next = next b
+abbrev pub then_lines : {A B : Type 0} → ℕ → Result A SourceFault → (A → Result B (ℕ × SourceFault)) → Result B (ℕ × SourceFault)
+then_lines k (Err f) next = Err (k, f)
+then_lines k (Ok b) next = next b
 
 -- the first line with a fault of class one, or what all lines say; `k` is the number of the first
-unfoldable pub class_one : ℕ → Before → List (List ℕ) → Result Before (ℕ × LineFault)
+unfoldable pub class_one : ℕ → Before → List (List ℕ) → Result Before (ℕ × SourceFault)
 class_one k b [] = Ok b
-class_one k b (line ∷ lines) = go_on k (with_line b (line_of (tokens line))) (λ c. class_one (k + 1) c lines)
+class_one k b (line ∷ lines) = then_lines k (before_with_line b (line_of (tokens line))) (λ c. class_one (k + 1) c lines)
 
 -- ---- faults of class two, and the pairs: a line is judged by the lines before it and by all names
 
@@ -155,39 +156,39 @@ values_in names [] = Some []
 values_in names (v ∷ vs) = value_in names v >>= λ n. values_in names vs >>= λ ns. Some (n ∷ ns)
 
 -- no 32 where a value is unknown
-abbrev pub known : {A B : Type 0} → Option A → (A → Result B LineFault) → Result B LineFault
-known None next = Err UnknownName
-known (Some x) next = next x
+abbrev pub if_known : {A B : Type 0} → Option A → (A → Result B SourceFault) → Result B SourceFault
+if_known None next = Err UnknownName
+if_known (Some x) next = next x
 
 -- no 33 where a value is out of its range
-abbrev pub within : {B : Type 0} → Bool → Result B LineFault → Result B LineFault
-within false next = Err OutOfRange
-within true next = next
+abbrev pub if_in_range : {B : Type 0} → Bool → Result B SourceFault → Result B SourceFault
+if_in_range false next = Err OutOfRange
+if_in_range true next = next
 
 -- no 34 where an address is off its page
-abbrev pub on_page : {B : Type 0} → Bool → Result B LineFault → Result B LineFault
-on_page false next = Err WrongPage
-on_page true next = next
+abbrev pub if_on_page : {B : Type 0} → Bool → Result B SourceFault → Result B SourceFault
+if_on_page false next = Err WrongPage
+if_on_page true next = next
 
 -- JCN and ISZ reach the page of the address behind their two words (MCS-4 Users Manual, JCN and ISZ)
 abbrev pub is_near : ℕ → ℕ → Bool
 is_near at t = t / 256 == page_of (at + 2)
 
 -- the bytes that a statement at an address spells, or the first of no 32, 33 and 34 that it has
-abbrev pub bytes_at : ℕ → Names → Statement → Result (List ℕ) LineFault
+abbrev pub bytes_at : ℕ → Names → Statement → Result (List ℕ) SourceFault
 bytes_at at names (Origin n) = Ok []
-bytes_at at names (Data vs) = known (values_in names vs) (λ ns. within (list_all (λ n. nat_lt n 256) ns) (Ok ns))
+bytes_at at names (Data vs) = if_known (values_in names vs) (λ ns. if_in_range (list_all (λ n. nat_lt n 256) ns) (Ok ns))
 bytes_at at names (Whole o) = Ok (spelling o)
-bytes_at at names (Ldm v) = known (value_in names v) (λ n. within (nat_lt n 16) (Ok (spelling (op.Ldm n))))
-bytes_at at names (Bbl v) = known (value_in names v) (λ n. within (nat_lt n 16) (Ok (spelling (op.Bbl n))))
-bytes_at at names (Jun v) = known (value_in names v) (λ t. within (nat_lt t 4096) (Ok (spelling (op.Jun (t / 256) (t % 256)))))
-bytes_at at names (Jms v) = known (value_in names v) (λ t. within (nat_lt t 4096) (Ok (spelling (op.Jms (t / 256) (t % 256)))))
-bytes_at at names (Fim p v) = known (value_in names v) (λ n. within (nat_lt n 256) (Ok (spelling (op.Fim p n))))
-bytes_at at names (Jcn v w) = known (value_in names v) (λ n. known (value_in names w) (λ t. within (nat_lt n 16 && nat_lt t 4096) (on_page (is_near at t) (Ok (spelling (op.Jcn n (t % 256)))))))
-bytes_at at names (Isz r w) = known (value_in names w) (λ t. within (nat_lt t 4096) (on_page (is_near at t) (Ok (spelling (op.Isz r (t % 256))))))
+bytes_at at names (Ldm v) = if_known (value_in names v) (λ n. if_in_range (nat_lt n 16) (Ok (spelling (op.Ldm n))))
+bytes_at at names (Bbl v) = if_known (value_in names v) (λ n. if_in_range (nat_lt n 16) (Ok (spelling (op.Bbl n))))
+bytes_at at names (Jun v) = if_known (value_in names v) (λ t. if_in_range (nat_lt t 4096) (Ok (spelling (op.Jun (t / 256) (t % 256)))))
+bytes_at at names (Jms v) = if_known (value_in names v) (λ t. if_in_range (nat_lt t 4096) (Ok (spelling (op.Jms (t / 256) (t % 256)))))
+bytes_at at names (Fim p v) = if_known (value_in names v) (λ n. if_in_range (nat_lt n 256) (Ok (spelling (op.Fim p n))))
+bytes_at at names (Jcn v w) = if_known (value_in names v) (λ n. if_known (value_in names w) (λ t. if_in_range (nat_lt n 16 && nat_lt t 4096) (if_on_page (is_near at t) (Ok (spelling (op.Jcn n (t % 256)))))))
+bytes_at at names (Isz r w) = if_known (value_in names w) (λ t. if_in_range (nat_lt t 4096) (if_on_page (is_near at t) (Ok (spelling (op.Isz r (t % 256))))))
 
 -- the bytes of a line whose statement stands at an address
-abbrev pub line_bytes : ℕ → Names → Line → Result (List ℕ) LineFault
+abbrev pub line_bytes : ℕ → Names → Line → Result (List ℕ) SourceFault
 line_bytes at names (Code label (Some s)) = bytes_at at names s
 line_bytes at names line = Ok []
 
@@ -200,30 +201,30 @@ abbrev pub nothing_spelt : Spelt
 nothing_spelt = record { at = 0; pairs = [] }
 
 -- the pairs with those of one more line; no 35 where an earlier line spells one of its addresses
-abbrev pub with_bytes : Spelt → ℕ → Result (List ℕ) LineFault → Result Spelt LineFault
-with_bytes s next (Err f) = Err f
-with_bytes s next (Ok bytes) = if overlaps s.pairs s.at (length bytes) then Err Overlap else Ok (record { at = next; pairs = s.pairs ++ from_address s.at bytes })
+abbrev pub spelt_with_bytes : Spelt → ℕ → Result (List ℕ) SourceFault → Result Spelt SourceFault
+spelt_with_bytes s next (Err f) = Err f
+spelt_with_bytes s next (Ok bytes) = if overlaps s.pairs s.at (length bytes) then Err Overlap else Ok (record { at = next; pairs = s.pairs ++ from_address s.at bytes })
 
-abbrev pub with_second : Names → Spelt → Option Line → Result Spelt LineFault
-with_second names s None = Err BadStatement
-with_second names s (Some line) = with_bytes s (next_at line s.at) (line_bytes s.at names line)
+abbrev pub spelt_with_line : Names → Spelt → Option Line → Result Spelt SourceFault
+spelt_with_line names s None = Err BadStatement
+spelt_with_line names s (Some line) = spelt_with_bytes s (next_at line s.at) (line_bytes s.at names line)
 
 -- the first line with a fault of class two, or what all lines spell; `k` is the number of the first
-unfoldable pub class_two : ℕ → Names → Spelt → List (List ℕ) → Result Spelt (ℕ × LineFault)
+unfoldable pub class_two : ℕ → Names → Spelt → List (List ℕ) → Result Spelt (ℕ × SourceFault)
 class_two k names s [] = Ok s
-class_two k names s (line ∷ lines) = go_on k (with_second names s (line_of (tokens line))) (λ t. class_two (k + 1) names t lines)
+class_two k names s (line ∷ lines) = then_lines k (spelt_with_line names s (line_of (tokens line))) (λ t. class_two (k + 1) names t lines)
 
 -- ---- the whole
 
-abbrev pub pairs_of : Result Spelt (ℕ × LineFault) → Result (List (ℕ × ℕ)) (ℕ × LineFault)
+abbrev pub pairs_of : Result Spelt (ℕ × SourceFault) → Result (List (ℕ × ℕ)) (ℕ × SourceFault)
 pairs_of (Err f) = Err f
 pairs_of (Ok s) = Ok s.pairs
 
-abbrev pub then_two : List (List ℕ) → Result Before (ℕ × LineFault) → Result (List (ℕ × ℕ)) (ℕ × LineFault)
-then_two lines (Err f) = Err f
-then_two lines (Ok b) = pairs_of (class_two 1 b.names nothing_spelt lines)
+abbrev pub then_class_two : List (List ℕ) → Result Before (ℕ × SourceFault) → Result (List (ℕ × ℕ)) (ℕ × SourceFault)
+then_class_two lines (Err f) = Err f
+then_class_two lines (Ok b) = pairs_of (class_two 1 b.names nothing_spelt lines)
 
 -- the pairs that a text spells, in order of lines, or its first fault with the number of its line from 1: of class one if
 -- there is one, else of class two
-abbrev pub assembled : List ℕ → Result (List (ℕ × ℕ)) (ℕ × LineFault)
-assembled text = then_two (lines_of text) (class_one 1 start (lines_of text))
+abbrev pub assembled : List ℕ → Result (List (ℕ × ℕ)) (ℕ × SourceFault)
+assembled text = then_class_two (lines_of text) (class_one 1 nothing_before (lines_of text))

@@ -1,3 +1,4 @@
+pub mod Refusal
 pub mod Spelling
 pub mod Lexical
 pub mod Mnemonics

@@ -3,8 +3,9 @@
 use Rattle.std.specs.Prelude.{ℕ, ◌-◌, Bool, true, false, not, ◌&&◌, ◌||◌, List, [], ◌∷◌, Option, Some, None, is_some, nat_le, ◌==◌, if◌then◌else◌, codes, length}
 use Rattle.std.specs.Str.{str_eq_ignore_ascii_case}
 use Rattle.mcs_source.specs.Lexical.{Token, Word, Comma, Colon, Equals, is_within}
-use Rattle.mcs_model.specs.Numerals.{number_of, capped}
+use Rattle.mcs_model.specs.Numerals.{number_written, capped}
 use Rattle.mcs_source.specs.Mnemonics.{mnemonic_of}
+use Rattle.mcs_model.specs.declared.limits.TheConstants.{NAME_BYTES}
 use Rattle.mcs_model.specs.declared.op.Op.{Op}
 use Rattle.mcs_model.specs.declared.op.Op.TheVariants as op
 use Rattle.mcs_source.specs.declared.mnemonic.Mnemonic.{Mnemonic}
@@ -42,22 +43,22 @@ up_to_15 (t ∷ d ∷ []) = if t == 49 && is_within 48 53 d then Some (d - 38) e
 up_to_15 ds = None
 
 -- `R0` to `R15`
-abbrev pub register_of : List ℕ → Option ℕ
-register_of (b ∷ ds) = if b == 82 || b == 114 then up_to_15 ds else None
-register_of [] = None
+abbrev pub register_named : List ℕ → Option ℕ
+register_named (b ∷ ds) = if b == 82 || b == 114 then up_to_15 ds else None
+register_named [] = None
 
 -- `P0` to `P7`
-abbrev pub pair_of : List ℕ → Option ℕ
-pair_of (b ∷ d ∷ []) = if (b == 80 || b == 112) && is_within 48 55 d then Some (d - 48) else None
-pair_of word = None
+abbrev pub pair_named : List ℕ → Option ℕ
+pair_named (b ∷ d ∷ []) = if (b == 80 || b == 112) && is_within 48 55 d then Some (d - 48) else None
+pair_named word = None
 
 -- a word that is no name, in either case: a mnemonic, `ORG`, `DB`, `WPM`, a register or a pair
 unfoldable pub is_reserved : List ℕ → Bool
-is_reserved w = is_some (mnemonic_of w) || (str_eq_ignore_ascii_case w (codes "WPM") || (is_some (register_of w) || is_some (pair_of w)))
+is_reserved w = is_some (mnemonic_of w) || (str_eq_ignore_ascii_case w (codes "WPM") || (is_some (register_named w) || is_some (pair_named w)))
 
--- a name begins with a letter or `_`, has at most 16 bytes, and is not reserved
+-- a name begins with a letter or `_`, has at most so many bytes, and is not reserved
 abbrev pub is_name : List ℕ → Bool
-is_name w = (begins_name w && nat_le (length w) 16) && not (is_reserved w)
+is_name w = (begins_name w && nat_le (length w) NAME_BYTES) && not (is_reserved w)
 
 abbrev pub name_of : List ℕ → Option Operand
 name_of w = if is_name w then Some (Name w) else None
@@ -68,7 +69,7 @@ number_or (Some n) name = Some (Number (capped n))
 number_or None name = name
 
 abbrev pub operand_of : List ℕ → Option Operand
-operand_of w = number_or (number_of w) (name_of w)
+operand_of w = number_or (number_written w) (name_of w)
 
 -- the word that is all
 abbrev pub word_only : List Token → Option (List ℕ)
@@ -85,23 +86,23 @@ abbrev pub one_operand : List Token → Option Operand
 one_operand ts = word_only ts >>= operand_of
 
 abbrev pub one_number : List Token → Option ℕ
-one_number ts = word_only ts >>= λ w. number_of w >>= λ n. Some (capped n)
+one_number ts = word_only ts >>= λ w. number_written w >>= λ n. Some (capped n)
 
 abbrev pub one_register : List Token → Option ℕ
-one_register ts = word_only ts >>= register_of
+one_register ts = word_only ts >>= register_named
 
 abbrev pub one_pair : List Token → Option ℕ
-one_pair ts = word_only ts >>= pair_of
+one_pair ts = word_only ts >>= pair_named
 
 -- the operand in front of a comma, and what follows the comma
 abbrev pub first_operand : List Token → Option (Operand × List Token)
 first_operand ts = word_first ts >>= λ x. operand_of x.0 >>= λ v. Some (v, x.1)
 
 abbrev pub first_register : List Token → Option (ℕ × List Token)
-first_register ts = word_first ts >>= λ x. register_of x.0 >>= λ r. Some (r, x.1)
+first_register ts = word_first ts >>= λ x. register_named x.0 >>= λ r. Some (r, x.1)
 
 abbrev pub first_pair : List Token → Option (ℕ × List Token)
-first_pair ts = word_first ts >>= λ x. pair_of x.0 >>= λ p. Some (p, x.1)
+first_pair ts = word_first ts >>= λ x. pair_named x.0 >>= λ p. Some (p, x.1)
 
 -- what follows, where a comma stands before it
 abbrev pub rest_if : Bool → List Token → Option (List Token)

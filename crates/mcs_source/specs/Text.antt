@@ -130,11 +130,11 @@ abbrev pub line_text : ℕ → ℕ → Option ℕ → List ℕ
 line_text at first second = piece_text at first (op_at first (option_to_list second))
 
 -- the texts of the pieces of some bytes, whose first stands at an address; at most `most` of them
-unfoldable pub texts : ℕ → ℕ → List ℕ → List (List ℕ)
-texts zero at bytes = []
-texts (suc most) at [] = []
-texts (suc most) at (b ∷ rest) =
-    piece_text at b (op_at b rest) ∷ texts most (at + piece_size (op_at b rest)) (drop (piece_size (op_at b rest) - 1) rest)
+unfoldable pub piece_texts : ℕ → ℕ → List ℕ → List (List ℕ)
+piece_texts zero at bytes = []
+piece_texts (suc most) at [] = []
+piece_texts (suc most) at (b ∷ rest) =
+    piece_text at b (op_at b rest) ∷ piece_texts most (at + piece_size (op_at b rest)) (drop (piece_size (op_at b rest) - 1) rest)
 
 abbrev pub as_line : List ℕ → List ℕ
 as_line text = text ++ 10 ∷ []
@@ -146,7 +146,7 @@ origin_text at = codes "ORG " ++ address (at / 256) (at % 256)
 
 -- the source of some bytes that stand from an address on: the `ORG` line, and a line for each piece
 abbrev pub source_of : ℕ → List ℕ → List ℕ
-source_of from bytes = flat_map as_line (origin_text from ∷ texts (length bytes) from bytes)
+source_of from bytes = flat_map as_line (origin_text from ∷ piece_texts (length bytes) from bytes)
 
 abbrev pub range : List ℕ → ℕ → ℕ → List ℕ
 range rom from to = take (to - from) (drop from rom)
@@ -183,12 +183,12 @@ abbrev pub listed_line : ℕ → ℕ → List ℕ → Option Op → List ℕ
 listed_line at b rest piece = columns at b (second_of piece rest) ++ piece_text at b piece
 
 -- the lines of the pieces of some bytes, whose first stands at an address; at most `most` of them
-unfoldable pub listed : ℕ → ℕ → List ℕ → List (List ℕ)
-listed zero at bytes = []
-listed (suc most) at [] = []
-listed (suc most) at (b ∷ rest) =
-    listed_line at b rest (op_at b rest) ∷ listed most (at + piece_size (op_at b rest)) (drop (piece_size (op_at b rest) - 1) rest)
+unfoldable pub listing_lines : ℕ → ℕ → List ℕ → List (List ℕ)
+listing_lines zero at bytes = []
+listing_lines (suc most) at [] = []
+listing_lines (suc most) at (b ∷ rest) =
+    listed_line at b rest (op_at b rest) ∷ listing_lines most (at + piece_size (op_at b rest)) (drop (piece_size (op_at b rest) - 1) rest)
 
 -- the listing of a ROM from an address on: so many lines, or fewer where address FFF comes first; each ends with LF
 abbrev pub listing_text : List ℕ → ℕ → ℕ → List ℕ
-listing_text rom from lines = flat_map as_line (listed lines from (drop from rom))
+listing_text rom from lines = flat_map as_line (listing_lines lines from (drop from rom))

@@ -2,5 +2,6 @@
 //! `specs/` of what a source text assembles to and of the text of an instruction.
 #![tactic(auto)]
 
+pub mod fault;
 pub mod mnemonic;
 pub mod spelling;
