@@ -1,7 +1,8 @@
 //! What is on a board.
 
-ghost use Rattle.std.specs.Prelude.{◌≡◌, ◌<◌, ◌*◌, ◌||◌, not, MatchOption, Ok, Err, None, nat_lt, nat_le, length, slice_get, slice_index};
+ghost use Rattle.std.specs.Prelude.{◌≡◌, ◌<◌, ◌*◌, ◌||◌, ℕ, List, not, MatchOption, Ok, Err, Some, None, nat_lt, nat_le, length, slice_get, slice_index};
 ghost use Rattle.std.specs.List.{list_any};
+ghost use Rattle.mcs_nibble.specs.declared.lines.LineMask.{LineMask};
 ghost use Rattle.mcs_model.specs.Boards.{fault_of, in_range, exists_on, masks_on, is_input_line, is_output_line, is_chain_size, is_matrix_size, has_bad_matrix, has_bad_value, lacks_rows, lacks_line, has_wrong_direction, any_chain_line, any_column, any_lamp, any_line, input_on, chain_bits, chain_count, chain_part, has_key, empty_parts, IsSized};
 ghost use Rattle.mcs_model.specs.Refusal.{board_refusal_number};
 
@@ -136,6 +137,21 @@ fn is_sized(chain: ChainPart) -> bool
     ensures { result ≡ is_chain_size chain }
 {
     0 < chain.chips && chain.chips <= CHAIN_CHIPS
+}
+
+/// Four masks are four: an array that is passed as a value has its length.
+fn is_four(mask: [LineMask; 4])
+    ensures { length mask ≡ 4 }
+{
+    let _mask = mask;
+}
+
+fn are_four(masks: Option<[LineMask; 4]>)
+    ensures { (mask : List LineMask) → masks ≡ Some mask → length mask ≡ 4 }
+{
+    if let Some(mask) = masks {
+        is_four(mask);
+    }
 }
 
 impl KeyMatrix {
@@ -392,16 +408,26 @@ impl BoardParts {
         self.has_input_lamp()
     }
 
-    /// The parts, whose lists have the lengths that their types say.
-    fn sized(&self) -> &BoardParts
-        ensures same { result.now ≡ self.now }
-        ensures sized { IsSized self.now }
+    /// Each ROM has four masks: its type says so, and proofs learn it here.
+    fn have_four_masks(&self)
+        ensures { (chip : ℕ) (mask : List LineMask) → masks_on self.now chip ≡ Some mask → length mask ≡ 4 }
     {
-        let _rom = self.roms[0];
+        for i in 0..ROMS {
+            are_four(self.roms[i]);
+        }
+    }
+
+    /// The lists have the lengths that their types say, and proofs learn it here.
+    fn are_sized(&self)
+        ensures { IsSized self.now }
+    {
         let _bank = self.banks[0];
         let _chains = self.chains.as_slice();
         let _lamps = self.lamps.as_slice();
-        self
+        if let Some(keys) = &self.keys {
+            let _columns = keys.columns.as_slice();
+        }
+        self.have_four_masks();
     }
 
     /// What is wrong with the parts, if anything is.
@@ -466,11 +492,11 @@ impl Model for Board {
     ghost Value = { BoardParts };
 
     ghost use Rattle.std.specs.Prelude.{◌≡◌, None};
-    ghost use Rattle.mcs_model.specs.Boards.{fault_of};
+    ghost use Rattle.mcs_model.specs.Boards.{fault_of, IsSized};
 
     ghost view = { λ b. b.parts };
 
-    ghost invariant = { λ b. fault_of b.parts ≡ None };
+    ghost invariant = { λ b. (fault_of b.parts ≡ None) × IsSized b.parts };
 }
 
 impl Board {
@@ -493,6 +519,7 @@ impl Board {
     pub fn of(parts: BoardParts) -> Result<Board, BoardFault>
         ensures { MatchOption (fault_of parts) (result ≡ Ok parts) (λ fault. result ≡ Err fault) }
     {
+        parts.are_sized();
         match parts.fault() {
             Some(fault) => Err(fault),
             None => Ok(Board { parts }),
@@ -505,7 +532,7 @@ impl Board {
         ensures valid { fault_of self.now ≡ None }
         ensures sized { IsSized self.now }
     {
-        self.parts.sized()
+        &self.parts
     }
 
     /// An equal board.
