@@ -7,8 +7,6 @@ mod fault;
 mod names;
 mod passes;
 mod statements;
-#[cfg(test)]
-mod tests;
 mod text;
 mod tokens;
 mod words;

@@ -13,6 +13,3 @@ mod processor;
 pub use bus::Bus;
 pub use mcs_model::regs::Regs;
 pub use processor::{Cpu, Cycle};
-
-#[cfg(test)]
-mod tests;
