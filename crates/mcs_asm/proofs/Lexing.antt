@@ -4,7 +4,7 @@ use Rattle.std.specs.List.{prefix_len}
 use Rattle.std.proofs.lemmas.Bool.{eqb-true}
 use Rattle.std.proofs.lemmas.Bool.Decides.{eqb_tells}
 use Rattle.std.proofs.lemmas.List.{append-nil, length-take}
-use Rattle.mcs_model.specs.Lexical.{Token, Word, Other, is_word, is_blank, symbol, word_then, tokens_after, tokens}
+use Rattle.mcs_source.specs.Lexical.{Token, Word, Other, is_word, is_blank, symbol, word_then, tokens_after, tokens}
 
 -- what stands behind the end of a word
 abbrev pub behind_word : List ℕ → List Token

@@ -2,7 +2,7 @@
 use Rattle.std.proofs.Common.{◌≡◌, ℕ, suc, ◌+◌, ◌-◌, ◌<◌, ◌≤◌, Bool, true, false, cond, not, eqb, List, [], ◌∷◌, ◌++◌, length, take, drop, refl, sym, ap, ◌∙◌, append_assoc, arith}
 use Rattle.std.specs.List.{prefix_len}
 use Rattle.std.proofs.lemmas.List.{append-nil, length-take, length-drop, take_all}
-use Rattle.mcs_model.specs.Assembly.{without_cr, last_line, lines_after, lines_of}
+use Rattle.mcs_source.specs.Assembly.{without_cr, last_line, lines_after, lines_of}
 use Rattle.mcs_asm.specs.View.{no_lf}
 
 -- the lines, where one ends

@@ -9,7 +9,7 @@ use Rattle.std.proofs.lemmas.Map.Text.{btree_map_updates_str}
 use Rattle.std.proofs.lemmas.Slice.Eq.{bytes_eq-Decides}
 use Rattle.std.proofs.lemmas.List.{map_push}
 use Rattle.std.proofs.lemmas.Bool.{false_from_ne_true, or_parts}
-use Rattle.mcs_model.specs.Assembly.{Names, is_known, value_of}
+use Rattle.mcs_source.specs.Assembly.{Names, is_known, value_of}
 use Rattle.mcs_asm.specs.View.{Tells}
 
 pub known_seen : (w : List ℕ) (es : List (Bor (List ℕ) × ℕ)) → list_any (λ e. bytes_eq e.0.now w) es ≡ is_known w (map (λ e. (e.0.now, e.1)) es)

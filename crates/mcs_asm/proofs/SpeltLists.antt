@@ -3,39 +3,39 @@ use Rattle.std.proofs.Common.{◌≡◌, ℕ, ◌+◌, ◌≤◌, Bool, true, fa
 use Rattle.std.proofs.Common.{suc, ltb, leb, ap, subst, arith, ◌||◌, None, Some, ◌&&◌, [], ◌∷◌}
 use Rattle.std.proofs.lemmas.Bool.{true≢false, ltb-false}
 use Rattle.std.specs.List.{list_all}
-use Rattle.mcs_model.specs.declared.mnemonic.LineFault.{LineFault}
+use Rattle.mcs_source.specs.declared.fault.SourceFault.{SourceFault}
 use Rattle.mcs_model.specs.declared.op.Op.{Op}
 use Rattle.mcs_model.specs.declared.op.Op.TheVariants as op
-use Rattle.mcs_model.specs.Lines as asm
+use Rattle.mcs_source.specs.Lines as asm
 use Rattle.mcs_model.specs.Table.{words_of}
-use Rattle.mcs_model.specs.Spelling.{spelling}
-use Rattle.mcs_model.specs.Assembly.{Names, value_in, values_in, bytes_at, size, known, within, on_page, is_near, line_bytes, passes_end}
+use Rattle.mcs_source.specs.Spelling.{spelling}
+use Rattle.mcs_source.specs.Assembly.{Names, value_in, values_in, bytes_at, size, if_known, if_in_range, if_on_page, is_near, line_bytes, passes_end}
 use Rattle.std.specs.Prelude.{is_some}
 use Rattle.std.specs.List.{list_any}
-use Rattle.mcs_model.specs.declared.mnemonic.LineFault.TheVariants.{Overlap}
+use Rattle.mcs_source.specs.declared.fault.SourceFault.TheVariants.{Overlap}
 use Rattle.mcs_model.specs.Pairs.{from_address, overlaps}
-use Rattle.mcs_model.specs.Assembly.{Spelt, with_bytes, with_second, next_at}
+use Rattle.mcs_source.specs.Assembly.{Spelt, spelt_with_bytes, spelt_with_line, next_at}
 use Rattle.mcs_asm.specs.Cells.{written, IsKept}
 use Rattle.mcs_asm.proofs.CellPairs.{taken_is, all_kept, free_from}
 
 pub taken_stops : (cells : List (Option ℕ)) (pairs : List (ℕ × ℕ)) (at next : ℕ) (bytes : List ℕ) → list_any is_some (take (length bytes) (drop at cells)) ≡ true → IsKept cells pairs
-    → with_bytes (record { at = at; pairs = pairs }) next (Ok bytes) ≡ Err Overlap
+    → spelt_with_bytes (record { at = at; pairs = pairs }) next (Ok bytes) ≡ Err Overlap
 taken_stops cells pairs at next bytes taken kept =
     let over : overlaps pairs at (length bytes) ≡ true = sym (taken_is cells pairs at (length bytes) kept) ∙ taken in
     rw over refl
 
 pub free_goes : (cells : List (Option ℕ)) (pairs : List (ℕ × ℕ)) (at next : ℕ) (bytes : List ℕ) → at + length bytes ≤ 4096 → list_any is_some (take (length bytes) (drop at cells)) ≡ false → IsKept cells pairs
-    → (s : Spelt) × (with_bytes (record { at = at; pairs = pairs }) next (Ok bytes) ≡ Ok s) × (s.at ≡ next) × IsKept (written at bytes cells) s.pairs
+    → (s : Spelt) × (spelt_with_bytes (record { at = at; pairs = pairs }) next (Ok bytes) ≡ Ok s) × (s.at ≡ next) × IsKept (written at bytes cells) s.pairs
 free_goes cells pairs at next bytes within free kept =
     let over : overlaps pairs at (length bytes) ≡ false = sym (taken_is cells pairs at (length bytes) kept) ∙ free in
     (record { at = next; pairs = pairs ++ from_address at bytes }, rw over refl, refl, all_kept bytes at cells pairs within kept (free_from pairs at (length bytes) over))
 
 -- what a line that has a form adds
-pub second_is : (names : Names) (s : Spelt) (l : Option asm.Line) (line : asm.Line) (bytes : List ℕ) (next : ℕ) (wanted : Result Spelt LineFault) → Some line ≡ l → line_bytes s.at names line ≡ Ok bytes → next ≡ next_at line s.at
-    → with_bytes s next (Ok bytes) ≡ wanted → with_second names s l ≡ wanted
+pub second_is : (names : Names) (s : Spelt) (l : Option asm.Line) (line : asm.Line) (bytes : List ℕ) (next : ℕ) (wanted : Result Spelt SourceFault) → Some line ≡ l → line_bytes s.at names line ≡ Ok bytes → next ≡ next_at line s.at
+    → spelt_with_bytes s next (Ok bytes) ≡ wanted → spelt_with_line names s l ≡ wanted
 second_is names s l line bytes next wanted form is at goes =
-    subst (λ (o : Option asm.Line). with_second names s o ≡ wanted) form
-    (ap (λ (r : Result (List ℕ) LineFault). with_bytes s (next_at line s.at) r) is ∙ (ap (λ (n : ℕ). with_bytes s n (Ok bytes)) (sym at) ∙ goes))
+    subst (λ (o : Option asm.Line). spelt_with_line names s o ≡ wanted) form
+    (ap (λ (r : Result (List ℕ) SourceFault). spelt_with_bytes s (next_at line s.at) r) is ∙ (ap (λ (n : ℕ). spelt_with_bytes s n (Ok bytes)) (sym at) ∙ goes))
 
 -- ---- the bytes of a line fit, where class one found no fault
 
@@ -44,19 +44,19 @@ spelling_size (op.Jcn r b) = refl
 spelling_size _ = refl
 
 -- what an answer that is Ok went through
-abbrev pub HasLength : ℕ → Result (List ℕ) LineFault → Type 0
+abbrev pub HasLength : ℕ → Result (List ℕ) SourceFault → Type 0
 HasLength n (Ok bytes) = length bytes ≡ n
 HasLength n (Err f) = Unit {0}
 
-within_has : (n : ℕ) (t : Bool) (r : Result (List ℕ) LineFault) → HasLength n r → HasLength n (within t r)
+within_has : (n : ℕ) (t : Bool) (r : Result (List ℕ) SourceFault) → HasLength n r → HasLength n (if_in_range t r)
 within_has n true r h = h
 within_has n false r h = tt
 
-page_has : (n : ℕ) (t : Bool) (r : Result (List ℕ) LineFault) → HasLength n r → HasLength n (on_page t r)
+page_has : (n : ℕ) (t : Bool) (r : Result (List ℕ) SourceFault) → HasLength n r → HasLength n (if_on_page t r)
 page_has n true r h = h
 page_has n false r h = tt
 
-known_has : (n : ℕ) (o : Option ℕ) (f : ℕ → Result (List ℕ) LineFault) → ((x : ℕ) → HasLength n (f x)) → HasLength n (known o f)
+known_has : (n : ℕ) (o : Option ℕ) (f : ℕ → Result (List ℕ) SourceFault) → ((x : ℕ) → HasLength n (f x)) → HasLength n (if_known o f)
 known_has n None f h = tt
 known_has n (Some x) f h = h x
 
@@ -72,7 +72,7 @@ values_length : (names : Names) (vs : List asm.Operand) (ns : List ℕ) → valu
 values_length names [] ns e = ap length (sym (some_list ns [] (sym e)))
 values_length names (v ∷ vs) ns e = more_length (value_in names v) (values_in names vs) ns (length vs) (λ ms f. values_length names vs ms f) e
 
-values_has : (names : Names) (vs : List asm.Operand) (f : List ℕ → Bool) (o : Option (List ℕ)) → values_in names vs ≡ o → HasLength (length vs) (known o (λ ns. within (f ns) (Ok ns)))
+values_has : (names : Names) (vs : List asm.Operand) (f : List ℕ → Bool) (o : Option (List ℕ)) → values_in names vs ≡ o → HasLength (length vs) (if_known o (λ ns. if_in_range (f ns) (Ok ns)))
 values_has names vs f None e = tt
 values_has names vs f (Some ns) e = within_has (length vs) (f ns) (Ok ns) (values_length names vs ns e)
 

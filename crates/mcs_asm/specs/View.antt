@@ -17,13 +17,13 @@ use Rattle.mcs_asm.specs.declared.statements.Line.TheVariants as line
 use Rattle.mcs_asm.specs.declared.fault.FaultKind.{FaultKind}
 use Rattle.mcs_asm.specs.declared.fault.FaultKind.TheVariants.{NoMemory, Refused}
 use Rattle.mcs_asm.specs.declared.fault.AsmFault.{AsmFault}
-use Rattle.mcs_model.specs.declared.mnemonic.LineFault.{LineFault}
+use Rattle.mcs_source.specs.declared.fault.SourceFault.{SourceFault}
 use Rattle.mcs_model.specs.declared.op.Op.{Op}
-use Rattle.mcs_model.specs.Spelling.{spelling}
-use Rattle.mcs_model.specs.Lexical as spec
-use Rattle.mcs_model.specs.Lines as lines
+use Rattle.mcs_source.specs.Spelling.{spelling}
+use Rattle.mcs_source.specs.Lexical as spec
+use Rattle.mcs_source.specs.Lines as lines
 use Rattle.mcs_model.specs.Pairs.{IsImageOf}
-use Rattle.mcs_model.specs.Assembly as spelt
+use Rattle.mcs_source.specs.Assembly as spelt
 use Rattle.mcs_asm.specs.Cells.{IsKept}
 
 abbrev pub token_view : Token → spec.Token
@@ -55,21 +55,21 @@ line_view (line.Define w n) = lines.Define w.now n
 
 -- ---- what a step and a pass answer; want of memory says nothing of the text
 
-abbrev pub FailsAs : FaultKind → ℕ → {A : Type 0} → Result A (ℕ × LineFault) → Type 0
+abbrev pub FailsAs : FaultKind → ℕ → {A : Type 0} → Result A (ℕ × SourceFault) → Type 0
 FailsAs NoMemory line wanted = line ≡ 0
 FailsAs (Refused f) line wanted = wanted ≡ Err (line, f)
 
-abbrev pub Steps : {A B : Type 0} → Result B FaultKind → A → Result A LineFault → Type 0
+abbrev pub Steps : {A B : Type 0} → Result B FaultKind → A → Result A SourceFault → Type 0
 Steps (Ok u) new wanted = wanted ≡ Ok new
 Steps (Err NoMemory) new wanted = Unit {0}
 Steps (Err (Refused f)) new wanted = wanted ≡ Err f
 
-abbrev pub Passes : {A : Type 0} → Result A AsmFault → Result A (ℕ × LineFault) → Type 0
+abbrev pub Passes : {A : Type 0} → Result A AsmFault → Result A (ℕ × SourceFault) → Type 0
 Passes (Ok b) wanted = wanted ≡ Ok b
 Passes (Err f) wanted = FailsAs f.kind f.line wanted
 
 -- the image of the pairs that are wanted, or the fault that is wanted
-abbrev pub Assembles : Result (List (ℕ × ℕ)) AsmFault → Result (List (ℕ × ℕ)) (ℕ × LineFault) → Type 0
+abbrev pub Assembles : Result (List (ℕ × ℕ)) AsmFault → Result (List (ℕ × ℕ)) (ℕ × SourceFault) → Type 0
 Assembles (Ok image) wanted = (pairs : List (ℕ × ℕ)) × (wanted ≡ Ok pairs) × IsImageOf image pairs
 Assembles (Err f) wanted = FailsAs f.kind f.line wanted
 
@@ -87,13 +87,13 @@ no_lf b = not (b == 10)
 abbrev pub words_view : Words → List ℕ
 words_view w = w.first ∷ option_to_list w.second
 
-abbrev pub StepsTo : {A B : Type 0} → (A → B) → Result A FaultKind → Result B LineFault → Type 0
+abbrev pub StepsTo : {A B : Type 0} → (A → B) → Result A FaultKind → Result B SourceFault → Type 0
 StepsTo view (Ok x) wanted = wanted ≡ Ok (view x)
 StepsTo view (Err NoMemory) wanted = Unit {0}
 StepsTo view (Err (Refused f)) wanted = wanted ≡ Err f
 
 -- the instruction of a statement that is no `DB`; an `ORG` has none
-abbrev pub SaysOp : Result (Option Op) LineFault → Result (List ℕ) LineFault → Type 0
+abbrev pub SaysOp : Result (Option Op) SourceFault → Result (List ℕ) SourceFault → Type 0
 SaysOp (Ok None) wanted = wanted ≡ Ok []
 SaysOp (Ok (Some o)) wanted = wanted ≡ Ok (spelling o)
 SaysOp (Err f) wanted = wanted ≡ Err f
@@ -107,18 +107,18 @@ IsNoData (lines.Data vs) = ⊥
 IsNoData s = Unit {0}
 
 -- what one line's bytes leave: the cells keep the pairs, and the next place is told
-abbrev pub Keeps : Result (Unit {0}) LineFault → ℕ → List (Option ℕ) → Result spelt.Spelt LineFault → Type 0
+abbrev pub Keeps : Result (Unit {0}) SourceFault → ℕ → List (Option ℕ) → Result spelt.Spelt SourceFault → Type 0
 Keeps (Ok u) at cells wanted = (s : spelt.Spelt) × (wanted ≡ Ok s) × (s.at ≡ at) × IsKept cells s.pairs
 Keeps (Err f) at cells wanted = wanted ≡ Err f
 
 -- the same where memory may be refused
-abbrev pub Adds : Result (Unit {0}) FaultKind → ℕ → List (Option ℕ) → Result spelt.Spelt LineFault → Type 0
+abbrev pub Adds : Result (Unit {0}) FaultKind → ℕ → List (Option ℕ) → Result spelt.Spelt SourceFault → Type 0
 Adds (Ok u) at cells wanted = (s : spelt.Spelt) × (wanted ≡ Ok s) × (s.at ≡ at) × IsKept cells s.pairs
 Adds (Err NoMemory) at cells wanted = Unit {0}
 Adds (Err (Refused f)) at cells wanted = wanted ≡ Err f
 
 -- what all lines leave: cells that keep the pairs that are wanted, or the fault that is wanted
-abbrev pub Spells : Result (List (Option ℕ)) AsmFault → Result (List (ℕ × ℕ)) (ℕ × LineFault) → Type 0
+abbrev pub Spells : Result (List (Option ℕ)) AsmFault → Result (List (ℕ × ℕ)) (ℕ × SourceFault) → Type 0
 Spells (Ok cells) wanted = (pairs : List (ℕ × ℕ)) × (wanted ≡ Ok pairs) × IsKept cells pairs
 Spells (Err f) wanted = FailsAs f.kind f.line wanted
 

@@ -1,11 +1,11 @@
 //! The bytes that a statement spells.
 ghost use Rattle.std.specs.Prelude.{◌≡◌, ◌<◌, ◌≤◌, ◌/◌, ◌%◌, Bool, true, false, map, IfOk, length, nat_lt, Ok, Err, option_map};
 ghost use Rattle.std.specs.List.{list_all};
-ghost use Rattle.mcs_model.specs.Spelling.{spelling};
-ghost use Rattle.mcs_model.specs.Assembly.{value_in, values_in, bytes_at, line_bytes, is_near, known, within, on_page};
+ghost use Rattle.mcs_source.specs.Spelling.{spelling};
+ghost use Rattle.mcs_source.specs.Assembly.{value_in, values_in, bytes_at, line_bytes, is_near, if_known, if_in_range, if_on_page};
 ghost use Rattle.mcs_asm.specs.View.{operand_view, statement_view, line_view, words_view, StepsTo, SaysOp, IsNoData};
 
-use crate::fault::{FaultKind, LineFault};
+use crate::fault::{FaultKind, SourceFault};
 use crate::names::Names;
 use crate::statements::{Line, Operand, Statement};
 use mcs_code::{Words, encode};
@@ -56,65 +56,65 @@ fn data<'a>(
     names: &Names<'a>,
     operands: &[Operand<'a>],
 ) -> Result<Vec<u8>, FaultKind>
-    ensures { StepsTo (λ v. v.items) result (known (values_in names.now.names (map operand_view operands.now)) (λ ns. within (list_all (λ n. nat_lt n 256) ns) (Ok ns))) }
+    ensures { StepsTo (λ v. v.items) result (if_known (values_in names.now.names (map operand_view operands.now)) (λ ns. if_in_range (list_all (λ n. nat_lt n 256) ns) (Ok ns))) }
 {
     let Some(values) = values(alloc, names, operands)? else {
-        return Err(FaultKind::Refused(LineFault::UnknownName));
+        return Err(FaultKind::Refused(SourceFault::UnknownName));
     };
     if !are_bytes(&values) {
-        return Err(FaultKind::Refused(LineFault::OutOfRange));
+        return Err(FaultKind::Refused(SourceFault::OutOfRange));
     }
     Ok(cut(alloc, &values)?)
 }
 
 /// The value of an operand; a name that no line defines is refused.
-fn value<'a>(names: &Names<'a>, operand: &Operand<'a>) -> Result<u64, LineFault>
-    ensures { result ≡ known (value_in names.now.names (operand_view operand.now)) (λ n. Ok n) }
+fn value<'a>(names: &Names<'a>, operand: &Operand<'a>) -> Result<u64, SourceFault>
+    ensures { result ≡ if_known (value_in names.now.names (operand_view operand.now)) (λ n. Ok n) }
 {
-    names.value(operand).ok_or(LineFault::UnknownName)
+    names.value(operand).ok_or(SourceFault::UnknownName)
 }
 
 /// A value of 0 to 15.
-fn nibble(value: u64) -> Result<Nibble, LineFault>
-    ensures { result ≡ within (nat_lt value 16) (Ok value) }
+fn nibble(value: u64) -> Result<Nibble, SourceFault>
+    ensures { result ≡ if_in_range (nat_lt value 16) (Ok value) }
 {
     u8::try_from(value)
         .ok()
         .and_then(Nibble::of)
-        .ok_or(LineFault::OutOfRange)
+        .ok_or(SourceFault::OutOfRange)
 }
 
 /// A value of 0 to 255.
-fn byte(value: u64) -> Result<u8, LineFault>
-    ensures { result ≡ within (nat_lt value 256) (Ok value) }
+fn byte(value: u64) -> Result<u8, SourceFault>
+    ensures { result ≡ if_in_range (nat_lt value 256) (Ok value) }
 {
-    u8::try_from(value).ok().ok_or(LineFault::OutOfRange)
+    u8::try_from(value).ok().ok_or(SourceFault::OutOfRange)
 }
 
 /// A value of 0 to 4095, as an address.
-fn target(value: u64) -> Result<Addr, LineFault>
-    ensures { result ≡ within (nat_lt value 4096) (Ok value) }
+fn target(value: u64) -> Result<Addr, SourceFault>
+    ensures { result ≡ if_in_range (nat_lt value 4096) (Ok value) }
 {
     u16::try_from(value)
         .ok()
         .and_then(Addr::of)
-        .ok_or(LineFault::OutOfRange)
+        .ok_or(SourceFault::OutOfRange)
 }
 
 /// The low byte of a target on the page behind two words.
-fn near(at: u16, target: Addr) -> Result<u8, LineFault>
+fn near(at: u16, target: Addr) -> Result<u8, SourceFault>
     requires { at ≤ 4096 }
-    ensures { result ≡ on_page (is_near at target) (Ok (target % 256)) }
+    ensures { result ≡ if_on_page (is_near at target) (Ok (target % 256)) }
 {
     if target.get() / 256 == (at + 2) % 4096 / 256 {
         Ok(target.low())
     } else {
-        Err(LineFault::WrongPage)
+        Err(SourceFault::WrongPage)
     }
 }
 
 /// The instruction of a statement at an address; an `ORG` has none.
-fn op<'a>(at: u16, names: &Names<'a>, statement: &Statement<'a>) -> Result<Option<Op>, LineFault>
+fn op<'a>(at: u16, names: &Names<'a>, statement: &Statement<'a>) -> Result<Option<Op>, SourceFault>
     requires start { at ≤ 4096 }
     requires statement { IsNoData (statement_view statement.now) }
     ensures { SaysOp result (bytes_at at names.now.names (statement_view statement.now)) }

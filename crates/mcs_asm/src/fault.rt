@@ -1,5 +1,9 @@
 //! Why a text is refused.
-pub use mcs_model::mnemonic::LineFault;
+ghost use Rattle.std.specs.Prelude.{◌≡◌};
+ghost use Rattle.mcs_asm.specs.Refusal.{assembler_refusal_number};
+
+use mcs_model::refusal_numbers;
+pub use mcs_source::fault::SourceFault;
 use std::alloc::AllocError;
 use thiserror::Error;
 
@@ -11,7 +15,19 @@ pub enum FaultKind {
     NoMemory,
     /// A line has a fault.
     #[error("{0}")]
-    Refused(LineFault),
+    Refused(SourceFault),
+}
+
+impl FaultKind {
+    /// The number that the refusal is told by.
+    pub fn number(self) -> u8
+        ensures { result ≡ assembler_refusal_number self }
+    {
+        match self {
+            FaultKind::NoMemory => refusal_numbers::NO_MEMORY,
+            FaultKind::Refused(fault) => fault.number(),
+        }
+    }
 }
 
 /// The first fault of a text, with the number of its line from 1; 0 where memory was refused.
@@ -25,7 +41,6 @@ pub struct AsmFault {
 }
 
 impl From<AllocError> for FaultKind {
-    ghost use Rattle.std.specs.Prelude.{◌≡◌};
     ghost use Rattle.mcs_asm.specs.declared.fault.FaultKind.TheVariants.{NoMemory};
 
     ghost from_gives = { λ _ e. e ≡ NoMemory };
@@ -35,19 +50,17 @@ impl From<AllocError> for FaultKind {
     }
 }
 
-impl From<LineFault> for FaultKind {
-    ghost use Rattle.std.specs.Prelude.{◌≡◌};
+impl From<SourceFault> for FaultKind {
     ghost use Rattle.mcs_asm.specs.declared.fault.FaultKind.TheVariants.{Refused};
 
     ghost from_gives = { λ f e. e ≡ Refused f };
 
-    fn from(fault: LineFault) -> FaultKind {
+    fn from(fault: SourceFault) -> FaultKind {
         FaultKind::Refused(fault)
     }
 }
 
 impl From<AllocError> for AsmFault {
-    ghost use Rattle.std.specs.Prelude.{◌≡◌};
     ghost use Rattle.mcs_asm.specs.declared.fault.FaultKind.TheVariants.{NoMemory};
 
     ghost from_gives = { λ _ e. e ≡ record { line = 0; kind = NoMemory } };

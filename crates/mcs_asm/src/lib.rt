@@ -7,11 +7,9 @@ mod fault;
 mod names;
 mod passes;
 mod statements;
-#[cfg(test)]
-mod tests;
 mod text;
 mod tokens;
 mod words;
 
-pub use fault::{AsmFault, FaultKind, LineFault};
+pub use fault::{AsmFault, FaultKind, SourceFault};
 pub use passes::assemble;

@@ -7,9 +7,9 @@ ghost use Rattle.std.specs.Ordering.{nat_cmp};
 ghost use Rattle.std.specs.Cmp.Lexicographic.{slice_cmp};
 ghost use Rattle.std.specs.BTreeMap.{get_by};
 ghost use Rattle.mcs_asm.specs.View.{statement_view, line_view, operand_view};
-ghost use Rattle.mcs_model.specs.Assembly.{Before, start, size, statement_size, is_known, is_known_name, defined, is_bad_statement, is_bad_place, next_statement, next_at, passes_end, fault_one, after, value_in};
+ghost use Rattle.mcs_source.specs.Assembly.{Before, nothing_before, size, statement_size, is_known, is_known_name, defined_name, is_bad_statement, is_bad_place, next_statement, next_at, passes_end, fault_one, before_next, value_in};
 
-use crate::fault::LineFault;
+use crate::fault::SourceFault;
 use crate::statements::{Line, Operand, Statement};
 use arrayvec::ArrayVec;
 use mcs_code::word_count;
@@ -30,7 +30,7 @@ pub struct Names<'a> {
 impl<'a> Model for Names<'a> {
     //! The names of a text, and the addresses of its statements.
     ghost use Rattle.std.specs.Prelude.{map, ◌≤◌};
-    ghost use Rattle.mcs_model.specs.Assembly.{Before};
+    ghost use Rattle.mcs_source.specs.Assembly.{Before};
     ghost use Rattle.mcs_asm.specs.View.{Tells};
 
     ghost Value = { Before };
@@ -66,7 +66,7 @@ fn size(statement: &Statement<'_>) -> usize
 impl<'a> Names<'a> {
     /// Before the first line.
     pub fn new(alloc: Global) -> Names<'a>
-        ensures { result ≡ start }
+        ensures { result ≡ nothing_before }
     {
         Names {
             at: 0,
@@ -91,7 +91,7 @@ impl<'a> Names<'a> {
     }
 
     fn is_full(&self) -> bool
-        ensures { result ≡ nat_le 512 (length self.now.names) }
+        ensures { result ≡ nat_le NAMES (length self.now.names) }
     {
         self.names.len() >= NAMES
     }
@@ -105,18 +105,18 @@ impl<'a> Names<'a> {
     }
 
     /// The first fault of class one that a line has, of those that a line with a form can have.
-    pub fn fault(&self, line: &Line<'a>) -> Option<LineFault>
+    pub fn fault(&self, line: &Line<'a>) -> Option<SourceFault>
         ensures { result ≡ fault_one self.now (line_view line.now) }
     {
-        let name = defined(line);
+        let name = defined_name(line);
         if is_bad_place(line) {
-            Some(LineFault::OutOfRange)
+            Some(SourceFault::OutOfRange)
         } else if self.is_known_name(name) {
-            Some(LineFault::DoubleName)
+            Some(SourceFault::DoubleName)
         } else if name.is_some() && self.is_full() {
-            Some(LineFault::TooManyNames)
+            Some(SourceFault::TooManyNames)
         } else if passes_end(line, self.at()) {
-            Some(LineFault::PastEnd)
+            Some(SourceFault::PastEnd)
         } else {
             None
         }
@@ -125,7 +125,7 @@ impl<'a> Names<'a> {
     /// Adds what a line without such a fault says. Where memory is refused nothing is added.
     pub fn add(&mut self, line: &Line<'a>) -> Result<(), AllocError>
         requires { fault_one self.old (line_view line.now) ≡ None }
-        ensures added { OnOk result (self.new ≡ after self.old (line_view line.now)) }
+        ensures added { OnOk result (self.new ≡ before_next self.old (line_view line.now)) }
         ensures unchanged { OnErr result (self.new ≡ self.old) }
     {
         match line {
@@ -140,7 +140,7 @@ impl<'a> Names<'a> {
     /// Adds a name that is not known, where there is room for one.
     fn define(&mut self, name: &'a [u8], value: u16) -> Result<(), AllocError>
         requires unknown { is_known name.now self.old.names ≡ false }
-        requires room { length self.old.names < 512 }
+        requires room { length self.old.names < NAMES }
         ensures added { OnOk result (self.new ≡ record { at = self.old.at; names = self.old.names ++ (name.now, value) ∷ [] }) }
         ensures unchanged { OnErr result (self.new ≡ self.old) }
     {
@@ -174,8 +174,8 @@ fn value_of<'a>(values: &BTreeMap<&'a [u8], u16>, name: &'a [u8]) -> Option<u64>
 }
 
 /// The name that a line defines.
-fn defined<'a>(line: &Line<'a>) -> Option<&'a [u8]>
-    ensures { option_copied result ≡ defined (line_view line.now) }
+fn defined_name<'a>(line: &Line<'a>) -> Option<&'a [u8]>
+    ensures { option_copied result ≡ defined_name (line_view line.now) }
 {
     match line {
         Line::Code(label, _) => *label,

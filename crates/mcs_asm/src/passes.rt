@@ -1,14 +1,14 @@
 //! The two passes over the lines of a text: first the names, then the bytes.
 ghost use Rattle.std.specs.Prelude.{List, ℕ, ◌+◌, length, Ok, ◌≡◌, ◌<◌, ◌≤◌, ◌^◌, map};
-ghost use Rattle.mcs_model.specs.Lexical.{tokens};
-ghost use Rattle.mcs_model.specs.Lines.{line_of};
-ghost use Rattle.mcs_model.specs.Assembly.{start, with_line, class_one, class_two, nothing_spelt, pairs_of, assembled, with_bytes, with_second};
+ghost use Rattle.mcs_source.specs.Lexical.{tokens};
+ghost use Rattle.mcs_source.specs.Lines.{line_of};
+ghost use Rattle.mcs_source.specs.Assembly.{nothing_before, before_with_line, class_one, class_two, nothing_spelt, pairs_of, assembled, spelt_with_bytes, spelt_with_line};
 ghost use Rattle.mcs_asm.specs.View.{Steps, Passes, Assembles, NumbersLine, Keeps, Adds, Spells, HasNoFault};
 ghost use Rattle.mcs_asm.specs.Cells.{IsKept};
 
 use crate::bytes::line_bytes;
 use crate::cells::Cells;
-use crate::fault::{AsmFault, FaultKind, LineFault};
+use crate::fault::{AsmFault, FaultKind, SourceFault};
 use crate::names::{Names, next_at};
 use crate::statements::read_line;
 use crate::text::lines;
@@ -17,10 +17,10 @@ use std::alloc::{AllocError, Global};
 
 /// Adds what one more line says of names and addresses.
 fn step<'a>(alloc: Global, names: &mut Names<'a>, line: &'a [u8]) -> Result<(), FaultKind>
-    ensures { Steps result names.new (with_line names.old (line_of (tokens line.now))) }
+    ensures { Steps result names.new (before_with_line names.old (line_of (tokens line.now))) }
 {
     let Some(line) = read_line(alloc, line)? else {
-        return Err(FaultKind::Refused(LineFault::BadStatement));
+        return Err(FaultKind::Refused(SourceFault::BadStatement));
     };
     match names.fault(&line) {
         Some(fault) => Err(FaultKind::Refused(fault)),
@@ -44,7 +44,7 @@ fn at_line(index: usize, kind: FaultKind) -> AsmFault
 
 /// What all lines say of names and addresses, or the first fault of class one.
 fn first_pass<'a>(alloc: Global, lines: &[&'a [u8]]) -> Result<Names<'a>, AsmFault>
-    ensures { Passes result (class_one 1 start (map (λ l. l.now) lines.now)) }
+    ensures { Passes result (class_one 1 nothing_before (map (λ l. l.now) lines.now)) }
 {
     let mut names = Names::new(alloc);
     for i in 0..lines.len() {
@@ -67,14 +67,14 @@ struct Spelt {
 impl Spelt {
     /// Adds the bytes of a line; the next statement stands at `next`.
     #[tactic(auto, using(crate::proofs::SpeltLists::taken_stops, crate::proofs::SpeltLists::free_goes))]
-    fn add(&mut self, bytes: &[u8], next: u16) -> Result<(), LineFault>
+    fn add(&mut self, bytes: &[u8], next: u16) -> Result<(), SourceFault>
         requires room { self.old.at + length bytes.now ≤ 4096 }
         requires next { next ≤ 4096 }
-        ensures { (pairs : List (ℕ × ℕ)) → IsKept self.old.cells pairs → Keeps result self.new.at self.new.cells (with_bytes (record { at = self.old.at; pairs = pairs }) next (Ok bytes.now)) }
+        ensures { (pairs : List (ℕ × ℕ)) → IsKept self.old.cells pairs → Keeps result self.new.at self.new.cells (spelt_with_bytes (record { at = self.old.at; pairs = pairs }) next (Ok bytes.now)) }
     {
         let at = usize::from(self.at);
         if self.cells.is_taken(at, bytes.len()) {
-            return Err(LineFault::Overlap);
+            return Err(SourceFault::Overlap);
         }
         self.cells.write(at, bytes);
         self.at = next;
@@ -89,10 +89,10 @@ impl Spelt {
         line: &'a [u8],
     ) -> Result<(), FaultKind>
         requires { HasNoFault self.old.at (line_of (tokens line.now)) }
-        ensures { (pairs : List (ℕ × ℕ)) → IsKept self.old.cells pairs → Adds result self.new.at self.new.cells (with_second names.now.names (record { at = self.old.at; pairs = pairs }) (line_of (tokens line.now))) }
+        ensures { (pairs : List (ℕ × ℕ)) → IsKept self.old.cells pairs → Adds result self.new.at self.new.cells (spelt_with_line names.now.names (record { at = self.old.at; pairs = pairs }) (line_of (tokens line.now))) }
     {
         let Some(line) = read_line(alloc, line)? else {
-            return Err(FaultKind::Refused(LineFault::BadStatement));
+            return Err(FaultKind::Refused(SourceFault::BadStatement));
         };
         let bytes = line_bytes(alloc, self.at, names, &line)?;
         let next = next_at(&line, self.at);
@@ -103,7 +103,7 @@ impl Spelt {
 
 /// What all lines spell, or the first fault of class two.
 fn second_pass<'a>(alloc: Global, names: &Names<'a>, lines: &[&'a [u8]]) -> Result<Cells, AsmFault>
-    requires { class_one 1 start (map (λ l. l.now) lines.now) ≡ Ok names.now }
+    requires { class_one 1 nothing_before (map (λ l. l.now) lines.now) ≡ Ok names.now }
     ensures { Spells result (pairs_of (class_two 1 names.now.names nothing_spelt (map (λ l. l.now) lines.now))) }
 {
     let mut spelt = Spelt {

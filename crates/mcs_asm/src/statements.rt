@@ -1,14 +1,14 @@
 //! What a line of a source text says.
 ghost use Rattle.std.specs.Prelude.{◌≡◌, ◌&&◌, map, option_map, IfOk, MatchOption, ◌∷◌, Some, None};
 ghost use Rattle.std.specs.Option.{option_copied};
-ghost use Rattle.mcs_model.specs.Lexical.{Word, Colon, Equals, tokens, Token};
-ghost use Rattle.mcs_model.specs.Lines.{Whole, word_only, word_first, name_of, operand_of, one_operand, one_number, one_register, one_pair, first_operand, first_register, first_pair, rest_if, list_item, operands_of, behind_mnemonic, statement_of, nothing, rest_of, unlabelled, line_of};
-ghost use Rattle.mcs_model.specs.declared.mnemonic.Mnemonic.TheVariants.{Org, Jcn, Fim, Isz};
+ghost use Rattle.mcs_source.specs.Lexical.{Word, Colon, Equals, tokens, Token};
+ghost use Rattle.mcs_source.specs.Lines.{Whole, word_only, word_first, name_of, operand_of, one_operand, one_number, one_register, one_pair, first_operand, first_register, first_pair, rest_if, list_item, operands_of, behind_mnemonic, statement_of, nothing, rest_of, unlabelled, line_of};
+ghost use Rattle.mcs_source.specs.declared.mnemonic.Mnemonic.TheVariants.{Org, Jcn, Fim, Isz};
 ghost use Rattle.mcs_asm.specs.View.{operand_view, statement_view, line_view, NoLabel, NoDefinition};
 
 use crate::tokens::{Token, Tokens};
-use crate::words::{is_name, mnemonic_in, pair_in, register_in};
-use mcs_model::mnemonic::Mnemonic;
+use crate::words::{is_name, mnemonic_in, pair_named, register_named};
+use mcs_source::mnemonic::Mnemonic;
 use mcs_model::numeral::number;
 use mcs_model::op::Op;
 use mcs_nibble::{PairNo, RegNo};
@@ -95,13 +95,13 @@ fn one_number(tokens: &mut Tokens<'_>) -> Option<u64>
 fn one_register(tokens: &mut Tokens<'_>) -> Option<RegNo>
     ensures { result ≡ one_register tokens.old }
 {
-    register_in(only(tokens)?)
+    register_named(only(tokens)?)
 }
 
 fn one_pair(tokens: &mut Tokens<'_>) -> Option<PairNo>
     ensures { result ≡ one_pair tokens.old }
 {
-    pair_in(only(tokens)?)
+    pair_named(only(tokens)?)
 }
 
 fn first_operand<'a>(tokens: &mut Tokens<'a>) -> Option<Operand<'a>>
@@ -113,13 +113,13 @@ fn first_operand<'a>(tokens: &mut Tokens<'a>) -> Option<Operand<'a>>
 fn first_register(tokens: &mut Tokens<'_>) -> Option<RegNo>
     ensures { option_map (λ r. (r, tokens.new)) result ≡ first_register tokens.old }
 {
-    register_in(first(tokens)?)
+    register_named(first(tokens)?)
 }
 
 fn first_pair(tokens: &mut Tokens<'_>) -> Option<PairNo>
     ensures { option_map (λ p. (p, tokens.new)) result ≡ first_pair tokens.old }
 {
-    pair_in(first(tokens)?)
+    pair_named(first(tokens)?)
 }
 
 /// An instruction without operands.
@@ -240,7 +240,7 @@ fn behind<'a>(
 }
 
 /// The statement that the tokens are, all of them.
-#[tactic(auto, unfolding(mcs_model::specs::Lines::statement_of))]
+#[tactic(auto, unfolding(mcs_source::specs::Lines::statement_of))]
 fn read_statement<'a>(
     alloc: Global,
     tokens: &mut Tokens<'a>,
@@ -285,7 +285,7 @@ fn label_of<'a>(line: &'a [u8]) -> Option<(&'a [u8], Tokens<'a>)>
 }
 
 /// The word in front of a `=`, and what follows.
-fn defined_name<'a>(line: &'a [u8]) -> Option<(&'a [u8], Tokens<'a>)>
+fn definition_of<'a>(line: &'a [u8]) -> Option<(&'a [u8], Tokens<'a>)>
     ensures { MatchOption result (NoDefinition (tokens line.now)) (λ x. tokens line.now ≡ Word x.0.now ∷ Equals ∷ x.1) }
 {
     let mut tokens = Tokens::new(line);
@@ -299,7 +299,7 @@ fn defined_name<'a>(line: &'a [u8]) -> Option<(&'a [u8], Tokens<'a>)>
 fn read_unlabelled<'a>(alloc: Global, line: &'a [u8]) -> Result<Option<Line<'a>>, AllocError>
     ensures { IfOk result (λ o. option_map line_view o ≡ unlabelled (tokens line.now)) }
 {
-    match defined_name(line) {
+    match definition_of(line) {
         None => rest(alloc, None, &mut Tokens::new(line)),
         Some((name, mut tokens)) if is_name(name) => {
             Ok(one_number(&mut tokens).map(|n| Line::Define(name, n)))

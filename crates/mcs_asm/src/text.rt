@@ -1,7 +1,7 @@
 //! The lines of a text.
 ghost use Rattle.std.specs.Prelude.{◌≡◌, ◌≤◌, ◌<◌, map, length, IfOk, MatchOption, ◌∷◌, ◌++◌, [], take, drop};
 ghost use Rattle.std.specs.List.{prefix_len};
-ghost use Rattle.mcs_model.specs.Assembly.{without_cr, lines_of};
+ghost use Rattle.mcs_source.specs.Assembly.{without_cr, lines_of};
 ghost use Rattle.mcs_asm.specs.View.{no_lf};
 
 use std::alloc::{AllocError, Global};

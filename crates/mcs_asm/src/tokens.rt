@@ -1,7 +1,7 @@
 //! The tokens of a line.
 ghost use Rattle.std.specs.Prelude.{◌≡◌, ◌≤◌, ◌∷◌, [], length, drop, IsTrue, ◌↔◌, MatchOption};
 ghost use Rattle.std.specs.List.{prefix_len};
-ghost use Rattle.mcs_model.specs.Lexical.{is_word, is_blank, tokens};
+ghost use Rattle.mcs_source.specs.Lexical.{is_word, is_blank, tokens};
 ghost use Rattle.mcs_asm.specs.View.{token_view};
 
 use std::marker::Model;
@@ -65,7 +65,7 @@ fn trimmed(line: &[u8]) -> &[u8]
 }
 
 /// The token of the byte in front.
-#[tactic(auto, using(crate::proofs::Lexing::other_first), unfolding(mcs_model::specs::Lexical::tokens_after))]
+#[tactic(auto, using(crate::proofs::Lexing::other_first), unfolding(mcs_source::specs::Lexical::tokens_after))]
 fn symbol(bytes: &[u8]) -> Option<(Token<'_>, &[u8])>
     requires no_word { prefix_len is_word bytes.now ≡ 0 }
     requires no_blank { prefix_len is_blank bytes.now ≡ 0 }
@@ -103,7 +103,7 @@ pub struct Tokens<'a> {
 impl<'a> Model for Tokens<'a> {
     //! The tokens of a line.
     ghost use Rattle.std.specs.Prelude.{List};
-    ghost use Rattle.mcs_model.specs.Lexical.{Token, tokens};
+    ghost use Rattle.mcs_source.specs.Lexical.{Token, tokens};
 
     ghost Value = { List Token };
 

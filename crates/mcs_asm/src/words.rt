@@ -1,12 +1,12 @@
 //! The words of a source text.
 ghost use Rattle.std.specs.Prelude.{◌≡◌, ◌<◌, IfSome, ◌↔◌, IsSome, ◌≤◌, ℕ, option_map, length};
 ghost use Rattle.std.specs.Str.{str_eq_ignore_ascii_case};
-ghost use Rattle.mcs_model.specs.Mnemonics.{orders, on_registers, on_ports, on_memory, on_accumulator, on_carry, mnemonic_of};
-ghost use Rattle.mcs_model.specs.declared.mnemonic.Mnemonic.TheVariants.{Bare};
-ghost use Rattle.mcs_model.specs.Lines.{begins_name, up_to_15, register_of, pair_of, is_reserved, is_name};
+ghost use Rattle.mcs_source.specs.Mnemonics.{orders, on_registers, on_ports, on_memory, on_accumulator, on_carry, mnemonic_of};
+ghost use Rattle.mcs_source.specs.declared.mnemonic.Mnemonic.TheVariants.{Bare};
+ghost use Rattle.mcs_source.specs.Lines.{begins_name, up_to_15, register_named, pair_named, is_reserved, is_name};
 
 use mcs_model::limits::NAME_BYTES;
-use mcs_model::mnemonic::Mnemonic;
+use mcs_source::mnemonic::Mnemonic;
 use mcs_model::op::Op;
 use mcs_nibble::{PairNo, RegNo};
 
@@ -17,7 +17,7 @@ fn is_word(a: &[u8], b: &[u8]) -> bool
     a.eq_ignore_ascii_case(b)
 }
 
-#[tactic(auto, unfolding(mcs_model::specs::Mnemonics::orders))]
+#[tactic(auto, unfolding(mcs_source::specs::Mnemonics::orders))]
 fn order(w: &[u8]) -> Option<Mnemonic>
     ensures { result ≡ orders w.now }
 {
@@ -44,7 +44,7 @@ fn order(w: &[u8]) -> Option<Mnemonic>
     }
 }
 
-#[tactic(auto, unfolding(mcs_model::specs::Mnemonics::on_registers))]
+#[tactic(auto, unfolding(mcs_source::specs::Mnemonics::on_registers))]
 fn on_register(w: &[u8]) -> Option<Mnemonic>
     ensures { result ≡ on_registers w.now }
 {
@@ -71,7 +71,7 @@ fn on_register(w: &[u8]) -> Option<Mnemonic>
     }
 }
 
-#[tactic(auto, unfolding(mcs_model::specs::Mnemonics::on_ports))]
+#[tactic(auto, unfolding(mcs_source::specs::Mnemonics::on_ports))]
 fn on_port(w: &[u8]) -> Option<Op>
     ensures { option_map (λ o. Bare o) result ≡ on_ports w.now }
 {
@@ -94,7 +94,7 @@ fn on_port(w: &[u8]) -> Option<Op>
     }
 }
 
-#[tactic(auto, unfolding(mcs_model::specs::Mnemonics::on_memory))]
+#[tactic(auto, unfolding(mcs_source::specs::Mnemonics::on_memory))]
 fn on_memory_word(w: &[u8]) -> Option<Op>
     ensures { option_map (λ o. Bare o) result ≡ on_memory w.now }
 {
@@ -119,7 +119,7 @@ fn on_memory_word(w: &[u8]) -> Option<Op>
     }
 }
 
-#[tactic(auto, unfolding(mcs_model::specs::Mnemonics::on_accumulator))]
+#[tactic(auto, unfolding(mcs_source::specs::Mnemonics::on_accumulator))]
 fn on_accumulator_word(w: &[u8]) -> Option<Op>
     ensures { option_map (λ o. Bare o) result ≡ on_accumulator w.now }
 {
@@ -142,7 +142,7 @@ fn on_accumulator_word(w: &[u8]) -> Option<Op>
     }
 }
 
-#[tactic(auto, unfolding(mcs_model::specs::Mnemonics::on_carry))]
+#[tactic(auto, unfolding(mcs_source::specs::Mnemonics::on_carry))]
 fn on_carry_word(w: &[u8]) -> Option<Op>
     ensures { option_map (λ o. Bare o) result ≡ on_carry w.now }
 {
@@ -166,7 +166,7 @@ fn on_carry_word(w: &[u8]) -> Option<Op>
 }
 
 /// What a word that begins a statement asks for.
-#[tactic(auto, unfolding(mcs_model::specs::Mnemonics::mnemonic_of))]
+#[tactic(auto, unfolding(mcs_source::specs::Mnemonics::mnemonic_of))]
 pub fn mnemonic_in(w: &[u8]) -> Option<Mnemonic>
     ensures { result ≡ mnemonic_of w.now }
 {
@@ -201,8 +201,8 @@ fn small_decimal(digits: &[u8]) -> Option<u8>
 }
 
 /// `R0` to `R15`, in either case.
-pub fn register_in(word: &[u8]) -> Option<RegNo>
-    ensures { result ≡ register_of word.now }
+pub fn register_named(word: &[u8]) -> Option<RegNo>
+    ensures { result ≡ register_named word.now }
 {
     match word {
         [b'R' | b'r', digits @ ..] => RegNo::of(small_decimal(digits)?),
@@ -211,8 +211,8 @@ pub fn register_in(word: &[u8]) -> Option<RegNo>
 }
 
 /// `P0` to `P7`, in either case.
-pub fn pair_in(word: &[u8]) -> Option<PairNo>
-    ensures { result ≡ pair_of word.now }
+pub fn pair_named(word: &[u8]) -> Option<PairNo>
+    ensures { result ≡ pair_named word.now }
 {
     match word {
         [b'P' | b'p', d] if (b'0'..=b'7').contains(d) => PairNo::of(*d - b'0'),
@@ -221,14 +221,14 @@ pub fn pair_in(word: &[u8]) -> Option<PairNo>
 }
 
 /// Whether a word is no name, whatever its case.
-#[tactic(auto, unfolding(mcs_model::specs::Lines::is_reserved))]
+#[tactic(auto, unfolding(mcs_source::specs::Lines::is_reserved))]
 fn is_reserved(word: &[u8]) -> bool
     ensures { result ≡ is_reserved word.now }
 {
     mnemonic_in(word).is_some()
         || is_word(word, b"WPM")
-        || register_in(word).is_some()
-        || pair_in(word).is_some()
+        || register_named(word).is_some()
+        || pair_named(word).is_some()
 }
 
 fn begins_name(word: &[u8]) -> bool

@@ -16,8 +16,6 @@ pub use spelling::Words;
 
 mod rows;
 mod spelling;
-#[cfg(test)]
-mod tests;
 
 /// The instruction that two words spell, or none where the first is outside the table.
 #[tactic(auto, unfolding(mcs_model::specs::Table::decoded, mcs_model::specs::Table::row_of))]

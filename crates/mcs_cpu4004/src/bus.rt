@@ -6,7 +6,8 @@ ghost use Rattle.mcs_model.specs.Levels.{after_ram_port, after_rom_port, port_of
 use mcs_nibble::{Addr, Bit, Nibble};
 
 /// The chips that the processor drives, and the TEST pin. Its meaning is a flat state, before and
-/// after each call. A bank is named by the value of the command register, 0 to 7.
+/// after each call. A bank is named by the value of the command register, 0 to 7, which is
+/// this project's own choice.
 pub trait Bus {
     ghost flat: { Self → BusState };
 

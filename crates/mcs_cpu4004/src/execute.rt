@@ -1,6 +1,6 @@
 //! The effect of each instruction on registers and bus.
 ghost use Rattle.std.specs.Prelude.{◌≡◌, ℕ, ◌+◌, ◌-◌, ◌%◌, ◌<◌};
-ghost use Rattle.mcs_model.specs.Effect.{registers_after, bus_after, beside, with_sum, with_word, is_taken, jumped, counted, called, returned, rotated_right, adjusted, key_of};
+ghost use Rattle.mcs_model.specs.Effect.{registers_after, bus_after, address_beside, with_sum, with_word, is_taken, after_jcn, after_isz, after_jms, after_bbl, after_rar, after_daa, key_of};
 ghost use Rattle.mcs_model.specs.Registers.{pair_of, with_pair};
 ghost use Rattle.mcs_model.specs.Bus.{fetch_of};
 
@@ -11,7 +11,7 @@ use mcs_nibble::{Addr, Bit, Nibble, PairNo, RegNo};
 
 /// The address of a word on the page of another address.
 fn word_beside(at: Addr, word: u8) -> Addr
-    ensures { result ≡ beside at word }
+    ensures { result ≡ address_beside at word }
 {
     Addr::on_page(at.page(), word)
 }
@@ -29,7 +29,7 @@ fn takes_jump(condition: Nibble, regs: &Regs, test: Bit) -> bool
 
 /// JCN, at that level of TEST.
 fn jump_on_condition(regs: &mut Regs, condition: Nibble, word: u8, test: Bit)
-    ensures { regs.new ≡ jumped condition word regs.old test }
+    ensures { regs.new ≡ after_jcn condition word regs.old test }
 {
     if takes_jump(condition, regs, test) {
         regs.pc = word_beside(regs.pc, word);
@@ -38,7 +38,7 @@ fn jump_on_condition(regs: &mut Regs, condition: Nibble, word: u8, test: Bit)
 
 /// FIN.
 fn fetch_indirect<B: Bus>(regs: &mut Regs, bus: &B, pair: PairNo)
-    ensures { regs.new ≡ with_pair regs.old pair (fetch_of (B.flat bus.now) (beside regs.old.pc (pair_of regs.old 0))) }
+    ensures { regs.new ≡ with_pair regs.old pair (fetch_of (B.flat bus.now) (address_beside regs.old.pc (pair_of regs.old 0))) }
 {
     let from = word_beside(regs.pc, regs.pair(PairNo::ZERO));
     regs.set_pair(pair, bus.fetch(from));
@@ -53,7 +53,7 @@ fn jump_indirect(regs: &mut Regs, pair: PairNo)
 
 /// JMS.
 fn call(regs: &mut Regs, target: Addr)
-    ensures { regs.new ≡ called target regs.old }
+    ensures { regs.new ≡ after_jms target regs.old }
 {
     let ret = [regs.pc, regs.ret[0], regs.ret[1]];
     regs.ret = ret;
@@ -62,7 +62,7 @@ fn call(regs: &mut Regs, target: Addr)
 
 /// BBL, but for the accumulator.
 fn branch_back(regs: &mut Regs)
-    ensures { regs.new ≡ returned regs.old }
+    ensures { regs.new ≡ after_bbl regs.old }
 {
     let back = regs.ret[0];
     let ret = [regs.ret[1], regs.ret[2], regs.pc];
@@ -72,7 +72,7 @@ fn branch_back(regs: &mut Regs)
 
 /// ISZ.
 fn count_up(regs: &mut Regs, r: RegNo, word: u8)
-    ensures { regs.new ≡ counted r word regs.old }
+    ensures { regs.new ≡ after_isz r word regs.old }
 {
     let (sum, _) = regs.register(r).add(Nibble::ONE, Bit::ZERO);
     regs.set_register(r, sum);
@@ -97,7 +97,7 @@ fn subtract(regs: &mut Regs, n: Nibble)
 
 /// RAR.
 fn rotate_right(regs: &mut Regs)
-    ensures { regs.new ≡ rotated_right regs.old }
+    ensures { regs.new ≡ after_rar regs.old }
 {
     let acc = regs.acc.get();
     regs.acc = Nibble::low_of(8 * regs.cy.get() + acc / 2);
@@ -136,7 +136,7 @@ fn line_number(lines: Nibble) -> Nibble
 
 /// DAA.
 fn adjust(regs: &mut Regs)
-    ensures { regs.new ≡ adjusted regs.old }
+    ensures { regs.new ≡ after_daa regs.old }
 {
     if regs.cy.get() == 1 || regs.acc.get() > 9 {
         let sum = regs.acc.get() + 6;

@@ -2,7 +2,8 @@
 //!
 //! `Bus` is what the processor reaches outside itself, with a flat state as its meaning. One cycle of
 //! `Cpu` over it is the cycle that `mcs_model` defines, for each of the 256 codes.
-//! Source: Intel MCS-4 Users Manual, the description of the 4004 and its instruction set.
+//! Source: Intel MCS-4 Users Manual, the description of the 4004 and its instruction set. What is this
+//! project's own choice is said beside each definition of `mcs_model`.
 #![tactic(auto)]
 
 mod bus;
@@ -12,6 +13,3 @@ mod processor;
 pub use bus::Bus;
 pub use mcs_model::regs::Regs;
 pub use processor::{Cpu, Cycle};
-
-#[cfg(test)]
-mod tests;

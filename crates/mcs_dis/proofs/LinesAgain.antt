@@ -2,8 +2,8 @@
 use Rattle.std.proofs.Common.{◌≡◌, ℕ, Bool, true, false, not, eqb, List, [], ◌∷◌, ◌++◌, refl, sym, ap, ◌∙◌, append_assoc, append-nil}
 use Rattle.std.proofs.lemmas.Bool.{and_parts, not-true}
 use Rattle.std.specs.List.{list_all, flat_map, AllByRecursion}
-use Rattle.mcs_model.specs.Assembly.{without_cr, ends_in_cr, lines_after, lines_of}
-use Rattle.mcs_model.specs.Text.{as_line}
+use Rattle.mcs_source.specs.Assembly.{without_cr, ends_in_cr, lines_after, lines_of}
+use Rattle.mcs_source.specs.Text.{as_line}
 
 abbrev pub no_lf : ℕ → Bool
 no_lf b = not (eqb b 10)

@@ -6,8 +6,8 @@ use Rattle.std.proofs.lemmas.List.{length-drop, length-take, take_all}
 use Rattle.std.specs.List.{flat_map}
 use Rattle.mcs_model.specs.declared.op.Op.{Op}
 use Rattle.mcs_model.specs.Table.{decoded, words_of}
-use Rattle.mcs_model.specs.Text.{op_at, whole_or_byte, second_word, piece_text, piece_size, second_of, as_line, texts, listed, listed_line, origin_text, range, source_text, listing_text}
-use Rattle.mcs_model.proofs.Decoding.{one_or_two}
+use Rattle.mcs_source.specs.Text.{op_at, whole_or_byte, second_word, piece_text, piece_size, second_of, as_line, piece_texts, listing_lines, listed_line, origin_text, range, source_text, listing_text}
+use Rattle.mcs_source.proofs.Decoding.{one_or_two}
 
 pub size_some : (x : Option Op) → 1 ≤ piece_size x
 size_some None = omega arith
@@ -83,11 +83,11 @@ pub record IsWritten (whole out : List ℕ) (at : ℕ) (rest : List ℕ) : Type 
   pub most : ℕ
   pub enough : length rest ≤ most
   pub in_rom : at + length rest ≤ 4096
-  pub text : out ++ flat_map as_line (texts most at rest) ≡ whole
+  pub text : out ++ flat_map as_line (piece_texts most at rest) ≡ whole
 
-one_text : (most : ℕ) (whole out : List ℕ) (at b : ℕ) (rest : List ℕ) → length (b ∷ rest) ≤ most → at + length (b ∷ rest) ≤ 4096 → out ++ flat_map as_line (texts most at (b ∷ rest)) ≡ whole
+one_text : (most : ℕ) (whole out : List ℕ) (at b : ℕ) (rest : List ℕ) → length (b ∷ rest) ≤ most → at + length (b ∷ rest) ≤ 4096 → out ++ flat_map as_line (piece_texts most at (b ∷ rest)) ≡ whole
     → IsWritten whole (out ++ as_line (piece_text at b (op_at b rest))) (at + piece_size (op_at b rest)) (drop (piece_size (op_at b rest)) (b ∷ rest))
-unfolding texts
+unfolding piece_texts
 one_text zero whole out at b rest enough in_rom text = absurd (omega (arith, enough))
 one_text (suc most) whole out at b rest enough in_rom text =
     let n : ℕ = piece_size (op_at b rest) in
@@ -98,7 +98,7 @@ one_text (suc most) whole out at b rest enough in_rom text =
       most = most;
       enough = omega (arith, len, enough);
       in_rom = omega (arith, len, in_rom, some, fits);
-      text = append_assoc out (as_line (piece_text at b (op_at b rest))) (flat_map as_line (texts most (at + n) (drop (n - 1) rest))) ∙ text;
+      text = append_assoc out (as_line (piece_text at b (op_at b rest))) (flat_map as_line (piece_texts most (at + n) (drop (n - 1) rest))) ∙ text;
     })
 
 all_left : (n : ℕ) (rest : List ℕ) → take (length rest - n) (drop n rest) ≡ drop n rest
@@ -125,8 +125,8 @@ source_starts rom out from to at n m all some end is there low high =
       text = refl;
     })
 
-no_texts : (most at : ℕ) → texts most at [] ≡ []
-unfolding texts
+no_texts : (most at : ℕ) → piece_texts most at [] ≡ []
+unfolding piece_texts
 no_texts zero at = refl
 no_texts (suc most) at = refl
 
@@ -139,11 +139,11 @@ all_written whole out (b ∷ rest) at none w = absurd (omega (arith, none))
 -- with the lines that are left, a text is the whole
 pub record IsListed (whole out : List ℕ) (left at : ℕ) (rest : List ℕ) : Type 0 where
   pub in_rom : at + length rest ≤ 4096
-  pub text : out ++ flat_map as_line (listed left at rest) ≡ whole
+  pub text : out ++ flat_map as_line (listing_lines left at rest) ≡ whole
 
 one_listed : (left : ℕ) (whole out : List ℕ) (at b : ℕ) (rest : List ℕ) → IsListed whole out (suc left) at (b ∷ rest)
     → IsListed whole (out ++ as_line (listed_line at b rest (op_at b rest))) left (at + piece_size (op_at b rest)) (drop (piece_size (op_at b rest)) (b ∷ rest))
-unfolding listed
+unfolding listing_lines
 one_listed left whole out at b rest w =
     let n : ℕ = piece_size (op_at b rest) in
     let some : 1 ≤ piece_size (op_at b rest) = size_some (op_at b rest) in
@@ -151,7 +151,7 @@ one_listed left whole out at b rest w =
     let len : length (drop (n - 1) rest) ≡ length rest - (n - 1) = length-drop (n - 1) rest in
     rw (rest_is (piece_size (op_at b rest)) b rest some) (record {
       in_rom = omega (arith, len, w.in_rom, some, fits);
-      text = append_assoc out (as_line (listed_line at b rest (op_at b rest))) (flat_map as_line (listed left (at + n) (drop (n - 1) rest))) ∙ w.text;
+      text = append_assoc out (as_line (listed_line at b rest (op_at b rest))) (flat_map as_line (listing_lines left (at + n) (drop (n - 1) rest))) ∙ w.text;
     })
 
 front_listed : (whole out new rest : List ℕ) (left at n : ℕ) → 0 < length rest → IsListed whole out (suc left) at rest → n ≡ piece_size (op_at (get_or rest 0 0) (drop 1 rest))
@@ -176,8 +176,8 @@ listing_starts rom out from lines at n all low is there start =
       text = refl;
     }))
 
-none_listed : (left at : ℕ) → listed left at [] ≡ []
-unfolding listed
+none_listed : (left at : ℕ) → listing_lines left at [] ≡ []
+unfolding listing_lines
 none_listed zero at = refl
 none_listed (suc left) at = refl
 
@@ -186,7 +186,7 @@ rom_ends whole out [] left at none w = sym (append-nil out) ∙ (ap (λ (ls : Li
 rom_ends whole out (b ∷ rest) left at none w = absurd (omega (arith, none))
 
 none_more : (whole out rest : List ℕ) (at : ℕ) → IsListed whole out 0 at rest → out ≡ whole
-unfolding listed
+unfolding listing_lines
 none_more whole out rest at w = sym (append-nil out) ∙ w.text
 
 pub lines_end : (whole out rest : List ℕ) (lines i at : ℕ) → lines ≤ i → IsListed whole out (lines - i) at rest → out ≡ whole

@@ -2,15 +2,15 @@
 use Rattle.std.proofs.Common.{◌≡◌, ℕ, ◌+◌, ◌<◌, ◌≤◌, Bool, true, false, cond, leb, List, [], ◌∷◌, length, take, Option, Some, None, Ok, refl, ap, ◌∙◌, ◌⊎◌, inl, inr, arith}
 use Rattle.std.proofs.lemmas.Bool.{lt-ltb, leb-true}
 use Rattle.mcs_model.specs.declared.op.Op.{Op}
-use Rattle.mcs_model.specs.Lexical.{tokens}
-use Rattle.mcs_model.specs.Lines as asm
+use Rattle.mcs_source.specs.Lexical.{tokens}
+use Rattle.mcs_source.specs.Lines as asm
 use Rattle.mcs_model.specs.Table.{decoded, words_of}
-use Rattle.mcs_model.specs.Assembly.{bytes_at, size, is_bad_statement, next_statement}
-use Rattle.mcs_model.specs.Text.{op_at, whole_or_byte, second_word, piece_text, piece_size}
+use Rattle.mcs_source.specs.Assembly.{bytes_at, size, is_bad_statement, next_statement}
+use Rattle.mcs_source.specs.Text.{op_at, whole_or_byte, second_word, piece_text, piece_size}
 use Rattle.mcs_dis.specs.Again.{statement}
 use Rattle.mcs_dis.proofs.ReadBack.{read_back, spells, byte_back, size_is, next_is, fine_is}
 use Rattle.mcs_dis.proofs.Clean.{Clean, byte_clean, text_clean}
-use Rattle.mcs_model.proofs.Decoding.{decoded_spells, one_or_two}
+use Rattle.mcs_source.proofs.Decoding.{decoded_spells, one_or_two}
 
 abbrev pub piece_statement : ℕ → ℕ → Option Op → asm.Statement
 piece_statement at b None = asm.Data (asm.Number b ∷ [])

@@ -7,14 +7,14 @@ use Rattle.mcs_model.specs.QueryText.{hex_digit}
 use Rattle.std.specs.Char.{digit_value}
 use Rattle.mcs_model.specs.declared.op.Op.{Op}
 use Rattle.mcs_model.specs.declared.op.Op.TheVariants.{Nop, Jcn, Fim, Src, Fin, Jin, Jun, Jms, Inc, Isz, Add, Sub, Ld, Xch, Bbl, Ldm, Wrm, Wmp, Wrr, Wr0, Wr1, Wr2, Wr3, Sbm, Rdm, Rdr, Adm, Rd0, Rd1, Rd2, Rd3, Clb, Clc, Iac, Cmc, Cma, Ral, Rar, Tcc, Dac, Tcs, Stc, Daa, Kbp, Dcl}
-use Rattle.mcs_model.specs.Lexical.{Token, Word, Comma, tokens, tokens_after, word_then, is_word}
-use Rattle.mcs_model.specs.Numerals.{capped, number_of}
-use Rattle.mcs_model.specs.Mnemonics.{mnemonic_of, orders, on_registers, on_ports, on_memory, on_accumulator, on_carry}
-use Rattle.mcs_model.specs.Lines as asm
-use Rattle.mcs_model.specs.Text.{byte_text, origin_text, hex_2, address, near_page}
-use Rattle.mcs_model.specs.Assembly.{Names, bytes_at, size, next_statement, is_bad_statement}
+use Rattle.mcs_source.specs.Lexical.{Token, Word, Comma, tokens, tokens_after, word_then, is_word}
+use Rattle.mcs_model.specs.Numerals.{capped, number_written}
+use Rattle.mcs_source.specs.Mnemonics.{mnemonic_of, orders, on_registers, on_ports, on_memory, on_accumulator, on_carry}
+use Rattle.mcs_source.specs.Lines as asm
+use Rattle.mcs_source.specs.Text.{byte_text, origin_text, hex_2, address, near_page}
+use Rattle.mcs_source.specs.Assembly.{Names, bytes_at, size, next_statement, is_bad_statement}
 use Rattle.mcs_model.specs.Table.{words_of}
-use Rattle.mcs_model.specs.Spelling.{spelling, IsOp}
+use Rattle.mcs_source.specs.Spelling.{spelling, IsOp}
 use Rattle.mcs_dis.specs.Again.{statement, ReadsAs}
 
 -- a test of each number below n
@@ -70,9 +70,9 @@ small_again : (d : ℕ) → d < 16 → asm.up_to_15 (decimal d) ≡ Some d
 unfolding digits is_nat
 small_again d lt = nat_is d (asm.up_to_15 (decimal d)) (one_below (λ d. is_nat d (asm.up_to_15 (decimal d))) 16 refl d lt)
 
-pair_again : (d : ℕ) → d < 8 → asm.pair_of (80 ∷ decimal d) ≡ Some d
+pair_again : (d : ℕ) → d < 8 → asm.pair_named (80 ∷ decimal d) ≡ Some d
 unfolding digits is_nat
-pair_again d lt = nat_is d (asm.pair_of (80 ∷ decimal d)) (one_below (λ d. is_nat d (asm.pair_of (80 ∷ decimal d))) 8 refl d lt)
+pair_again d lt = nat_is d (asm.pair_named (80 ∷ decimal d)) (one_below (λ d. is_nat d (asm.pair_named (80 ∷ decimal d))) 8 refl d lt)
 
 number_of_option : Option asm.Operand → Option ℕ
 number_of_option (Some (asm.Number m)) = Some m
@@ -121,7 +121,7 @@ address_again p b lp lt =
     let same : min (((0 * 16 + p) * 16 + b / 16) * 16 + b % 16) 4294967296 ≡ p * 256 + b = omega arith in
     rw (glyph_value p lp, glyph_value (b / 16) high, glyph_value (b % 16) last, lt-ltb _ _ lp, lt-ltb _ _ high, lt-ltb _ _ last) (rw same refl)
 
-address_number : (p b n : ℕ) → p < 16 → b < 256 → n ≡ p * 256 + b → asm.◌>>=◌ (number_of (address p b)) (λ k. Some (capped k)) ≡ Some n
+address_number : (p b n : ℕ) → p < 16 → b < 256 → n ≡ p * 256 + b → asm.◌>>=◌ (number_written (address p b)) (λ k. Some (capped k)) ≡ Some n
 address_number p b n lp lt e =
     let high : b / 16 < 16 = omega arith in
     let last : b % 16 < 16 = omega arith in

@@ -4,11 +4,11 @@ use Rattle.std.proofs.lemmas.Bool.{le-ltb, lt-ltb, lt-leb}
 use Rattle.std.proofs.lemmas.List.{length-take, length-drop, take-append-drop}
 use Rattle.std.specs.List.{AllByRecursion}
 use Rattle.mcs_model.specs.declared.op.Op.{Op}
-use Rattle.mcs_model.specs.Lexical.{tokens}
-use Rattle.mcs_model.specs.Lines as asm
+use Rattle.mcs_source.specs.Lexical.{tokens}
+use Rattle.mcs_source.specs.Lines as asm
 use Rattle.mcs_model.specs.Pairs.{from_address, overlaps}
-use Rattle.mcs_model.specs.Assembly.{assembled, lines_of, start, nothing_spelt, Before, Spelt, with_line, with_second, class_one, class_two}
-use Rattle.mcs_model.specs.Text.{SpellsItself, origin_text, source_of, op_at, second_word, piece_text, piece_size, texts}
+use Rattle.mcs_source.specs.Assembly.{assembled, lines_of, nothing_before, nothing_spelt, Before, Spelt, before_with_line, spelt_with_line, class_one, class_two}
+use Rattle.mcs_source.specs.Text.{SpellsItself, origin_text, source_of, op_at, second_word, piece_text, piece_size, piece_texts}
 use Rattle.mcs_dis.proofs.Clean.{line_is, address_clean}
 use Rattle.mcs_dis.proofs.LinesAgain.{IsLine, lines_again}
 use Rattle.mcs_dis.proofs.ReadBack.{origin_back}
@@ -54,19 +54,19 @@ before at = record { at = at; names = [] }
 abbrev pub spelt : ℕ → List (ℕ × ℕ) → Spelt
 spelt at pairs = record { at = at; pairs = pairs }
 
-one_step : (at b : ℕ) (rest : List ℕ) (x : Option Op) → IsPiece at b rest x → at + piece_size x ≤ 4096 → with_line (before at) (asm.line_of (tokens (piece_text at b x))) ≡ Ok (before (at + piece_size x))
+one_step : (at b : ℕ) (rest : List ℕ) (x : Option Op) → IsPiece at b rest x → at + piece_size x ≤ 4096 → before_with_line (before at) (asm.line_of (tokens (piece_text at b x))) ≡ Ok (before (at + piece_size x))
 one_step at b rest x p le = rw (p.reads) (rw (p.fine, p.size_of, le-ltb 4096 (at + piece_size x) le, p.next) refl)
 
 two_step : (at b : ℕ) (rest : List ℕ) (x : Option Op) (pairs : List (ℕ × ℕ)) → IsPiece at b rest x → AreBelow at pairs
-    → with_second [] (spelt at pairs) (asm.line_of (tokens (piece_text at b x))) ≡ Ok (spelt (at + piece_size x) (pairs ++ from_address at (take (piece_size x) (b ∷ rest))))
+    → spelt_with_line [] (spelt at pairs) (asm.line_of (tokens (piece_text at b x))) ≡ Ok (spelt (at + piece_size x) (pairs ++ from_address at (take (piece_size x) (b ∷ rest))))
 two_step at b rest x pairs p below = rw (p.reads) (rw (p.bytes, below_free at (length (take (piece_size x) (b ∷ rest))) pairs below, p.next) refl)
 
 rest_is : (n b : ℕ) (rest : List ℕ) → 1 ≤ n → drop n (b ∷ rest) ≡ drop (n - 1) rest
 rest_is zero b rest le = absurd (omega (arith, le))
 rest_is (suc n) b rest le = ap (λ k. drop k rest) (omega arith)
 
-pub one_all : (fuel at k : ℕ) (bytes : List ℕ) → length bytes ≤ fuel → at + length bytes ≤ 4096 → AreBytes bytes → class_one k (before at) (texts fuel at bytes) ≡ Ok (before (at + length bytes))
-unfolding class_one texts
+pub one_all : (fuel at k : ℕ) (bytes : List ℕ) → length bytes ≤ fuel → at + length bytes ≤ 4096 → AreBytes bytes → class_one k (before at) (piece_texts fuel at bytes) ≡ Ok (before (at + length bytes))
+unfolding class_one piece_texts
 one_all zero at k [] short le all = ap (λ (n : ℕ). Ok (before n)) (omega arith)
 one_all zero at k (b ∷ rest) short le all = absurd (omega (arith, short))
 one_all (suc fuel) at k [] short le all = ap (λ (n : ℕ). Ok (before n)) (omega arith)
@@ -78,8 +78,8 @@ one_all (suc fuel) at k (b ∷ rest) short le all =
     let end : at + piece_size x + length (drop (piece_size x - 1) rest) ≡ at + length (b ∷ rest) = omega (arith, len, p.some, p.fits) in
     rw (one_step at b rest x p (omega (arith, le, p.fits))) (more ∙ ap (λ (n : ℕ). Ok (before n)) end)
 
-pub two_all : (fuel at k : ℕ) (bytes : List ℕ) (pairs : List (ℕ × ℕ)) → length bytes ≤ fuel → AreBytes bytes → AreBelow at pairs → class_two k [] (spelt at pairs) (texts fuel at bytes) ≡ Ok (spelt (at + length bytes) (pairs ++ from_address at bytes))
-unfolding class_two texts
+pub two_all : (fuel at k : ℕ) (bytes : List ℕ) (pairs : List (ℕ × ℕ)) → length bytes ≤ fuel → AreBytes bytes → AreBelow at pairs → class_two k [] (spelt at pairs) (piece_texts fuel at bytes) ≡ Ok (spelt (at + length bytes) (pairs ++ from_address at bytes))
+unfolding class_two piece_texts
 two_all zero at k [] pairs short all below = rw (append-nil pairs) (ap (λ (n : ℕ). Ok (spelt n pairs)) (omega arith))
 two_all zero at k (b ∷ rest) pairs short all below = absurd (omega (arith, short))
 two_all (suc fuel) at k [] pairs short all below = rw (append-nil pairs) (ap (λ (n : ℕ). Ok (spelt n pairs)) (omega arith))
@@ -100,8 +100,8 @@ two_all (suc fuel) at k (b ∷ rest) pairs short all below =
     ∙ ap (λ (l : List (ℕ × ℕ)). pairs ++ l) (ap (λ (m : ℕ). from_address at front ++ from_address (at + m) (drop (n - 1) rest)) (sym front_len) ∙ (sym (placed at front (drop (n - 1) rest)) ∙ ap (from_address at) whole)) in
     rw (two_step at b rest x pairs p below) (more ∙ rw (end, pairs_are) refl)
 
-texts_clean : (fuel at : ℕ) (bytes : List ℕ) → AreBytes bytes → AllByRecursion IsLine (texts fuel at bytes)
-unfolding texts
+texts_clean : (fuel at : ℕ) (bytes : List ℕ) → AreBytes bytes → AllByRecursion IsLine (piece_texts fuel at bytes)
+unfolding piece_texts
 texts_clean zero at bytes all = tt
 texts_clean (suc fuel) at [] all = tt
 texts_clean (suc fuel) at (b ∷ rest) all =
@@ -112,10 +112,10 @@ texts_clean (suc fuel) at (b ∷ rest) all =
 pub source_again : (from : ℕ) (bytes : List ℕ) → from < 4096 → from + length bytes ≤ 4096 → AreBytes bytes → assembled (source_of from bytes) ≡ Ok (from_address from bytes)
 unfolding class_one class_two
 source_again from bytes lt le all =
-    let ts : List (List ℕ) = texts (length bytes) from bytes in
+    let ts : List (List ℕ) = piece_texts (length bytes) from bytes in
     let lines : lines_of (source_of from bytes) ≡ origin_text from ∷ ts =
     lines_again (origin_text from ∷ ts) (line_is (origin_text from) (address_clean (from / 256) (from % 256) (omega arith) (omega arith)), texts_clean (length bytes) from bytes all) in
-    let first : class_one 1 start (origin_text from ∷ ts) ≡ Ok (before (from + length bytes)) =
+    let first : class_one 1 nothing_before (origin_text from ∷ ts) ≡ Ok (before (from + length bytes)) =
     rw (origin_back from lt) (rw (lt-ltb from 4096 lt) (one_all (length bytes) from 2 bytes (omega arith) le all)) in
     let second : class_two 1 [] nothing_spelt (origin_text from ∷ ts) ≡ Ok (spelt (from + length bytes) (from_address from bytes)) =
     rw (origin_back from lt) (two_all (length bytes) from 2 bytes [] (omega arith) all tt) in

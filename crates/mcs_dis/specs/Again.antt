@@ -4,9 +4,9 @@ use Rattle.std.specs.List.{Contains}
 use Rattle.mcs_model.specs.Pairs.{from_address}
 use Rattle.mcs_model.specs.declared.op.Op.{Op}
 use Rattle.mcs_model.specs.declared.op.Op.TheVariants.{Jcn, Fim, Jun, Jms, Isz, Bbl, Ldm}
-use Rattle.mcs_model.specs.Lexical.{tokens}
-use Rattle.mcs_model.specs.Lines as asm
-use Rattle.mcs_model.specs.Text.{text_of, near_page, range}
+use Rattle.mcs_source.specs.Lexical.{tokens}
+use Rattle.mcs_source.specs.Lines as asm
+use Rattle.mcs_source.specs.Text.{text_of, near_page, range}
 
 -- the address that JCN and ISZ at an address reach
 abbrev pub near : ℕ → ℕ → asm.Operand

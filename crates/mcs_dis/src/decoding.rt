@@ -1,12 +1,12 @@
 //! What stands in front of some bytes: an instruction, or a byte that is none.
 ghost use Rattle.std.specs.Prelude.{◌≡◌, ◌<◌, ◌≤◌, [], length, slice_index, drop};
 ghost use Rattle.std.specs.Option.{option_to_list};
-ghost use Rattle.mcs_model.specs.Text.{op_at, piece_size, second_of};
+ghost use Rattle.mcs_source.specs.Text.{op_at, piece_size, second_of};
 
 use mcs_code::{Op, decode, word_count, words};
 
 /// The instruction of one word that a code spells.
-#[tactic(auto, using(crate::proofs::Loops::one_is, crate::proofs::Loops::two_is), unfolding(mcs_model::specs::Text::op_at))]
+#[tactic(auto, using(crate::proofs::Loops::one_is, crate::proofs::Loops::two_is), unfolding(mcs_source::specs::Text::op_at))]
 fn one_word_op(code: u8) -> Option<Op>
     ensures { result ≡ op_at code [] }
 {
@@ -19,7 +19,7 @@ fn one_word_op(code: u8) -> Option<Op>
 
 /// The instruction of a first word and a second; None where it is outside the table, or lacks its
 /// second word.
-#[tactic(auto, using(crate::proofs::Loops::both_is), unfolding(mcs_model::specs::Text::op_at))]
+#[tactic(auto, using(crate::proofs::Loops::both_is), unfolding(mcs_source::specs::Text::op_at))]
 pub fn op_of(first: u8, second: Option<u8>) -> Option<Op>
     ensures { result ≡ op_at first (option_to_list second) }
 {

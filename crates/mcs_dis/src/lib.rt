@@ -4,8 +4,6 @@
 mod decoding;
 mod law;
 mod listings;
-#[cfg(test)]
-mod tests;
 mod texts;
 
 pub use law::{reads_back, source_law};

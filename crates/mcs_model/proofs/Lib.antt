@@ -1,4 +1,3 @@
-pub mod Decoding
 pub mod Digits
 pub mod Rising
 pub mod RunLemmas

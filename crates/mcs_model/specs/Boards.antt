@@ -10,9 +10,9 @@ use Rattle.mcs_model.specs.declared.board.ChainPart.{ChainPart}
 use Rattle.mcs_model.specs.declared.board.KeyMatrix.{KeyMatrix}
 use Rattle.mcs_model.specs.declared.board.Line.{Line}
 use Rattle.mcs_model.specs.declared.board.Line.TheVariants.{Rom, Ram, Chain}
-use Rattle.mcs_model.specs.declared.limits.TheConstants.{ROMS, BANKS, BANK_CHIPS, CHAINS, CHAIN_CHIPS, CHAIN_BITS, KEY_ROWS, LAMPS}
+use Rattle.mcs_model.specs.declared.limits.TheConstants.{ROMS, BANKS, BANK_CHIPS, CHAINS, CHAIN_CHIPS, CHAIN_BITS, KEY_COLUMNS, KEY_ROWS, LAMPS}
 
--- what the port lines of a ROM are, if the board has that ROM (4001 data sheet, mask options)
+-- what the port lines of a ROM are, if the board has that ROM (input or output by the mask: 4001 data sheet)
 abbrev pub masks_on : BoardParts → ℕ → Option (List LineMask)
 masks_on b chip = slice_index_or b.roms chip None
 
@@ -30,15 +30,15 @@ chain_part b i = slice_index_or b.chains.items i no_chain
 abbrev pub chain_count : BoardParts → ℕ
 chain_count b = length b.chains.items
 
--- how many bits chain i has: ten for each of its chips (4003 data sheet)
+-- how many bits chain i has: ten for each of its chips (4003 data sheet; that the chips are one row is our own choice)
 abbrev pub chain_bits : BoardParts → ℕ → ℕ
 chain_bits b i = 10 * (chain_part b i).chips
 
 -- the board with nothing on it
 abbrev pub empty_parts : BoardParts
 empty_parts = record {
-  roms = replicate 16 None;
-  banks = replicate 8 0;
+  roms = replicate ROMS None;
+  banks = replicate BANKS 0;
   chains = record { items = [] };
   keys = None;
   lamps = record { items = [] };
@@ -142,6 +142,8 @@ key_place b row column = elim b.keys [ Some m ↦ row * length m.columns.items +
 -- the lengths of the lists of all parts, by their types
 pub record IsSized (b : BoardParts) : Type 0 where
   pub roms : length b.roms ≡ ROMS
+  pub masks : (chip : ℕ) (mask : List LineMask) → masks_on b chip ≡ Some mask → length mask ≡ 4
   pub banks : length b.banks ≡ BANKS
   pub chains : length b.chains.items ≤ CHAINS
+  pub columns : (m : KeyMatrix) → b.keys ≡ Some m → length m.columns.items ≤ KEY_COLUMNS
   pub lamps : length b.lamps.items ≤ LAMPS

@@ -1,4 +1,7 @@
 -- What the processor reaches outside itself: the board, and what its chips hold.
+-- (MCS-4 Users Manual and data sheets, as each definition says. Our own choice: positive logic, so that a level of 1 is the
+-- bit 1; a bank is named by its DCL code, 0 to 7; each bank keeps an SRC byte of its own; what is absent holds 0, reads as 0
+-- and loses what is written to it.)
 use Rattle.std.specs.Prelude.{ℕ, ◌+◌, ◌*◌, ◌/◌, List, [], replicate, Bool, slice_index, slice_set, if◌then◌else◌, nat_lt}
 use Rattle.mcs_model.specs.declared.board.BoardParts.{BoardParts}
 use Rattle.mcs_model.specs.Boards.{empty_parts}
@@ -17,7 +20,7 @@ pub record BusState : Type 0 where
   pub rom_ports : List ℕ
   -- the SRC byte that the ROMs keep
   pub rom_src : ℕ
-  -- the SRC byte that each bank keeps, 0 in a bank without chips (that each keeps its own is our own choice)
+  -- the SRC byte that each bank keeps, 0 in a bank without chips
   pub ram_src : List ℕ
   -- the bits of each chain, bit 0 first
   pub chains : List (List ℕ)
@@ -42,11 +45,11 @@ zero_bus = record {
   test = 0;
 }
 
--- the ROM byte at an address; an absent ROM reads 00 (4001 data sheet; absent parts are our own choice)
+-- the ROM byte at an address (4001 data sheet); an absent ROM reads 00 (our own choice)
 unfoldable pub fetch_of : BusState → ℕ → ℕ
 fetch_of s at = slice_index s.rom at
 
--- how many chips a bank has
+-- how many chips a bank has, which is named by its DCL code (our own choice)
 abbrev pub wired_of : BusState → ℕ → ℕ
 wired_of s bank = slice_index s.board.banks bank
 
@@ -67,11 +70,11 @@ after_src s bank byte =
     then record s { rom_src = byte; ram_src = slice_set s.ram_src bank byte }
     else record s { rom_src = byte }
 
--- the selected character of a bank (4002 data sheet; an absent one reads 0)
+-- the selected character of a bank (4002 data sheet); an absent one reads 0 (our own choice)
 unfoldable pub ram_of : BusState → ℕ → ℕ
 ram_of s bank = slice_index s.ram (bank * 256 + src_of s bank)
 
--- a write to the selected character of a bank; one to an absent chip is lost
+-- a write to the selected character of a bank (4002 data sheet); one to an absent chip is lost (our own choice)
 unfoldable pub after_ram : BusState → ℕ → ℕ → BusState
 after_ram s bank n =
     if has_chip s bank (src_of s bank)
@@ -82,11 +85,12 @@ after_ram s bank n =
 abbrev pub status_place : ℕ → ℕ → ℕ
 status_place src k = src / 16 * 4 + k
 
--- status character k of the selected register of a bank (4002 data sheet; an absent one reads 0)
+-- status character k of the selected register of a bank (4002 data sheet); an absent one reads 0 (our own choice)
 unfoldable pub status_of : BusState → ℕ → ℕ → ℕ
 status_of s bank k = slice_index s.status (bank * 64 + status_place (src_of s bank) k)
 
--- a write to status character k of the selected register of a bank; one to an absent chip is lost
+-- a write to status character k of the selected register of a bank (4002 data sheet); one to an absent chip is lost (our
+-- own choice)
 unfoldable pub after_status : BusState → ℕ → ℕ → ℕ → BusState
 after_status s bank k n =
     if has_chip s bank (src_of s bank)

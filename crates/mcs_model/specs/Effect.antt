@@ -1,8 +1,8 @@
 -- The effect of each instruction, and one instruction cycle.
 -- (Intel MCS-4 Users Manual, instruction set: each rule is the description of the instruction that it
--- names, in the manual's three groups. Our own choice are: codes outside the table, the list of return
--- addresses that BBL leaves, an SRC byte for each bank, and that an instruction of two cycles does all
--- its work in the first.)
+-- names, in the manual's three groups. Our own choice are: codes outside the table, one list of return
+-- addresses, the bank that the DCL code names, an SRC byte for each bank, and that an instruction of two
+-- cycles does all its work in the first.)
 use Rattle.std.specs.Prelude.{ℕ, ◌+◌, ◌-◌, ◌*◌, ◌/◌, ◌%◌, Bool, ◌&&◌, ◌||◌, not, [], ◌∷◌, Option, Some, None, slice_index, if◌then◌else◌, nat_lt, ◌==◌}
 use Rattle.mcs_model.specs.declared.regs.Regs.{Regs}
 use Rattle.mcs_model.specs.declared.op.Op.{Op}
@@ -22,13 +22,13 @@ abbrev pub with_sum : Regs → ℕ → Regs
 with_sum s x = record s { acc = x % 16; cy = x / 16 }
 
 -- word w on the page of an address
-abbrev pub beside : ℕ → ℕ → ℕ
-beside address w = word_on_page (page_of address) w
+abbrev pub address_beside : ℕ → ℕ → ℕ
+address_beside address w = word_on_page (page_of address) w
 
 -- the counter set to a word on its own page: behind an instruction's words that is the page of the next
 -- instruction (Manual, JCN, ISZ, FIN and JIN at the end of a page)
 abbrev pub with_word : Regs → ℕ → Regs
-with_word s w = record s { pc = beside s.pc w }
+with_word s w = record s { pc = address_beside s.pc w }
 
 -- JCN: whether the jump is taken. Condition bit 2 asks for an accumulator of 0, bit 1 for a carry of 1,
 -- bit 0 for a TEST of 0, and bit 3 turns the answer over.
@@ -39,30 +39,30 @@ is_taken condition s test =
     if condition / 8 % 2 == 1 then not holds else holds
 
 -- JCN: the counter where the jump is taken
-abbrev pub jumped : ℕ → ℕ → Regs → ℕ → Regs
-jumped condition w s test = if is_taken condition s test then with_word s w else s
+abbrev pub after_jcn : ℕ → ℕ → Regs → ℕ → Regs
+after_jcn condition w s test = if is_taken condition s test then with_word s w else s
 
 -- ISZ: register r counted up, and the counter where it is not 0 then
-abbrev pub counted : ℕ → ℕ → Regs → Regs
-counted r w s =
+abbrev pub after_isz : ℕ → ℕ → Regs → Regs
+after_isz r w s =
     let n = (register_of s r + 1) % 16 in
     if n == 0 then with_register s r n else with_word (with_register s r n) w
 
--- JMS: the counter becomes the first return address, and the last one is lost
-abbrev pub called : ℕ → Regs → Regs
-called target s = record s { pc = target; ret = s.pc ∷ slice_index s.ret 0 ∷ slice_index s.ret 1 ∷ [] }
+-- JMS: the counter becomes the first return address, and the last one is lost (one list of them: our own choice)
+abbrev pub after_jms : ℕ → Regs → Regs
+after_jms target s = record s { pc = target; ret = s.pc ∷ slice_index s.ret 0 ∷ slice_index s.ret 1 ∷ [] }
 
 -- BBL: back to the first return address; the counter becomes the last one (our own choice)
-abbrev pub returned : Regs → Regs
-returned s = record s { pc = slice_index s.ret 0; ret = slice_index s.ret 1 ∷ slice_index s.ret 2 ∷ s.pc ∷ [] }
+abbrev pub after_bbl : Regs → Regs
+after_bbl s = record s { pc = slice_index s.ret 0; ret = slice_index s.ret 1 ∷ slice_index s.ret 2 ∷ s.pc ∷ [] }
 
 -- RAR: accumulator and carry one place to the right, round
-abbrev pub rotated_right : Regs → Regs
-rotated_right s = record s { acc = 8 * s.cy + s.acc / 2; cy = s.acc % 2 }
+abbrev pub after_rar : Regs → Regs
+after_rar s = record s { acc = 8 * s.cy + s.acc / 2; cy = s.acc % 2 }
 
 -- DAA: 6 is added where the carry is 1 or the accumulator is above 9; the carry is set and never cleared
-abbrev pub adjusted : Regs → Regs
-adjusted s =
+abbrev pub after_daa : Regs → Regs
+after_daa s =
     if s.cy == 1 || nat_lt 9 s.acc
     then record s { acc = (s.acc + 6) % 16; cy = if nat_lt 15 (s.acc + 6) then 1 else s.cy }
     else s
@@ -82,20 +82,20 @@ key_of n =
 -- accumulator group (CLB to DCL).
 abbrev pub registers_after : Op → Regs → BusState → Regs
 registers_after Nop s _ = s
-registers_after (Jcn c b) s m = jumped c b s m.test
+registers_after (Jcn c b) s m = after_jcn c b s m.test
 registers_after (Fim k b) s _ = with_pair s k b
 registers_after (Src _) s _ = s
-registers_after (Fin k) s m = with_pair s k (fetch_of m (beside s.pc (pair_of s 0)))
+registers_after (Fin k) s m = with_pair s k (fetch_of m (address_beside s.pc (pair_of s 0)))
 registers_after (Jin k) s _ = with_word s (pair_of s k)
 registers_after (Jun h b) s _ = record s { pc = word_on_page h b }
-registers_after (Jms h b) s _ = called (word_on_page h b) s
+registers_after (Jms h b) s _ = after_jms (word_on_page h b) s
 registers_after (Inc r) s _ = with_register s r ((register_of s r + 1) % 16)
-registers_after (Isz r b) s _ = counted r b s
+registers_after (Isz r b) s _ = after_isz r b s
 registers_after (Add r) s _ = with_sum s (s.acc + register_of s r + s.cy)
 registers_after (Sub r) s _ = with_sum s (s.acc + (15 - register_of s r) + (1 - s.cy))
 registers_after (Ld r) s _ = with_acc s (register_of s r)
 registers_after (Xch r) s _ = with_acc (with_register s r s.acc) (register_of s r)
-registers_after (Bbl d) s _ = with_acc (returned s) d
+registers_after (Bbl d) s _ = with_acc (after_bbl s) d
 registers_after (Ldm d) s _ = with_acc s d
 registers_after Wrm s _ = s
 registers_after Wmp s _ = s
@@ -118,12 +118,12 @@ registers_after Iac s _ = with_sum s (s.acc + 1)
 registers_after Cmc s _ = record s { cy = 1 - s.cy }
 registers_after Cma s _ = with_acc s (15 - s.acc)
 registers_after Ral s _ = with_sum s (2 * s.acc + s.cy)
-registers_after Rar s _ = rotated_right s
+registers_after Rar s _ = after_rar s
 registers_after Tcc s _ = record s { acc = s.cy; cy = 0 }
 registers_after Dac s _ = with_sum s (s.acc + 15)
 registers_after Tcs s _ = record s { acc = 9 + s.cy; cy = 0 }
 registers_after Stc s _ = record s { cy = 1 }
-registers_after Daa s _ = adjusted s
+registers_after Daa s _ = after_daa s
 registers_after Kbp s _ = with_acc s (key_of s.acc)
 registers_after Dcl s _ = record s { dcl = s.acc % 8 }
 

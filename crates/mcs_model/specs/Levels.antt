@@ -1,8 +1,9 @@
--- The levels of lines, and what reading and writing a port does.
+-- The levels of lines, and what reading and writing a port does. (Our own choice throughout: positive logic, so that a line
+-- at 1 carries the bit 1.)
 use Rattle.std.specs.Prelude.{ℕ, ◌+◌, ◌*◌, ◌/◌, Bool, false, ◌&&◌, ◌==◌, List, [], ◌∷◌, Option, Some, None, length, take, slice_index, slice_index_or, slice_set, if◌then◌else◌}
 use Rattle.std.specs.List.{list_any, range_with_len}
 use Rattle.mcs_nibble.specs.Bits.{bit_of}
-use Rattle.mcs_nibble.specs.Ports.{held, read_lines}
+use Rattle.mcs_nibble.specs.Ports.{latch_value, read_lines}
 use Rattle.mcs_nibble.specs.Tabled.{tabled}
 use Rattle.mcs_model.specs.declared.board.KeyMatrix.{KeyMatrix}
 use Rattle.mcs_model.specs.declared.board.Line.{Line}
@@ -18,9 +19,9 @@ abbrev pub chain_bit : BusState → ℕ → ℕ → ℕ
 chain_bit s n i = slice_index (slice_index_or s.chains n []) i
 
 -- whether a column is line k of a ROM
-abbrev pub names : ℕ → ℕ → Line → Bool
-names chip k (Rom c j) = c == chip && j == k
-names chip k _ = false
+abbrev pub is_rom_line : ℕ → ℕ → Line → Bool
+is_rom_line chip k (Rom c j) = c == chip && j == k
+is_rom_line chip k _ = false
 
 -- whether row r drives column j: the row's chain bit is 1, and the key of that row and column is down
 abbrev pub drives : List ℕ → List ℕ → KeyMatrix → ℕ → ℕ → Bool
@@ -30,7 +31,7 @@ drives bits keys m j r =
 -- whether some column names line k of a ROM and some row drives that column
 abbrev pub pulled : List ℕ → List ℕ → KeyMatrix → ℕ → ℕ → Bool
 pulled bits keys m chip k =
-    list_any (λ j. names chip k (slice_index_or m.columns.items j (Rom 0 0)) && list_any (drives bits keys m j) (range_with_len 0 m.rows))
+    list_any (λ j. is_rom_line chip k (slice_index_or m.columns.items j (Rom 0 0)) && list_any (drives bits keys m j) (range_with_len 0 m.rows))
     (range_with_len 0 (length m.columns.items))
 
 -- whether a key pulls line k of a ROM to 1 (our own choice: each key has a diode)
@@ -60,7 +61,7 @@ clock_levels s = tabled (chain_count s.board) (λ i. level s (chain_part s.board
 
 -- the bits of chain i behind a port write that left s and found its clock line at `was`: where that
 -- rose, each bit moves one place up, the data line's level becomes bit 0, and the last bit is lost
--- (4003 data sheet; edge, order and data level are our own choice)
+-- (4003 data sheet: a shift register with a serial input; edge, order and data level are our own choice)
 unfoldable pub clocked : BusState → ℕ → ℕ → List ℕ → List ℕ
 clocked s i was row =
     if was == 0 && level s (chain_part s.board i).clock == 1
@@ -68,8 +69,8 @@ clocked s i was row =
     else row
 
 -- the chains clocked, where their clock lines were at `before`
-unfoldable pub moved : List ℕ → BusState → BusState
-moved before s = record s {
+unfoldable pub chains_clocked : List ℕ → BusState → BusState
+chains_clocked before s = record s {
   chains = tabled (chain_count s.board) (λ i. clocked s i (slice_index before i) (slice_index_or s.chains i []));
 }
 
@@ -79,23 +80,23 @@ with_rom_latch s c n = record s { rom_ports = slice_set s.rom_ports c n }
 abbrev pub with_ram_latch : BusState → ℕ → ℕ → BusState
 with_ram_latch s i n = record s { ram_ports = slice_set s.ram_ports i n }
 
--- a write to the port of the selected RAM chip of a bank; one to an absent chip is lost
--- (4002 data sheet, WMP)
+-- a write to the port of the selected RAM chip of a bank (4002 data sheet, WMP); one to an absent chip is lost (our own choice)
 unfoldable pub after_ram_port : BusState → ℕ → ℕ → BusState
 after_ram_port s bank n =
     if has_chip s bank (src_of s bank)
-    then moved (clock_levels s) (with_ram_latch s (bank * 4 + src_of s bank / 64) n)
+    then chains_clocked (clock_levels s) (with_ram_latch s (bank * 4 + src_of s bank / 64) n)
     else s
 
--- a write to the port of the selected ROM; one to an absent ROM is lost (4001 data sheet, WRR)
+-- a write to the port of the selected ROM (4001 data sheet, WRR); its latch keeps 0 at input lines, and a write to an absent
+-- ROM is lost (our own choice)
 unfoldable pub after_rom_port : BusState → ℕ → BusState
 after_rom_port s n =
     elim (masks_on s.board (s.rom_src / 16)) [
-      | Some mask ↦ moved (clock_levels s) (with_rom_latch s (s.rom_src / 16) (held mask n))
+      | Some mask ↦ chains_clocked (clock_levels s) (with_rom_latch s (s.rom_src / 16) (latch_value mask n))
       | None ↦ s
     ]
 
--- what is read at the port of the selected ROM; an absent ROM reads 0 (4001 data sheet, RDR)
+-- what is read at the port of the selected ROM (4001 data sheet, RDR); an absent ROM reads 0 (our own choice)
 unfoldable pub port_of : BusState → ℕ
 port_of s =
     elim (masks_on s.board (s.rom_src / 16)) [

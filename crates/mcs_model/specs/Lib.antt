@@ -15,9 +15,3 @@ pub mod Table
 pub mod Registers
 pub mod Effect
 pub mod Running
-pub mod Spelling
-pub mod Lexical
-pub mod Mnemonics
-pub mod Lines
-pub mod Assembly
-pub mod Text

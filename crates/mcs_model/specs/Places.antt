@@ -1,9 +1,9 @@
 -- What a board's chips hold, changed at one place, by a reset, and by a new board.
--- Source: MCS-4 Users Manual, the chips; that writes to absent chips are lost, and what a reset and a new
--- board clear, are our own choice.
+-- (Our own choice: that writes to absent chips are lost, that latch bits of input lines stay 0, and what a reset and a new
+-- board clear.)
 use Rattle.std.specs.Prelude.{ℕ, ◌+◌, ◌*◌, ◌/◌, List, [], Some, None, is_some, map, replicate, slice_index, slice_index_or, slice_set, if◌then◌else◌, nat_lt}
 use Rattle.mcs_nibble.specs.Tabled.{tabled}
-use Rattle.mcs_nibble.specs.Ports.{held}
+use Rattle.mcs_nibble.specs.Ports.{latch_value}
 use Rattle.mcs_model.specs.declared.board.BoardParts.{BoardParts}
 use Rattle.mcs_model.specs.declared.board.ChainPart.{ChainPart}
 use Rattle.mcs_model.specs.Boards.{masks_on, key_count, key_place}
@@ -33,7 +33,7 @@ with_ram_port s bank chip n = if nat_lt chip (wired_of s bank) then with_ram_lat
 -- the port latch of a ROM, nothing being clocked: n on its output lines, 0 on its input lines; lost where the ROM is
 -- absent
 unfoldable pub with_rom_port : BusState → ℕ → ℕ → BusState
-with_rom_port s chip n = elim (masks_on s.board chip) [ Some mask ↦ with_rom_latch s chip (held mask n) | None ↦ s ]
+with_rom_port s chip n = elim (masks_on s.board chip) [ Some mask ↦ with_rom_latch s chip (latch_value mask n) | None ↦ s ]
 
 -- the SRC byte that a bank keeps; one without chips stays at 0
 unfoldable pub with_ram_src : BusState → ℕ → ℕ → BusState

@@ -1,7 +1,7 @@
 -- Which flat states are valid: the states that a bench can be in. (Our own choice, after what the chips keep.)
 use Rattle.std.specs.Prelude.{◌≡◌, ◌<◌, ◌≤◌, ◌+◌, ◌*◌, ◌/◌, ℕ, List, [], All, MatchOption, length, slice_index, slice_index_or, None}
 use Rattle.std.specs.List.Sorted.{IsStrictlyIncreasing}
-use Rattle.mcs_nibble.specs.Ports.{held}
+use Rattle.mcs_nibble.specs.Ports.{latch_value}
 use Rattle.mcs_model.specs.declared.board.BoardParts.{BoardParts}
 use Rattle.mcs_model.specs.declared.limits.TheConstants.{ACCEPTED_COMMANDS, BREAKPOINTS}
 use Rattle.mcs_model.specs.declared.regs.Regs.{Regs}
@@ -44,7 +44,7 @@ pub record IsAbsentZero (s : BusState) : Type 0 where
   pub status : (bank high k : ℕ) → high < 16 → k < 4 → wired_of s bank ≤ high / 4 → slice_index s.status ((bank * 16 + high) * 4 + k) ≡ 0
   pub ram_ports : (bank chip : ℕ) → chip < 4 → wired_of s bank ≤ chip → slice_index s.ram_ports (bank * 4 + chip) ≡ 0
   pub rom_ports : (chip : ℕ) → MatchOption (masks_on s.board chip) (slice_index s.rom_ports chip ≡ 0)
-      (λ mask. held mask (slice_index s.rom_ports chip) ≡ slice_index s.rom_ports chip)
+      (λ mask. latch_value mask (slice_index s.rom_ports chip) ≡ slice_index s.rom_ports chip)
   pub ram_src : (bank : ℕ) → wired_of s bank ≡ 0 → slice_index s.ram_src bank ≡ 0
 
 -- a board and what its chips hold

@@ -1,12 +1,15 @@
 //! What is on a board.
 
-ghost use Rattle.std.specs.Prelude.{◌≡◌, ◌<◌, ◌*◌, ◌||◌, not, MatchOption, Ok, Err, None, nat_lt, nat_le, length, slice_get, slice_index};
+ghost use Rattle.std.specs.Prelude.{◌≡◌, ◌<◌, ◌*◌, ◌||◌, ℕ, List, not, MatchOption, Ok, Err, Some, None, nat_lt, nat_le, length, slice_get, slice_index};
 ghost use Rattle.std.specs.List.{list_any};
+ghost use Rattle.mcs_nibble.specs.declared.lines.LineMask.{LineMask};
 ghost use Rattle.mcs_model.specs.Boards.{fault_of, in_range, exists_on, masks_on, is_input_line, is_output_line, is_chain_size, is_matrix_size, has_bad_matrix, has_bad_value, lacks_rows, lacks_line, has_wrong_direction, any_chain_line, any_column, any_lamp, any_line, input_on, chain_bits, chain_count, chain_part, has_key, empty_parts, IsSized};
+ghost use Rattle.mcs_model.specs.Refusal.{board_refusal_number};
 
 use crate::limits::{
     BANK_CHIPS, BANKS, CHAIN_BITS, CHAIN_CHIPS, CHAINS, KEY_COLUMNS, KEY_ROWS, LAMPS, ROMS,
 };
+use crate::refusal_numbers;
 use arrayvec::ArrayVec;
 use mcs_nibble::LineMask;
 use std::marker::Model;
@@ -80,15 +83,28 @@ pub struct BoardParts {
 /// Why parts make no board: the first of these that is so.
 #[derive(Clone, Copy, Debug, PartialEq, Eq, Error)]
 pub enum BoardFault {
-    /// A number is out of its range, or a key matrix has no column.
+    /// A number is out of its range, or a key matrix has no column (no 23).
     #[error("a number is out of its range")]
     BadValue,
-    /// A line, a chain or a row's bit is not on the board.
+    /// A line, a chain or a row's bit is not on the board (no 25).
     #[error("no such line on the board")]
     NoSuchLine,
-    /// An input line where an output line is wanted, or the other way round.
+    /// An input line where an output line is wanted, or the other way round (no 26).
     #[error("a line of the wrong direction")]
     WrongDirection,
+}
+
+impl BoardFault {
+    /// The number that the refusal is told by.
+    pub fn number(self) -> u8
+        ensures { result ≡ board_refusal_number self }
+    {
+        match self {
+            BoardFault::BadValue => refusal_numbers::BAD_VALUE,
+            BoardFault::NoSuchLine => refusal_numbers::NO_SUCH_LINE,
+            BoardFault::WrongDirection => refusal_numbers::WRONG_DIRECTION,
+        }
+    }
 }
 
 /// Whether the numbers of a line are in their ranges.
@@ -121,6 +137,21 @@ fn is_sized(chain: ChainPart) -> bool
     ensures { result ≡ is_chain_size chain }
 {
     0 < chain.chips && chain.chips <= CHAIN_CHIPS
+}
+
+/// Four masks are four: an array that is passed as a value has its length.
+fn is_four(mask: [LineMask; 4])
+    ensures { length mask ≡ 4 }
+{
+    let _mask = mask;
+}
+
+fn are_four(masks: Option<[LineMask; 4]>)
+    ensures { (mask : List LineMask) → masks ≡ Some mask → length mask ≡ 4 }
+{
+    if let Some(mask) = masks {
+        is_four(mask);
+    }
 }
 
 impl KeyMatrix {
@@ -377,16 +408,26 @@ impl BoardParts {
         self.has_input_lamp()
     }
 
-    /// The parts, whose lists have the lengths that their types say.
-    fn sized(&self) -> &BoardParts
-        ensures same { result.now ≡ self.now }
-        ensures sized { IsSized self.now }
+    /// Each ROM has four masks: its type says so, and proofs learn it here.
+    fn have_four_masks(&self)
+        ensures { (chip : ℕ) (mask : List LineMask) → masks_on self.now chip ≡ Some mask → length mask ≡ 4 }
     {
-        let _rom = self.roms[0];
+        for i in 0..ROMS {
+            are_four(self.roms[i]);
+        }
+    }
+
+    /// The lists have the lengths that their types say, and proofs learn it here.
+    fn are_sized(&self)
+        ensures { IsSized self.now }
+    {
         let _bank = self.banks[0];
         let _chains = self.chains.as_slice();
         let _lamps = self.lamps.as_slice();
-        self
+        if let Some(keys) = &self.keys {
+            let _columns = keys.columns.as_slice();
+        }
+        self.have_four_masks();
     }
 
     /// What is wrong with the parts, if anything is.
@@ -451,11 +492,11 @@ impl Model for Board {
     ghost Value = { BoardParts };
 
     ghost use Rattle.std.specs.Prelude.{◌≡◌, None};
-    ghost use Rattle.mcs_model.specs.Boards.{fault_of};
+    ghost use Rattle.mcs_model.specs.Boards.{fault_of, IsSized};
 
     ghost view = { λ b. b.parts };
 
-    ghost invariant = { λ b. fault_of b.parts ≡ None };
+    ghost invariant = { λ b. (fault_of b.parts ≡ None) × IsSized b.parts };
 }
 
 impl Board {
@@ -478,6 +519,7 @@ impl Board {
     pub fn of(parts: BoardParts) -> Result<Board, BoardFault>
         ensures { MatchOption (fault_of parts) (result ≡ Ok parts) (λ fault. result ≡ Err fault) }
     {
+        parts.are_sized();
         match parts.fault() {
             Some(fault) => Err(fault),
             None => Ok(Board { parts }),
@@ -490,7 +532,7 @@ impl Board {
         ensures valid { fault_of self.now ≡ None }
         ensures sized { IsSized self.now }
     {
-        self.parts.sized()
+        &self.parts
     }
 
     /// An equal board.

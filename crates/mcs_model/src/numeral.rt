@@ -1,6 +1,6 @@
 //! Numbers as they are written, in command lines and in source texts.
 ghost use Rattle.std.specs.Prelude.{◌≡◌, ◌⊎◌, min, option_map};
-ghost use Rattle.mcs_model.specs.Numerals.{digits_in, number_of, number_up_to};
+ghost use Rattle.mcs_model.specs.Numerals.{digits_in, number_written, number_up_to};
 
 /// The least number that `number` does not tell from larger ones.
 pub const LARGE: u64 = 4_294_967_296;
@@ -25,7 +25,7 @@ fn digits(ds: &[u8], base: u32) -> Option<u64>
 /// It may have any length; every number from 4,294,967,296 on is answered as 4,294,967,296. None
 /// where the word is no number.
 pub fn number(word: &[u8]) -> Option<u64>
-    ensures { result ≡ option_map (λ n. min n LARGE) (number_of word.now) }
+    ensures { result ≡ option_map (λ n. min n LARGE) (number_written word.now) }
 {
     match word {
         [b'0', b'x', ds @ ..] => digits(ds, 16),

@@ -16,9 +16,10 @@ pub struct Regs {
     pub r: [Nibble; 16],
     /// The program counter.
     pub pc: Addr,
-    /// The three return addresses, the one that BBL takes first.
+    /// The three return addresses, the one that BBL takes first. That they are one list is this
+    /// project's own choice.
     pub ret: [Addr; 3],
-    /// The command register, 0 to 7.
+    /// The command register, 0 to 7. That its value names the RAM bank is this project's own choice.
     pub dcl: u8,
     /// How many idle instruction cycles the last instruction still takes: 0 or 1.
     pub owed: u8,

@@ -1,5 +1,6 @@
 -- The port of a 4001: what its latch holds and what the processor reads, line by line.
--- Source: MCS-4 Users Manual, 4001; that an output line reads the constant of its mask is our own choice.
+-- (4001 data sheet: by its mask a line is an input or an output; WRR writes the latch, RDR reads the input lines. Our own
+-- choice: positive logic, a latch bit of 0 at each input line, and that an output line reads the constant of its mask.)
 use Rattle.std.specs.Prelude.{ℕ, Bool, true, false, List, slice_index_or, if◌then◌else◌}
 use Rattle.mcs_nibble.specs.Bits.{bit_of, nibble_of}
 use Rattle.mcs_nibble.specs.declared.lines.LineMask.{LineMask}
@@ -16,12 +17,12 @@ abbrev pub mask_at : List LineMask → ℕ → LineMask
 mask_at mask k = slice_index_or mask k Input
 
 -- bit k of what the latch holds once n is written: that of n on an output line, 0 on an input line
-abbrev pub held_bit : List LineMask → ℕ → ℕ → ℕ
-held_bit mask n k = if is_input (mask_at mask k) then 0 else bit_of n k
+abbrev pub latch_bit : List LineMask → ℕ → ℕ → ℕ
+latch_bit mask n k = if is_input (mask_at mask k) then 0 else bit_of n k
 
 -- what the latch holds once n is written
-unfoldable pub held : List LineMask → ℕ → ℕ
-held mask n = nibble_of (held_bit mask n)
+unfoldable pub latch_value : List LineMask → ℕ → ℕ
+latch_value mask n = nibble_of (latch_bit mask n)
 
 -- bit k of what is read, where `inputs` gives the level of each input line
 abbrev pub read_bit : (ℕ → ℕ) → List LineMask → ℕ → ℕ

@@ -20,6 +20,3 @@ pub use lines::LineMask;
 pub use nibbles::Nibble;
 pub use pairs::PairNo;
 pub use registers::RegNo;
-
-#[cfg(test)]
-mod tests;

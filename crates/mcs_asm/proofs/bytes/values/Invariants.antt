@@ -1,5 +1,5 @@
 use Rattle.std.proofs.Common.{◌≡◌, map, drop}
-use Rattle.mcs_model.specs.Assembly.{values_in}
+use Rattle.mcs_source.specs.Assembly.{values_in}
 use Rattle.mcs_asm.specs.View.{operand_view}
 use Rattle.mcs_asm.proofs.ValueLists.{with_front}
 use Rattle.mcs_asm.proofs.bytes.values.Given as goal

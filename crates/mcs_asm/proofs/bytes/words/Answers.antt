@@ -1,4 +1,4 @@
-use Rattle.mcs_model.proofs.Decoding.{words_spell}
+use Rattle.mcs_source.proofs.Decoding.{words_spell}
 use Rattle.mcs_asm.proofs.bytes.words.Goals as goal
 
 pub returns : goal.returns

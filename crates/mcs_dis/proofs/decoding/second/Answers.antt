@@ -1,5 +1,5 @@
 use Rattle.std.proofs.Common.{◌<◌, subst, ℕ}
-use Rattle.mcs_model.specs.Text.{piece_size}
+use Rattle.mcs_source.specs.Text.{piece_size}
 use Rattle.mcs_dis.proofs.Loops.{second_there}
 use Rattle.mcs_dis.proofs.decoding.second.Goals as goal
 

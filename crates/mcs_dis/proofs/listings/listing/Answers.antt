@@ -1,6 +1,6 @@
 use Rattle.std.proofs.Common.{◌≡◌, ◌<◌, ◌≤◌, length, eqb, true, false, arith, sym, ◌∙◌, string_bytes}
 use Rattle.std.proofs.lemmas.Bool.{eqb-true, eqb-false}
-use Rattle.mcs_model.specs.Text.{listing_text}
+use Rattle.mcs_source.specs.Text.{listing_text}
 use Rattle.mcs_dis.proofs.Loops.{next_listed, rom_ends, lines_end, listing_starts}
 use Rattle.mcs_dis.proofs.listings.listing.Goals as goal
 

@@ -1,5 +1,5 @@
 use Rattle.std.proofs.Common.{◌-◌, string_bytes}
-use Rattle.mcs_model.specs.Text.{listing_text}
+use Rattle.mcs_source.specs.Text.{listing_text}
 use Rattle.mcs_dis.proofs.Loops.{IsListed}
 use Rattle.mcs_dis.proofs.listings.listing.Given as goal
 

@@ -1,5 +1,5 @@
 use Rattle.std.proofs.Common.{◌∙◌, ap}
-use Rattle.mcs_model.specs.Assembly.{Before, is_known}
+use Rattle.mcs_source.specs.Assembly.{Before, is_known}
 use Rattle.mcs_asm.proofs.NameLists.{tells_pushed}
 use Rattle.mcs_asm.proofs.names.Names.define.Goals as goal
 

@@ -1,7 +1,7 @@
 use Rattle.std.proofs.Common.{◌≡◌, ◌∙◌, ◌+◌, ◌≤◌, sym, subst, ap, length, Ok, Some}
 use Rattle.std.specs.Prelude.{option_map}
-use Rattle.mcs_model.specs.Lexical.{tokens}
-use Rattle.mcs_model.specs.Lines.{line_of}
+use Rattle.mcs_source.specs.Lexical.{tokens}
+use Rattle.mcs_source.specs.Lines.{line_of}
 use Rattle.mcs_asm.specs.View.{line_view, HasNoFault}
 use Rattle.mcs_asm.proofs.SpeltLists.{fits, second_is}
 use Rattle.mcs_asm.proofs.passes.Spelt.spell.Goals as goal

@@ -1,0 +1,40 @@
+//! Which codes the manual's table leaves out, by hand.
+use mcs_code::{Op, Words, cycles, decode, encode, word_count, words};
+use mcs_nibble::{Nibble, PairNo};
+
+#[test]
+fn eighteen_codes_are_outside(rt: HostRuntime) {
+    for code in 0..=255u8 {
+        let named = !matches!(code, 0x01..=0x0F | 0xE3 | 0xFE | 0xFF);
+        assert_eq!(rt; decode(code, 0).is_some(), named, "at {code}");
+    }
+    let outside = (0..=255u8)
+        .filter(|code| decode(*code, 0).is_none())
+        .count();
+    assert_eq!(rt; outside, 18);
+}
+
+#[test]
+fn codes_of_two_words(rt: HostRuntime) {
+    for (code, count) in [
+        (0x1F, 2),
+        (0x20, 2),
+        (0x21, 1),
+        (0x30, 1),
+        (0x40, 2),
+        (0x50, 2),
+        (0x7F, 2),
+        (0xFE, 1),
+    ] {
+        assert_eq!(rt; words(code), count, "at {code}");
+    }
+    assert_eq!(rt; cycles(Op::Fin(PairNo::ZERO)), 2);
+    assert_eq!(rt; word_count(Op::Fin(PairNo::ZERO)), 1);
+    assert_eq!(rt;
+        encode(Op::Jcn(Nibble::ONE, 0x10)),
+        Words {
+            first: 0x11,
+            second: Some(0x10)
+        }
+    );
+}

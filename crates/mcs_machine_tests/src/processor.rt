@@ -1,0 +1,248 @@
+//! Worked cycles, by hand from the instruction descriptions of Intel's manual, over a program memory.
+ghost use Rattle.std.specs.Prelude.{◌≡◌, ℕ, ◌<◌};
+ghost use Rattle.mcs_model.specs.Bus.{BusState, zero_bus};
+
+use mcs_cpu4004::{Bus, Cpu, Cycle, Regs};
+use mcs_nibble::{Addr, Bit, Nibble, RegNo};
+
+/// A program memory with a TEST pin, and no other part.
+#[derive(Drop)]
+struct Memory {
+    rom: [u8; 4096],
+    src: u8,
+    test: Bit,
+}
+
+impl Bus for Memory {
+    ghost flat = { λ m. record zero_bus { rom = m.rom; rom_src = m.src; test = m.test } };
+
+    #[tactic(auto, unfolding(mcs_model::specs::Bus::fetch_of))]
+    fn fetch(&self, at: Addr) -> u8 {
+        self.rom[usize::from(at.get())]
+    }
+
+    #[tactic(auto, unfolding(mcs_model::specs::Bus::after_src, mcs_model::specs::Bus::zero_bus))]
+    fn src(&mut self, _bank: u8, byte: u8) {
+        self.src = byte;
+    }
+
+    #[tactic(auto, unfolding(mcs_model::specs::Bus::ram_of, mcs_model::specs::Bus::zero_bus))]
+    fn ram_read(&self, _bank: u8) -> Nibble {
+        Nibble::ZERO
+    }
+
+    #[tactic(auto, unfolding(mcs_model::specs::Bus::after_ram, mcs_model::specs::Bus::zero_bus))]
+    fn ram_write(&mut self, _bank: u8, _n: Nibble) {}
+
+    #[tactic(auto, unfolding(mcs_model::specs::Bus::status_of, mcs_model::specs::Bus::zero_bus))]
+    fn status_read(&self, _bank: u8, _k: u8) -> Nibble {
+        Nibble::ZERO
+    }
+
+    #[tactic(auto, unfolding(mcs_model::specs::Bus::after_status, mcs_model::specs::Bus::zero_bus))]
+    fn status_write(&mut self, _bank: u8, _k: u8, _n: Nibble) {}
+
+    #[tactic(auto, unfolding(mcs_model::specs::Levels::after_ram_port, mcs_model::specs::Bus::zero_bus))]
+    fn ram_port(&mut self, _bank: u8, _n: Nibble) {}
+
+    #[tactic(auto, unfolding(mcs_model::specs::Levels::after_rom_port, mcs_model::specs::Bus::zero_bus))]
+    fn rom_port(&mut self, _n: Nibble) {}
+
+    #[tactic(auto, unfolding(mcs_model::specs::Levels::port_of, mcs_model::specs::Bus::zero_bus))]
+    fn port_read(&self) -> Nibble {
+        Nibble::ZERO
+    }
+
+    fn test(&self) -> Bit {
+        self.test
+    }
+}
+
+fn address(at: u16) -> Addr {
+    Addr::ZERO.plus(at)
+}
+
+fn nibble(n: u8) -> Nibble {
+    Nibble::low_of(n)
+}
+
+/// A memory with TEST at 1 that holds these bytes, and 0 elsewhere.
+fn holding(bytes: &[(u16, u8)]) -> Memory {
+    let mut rom = [0; 4096];
+    for (at, byte) in bytes {
+        rom[usize::from(address(*at).get())] = *byte;
+    }
+    Memory {
+        rom,
+        src: 0,
+        test: Bit::ONE,
+    }
+}
+
+/// The registers of pairs, two nibbles a byte.
+fn index_registers(bytes: [u8; 8]) -> [Nibble; 16] {
+    let mut r = [Nibble::ZERO; 16];
+    for i in 0..8 {
+        r[2 * i] = Nibble::high_of(bytes[i]);
+        r[2 * i + 1] = Nibble::low_of(bytes[i]);
+    }
+    r
+}
+
+/// The registers after that many cycles from an address.
+fn after(cpu: &mut Cpu, bus: &mut Memory, pc: u16, cycles: u32) -> Regs {
+    cpu.set_pc(address(pc));
+    for _ in 0..cycles {
+        let _ = cpu.cycle(bus);
+    }
+    cpu.regs()
+}
+
+#[test]
+fn sums_in_decimal(rt: HostRuntime) {
+    let mut cpu = Cpu::new();
+    cpu.set_acc(nibble(9));
+    cpu.set_register(RegNo::of_code(2), nibble(8));
+    let regs = after(&mut cpu, &mut holding(&[(0, 0x82), (1, 0xFB)]), 0, 2);
+    assert_eq!(rt; regs.acc, nibble(7));
+    assert_eq!(rt; regs.cy, Bit::ONE);
+    assert_eq!(rt; regs.pc, address(2));
+    assert_eq!(rt; regs.r, index_registers([0, 0x80, 0, 0, 0, 0, 0, 0]));
+}
+
+#[test]
+fn jumps_on_condition_to_the_page_of_the_next_address(rt: HostRuntime) {
+    for (from, word, target) in [(0x0FE, 0x10, 0x110), (0x0FC, 0x10, 0x010)] {
+        let mut bus = holding(&[(from, 0x11), (from + 1, word)]);
+        bus.test = Bit::ZERO;
+        let regs = after(&mut Cpu::new(), &mut bus, from, 1);
+        assert_eq!(rt; regs.pc, address(target));
+        assert_eq!(rt; regs.owed, 1);
+    }
+}
+
+#[test]
+fn fetches_indirect_from_the_next_page(rt: HostRuntime) {
+    let mut cpu = Cpu::new();
+    cpu.set_r(index_registers([0x20, 0, 0, 0, 0, 0, 0, 0]));
+    let regs = after(
+        &mut cpu,
+        &mut holding(&[(0x0FF, 0x32), (0x120, 0xAB)]),
+        0x0FF,
+        2,
+    );
+    assert_eq!(rt; regs.pc, address(0x100));
+    assert_eq!(rt; regs.owed, 0);
+    assert_eq!(rt; regs.r, index_registers([0x20, 0xAB, 0, 0, 0, 0, 0, 0]));
+}
+
+#[test]
+fn returns_in_a_ring(rt: HostRuntime) {
+    let mut bus = holding(&[
+        (0x00, 0x50),
+        (0x01, 0x10),
+        (0x10, 0x50),
+        (0x11, 0x20),
+        (0x12, 0xC4),
+        (0x20, 0x50),
+        (0x21, 0x30),
+        (0x22, 0xC3),
+        (0x30, 0x50),
+        (0x31, 0x40),
+        (0x32, 0xC2),
+        (0x40, 0xC1),
+    ]);
+    let regs = after(&mut Cpu::new(), &mut bus, 0, 12);
+    assert_eq!(rt; regs.acc, nibble(4));
+    assert_eq!(rt; regs.pc, address(0x041));
+    assert_eq!(rt; regs.ret, [address(0x033), address(0x023), address(0x013)]);
+}
+
+#[test]
+fn jumps_in_the_first_of_two_cycles(rt: HostRuntime) {
+    let mut bus = holding(&[(0, 0x41), (1, 0x23)]);
+    let mut cpu = Cpu::new();
+    assert_eq!(rt; cpu.cycle(&mut bus), Cycle::Done);
+    assert_eq!(rt; cpu.regs().pc, address(0x123));
+    assert_eq!(rt; cpu.regs().owed, 1);
+    assert_eq!(rt; cpu.cycle(&mut bus), Cycle::Idle);
+    assert_eq!(rt; cpu.regs().pc, address(0x123));
+    assert_eq!(rt; cpu.regs().owed, 0);
+}
+
+#[test]
+fn accumulator_and_carry(rt: HostRuntime) {
+    let rows = [
+        (0xF8, 0, 0, 15, 0),
+        (0xF8, 1, 0, 0, 1),
+        (0xF6, 1, 0, 0, 1),
+        (0xF9, 0, 1, 10, 0),
+        (0xFC, 8, 0, 4, 0),
+        (0xFC, 3, 0, 15, 0),
+    ];
+    for (code, acc, cy, acc_after, cy_after) in rows {
+        let mut cpu = Cpu::new();
+        cpu.set_acc(nibble(acc));
+        cpu.set_cy(Bit::low_of(cy));
+        let regs = after(&mut cpu, &mut holding(&[(0, code)]), 0, 1);
+        assert_eq!(rt; regs.acc, nibble(acc_after), "code {code} at {acc}");
+        assert_eq!(rt; regs.cy, Bit::low_of(cy_after), "code {code} at {acc}");
+        assert_eq!(rt; regs.pc, address(1));
+    }
+}
+
+#[test]
+fn counters_and_pages(rt: HostRuntime) {
+    let mut cpu = Cpu::new();
+    cpu.set_acc(nibble(3));
+    let regs = after(
+        &mut cpu,
+        &mut holding(&[(0x0FF, 0x1C), (0x100, 0x34)]),
+        0x0FF,
+        1,
+    );
+    assert_eq!(rt; regs.pc, address(0x134));
+    assert_eq!(rt; regs.owed, 1);
+
+    let mut cpu = Cpu::new();
+    cpu.set_register(RegNo::of_code(5), nibble(15));
+    let regs = after(
+        &mut cpu,
+        &mut holding(&[(0x200, 0x75), (0x201, 0x80)]),
+        0x200,
+        1,
+    );
+    assert_eq!(rt; regs.r, [Nibble::ZERO; 16]);
+    assert_eq!(rt; regs.pc, address(0x202));
+    assert_eq!(rt; regs.owed, 1);
+
+    let mut cpu = Cpu::new();
+    cpu.set_r(index_registers([0, 0x34, 0, 0, 0, 0, 0, 0]));
+    let regs = after(&mut cpu, &mut holding(&[(0x0FF, 0x33)]), 0x0FF, 1);
+    assert_eq!(rt; regs.pc, address(0x134));
+    assert_eq!(rt; regs.owed, 0);
+
+    let regs = after(
+        &mut Cpu::new(),
+        &mut holding(&[(0xFFF, 0x20), (0, 0xAB)]),
+        0xFFF,
+        1,
+    );
+    assert_eq!(rt; regs.r, index_registers([0xAB, 0, 0, 0, 0, 0, 0, 0]));
+    assert_eq!(rt; regs.pc, address(0x001));
+    assert_eq!(rt; regs.owed, 1);
+}
+
+#[test]
+fn stays_at_a_code_outside(rt: HostRuntime) {
+    for code in 0..=255u8 {
+        let outside = matches!(code, 0x01..=0x0F | 0xE3 | 0xFE | 0xFF);
+        let mut bus = holding(&[(0, code)]);
+        let mut cpu = Cpu::new();
+        assert_eq!(rt; cpu.is_outside(&bus), outside);
+        assert_eq!(rt; cpu.cycle(&mut bus) == Cycle::Outside, outside);
+        if outside {
+            assert_eq!(rt; cpu.regs(), Regs::new());
+        }
+    }
+}

@@ -1,0 +1,7 @@
+pub mod Refusal
+pub mod Spelling
+pub mod Lexical
+pub mod Mnemonics
+pub mod Lines
+pub mod Assembly
+pub mod Text

@@ -1,0 +1,173 @@
+-- What the tokens of a line say. A line is an optional label, an optional statement and an optional comment,
+-- or a definition of a name. (Our own choice, with the operands of the MCS-4 Users Manual.)
+use Rattle.std.specs.Prelude.{ℕ, ◌-◌, Bool, true, false, not, ◌&&◌, ◌||◌, List, [], ◌∷◌, Option, Some, None, is_some, nat_le, ◌==◌, if◌then◌else◌, codes, length}
+use Rattle.std.specs.Str.{str_eq_ignore_ascii_case}
+use Rattle.mcs_source.specs.Lexical.{Token, Word, Comma, Colon, Equals, is_within}
+use Rattle.mcs_model.specs.Numerals.{number_written, capped}
+use Rattle.mcs_source.specs.Mnemonics.{mnemonic_of}
+use Rattle.mcs_model.specs.declared.limits.TheConstants.{NAME_BYTES}
+use Rattle.mcs_model.specs.declared.op.Op.{Op}
+use Rattle.mcs_model.specs.declared.op.Op.TheVariants as op
+use Rattle.mcs_source.specs.declared.mnemonic.Mnemonic.{Mnemonic}
+use Rattle.mcs_source.specs.declared.mnemonic.Mnemonic.TheVariants as m
+
+infixl 10 ◌>>=◌
+abbrev pub ◌>>=◌ : {A B : Type 0} → Option A → (A → Option B) → Option B
+(Some x) >>= f = f x
+None >>= f = None
+
+-- a value as it is written
+pub data Operand : Type 0 where
+  Number : ℕ → Operand
+  Name : List ℕ → Operand
+
+-- a statement as it is written; `Whole` is an instruction that needs no name's value, with its registers or pair
+pub data Statement : Type 0 where
+  Origin : ℕ → Statement
+  Data : List Operand → Statement
+  Whole : Op → Statement
+  Ldm Bbl Jun Jms : Operand → Statement
+  Fim : ℕ → Operand → Statement
+  Jcn : Operand → Operand → Statement
+  Isz : ℕ → Operand → Statement
+
+-- a letter or `_`
+abbrev pub begins_name : List ℕ → Bool
+begins_name [] = false
+begins_name (b ∷ word) = (is_within 65 90 b || is_within 97 122 b) || b == 95
+
+-- a decimal number up to 15 with no leading zero
+abbrev pub up_to_15 : List ℕ → Option ℕ
+up_to_15 (d ∷ []) = if is_within 48 57 d then Some (d - 48) else None
+up_to_15 (t ∷ d ∷ []) = if t == 49 && is_within 48 53 d then Some (d - 38) else None
+up_to_15 ds = None
+
+-- `R0` to `R15`
+abbrev pub register_named : List ℕ → Option ℕ
+register_named (b ∷ ds) = if b == 82 || b == 114 then up_to_15 ds else None
+register_named [] = None
+
+-- `P0` to `P7`
+abbrev pub pair_named : List ℕ → Option ℕ
+pair_named (b ∷ d ∷ []) = if (b == 80 || b == 112) && is_within 48 55 d then Some (d - 48) else None
+pair_named word = None
+
+-- a word that is no name, in either case: a mnemonic, `ORG`, `DB`, `WPM`, a register or a pair
+unfoldable pub is_reserved : List ℕ → Bool
+is_reserved w = is_some (mnemonic_of w) || (str_eq_ignore_ascii_case w (codes "WPM") || (is_some (register_named w) || is_some (pair_named w)))
+
+-- a name begins with a letter or `_`, has at most so many bytes, and is not reserved
+abbrev pub is_name : List ℕ → Bool
+is_name w = (begins_name w && nat_le (length w) NAME_BYTES) && not (is_reserved w)
+
+abbrev pub name_of : List ℕ → Option Operand
+name_of w = if is_name w then Some (Name w) else None
+
+-- a number is no name, and a name no number
+abbrev pub number_or : Option ℕ → Option Operand → Option Operand
+number_or (Some n) name = Some (Number (capped n))
+number_or None name = name
+
+abbrev pub operand_of : List ℕ → Option Operand
+operand_of w = number_or (number_written w) (name_of w)
+
+-- the word that is all
+abbrev pub word_only : List Token → Option (List ℕ)
+word_only (Word w ∷ []) = Some w
+word_only ts = None
+
+-- the word in front of a comma, and what follows the comma
+abbrev pub word_first : List Token → Option (List ℕ × List Token)
+word_first (Word w ∷ Comma ∷ ts) = Some (w, ts)
+word_first ts = None
+
+-- the one operand that is all
+abbrev pub one_operand : List Token → Option Operand
+one_operand ts = word_only ts >>= operand_of
+
+abbrev pub one_number : List Token → Option ℕ
+one_number ts = word_only ts >>= λ w. number_written w >>= λ n. Some (capped n)
+
+abbrev pub one_register : List Token → Option ℕ
+one_register ts = word_only ts >>= register_named
+
+abbrev pub one_pair : List Token → Option ℕ
+one_pair ts = word_only ts >>= pair_named
+
+-- the operand in front of a comma, and what follows the comma
+abbrev pub first_operand : List Token → Option (Operand × List Token)
+first_operand ts = word_first ts >>= λ x. operand_of x.0 >>= λ v. Some (v, x.1)
+
+abbrev pub first_register : List Token → Option (ℕ × List Token)
+first_register ts = word_first ts >>= λ x. register_named x.0 >>= λ r. Some (r, x.1)
+
+abbrev pub first_pair : List Token → Option (ℕ × List Token)
+first_pair ts = word_first ts >>= λ x. pair_named x.0 >>= λ p. Some (p, x.1)
+
+-- what follows, where a comma stands before it
+abbrev pub rest_if : Bool → List Token → Option (List Token)
+rest_if true ts = Some ts
+rest_if false ts = None
+
+-- the operand in front, and what follows its comma
+abbrev pub list_item : List Token → Option (Operand × Option (List Token))
+list_item (Word w ∷ []) = operand_of w >>= λ v. Some (v, None)
+list_item (Word w ∷ Comma ∷ more) = operand_of w >>= λ v. Some (v, Some more)
+list_item ts = None
+
+-- one or more operands with commas between
+unfoldable pub operands_of : List Token → Option (List Operand)
+operands_of (Word w ∷ []) = operand_of w >>= λ v. Some (v ∷ [])
+operands_of (Word w ∷ Comma ∷ more) = operand_of w >>= λ v. operands_of more >>= λ vs. Some (v ∷ vs)
+operands_of ts = None
+
+-- an instruction without operands
+abbrev pub nothing : Op → List Token → Option Statement
+nothing o [] = Some (Whole o)
+nothing o (t ∷ ts) = None
+
+-- the statement that a mnemonic begins, from what follows it
+abbrev pub behind_mnemonic : Mnemonic → List Token → Option Statement
+behind_mnemonic m.Org ts = one_number ts >>= λ n. Some (Origin n)
+behind_mnemonic m.Db ts = operands_of ts >>= λ vs. Some (Data vs)
+behind_mnemonic m.Jcn ts = first_operand ts >>= λ x. one_operand x.1 >>= λ t. Some (Jcn x.0 t)
+behind_mnemonic m.Fim ts = first_pair ts >>= λ x. one_operand x.1 >>= λ v. Some (Fim x.0 v)
+behind_mnemonic m.Src ts = one_pair ts >>= λ p. Some (Whole (op.Src p))
+behind_mnemonic m.Fin ts = one_pair ts >>= λ p. Some (Whole (op.Fin p))
+behind_mnemonic m.Jin ts = one_pair ts >>= λ p. Some (Whole (op.Jin p))
+behind_mnemonic m.Jun ts = one_operand ts >>= λ t. Some (Jun t)
+behind_mnemonic m.Jms ts = one_operand ts >>= λ t. Some (Jms t)
+behind_mnemonic m.Inc ts = one_register ts >>= λ r. Some (Whole (op.Inc r))
+behind_mnemonic m.Isz ts = first_register ts >>= λ x. one_operand x.1 >>= λ t. Some (Isz x.0 t)
+behind_mnemonic m.Add ts = one_register ts >>= λ r. Some (Whole (op.Add r))
+behind_mnemonic m.Sub ts = one_register ts >>= λ r. Some (Whole (op.Sub r))
+behind_mnemonic m.Ld ts = one_register ts >>= λ r. Some (Whole (op.Ld r))
+behind_mnemonic m.Xch ts = one_register ts >>= λ r. Some (Whole (op.Xch r))
+behind_mnemonic m.Bbl ts = one_operand ts >>= λ v. Some (Bbl v)
+behind_mnemonic m.Ldm ts = one_operand ts >>= λ v. Some (Ldm v)
+behind_mnemonic (m.Bare o) ts = nothing o ts
+
+-- the statement that some tokens are, if they have the form of one
+unfoldable pub statement_of : List Token → Option Statement
+statement_of (Word w ∷ ts) = mnemonic_of w >>= λ k. behind_mnemonic k ts
+statement_of ts = None
+
+-- a line that has a form: `Code` with its label and its statement, if any, or `NAME = NUMBER`
+pub data Line : Type 0 where
+  Code : Option (List ℕ) → Option Statement → Line
+  Define : List ℕ → ℕ → Line
+
+-- what stands behind a label, or in front where there is none
+abbrev pub rest_of : Option (List ℕ) → List Token → Option Line
+rest_of label [] = Some (Code label None)
+rest_of label (t ∷ ts) = statement_of (t ∷ ts) >>= λ s. Some (Code label (Some s))
+
+-- a line without a label
+abbrev pub unlabelled : List Token → Option Line
+unlabelled (Word w ∷ Equals ∷ ts) = if is_name w then (one_number ts >>= λ n. Some (Define w n)) else None
+unlabelled ts = rest_of None ts
+
+-- what a line says, if it has a form
+abbrev pub line_of : List Token → Option Line
+line_of (Word w ∷ Colon ∷ ts) = if is_name w then rest_of (Some w) ts else None
+line_of ts = unlabelled ts

@@ -1,0 +1,15 @@
+-- The numbers that a source text's faults are told by. (Our own choice.)
+use Rattle.std.specs.Prelude.{ℕ}
+use Rattle.mcs_model.specs.declared.refusal_numbers.TheConstants.{BAD_STATEMENT, DOUBLE_NAME, UNKNOWN_NAME, OUT_OF_RANGE, WRONG_PAGE, OVERLAP, PAST_END, TOO_MANY_NAMES}
+use Rattle.mcs_source.specs.declared.fault.SourceFault.{SourceFault}
+use Rattle.mcs_source.specs.declared.fault.SourceFault.TheVariants.{BadStatement, DoubleName, UnknownName, OutOfRange, WrongPage, Overlap, PastEnd, TooManyNames}
+
+abbrev pub source_refusal_number : SourceFault → ℕ
+source_refusal_number BadStatement = BAD_STATEMENT
+source_refusal_number DoubleName = DOUBLE_NAME
+source_refusal_number UnknownName = UNKNOWN_NAME
+source_refusal_number OutOfRange = OUT_OF_RANGE
+source_refusal_number WrongPage = WRONG_PAGE
+source_refusal_number Overlap = OVERLAP
+source_refusal_number PastEnd = PAST_END
+source_refusal_number TooManyNames = TOO_MANY_NAMES

@@ -1,0 +1,194 @@
+-- The text of an instruction at an address, the listing of a ROM, and the source of a range of it.
+-- (Names and operands: MCS-4 Users Manual, instruction set. Their spelling: our own choice.)
+use Rattle.std.specs.Prelude.{◌≡◌, ℕ, zero, suc, ◌+◌, ◌-◌, ◌/◌, ◌%◌, List, [], ◌∷◌, ◌++◌, length, take, drop, codes, Option, Some, None, Ok, nat_lt, nat_le, if◌then◌else◌}
+use Rattle.std.specs.Option.{option_to_list}
+use Rattle.std.specs.List.{flat_map}
+use Rattle.std.specs.Fmt.{decimal}
+use Rattle.mcs_model.specs.declared.op.Op.{Op}
+use Rattle.mcs_model.specs.declared.op.Op.TheVariants.{Nop, Jcn, Fim, Src, Fin, Jin, Jun, Jms, Inc, Isz, Add, Sub, Ld, Xch, Bbl, Ldm, Wrm, Wmp, Wrr, Wr0, Wr1, Wr2, Wr3, Sbm, Rdm, Rdr, Adm, Rd0, Rd1, Rd2, Rd3, Clb, Clc, Iac, Cmc, Cma, Ral, Rar, Tcc, Dac, Tcs, Stc, Daa, Kbp, Dcl}
+use Rattle.mcs_model.specs.Numbers.{page_of}
+use Rattle.mcs_model.specs.QueryText.{hex_digit}
+use Rattle.mcs_model.specs.Table.{decoded, words_of}
+use Rattle.mcs_model.specs.Pairs.{from_address}
+use Rattle.mcs_source.specs.Assembly.{assembled}
+
+-- two upper case hexadecimal digits
+abbrev pub hex_2 : ℕ → List ℕ
+hex_2 n = hex_digit (n / 16) ∷ hex_digit (n % 16) ∷ []
+
+-- the three digits of an address, by its page and its word
+abbrev pub address_digits : ℕ → ℕ → List ℕ
+address_digits page word = hex_digit page ∷ hex_2 word
+
+-- an address as `0xHHH`
+abbrev pub address : ℕ → ℕ → List ℕ
+address page word = codes "0x" ++ address_digits page word
+
+-- the page that JCN and ISZ at an address reach
+abbrev pub near_page : ℕ → ℕ
+near_page at = page_of (at + 2)
+
+abbrev pub byte_text : ℕ → List ℕ
+byte_text b = codes "DB 0x" ++ hex_2 b
+
+-- the name of an instruction
+abbrev pub name : Op → List ℕ
+name Nop = codes "NOP"
+name (Jcn _ _) = codes "JCN"
+name (Fim _ _) = codes "FIM"
+name (Src _) = codes "SRC"
+name (Fin _) = codes "FIN"
+name (Jin _) = codes "JIN"
+name (Jun _ _) = codes "JUN"
+name (Jms _ _) = codes "JMS"
+name (Inc _) = codes "INC"
+name (Isz _ _) = codes "ISZ"
+name (Add _) = codes "ADD"
+name (Sub _) = codes "SUB"
+name (Ld _) = codes "LD"
+name (Xch _) = codes "XCH"
+name (Bbl _) = codes "BBL"
+name (Ldm _) = codes "LDM"
+name Wrm = codes "WRM"
+name Wmp = codes "WMP"
+name Wrr = codes "WRR"
+name Wr0 = codes "WR0"
+name Wr1 = codes "WR1"
+name Wr2 = codes "WR2"
+name Wr3 = codes "WR3"
+name Sbm = codes "SBM"
+name Rdm = codes "RDM"
+name Rdr = codes "RDR"
+name Adm = codes "ADM"
+name Rd0 = codes "RD0"
+name Rd1 = codes "RD1"
+name Rd2 = codes "RD2"
+name Rd3 = codes "RD3"
+name Clb = codes "CLB"
+name Clc = codes "CLC"
+name Iac = codes "IAC"
+name Cmc = codes "CMC"
+name Cma = codes "CMA"
+name Ral = codes "RAL"
+name Rar = codes "RAR"
+name Tcc = codes "TCC"
+name Dac = codes "DAC"
+name Tcs = codes "TCS"
+name Stc = codes "STC"
+name Daa = codes "DAA"
+name Kbp = codes "KBP"
+name Dcl = codes "DCL"
+
+-- its operands, as they follow the name: registers, pairs and small values in decimal, bytes and addresses in hexadecimal
+abbrev pub operands : ℕ → Op → List ℕ
+operands at (Jcn c b) = codes " " ++ (decimal c ++ (codes ", " ++ address (near_page at) b))
+operands at (Fim p b) = codes " P" ++ (decimal p ++ (codes ", 0x" ++ hex_2 b))
+operands at (Src p) = codes " P" ++ decimal p
+operands at (Fin p) = codes " P" ++ decimal p
+operands at (Jin p) = codes " P" ++ decimal p
+operands at (Jun h b) = codes " " ++ address h b
+operands at (Jms h b) = codes " " ++ address h b
+operands at (Inc r) = codes " R" ++ decimal r
+operands at (Isz r b) = codes " R" ++ (decimal r ++ (codes ", " ++ address (near_page at) b))
+operands at (Add r) = codes " R" ++ decimal r
+operands at (Sub r) = codes " R" ++ decimal r
+operands at (Ld r) = codes " R" ++ decimal r
+operands at (Xch r) = codes " R" ++ decimal r
+operands at (Bbl d) = codes " " ++ decimal d
+operands at (Ldm d) = codes " " ++ decimal d
+operands at o = []
+
+-- the text of an instruction that stands at an address
+abbrev pub text_of : ℕ → Op → List ℕ
+text_of at o = name o ++ operands at o
+
+-- the instruction of some bytes, where it lies in them whole; a code outside the table, and a first word whose second word
+-- lies past the end, is a byte
+abbrev pub whole_or_byte : Option Op → ℕ → List ℕ → Option Op
+whole_or_byte None b rest = None
+whole_or_byte (Some o) b rest = if nat_le (words_of o) (1 + length rest) then Some o else None
+
+abbrev pub second_word : List ℕ → ℕ
+second_word [] = 0
+second_word (c ∷ rest) = c
+
+-- the instruction whose first word is `b`, before the rest of the bytes
+unfoldable pub op_at : ℕ → List ℕ → Option Op
+op_at b rest = whole_or_byte (decoded b (second_word rest)) b rest
+
+-- a piece is an instruction, or a byte that is none
+abbrev pub piece_text : ℕ → ℕ → Option Op → List ℕ
+piece_text at b None = byte_text b
+piece_text at b (Some o) = text_of at o
+
+abbrev pub piece_size : Option Op → ℕ
+piece_size None = 1
+piece_size (Some o) = words_of o
+
+-- the text of one instruction: its first word, and its second if there is one before the end
+abbrev pub line_text : ℕ → ℕ → Option ℕ → List ℕ
+line_text at first second = piece_text at first (op_at first (option_to_list second))
+
+-- the texts of the pieces of some bytes, whose first stands at an address; at most `most` of them
+unfoldable pub piece_texts : ℕ → ℕ → List ℕ → List (List ℕ)
+piece_texts zero at bytes = []
+piece_texts (suc most) at [] = []
+piece_texts (suc most) at (b ∷ rest) =
+    piece_text at b (op_at b rest) ∷ piece_texts most (at + piece_size (op_at b rest)) (drop (piece_size (op_at b rest) - 1) rest)
+
+abbrev pub as_line : List ℕ → List ℕ
+as_line text = text ++ 10 ∷ []
+
+-- ---- the source of a range
+
+abbrev pub origin_text : ℕ → List ℕ
+origin_text at = codes "ORG " ++ address (at / 256) (at % 256)
+
+-- the source of some bytes that stand from an address on: the `ORG` line, and a line for each piece
+abbrev pub source_of : ℕ → List ℕ → List ℕ
+source_of from bytes = flat_map as_line (origin_text from ∷ piece_texts (length bytes) from bytes)
+
+abbrev pub range : List ℕ → ℕ → ℕ → List ℕ
+range rom from to = take (to - from) (drop from rom)
+
+-- the source of the addresses `from` to below `to`
+abbrev pub source_text : List ℕ → ℕ → ℕ → List ℕ
+source_text rom from to = source_of from (range rom from to)
+
+-- the law: the source of a range has no fault, and spells exactly the bytes of the range, each at its address
+abbrev pub SpellsItself : List ℕ → ℕ → ℕ → Type 0
+SpellsItself rom from to = assembled (source_text rom from to) ≡ Ok (from_address from (range rom from to))
+
+-- ---- the listing
+
+-- a second word as it is listed: two digits, or two spaces where there is none
+abbrev pub second_column : Option ℕ → List ℕ
+second_column (Some second) = hex_2 second
+second_column None = codes "  "
+
+-- the second word of a piece, if it has one
+abbrev pub second_of : Option Op → List ℕ → Option ℕ
+second_of piece rest = if nat_lt 1 (piece_size piece) then Some (second_word rest) else None
+
+-- ` BB BB `
+abbrev pub word_columns : ℕ → Option ℕ → List ℕ
+word_columns first second = codes " " ++ (hex_2 first ++ (codes " " ++ (second_column second ++ codes " ")))
+
+-- `AAA BB BB `, before the text of a piece
+abbrev pub columns : ℕ → ℕ → Option ℕ → List ℕ
+columns at first second = address_digits (at / 256) (at % 256) ++ word_columns first second
+
+-- `AAA BB BB TEXT`
+abbrev pub listed_line : ℕ → ℕ → List ℕ → Option Op → List ℕ
+listed_line at b rest piece = columns at b (second_of piece rest) ++ piece_text at b piece
+
+-- the lines of the pieces of some bytes, whose first stands at an address; at most `most` of them
+unfoldable pub listing_lines : ℕ → ℕ → List ℕ → List (List ℕ)
+listing_lines zero at bytes = []
+listing_lines (suc most) at [] = []
+listing_lines (suc most) at (b ∷ rest) =
+    listed_line at b rest (op_at b rest) ∷ listing_lines most (at + piece_size (op_at b rest)) (drop (piece_size (op_at b rest) - 1) rest)
+
+-- the listing of a ROM from an address on: so many lines, or fewer where address FFF comes first; each ends with LF
+abbrev pub listing_text : List ℕ → ℕ → ℕ → List ℕ
+listing_text rom from lines = flat_map as_line (listing_lines lines from (drop from rom))
