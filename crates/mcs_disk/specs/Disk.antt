@@ -1,6 +1,6 @@
 -- What the calls of a disk do to its bytes, and what a crash may leave. (Our own choice: a device that writes in ranges and
 -- promises nothing before a sync.)
-use Rattle.std.specs.Prelude.{◌<◌, ◌≡◌, ◌⊎◌, ◌↔◌, ℕ, ◌+◌, ◌-◌, ◌^◌, ◌≤◌, min, List, length, take, drop, slice_index, Result, OnOk, OnErr}
+use Rattle.std.specs.Prelude.{◌<◌, ◌≡◌, ◌⊎◌, ◌↔◌, ℕ, zero, suc, ◌+◌, ◌-◌, ◌^◌, ◌≤◌, min, List, [], ◌∷◌, length, take, drop, slice_index, Result, OnOk, OnErr}
 
 -- all that a contract sees of a disk
 pub record DiskState : Type 1 where
@@ -13,14 +13,21 @@ pub record DiskState : Type 1 where
   pub bytes : List ℕ
   -- how many calls have answered Ok
   pub clock : ℕ
-  -- what a crash at this moment may leave: after it the current bytes are one of these, and the only one
+  -- what a power cut at this moment may leave; PowerCut says which disk is found after it
   pub images : List ℕ → Type 0
-  -- what a crash at some moment since that time may have left, during a call or between two
+  -- what a power cut at some moment since that time may have left, during a call or between two
   pub since : ℕ → List ℕ → Type 0
 
 -- n bytes from this offset on
 abbrev pub part : ℕ → ℕ → List ℕ → List ℕ
 part at n file = take n (drop at file)
+
+-- these bytes in the place of what was there from this offset on
+abbrev pub put : ℕ → List ℕ → List ℕ → List ℕ
+put at from [] = []
+put zero [] (y ∷ ys) = y ∷ ys
+put zero (x ∷ xs) (y ∷ ys) = x ∷ put zero xs ys
+put (suc at) from (y ∷ ys) = y ∷ put at from ys
 
 -- new is old outside n bytes from this offset on, where it may hold any bytes
 pub record Torn (at n : ℕ) (old new : List ℕ) : Type 0 where
