@@ -82,7 +82,13 @@ recorded_more old new used more s t c r was spells accepted same grown durable h
 }
 
 pub created : (old new : DiskState) (snap : List ℕ) → snap ≡ new_text → Creates old new snap → CreatesSession old new
-created old new snap is made = record { blank = made.blank; stands = stands_new new.bytes snap is made.holds; at = at_of new new_flat made.durable (stands_new new.bytes snap is made.holds) }
+created old new snap is made = record {
+  blank = made.blank;
+  stands = stands_new new.bytes snap is made.holds;
+  at = at_of new new_flat made.durable (stands_new new.bytes snap is made.holds);
+  ticks = made.ticks;
+  moments = made.moments;
+}
 
 pub recorded_new : (old new : DiskState) (snap : List ℕ) (used : ℕ) (s : Flat) → snap ≡ new_text → used ≡ 0 → s ≡ new_flat → Creates old new snap → IsRecorded new used s
 recorded_new old new snap used s is none same made = record {

@@ -1,7 +1,7 @@
 -- What contracts see of a session, and what its fields keep.
-use Rattle.std.specs.Prelude.{◌≡◌, ℕ, List, Bool, IsTrue, length}
+use Rattle.std.specs.Prelude.{◌≡◌, ◌+◌, ℕ, List, Bool, IsTrue, length}
 use Rattle.mcs_disk.specs.Disk.{DiskState}
-use Rattle.mcs_disk.specs.Moments.{IsDurable, Rests}
+use Rattle.mcs_disk.specs.Moments.{GoesOn, IsDurable, Rests}
 use Rattle.mcs_journal.specs.Answers.{IsNoSession}
 use Rattle.mcs_journal.specs.File.{HoldsPair, IsBlank, most_record, spelled}
 use Rattle.mcs_journal.specs.declared.fault.OpenFault.{OpenFault}
@@ -40,11 +40,13 @@ pub record IsSession (disk : DiskState) (live : Bool) (used : ℕ) (s : Flat) (b
 
 -- ---- `create` and `open` on an honest disk
 
--- the disk was blank, and now every image stands for a new bench
+-- the disk was blank, and now, five steps later, every image stands for a new bench
 pub record CreatesSession (old new : DiskState) : Type 0 where
   pub blank : IsBlank old.size old.bytes
   pub stands : StandsFor new.bytes new_flat
   pub at : IsAt new new_flat
+  pub ticks : new.clock ≡ old.clock + 5
+  pub moments : GoesOn old new
 
 -- the disk stood for this state and was not written, and now every image stands for it
 pub record OpensSession (old new : DiskState) (s : Flat) : Type 0 where

@@ -186,6 +186,7 @@ impl<D: Disk + Drop> Session<D> {
         ensures closes { Closes self.old.log (D.state self.old.disk).faults command.now result self.new.log (D.state self.new.disk).faults }
         ensures size { (D.state self.new.disk).size ≡ (D.state self.old.disk).size }
         ensures honest { (D.state self.new.disk).honest ↔ (D.state self.old.disk).honest }
+        ensures untouched { IfErr result (λ fault. fault ≢ SessionFault.Device → self.new.disk ≡ self.old.disk) }
         ensures records { (D.state self.old.disk).honest → Recorded result (D.state self.old.disk) (D.state self.new.disk) self.old.state command.now }
     {
         if !self.store.is_open() {
