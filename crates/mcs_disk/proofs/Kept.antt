@@ -2,8 +2,9 @@
 use Rattle.std.proofs.Common.{◌≡◌, inl, inr, ⊎_elim, ℕ, zero, suc, ◌+◌, ◌≤◌, List, [], ◌∷◌, ◌++◌, length, take, drop, reverse, refl, sym, ◌∙◌, ap, subst, arith, Result, Ok, Err, OnOk, OnErr, length-append, Vec}
 use Rattle.std.proofs.lemmas.List.{reverse-append, length-reverse}
 use Rattle.std.specs.declared.alloc.Global.{Global}
-use Rattle.mcs_disk.specs.Disk.{Elapses, Syncs, Writes, Torn, part}
-use Rattle.mcs_disk.specs.Memory.{put, put_torn, length-put, bytes_after, images_after, since_after, memory_state, current}
+use Rattle.mcs_disk.specs.Disk.{Elapses, Syncs, Writes, Torn, part, put}
+use Rattle.mcs_disk.specs.Memory.{bytes_after, images_after, since_after, memory_state}
+use Rattle.mcs_disk.specs.MemoryLaws.{put_torn, length-put, current}
 use Rattle.mcs_disk.specs.declared.memory.Call.{Call}
 use Rattle.mcs_disk.specs.declared.memory.Call.TheVariants.{Write, Sync}
 

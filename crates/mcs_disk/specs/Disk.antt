@@ -1,6 +1,6 @@
 -- What the calls of a disk do to its bytes, and what a crash may leave. (Our own choice: a device that writes in ranges and
 -- promises nothing before a sync.)
-use Rattle.std.specs.Prelude.{◌<◌, ◌≡◌, ◌⊎◌, ◌↔◌, ℕ, ◌+◌, ◌-◌, ◌^◌, ◌≤◌, min, List, length, take, drop, slice_index, Result, OnOk, OnErr}
+use Rattle.std.specs.Prelude.{◌<◌, ◌≡◌, ◌⊎◌, ◌↔◌, ℕ, zero, suc, ◌+◌, ◌-◌, ◌^◌, ◌≤◌, min, List, [], ◌∷◌, length, take, drop, slice_index, Result, OnOk, OnErr}
 
 -- all that a contract sees of a disk
 pub record DiskState : Type 1 where
@@ -21,6 +21,13 @@ pub record DiskState : Type 1 where
 -- n bytes from this offset on
 abbrev pub part : ℕ → ℕ → List ℕ → List ℕ
 part at n file = take n (drop at file)
+
+-- these bytes in the place of what was there from this offset on
+abbrev pub put : ℕ → List ℕ → List ℕ → List ℕ
+put at from [] = []
+put zero [] (y ∷ ys) = y ∷ ys
+put zero (x ∷ xs) (y ∷ ys) = x ∷ put zero xs ys
+put (suc at) from (y ∷ ys) = y ∷ put at from ys
 
 -- new is old outside n bytes from this offset on, where it may hold any bytes
 pub record Torn (at n : ℕ) (old new : List ℕ) : Type 0 where

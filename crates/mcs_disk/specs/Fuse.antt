@@ -3,6 +3,7 @@ use Rattle.std.specs.Prelude.{◌≡◌, ℕ, ◌≤◌}
 use Rattle.mcs_disk.specs.declared.fuse.Fuse.{Fuse}
 use Rattle.mcs_disk.specs.declared.fuse.Fuse.TheVariants.{Whole, AllAfter, OneAfter}
 use Rattle.mcs_disk.specs.declared.fuse.FuseDisk.{FuseDisk}
+use Rattle.mcs_disk.specs.declared.memory.MemDisk.{MemDisk}
 
 -- the call behind n more calls fails
 abbrev pub Fails : Fuse → ℕ → Type 0
@@ -13,3 +14,7 @@ Fails (OneAfter passed) n = n ≡ passed
 -- the disk fails the call behind n more calls, and does not pass it on
 abbrev pub FailsAfter : FuseDisk → ℕ → Type 0
 FailsAfter disk n = Fails disk.fuse n
+
+-- the disk that the calls are passed on to
+abbrev pub inner_disk : FuseDisk → MemDisk
+inner_disk disk = disk.disk

@@ -1,8 +1,9 @@
 //! A disk in memory that fails chosen calls.
-ghost use Rattle.std.specs.Prelude.{◌≡◌, ◌≤◌, ◌+◌, ◌↔◌, ℕ, length, OnErr, IsErr, IsTrue};
-ghost use Rattle.mcs_disk.specs.Disk.{IsCall, Reads, Writes, Syncs};
+ghost use Rattle.std.specs.Prelude.{◌≡◌, ◌≤◌, ◌+◌, ◌↔◌, ℕ, length, min, OnErr, IsErr, IsTrue};
+ghost use Rattle.mcs_disk.specs.Disk.{most_faults, IsCall, Reads, Writes, Syncs};
 ghost use Rattle.mcs_disk.specs.Moments.{IsSame, Stays};
-ghost use Rattle.mcs_disk.specs.Memory.{memory_state, memory_lawful};
+ghost use Rattle.mcs_disk.specs.Memory.{memory_state};
+ghost use Rattle.mcs_disk.specs.MemoryLaws.{memory_lawful};
 
 use crate::{Disk, DiskFault, MemDisk};
 
@@ -46,35 +47,43 @@ impl Fuse {
 
 /// A disk in memory that fails chosen calls, and does not pass them on.
 ///
-/// It counts the faults of the disk in it, and is honest like that disk.
+/// It goes on counting faults where the disk in it has come to, and is honest like that disk. A call that it passes on is answered
+/// as that disk answers it.
 #[derive(Drop)]
 pub struct FuseDisk {
     disk: MemDisk,
     fuse: Fuse,
+    faults: u64,
 }
 
 impl FuseDisk {
-    ghost use Rattle.mcs_disk.specs.Fuse.{FailsAfter};
+    ghost use Rattle.mcs_disk.specs.Fuse.{FailsAfter, inner_disk};
 
     /// The first `calls` calls go through; each later one fails.
     pub fn after(disk: MemDisk, calls: usize) -> FuseDisk
         ensures disk { IsSame (⟦<MemDisk as Disk>⟧.state disk) (⟦<FuseDisk as Disk>⟧.state result) }
+        ensures inner { inner_disk result ≡ disk }
         ensures fails { (n : ℕ) → FailsAfter result n ↔ (calls ≤ n) }
     {
+        let faults = disk.faults;
         FuseDisk {
             disk,
             fuse: Fuse::AllAfter(calls),
+            faults,
         }
     }
 
     /// The call behind the first `calls` fails; all others go through.
     pub fn once(disk: MemDisk, calls: usize) -> FuseDisk
         ensures disk { IsSame (⟦<MemDisk as Disk>⟧.state disk) (⟦<FuseDisk as Disk>⟧.state result) }
+        ensures inner { inner_disk result ≡ disk }
         ensures fails { (n : ℕ) → FailsAfter result n ↔ (n ≡ calls) }
     {
+        let faults = disk.faults;
         FuseDisk {
             disk,
             fuse: Fuse::OneAfter(calls),
+            faults,
         }
     }
 
@@ -82,18 +91,29 @@ impl FuseDisk {
     pub fn mend(&mut self)
         ensures disk { IsSame (⟦<FuseDisk as Disk>⟧.state self.old)
             (⟦<FuseDisk as Disk>⟧.state self.new) }
+        ensures inner { inner_disk self.new ≡ inner_disk self.old }
         ensures fails { (n : ℕ) → ¬ (FailsAfter self.new n) }
     {
         self.fuse = Fuse::Whole;
     }
+
+    // Counts a fault and does nothing else.
+    fn fail(&mut self) -> DiskFault
+        ensures inner { self.new.disk ≡ self.old.disk }
+        ensures fuse { self.new.fuse ≡ self.old.fuse }
+        ensures fault { self.new.faults ≡ min (self.old.faults + 1) most_faults }
+    {
+        self.faults = self.faults.saturating_add(1);
+        DiskFault
+    }
 }
 
 impl Disk for FuseDisk {
-    ghost use Rattle.mcs_disk.specs.Fuse.{FailsAfter};
+    ghost use Rattle.mcs_disk.specs.Fuse.{FailsAfter, inner_disk};
 
-    ghost state = { λ f. memory_state f.disk.faults f.disk.bytes.items f.disk.calls.items };
+    ghost state = { λ f. memory_state f.faults f.disk.bytes.items f.disk.calls.items };
 
-    ghost lawful = { λ f honest. memory_lawful f.disk.faults f.disk.bytes.items f.disk.calls.items f.disk.kept };
+    ghost lawful = { λ f honest. memory_lawful f.faults f.disk.bytes.items f.disk.calls.items f.disk.kept };
 
     fn size(&self) -> usize {
         self.disk.size()
@@ -109,12 +129,19 @@ impl Disk for FuseDisk {
         ensures refused { OnErr result (Stays (⟦<FuseDisk as Disk>⟧.state self.old)
             (⟦<FuseDisk as Disk>⟧.state self.new)) }
         ensures fails { FailsAfter self.old 0 → IsErr result }
+        ensures kept_back { FailsAfter self.old 0 → inner_disk self.new ≡ inner_disk self.old }
+        // What the disk in it answered: an Err comes only where that disk counted a fault.
+        ensures passed_on { ¬ (FailsAfter self.old 0) → IsCall (⟦<MemDisk as Disk>⟧.state (inner_disk self.old))
+            (⟦<MemDisk as Disk>⟧.state (inner_disk self.new)) result }
         ensures later { (n : ℕ) → FailsAfter self.new n ↔ FailsAfter self.old (n + 1) }
     {
         if self.fuse.blows() {
-            return Err(self.disk.fail());
+            return Err(self.fail());
         }
-        self.disk.read(at, into)
+        match self.disk.read(at, into) {
+            Ok(()) => Ok(()),
+            Err(_) => Err(self.fail()),
+        }
     }
 
     fn write(&mut self, at: usize, from: &[u8]) -> Result<(), DiskFault>
@@ -127,12 +154,19 @@ impl Disk for FuseDisk {
         ensures refused { OnErr result (Stays (⟦<FuseDisk as Disk>⟧.state self.old)
             (⟦<FuseDisk as Disk>⟧.state self.new)) }
         ensures fails { FailsAfter self.old 0 → IsErr result }
+        ensures kept_back { FailsAfter self.old 0 → inner_disk self.new ≡ inner_disk self.old }
+        // What the disk in it answered: an Err comes only where that disk counted a fault.
+        ensures passed_on { ¬ (FailsAfter self.old 0) → IsCall (⟦<MemDisk as Disk>⟧.state (inner_disk self.old))
+            (⟦<MemDisk as Disk>⟧.state (inner_disk self.new)) result }
         ensures later { (n : ℕ) → FailsAfter self.new n ↔ FailsAfter self.old (n + 1) }
     {
         if self.fuse.blows() {
-            return Err(self.disk.fail());
+            return Err(self.fail());
         }
-        self.disk.write(at, from)
+        match self.disk.write(at, from) {
+            Ok(()) => Ok(()),
+            Err(_) => Err(self.fail()),
+        }
     }
 
     fn sync(&mut self) -> Result<(), DiskFault>
@@ -144,11 +178,18 @@ impl Disk for FuseDisk {
         ensures refused { OnErr result (Stays (⟦<FuseDisk as Disk>⟧.state self.old)
             (⟦<FuseDisk as Disk>⟧.state self.new)) }
         ensures fails { FailsAfter self.old 0 → IsErr result }
+        ensures kept_back { FailsAfter self.old 0 → inner_disk self.new ≡ inner_disk self.old }
+        // What the disk in it answered: an Err comes only where that disk counted a fault.
+        ensures passed_on { ¬ (FailsAfter self.old 0) → IsCall (⟦<MemDisk as Disk>⟧.state (inner_disk self.old))
+            (⟦<MemDisk as Disk>⟧.state (inner_disk self.new)) result }
         ensures later { (n : ℕ) → FailsAfter self.new n ↔ FailsAfter self.old (n + 1) }
     {
         if self.fuse.blows() {
-            return Err(self.disk.fail());
+            return Err(self.fail());
         }
-        self.disk.sync()
+        match self.disk.sync() {
+            Ok(()) => Ok(()),
+            Err(_) => Err(self.fail()),
+        }
     }
 }

@@ -1,8 +1,9 @@
 //! A disk in memory.
 ghost use Rattle.std.specs.Prelude.{◌≡◌, ◌+◌, ◌-◌, ◌^◌, ◌≤◌, [], ◌∷◌, ◌++◌, length, reverse, IfOk, OnOk, OnErr, min};
-ghost use Rattle.mcs_disk.specs.Disk.{most_faults, IsCall, Reads, Writes, Syncs};
+ghost use Rattle.mcs_disk.specs.Disk.{most_faults, put, IsCall, Reads, Writes, Syncs};
 ghost use Rattle.mcs_disk.specs.Moments.{IsNew, Stays};
-ghost use Rattle.mcs_disk.specs.Memory.{bytes_after, put, memory_state, memory_lawful};
+ghost use Rattle.mcs_disk.specs.Memory.{bytes_after, memory_state};
+ghost use Rattle.mcs_disk.specs.MemoryLaws.{memory_lawful};
 
 use crate::{Disk, DiskFault};
 use std::alloc::{AllocError, Global};
@@ -42,7 +43,7 @@ impl MemDisk {
     }
 
     // Counts a fault and does nothing else.
-    pub(crate) fn fail(&mut self) -> DiskFault
+    fn fail(&mut self) -> DiskFault
         ensures bytes { self.new.bytes ≡ self.old.bytes }
         ensures calls { self.new.calls ≡ self.old.calls }
         ensures fault { self.new.faults ≡ min (self.old.faults + 1) most_faults }

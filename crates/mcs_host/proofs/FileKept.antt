@@ -1,30 +1,12 @@
 -- One more call joins those on a file.
 use Rattle.std.proofs.Common.{◌≡◌, ◌⊎◌, inl, inr, ⊎_elim, ℕ, zero, suc, ◌+◌, ◌≤◌, List, [], ◌∷◌, ◌++◌, length, take, drop, refl, sym, ◌∙◌, ap, subst, arith, Ok, Err}
-use Rattle.mcs_disk.specs.Disk.{Elapses, Reads, Syncs, Writes, Torn, part}
-use Rattle.mcs_disk.specs.Memory.{put, put_torn}
+use Rattle.mcs_disk.specs.Disk.{Elapses, Reads, Syncs, Writes, Torn, part, put}
+use Rattle.mcs_disk.specs.MemoryLaws.{put_torn}
+use Rattle.mcs_disk.proofs.Kept.{part_put}
 use Rattle.mcs_host.specs.FileCalls.{FileCall, WasRead, Wrote, Failed, Synced, bytes_behind, images_behind, clock_of, since_behind}
-use Rattle.mcs_host.specs.FileDisk.{file_state, current, untorn}
+use Rattle.mcs_host.specs.FileDisk.{file_state}
+use Rattle.mcs_host.specs.FileLaws.{current, untorn}
 use Rattle.mcs_host.specs.declared.call_record.CallRecord.{CallRecord}
-
-pub part_put : (at : ℕ) (from file : List ℕ) → at + length from ≤ length file → part at (length from) (put at from file) ≡ from
-part_put zero [] [] fits = refl
-part_put zero [] (y ∷ ys) fits = refl
-part_put zero (x ∷ xs) [] fits = absurd (omega arith)
-part_put zero (x ∷ xs) (y ∷ ys) fits = ap (λ (l : List ℕ). x ∷ l) (part_put zero xs ys (omega arith))
-part_put (suc at) [] [] fits = absurd (omega arith)
-part_put (suc at) (x ∷ xs) [] fits = absurd (omega arith)
-part_put (suc at) from (y ∷ ys) fits = part_put at from ys (omega arith)
-
--- `put`, as the code writes a part of a slice
-pub put_is : (at n : ℕ) (from file : List ℕ) → at + length from ≤ length file → n ≡ length from → put at from file ≡ take at file ++ (from ++ drop n (drop at file))
-put_is zero n [] [] fits is = ap (λ (m : ℕ). drop m []) (sym is)
-put_is zero n [] (y ∷ ys) fits is = ap (λ (m : ℕ). drop m (y ∷ ys)) (sym is)
-put_is zero n (x ∷ xs) [] fits is = absurd (omega arith)
-put_is zero zero (x ∷ xs) (y ∷ ys) fits is = absurd (omega arith)
-put_is zero (suc n) (x ∷ xs) (y ∷ ys) fits is = ap (λ (l : List ℕ). x ∷ l) (put_is zero n xs ys (omega arith) (omega arith))
-put_is (suc at) n [] [] fits is = absurd (omega arith)
-put_is (suc at) n (x ∷ xs) [] fits is = absurd (omega arith)
-put_is (suc at) n from (y ∷ ys) fits is = ap (λ (l : List ℕ). y ∷ l) (put_is at n from ys (omega arith) is)
 
 -- the record before and behind a call; how many faults there are and which bytes does not matter to the times
 module _ (f g : ℕ) (b d : List ℕ) (h h' : CallRecord) (call : FileCall) (noted : h' ≡ record h { calls = call ∷ h.calls }) where

@@ -1,2 +1,3 @@
 pub mod FileKept
+pub mod Leaving
 pub mod WordsGiven

@@ -1,8 +1,7 @@
 -- A file of the host as a disk, by the calls on it, the newest first. (Our own choice: what a file that was synced as it was opened owes
 -- by POSIX's read, write and fdatasync, where a power cut may leave any bytes in a range that was written and not synced.)
 use Rattle.std.specs.Prelude.{◌≡◌, ◌⊎◌, ℕ, ◌+◌, ◌≤◌, List, [], ◌∷◌, length}
-use Rattle.mcs_disk.specs.Disk.{Torn}
-use Rattle.mcs_disk.specs.Memory.{put}
+use Rattle.mcs_disk.specs.Disk.{Torn, put}
 use Rattle.mcs_host.specs.declared.call_record.Call.{Call}
 use Rattle.mcs_host.specs.declared.call_record.Call.TheVariants.{Read, Write, FailedWrite, Sync}
 

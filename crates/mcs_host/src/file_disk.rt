@@ -1,12 +1,12 @@
 //! A session file of the host, as a disk.
 ghost use Rattle.std.specs.Prelude.{◌≡◌, ◌↔◌, ◌<◌, ◌≤◌, ◌^◌, ◌+◌, ℕ, List, IfOk, OnOk, IsTrue, length, min, vec_len};
-ghost use Rattle.mcs_disk.specs.Disk.{most_faults, part, IsCall, Reads, Torn, Writes};
-ghost use Rattle.mcs_disk.specs.Memory.{put};
+ghost use Rattle.mcs_disk.specs.Disk.{most_faults, part, put, IsCall, Reads, Torn, Writes};
 ghost use Rattle.mcs_host.specs.FileCalls.{bytes_behind};
 ghost use Rattle.mcs_host.specs.declared.file_disk.FileFault.TheVariants.{Device, NoMemory};
 
 use crate::call_record::{Call, CallRecord};
 use mcs_disk::{Disk, DiskFault};
+use mcs_journal::FILE_SIZE;
 use std::alloc::{AllocError, Global};
 use std::fs::{File, OpenOptions};
 use std::io;
@@ -15,11 +15,8 @@ use std::path::Path;
 use std::rt::Files;
 use thiserror::Error;
 
-/// The size of a session file in bytes.
-const SESSION_BYTES: usize = 163_856;
-
 /// So much is seen of a longer file: one byte more than a session file has, so that its size tells that it is none.
-const MOST_BYTES: usize = SESSION_BYTES + 1;
+const MOST_BYTES: usize = FILE_SIZE + 1;
 
 /// Why a file was not opened.
 #[derive(Clone, Copy, Debug, PartialEq, Eq, Error)]
@@ -54,7 +51,7 @@ impl From<AllocError> for FileFault {
 /// other bytes than those is found out, and is a device fault. What no call can find out is the premise, `honest`: that what is found in
 /// the file after a power cut is one of the images of a disk with these calls.
 ///
-/// Of a file of more than 163,857 bytes only the first 163,857 are seen. No session file has that size.
+/// Of a file of more than [`FILE_SIZE`] bytes only one byte more than these is seen. No session file has that size.
 #[derive(Drop)]
 pub struct FileDisk {
     file: File,
@@ -67,8 +64,8 @@ pub struct FileDisk {
 impl FileDisk {
     ghost use Rattle.mcs_host.specs.FileDisk.{IsOpened};
 
-    /// Opens a file for reading and writing. Where `make` is true, the file is made where it is not there, and filled with 163,856
-    /// zero bytes where it is empty. What it holds is on the device by then.
+    /// Opens a file for reading and writing. Where `make` is true, the file is made where it is not there, and filled with
+    /// [`FILE_SIZE`] zero bytes where it is empty. What it holds is on the device by then.
     ///
     /// `Device` comes where the host refuses the file, and `NoMemory` where there is no memory for its bytes.
     pub fn open_at<R: Files<File = File>>(
@@ -78,7 +75,7 @@ impl FileDisk {
         make: bool,
     ) -> Result<FileDisk, FileFault>
         ensures opened { IfOk result (λ disk. IsOpened (⟦<FileDisk as Disk>⟧.state disk)) }
-        ensures at_most { IfOk result (λ disk. (⟦<FileDisk as Disk>⟧.state disk).size ≤ 163857) }
+        ensures at_most { IfOk result (λ disk. (⟦<FileDisk as Disk>⟧.state disk).size ≤ FILE_SIZE + 1) }
         ensures not_empty { IsTrue make → IfOk result (λ disk. 0 < (⟦<FileDisk as Disk>⟧.state disk).size) }
     {
         // First, so that where there is no memory the host is asked for nothing.
@@ -90,7 +87,7 @@ impl FileDisk {
             .open(rt, file)?;
         let found = opened.metadata()?.len().min(MOST_BYTES as u64) as usize;
         let is_filled = make && found == 0;
-        bytes.truncate(if is_filled { SESSION_BYTES } else { found });
+        bytes.truncate(if is_filled { FILE_SIZE } else { found });
         if is_filled {
             fill(&opened, &bytes)?;
             sync_folder(rt, file)?;
@@ -157,7 +154,8 @@ fn overwrite(bytes: &mut [u8], at: usize, from: &[u8])
 }
 
 impl Disk for FileDisk {
-    ghost use Rattle.mcs_host.specs.FileDisk.{file_state, file_lawful};
+    ghost use Rattle.mcs_host.specs.FileDisk.{file_state};
+    ghost use Rattle.mcs_host.specs.FileLaws.{file_lawful};
 
     ghost state = { λ d. file_state d.faults d.bytes.items d.history };
 

@@ -7,11 +7,10 @@
 mod call_record;
 mod command_line;
 mod file_disk;
+mod laws;
 mod words;
 
 pub use command_line::choice;
 pub use file_disk::{FileDisk, FileFault};
+pub use laws::{opened_again_is_left_by_cut, what_is_found_is_an_image};
 pub use words::{Choice, FileName, WordsFault};
-
-#[cfg(test)]
-mod tests;

@@ -2,12 +2,13 @@
 use Rattle.std.proofs.Common.{◌≡◌, inr, ◌≤◌, ◌+◌, List, [], ◌∷◌, ℕ, length, get_or, drop, sym, ◌∙◌, ap, arith}
 use Rattle.std.proofs.lemmas.List.{drop_more}
 use Rattle.mcs_disk.specs.Disk.{part, Torn}
-use Rattle.mcs_journal.specs.File.{HoldsPair, slot_at, slot_of, slot_named, start_of}
-use Rattle.mcs_journal.specs.Writing.{IsArea, first_header}
+use Rattle.mcs_journal.specs.File.{Holds, slot_at, slot_of, slot_named, start_of}
+use Rattle.mcs_journal.specs.Writing.{IsArea}
+use Rattle.mcs_journal.specs.declared.format.TheConstants.{FIRST_HEADER}
 use Rattle.mcs_journal.specs.declared.slot.Slot.TheVariants.{A}
 use Rattle.mcs_journal.proofs.Parts.{part_same, part_part, part_at, length-part}
 
-module _ (f g c snap area : List ℕ) (sized : length f ≡ 163856) (is_area : IsArea snap area) (first : Torn 16 16385 f g) (there : part 16 16385 g ≡ area) (torn : Torn 0 16 g c) (header : part 0 16 c ≡ first_header) where
+module _ (f g c snap area : List ℕ) (sized : length f ≡ 163856) (is_area : IsArea snap area) (first : Torn 16 16385 f g) (there : part 16 16385 g ≡ area) (torn : Torn 0 16 g c) (header : part 0 16 c ≡ FIRST_HEADER) where
   pub named : slot_of c ≡ A
   named = ap slot_named (sym (part_at 0 16 c 8 (omega arith)) ∙ ap (λ (l : List ℕ). get_or l 8 0) header)
 
@@ -30,7 +31,7 @@ module _ (f g c snap area : List ℕ) (sized : length f ≡ 163856) (is_area : I
       ∙ torn.after 16400 (omega arith)
       ∙ sym (part_at 16 16385 g 16384 (omega arith)) ∙ ap (λ (l : List ℕ). get_or l 16384 0) there ∙ is_area.closed
 
-  pub made : HoldsPair c snap []
+  pub made : Holds c snap []
   made = record {
     size = long;
     name = sym (part_part 0 16 0 8 16 c (omega arith) (omega arith)) ∙ ap (part 0 8) header;

@@ -3,7 +3,8 @@ use Rattle.std.proofs.Common.{◌≡◌, ◌≢◌, Bool, true, false, not, List
 use Rattle.std.proofs.lemmas.Slice.Eq.{bytes_eq-Decides}
 use Rattle.std.specs.Str.{bytes_eq}
 use Rattle.mcs_disk.specs.Disk.{part}
-use Rattle.mcs_journal.specs.File.{magic, seven_zeros, slot_named}
+use Rattle.mcs_journal.specs.File.{slot_named}
+use Rattle.mcs_journal.specs.declared.format.TheConstants.{NAME, ZEROS}
 use Rattle.mcs_journal.specs.Writing.{IsHeader}
 use Rattle.mcs_journal.specs.declared.slot.Slot.{Slot}
 use Rattle.mcs_journal.proofs.Parts.{part_part, part_at}
@@ -32,5 +33,5 @@ module _ (f header : List ℕ) (is : header ≡ part 0 16 f) where
   pub turn : get_or header 8 0 ≡ get_or f 8 0
   turn = ap (λ (l : List ℕ). get_or l 8 0) is ∙ part_at 0 16 f 8 (omega arith)
 
-  pub header_is : (slot : Slot) → false ≡ not (bytes_eq (take 8 header) magic) → false ≡ not (bytes_eq (take 7 (drop 9 header)) seven_zeros) → slot_named (get_or header 8 0) ≡ slot → IsHeader f slot
+  pub header_is : (slot : Slot) → false ≡ not (bytes_eq (take 8 header) NAME) → false ≡ not (bytes_eq (take 7 (drop 9 header)) ZEROS) → slot_named (get_or header 8 0) ≡ slot → IsHeader f slot
   header_is slot named zeroed at = record { name = sym front ∙ same_bytes _ _ named; zeros = sym back ∙ same_bytes _ _ zeroed; active = ap slot_named (sym turn) ∙ at }

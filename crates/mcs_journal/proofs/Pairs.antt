@@ -1,7 +1,7 @@
 -- What a file holds after each of the two steps that add a record.
 use Rattle.std.proofs.Common.{◌≡◌, ◌⊎◌, inl, inr, ◌≤◌, ◌+◌, ◌-◌, List, [], ◌∷◌, ◌++◌, ℕ, length, get_or, refl, sym, ◌∙◌, ap, subst, arith}
 use Rattle.mcs_disk.specs.Disk.{part, Torn}
-use Rattle.mcs_journal.specs.File.{HoldsPair, IsLog, IsRecord, spelled, be16, slot_at, slot_of, slot_named, start_of}
+use Rattle.mcs_journal.specs.File.{Holds, IsLog, IsRecord, spelled, be16, slot_at, slot_of, slot_named, start_of}
 use Rattle.mcs_journal.specs.Writing.{IsGate}
 use Rattle.mcs_journal.specs.declared.slot.Slot.{Slot}
 use Rattle.mcs_journal.specs.declared.slot.Slot.TheVariants.{A, B}
@@ -24,7 +24,7 @@ pub same_slot : (f c : List ℕ) → get_or c 8 0 ≡ get_or f 8 0 → slot_at c
 same_slot f c turn = ap (λ (t : ℕ). start_of (slot_named t)) turn
 
 -- a write inside the active log leaves the rest of the pair
-pub kept_outside : (f c snap : List ℕ) (rs news : List (List ℕ)) (at n : ℕ) → HoldsPair f snap rs → Torn at n f c → slot_at f + 16384 ≤ at → at + n ≤ slot_at f + 81920 → IsLog news (part (slot_at f + 16384) 65536 c) → HoldsPair c snap news
+pub kept_outside : (f c snap : List ℕ) (rs news : List (List ℕ)) (at n : ℕ) → Holds f snap rs → Torn at n f c → slot_at f + 16384 ≤ at → at + n ≤ slot_at f + 81920 → IsLog news (part (slot_at f + 16384) 65536 c) → Holds c snap news
 kept_outside f c snap rs news at n old torn after before log =
     let bounds = slot_bounds f in
     let slot : slot_at c ≡ slot_at f = same_slot f c (torn.before 8 (omega (arith, after, bounds.0))) in
@@ -39,7 +39,7 @@ kept_outside f c snap rs news at n old torn after before log =
       log = subst (λ (s : ℕ). IsLog news (part (s + 16384) 65536 c)) (sym slot) log;
     }
 
-module _ (f snap : List ℕ) (rs : List (List ℕ)) (gate : ℕ) (r : List ℕ) (old : HoldsPair f snap rs) (at_gate : IsGate f rs gate (length r)) (good : IsRecord r) where
+module _ (f snap : List ℕ) (rs : List (List ℕ)) (gate : ℕ) (r : List ℕ) (old : Holds f snap rs) (at_gate : IsGate f rs gate (length r)) (good : IsRecord r) where
   abbrev lo : ℕ
   lo = slot_at f + 16384
 
@@ -53,7 +53,7 @@ module _ (f snap : List ℕ) (rs : List (List ℕ)) (gate : ℕ) (r : List ℕ) 
   log_torn c torn = part_torn (gate + 1) (length r + 3) lo 65536 (length (spelled rs) + 1) f c torn fits (omega (arith, at_gate.at)) (omega (arith, at_gate.room))
 
   -- any bytes behind the gate leave the pair
-  pub first_torn : (c : List ℕ) → Torn (gate + 1) (length r + 3) f c → HoldsPair c snap rs
+  pub first_torn : (c : List ℕ) → Torn (gate + 1) (length r + 3) f c → Holds c snap rs
   first_torn c torn =
       kept_outside f c snap rs rs (gate + 1) (length r + 3) old torn (omega (arith, at_gate.at)) (omega (arith, at_gate.at, at_gate.room))
       (behind_gate rs (length r + 3) _ _ old.log (log_torn c torn))
@@ -67,7 +67,7 @@ module _ (f snap : List ℕ) (rs : List (List ℕ)) (gate : ℕ) (r : List ℕ) 
 
   -- any byte at the gate then leaves the old pair or the new one, and 1 the new one
   module _ (g c : List ℕ) (first : Torn (gate + 1) (length r + 3) f g) (here : part (gate + 1) (length r + 3) g ≡ be16 (length r) ++ r ++ 0 ∷ []) (torn : Torn gate 1 g c) where
-    held : HoldsPair g snap rs
+    held : Holds g snap rs
     held = first_torn g first
 
     slot_stays : slot_at g ≡ slot_at f
@@ -76,15 +76,15 @@ module _ (f snap : List ℕ) (rs : List (List ℕ)) (gate : ℕ) (r : List ℕ) 
     gate_torn_log : Torn (length (spelled rs)) 1 (part lo 65536 g) (part lo 65536 c)
     gate_torn_log = part_torn gate 1 lo 65536 (length (spelled rs)) g c torn (omega (arith, fits, first.size)) at_gate.at (omega (arith, at_gate.room))
 
-    lift : (news : List (List ℕ)) → IsLog news (part lo 65536 c) → HoldsPair c snap news
+    lift : (news : List (List ℕ)) → IsLog news (part lo 65536 c) → Holds c snap news
     lift news log =
         kept_outside g c snap rs news gate 1 held torn (omega (arith, at_gate.at, slot_stays)) (omega (arith, at_gate.at, at_gate.room, slot_stays))
         (subst (λ (s : ℕ). IsLog news (part (s + 16384) 65536 c)) (sym slot_stays) log)
 
-    pub second_torn : HoldsPair c snap rs ⊎ HoldsPair c snap (rs ++ r ∷ [])
+    pub second_torn : Holds c snap rs ⊎ Holds c snap (rs ++ r ∷ [])
     second_torn = elim (gate_torn rs r _ _ (first_staged g first here) good gate_torn_log) [ inl a ↦ inl (lift rs a) | inr b ↦ inr (lift (rs ++ r ∷ []) b) ]
 
-    pub second_done : part gate 1 c ≡ 1 ∷ [] → HoldsPair c snap (rs ++ r ∷ [])
+    pub second_done : part gate 1 c ≡ 1 ∷ [] → Holds c snap (rs ++ r ∷ [])
     second_done one =
         let at_log : get_or (part lo 65536 c) (length (spelled rs)) 0 ≡ get_or c (lo + length (spelled rs)) 0 = part_at lo 65536 c (length (spelled rs)) (omega (arith, at_gate.room)) in
         let at_file : get_or (part gate 1 c) 0 0 ≡ get_or c (gate + 0) 0 = part_at gate 1 c 0 (omega arith) in

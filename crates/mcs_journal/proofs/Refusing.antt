@@ -4,7 +4,8 @@ use Rattle.mcs_disk.specs.Disk.{DiskState, IsCall, most_faults, part}
 use Rattle.mcs_disk.specs.Moments.{Counts, Rests}
 use Rattle.mcs_disk.proofs.Composing.{rests_leave}
 use Rattle.mcs_journal.specs.Answers.{RefusesCreate, RefusesOpen, HoldsNone}
-use Rattle.mcs_journal.specs.File.{IsBlank, file_size, magic}
+use Rattle.mcs_journal.specs.File.{IsBlank}
+use Rattle.mcs_journal.specs.declared.format.TheConstants.{FILE_SIZE, NAME}
 use Rattle.mcs_journal.specs.declared.fault.OpenFault.{OpenFault}
 use Rattle.mcs_journal.specs.declared.fault.OpenFault.TheVariants as open_fault
 use Rattle.mcs_journal.specs.declared.fault.CreateFault.{CreateFault}
@@ -45,8 +46,8 @@ refuses_create create_fault.NotBlank old new rests not_blank = (not_blank refl, 
 refuses_create create_fault.Device old new rests not_blank = rests_leave old new rests
 refuses_create create_fault.NoMemory old new rests not_blank = tt
 
-pub refuses_open : (fault : OpenFault) (disk : DiskState) → disk.size ≡ file_size → (fault ≡ open_fault.NotASession → part 0 8 disk.bytes ≢ magic)
-    → (fault ≡ open_fault.Damaged → part 0 8 disk.bytes ≡ magic) → (fault ≡ open_fault.Damaged → HoldsNone disk) → RefusesOpen fault disk
+pub refuses_open : (fault : OpenFault) (disk : DiskState) → disk.size ≡ FILE_SIZE → (fault ≡ open_fault.NotASession → part 0 8 disk.bytes ≢ NAME)
+    → (fault ≡ open_fault.Damaged → part 0 8 disk.bytes ≡ NAME) → (fault ≡ open_fault.Damaged → HoldsNone disk) → RefusesOpen fault disk
 refuses_open open_fault.NotASession disk sized unnamed named none = inr (unnamed refl)
 refuses_open open_fault.Damaged disk sized unnamed named none = (⊎_elim (λ other. other sized) (λ other. other (named refl)), none refl)
 refuses_open open_fault.Device disk sized unnamed named none = tt

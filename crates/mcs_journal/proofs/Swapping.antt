@@ -2,7 +2,7 @@
 use Rattle.std.proofs.Common.{◌≡◌, ◌⊎◌, inl, inr, ◌≤◌, ◌+◌, List, [], ◌∷◌, ℕ, length, get_or, drop, refl, sym, ◌∙◌, ap, subst, arith}
 use Rattle.std.proofs.lemmas.List.{drop_more}
 use Rattle.mcs_disk.specs.Disk.{part, Torn}
-use Rattle.mcs_journal.specs.File.{HoldsPair, IsLog, slot_at, slot_of, slot_named, start_of}
+use Rattle.mcs_journal.specs.File.{Holds, IsLog, slot_at, slot_of, slot_named, start_of}
 use Rattle.mcs_journal.specs.Writing.{IsArea, other_slot}
 use Rattle.mcs_journal.specs.declared.slot.Slot.{Slot}
 use Rattle.mcs_journal.specs.declared.slot.Slot.TheVariants.{A, B}
@@ -17,7 +17,7 @@ pub are_other : (slot : Slot) → IsOther (start_of slot) (start_of (other_slot 
 are_other A = inl (refl, refl)
 are_other B = inr (refl, refl)
 
-module _ (f snap fresh area : List ℕ) (rs : List (List ℕ)) (other : ℕ) (old : HoldsPair f snap rs) (apart : IsOther (slot_at f) other) (is_area : IsArea fresh area) where
+module _ (f snap fresh area : List ℕ) (rs : List (List ℕ)) (other : ℕ) (old : Holds f snap rs) (apart : IsOther (slot_at f) other) (is_area : IsArea fresh area) where
   beyond : 16 ≤ other
   beyond = elim apart [ inl a ↦ omega (arith, a.1) | inr b ↦ omega (arith, b.1) ]
 
@@ -26,7 +26,7 @@ module _ (f snap fresh area : List ℕ) (rs : List (List ℕ)) (other : ℕ) (ol
   outside lo k from to = elim apart [ inl a ↦ inl (omega (arith, a.0, a.1, to)) | inr b ↦ inr (omega (arith, b.0, b.1, from)) ]
 
   -- any bytes in the other slot leave the pair
-  pub other_torn : (c : List ℕ) → Torn other 16385 f c → HoldsPair c snap rs
+  pub other_torn : (c : List ℕ) → Torn other 16385 f c → Holds c snap rs
   other_torn c torn = record {
     size = torn.size ∙ old.size;
     name = front 0 8 (omega arith) ∙ old.name;
@@ -48,7 +48,7 @@ module _ (f snap fresh area : List ℕ) (rs : List (List ℕ)) (other : ℕ) (ol
 
   -- any turn then names the old pair or the new one
   module _ (g c : List ℕ) (first : Torn other 16385 f g) (there : part other 16385 g ≡ area) (torn : Torn 8 1 g c) where
-    held : HoldsPair g snap rs
+    held : Holds g snap rs
     held = other_torn g first
 
     apart_now : IsOther (slot_at g) other
@@ -63,7 +63,7 @@ module _ (f snap fresh area : List ℕ) (rs : List (List ℕ)) (other : ℕ) (ol
     name : part 0 8 c ≡ part 0 8 g
     name = part_same 8 1 0 8 g c torn (inl (omega arith))
 
-    pub stays : slot_at c ≡ slot_at g → HoldsPair c snap rs
+    pub stays : slot_at c ≡ slot_at g → Holds c snap rs
     stays slot = record {
       size = torn.size ∙ held.size;
       name = name ∙ held.name;
@@ -74,7 +74,7 @@ module _ (f snap fresh area : List ℕ) (rs : List (List ℕ)) (other : ℕ) (ol
       log = subst (IsLog rs) (sym (ap (λ (s : ℕ). part (s + 16384) 65536 c) slot ∙ kept (slot_at g + 16384) 65536 (omega (arith, bounds)))) held.log;
     }
 
-    pub swaps : slot_at c ≡ other → HoldsPair c fresh []
+    pub swaps : slot_at c ≡ other → Holds c fresh []
     swaps slot = record {
       size = torn.size ∙ held.size;
       name = name ∙ held.name;
@@ -111,11 +111,11 @@ module _ (f snap fresh area : List ℕ) (rs : List (List ℕ)) (other : ℕ) (ol
             flat : other + 16384 + 0 ≡ other + 16384
             flat = omega arith
 
-    pub turn_torn : HoldsPair c snap rs ⊎ HoldsPair c fresh []
+    pub turn_torn : Holds c snap rs ⊎ Holds c fresh []
     turn_torn = elim (start_places (slot_of c)) [
       | inl low ↦ elim apart_now [ inl a ↦ inl (stays (low ∙ sym a.0)) | inr b ↦ inr (swaps (low ∙ sym b.1)) ]
       | inr high ↦ elim apart_now [ inl a ↦ inr (swaps (high ∙ sym a.1)) | inr b ↦ inl (stays (high ∙ sym b.0)) ]
     ]
 
-    pub turn_done : (turn : ℕ) → part 8 1 c ≡ turn ∷ [] → start_of (slot_named turn) ≡ other → HoldsPair c fresh []
+    pub turn_done : (turn : ℕ) → part 8 1 c ≡ turn ∷ [] → start_of (slot_named turn) ≡ other → Holds c fresh []
     turn_done turn one names = swaps (ap (λ (t : ℕ). start_of (slot_named t)) (sym (part_at 8 1 c 0 (omega arith)) ∙ ap (λ (l : List ℕ). get_or l 0 0) one) ∙ names)

@@ -2,7 +2,7 @@
 use Rattle.std.proofs.Common.{◌≡◌, ◌≢◌, ◌≤◌, ◌+◌, ◌/◌, ◌%◌, List, [], ◌∷◌, ◌++◌, ℕ, length, take, drop, refl, sym, ◌∙◌, ap, arith, append_assoc}
 use Rattle.std.proofs.lemmas.List.{take_at, drop_at}
 use Rattle.mcs_disk.specs.Disk.{part}
-use Rattle.mcs_journal.specs.File.{HoldsPair, IsLog, spelled, be32, slot_at}
+use Rattle.mcs_journal.specs.File.{Holds, IsLog, spelled, be32, slot_at}
 
 -- two numbers of the same two bytes
 same_16 : (m n : ℕ) → m / 256 ≡ n / 256 → m % 256 ≡ n % 256 → m ≡ n
@@ -34,10 +34,10 @@ same_32 m n small short same =
     let low : m % 256 ≡ n % 256 = cc in
     omega (arith, high, low)
 
-pub same_snap : (file snap other : List ℕ) (rs ss : List (List ℕ)) → HoldsPair file snap rs → HoldsPair file other ss → snap ≡ other
+pub same_snap : (file snap other : List ℕ) (rs ss : List (List ℕ)) → Holds file snap rs → Holds file other ss → snap ≡ other
 same_snap file snap other rs ss a b =
     let long = same_32 (length snap) (length other) a.short b.short (sym a.snap_length ∙ b.snap_length) in
     sym a.snap_bytes ∙ ap (λ (n : ℕ). part (slot_at file + 4) n file) long ∙ b.snap_bytes
 
-pub same_pair : (file snap other : List ℕ) (rs ss : List (List ℕ)) → HoldsPair file snap rs → HoldsPair file other ss → rs ≡ ss
+pub same_pair : (file snap other : List ℕ) (rs ss : List (List ℕ)) → Holds file snap rs → Holds file other ss → rs ≡ ss
 same_pair file snap other rs ss a b = same_log rs ss _ a.log b.log

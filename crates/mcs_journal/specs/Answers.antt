@@ -2,7 +2,8 @@
 use Rattle.std.specs.Prelude.{◌≡◌, ◌≢◌, ◌⊎◌, ◌+◌, ℕ, List, []}
 use Rattle.mcs_disk.specs.Disk.{DiskState, part}
 use Rattle.mcs_disk.specs.Moments.{IsDurable, Rests, GoesOn}
-use Rattle.mcs_journal.specs.File.{HoldsPair, IsBlank, file_size, magic}
+use Rattle.mcs_journal.specs.File.{Holds, IsBlank}
+use Rattle.mcs_journal.specs.declared.format.TheConstants.{FILE_SIZE, NAME}
 use Rattle.mcs_journal.specs.declared.fault.OpenFault.{OpenFault}
 use Rattle.mcs_journal.specs.declared.fault.OpenFault.TheVariants as open_fault
 use Rattle.mcs_journal.specs.declared.fault.CreateFault.{CreateFault}
@@ -10,11 +11,11 @@ use Rattle.mcs_journal.specs.declared.fault.CreateFault.TheVariants as create_fa
 
 -- the size is another than that of a session file, or the name is
 abbrev pub IsNoSession : DiskState → Type 0
-IsNoSession disk = (disk.size ≢ file_size) ⊎ (part 0 8 disk.bytes ≢ magic)
+IsNoSession disk = (disk.size ≢ FILE_SIZE) ⊎ (part 0 8 disk.bytes ≢ NAME)
 
 -- the disk holds no pair of a snapshot and records
 abbrev pub HoldsNone : DiskState → Type 0
-HoldsNone disk = (snap : List ℕ) (records : List (List ℕ)) → HoldsPair disk.bytes snap records → ⊥
+HoldsNone disk = (snap : List ℕ) (records : List (List ℕ)) → Holds disk.bytes snap records → ⊥
 
 -- what a refusal of `open` says of the disk
 abbrev pub RefusesOpen : OpenFault → DiskState → Type 0
@@ -25,7 +26,7 @@ RefusesOpen open_fault.NoMemory disk = Unit {0}
 
 -- the disk held this pair and was not written, and every image holds the pair
 pub record Opens (old new : DiskState) (snap : List ℕ) (records : List (List ℕ)) : Type 0 where
-  pub holds : HoldsPair old.bytes snap records
+  pub holds : Holds old.bytes snap records
   pub rests : Rests old new
   pub durable : IsDurable new
 
@@ -38,7 +39,7 @@ RefusesCreate create_fault.NoMemory old new = Unit {0}
 -- the disk was blank, and now, five steps later, every image holds this snapshot and no records
 pub record Creates (old new : DiskState) (snap : List ℕ) : Type 0 where
   pub blank : IsBlank old.size old.bytes
-  pub holds : HoldsPair new.bytes snap []
+  pub holds : Holds new.bytes snap []
   pub durable : IsDurable new
   pub ticks : new.clock ≡ old.clock + 5
   pub moments : GoesOn old new

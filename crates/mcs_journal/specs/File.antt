@@ -1,37 +1,15 @@
--- What a session file holds: a snapshot and the records behind it. (Our own choice; the layout is told in docs/FORMAT.md.)
+-- What a session file holds: a snapshot and the records behind it. (Our own choice; the layout is told in docs/FORMAT.md, its sizes are
+-- the constants of src/format.rt.)
 use Rattle.std.specs.Prelude.{◌≡◌, ◌≢◌, ◌==◌, ℕ, ◌+◌, ◌/◌, ◌%◌, ◌≤◌, List, [], ◌∷◌, ◌++◌, length, slice_index, if◌then◌else◌}
 use Rattle.mcs_disk.specs.Disk.{part}
+use Rattle.mcs_journal.specs.declared.format.TheConstants.{AREA_SIZE, FILE_SIZE, FIRST_SLOT, LOG_SIZE, MOST_RECORD, MOST_SNAP, NAME, SECOND_SLOT, ZEROS}
 use Rattle.mcs_journal.specs.declared.slot.Slot.{Slot}
 use Rattle.mcs_journal.specs.declared.slot.Slot.TheVariants.{A, B}
 
--- sizes in bytes: the whole file, a slot's snapshot area, its log; the most bytes of a snapshot, and of a record
-abbrev pub file_size : ℕ
-file_size = 163856
-
-abbrev pub area_size : ℕ
-area_size = 16384
-
-abbrev pub log_size : ℕ
-log_size = 65536
-
-abbrev pub most_snap : ℕ
-most_snap = 16380
-
-abbrev pub most_record : ℕ
-most_record = 8192
-
--- the name at the start, in bytes: MCS4BEN1
-abbrev pub magic : List ℕ
-magic = 77 ∷ 67 ∷ 83 ∷ 52 ∷ 66 ∷ 69 ∷ 78 ∷ 49 ∷ []
-
--- the bytes behind the turn
-abbrev pub seven_zeros : List ℕ
-seven_zeros = 0 ∷ 0 ∷ 0 ∷ 0 ∷ 0 ∷ 0 ∷ 0 ∷ []
-
 -- where each slot starts
 abbrev pub start_of : Slot → ℕ
-start_of A = 16
-start_of B = 81936
+start_of A = FIRST_SLOT
+start_of B = SECOND_SLOT
 
 -- an even turn names the first slot, an odd one the second
 abbrev pub slot_named : ℕ → Slot
@@ -61,7 +39,7 @@ spelled [] = []
 spelled (r ∷ rs) = framed r ++ spelled rs
 
 abbrev pub IsRecord : List ℕ → Type 0
-IsRecord r = (1 ≤ length r) × (length r ≤ most_record)
+IsRecord r = (1 ≤ length r) × (length r ≤ MOST_RECORD)
 
 abbrev pub AreRecords : List (List ℕ) → Type 0
 AreRecords [] = Unit {0}
@@ -77,26 +55,26 @@ pub record IsLog (records : List (List ℕ)) (log : List ℕ) : Type 0 where
 
 -- a file holds a snapshot and records: the name, a turn, seven zeros, and in the slot that the turn names the snapshot behind its
 -- length, and the log of the records
-pub record HoldsPair (file : List ℕ) (snap : List ℕ) (records : List (List ℕ)) : Type 0 where
-  pub size : length file ≡ file_size
-  pub name : part 0 8 file ≡ magic
-  pub zeros : part 9 7 file ≡ seven_zeros
-  pub short : length snap ≤ most_snap
+pub record Holds (file : List ℕ) (snap : List ℕ) (records : List (List ℕ)) : Type 0 where
+  pub size : length file ≡ FILE_SIZE
+  pub name : part 0 8 file ≡ NAME
+  pub zeros : part 9 7 file ≡ ZEROS
+  pub short : length snap ≤ MOST_SNAP
   pub snap_length : part (slot_at file) 4 file ≡ be32 (length snap)
   pub snap_bytes : part (slot_at file + 4) (length snap) file ≡ snap
-  pub log : IsLog records (part (slot_at file + area_size) log_size file)
+  pub log : IsLog records (part (slot_at file + AREA_SIZE) LOG_SIZE file)
 
 -- a file holds at most one pair
 abbrev pub OnePair : Type 0
-OnePair = (file snap other : List ℕ) (records more : List (List ℕ)) → HoldsPair file snap records → HoldsPair file other more → (snap ≡ other) × (records ≡ more)
+OnePair = (file snap other : List ℕ) (records more : List (List ℕ)) → Holds file snap records → Holds file other more → (snap ≡ other) × (records ≡ more)
 
 -- a record of so many bytes has room behind so many bytes of records: gate, length and bytes, and a closed gate behind it
 abbrev pub HasRoom : ℕ → ℕ → Type 0
-HasRoom used len = used + 3 + len + 1 ≤ log_size
+HasRoom used len = used + 3 + len + 1 ≤ LOG_SIZE
 
 abbrev pub sixteen_zeros : List ℕ
 sixteen_zeros = 0 ∷ 0 ∷ 0 ∷ 0 ∷ 0 ∷ 0 ∷ 0 ∷ 0 ∷ 0 ∷ 0 ∷ 0 ∷ 0 ∷ 0 ∷ 0 ∷ 0 ∷ 0 ∷ []
 
 -- a disk that a session may be made on: it has the size of a session file, and its first 16 bytes are 0
 abbrev pub IsBlank : ℕ → List ℕ → Type 0
-IsBlank size file = (size ≡ file_size) × (part 0 16 file ≡ sixteen_zeros)
+IsBlank size file = (size ≡ FILE_SIZE) × (part 0 16 file ≡ sixteen_zeros)

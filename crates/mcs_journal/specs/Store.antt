@@ -2,8 +2,8 @@
 use Rattle.std.specs.Prelude.{◌≡◌, ℕ, ◌+◌, ◌≤◌, Bool, List, length, IsTrue}
 use Rattle.mcs_disk.specs.Disk.{DiskState}
 use Rattle.mcs_disk.specs.Moments.{IsDurable}
-use Rattle.mcs_journal.specs.File.{HoldsPair, slot_of, spelled, file_size, log_size}
-use Rattle.mcs_journal.specs.Writing.{stage_size}
+use Rattle.mcs_journal.specs.File.{Holds, slot_of, spelled}
+use Rattle.mcs_journal.specs.declared.format.TheConstants.{FILE_SIZE, LOG_SIZE, STAGE_SIZE}
 use Rattle.mcs_journal.specs.declared.slot.Slot.{Slot}
 
 pub record StoreView (D : Type 0) : Type 0 where
@@ -19,12 +19,12 @@ pub record IsSettled (disk : DiskState) (slot : Slot) (used : ℕ) : Type 0 wher
   pub active : slot_of disk.bytes ≡ slot
   pub snap : List ℕ
   pub records : List (List ℕ)
-  pub holds : HoldsPair disk.bytes snap records
+  pub holds : Holds disk.bytes snap records
   pub count : used ≡ length (spelled records)
 
 -- what the fields keep; the buffer has room for a snapshot area and a gate
 pub record IsStore (disk : DiskState) (live : Bool) (slot : Slot) (used : ℕ) (buffer : List ℕ) : Type 0 where
-  pub disk_size : disk.size ≡ file_size
-  pub within : used + 1 ≤ log_size
-  pub room : length buffer ≡ stage_size
+  pub disk_size : disk.size ≡ FILE_SIZE
+  pub within : used + 1 ≤ LOG_SIZE
+  pub room : length buffer ≡ STAGE_SIZE
   pub settled : IsTrue live → disk.honest → IsSettled disk slot used

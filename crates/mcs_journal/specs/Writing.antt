@@ -2,13 +2,10 @@
 use Rattle.std.specs.Prelude.{◌≡◌, ℕ, ◌+◌, ◌≤◌, List, [], ◌∷◌, ◌⊎◌, length, slice_index, Result, OnOk}
 use Rattle.mcs_disk.specs.Disk.{DiskState, part, Torn}
 use Rattle.mcs_disk.specs.Moments.{IsDurable}
-use Rattle.mcs_journal.specs.File.{IsRecord, framed, spelled, slot_at, be32, magic, seven_zeros, area_size, log_size, most_snap, slot_of}
+use Rattle.mcs_journal.specs.File.{IsRecord, framed, spelled, slot_at, be32, slot_of}
+use Rattle.mcs_journal.specs.declared.format.TheConstants.{AREA_SIZE, LOG_SIZE, MOST_SNAP, NAME, STAGE_SIZE, ZEROS}
 use Rattle.mcs_journal.specs.declared.slot.Slot.{Slot}
 use Rattle.mcs_journal.specs.declared.slot.Slot.TheVariants.{A, B}
-
--- a snapshot area and the first gate of the log behind it
-abbrev pub stage_size : ℕ
-stage_size = 16385
 
 abbrev pub other_slot : Slot → Slot
 other_slot A = B
@@ -21,8 +18,8 @@ turn_of B = 1
 
 -- the gate behind the last record, with room for one more of n bytes
 pub record IsGate (file : List ℕ) (records : List (List ℕ)) (gate n : ℕ) : Type 0 where
-  pub at : gate ≡ slot_at file + area_size + length (spelled records)
-  pub room : length (spelled records) + n + 4 ≤ log_size
+  pub at : gate ≡ slot_at file + AREA_SIZE + length (spelled records)
+  pub room : length (spelled records) + n + 4 ≤ LOG_SIZE
 
 -- this record stands there behind an open gate
 pub record IsNext (file : List ℕ) (at : ℕ) (r : List ℕ) : Type 0 where
@@ -36,27 +33,23 @@ pub record IsNoRecord (file : List ℕ) (at room : ℕ) : Type 0 where
 
 -- a snapshot area of these bytes, and a closed gate behind it
 pub record IsArea (snap area : List ℕ) : Type 0 where
-  pub long : length area ≡ stage_size
-  pub short : length snap ≤ most_snap
+  pub long : length area ≡ STAGE_SIZE
+  pub short : length snap ≤ MOST_SNAP
   pub snap_length : part 0 4 area ≡ be32 (length snap)
   pub snap_bytes : part 4 (length snap) area ≡ snap
-  pub closed : slice_index area area_size ≡ 0
+  pub closed : slice_index area AREA_SIZE ≡ 0
 
 -- the first 16 bytes, and the slot that they name
 pub record IsHeader (file : List ℕ) (slot : Slot) : Type 0 where
-  pub name : part 0 8 file ≡ magic
-  pub zeros : part 9 7 file ≡ seven_zeros
+  pub name : part 0 8 file ≡ NAME
+  pub zeros : part 9 7 file ≡ ZEROS
   pub active : slot_of file ≡ slot
 
 -- the snapshot of the slot that starts there
 pub record IsSnap (file : List ℕ) (start : ℕ) (snap : List ℕ) : Type 0 where
-  pub short : length snap ≤ most_snap
+  pub short : length snap ≤ MOST_SNAP
   pub snap_length : part start 4 file ≡ be32 (length snap)
   pub snap_bytes : part (start + 4) (length snap) file ≡ snap
-
--- the name, the turn of the first slot, seven zeros
-abbrev pub first_header : List ℕ
-first_header = 77 ∷ 67 ∷ 83 ∷ 52 ∷ 66 ∷ 69 ∷ 78 ∷ 49 ∷ 0 ∷ 0 ∷ 0 ∷ 0 ∷ 0 ∷ 0 ∷ 0 ∷ 0 ∷ []
 
 -- a write of these bytes, and a sync
 pub record Commits {T E : Type 0} (at : ℕ) (from : List ℕ) (old new : DiskState) (result : Result T E) : Type 0 where

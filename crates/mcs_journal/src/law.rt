@@ -1,8 +1,32 @@
-//! A law of the file format.
-ghost use Rattle.mcs_journal.specs.File.{OnePair};
+//! Laws of the file format, and of what a power cut leaves of it. The contract of each call is the law; the call does nothing.
+ghost use Rattle.std.specs.Prelude.{◌⊎◌, ℕ, List};
+ghost use Rattle.mcs_disk.specs.Moments.{Either, IsDurable, LeavesOnly};
+ghost use Rattle.mcs_disk.specs.PowerCut.{IsLeftByCut};
+ghost use Rattle.mcs_journal.specs.File.{Holds, OnePair};
+
+use mcs_disk::Disk;
 
 /// Any file holds at most one pair of a snapshot and records, so what [`open`](crate::Store::open) answers is determined by the
-/// bytes. The contract is the law; the call does nothing.
+/// bytes.
 pub fn holds_one_pair()
     ensures { OnePair }
+{}
+
+/// Where each image of a stretch holds one pair or another, as [`append`](crate::Store::append) and
+/// [`replace`](crate::Store::replace) promise, the disk that a power cut since its start leaves holds one of them.
+pub fn cut_leaves_one_of_two_pairs<D: Disk, E: Disk>()
+    ensures { (snap other : List ℕ) (records more : List (List ℕ)) (old new : D) (found : E)
+        → LeavesOnly (D.state old) (D.state new)
+        (Either (λ c. Holds c snap records) (λ c. Holds c other more))
+        → IsLeftByCut (D.state old).clock (D.state new) (E.state found)
+        → Holds (E.state found).bytes snap records ⊎ Holds (E.state found).bytes other more }
+{}
+
+/// The pair of a durable disk, as [`append`](crate::Store::append) and [`replace`](crate::Store::replace) leave it with Ok, is held
+/// by the disk that a power cut leaves from then on.
+pub fn cut_leaves_a_durable_pair<D: Disk, E: Disk>()
+    ensures { (snap : List ℕ) (records : List (List ℕ)) (disk : D) (found : E)
+        → IsDurable (D.state disk) → Holds (D.state disk).bytes snap records
+        → IsLeftByCut (D.state disk).clock (D.state disk) (E.state found)
+        → Holds (E.state found).bytes snap records }
 {}

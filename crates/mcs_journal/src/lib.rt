@@ -16,5 +16,5 @@ mod writing;
 pub use bytes::{Bytes, Records};
 pub use fault::{CreateFault, OpenFault};
 pub use format::{FILE_SIZE, MOST_RECORD, MOST_SNAP};
-pub use law::holds_one_pair;
+pub use law::{cut_leaves_a_durable_pair, cut_leaves_one_of_two_pairs, holds_one_pair};
 pub use store::{Opened, Store};

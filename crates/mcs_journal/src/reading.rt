@@ -2,7 +2,8 @@
 ghost use Rattle.std.specs.Prelude.{◌≡◌, ◌≢◌, ◌≤◌, ◌<◌, ◌+◌, ◌^◌, List, ℕ, length, slice_index, IfOk, IfSome, IfNone, OnOk, IsErrOf};
 ghost use Rattle.mcs_disk.specs.Disk.{IsCall, part};
 ghost use Rattle.mcs_disk.specs.Moments.{Counts, IsDurable, Rests};
-ghost use Rattle.mcs_journal.specs.File.{HoldsPair, IsLog, area_size, file_size, log_size, magic, seven_zeros, slot_of, spelled, start_of};
+ghost use Rattle.mcs_journal.specs.declared.format.TheConstants.{FILE_SIZE};
+ghost use Rattle.mcs_journal.specs.File.{Holds, IsLog, slot_of, spelled, start_of};
 ghost use Rattle.mcs_journal.specs.Writing.{IsHeader, IsNext, IsNoRecord, IsSnap};
 
 use crate::bytes::Bytes;
@@ -81,18 +82,18 @@ pub struct Log {
 
 /// Reads the log at `at`, up to its first closed gate.
 pub fn read_log<D: Disk>(alloc: Global, disk: &mut D, at: usize) -> Result<Log, OpenFault>
-    requires inside { at + log_size ≤ (D.state disk.old).size }
+    requires inside { at + LOG_SIZE ≤ (D.state disk.old).size }
     requires fits { (D.state disk.old).size < 2 ^ 64 }
     ensures tells { Counts (D.state disk.old) (D.state disk.new) (IsErrOf result OpenFault.Device) }
     ensures rests { (D.state disk.old).honest → Rests (D.state disk.old) (D.state disk.new) }
     ensures durable { (D.state disk.old).honest → IsDurable (D.state disk.old)
         → OnOk result (IsDurable (D.state disk.new)) }
-    ensures within { IfOk result (λ log. log.used + 1 ≤ log_size) }
+    ensures within { IfOk result (λ log. log.used + 1 ≤ LOG_SIZE) }
     ensures found { (D.state disk.old).honest
-        → IfOk result (λ log. IsLog log.records.items (part at log_size (D.state disk.old).bytes)
+        → IfOk result (λ log. IsLog log.records.items (part at LOG_SIZE (D.state disk.old).bytes)
         × (log.used ≡ length (spelled log.records.items))) }
     ensures damaged { (D.state disk.old).honest → IsErrOf result OpenFault.Damaged
-        → (records : List (List ℕ)) → IsLog records (part at log_size (D.state disk.old).bytes)
+        → (records : List (List ℕ)) → IsLog records (part at LOG_SIZE (D.state disk.old).bytes)
         → ⊥ }
     ensures named { IsErrOf result OpenFault.NotASession → ⊥ }
 {
@@ -107,7 +108,7 @@ pub fn read_log<D: Disk>(alloc: Global, disk: &mut D, at: usize) -> Result<Log, 
 
 /// Reads the header: the slot that its turn names.
 pub fn read_header<D: Disk>(disk: &mut D) -> Result<Slot, OpenFault>
-    requires size { (D.state disk.old).size ≡ file_size }
+    requires size { (D.state disk.old).size ≡ FILE_SIZE }
     ensures tells { Counts (D.state disk.old) (D.state disk.new) (IsErrOf result OpenFault.Device) }
     ensures rests { (D.state disk.old).honest → Rests (D.state disk.old) (D.state disk.new) }
     ensures durable { (D.state disk.old).honest → IsDurable (D.state disk.old)
@@ -115,10 +116,10 @@ pub fn read_header<D: Disk>(disk: &mut D) -> Result<Slot, OpenFault>
     ensures header { (D.state disk.old).honest
         → IfOk result (λ slot. IsHeader (D.state disk.old).bytes slot) }
     ensures no_session { (D.state disk.old).honest → IsErrOf result OpenFault.NotASession
-        → part 0 8 (D.state disk.old).bytes ≢ magic }
+        → part 0 8 (D.state disk.old).bytes ≢ NAME }
     ensures damaged { (D.state disk.old).honest → IsErrOf result OpenFault.Damaged
-        → (part 0 8 (D.state disk.old).bytes ≡ magic) × (part 9 7
-        (D.state disk.old).bytes ≢ seven_zeros) }
+        → (part 0 8 (D.state disk.old).bytes ≡ NAME) × (part 9 7
+        (D.state disk.old).bytes ≢ ZEROS) }
 {
     let mut header = [0u8; HEADER_SIZE];
     read_at(disk, 0, &mut header)?;
@@ -133,7 +134,7 @@ pub fn read_header<D: Disk>(disk: &mut D) -> Result<Slot, OpenFault>
 
 /// Reads the snapshot of the slot that starts there.
 pub fn read_snap<D: Disk>(alloc: Global, disk: &mut D, start: usize) -> Result<Bytes, OpenFault>
-    requires inside { start + area_size ≤ (D.state disk.old).size }
+    requires inside { start + AREA_SIZE ≤ (D.state disk.old).size }
     requires fits { (D.state disk.old).size < 2 ^ 64 }
     ensures tells { Counts (D.state disk.old) (D.state disk.new) (IsErrOf result OpenFault.Device) }
     ensures rests { (D.state disk.old).honest → Rests (D.state disk.old) (D.state disk.new) }
@@ -168,25 +169,25 @@ pub struct Found {
 ///
 /// Without the sync, what is read may be lost by a crash that comes after the answer.
 pub fn read_pair<D: Disk>(alloc: Global, disk: &mut D) -> Result<Found, OpenFault>
-    requires size { (D.state disk.old).size ≡ file_size }
+    requires size { (D.state disk.old).size ≡ FILE_SIZE }
     ensures tells { Counts (D.state disk.old) (D.state disk.new) (IsErrOf result OpenFault.Device) }
     ensures rests { (D.state disk.old).honest → Rests (D.state disk.old) (D.state disk.new) }
-    ensures within { IfOk result (λ found. found.log.used + 1 ≤ log_size) }
+    ensures within { IfOk result (λ found. found.log.used + 1 ≤ LOG_SIZE) }
     ensures durable { (D.state disk.old).honest → OnOk result (IsDurable (D.state disk.new)) }
     ensures active { (D.state disk.old).honest
         → IfOk result (λ found. slot_of (D.state disk.old).bytes ≡ found.slot) }
     ensures count { (D.state disk.old).honest
         → IfOk result (λ found. found.log.used ≡ length (spelled found.log.records.items)) }
     ensures holds { (D.state disk.old).honest
-        → IfOk result (λ found. HoldsPair
+        → IfOk result (λ found. Holds
         (D.state disk.old).bytes found.snap found.log.records.items) }
     ensures damaged { (D.state disk.old).honest → IsErrOf result OpenFault.Damaged
         → (snap : List ℕ) (records : List (List ℕ))
-        → HoldsPair (D.state disk.old).bytes snap records → ⊥ }
+        → Holds (D.state disk.old).bytes snap records → ⊥ }
     ensures session { (D.state disk.old).honest → IsErrOf result OpenFault.Damaged
-        → part 0 8 (D.state disk.old).bytes ≡ magic }
+        → part 0 8 (D.state disk.old).bytes ≡ NAME }
     ensures no_session { (D.state disk.old).honest → IsErrOf result OpenFault.NotASession
-        → part 0 8 (D.state disk.old).bytes ≢ magic }
+        → part 0 8 (D.state disk.old).bytes ≢ NAME }
 {
     disk.sync()?;
     let slot = read_header(disk)?;

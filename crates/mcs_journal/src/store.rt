@@ -2,7 +2,8 @@
 ghost use Rattle.std.specs.Prelude.{◌≡◌, ◌≢◌, ◌⊎◌, ◌≤◌, ◌+◌, ◌↔◌, List, [], ◌∷◌, ◌++◌, ℕ, length, is_ok, IsTrue, IsErr, IsErrAnd, OnOk, OnErr, IfErr, IfOk};
 ghost use Rattle.mcs_disk.specs.Moments.{Changes, Counts, Rests};
 ghost use Rattle.mcs_journal.specs.Answers.{Creates, Opens, RefusesCreate, RefusesOpen};
-ghost use Rattle.mcs_journal.specs.File.{HasRoom, HoldsPair, IsRecord, file_size, most_record, most_snap, spelled};
+ghost use Rattle.mcs_journal.specs.declared.format.TheConstants.{MOST_RECORD, MOST_SNAP};
+ghost use Rattle.mcs_journal.specs.File.{HasRoom, Holds, IsRecord, spelled};
 
 use crate::bytes::{Bytes, Records};
 use crate::fault::{CreateFault, OpenFault};
@@ -52,7 +53,7 @@ impl<D: Disk + Drop> Store<D> {
     ///
     /// A refusal hands the disk back, and `NotBlank` has written nothing. A stop inside the call may leave anything.
     pub fn create(alloc: Global, disk: D, snap: &[u8]) -> Result<Store<D>, (CreateFault, D)>
-        requires short { length snap.now ≤ most_snap }
+        requires short { length snap.now ≤ MOST_SNAP }
 
         // on any disk
         ensures live { IfOk result (λ store. IsTrue store.live × (store.used ≡ 0)) }
@@ -61,7 +62,7 @@ impl<D: Disk + Drop> Store<D> {
             Counts (D.state disk) (D.state refused.1) (refused.0 ≡ CreateFault.Device)) }
         ensures no_memory { IfErr result (λ refused.
             refused.0 ≡ CreateFault.NoMemory → refused.1 ≡ disk) }
-        ensures wrong_size { (D.state disk).size ≢ file_size → IsErrAnd result (λ refused.
+        ensures wrong_size { (D.state disk).size ≢ FILE_SIZE → IsErrAnd result (λ refused.
             ((refused.0 ≡ CreateFault.NotBlank) ⊎ (refused.0 ≡ CreateFault.NoMemory))
             × (refused.1 ≡ disk)) }
 
@@ -103,7 +104,7 @@ impl<D: Disk + Drop> Store<D> {
             Counts (D.state disk) (D.state opened.store.disk) ⊥) }
         ensures refusal_counts { IfErr result (λ refused.
             Counts (D.state disk) (D.state refused.1) (refused.0 ≡ OpenFault.Device)) }
-        ensures wrong_size { (D.state disk).size ≢ file_size → IsErrAnd result (λ refused.
+        ensures wrong_size { (D.state disk).size ≢ FILE_SIZE → IsErrAnd result (λ refused.
             ((refused.0 ≡ OpenFault.NotASession) ⊎ (refused.0 ≡ OpenFault.NoMemory))
             × (refused.1 ≡ disk)) }
 
@@ -152,11 +153,11 @@ impl<D: Disk + Drop> Store<D> {
 
     /// A record of `len` bytes fits behind the records of its log.
     pub fn has_room(&self, len: usize) -> bool
-        requires { len ≤ most_record }
+        requires { len ≤ MOST_RECORD }
         ensures room { IsTrue result ↔ HasRoom self.now.used len }
         ensures used { IsTrue self.now.live → (D.state self.now.disk).honest
             → (snap : List ℕ) (records : List (List ℕ))
-            → HoldsPair (D.state self.now.disk).bytes snap records
+            → Holds (D.state self.now.disk).bytes snap records
             → self.now.used ≡ length (spelled records) }
     {
         self.used + RECORD_PLACE + len + 1 <= LOG_SIZE
@@ -173,10 +174,10 @@ impl<D: Disk + Drop> Store<D> {
         ensures counts { Counts (D.state self.old.disk) (D.state self.new.disk) (IsErr result) }
         ensures appends { (D.state self.old.disk).honest
             → (snap : List ℕ) (records : List (List ℕ))
-            → HoldsPair (D.state self.old.disk).bytes snap records
+            → Holds (D.state self.old.disk).bytes snap records
             → Changes 4 (D.state self.old.disk) (D.state self.new.disk)
-            (λ c. HoldsPair c snap records)
-            (λ c. HoldsPair c snap (records ++ payload.now ∷ [])) result }
+            (λ c. Holds c snap records)
+            (λ c. Holds c snap (records ++ payload.now ∷ [])) result }
     {
         let gate = self.slot.start() + AREA_SIZE + self.used;
         match add_record(&mut self.disk, &mut self.buffer, gate, payload) {
@@ -195,17 +196,17 @@ impl<D: Disk + Drop> Store<D> {
     /// closed.
     pub fn replace(&mut self, snap: &[u8]) -> Result<(), DiskFault>
         requires live { IsTrue self.old.live }
-        requires short { length snap.now ≤ most_snap }
+        requires short { length snap.now ≤ MOST_SNAP }
         ensures live { self.new.live ≡ is_ok result }
         ensures used { OnOk result (self.new.used ≡ 0) }
         ensures same_used { OnErr result (self.new.used ≡ self.old.used) }
         ensures counts { Counts (D.state self.old.disk) (D.state self.new.disk) (IsErr result) }
         ensures replaces { (D.state self.old.disk).honest
             → (old_snap : List ℕ) (records : List (List ℕ))
-            → HoldsPair (D.state self.old.disk).bytes old_snap records
+            → Holds (D.state self.old.disk).bytes old_snap records
             → Changes 4 (D.state self.old.disk) (D.state self.new.disk)
-            (λ c. HoldsPair c old_snap records)
-            (λ c. HoldsPair c snap.now []) result }
+            (λ c. Holds c old_snap records)
+            (λ c. Holds c snap.now []) result }
     {
         let other = self.slot.other();
         match replace_pair(&mut self.disk, &mut self.buffer, other, snap) {

@@ -3,8 +3,9 @@
 ghost use Rattle.std.specs.Prelude.{◌≡◌, ◌≤◌, ◌+◌, List, [], ◌∷◌, ◌++◌, ℕ, length, take, slice_index, OnOk, IsErrOf};
 ghost use Rattle.mcs_disk.specs.Disk.{IsCall};
 ghost use Rattle.mcs_disk.specs.Moments.{Changes, Counts, GoesOn, IsDurable, Rests};
-ghost use Rattle.mcs_journal.specs.File.{HoldsPair, IsBlank, IsRecord, be16, file_size, most_record, most_snap, slot_of};
-ghost use Rattle.mcs_journal.specs.Writing.{Commits, IsArea, IsGate, other_slot, stage_size};
+ghost use Rattle.mcs_journal.specs.declared.format.TheConstants.{FILE_SIZE, MOST_RECORD, MOST_SNAP, STAGE_SIZE};
+ghost use Rattle.mcs_journal.specs.File.{Holds, IsBlank, IsRecord, be16, slot_of};
+ghost use Rattle.mcs_journal.specs.Writing.{Commits, IsArea, IsGate, other_slot};
 
 use crate::fault::CreateFault;
 use crate::format::{
@@ -29,7 +30,7 @@ pub fn commit<D: Disk>(disk: &mut D, at: usize, from: &[u8]) -> Result<(), DiskF
 /// Spells what stands behind a record's gate: its length, its bytes, and a closed gate.
 pub fn spell_record(buffer: &mut [u8], payload: &[u8])
     requires room { length payload.now + 3 ≤ length buffer.old }
-    requires short { length payload.now ≤ most_record }
+    requires short { length payload.now ≤ MOST_RECORD }
     ensures { take (length payload.now + 3) buffer.new ≡ be16
         (length payload.now) ++ payload.now ++ 0 ∷ [] }
 {
@@ -48,7 +49,7 @@ pub fn add_record<D: Disk>(
     payload: &[u8],
 ) -> Result<(), DiskFault>
     requires inside { gate + length payload.now + 4 ≤ (D.state disk.old).size }
-    requires small { (D.state disk.old).size ≡ file_size }
+    requires small { (D.state disk.old).size ≡ FILE_SIZE }
     requires room { length payload.now + 3 ≤ length buffer.old }
     requires good { IsRecord payload.now }
     ensures call { IsCall (D.state disk.old) (D.state disk.new) result }
@@ -56,10 +57,10 @@ pub fn add_record<D: Disk>(
         → slice_index (D.state disk.new).bytes 8 ≡ slice_index (D.state disk.old).bytes 8 }
     ensures changes { (D.state disk.old).honest → IsDurable (D.state disk.old)
         → (snap : List ℕ) (records : List (List ℕ))
-        → HoldsPair (D.state disk.old).bytes snap records
+        → Holds (D.state disk.old).bytes snap records
         → IsGate (D.state disk.old).bytes records gate (length payload.now)
-        → Changes 4 (D.state disk.old) (D.state disk.new) (λ c. HoldsPair c snap records)
-        (λ c. HoldsPair c snap (records ++ payload.now ∷ [])) result }
+        → Changes 4 (D.state disk.old) (D.state disk.new) (λ c. Holds c snap records)
+        (λ c. Holds c snap (records ++ payload.now ∷ [])) result }
 {
     spell_record(buffer, payload);
     commit(disk, gate + 1, &buffer[..payload.len() + RECORD_PLACE])?;
@@ -68,8 +69,8 @@ pub fn add_record<D: Disk>(
 
 /// Spells a snapshot area and a closed gate behind it.
 pub fn spell_snap(buffer: &mut [u8], snap: &[u8])
-    requires room { length buffer.old ≡ stage_size }
-    requires short { length snap.now ≤ most_snap }
+    requires room { length buffer.old ≡ STAGE_SIZE }
+    requires short { length snap.now ≤ MOST_SNAP }
     ensures { IsArea snap.now buffer.new }
 {
     let n = snap.len();
@@ -88,18 +89,18 @@ pub fn replace_pair<D: Disk>(
     other: Slot,
     snap: &[u8],
 ) -> Result<(), DiskFault>
-    requires size { (D.state disk.old).size ≡ file_size }
-    requires room { length buffer.old ≡ stage_size }
-    requires short { length snap.now ≤ most_snap }
+    requires size { (D.state disk.old).size ≡ FILE_SIZE }
+    requires room { length buffer.old ≡ STAGE_SIZE }
+    requires short { length snap.now ≤ MOST_SNAP }
     ensures call { IsCall (D.state disk.old) (D.state disk.new) result }
     ensures named { (D.state disk.old).honest
         → OnOk result (slot_of (D.state disk.new).bytes ≡ other) }
     ensures changes { (D.state disk.old).honest → IsDurable (D.state disk.old)
         → (old_snap : List ℕ) (records : List (List ℕ))
-        → HoldsPair (D.state disk.old).bytes old_snap records
+        → Holds (D.state disk.old).bytes old_snap records
         → other ≡ other_slot (slot_of (D.state disk.old).bytes)
-        → Changes 4 (D.state disk.old) (D.state disk.new) (λ c. HoldsPair c old_snap records)
-        (λ c. HoldsPair c snap.now []) result }
+        → Changes 4 (D.state disk.old) (D.state disk.new) (λ c. Holds c old_snap records)
+        (λ c. Holds c snap.now []) result }
 {
     spell_snap(buffer, snap);
     commit(disk, other.start(), buffer)?;
@@ -108,7 +109,7 @@ pub fn replace_pair<D: Disk>(
 
 /// The disk has the size of a session file, and its first 16 bytes are 0.
 pub fn check_blank<D: Disk>(disk: &mut D) -> Result<(), CreateFault>
-    requires size { (D.state disk.old).size ≡ file_size }
+    requires size { (D.state disk.old).size ≡ FILE_SIZE }
     ensures tells { Counts (D.state disk.old) (D.state disk.new)
         (IsErrOf result CreateFault.Device) }
     ensures rests { (D.state disk.old).honest → Rests (D.state disk.old) (D.state disk.new) }
@@ -130,16 +131,16 @@ pub fn check_blank<D: Disk>(disk: &mut D) -> Result<(), CreateFault>
 
 /// Writes a first pair into the first slot: the snapshot and no records. Then it writes the header that names the slot.
 pub fn write_first<D: Disk>(disk: &mut D, buffer: &mut [u8], snap: &[u8]) -> Result<(), DiskFault>
-    requires size { (D.state disk.old).size ≡ file_size }
-    requires room { length buffer.old ≡ stage_size }
-    requires short { length snap.now ≤ most_snap }
+    requires size { (D.state disk.old).size ≡ FILE_SIZE }
+    requires room { length buffer.old ≡ STAGE_SIZE }
+    requires short { length snap.now ≤ MOST_SNAP }
     ensures call { IsCall (D.state disk.old) (D.state disk.new) result }
-    ensures room { length buffer.new ≡ stage_size }
+    ensures room { length buffer.new ≡ STAGE_SIZE }
     ensures goes_on { (D.state disk.old).honest → GoesOn (D.state disk.old) (D.state disk.new) }
     ensures ticks { (D.state disk.old).honest
         → OnOk result ((D.state disk.new).clock ≡ (D.state disk.old).clock + 4) }
     ensures made { (D.state disk.old).honest
-        → OnOk result (HoldsPair (D.state disk.new).bytes snap.now []) }
+        → OnOk result (Holds (D.state disk.new).bytes snap.now []) }
     ensures named { (D.state disk.old).honest
         → OnOk result (slot_of (D.state disk.new).bytes ≡ Slot.A) }
     ensures durable { (D.state disk.old).honest → OnOk result (IsDurable (D.state disk.new)) }

@@ -2,7 +2,7 @@
 use Rattle.std.specs.Prelude.{◌≡◌, ℕ, List, Bool, IsTrue, length}
 use Rattle.mcs_disk.specs.Disk.{DiskState}
 use Rattle.mcs_disk.specs.Moments.{IsDurable}
-use Rattle.mcs_journal.specs.File.{most_record}
+use Rattle.mcs_journal.specs.declared.format.TheConstants.{MOST_RECORD}
 use Rattle.mcs_model.specs.Flat.{Flat}
 use Rattle.mcs_session.specs.Log.{HasUsed}
 use Rattle.mcs_session.specs.Stands.{StandsFor}
@@ -14,5 +14,5 @@ pub record IsRecorded (disk : DiskState) (used : ℕ) (s : Flat) : Type 0 where
   pub log : HasUsed disk.bytes used
 
 pub record IsSession (disk : DiskState) (live : Bool) (used : ℕ) (s : Flat) (buffer : List ℕ) : Type 0 where
-  pub lent : length buffer ≡ most_record
+  pub lent : length buffer ≡ MOST_RECORD
   pub recorded : IsTrue live → disk.honest → IsRecorded disk used s

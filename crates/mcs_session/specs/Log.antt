@@ -1,6 +1,7 @@
 -- The log of a session: what of it is kept in memory, and what it says of the file.
 use Rattle.std.specs.Prelude.{◌≡◌, ◌+◌, Bool, true, false, ℕ, List, [], ◌∷◌, length, nat_le}
-use Rattle.mcs_journal.specs.File.{HoldsPair, log_size, spelled}
+use Rattle.mcs_journal.specs.File.{Holds, spelled}
+use Rattle.mcs_journal.specs.declared.format.TheConstants.{LOG_SIZE}
 use Rattle.mcs_model.specs.declared.command.Command.{Command}
 use Rattle.mcs_session.specs.Codec.{command_text}
 
@@ -23,7 +24,7 @@ record_bytes c = 3 + length (command_text c)
 
 -- whether the record of a command, and a closed gate behind it, fit behind so many bytes of records
 abbrev pub fits : ℕ → Command → Bool
-fits used c = nat_le (used + record_bytes c + 1) log_size
+fits used c = nat_le (used + record_bytes c + 1) LOG_SIZE
 
 abbrev pub with_record : Log → Command → Log
 with_record Shut c = Shut
@@ -36,7 +37,7 @@ logged log (c ∷ cs) = logged (with_record log c) cs
 
 -- the records that a file holds take so many bytes
 abbrev pub HasUsed : List ℕ → ℕ → Type 0
-HasUsed file used = (snap : List ℕ) (records : List (List ℕ)) → HoldsPair file snap records → used ≡ length (spelled records)
+HasUsed file used = (snap : List ℕ) (records : List (List ℕ)) → Holds file snap records → used ≡ length (spelled records)
 
 -- the log of an open session is as long as that of the file
 abbrev pub IsLogOf : List ℕ → Log → Type 0

@@ -2,7 +2,6 @@
 ghost use Rattle.std.specs.Prelude.{◌≡◌, ◌≢◌, ◌⊎◌, ◌↔◌, length, take, IsTrue, IsErrAnd, IfOk, IfErr, IfSome, IfNone};
 ghost use Rattle.mcs_disk.specs.Moments.{Counts, Rests};
 ghost use Rattle.mcs_journal.specs.Answers.{RefusesCreate};
-ghost use Rattle.mcs_journal.specs.File.{file_size, most_record};
 ghost use Rattle.mcs_session.specs.Codec.{Spells, command_text, new_text};
 ghost use Rattle.mcs_model.specs.Flat.{Flat, new_flat};
 ghost use Rattle.mcs_session.specs.Stands.{PairStandsFor, StandsFor, IsAt};
@@ -13,7 +12,7 @@ use crate::bench::Bench;
 use crate::codec::{COMMAND_BYTES, STATE_BYTES, bench_of, command_bytes, command_of, state_bytes};
 use crate::fault::SessionFault;
 use mcs_disk::{Disk, DiskFault};
-use mcs_journal::{CreateFault, OpenFault, Opened, Records, Store};
+use mcs_journal::{CreateFault, FILE_SIZE, MOST_RECORD, OpenFault, Opened, Records, Store};
 use mcs_model::command::{Command, Reply};
 use std::alloc::{AllocError, Global};
 use std::marker::Model;
@@ -80,8 +79,8 @@ fn new_snapshot(alloc: Global) -> Result<Vec<u8>, AllocError>
 
 /// Spells a command at the front of the buffer of a session, and answers how many bytes it took.
 fn spell(buffer: &mut Vec<u8>, command: &Command) -> usize
-    requires { length buffer.old.items ≡ most_record }
-    ensures lent { length buffer.new.items ≡ most_record }
+    requires { length buffer.old.items ≡ MOST_RECORD }
+    ensures lent { length buffer.new.items ≡ MOST_RECORD }
     ensures spells { Spells (take result buffer.new.items) command.now }
     ensures count { result ≡ length (command_text command.now) }
 {
@@ -100,7 +99,7 @@ impl<D: Disk + Drop> Session<D> {
         ensures counts { IfOk result (λ s. Counts (D.state disk) (D.state s.disk) ⊥) }
         ensures refusal_counts { IfErr result (λ refused. Counts (D.state disk) (D.state refused.1) (refused.0 ≡ CreateFault.Device)) }
         ensures no_memory { IfErr result (λ refused. refused.0 ≡ CreateFault.NoMemory → refused.1 ≡ disk) }
-        ensures wrong_size { (D.state disk).size ≢ file_size
+        ensures wrong_size { (D.state disk).size ≢ FILE_SIZE
             → IsErrAnd result (λ refused. ((refused.0 ≡ CreateFault.NotBlank) ⊎ (refused.0 ≡ CreateFault.NoMemory)) × (refused.1 ≡ disk)) }
 
         // on an honest disk
@@ -132,7 +131,7 @@ impl<D: Disk + Drop> Session<D> {
         ensures open { IfOk result (λ s. IsTrue (is_open_log s.log)) }
         ensures counts { IfOk result (λ s. Counts (D.state disk) (D.state s.disk) ⊥) }
         ensures refusal_counts { IfErr result (λ refused. Counts (D.state disk) (D.state refused.1) (refused.0 ≡ OpenFault.Device)) }
-        ensures wrong_size { (D.state disk).size ≢ file_size
+        ensures wrong_size { (D.state disk).size ≢ FILE_SIZE
             → IsErrAnd result (λ refused. ((refused.0 ≡ OpenFault.NotASession) ⊎ (refused.0 ≡ OpenFault.NoMemory)) × (refused.1 ≡ disk)) }
 
         // on an honest disk

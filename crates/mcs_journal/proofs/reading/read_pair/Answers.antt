@@ -1,13 +1,13 @@
 use Rattle.std.proofs.Common.{rules, ◌≡◌, ◌+◌, List, ℕ, length, sym, ◌∙◌, ap, subst, IsErrOf}
 use Rattle.mcs_disk.specs.Disk.{part}
-use Rattle.mcs_journal.specs.File.{HoldsPair, IsLog, start_of}
+use Rattle.mcs_journal.specs.File.{Holds, IsLog, start_of}
 use Rattle.mcs_journal.specs.Writing.{IsHeader, IsSnap}
 use Rattle.mcs_journal.specs.declared.slot.Slot.{Slot}
 use Rattle.mcs_journal.specs.declared.fault.OpenFault.TheVariants.{Damaged}
 use Rattle.mcs_journal.proofs.reading.read_pair.Goals as goal
 
 -- a header, the snapshot and the log of its slot make the pair
-pair : (f snap : List ℕ) (slot : Slot) (records : List (List ℕ)) → length f ≡ 163856 → IsHeader f slot → IsSnap f (start_of slot) snap → IsLog records (part (start_of slot + 16384) 65536 f) → HoldsPair f snap records
+pair : (f snap : List ℕ) (slot : Slot) (records : List (List ℕ)) → length f ≡ 163856 → IsHeader f slot → IsSnap f (start_of slot) snap → IsLog records (part (start_of slot + 16384) 65536 f) → Holds f snap records
 pair f snap slot records long header is_snap log = record {
   size = long;
   name = header.name;

@@ -1,5 +1,5 @@
 use Rattle.std.proofs.Common.{rules, ◌+◌, [], ◌∷◌, ◌++◌, ◌∙◌, arith}
-use Rattle.mcs_journal.specs.File.{HoldsPair}
+use Rattle.mcs_journal.specs.File.{Holds}
 use Rattle.mcs_journal.proofs.Stretch.{first_step, second_step}
 use Rattle.mcs_journal.proofs.Adding.{behind_torn, gate_torn, gate_opened}
 use Rattle.mcs_journal.proofs.writing.add_record.Goals as goal
@@ -9,7 +9,7 @@ returns-in_err-commit-clause-changes g c = λ h durable snap records held gate.
     let old = g.D.Disk.state c.args.disk.now in
     let mid = g.D.Disk.state c.commit.new.disk in
     let law = g.met.D.Disk.lawful c.commit.new.disk (c.commit.ensures.call.honest.1 h) in
-    let moments = first_step old mid (λ x. HoldsPair x snap records) (λ x. HoldsPair x snap (records ++ c.args.payload.now ∷ [])) (c.args.gate + 1) _ durable held law
+    let moments = first_step old mid (λ x. Holds x snap records) (λ x. Holds x snap (records ++ c.args.payload.now ∷ [])) (c.args.gate + 1) _ durable held law
     (behind_torn old.bytes snap c.args.payload.now _ records c.args.gate c.spell_record.ensures held gate c.requires.good) _ (c.commit.ensures.commits h) in
     record { after = search rules; durable = search rules; ticks = search rules; moments = moments }
 
@@ -25,8 +25,8 @@ returns-clause-changes g c = λ h durable snap records held gate.
     let step = c.in_ok-commit.ensures.commits h in
     let spells = c.spell_record.ensures in
     let tears = behind_torn old.bytes snap r _ records c.args.gate spells held gate c.requires.good in
-    let so_far = first_step old mid (λ x. HoldsPair x snap records) (λ x. HoldsPair x snap (records ++ r ∷ [])) (c.args.gate + 1) _ durable held law_mid tears _ (c.commit.ensures.commits h) in
-    second_step old mid (λ x. HoldsPair x snap records) (λ x. HoldsPair x snap (records ++ r ∷ [])) (c.args.gate + 1) _ durable held law_mid tears
+    let so_far = first_step old mid (λ x. Holds x snap records) (λ x. Holds x snap (records ++ r ∷ [])) (c.args.gate + 1) _ durable held law_mid tears _ (c.commit.ensures.commits h) in
+    second_step old mid (λ x. Holds x snap records) (λ x. Holds x snap (records ++ r ∷ [])) (c.args.gate + 1) _ durable held law_mid tears
     new c.args.gate (1 ∷ []) _ law so_far step.durable step.ticks
     (gate_torn old.bytes snap r _ records c.args.gate spells held gate c.requires.good mid.bytes step.outside step.written)
     (λ here torn. gate_opened old.bytes snap r _ records c.args.gate spells held gate c.requires.good mid.bytes step.outside step.written new.bytes torn here)

@@ -1,6 +1,6 @@
 use Rattle.std.proofs.Common.{rules, ◌≡◌, List, [], ◌∷◌, ℕ, length, get_or, refl, sym, ◌∙◌, ap, subst, arith}
 use Rattle.mcs_disk.specs.Disk.{Torn, part}
-use Rattle.mcs_journal.specs.File.{HoldsPair, slot_named, start_of}
+use Rattle.mcs_journal.specs.File.{Holds, slot_named, start_of}
 use Rattle.mcs_journal.specs.Writing.{other_slot, turn_of}
 use Rattle.mcs_journal.specs.declared.slot.Slot.{Slot}
 use Rattle.mcs_journal.specs.declared.slot.Slot.TheVariants.{A, B}
@@ -26,7 +26,7 @@ returns-in_err-commit-clause-changes g c = λ h durable old_snap records held ot
     let mid = g.D.Disk.state c.commit.new.disk in
     let law = g.met.D.Disk.lawful c.commit.new.disk (c.commit.ensures.call.honest.1 h) in
     let area = c.spell_snap.ensures in
-    let moments = first_step old mid (λ x. HoldsPair x old_snap records) (λ x. HoldsPair x c.args.snap.now []) c.start.result c.spell_snap.new.buffer durable held law
+    let moments = first_step old mid (λ x. Holds x old_snap records) (λ x. Holds x c.args.snap.now []) c.start.result c.spell_snap.new.buffer durable held law
     (λ x torn. other_torn old.bytes old_snap c.args.snap.now c.spell_snap.new.buffer records c.start.result held (apart _ _ _ other c.start.ensures) area x (resize _ _ _ _ _ area.long torn)) _ (c.commit.ensures.commits h) in
     record { after = search rules; durable = search rules; ticks = search rules; moments = moments }
 
@@ -47,13 +47,13 @@ returns-clause-changes g c = λ h durable old_snap records held other.
     let area = c.spell_snap.ensures in
     let step = c.in_ok-commit.ensures.commits h in
     let far = apart _ _ _ other c.start.ensures in
-    let tears : (x : List ℕ) → Torn c.start.result (length c.spell_snap.new.buffer) old.bytes x → HoldsPair x old_snap records = λ x torn.
+    let tears : (x : List ℕ) → Torn c.start.result (length c.spell_snap.new.buffer) old.bytes x → Holds x old_snap records = λ x torn.
     other_torn old.bytes old_snap c.args.snap.now c.spell_snap.new.buffer records c.start.result held far area x (resize _ _ _ _ _ area.long torn) in
-    let so_far = first_step old mid (λ x. HoldsPair x old_snap records) (λ x. HoldsPair x c.args.snap.now []) c.start.result c.spell_snap.new.buffer durable held law_mid tears _ (c.commit.ensures.commits h) in
+    let so_far = first_step old mid (λ x. Holds x old_snap records) (λ x. Holds x c.args.snap.now []) c.start.result c.spell_snap.new.buffer durable held law_mid tears _ (c.commit.ensures.commits h) in
     let first = resize _ _ _ _ _ area.long step.outside in
     let there : part c.start.result 16385 mid.bytes ≡ c.spell_snap.new.buffer = ap (λ (n : ℕ). part c.start.result n mid.bytes) (sym area.long) ∙ step.written in
     let names : start_of (slot_named c.turn.result) ≡ c.start.result = ap start_of (ap slot_named c.turn.ensures ∙ turn_names c.args.other) ∙ sym c.start.ensures in
-    second_step old mid (λ x. HoldsPair x old_snap records) (λ x. HoldsPair x c.args.snap.now []) c.start.result c.spell_snap.new.buffer durable held law_mid tears
+    second_step old mid (λ x. Holds x old_snap records) (λ x. Holds x c.args.snap.now []) c.start.result c.spell_snap.new.buffer durable held law_mid tears
     new 8 (c.turn.result ∷ []) _ law so_far step.durable step.ticks
     (λ x torn. turn_torn old.bytes old_snap c.args.snap.now c.spell_snap.new.buffer records c.start.result held far area mid.bytes x first there torn)
     (λ here torn. turn_done old.bytes old_snap c.args.snap.now c.spell_snap.new.buffer records c.start.result held far area mid.bytes _ first there torn _ here names)

@@ -1,6 +1,6 @@
 use Rattle.std.proofs.Common.{◌≡◌, length, drop, ◌∙◌, ap}
 use Rattle.std.proofs.lemmas.List.{take_at}
-use Rattle.mcs_disk.specs.Memory.{put}
+use Rattle.mcs_disk.specs.Disk.{put}
 use Rattle.mcs_host.proofs.FileKept.{was_written}
 use Rattle.mcs_host.proofs.file_disk.FileDiskDisk.write.Goals as goal
 

@@ -1,7 +1,7 @@
 use Rattle.std.proofs.Common.{◌≡◌, ◌+◌, List, [], ◌∷◌, ◌++◌, ℕ, length, sym, ◌∙◌, ap, subst, arith, IsTrue, length-take, length-append, length-drop}
 use Rattle.mcs_disk.specs.Disk.{DiskState}
 use Rattle.mcs_journal.specs.Store.{StoreView, IsSettled}
-use Rattle.mcs_journal.specs.File.{HoldsPair, HasRoom, slot_named, spelled, framed, start_of}
+use Rattle.mcs_journal.specs.File.{Holds, HasRoom, slot_named, spelled, framed, start_of}
 use Rattle.mcs_journal.specs.Writing.{IsGate}
 use Rattle.mcs_journal.specs.declared.slot.Slot.{Slot}
 use Rattle.mcs_journal.proofs.Unique.{same_pair}
@@ -10,7 +10,7 @@ use Rattle.mcs_journal.proofs.Logs.{spelled-push, length-framed}
 use Rattle.mcs_journal.proofs.store.Store.append.Goals as goal
 
 -- where the gate stands
-gate_of : (disk : DiskState) (slot : Slot) (start used n : ℕ) (snap : List ℕ) (records : List (List ℕ)) → start ≡ start_of slot → IsSettled disk slot used → HasRoom used n → HoldsPair disk.bytes snap records → IsGate disk.bytes records (start + 16384 + used) n
+gate_of : (disk : DiskState) (slot : Slot) (start used n : ℕ) (snap : List ℕ) (records : List (List ℕ)) → start ≡ start_of slot → IsSettled disk slot used → HasRoom used n → Holds disk.bytes snap records → IsGate disk.bytes records (start + 16384 + used) n
 gate_of disk slot start used n snap records at settled room held =
     let same : length (spelled settled.records) ≡ length (spelled records) = ap (λ (l : List (List ℕ)). length (spelled l)) (same_pair _ _ _ _ _ settled.holds held) in
     let place = at ∙ sym (ap start_of settled.active) in

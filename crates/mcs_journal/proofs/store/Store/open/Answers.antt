@@ -1,6 +1,6 @@
 use Rattle.std.proofs.Common.{rules, List, ℕ, inl, sym, ◌∙◌, ap, subst, Err}
 use Rattle.mcs_disk.proofs.Composing.{rests_still}
-use Rattle.mcs_journal.specs.File.{HoldsPair, slot_of}
+use Rattle.mcs_journal.specs.File.{Holds, slot_of}
 use Rattle.mcs_journal.specs.declared.fault.OpenFault.TheVariants.{Device}
 use Rattle.mcs_journal.proofs.Refusing.{counts_ok, counts_err, refuses_open}
 use Rattle.mcs_journal.proofs.store.Store.open.Goals as goal
@@ -39,7 +39,7 @@ invariant_of-store g c = record {
         active = ap slot_of same ∙ c.in-Ok-read_pair.ensures.active was;
         snap = c.in-Ok-read_pair.field-0.snap;
         records = c.in-Ok-read_pair.field-0.log.records.items;
-        holds = subst (λ (f : List ℕ). HoldsPair f c.in-Ok-read_pair.field-0.snap c.in-Ok-read_pair.field-0.log.records.items) (sym same) (c.in-Ok-read_pair.ensures.holds was);
+        holds = subst (λ (f : List ℕ). Holds f c.in-Ok-read_pair.field-0.snap c.in-Ok-read_pair.field-0.log.records.items) (sym same) (c.in-Ok-read_pair.ensures.holds was);
         count = c.in-Ok-read_pair.ensures.count was;
       };
 }

@@ -1,5 +1,5 @@
-use crate::{Choice, FileDisk, FileFault, WordsFault, choice};
 use mcs_disk::{Disk, DiskFault};
+use mcs_host::{Choice, FileDisk, FileFault, WordsFault, choice};
 use std::alloc::Global;
 use std::fs;
 use std::test::Fail;

@@ -1,0 +1,25 @@
+-- How a file is left, and what is found in it then. (Our own choice.)
+use Rattle.std.specs.Prelude.{◌≡◌, ◌⊎◌, ℕ, ◌≤◌, List, ◌∷◌, ◌++◌}
+use Rattle.mcs_host.specs.FileCalls.{FileCall, Wrote, Failed, clock_of}
+use Rattle.mcs_host.specs.declared.file_disk.FileDisk.{FileDisk}
+
+-- what the next one to open the file finds, after a close, a kill or a power cut
+abbrev pub found_in : FileDisk → List ℕ
+found_in file = file.history.found
+
+-- the newest of these calls is a write, and it was cut off
+pub record IsCutInWrite (calls cut : List FileCall) : Type 0 where
+  pub at : ℕ
+  pub bytes : List ℕ
+  pub before : List FileCall
+  pub whole : calls ≡ Wrote at bytes ∷ before
+  pub torn : cut ≡ Failed at bytes ∷ before
+
+-- The file was left behind some first part of these calls, at a clock of t or later: of all of them, the newest first, those by the end
+-- are the last ones of the list, and the newest of those may be a write that was cut off.
+pub record IsLeftSince (t : ℕ) (file : FileDisk) : Type 0 where
+  pub never_made : List FileCall
+  pub made : List FileCall
+  pub all : file.history.calls ≡ never_made ++ made
+  pub by_the_end : (file.history.calls_by_the_end ≡ made) ⊎ IsCutInWrite made file.history.calls_by_the_end
+  pub late : t ≤ clock_of file.history.calls_by_the_end

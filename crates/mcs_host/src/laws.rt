@@ -1,0 +1,23 @@
+//! What the premise on a file, that it is honest, gives. The contract of each call is the law; the call does nothing.
+ghost use Rattle.std.specs.Prelude.{◌≡◌, ℕ};
+ghost use Rattle.mcs_disk.specs.PowerCut.{IsLeftByCut};
+ghost use Rattle.mcs_host.specs.Ending.{IsLeftSince, found_in};
+ghost use Rattle.mcs_host.specs.FileDisk.{IsOpened};
+
+use crate::FileDisk;
+use mcs_disk::Disk;
+
+/// Where an honest file was left behind some first part of its calls, at a clock of t or later, what is found in it is an image since t.
+pub fn what_is_found_is_an_image()
+    ensures { (t : ℕ) (file : FileDisk) → (⟦<FileDisk as Disk>⟧.state file).honest
+        → IsLeftSince t file → (⟦<FileDisk as Disk>⟧.state file).since t (found_in file) }
+{}
+
+/// The file that is opened again with what is found in it, and is honest from then on, is what a power cut since t leaves.
+pub fn opened_again_is_left_by_cut()
+    ensures { (t : ℕ) (file again : FileDisk) → (⟦<FileDisk as Disk>⟧.state file).honest
+        → IsLeftSince t file → (⟦<FileDisk as Disk>⟧.state again).honest
+        → IsOpened (⟦<FileDisk as Disk>⟧.state again)
+        → (⟦<FileDisk as Disk>⟧.state again).bytes ≡ found_in file
+        → IsLeftByCut t (⟦<FileDisk as Disk>⟧.state file) (⟦<FileDisk as Disk>⟧.state again) }
+{}
