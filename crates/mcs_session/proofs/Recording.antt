@@ -3,7 +3,7 @@ use Rattle.std.proofs.Common.{◌≡◌, ◌⊎◌, ◌+◌, inl, inr, ⊎_elim,
 use Rattle.mcs_disk.specs.Disk.{DiskState, IsLawful}
 use Rattle.mcs_disk.specs.Moments.{LeavesOnly, IsDurable, Either, Rests}
 use Rattle.mcs_journal.specs.Answers.{Creates, Opens, RefusesOpen}
-use Rattle.mcs_journal.specs.File.{HoldsPair, framed, spelled}
+use Rattle.mcs_journal.specs.File.{Holds, framed, spelled}
 use Rattle.mcs_journal.specs.declared.fault.OpenFault.{OpenFault}
 use Rattle.mcs_journal.specs.declared.fault.OpenFault.TheVariants.{NotASession, Damaged, Device, NoMemory}
 use Rattle.mcs_journal.proofs.Logs.{length-framed, spelled-push}
@@ -13,9 +13,11 @@ use Rattle.mcs_model.specs.Flat.{Flat, new_flat}
 use Rattle.mcs_model.specs.Command.{refusal, after}
 use Rattle.mcs_session.specs.Codec.{Spells, new_text}
 use Rattle.mcs_session.specs.Stands.{PairStandsFor, StandsFor, IsAt}
-use Rattle.mcs_session.specs.Standing.{Acknowledges}
-use Rattle.mcs_session.specs.SessionView.{CreatesSession, HasUsed, IsRecorded, OpensSession, RefusesSession}
-use Rattle.mcs_session.proofs.Replaying.{replays-more}
+use Rattle.mcs_session.specs.Answers.{Acknowledges}
+use Rattle.mcs_session.specs.Answers.{CreatesSession, OpensSession, RefusesSession}
+use Rattle.mcs_session.specs.Invariant.{IsRecorded}
+use Rattle.mcs_session.specs.Log.{HasUsed}
+use Rattle.mcs_session.proofs.Replaying.{replays-more, same_pair_state}
 use Rattle.mcs_session.proofs.Folds.{fold-append}
 
 pub pair_more : (snap r : List ℕ) (records : List (List ℕ)) (s : Flat) (c : Command) → PairStandsFor snap records s → Spells r c → refusal s c ≡ None → PairStandsFor snap (records ++ r ∷ []) (after s c)
@@ -27,7 +29,7 @@ pair_more snap r records s c p spells accepted = record {
   state = ap (λ (t : Flat). after t c) p.state ∙ sym (fold-append p.start p.commands (c ∷ []));
 }
 
-pub stands_by : (snap : List ℕ) (records : List (List ℕ)) (s : Flat) → PairStandsFor snap records s → (c : List ℕ) → HoldsPair c snap records → StandsFor c s
+pub stands_by : (snap : List ℕ) (records : List (List ℕ)) (s : Flat) → PairStandsFor snap records s → (c : List ℕ) → Holds c snap records → StandsFor c s
 stands_by snap records s p c held = record { snap = snap; records = records; holds = held; pair = p }
 
 pub at_of : (disk : DiskState) (s : Flat) → IsDurable disk → StandsFor disk.bytes s → IsAt disk s
@@ -35,7 +37,7 @@ at_of disk s durable stands image now = subst (λ (f : List ℕ). StandsFor f s)
 
 -- the moments of an append, by what the files stand for
 pub recorded : (old new : DiskState) (snap r : List ℕ) (records : List (List ℕ)) (s : Flat) (c : Command) → PairStandsFor snap records s → Spells r c → refusal s c ≡ None
-    → LeavesOnly old new (λ f. HoldsPair f snap records ⊎ HoldsPair f snap (records ++ r ∷ []))
+    → LeavesOnly old new (λ f. Holds f snap records ⊎ Holds f snap (records ++ r ∷ []))
     → LeavesOnly old new (Either (λ f. StandsFor f s) (λ f. StandsFor f (after s c)))
 recorded old new snap r records s c p spells accepted moments = record {
   later = moments.later;
@@ -45,8 +47,8 @@ recorded old new snap r records s c p spells accepted moments = record {
 }
 
 pub acknowledged : (old new : DiskState) (snap r : List ℕ) (records : List (List ℕ)) (s : Flat) (c : Command) → PairStandsFor snap records s → Spells r c → refusal s c ≡ None
-    → LeavesOnly old new (λ f. HoldsPair f snap records ⊎ HoldsPair f snap (records ++ r ∷ []))
-    → new.clock ≡ old.clock + 4 → IsDurable new → HoldsPair new.bytes snap (records ++ r ∷ []) → Acknowledges old new s (after s c)
+    → LeavesOnly old new (λ f. Holds f snap records ⊎ Holds f snap (records ++ r ∷ []))
+    → new.clock ≡ old.clock + 4 → IsDurable new → Holds new.bytes snap (records ++ r ∷ []) → Acknowledges old new s (after s c)
 acknowledged old new snap r records s c p spells accepted moments ticks durable held = record {
   moments = recorded old new snap r records s c p spells accepted moments;
   ticks = ticks;
@@ -54,7 +56,7 @@ acknowledged old new snap r records s c p spells accepted moments ticks durable 
 }
 
 -- the file of a new session
-pub stands_new : (file snap : List ℕ) → snap ≡ new_text → HoldsPair file snap [] → StandsFor file new_flat
+pub stands_new : (file snap : List ℕ) → snap ≡ new_text → Holds file snap [] → StandsFor file new_flat
 stands_new file snap is held = record {
   snap = snap;
   records = [];
@@ -64,7 +66,7 @@ stands_new file snap is held = record {
 
 -- ---- how many bytes the records take
 
-pub used_of : (file snap : List ℕ) (records : List (List ℕ)) (used : ℕ) → HoldsPair file snap records → used ≡ length (spelled records) → HasUsed file used
+pub used_of : (file snap : List ℕ) (records : List (List ℕ)) (used : ℕ) → Holds file snap records → used ≡ length (spelled records) → HasUsed file used
 used_of file snap records used held is = λ other others too. is ∙ ap (λ (rs : List (List ℕ)). length (spelled rs)) (same_pair _ _ _ _ _ held too)
 
 pub length-spelled-more : (records : List (List ℕ)) (r : List ℕ) → length (spelled (records ++ r ∷ [])) ≡ length (spelled records) + 3 + length r
@@ -73,7 +75,7 @@ length-spelled-more records r = ap length (spelled-push records r) ∙ length-ap
 
 -- what an append leaves of an open session
 pub recorded_more : (old new : DiskState) (used more : ℕ) (s t : Flat) (c : Command) (r : List ℕ) (was : IsRecorded old used s) → Spells r c → refusal s c ≡ None → t ≡ after s c → more ≡ used + 3 + length r
-    → IsDurable new → HoldsPair new.bytes was.stands.snap (was.stands.records ++ r ∷ []) → IsRecorded new more t
+    → IsDurable new → Holds new.bytes was.stands.snap (was.stands.records ++ r ∷ []) → IsRecorded new more t
 recorded_more old new used more s t c r was spells accepted same grown durable held = record {
   durable = durable;
   stands = subst (λ (u : Flat). StandsFor new.bytes u) (sym same) (stands_by was.stands.snap (was.stands.records ++ r ∷ []) (after s c) (pair_more was.stands.snap r was.stands.records s c was.stands.pair spells accepted) new.bytes held);
@@ -82,7 +84,13 @@ recorded_more old new used more s t c r was spells accepted same grown durable h
 }
 
 pub created : (old new : DiskState) (snap : List ℕ) → snap ≡ new_text → Creates old new snap → CreatesSession old new
-created old new snap is made = record { blank = made.blank; stands = stands_new new.bytes snap is made.holds; at = at_of new new_flat made.durable (stands_new new.bytes snap is made.holds) }
+created old new snap is made = record {
+  blank = made.blank;
+  stands = stands_new new.bytes snap is made.holds;
+  at = at_of new new_flat made.durable (stands_new new.bytes snap is made.holds);
+  ticks = made.ticks;
+  moments = made.moments;
+}
 
 pub recorded_new : (old new : DiskState) (snap : List ℕ) (used : ℕ) (s : Flat) → snap ≡ new_text → used ≡ 0 → s ≡ new_flat → Creates old new snap → IsRecorded new used s
 recorded_new old new snap used s is none same made = record {
@@ -93,21 +101,25 @@ recorded_new old new snap used s is none same made = record {
 
 pub recorded_opened : (old new : DiskState) (snap : List ℕ) (records : List (List ℕ)) (used : ℕ) (s : Flat) → Opens old new snap records → used ≡ length (spelled records) → PairStandsFor snap records s → IsRecorded new used s
 recorded_opened old new snap records used s opened long pair =
-    let held : HoldsPair new.bytes snap records = subst (λ (f : List ℕ). HoldsPair f snap records) (sym opened.rests.bytes) opened.holds in
+    let held : Holds new.bytes snap records = subst (λ (f : List ℕ). Holds f snap records) (sym opened.rests.bytes) opened.holds in
     record { durable = opened.durable; stands = stands_by snap records s pair new.bytes held; log = used_of new.bytes snap records used held long }
 
 pub opened_session : (old new : DiskState) (snap : List ℕ) (records : List (List ℕ)) (s : Flat) → Opens old new snap records → PairStandsFor snap records s → OpensSession old new s
 opened_session old new snap records s opened pair =
-    let held : HoldsPair new.bytes snap records = subst (λ (f : List ℕ). HoldsPair f snap records) (sym opened.rests.bytes) opened.holds in
+    let held : Holds new.bytes snap records = subst (λ (f : List ℕ). Holds f snap records) (sym opened.rests.bytes) opened.holds in
     record { stands = stands_by snap records s pair old.bytes opened.holds; rests = opened.rests; at = at_of new s opened.durable (stands_by snap records s pair new.bytes held) }
 
 -- ---- what `open` refuses
 
 -- a file stands for what its one pair stands for
-pub pair_of : (file snap : List ℕ) (records : List (List ℕ)) (s : Flat) → HoldsPair file snap records → StandsFor file s → PairStandsFor snap records s
+pub pair_of : (file snap : List ℕ) (records : List (List ℕ)) (s : Flat) → Holds file snap records → StandsFor file s → PairStandsFor snap records s
 pair_of file snap records s held stands =
     subst (λ (x : List (List ℕ)). PairStandsFor snap x s) (same_pair _ _ _ _ _ stands.holds held)
     (subst (λ (x : List ℕ). PairStandsFor x stands.records s) (same_snap _ _ _ _ _ stands.holds held) stands.pair)
+
+-- a file stands for at most one state
+pub one_state : (file : List ℕ) (s t : Flat) → StandsFor file s → StandsFor file t → s ≡ t
+one_state file s t a b = same_pair_state a.snap a.records s t a.pair (pair_of file a.snap a.records t a.holds b)
 
 -- no state behind the pair that was opened
 pub refuses_pair : (old new : DiskState) (snap : List ℕ) (records : List (List ℕ)) → IsLawful old → Opens old new snap records → ((s : Flat) → PairStandsFor snap records s → ⊥) → RefusesSession Damaged old × Rests old new

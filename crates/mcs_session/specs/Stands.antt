@@ -1,7 +1,7 @@
 -- What a session file stands for.
 use Rattle.std.specs.Prelude.{◌≡◌, ℕ, List, [], ◌∷◌, None}
 use Rattle.mcs_disk.specs.Disk.{DiskState}
-use Rattle.mcs_journal.specs.File.{HoldsPair}
+use Rattle.mcs_journal.specs.File.{Holds}
 use Rattle.mcs_model.specs.declared.command.Command.{Command}
 use Rattle.mcs_model.specs.Flat.{Flat}
 use Rattle.mcs_model.specs.Command.{refusal, after}
@@ -27,7 +27,7 @@ pub record PairStandsFor (snap : List ℕ) (records : List (List ℕ)) (s : Flat
 pub record StandsFor (file : List ℕ) (s : Flat) : Type 0 where
   pub snap : List ℕ
   pub records : List (List ℕ)
-  pub holds : HoldsPair file snap records
+  pub holds : Holds file snap records
   pub pair : PairStandsFor snap records s
 
 -- whatever a crash now leaves stands for this state

@@ -2,18 +2,17 @@
 ghost use Rattle.std.specs.Prelude.{◌≡◌, ◌≢◌, ◌⊎◌, ◌↔◌, length, take, IsTrue, IsErrAnd, IfOk, IfErr, IfSome, IfNone};
 ghost use Rattle.mcs_disk.specs.Moments.{Counts, Rests};
 ghost use Rattle.mcs_journal.specs.Answers.{RefusesCreate};
-ghost use Rattle.mcs_journal.specs.File.{file_size, most_record};
 ghost use Rattle.mcs_session.specs.Codec.{Spells, command_text, new_text};
 ghost use Rattle.mcs_model.specs.Flat.{Flat, new_flat};
 ghost use Rattle.mcs_session.specs.Stands.{PairStandsFor, StandsFor, IsAt};
-ghost use Rattle.mcs_session.specs.Standing.{Applied, Closes, Open, Recorded, is_open_log};
-ghost use Rattle.mcs_session.specs.SessionView.{CreatesSession, IsLogOf, OpensSession, RefusesSession};
+ghost use Rattle.mcs_session.specs.Answers.{Applied, Closes, CreatesSession, OpensSession, Recorded, RefusesSession};
+ghost use Rattle.mcs_session.specs.Log.{IsLogOf, Open, is_open_log};
 
 use crate::bench::Bench;
 use crate::codec::{COMMAND_BYTES, STATE_BYTES, bench_of, command_bytes, command_of, state_bytes};
 use crate::fault::SessionFault;
 use mcs_disk::{Disk, DiskFault};
-use mcs_journal::{CreateFault, OpenFault, Opened, Records, Store};
+use mcs_journal::{CreateFault, FILE_SIZE, MOST_RECORD, OpenFault, Opened, Records, Store};
 use mcs_model::command::{Command, Reply};
 use std::alloc::{AllocError, Global};
 use std::marker::Model;
@@ -30,8 +29,9 @@ pub struct Session<D: Disk + Drop> {
 }
 
 impl<D: Disk + Drop> Model for Session<D> {
-    ghost use Rattle.mcs_session.specs.SessionView.{SessionView, IsSession};
-    ghost use Rattle.mcs_session.specs.Standing.{log_of};
+    ghost use Rattle.mcs_session.specs.Invariant.{IsSession};
+    ghost use Rattle.mcs_session.specs.Standing.{SessionView};
+    ghost use Rattle.mcs_session.specs.Log.{log_of};
 
     ghost Value = { SessionView D };
 
@@ -79,8 +79,8 @@ fn new_snapshot(alloc: Global) -> Result<Vec<u8>, AllocError>
 
 /// Spells a command at the front of the buffer of a session, and answers how many bytes it took.
 fn spell(buffer: &mut Vec<u8>, command: &Command) -> usize
-    requires { length buffer.old.items ≡ most_record }
-    ensures lent { length buffer.new.items ≡ most_record }
+    requires { length buffer.old.items ≡ MOST_RECORD }
+    ensures lent { length buffer.new.items ≡ MOST_RECORD }
     ensures spells { Spells (take result buffer.new.items) command.now }
     ensures count { result ≡ length (command_text command.now) }
 {
@@ -99,7 +99,7 @@ impl<D: Disk + Drop> Session<D> {
         ensures counts { IfOk result (λ s. Counts (D.state disk) (D.state s.disk) ⊥) }
         ensures refusal_counts { IfErr result (λ refused. Counts (D.state disk) (D.state refused.1) (refused.0 ≡ CreateFault.Device)) }
         ensures no_memory { IfErr result (λ refused. refused.0 ≡ CreateFault.NoMemory → refused.1 ≡ disk) }
-        ensures wrong_size { (D.state disk).size ≢ file_size
+        ensures wrong_size { (D.state disk).size ≢ FILE_SIZE
             → IsErrAnd result (λ refused. ((refused.0 ≡ CreateFault.NotBlank) ⊎ (refused.0 ≡ CreateFault.NoMemory)) × (refused.1 ≡ disk)) }
 
         // on an honest disk
@@ -131,7 +131,7 @@ impl<D: Disk + Drop> Session<D> {
         ensures open { IfOk result (λ s. IsTrue (is_open_log s.log)) }
         ensures counts { IfOk result (λ s. Counts (D.state disk) (D.state s.disk) ⊥) }
         ensures refusal_counts { IfErr result (λ refused. Counts (D.state disk) (D.state refused.1) (refused.0 ≡ OpenFault.Device)) }
-        ensures wrong_size { (D.state disk).size ≢ file_size
+        ensures wrong_size { (D.state disk).size ≢ FILE_SIZE
             → IsErrAnd result (λ refused. ((refused.0 ≡ OpenFault.NotASession) ⊎ (refused.0 ≡ OpenFault.NoMemory)) × (refused.1 ≡ disk)) }
 
         // on an honest disk
@@ -186,6 +186,7 @@ impl<D: Disk + Drop> Session<D> {
         ensures closes { Closes self.old.log (D.state self.old.disk).faults command.now result self.new.log (D.state self.new.disk).faults }
         ensures size { (D.state self.new.disk).size ≡ (D.state self.old.disk).size }
         ensures honest { (D.state self.new.disk).honest ↔ (D.state self.old.disk).honest }
+        ensures untouched { IfErr result (λ fault. fault ≢ SessionFault.Device → self.new.disk ≡ self.old.disk) }
         ensures records { (D.state self.old.disk).honest → Recorded result (D.state self.old.disk) (D.state self.new.disk) self.old.state command.now }
     {
         if !self.store.is_open() {
