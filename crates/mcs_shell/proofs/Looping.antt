@@ -15,7 +15,7 @@ use Rattle.mcs_shell.specs.Stage.{Stage}
 use Rattle.mcs_shell.specs.Transcript.{Went, all_commands, session_text, transcript}
 use Rattle.mcs_session.specs.Kept.{Carries, IsHonest, IsSettled}
 use Rattle.mcs_shell.specs.Serving.{CutShort, Failed, LastBy, LastStep, Stopped, StoppedAt, WentFurther, WentOn}
-use Rattle.mcs_shell.specs.Shell.{Began, EndsBy, LoopRan, RanGiven, ReadSome, ServedAll, ServedSome, Untouched, end_by, input_limit}
+use Rattle.mcs_shell.specs.Shell.{Began, EndsBy, InputEnded, LoopRan, RanGiven, ReadSome, ServedAll, ServedSome, Untouched, WasRead, end_by, input_limit}
 use Rattle.mcs_shell.specs.Finishing.{FinishedBy}
 use Rattle.mcs_shell.proofs.Cutting.{nil_right}
 use Rattle.mcs_shell.proofs.GrowingBytes.{appends_more, appends_nothing, consumes_kept, consumes_more, consumes_nothing}
@@ -186,29 +186,42 @@ last_read : (r r' r'' : Option (List ℕ)) (most : ℕ) (bytes chunk : List ℕ)
 last_read r r' r'' most bytes chunk a b = let P : List ℕ → Type 0 = λ y. Consumes r r'' y in
     subst P (ap (λ y. bytes ++ y) (no_bytes chunk b.count) ∙ nil_right bytes) (consumes_more r r' r'' bytes chunk a b.consumed)
 
+input_ended : (r r' : Option (List ℕ)) (bytes chunk : List ℕ) (total most : ℕ) → length bytes ≡ total → total < input_limit → ReadSome 0 most r r' chunk → InputEnded bytes r'
+input_ended r r' bytes chunk total most count small y = record { below_limit = subst (λ (n : ℕ). n < input_limit) (sym count) small; at_end = y.at_end refl }
+
+was_read_whole : (bytes : List ℕ) (left : Option (List ℕ)) → InputEnded bytes left → WasRead true bytes left
+was_read_whole bytes left h = record { within_limit = omega (arith, h.below_limit); ended = λ e. h }
+
+was_read_in_part : (bytes : List ℕ) (left : Option (List ℕ)) → length bytes ≤ input_limit → WasRead false bytes left
+was_read_in_part bytes left h = record { within_limit = h; ended = λ e. absurd (cc e) }
+
 pub ran_finish : (end : ShellEnd) (r r' r'' : Option (List ℕ)) (a b c : Stage) (line chunk : List ℕ) (total most : ℕ)
     → SoFar r r' a b line total → total < input_limit → ReadSome 0 most r' r'' chunk → FinishedBy end line b c → LoopRan IsSettled end r r'' a c
 ran_finish End r r' r'' a b c line chunk total most x small y z = record {
   bytes = x.bytes;
   consumed = last_read r r' r'' most x.bytes chunk x.consumed y;
-  ends = (subst (λ (v : ℕ). v < input_limit) (sym x.count) small, y.at_end refl, then_all true a b c line x.bytes x.went z);
+  ends = (input_ended r' r'' x.bytes chunk total most x.count small y, then_all true a b c line x.bytes x.went z);
 }
 ran_finish WriteFault r r' r'' a b c line chunk total most x small y z = record {
-  bytes = x.bytes ++ [];
-  consumed = let P : List ℕ → Type 0 = λ v. Consumes r r'' v in subst P (sym (nil_right x.bytes)) (last_read r r' r'' most x.bytes chunk x.consumed y);
+  bytes = x.bytes;
+  consumed = last_read r r' r'' most x.bytes chunk x.consumed y;
   ends = (
     true,
-    let e : length (x.bytes ++ []) ≤ input_limit = rw (nil_right x.bytes) (omega (arith, x.count, small)) in e,
-    then_some CutShort cut_after true a b c line x.bytes [] x.went (rw (nil_right line) z),
+    was_read_whole x.bytes r'' (input_ended r' r'' x.bytes chunk total most x.count small y),
+    let P : List ℕ → Type 0 = λ v. ServedSome IsSettled CutShort true v a c in
+    let Q : List ℕ → Type 0 = λ v. ServedSome IsSettled CutShort true v b c in
+    subst P (nil_right x.bytes) (then_some CutShort cut_after true a b c line x.bytes [] x.went (subst Q (sym (nil_right line)) z)),
   );
 }
 ran_finish DeviceFault r r' r'' a b c line chunk total most x small y z = record {
-  bytes = x.bytes ++ [];
-  consumed = let P : List ℕ → Type 0 = λ v. Consumes r r'' v in subst P (sym (nil_right x.bytes)) (last_read r r' r'' most x.bytes chunk x.consumed y);
+  bytes = x.bytes;
+  consumed = last_read r r' r'' most x.bytes chunk x.consumed y;
   ends = (
     true,
-    let e : length (x.bytes ++ []) ≤ input_limit = rw (nil_right x.bytes) (omega (arith, x.count, small)) in e,
-    then_some Failed failed_after true a b c line x.bytes [] x.went (rw (nil_right line) z),
+    was_read_whole x.bytes r'' (input_ended r' r'' x.bytes chunk total most x.count small y),
+    let P : List ℕ → Type 0 = λ v. ServedSome IsSettled Failed true v a c in
+    let Q : List ℕ → Type 0 = λ v. ServedSome IsSettled Failed true v b c in
+    subst P (nil_right x.bytes) (then_some Failed failed_after true a b c line x.bytes [] x.went (subst Q (sym (nil_right line)) z)),
   );
 }
 ran_finish ReadFault r r' r'' a b c line chunk total most x small y z = absurd z
@@ -222,7 +235,7 @@ ran_stop Write r r' r'' a b c line chunk total n most x small y z = record {
   consumed = consumes_more r r' r'' x.bytes chunk x.consumed y.consumed;
   ends = (
     false,
-    let e : length (x.bytes ++ chunk) ≤ input_limit = rw (length-append x.bytes chunk) (omega (arith, x.count, y.count, y.within, small)) in e,
+    was_read_in_part (x.bytes ++ chunk) r'' (let e : length (x.bytes ++ chunk) ≤ input_limit = rw (length-append x.bytes chunk) (omega (arith, x.count, y.count, y.within, small)) in e),
     then_some CutShort cut_after false a b c line x.bytes chunk x.went (some_of_stopped CutShort cut_after b c line chunk z),
   );
 }
@@ -231,7 +244,7 @@ ran_stop Fault r r' r'' a b c line chunk total n most x small y z = record {
   consumed = consumes_more r r' r'' x.bytes chunk x.consumed y.consumed;
   ends = (
     false,
-    let e : length (x.bytes ++ chunk) ≤ input_limit = rw (length-append x.bytes chunk) (omega (arith, x.count, y.count, y.within, small)) in e,
+    was_read_in_part (x.bytes ++ chunk) r'' (let e : length (x.bytes ++ chunk) ≤ input_limit = rw (length-append x.bytes chunk) (omega (arith, x.count, y.count, y.within, small)) in e),
     then_some Failed failed_after false a b c line x.bytes chunk x.went (some_of_stopped Failed failed_after b c line chunk z),
   );
 }
@@ -283,7 +296,7 @@ module _ (Last : LastStep) (under : MovesUnder Last) where
       }
 
 ends_under : (end : ShellEnd) (bytes : List ℕ) (left : Option (List ℕ)) (a b : Stage) → (IsHonest a.session → IsSettled a.session) → EndsBy IsSettled end bytes left a b → EndsBy IsHonest end bytes left a b
-ends_under End bytes left a b settle x = (x.0, x.1, all_under true bytes a b settle x.2)
+ends_under End bytes left a b settle x = (x.0, all_under true bytes a b settle x.1)
 ends_under ReadFault bytes left a b settle x = (x.0, all_under false bytes a b settle x.1)
 ends_under InputLimit bytes left a b settle x = (x.0, all_under false bytes a b settle x.1)
 ends_under WriteFault bytes left a b settle x = (x.0, x.1, some_under CutShort cut_under (x.0) bytes a b settle x.2)

@@ -35,13 +35,23 @@ pub record ServedSome (Given : SessionState → Type 0) (Last : LastStep) (whole
   pub written : Appends a.out middle (transcript a.session.standing.state served)
   pub ended : Last Given a.session (all_commands a.session.standing.state served) (on a.session.standing (all_commands a.session.standing.state served)) last middle b
 
+-- input ended behind these bytes: the reader has nothing left, and more would have been read
+pub record InputEnded (bytes : List ℕ) (left : Option (List ℕ)) : Type 0 where
+  pub below_limit : length bytes < input_limit
+  pub at_end : IsAtEnd left
+
+-- the bytes that were read are no more than the limit, and whole only where input ended behind them
+pub record WasRead (whole : Bool) (bytes : List ℕ) (left : Option (List ℕ)) : Type 0 where
+  pub within_limit : length bytes ≤ input_limit
+  pub ended : whole ≡ true → InputEnded bytes left
+
 -- what was done after the first line of the transcript, by the end and the bytes read; `left` is what the reader has left
 abbrev pub EndsBy : (SessionState → Type 0) → ShellEnd → List ℕ → Option (List ℕ) → Stage → Stage → Type 0
-EndsBy Given End bytes left a b = (length bytes < input_limit) × IsAtEnd left × ServedAll Given true bytes a b
+EndsBy Given End bytes left a b = InputEnded bytes left × ServedAll Given true bytes a b
 EndsBy Given ReadFault bytes left a b = (length bytes < input_limit) × ServedAll Given false bytes a b
 EndsBy Given InputLimit bytes left a b = (length bytes ≡ input_limit) × ServedAll Given false bytes a b
-EndsBy Given WriteFault bytes left a b = (whole : Bool) × (length bytes ≤ input_limit) × ServedSome Given CutShort whole bytes a b
-EndsBy Given DeviceFault bytes left a b = (whole : Bool) × (length bytes ≤ input_limit) × ServedSome Given Failed whole bytes a b
+EndsBy Given WriteFault bytes left a b = (whole : Bool) × WasRead whole bytes left × ServedSome Given CutShort whole bytes a b
+EndsBy Given DeviceFault bytes left a b = (whole : Bool) × WasRead whole bytes left × ServedSome Given Failed whole bytes a b
 EndsBy Given NoMemory bytes left a b = ⊥
 
 pub record LoopRan (Given : SessionState → Type 0) (end : ShellEnd) (reader reader' : Option (List ℕ)) (a b : Stage) : Type 0 where
