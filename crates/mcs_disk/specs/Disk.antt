@@ -13,9 +13,9 @@ pub record DiskState : Type 1 where
   pub bytes : List ℕ
   -- how many calls have answered Ok
   pub clock : ℕ
-  -- what a crash at this moment may leave: after it the current bytes are one of these, and the only one
+  -- what a power cut at this moment may leave; PowerCut says which disk is found after it
   pub images : List ℕ → Type 0
-  -- what a crash at some moment since that time may have left, during a call or between two
+  -- what a power cut at some moment since that time may have left, during a call or between two
   pub since : ℕ → List ℕ → Type 0
 
 -- n bytes from this offset on

@@ -2,3 +2,4 @@ pub mod Disk
 pub mod Fuse
 pub mod Memory
 pub mod Moments
+pub mod PowerCut

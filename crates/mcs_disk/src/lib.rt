@@ -6,8 +6,13 @@
 
 mod disk;
 mod fuse;
+mod laws;
 mod memory;
 
 pub use disk::{Disk, DiskFault};
 pub use fuse::FuseDisk;
+pub use laws::{
+    cut_is_before_a_stretch_or_since_its_start, cut_is_since_an_earlier_time,
+    cut_leaves_what_is_durable, cut_of_what_a_cut_left,
+};
 pub use memory::MemDisk;

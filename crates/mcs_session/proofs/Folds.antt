@@ -4,7 +4,8 @@ use Rattle.mcs_model.specs.declared.command.Command.{Command}
 use Rattle.mcs_model.specs.Flat.{Flat}
 use Rattle.mcs_model.specs.Command.{after}
 use Rattle.mcs_model.specs.Fold.{fold}
-use Rattle.mcs_session.specs.Standing.{Log, Standing, logged, on, with_record}
+use Rattle.mcs_session.specs.Log.{Log, logged, with_record}
+use Rattle.mcs_session.specs.Standing.{Standing, standing_after}
 
 pub fold-append : (s : Flat) (cs ds : List Command) → fold s (cs ++ ds) ≡ fold (fold s cs) ds
 fold-append s [] ds = refl
@@ -14,8 +15,8 @@ pub logged-append : (log : Log) (cs ds : List Command) → logged log (cs ++ ds)
 logged-append log [] ds = refl
 logged-append log (c ∷ cs) ds = logged-append (with_record log c) cs ds
 
-pub on-append : (m : Standing) (cs ds : List Command) → on m (cs ++ ds) ≡ on (on m cs) ds
-on-append m cs ds = λ k. record { log = logged-append m.log cs ds k; state = fold-append m.state cs ds k }
+pub standing_after-append : (m : Standing) (cs ds : List Command) → standing_after m (cs ++ ds) ≡ standing_after (standing_after m cs) ds
+standing_after-append m cs ds = λ k. record { log = logged-append m.log cs ds k; state = fold-append m.state cs ds k }
 
-pub on-further : (m n : Standing) (cs ds : List Command) → n ≡ on m cs → on n ds ≡ on m (cs ++ ds)
-on-further m n cs ds e = ap (λ (v : Standing). on v ds) e ∙ sym (on-append m cs ds)
+pub standing_after-further : (m n : Standing) (cs ds : List Command) → n ≡ standing_after m cs → standing_after n ds ≡ standing_after m (cs ++ ds)
+standing_after-further m n cs ds e = ap (λ (v : Standing). standing_after v ds) e ∙ sym (standing_after-append m cs ds)

@@ -13,9 +13,11 @@ use Rattle.mcs_model.specs.Flat.{Flat, new_flat}
 use Rattle.mcs_model.specs.Command.{refusal, after}
 use Rattle.mcs_session.specs.Codec.{Spells, new_text}
 use Rattle.mcs_session.specs.Stands.{PairStandsFor, StandsFor, IsAt}
-use Rattle.mcs_session.specs.Standing.{Acknowledges}
-use Rattle.mcs_session.specs.SessionView.{CreatesSession, HasUsed, IsRecorded, OpensSession, RefusesSession}
-use Rattle.mcs_session.proofs.Replaying.{replays-more}
+use Rattle.mcs_session.specs.Answers.{Acknowledges}
+use Rattle.mcs_session.specs.Answers.{CreatesSession, OpensSession, RefusesSession}
+use Rattle.mcs_session.specs.Invariant.{IsRecorded}
+use Rattle.mcs_session.specs.Log.{HasUsed}
+use Rattle.mcs_session.proofs.Replaying.{replays-more, same_pair_state}
 use Rattle.mcs_session.proofs.Folds.{fold-append}
 
 pub pair_more : (snap r : List ℕ) (records : List (List ℕ)) (s : Flat) (c : Command) → PairStandsFor snap records s → Spells r c → refusal s c ≡ None → PairStandsFor snap (records ++ r ∷ []) (after s c)
@@ -82,7 +84,13 @@ recorded_more old new used more s t c r was spells accepted same grown durable h
 }
 
 pub created : (old new : DiskState) (snap : List ℕ) → snap ≡ new_text → Creates old new snap → CreatesSession old new
-created old new snap is made = record { blank = made.blank; stands = stands_new new.bytes snap is made.holds; at = at_of new new_flat made.durable (stands_new new.bytes snap is made.holds) }
+created old new snap is made = record {
+  blank = made.blank;
+  stands = stands_new new.bytes snap is made.holds;
+  at = at_of new new_flat made.durable (stands_new new.bytes snap is made.holds);
+  ticks = made.ticks;
+  moments = made.moments;
+}
 
 pub recorded_new : (old new : DiskState) (snap : List ℕ) (used : ℕ) (s : Flat) → snap ≡ new_text → used ≡ 0 → s ≡ new_flat → Creates old new snap → IsRecorded new used s
 recorded_new old new snap used s is none same made = record {
@@ -108,6 +116,10 @@ pub pair_of : (file snap : List ℕ) (records : List (List ℕ)) (s : Flat) → 
 pair_of file snap records s held stands =
     subst (λ (x : List (List ℕ)). PairStandsFor snap x s) (same_pair _ _ _ _ _ stands.holds held)
     (subst (λ (x : List ℕ). PairStandsFor x stands.records s) (same_snap _ _ _ _ _ stands.holds held) stands.pair)
+
+-- a file stands for at most one state
+pub one_state : (file : List ℕ) (s t : Flat) → StandsFor file s → StandsFor file t → s ≡ t
+one_state file s t a b = same_pair_state a.snap a.records s t a.pair (pair_of file a.snap a.records t a.holds b)
 
 -- no state behind the pair that was opened
 pub refuses_pair : (old new : DiskState) (snap : List ℕ) (records : List (List ℕ)) → IsLawful old → Opens old new snap records → ((s : Flat) → PairStandsFor snap records s → ⊥) → RefusesSession Damaged old × Rests old new

@@ -1,5 +1,7 @@
 pub mod Codec
 pub mod Stands
+pub mod Log
 pub mod Standing
-pub mod SessionView
+pub mod Answers
+pub mod Invariant
 pub mod Kept

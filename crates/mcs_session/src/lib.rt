@@ -4,4 +4,5 @@
 pub mod bench;
 pub mod codec;
 pub mod fault;
+pub mod laws;
 pub mod session;

@@ -6,8 +6,8 @@ ghost use Rattle.mcs_journal.specs.File.{file_size, most_record};
 ghost use Rattle.mcs_session.specs.Codec.{Spells, command_text, new_text};
 ghost use Rattle.mcs_model.specs.Flat.{Flat, new_flat};
 ghost use Rattle.mcs_session.specs.Stands.{PairStandsFor, StandsFor, IsAt};
-ghost use Rattle.mcs_session.specs.Standing.{Applied, Closes, Open, Recorded, is_open_log};
-ghost use Rattle.mcs_session.specs.SessionView.{CreatesSession, IsLogOf, OpensSession, RefusesSession};
+ghost use Rattle.mcs_session.specs.Answers.{Applied, Closes, CreatesSession, OpensSession, Recorded, RefusesSession};
+ghost use Rattle.mcs_session.specs.Log.{IsLogOf, Open, is_open_log};
 
 use crate::bench::Bench;
 use crate::codec::{COMMAND_BYTES, STATE_BYTES, bench_of, command_bytes, command_of, state_bytes};
@@ -30,8 +30,9 @@ pub struct Session<D: Disk + Drop> {
 }
 
 impl<D: Disk + Drop> Model for Session<D> {
-    ghost use Rattle.mcs_session.specs.SessionView.{SessionView, IsSession};
-    ghost use Rattle.mcs_session.specs.Standing.{log_of};
+    ghost use Rattle.mcs_session.specs.Invariant.{IsSession};
+    ghost use Rattle.mcs_session.specs.Standing.{SessionView};
+    ghost use Rattle.mcs_session.specs.Log.{log_of};
 
     ghost Value = { SessionView D };
 
@@ -186,6 +187,7 @@ impl<D: Disk + Drop> Session<D> {
         ensures closes { Closes self.old.log (D.state self.old.disk).faults command.now result self.new.log (D.state self.new.disk).faults }
         ensures size { (D.state self.new.disk).size ≡ (D.state self.old.disk).size }
         ensures honest { (D.state self.new.disk).honest ↔ (D.state self.old.disk).honest }
+        ensures untouched { IfErr result (λ fault. fault ≢ SessionFault.Device → self.new.disk ≡ self.old.disk) }
         ensures records { (D.state self.old.disk).honest → Recorded result (D.state self.old.disk) (D.state self.new.disk) self.old.state command.now }
     {
         if !self.store.is_open() {

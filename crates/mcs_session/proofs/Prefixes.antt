@@ -1,0 +1,134 @@
+-- Moments that follow one another, and states after a prefix of the commands.
+use Rattle.std.proofs.Common.{◌≡◌, ◌⊎◌, inl, inr, ◌+◌, ◌≤◌, ◌<◌, ℕ, Bool, true, false, cond, List, [], ◌∷◌, ◌++◌, length, nat_le, take, sym, ap, ◌∙◌, refl, arith, length-append, slice_get, Some, suc, zero}
+use Rattle.std.proofs.lemmas.Bool.{le-leb, lt-leb}
+use Rattle.std.proofs.lemmas.Grind.{common_steps}
+use Rattle.std.proofs.lemmas.List.Sums.{count_by-le-length, sum_by-append, sum_by-cons}
+use Rattle.std.proofs.Math.Seq.{take-append-add}
+use Rattle.mcs_model.specs.declared.command.Command.{Command}
+use Rattle.mcs_model.specs.Flat.{Flat}
+use Rattle.mcs_model.specs.Fold.{fold}
+use Rattle.mcs_session.specs.Kept.{IsAfterPrefix, IsSpaced, StandsForPrefix, acknowledged_by, last_moment}
+use Rattle.mcs_session.specs.Stands.{StandsFor}
+use Rattle.mcs_session.proofs.Folds.{fold-append}
+
+-- ---- moments
+
+pub spaced_le : (clock : ℕ) (ms : List ℕ) → IsSpaced clock ms → clock ≤ last_moment clock ms
+spaced_le clock [] h = omega arith
+spaced_le clock (m ∷ ms) h = let rest : m ≤ last_moment m ms = spaced_le m ms h.1 in
+    elim h.0 [ inl e ↦ omega (arith, e, rest) | inr e ↦ omega (arith, e, rest) ]
+
+pub spaced_append : (clock : ℕ) (ms ns : List ℕ) → IsSpaced clock ms → IsSpaced (last_moment clock ms) ns → IsSpaced clock (ms ++ ns)
+spaced_append clock [] ns h k = k
+spaced_append clock (m ∷ ms) ns h k = (h.0, spaced_append m ms ns h.1 k)
+
+pub last_append : (clock : ℕ) (ms ns : List ℕ) → last_moment clock (ms ++ ns) ≡ last_moment (last_moment clock ms) ns
+last_append clock [] ns = refl
+last_append clock (m ∷ ms) ns = last_append m ms ns
+
+abbrev one_by : ℕ → ℕ → ℕ
+one_by t m = cond (nat_le m t) 1 0
+
+one_by-later : (t m : ℕ) → t < m → one_by t m ≡ 0
+one_by-later t m h = ap (λ (b : Bool). cond b 1 0) (lt-leb m t h)
+
+one_by-past : (t m : ℕ) → m ≤ t → one_by t m ≡ 1
+one_by-past t m h = ap (λ (b : Bool). cond b 1 0) (le-leb m t h)
+
+acknowledged-cons : (t m : ℕ) (ms : List ℕ) → acknowledged_by t (m ∷ ms) ≡ one_by t m + acknowledged_by t ms
+acknowledged-cons t m ms = sum_by-cons (one_by t) m ms
+
+pub acknowledged-append : (t : ℕ) (ms ns : List ℕ) → acknowledged_by t (ms ++ ns) ≡ acknowledged_by t ms + acknowledged_by t ns
+acknowledged-append t ms ns = sum_by-append (one_by t) ms ns
+
+pub acknowledged_few : (t : ℕ) (ms : List ℕ) → acknowledged_by t ms ≤ length ms
+acknowledged_few t ms = count_by-le-length (λ m. nat_le m t) ms
+
+-- by a time before the first moment, none
+pub acknowledged_none : (t clock : ℕ) (ms : List ℕ) → t ≤ clock → IsSpaced clock ms → acknowledged_by t ms ≡ 0
+acknowledged_none t clock [] le h = refl
+acknowledged_none t clock (m ∷ ms) le h =
+    let later : t < m = elim h.0 [ inl e ↦ omega (arith, e, le) | inr e ↦ omega (arith, e, le) ] in
+    let first = one_by-later t m later in
+    let rest = acknowledged_none t m ms (omega (arith, later)) h.1 in
+    let whole = acknowledged-cons t m ms in omega (arith, first, rest, whole)
+
+pub acknowledged_before : (t m : ℕ) → t < m → acknowledged_by t (m ∷ []) ≡ 0
+acknowledged_before t m h = acknowledged-cons t m [] ∙ ap (λ (n : ℕ). n + 0) (one_by-later t m h)
+
+-- by the last moment, all
+pub acknowledged_all : (t clock : ℕ) (ms : List ℕ) → last_moment clock ms ≤ t → IsSpaced clock ms → acknowledged_by t ms ≡ length ms
+acknowledged_all t clock [] le h = refl
+acknowledged_all t clock (m ∷ ms) le h =
+    let behind = spaced_le m ms h.1 in
+    let first = one_by-past t m (omega (arith, le, behind)) in
+    let rest = acknowledged_all t m ms le h.1 in
+    let whole = acknowledged-cons t m ms in omega (arith, first, rest, whole)
+
+-- by the j-th moment, j at least
+pub acknowledged_at : (clock : ℕ) (ms : List ℕ) (j m : ℕ) → slice_get ms j ≡ Some m → IsSpaced clock ms → (clock ≤ m) × (j + 1 ≤ acknowledged_by m ms)
+acknowledged_at clock [] j m e h = absurd (cc e)
+acknowledged_at clock (n ∷ ms) zero m e h =
+    let same : n ≡ m = cc e in
+    let first = one_by-past m n (omega (arith, same)) in
+    let whole = acknowledged-cons m n ms in
+    (elim h.0 [ inl f ↦ omega (arith, f, same) | inr f ↦ omega (arith, f, same) ], omega (arith, first, whole))
+acknowledged_at clock (n ∷ ms) (suc j) m e h =
+    let rest = acknowledged_at n ms j m e h.1 in
+    let first = one_by-past m n rest.0 in
+    let whole = acknowledged-cons m n ms in
+    (elim h.0 [ inl f ↦ omega (arith, f, rest.0) | inr f ↦ omega (arith, f, rest.0) ], omega (arith, first, whole, rest.1))
+
+-- ---- prefixes
+
+take_front : (cs ds : List Command) (n : ℕ) → n ≤ length cs → take n (cs ++ ds) ≡ take n cs
+take_front cs ds n h = grind (arith, common_steps)
+
+take_past : (cs ds : List Command) (n : ℕ) → take (length cs + n) (cs ++ ds) ≡ cs ++ take n ds
+take_past cs ds n = take-append-add cs ds n
+
+take_all : (cs : List Command) (n : ℕ) → length cs ≤ n → take n cs ≡ cs
+take_all cs n h = grind (arith, common_steps)
+
+-- a prefix of the first commands
+after_more : (s : Flat) (cs ds : List Command) (j : ℕ) (t : Flat) → IsAfterPrefix s cs j t → IsAfterPrefix s (cs ++ ds) j t
+after_more s cs ds j t h = record {
+  count = h.count;
+  at_least = h.at_least;
+  at_most = omega (arith, h.at_most, length-append cs ds);
+  state = h.state ∙ ap (fold s) (sym (take_front cs ds h.count h.at_most));
+}
+
+-- a prefix of the later ones, after all of the first
+after_past : (s t : Flat) (cs ds : List Command) (i j : ℕ) (u : Flat) → t ≡ fold s cs → i ≤ length cs + j → IsAfterPrefix t ds j u → IsAfterPrefix s (cs ++ ds) i u
+after_past s t cs ds i j u e few h = record {
+  count = length cs + h.count;
+  at_least = omega (arith, few, h.at_least);
+  at_most = omega (arith, h.at_most, length-append cs ds);
+  state = h.state ∙ ap (λ (v : Flat). fold v (take h.count ds)) e ∙ sym (fold-append s cs (take h.count ds)) ∙ ap (fold s) (sym (take_past cs ds h.count));
+}
+
+after_fewer : (s : Flat) (cs : List Command) (i j : ℕ) (t : Flat) → i ≤ j → IsAfterPrefix s cs j t → IsAfterPrefix s cs i t
+after_fewer s cs i j t le h = record { count = h.count; at_least = omega (arith, le, h.at_least); at_most = h.at_most; state = h.state }
+
+pub prefix_more : (s : Flat) (cs ds : List Command) (j : ℕ) (file : List ℕ) → StandsForPrefix s cs j file → StandsForPrefix s (cs ++ ds) j file
+prefix_more s cs ds j file h = record { state = h.state; stands = h.stands; after = after_more s cs ds j h.state h.after }
+
+pub prefix_past : (s t : Flat) (cs ds : List Command) (i j : ℕ) (file : List ℕ) → t ≡ fold s cs → i ≤ length cs + j → StandsForPrefix t ds j file → StandsForPrefix s (cs ++ ds) i file
+prefix_past s t cs ds i j file e few h = record { state = h.state; stands = h.stands; after = after_past s t cs ds i j h.state e few h.after }
+
+pub prefix_fewer : (s : Flat) (cs : List Command) (i j : ℕ) (file : List ℕ) → i ≤ j → StandsForPrefix s cs j file → StandsForPrefix s cs i file
+prefix_fewer s cs i j file le h = record { state = h.state; stands = h.stands; after = after_fewer s cs i j h.state le h.after }
+
+-- a prefix that holds all
+pub prefix_all : (s : Flat) (cs : List Command) (j : ℕ) (file : List ℕ) → length cs ≤ j → StandsForPrefix s cs j file → StandsFor file (fold s cs)
+prefix_all s cs j file all h =
+    let same : h.state ≡ fold s cs = h.after.state ∙ ap (fold s) (take_all cs h.after.count (omega (arith, all, h.after.at_least))) in
+    rw (← same) h.stands
+
+-- the first command was not done yet, or was
+pub prefix_none : (s : Flat) (cs : List Command) (file : List ℕ) → StandsFor file s → StandsForPrefix s cs 0 file
+prefix_none s cs file h = record { state = s; stands = h; after = record { count = 0; at_least = omega arith; at_most = omega arith; state = refl } }
+
+pub prefix_one : (s t : Flat) (c : Command) (j : ℕ) (file : List ℕ) → t ≡ fold s (c ∷ []) → j ≤ 1 → StandsFor file t → StandsForPrefix s (c ∷ []) j file
+prefix_one s t c j file e le h = record { state = t; stands = h; after = record { count = 1; at_least = le; at_most = omega arith; state = e } }

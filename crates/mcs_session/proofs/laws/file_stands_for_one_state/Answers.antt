@@ -1,0 +1,5 @@
+use Rattle.mcs_session.proofs.Recording.{one_state}
+use Rattle.mcs_session.proofs.laws.file_stands_for_one_state.Goals as goal
+
+pub returns : goal.returns
+returns c = one_state

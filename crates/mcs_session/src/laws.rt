@@ -1,0 +1,54 @@
+//! Laws of session files and of what a disk keeps. The contract of each call is the law; the call does nothing.
+ghost use Rattle.std.specs.Prelude.{◌≡◌, ◌⊎◌, ◌+◌, ◌≤◌, ℕ, List, length, slice_get};
+ghost use Rattle.mcs_disk.specs.PowerCut.{IsLeftByCut};
+ghost use Rattle.mcs_journal.specs.declared.fault.OpenFault.{OpenFault};
+ghost use Rattle.mcs_model.specs.declared.command.Command.{Command};
+ghost use Rattle.mcs_model.specs.Flat.{Flat};
+ghost use Rattle.mcs_model.specs.Fold.{fold};
+ghost use Rattle.mcs_session.specs.Answers.{RefusesSession};
+ghost use Rattle.mcs_session.specs.Kept.{IsAfterPrefix, IsReopened, Kept, StandsForPrefix, acknowledged_by};
+ghost use Rattle.mcs_session.specs.Stands.{StandsFor};
+
+use mcs_disk::Disk;
+use mcs_journal::OpenFault;
+
+/// A file stands for at most one state.
+pub fn file_stands_for_one_state()
+    ensures { (file : List ℕ) (s t : Flat) → StandsFor file s → StandsFor file t → s ≡ t }
+{}
+
+/// Where a power cut, at some moment since a time of a run, leaves a disk that is then opened: the bench stands as after a
+/// prefix of the commands that may have reached the disk, and the prefix holds each one acknowledged by that time.
+pub fn reopened_bench_holds_what_was_acknowledged<D: Disk, E: Disk>()
+    ensures { (t : ℕ) (old new : D) (found opened : E) (s u : Flat) (done reached : List Command)
+        (kept : Kept (D.state old) (D.state new) s done reached) → (D.state old).clock ≤ t
+        → IsReopened t (D.state new) (E.state found) (E.state opened) u
+        → IsAfterPrefix s reached (acknowledged_by t kept.moments) u }
+{}
+
+/// What a power cut leaves of a run is opened, but for want of memory and a device fault.
+pub fn what_a_power_cut_left_is_opened<D: Disk, E: Disk>()
+    ensures { (t : ℕ) (old new : D) (found : E) (s : Flat) (done reached : List Command) (fault : OpenFault)
+        → Kept (D.state old) (D.state new) s done reached → (D.state old).clock ≤ t
+        → IsLeftByCut t (D.state new) (E.state found) → RefusesSession fault (E.state found)
+        → (fault ≡ OpenFault.Device) ⊎ (fault ≡ OpenFault.NoMemory) }
+{}
+
+/// What a stop since the acknowledgement of a command left holds that command and those before it.
+pub fn since_an_acknowledgement_its_commands_are_kept<D: Disk>()
+    ensures { (old new : D) (s : Flat) (done reached : List Command)
+        (kept : Kept (D.state old) (D.state new) s done reached) (j moment : ℕ) (image : List ℕ)
+        → slice_get kept.moments j ≡ Some moment → (D.state new).since moment image
+        → StandsForPrefix s reached (j + 1) image }
+{}
+
+/// What a stop at the end of a run leaves holds all that was acknowledged; where no call failed, it stands for the state
+/// after all commands.
+pub fn at_the_end_all_is_kept<D: Disk>()
+    ensures acknowledged { (old new : D) (s : Flat) (done reached : List Command) (image : List ℕ)
+        → Kept (D.state old) (D.state new) s done reached → (D.state new).images image
+        → StandsForPrefix s reached (length done) image }
+    ensures whole { (old new : D) (s : Flat) (commands : List Command) (image : List ℕ)
+        → Kept (D.state old) (D.state new) s commands commands → (D.state new).images image
+        → StandsFor image (fold s commands) }
+{}
