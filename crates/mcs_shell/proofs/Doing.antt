@@ -10,6 +10,8 @@ use Rattle.mcs_model.specs.declared.query.Query.{Query}
 use Rattle.mcs_model.specs.declared.refusals.BenchFault.{BenchFault}
 use Rattle.mcs_model.specs.Command.{refusal, after, reply}
 use Rattle.mcs_model.specs.Refusal.{number_of}
+use Rattle.mcs_model.specs.declared.limits.TheConstants.{LINE_BYTES}
+use Rattle.mcs_model.specs.declared.refusal_numbers.TheConstants.{CLOSED, DEVICE, FULL, LINE_TOO_LONG}
 use Rattle.mcs_model.specs.Flat.{Flat}
 use Rattle.mcs_session.specs.declared.fault.SessionFault.{SessionFault}
 use Rattle.mcs_session.specs.declared.fault.SessionFault.TheVariants as fault
@@ -18,11 +20,11 @@ use Rattle.mcs_shell.specs.declared.outcome.Outcome.TheVariants.{Plain, Full, De
 use Rattle.mcs_shell.specs.declared.requests.LineFault.{LineFault}
 use Rattle.mcs_shell.specs.declared.requests.Request.{Request}
 use Rattle.mcs_shell.specs.declared.requests.Request.TheVariants.{Refused, Ask, Change}
-use Rattle.mcs_shell.specs.Inputs.{Input, Blank, TooLong, Line, input_of, is_blank_byte, judged}
+use Rattle.mcs_shell.specs.Inputs.{Input, Blank, TooLong, Line, input_of, is_blank_byte, line_input}
 use Rattle.mcs_shell.specs.Requests.{request_of}
 use Rattle.mcs_session.specs.Standing.{Applied, Closes, Log, Open, Recorded, SessionState, Shut}
 use Rattle.mcs_shell.specs.Stage.{Stage}
-use Rattle.mcs_shell.specs.RefusalNumbers.{number_of_fault}
+use Rattle.mcs_shell.specs.RefusalNumbers.{session_fault_number}
 use Rattle.mcs_shell.specs.Transcript.{MayEnd, answer, change_text, commands, commands_of_request, if_accepted, no_text, ok_text, plain_text, unless_refused, reached, reached_by_request, request_text}
 use Rattle.mcs_session.specs.Kept.{IsSettled, Kept}
 use Rattle.mcs_shell.specs.Serving.{Answered, Changed, CutShort, Failed, Fares, GotSome, KeptBy, Leaves, RequestDone, WentOn}
@@ -71,7 +73,7 @@ ok_changed r (Open used) s d b c told h k =
       });
     }
 
-pub refused_changed : (f : BenchFault) (log : Log) (s : Flat) (d : DiskState) (b : SessionState) (c : Command) (told : List ℕ) → Tried log s d c (Err (fault.Refused f)) b → told ≡ no_text (number_of_fault (fault.Refused f)) → Changed (at log s d) c Plain told b
+pub refused_changed : (f : BenchFault) (log : Log) (s : Flat) (d : DiskState) (b : SessionState) (c : Command) (told : List ℕ) → Tried log s d c (Err (fault.Refused f)) b → told ≡ no_text (session_fault_number (fault.Refused f)) → Changed (at log s d) c Plain told b
 refused_changed f Shut s d b c told h k = absurd (h.applied)
 refused_changed f (Open used) s d b c told h k =
     let no : refusal s c ≡ Some f = h.applied.0 in
@@ -87,7 +89,7 @@ refused_changed f (Open used) s d b c told h k =
       });
     }
 
-pub full_changed : (log : Log) (s : Flat) (d : DiskState) (b : SessionState) (c : Command) (told : List ℕ) → Tried log s d c (Err fault.Full) b → told ≡ no_text 52 → Changed (at log s d) c Full told b
+pub full_changed : (log : Log) (s : Flat) (d : DiskState) (b : SessionState) (c : Command) (told : List ℕ) → Tried log s d c (Err fault.Full) b → told ≡ no_text FULL → Changed (at log s d) c Full told b
 full_changed Shut s d b c told h k = absurd (h.applied)
 full_changed (Open used) s d b c told h k = record {
   may = (h.applied.0, h.applied.1);
@@ -95,7 +97,7 @@ full_changed (Open used) s d b c told h k = record {
   leaves = record { state = h.applied.2; closes = h.closes; honest = h.honest; kept = λ given. stays_keeps d b.disk s (h.records given.honest.1) given.settled };
 }
 
-pub device_changed : (log : Log) (s : Flat) (d : DiskState) (b : SessionState) (c : Command) (told : List ℕ) → Tried log s d c (Err fault.Device) b → told ≡ no_text 53 → Changed (at log s d) c Device told b
+pub device_changed : (log : Log) (s : Flat) (d : DiskState) (b : SessionState) (c : Command) (told : List ℕ) → Tried log s d c (Err fault.Device) b → told ≡ no_text DEVICE → Changed (at log s d) c Device told b
 device_changed Shut s d b c told h k = absurd (h.applied)
 device_changed (Open used) s d b c told h k = record {
   may = (h.applied.0, h.applied.1);
@@ -103,7 +105,7 @@ device_changed (Open used) s d b c told h k = record {
   leaves = record { state = h.applied.2; closes = h.closes; honest = h.honest; kept = λ given. failed_keeps d b.disk s c (h.records given.honest.1) (h.lawful (h.honest given.honest.1)) };
 }
 
-pub closed_changed : (log : Log) (s : Flat) (d : DiskState) (b : SessionState) (c : Command) (told : List ℕ) → Tried log s d c (Err fault.Closed) b → told ≡ no_text 54 → Changed (at log s d) c Closed told b
+pub closed_changed : (log : Log) (s : Flat) (d : DiskState) (b : SessionState) (c : Command) (told : List ℕ) → Tried log s d c (Err fault.Closed) b → told ≡ no_text CLOSED → Changed (at log s d) c Closed told b
 closed_changed (Open used) s d b c told h k = absurd (h.applied)
 closed_changed Shut s d b c told h k = record {
   may = tt;
@@ -137,17 +139,17 @@ nat_lt-true : (m n : ℕ) → m < n → nat_lt m n ≡ true
 nat_lt-true m n h = search rules
 
 -- a line that is neither too long nor blank
-pub is_line : (raw line : List ℕ) → line ≡ strip_last 13 raw → length line ≤ 255 → list_all is_blank_byte line ≡ false → input_of raw ≡ Line line
+pub is_line : (raw line : List ℕ) → line ≡ strip_last 13 raw → length line ≤ LINE_BYTES → list_all is_blank_byte line ≡ false → input_of raw ≡ Line line
 unfolding input_of
-is_line raw line e h b = ap judged (sym e) ∙ rw (nat_lt-false 255 (length line) h, b) refl
+is_line raw line e h b = ap line_input (sym e) ∙ rw (nat_lt-false LINE_BYTES (length line) h, b) refl
 
-pub is_blank_line : (raw line : List ℕ) → line ≡ strip_last 13 raw → length line ≤ 255 → list_all is_blank_byte line ≡ true → input_of raw ≡ Blank
+pub is_blank_line : (raw line : List ℕ) → line ≡ strip_last 13 raw → length line ≤ LINE_BYTES → list_all is_blank_byte line ≡ true → input_of raw ≡ Blank
 unfolding input_of
-is_blank_line raw line e h b = ap judged (sym e) ∙ rw (nat_lt-false 255 (length line) h, b) refl
+is_blank_line raw line e h b = ap line_input (sym e) ∙ rw (nat_lt-false LINE_BYTES (length line) h, b) refl
 
-pub is_long_line : (raw line : List ℕ) → line ≡ strip_last 13 raw → 255 < length line → input_of raw ≡ TooLong
+pub is_long_line : (raw line : List ℕ) → line ≡ strip_last 13 raw → LINE_BYTES < length line → input_of raw ≡ TooLong
 unfolding input_of
-is_long_line raw line e h = ap judged (sym e) ∙ rw (nat_lt-true 255 (length line) h) refl
+is_long_line raw line e h = ap line_input (sym e) ∙ rw (nat_lt-true LINE_BYTES (length line) h) refl
 
 pub answered_line : (a b : SessionState) (i : Input) (line : List ℕ) (o : Outcome) (told : List ℕ)
     → i ≡ Line line → RequestDone a (request_of line) o told b → Answered a i o told b
@@ -158,7 +160,7 @@ pub answered_blank : (a : SessionState) (i : Input) (told : List ℕ) → i ≡ 
 unfolding answer commands reached MayEnd
 answered_blank a i told e h = let P : Input → Type 0 = λ x. Answered a x Plain told a in subst P (sym e) (record { may = refl; told_is = h; leaves = leaves_nothing a })
 
-pub answered_long : (a : SessionState) (i : Input) (told : List ℕ) → i ≡ TooLong → told ≡ no_text 12 → Answered a i Plain told a
+pub answered_long : (a : SessionState) (i : Input) (told : List ℕ) → i ≡ TooLong → told ≡ no_text LINE_TOO_LONG → Answered a i Plain told a
 unfolding answer commands reached MayEnd
 answered_long a i told e h = let P : Input → Type 0 = λ x. Answered a x Plain told a in subst P (sym e) (record { may = refl; told_is = h; leaves = leaves_nothing a })
 

@@ -2,6 +2,7 @@
 use Rattle.std.proofs.Common.{◌≡◌, ℕ, ◌+◌, ◌<◌, ◌≤◌, ◌==◌, List, [], ◌∷◌, ◌++◌, Bool, true, false, length, map, nat_lt, if◌then◌else◌, ap, sym, append_assoc, ◌∙◌, refl, rules, arith}
 use Rattle.std.proofs.lemmas.Grind.{common_steps}
 use Rattle.std.specs.Io.BufRead.{strip_last}
+use Rattle.mcs_model.specs.declared.limits.TheConstants.{LINE_BYTES}
 use Rattle.mcs_shell.specs.Inputs.{Input, TooLong, HasNoFeed, cut_at, input_of, inputs, is_line_feed, lines_of}
 use Rattle.mcs_shell.proofs.Cutting.{HasNone-snoc, before, cut_at-append, cut_at-cut, cut_at-nothing, first_piece_of, nil_right}
 
@@ -27,8 +28,8 @@ nat_lt-true m n h = search rules
 pub input_of-long : (l : List ℕ) → 257 ≤ length l → input_of l ≡ TooLong
 unfolding input_of
 input_of-long l h =
-    let k : 255 < length (strip_last 13 l) = omega (arith, length-strip_last 13 l) in
-    rw (nat_lt-true 255 (length (strip_last 13 l)) k) refl
+    let k : LINE_BYTES < length (strip_last 13 l) = omega (arith, length-strip_last 13 l) in
+    rw (nat_lt-true LINE_BYTES (length (strip_last 13 l)) k) refl
 
 pub input_of-longer : (l more : List ℕ) → 257 ≤ length l → input_of (l ++ more) ≡ TooLong
 input_of-longer l more h = input_of-long (l ++ more) (grind (arith, common_steps))

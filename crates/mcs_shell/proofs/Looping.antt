@@ -5,17 +5,18 @@ use Rattle.std.proofs.lemmas.Grind.{common_steps}
 use Rattle.mcs_model.specs.declared.command.Command.{Command}
 use Rattle.mcs_model.specs.Flat.{Flat}
 use Rattle.mcs_model.specs.Fold.{fold}
-use Rattle.mcs_shell.specs.declared.outcome.Stop.{Stop}
-use Rattle.mcs_shell.specs.declared.outcome.Stop.TheVariants.{Write, Fault}
+use Rattle.mcs_shell.specs.declared.outcome.Halt.{Halt}
+use Rattle.mcs_shell.specs.declared.outcome.Halt.TheVariants as halt
 use Rattle.mcs_shell.specs.declared.ends.ShellEnd.{ShellEnd}
 use Rattle.mcs_shell.specs.declared.ends.ShellEnd.TheVariants.{End, ReadFault, WriteFault, DeviceFault, InputLimit, NoMemory}
+use Rattle.mcs_model.specs.declared.limits.TheConstants.{INPUT_BYTES}
 use Rattle.mcs_shell.specs.Inputs.{Input, HasNoFeed, input_of, inputs}
 use Rattle.mcs_session.specs.Standing.{SessionState, Standing, on}
 use Rattle.mcs_shell.specs.Stage.{Stage}
 use Rattle.mcs_shell.specs.Transcript.{Went, all_commands, session_text, transcript}
 use Rattle.mcs_session.specs.Kept.{Carries, IsHonest, IsSettled}
 use Rattle.mcs_shell.specs.Serving.{CutShort, Failed, LastBy, LastStep, Stopped, StoppedAt, WentFurther, WentOn}
-use Rattle.mcs_shell.specs.Shell.{Began, EndsBy, LoopRan, RanGiven, ReadSome, ServedAll, ServedSome, Untouched, end_by, input_limit}
+use Rattle.mcs_shell.specs.Shell.{Began, EndsBy, InputEnded, LoopRan, RanGiven, ReadSome, ServedAll, ServedSome, Untouched, WasRead, end_of_halt}
 use Rattle.mcs_shell.specs.Finishing.{FinishedBy}
 use Rattle.mcs_shell.proofs.Cutting.{nil_right}
 use Rattle.mcs_shell.proofs.GrowingBytes.{appends_more, appends_nothing, consumes_kept, consumes_more, consumes_nothing}
@@ -61,15 +62,15 @@ served_cut a b line bytes x = record {
 }
 
 pub ran_read_fault : (r r' r'' : Option (List ℕ)) (a b : Stage) (line : List ℕ) (total : ℕ)
-    → SoFar r r' a b line total → total < input_limit → Keeps r' r'' → LoopRan IsSettled ReadFault r r'' a b
+    → SoFar r r' a b line total → total < INPUT_BYTES → Keeps r' r'' → LoopRan IsSettled ReadFault r r'' a b
 ran_read_fault r r' r'' a b line total x small keeps = record {
   bytes = x.bytes;
   consumed = consumes_kept r r' r'' x.bytes x.consumed keeps;
-  ends = (subst (λ (y : ℕ). y < input_limit) (sym x.count) small, served_cut a b line x.bytes x.went);
+  ends = (subst (λ (y : ℕ). y < INPUT_BYTES) (sym x.count) small, served_cut a b line x.bytes x.went);
 }
 
 pub ran_limit : (r r' : Option (List ℕ)) (a b : Stage) (line : List ℕ) (total : ℕ)
-    → SoFar r r' a b line total → total ≡ input_limit → LoopRan IsSettled InputLimit r r' a b
+    → SoFar r r' a b line total → total ≡ INPUT_BYTES → LoopRan IsSettled InputLimit r r' a b
 ran_limit r r' a b line total x e = record {
   bytes = x.bytes;
   consumed = x.consumed;
@@ -173,9 +174,9 @@ finished_line a b line free some h = let P : List ℕ → Type 0 = λ y. Appends
   carries = subst (λ (cs : List Command). Carries IsSettled a.session b.session cs) (sym (all_commands-alone a.session.standing.state (input_of line) h.outcome)) h.carries;
 }
 
-pub finished_stop : (stop : Stop) (a c : Stage) (line : List ℕ) → HasNoFeed line → 0 < length line → LastBy stop IsSettled a.session [] a.session.standing (input_of line) a.out c → FinishedBy (end_by stop) line a c
-finished_stop Write = some_of_line CutShort cut_after
-finished_stop Fault = some_of_line Failed failed_after
+pub finished_stop : (halt : Halt) (a c : Stage) (line : List ℕ) → HasNoFeed line → 0 < length line → LastBy halt IsSettled a.session [] a.session.standing (input_of line) a.out c → FinishedBy (end_of_halt halt) line a c
+finished_stop halt.Write = some_of_line CutShort cut_after
+finished_stop halt.Device = some_of_line Failed failed_after
 
 -- ---- the ends
 
@@ -186,52 +187,65 @@ last_read : (r r' r'' : Option (List ℕ)) (most : ℕ) (bytes chunk : List ℕ)
 last_read r r' r'' most bytes chunk a b = let P : List ℕ → Type 0 = λ y. Consumes r r'' y in
     subst P (ap (λ y. bytes ++ y) (no_bytes chunk b.count) ∙ nil_right bytes) (consumes_more r r' r'' bytes chunk a b.consumed)
 
+input_ended : (r r' : Option (List ℕ)) (bytes chunk : List ℕ) (total most : ℕ) → length bytes ≡ total → total < INPUT_BYTES → ReadSome 0 most r r' chunk → InputEnded bytes r'
+input_ended r r' bytes chunk total most count small y = record { below_limit = subst (λ (n : ℕ). n < INPUT_BYTES) (sym count) small; at_end = y.at_end refl }
+
+was_read_whole : (bytes : List ℕ) (left : Option (List ℕ)) → InputEnded bytes left → WasRead true bytes left
+was_read_whole bytes left h = record { within_limit = omega (arith, h.below_limit); ended = λ e. h }
+
+was_read_in_part : (bytes : List ℕ) (left : Option (List ℕ)) → length bytes ≤ INPUT_BYTES → WasRead false bytes left
+was_read_in_part bytes left h = record { within_limit = h; ended = λ e. absurd (cc e) }
+
 pub ran_finish : (end : ShellEnd) (r r' r'' : Option (List ℕ)) (a b c : Stage) (line chunk : List ℕ) (total most : ℕ)
-    → SoFar r r' a b line total → total < input_limit → ReadSome 0 most r' r'' chunk → FinishedBy end line b c → LoopRan IsSettled end r r'' a c
+    → SoFar r r' a b line total → total < INPUT_BYTES → ReadSome 0 most r' r'' chunk → FinishedBy end line b c → LoopRan IsSettled end r r'' a c
 ran_finish End r r' r'' a b c line chunk total most x small y z = record {
   bytes = x.bytes;
   consumed = last_read r r' r'' most x.bytes chunk x.consumed y;
-  ends = (subst (λ (v : ℕ). v < input_limit) (sym x.count) small, y.at_end refl, then_all true a b c line x.bytes x.went z);
+  ends = (input_ended r' r'' x.bytes chunk total most x.count small y, then_all true a b c line x.bytes x.went z);
 }
 ran_finish WriteFault r r' r'' a b c line chunk total most x small y z = record {
-  bytes = x.bytes ++ [];
-  consumed = let P : List ℕ → Type 0 = λ v. Consumes r r'' v in subst P (sym (nil_right x.bytes)) (last_read r r' r'' most x.bytes chunk x.consumed y);
+  bytes = x.bytes;
+  consumed = last_read r r' r'' most x.bytes chunk x.consumed y;
   ends = (
     true,
-    let e : length (x.bytes ++ []) ≤ input_limit = rw (nil_right x.bytes) (omega (arith, x.count, small)) in e,
-    then_some CutShort cut_after true a b c line x.bytes [] x.went (rw (nil_right line) z),
+    was_read_whole x.bytes r'' (input_ended r' r'' x.bytes chunk total most x.count small y),
+    let P : List ℕ → Type 0 = λ v. ServedSome IsSettled CutShort true v a c in
+    let Q : List ℕ → Type 0 = λ v. ServedSome IsSettled CutShort true v b c in
+    subst P (nil_right x.bytes) (then_some CutShort cut_after true a b c line x.bytes [] x.went (subst Q (sym (nil_right line)) z)),
   );
 }
 ran_finish DeviceFault r r' r'' a b c line chunk total most x small y z = record {
-  bytes = x.bytes ++ [];
-  consumed = let P : List ℕ → Type 0 = λ v. Consumes r r'' v in subst P (sym (nil_right x.bytes)) (last_read r r' r'' most x.bytes chunk x.consumed y);
+  bytes = x.bytes;
+  consumed = last_read r r' r'' most x.bytes chunk x.consumed y;
   ends = (
     true,
-    let e : length (x.bytes ++ []) ≤ input_limit = rw (nil_right x.bytes) (omega (arith, x.count, small)) in e,
-    then_some Failed failed_after true a b c line x.bytes [] x.went (rw (nil_right line) z),
+    was_read_whole x.bytes r'' (input_ended r' r'' x.bytes chunk total most x.count small y),
+    let P : List ℕ → Type 0 = λ v. ServedSome IsSettled Failed true v a c in
+    let Q : List ℕ → Type 0 = λ v. ServedSome IsSettled Failed true v b c in
+    subst P (nil_right x.bytes) (then_some Failed failed_after true a b c line x.bytes [] x.went (subst Q (sym (nil_right line)) z)),
   );
 }
 ran_finish ReadFault r r' r'' a b c line chunk total most x small y z = absurd z
 ran_finish InputLimit r r' r'' a b c line chunk total most x small y z = absurd z
 ran_finish NoMemory r r' r'' a b c line chunk total most x small y z = absurd z
 
-pub ran_stop : (stop : Stop) (r r' r'' : Option (List ℕ)) (a b c : Stage) (line chunk : List ℕ) (total n most : ℕ)
-    → SoFar r r' a b line total → total + most ≤ input_limit → ReadSome n most r' r'' chunk → Stopped stop b c line chunk → LoopRan IsSettled (end_by stop) r r'' a c
-ran_stop Write r r' r'' a b c line chunk total n most x small y z = record {
+pub ran_stop : (halt : Halt) (r r' r'' : Option (List ℕ)) (a b c : Stage) (line chunk : List ℕ) (total n most : ℕ)
+    → SoFar r r' a b line total → total + most ≤ INPUT_BYTES → ReadSome n most r' r'' chunk → Stopped halt b c line chunk → LoopRan IsSettled (end_of_halt halt) r r'' a c
+ran_stop halt.Write r r' r'' a b c line chunk total n most x small y z = record {
   bytes = x.bytes ++ chunk;
   consumed = consumes_more r r' r'' x.bytes chunk x.consumed y.consumed;
   ends = (
     false,
-    let e : length (x.bytes ++ chunk) ≤ input_limit = rw (length-append x.bytes chunk) (omega (arith, x.count, y.count, y.within, small)) in e,
+    was_read_in_part (x.bytes ++ chunk) r'' (let e : length (x.bytes ++ chunk) ≤ INPUT_BYTES = rw (length-append x.bytes chunk) (omega (arith, x.count, y.count, y.within, small)) in e),
     then_some CutShort cut_after false a b c line x.bytes chunk x.went (some_of_stopped CutShort cut_after b c line chunk z),
   );
 }
-ran_stop Fault r r' r'' a b c line chunk total n most x small y z = record {
+ran_stop halt.Device r r' r'' a b c line chunk total n most x small y z = record {
   bytes = x.bytes ++ chunk;
   consumed = consumes_more r r' r'' x.bytes chunk x.consumed y.consumed;
   ends = (
     false,
-    let e : length (x.bytes ++ chunk) ≤ input_limit = rw (length-append x.bytes chunk) (omega (arith, x.count, y.count, y.within, small)) in e,
+    was_read_in_part (x.bytes ++ chunk) r'' (let e : length (x.bytes ++ chunk) ≤ INPUT_BYTES = rw (length-append x.bytes chunk) (omega (arith, x.count, y.count, y.within, small)) in e),
     then_some Failed failed_after false a b c line x.bytes chunk x.went (some_of_stopped Failed failed_after b c line chunk z),
   );
 }
@@ -283,7 +297,7 @@ module _ (Last : LastStep) (under : MovesUnder Last) where
       }
 
 ends_under : (end : ShellEnd) (bytes : List ℕ) (left : Option (List ℕ)) (a b : Stage) → (IsHonest a.session → IsSettled a.session) → EndsBy IsSettled end bytes left a b → EndsBy IsHonest end bytes left a b
-ends_under End bytes left a b settle x = (x.0, x.1, all_under true bytes a b settle x.2)
+ends_under End bytes left a b settle x = (x.0, all_under true bytes a b settle x.1)
 ends_under ReadFault bytes left a b settle x = (x.0, all_under false bytes a b settle x.1)
 ends_under InputLimit bytes left a b settle x = (x.0, all_under false bytes a b settle x.1)
 ends_under WriteFault bytes left a b settle x = (x.0, x.1, some_under CutShort cut_under (x.0) bytes a b settle x.2)

@@ -8,8 +8,8 @@ use Rattle.mcs_model.specs.Flat.{Flat}
 use Rattle.mcs_model.specs.Fold.{fold}
 use Rattle.mcs_shell.specs.declared.outcome.Outcome.{Outcome}
 use Rattle.mcs_shell.specs.declared.outcome.Outcome.TheVariants.{Device}
-use Rattle.mcs_shell.specs.declared.outcome.Stop.{Stop}
-use Rattle.mcs_shell.specs.declared.outcome.Stop.TheVariants.{Write, Fault}
+use Rattle.mcs_shell.specs.declared.outcome.Halt.{Halt}
+use Rattle.mcs_shell.specs.declared.outcome.Halt.TheVariants as halt
 use Rattle.mcs_shell.specs.Inputs.{Input, HasNoFeed, input_of, inputs, is_line_feed}
 use Rattle.mcs_session.specs.Standing.{SessionState, Standing, logged, on}
 use Rattle.mcs_shell.specs.Stage.{Stage}
@@ -182,10 +182,10 @@ module _ (Last : LastStep) (back : MovesBack Last) where
 pub no_feed : (b : ℕ) → (b ≡ 10 → ⊥) → (b == 10) ≡ false
 no_feed b h = search rules
 
-pub stopped_by : (stop : Stop) (a b c : Stage) (l k chunk : List ℕ) (i : ℕ) → i < length chunk → get_or chunk i 0 ≡ 10
-    → WentFurther a b l k (take i chunk) → LastBy stop IsSettled b.session [] b.session.standing (input_of k) b.out c → Stopped stop a c l chunk
-stopped_by Write = stopped_at CutShort cut_after
-stopped_by Fault = stopped_at Failed failed_after
+pub stopped_by : (halt : Halt) (a b c : Stage) (l k chunk : List ℕ) (i : ℕ) → i < length chunk → get_or chunk i 0 ≡ 10
+    → WentFurther a b l k (take i chunk) → LastBy halt IsSettled b.session [] b.session.standing (input_of k) b.out c → Stopped halt a c l chunk
+stopped_by halt.Write = stopped_at CutShort cut_after
+stopped_by halt.Device = stopped_at Failed failed_after
 
 pub all_of_chunk : (a b : Stage) (l k chunk : List ℕ) (i : ℕ) → take i chunk ≡ chunk → WentFurther a b l k (take i chunk) → WentFurther a b l k chunk
 all_of_chunk a b l k chunk i e h = let P : List ℕ → Type 0 = λ bytes. WentFurther a b l k bytes in subst P e h

@@ -2,6 +2,7 @@
 use Rattle.std.specs.Prelude.{◌≡◌, ◌==◌, ◌&&◌, ◌||◌, Bool, false, ℕ, List, [], ◌∷◌, length, map, nat_lt, if◌then◌else◌}
 use Rattle.std.specs.List.{list_all}
 use Rattle.std.specs.Io.BufRead.{strip_last}
+use Rattle.mcs_model.specs.declared.limits.TheConstants.{LINE_BYTES}
 
 -- ---- lines
 
@@ -36,13 +37,13 @@ pub data Input : Type 0 where
 abbrev pub is_blank_byte : ℕ → Bool
 is_blank_byte b = (b == 32) || (b == 9)
 
--- a line without its carriage return, of which 255 bytes are not too many
-abbrev pub judged : List ℕ → Input
-judged line = if nat_lt 255 (length line) then TooLong else (if list_all is_blank_byte line then Blank else Line line)
+-- a line without its carriage return, which is too long where it has more bytes than a line may have
+abbrev pub line_input : List ℕ → Input
+line_input line = if nat_lt LINE_BYTES (length line) then TooLong else (if list_all is_blank_byte line then Blank else Line line)
 
 -- a line as it came, but for its line feed: one carriage return that ends it is dropped
 unfoldable pub input_of : List ℕ → Input
-input_of line = judged (strip_last 13 line)
+input_of line = line_input (strip_last 13 line)
 
 -- the inputs that the bytes spell; `whole` says that input ended there, else it was cut
 unfoldable pub inputs : List ℕ → Bool → List Input

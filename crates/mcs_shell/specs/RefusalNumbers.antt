@@ -1,29 +1,45 @@
 -- The numbers that refusals are told by.
 use Rattle.std.specs.Prelude.{ℕ}
+use Rattle.mcs_host.specs.declared.file_disk.FileFault.{FileFault}
+use Rattle.mcs_host.specs.declared.file_disk.FileFault.TheVariants as file_fault
 use Rattle.mcs_journal.specs.declared.fault.CreateFault.{CreateFault}
 use Rattle.mcs_journal.specs.declared.fault.CreateFault.TheVariants as create_fault
 use Rattle.mcs_journal.specs.declared.fault.OpenFault.{OpenFault}
 use Rattle.mcs_journal.specs.declared.fault.OpenFault.TheVariants as open_fault
 use Rattle.mcs_model.specs.Refusal.{number_of}
-use Rattle.mcs_model.specs.declared.refusal_numbers.TheConstants.{CLOSED, DAMAGED, DEVICE, FULL, NOT_A_SESSION, NOT_BLANK, NO_MEMORY}
+use Rattle.mcs_model.specs.declared.refusal_numbers.TheConstants.{BAD_NUMBER, CLOSED, DAMAGED, DEVICE, FULL, LINE_TOO_LONG, NOT_ASCII, NOT_A_COMMAND, NOT_A_SESSION, NOT_BLANK, NO_MEMORY}
 use Rattle.mcs_session.specs.declared.fault.SessionFault.{SessionFault}
-use Rattle.mcs_session.specs.declared.fault.SessionFault.TheVariants.{Refused, Full, Device, Closed}
+use Rattle.mcs_session.specs.declared.fault.SessionFault.TheVariants as session_fault
+use Rattle.mcs_shell.specs.declared.requests.LineFault.{LineFault}
+use Rattle.mcs_shell.specs.declared.requests.LineFault.TheVariants as line_fault
 
--- the numbers that the refusals of a session are told by
-abbrev pub number_of_fault : SessionFault → ℕ
-number_of_fault (Refused f) = number_of f
-number_of_fault Full = FULL
-number_of_fault Device = DEVICE
-number_of_fault Closed = CLOSED
+-- the numbers that refused lines are told by
+abbrev pub line_fault_number : LineFault → ℕ
+line_fault_number line_fault.NotACommand = NOT_A_COMMAND
+line_fault_number line_fault.BadNumber = BAD_NUMBER
+line_fault_number line_fault.LineTooLong = LINE_TOO_LONG
+line_fault_number line_fault.NotAscii = NOT_ASCII
+
+-- the numbers that refusals to record a command are told by
+abbrev pub session_fault_number : SessionFault → ℕ
+session_fault_number (session_fault.Refused f) = number_of f
+session_fault_number session_fault.Full = FULL
+session_fault_number session_fault.Device = DEVICE
+session_fault_number session_fault.Closed = CLOSED
 
 -- the numbers that refusals to make and to open a session are told by
-abbrev pub number_of_create : CreateFault → ℕ
-number_of_create create_fault.NotBlank = NOT_BLANK
-number_of_create create_fault.Device = DEVICE
-number_of_create create_fault.NoMemory = NO_MEMORY
+abbrev pub create_fault_number : CreateFault → ℕ
+create_fault_number create_fault.NotBlank = NOT_BLANK
+create_fault_number create_fault.Device = DEVICE
+create_fault_number create_fault.NoMemory = NO_MEMORY
 
-abbrev pub number_of_open : OpenFault → ℕ
-number_of_open open_fault.NotASession = NOT_A_SESSION
-number_of_open open_fault.Damaged = DAMAGED
-number_of_open open_fault.Device = DEVICE
-number_of_open open_fault.NoMemory = NO_MEMORY
+abbrev pub open_fault_number : OpenFault → ℕ
+open_fault_number open_fault.NotASession = NOT_A_SESSION
+open_fault_number open_fault.Damaged = DAMAGED
+open_fault_number open_fault.Device = DEVICE
+open_fault_number open_fault.NoMemory = NO_MEMORY
+
+-- the numbers that refusals to open a file are told by
+abbrev pub file_fault_number : FileFault → ℕ
+file_fault_number file_fault.Device = DEVICE
+file_fault_number file_fault.NoMemory = NO_MEMORY

@@ -8,16 +8,8 @@ use Rattle.mcs_model.specs.declared.command.Place.TheVariants.{Register}
 use Rattle.mcs_model.specs.declared.query.Query.TheVariants as query
 use Rattle.mcs_shell.specs.declared.requests.Request.{Request}
 use Rattle.mcs_shell.specs.declared.requests.Request.TheVariants.{Refused, Ask, Change}
-use Rattle.mcs_shell.specs.declared.requests.LineFault.{LineFault}
-use Rattle.mcs_shell.specs.declared.requests.LineFault.TheVariants.{NotACommand, BadNumber, LineTooLong, NotAscii}
+use Rattle.mcs_shell.specs.declared.requests.LineFault.TheVariants.{NotACommand, BadNumber, NotAscii}
 use Rattle.mcs_shell.specs.Inputs.{cut_at, is_blank_byte}
-
--- the numbers that refused lines are told by
-abbrev pub number_of_fault : LineFault → ℕ
-number_of_fault NotACommand = 10
-number_of_fault BadNumber = 11
-number_of_fault LineTooLong = 12
-number_of_fault NotAscii = 14
 
 -- a tab, or a character of ASCII that prints
 abbrev pub is_plain_byte : ℕ → Bool
@@ -28,13 +20,13 @@ unfoldable pub words_of : List ℕ → List (List ℕ)
 words_of line = filter (λ w. nat_lt 0 (length w)) (cut_at is_blank_byte line)
 
 -- the number of the register that a place word `rK` names, of any size; none where the word is no such place
-abbrev pub register_of : List ℕ → Option ℕ
-register_of [] = None
-register_of (b ∷ bs) = if b == 114 then number_of bs else None
+abbrev pub register_named : List ℕ → Option ℕ
+register_named [] = None
+register_named (b ∷ bs) = if b == 114 then number_of bs else None
 
 -- `poke` with a place and a value: the place must be one, and then both numbers in range
 abbrev pub poke_of : List ℕ → List ℕ → Request
-poke_of place value = elim (register_of place) [
+poke_of place value = elim (register_named place) [
   | None ↦ Refused NotACommand
   | Some r ↦ if nat_lt r 16
       then (elim (number_up_to 15 value) [ None ↦ Refused BadNumber | Some n ↦ Change (Poke (Register r n)) ])

@@ -7,8 +7,8 @@ use Rattle.mcs_model.specs.Flat.{Flat}
 use Rattle.mcs_model.specs.Fold.{fold}
 use Rattle.mcs_shell.specs.declared.outcome.Outcome.{Outcome}
 use Rattle.mcs_shell.specs.declared.outcome.Outcome.TheVariants.{Device}
-use Rattle.mcs_shell.specs.declared.outcome.Stop.{Stop}
-use Rattle.mcs_shell.specs.declared.outcome.Stop.TheVariants.{Write, Fault}
+use Rattle.mcs_shell.specs.declared.outcome.Halt.{Halt}
+use Rattle.mcs_shell.specs.declared.outcome.Halt.TheVariants as halt
 use Rattle.mcs_shell.specs.declared.requests.Request.{Request}
 use Rattle.mcs_shell.specs.declared.requests.Request.TheVariants.{Change}
 use Rattle.mcs_shell.specs.Inputs.{Input, inputs, HasNoFeed}
@@ -90,17 +90,17 @@ pub record Failed (Given : SessionState → Type 0) (a : SessionState) (cs : Lis
   pub fares : Fares Given a cs m i Device b.session
   pub written : Appends out b.out (answer m.state i Device)
 
-abbrev pub LastBy : Stop → LastStep
-LastBy Write = CutShort
-LastBy Fault = Failed
+abbrev pub LastBy : Halt → LastStep
+LastBy halt.Write = CutShort
+LastBy halt.Device = Failed
 
 -- the line was the last that was served
-abbrev pub StopsAt : Stop → Stage → Input → Stage → Type 0
-StopsAt stop a i b = LastBy stop IsSettled a.session [] a.session.standing i a.out b
+abbrev pub StopsAt : Halt → Stage → Input → Stage → Type 0
+StopsAt halt a i b = LastBy halt IsSettled a.session [] a.session.standing i a.out b
 
-abbrev pub ServedLine : {T : Type 0} → Result T Stop → Stage → Input → Stage → Type 0
+abbrev pub ServedLine : {T : Type 0} → Result T Halt → Stage → Input → Stage → Type 0
 ServedLine (Ok _) = WentOn
-ServedLine (Err stop) = StopsAt stop
+ServedLine (Err halt) = StopsAt halt
 
 -- ---- a stretch of bytes
 
@@ -132,5 +132,5 @@ pub record StoppedAt (Last : LastStep) (a b : Stage) (line bytes : List ℕ) : T
   pub spelled : (more : List ℕ) (whole : Bool) → (rest : List Input) × (inputs (line ++ (bytes ++ more)) whole
       ≡ map (λ p. p.0) served ++ last ∷ rest)
 
-abbrev pub Stopped : Stop → Stage → Stage → List ℕ → List ℕ → Type 0
-Stopped stop = StoppedAt (LastBy stop)
+abbrev pub Stopped : Halt → Stage → Stage → List ℕ → List ℕ → Type 0
+Stopped halt = StoppedAt (LastBy halt)

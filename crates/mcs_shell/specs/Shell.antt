@@ -3,18 +3,15 @@ use Rattle.std.specs.Prelude.{◌≡◌, ◌⊎◌, ◌<◌, ◌≤◌, Bool, tr
 use Rattle.std.specs.Io.KnownBytes.{Appends, Consumes, IsAtEnd}
 use Rattle.mcs_shell.specs.declared.ends.ShellEnd.{ShellEnd}
 use Rattle.mcs_shell.specs.declared.ends.ShellEnd.TheVariants.{End, ReadFault, WriteFault, DeviceFault, InputLimit, NoMemory}
-use Rattle.mcs_shell.specs.declared.outcome.Stop.{Stop}
-use Rattle.mcs_shell.specs.declared.outcome.Stop.TheVariants.{Write, Fault}
+use Rattle.mcs_shell.specs.declared.outcome.Halt.{Halt}
+use Rattle.mcs_shell.specs.declared.outcome.Halt.TheVariants as halt
+use Rattle.mcs_model.specs.declared.limits.TheConstants.{INPUT_BYTES}
 use Rattle.mcs_shell.specs.Inputs.{Input, inputs}
 use Rattle.mcs_session.specs.Standing.{SessionState, on}
 use Rattle.mcs_shell.specs.Stage.{Stage}
 use Rattle.mcs_shell.specs.Transcript.{Served, Went, all_commands, session_text, transcript}
 use Rattle.mcs_session.specs.Kept.{Carries, IsHonest, IsSettled}
 use Rattle.mcs_shell.specs.Serving.{CutShort, Failed, GotSome, LastStep}
-
--- how many bytes a shell reads at most
-abbrev pub input_limit : ℕ
-input_limit = 16777216
 
 -- every input of the bytes was served
 pub record ServedAll (Given : SessionState → Type 0) (whole : Bool) (bytes : List ℕ) (a b : Stage) : Type 0 where
@@ -35,13 +32,23 @@ pub record ServedSome (Given : SessionState → Type 0) (Last : LastStep) (whole
   pub written : Appends a.out middle (transcript a.session.standing.state served)
   pub ended : Last Given a.session (all_commands a.session.standing.state served) (on a.session.standing (all_commands a.session.standing.state served)) last middle b
 
+-- input ended behind these bytes: the reader has nothing left, and more would have been read
+pub record InputEnded (bytes : List ℕ) (left : Option (List ℕ)) : Type 0 where
+  pub below_limit : length bytes < INPUT_BYTES
+  pub at_end : IsAtEnd left
+
+-- the bytes that were read are no more than the limit, and whole only where input ended behind them
+pub record WasRead (whole : Bool) (bytes : List ℕ) (left : Option (List ℕ)) : Type 0 where
+  pub within_limit : length bytes ≤ INPUT_BYTES
+  pub ended : whole ≡ true → InputEnded bytes left
+
 -- what was done after the first line of the transcript, by the end and the bytes read; `left` is what the reader has left
 abbrev pub EndsBy : (SessionState → Type 0) → ShellEnd → List ℕ → Option (List ℕ) → Stage → Stage → Type 0
-EndsBy Given End bytes left a b = (length bytes < input_limit) × IsAtEnd left × ServedAll Given true bytes a b
-EndsBy Given ReadFault bytes left a b = (length bytes < input_limit) × ServedAll Given false bytes a b
-EndsBy Given InputLimit bytes left a b = (length bytes ≡ input_limit) × ServedAll Given false bytes a b
-EndsBy Given WriteFault bytes left a b = (whole : Bool) × (length bytes ≤ input_limit) × ServedSome Given CutShort whole bytes a b
-EndsBy Given DeviceFault bytes left a b = (whole : Bool) × (length bytes ≤ input_limit) × ServedSome Given Failed whole bytes a b
+EndsBy Given End bytes left a b = InputEnded bytes left × ServedAll Given true bytes a b
+EndsBy Given ReadFault bytes left a b = (length bytes < INPUT_BYTES) × ServedAll Given false bytes a b
+EndsBy Given InputLimit bytes left a b = (length bytes ≡ INPUT_BYTES) × ServedAll Given false bytes a b
+EndsBy Given WriteFault bytes left a b = (whole : Bool) × WasRead whole bytes left × ServedSome Given CutShort whole bytes a b
+EndsBy Given DeviceFault bytes left a b = (whole : Bool) × WasRead whole bytes left × ServedSome Given Failed whole bytes a b
 EndsBy Given NoMemory bytes left a b = ⊥
 
 pub record LoopRan (Given : SessionState → Type 0) (end : ShellEnd) (reader reader' : Option (List ℕ)) (a b : Stage) : Type 0 where
@@ -83,15 +90,15 @@ pub record ReadSome (n most : ℕ) (old new : Option (List ℕ)) (bytes : List �
   pub consumed : Consumes old new bytes
   pub at_end : n ≡ 0 → IsAtEnd new
 
-abbrev pub end_by : Stop → ShellEnd
-end_by Write = WriteFault
-end_by Fault = DeviceFault
+abbrev pub end_of_halt : Halt → ShellEnd
+end_of_halt halt.Write = WriteFault
+end_of_halt halt.Device = DeviceFault
 
 -- the exit status of an end
-abbrev pub status_of : ShellEnd → ℕ
-status_of End = 0
-status_of ReadFault = 1
-status_of WriteFault = 1
-status_of DeviceFault = 1
-status_of InputLimit = 1
-status_of NoMemory = 3
+abbrev pub exit_status_of : ShellEnd → ℕ
+exit_status_of End = 0
+exit_status_of ReadFault = 1
+exit_status_of WriteFault = 1
+exit_status_of DeviceFault = 1
+exit_status_of InputLimit = 1
+exit_status_of NoMemory = 3

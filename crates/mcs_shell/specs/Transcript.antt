@@ -9,13 +9,15 @@ use Rattle.mcs_model.specs.Flat.{Flat}
 use Rattle.mcs_model.specs.Command.{refusal, after, reply}
 use Rattle.mcs_model.specs.Fold.{fold}
 use Rattle.mcs_model.specs.Refusal.{number_of}
+use Rattle.mcs_model.specs.declared.refusal_numbers.TheConstants.{CLOSED, DEVICE, FULL, LINE_TOO_LONG}
 use Rattle.mcs_model.specs.QueryText.{text}
 use Rattle.mcs_shell.specs.declared.requests.Request.{Request}
 use Rattle.mcs_shell.specs.declared.requests.Request.TheVariants.{Refused, Ask, Change}
 use Rattle.mcs_shell.specs.declared.outcome.Outcome.{Outcome}
 use Rattle.mcs_shell.specs.declared.outcome.Outcome.TheVariants.{Plain, Full, Device, Closed}
 use Rattle.mcs_shell.specs.Inputs.{Input, Blank, TooLong, Line}
-use Rattle.mcs_shell.specs.Requests.{request_of, number_of_fault}
+use Rattle.mcs_shell.specs.RefusalNumbers.{line_fault_number}
+use Rattle.mcs_shell.specs.Requests.{request_of}
 use Rattle.mcs_session.specs.Standing.{Log, Open, Shut, Standing, fits, on}
 
 -- ---- texts
@@ -45,19 +47,19 @@ plain_text (Some f) s c = no_text (number_of f)
 -- the answer to a command
 abbrev pub change_text : Flat → Command → Outcome → List ℕ
 change_text s c Plain = plain_text (refusal s c) s c
-change_text s c Full = no_text 52
-change_text s c Device = no_text 53
-change_text s c Closed = no_text 54
+change_text s c Full = no_text FULL
+change_text s c Device = no_text DEVICE
+change_text s c Closed = no_text CLOSED
 
 abbrev pub request_text : Flat → Request → Outcome → List ℕ
-request_text s (Refused f) o = no_text (number_of_fault f)
+request_text s (Refused f) o = no_text (line_fault_number f)
 request_text s (Ask q) o = text q s ++ line_feed
 request_text s (Change c) o = change_text s c o
 
 -- the answer to an input
 unfoldable pub answer : Flat → Input → Outcome → List ℕ
 answer s Blank o = []
-answer s TooLong o = no_text 12
+answer s TooLong o = no_text LINE_TOO_LONG
 answer s (Line line) o = request_text s (request_of line) o
 
 -- a command that the state does not refuse

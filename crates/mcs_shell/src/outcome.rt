@@ -1,4 +1,4 @@
-//! What comes of an input, and why a shell stops.
+//! What comes of an input, and what halts a shell.
 
 /// What came of an input.
 #[derive(Clone, Copy, Debug, PartialEq, Eq)]
@@ -13,11 +13,11 @@ pub enum Outcome {
     Closed,
 }
 
-/// Why a shell stops in the middle.
+/// What halts a shell before its input ends.
 #[derive(Clone, Copy, Debug, PartialEq, Eq)]
-pub enum Stop {
+pub enum Halt {
     /// An answer could not be written whole.
     Write,
     /// The device failed, and that was answered.
-    Fault,
+    Device,
 }

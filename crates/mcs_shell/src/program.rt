@@ -1,18 +1,26 @@
 //! The program: its words, its file, its session, its shell, its exit status.
-ghost use Rattle.std.specs.Prelude.{◌≡◌, IfOk, IfErr};
+ghost use Rattle.std.specs.Prelude.{◌≡◌, ◌⊎◌, IfOk, IfErr, None, true, map};
 ghost use Rattle.std.specs.Process.{exit_status};
-ghost use Rattle.mcs_shell.specs.Program.{Begins, IsRefusedBy};
-ghost use Rattle.mcs_session.specs.Stands.{IsAt};
+ghost use Rattle.mcs_host.specs.CommandLine.{chosen, is_taken};
+ghost use Rattle.mcs_host.specs.FileDisk.{IsOpened};
+ghost use Rattle.mcs_host.specs.declared.file_disk.FileDisk.{FileDisk};
+ghost use Rattle.mcs_host.specs.declared.file_disk.FileFault.{FileFault};
+ghost use Rattle.mcs_shell.specs.Program.{Begins, IsRefusedBy, RanToStatus};
+ghost use Rattle.mcs_shell.specs.RefusalNumbers.{file_fault_number};
+ghost use Rattle.mcs_shell.specs.Stage.{staged};
 
 use crate::ends::{ShellEnd, status};
-use crate::faults::{create_number, open_number};
+use crate::faults::{create_number, file_number, open_number};
 use crate::shell::run_shell;
 use mcs_disk::Disk;
 use mcs_host::{Choice, FileDisk, FileFault, WordsFault, choice};
 use mcs_model::refusal_numbers;
 use mcs_session::session::Session;
+use std::alloc::Global;
+use std::convert::AsStr;
+use std::io::{self, ErrorKind, Read, Write};
+use std::env;
 use std::process::ExitCode;
-use std::{env, io};
 
 /// The exit status where the words are none of the program's.
 const WRONG_WORDS: u8 = 2;
@@ -20,9 +28,13 @@ const WRONG_WORDS: u8 = 2;
 /// The exit status where the session is refused.
 const REFUSED: u8 = 3;
 
-/// The words of the command line, the program's name first.
-fn given_words(rt: &HostRuntime) -> io::Result<Vec<String>> {
-    Ok(env::args(rt)?.collect(rt.alloc())?)
+/// The words of the command line, the program's name first. Those that are no text are none of the program's.
+fn given_words(rt: &HostRuntime) -> Result<Vec<String>, WordsFault> {
+    match env::args(rt) {
+        Ok(words) => Ok(words.collect(rt.alloc())?),
+        Err(error) if error.kind() == ErrorKind::InvalidData => Err(WordsFault::Usage),
+        Err(_) => Err(WordsFault::NoMemory),
+    }
 }
 
 /// Tells why there is no session.
@@ -33,54 +45,97 @@ fn refuse(rt: &HostRuntime, number: u8) -> io::Result<ExitCode>
     Ok(ExitCode::from(REFUSED))
 }
 
+/// Tells that the words choose nothing, or that there was no memory to read them.
+fn refuse_words(rt: &HostRuntime, fault: WordsFault) -> io::Result<ExitCode>
+    ensures usage { fault ≡ WordsFault.Usage → IfOk result (λ code. exit_status code ≡ WRONG_WORDS) }
+    ensures no_memory { fault ≡ WordsFault.NoMemory → IfOk result (λ code. exit_status code ≡ REFUSED) }
+{
+    match fault {
+        WordsFault::Usage => {
+            eprintln!(rt; "usage: mcs4 new FILE or mcs4 open FILE")?;
+            Ok(ExitCode::from(WRONG_WORDS))
+        }
+        WordsFault::NoMemory => refuse(rt, refusal_numbers::NO_MEMORY),
+    }
+}
+
+/// Begins the session that a choice asks for, on the disk that opening its file gave; or the number of the refusal.
+pub fn session_on<D: Disk + Drop>(
+    alloc: Global,
+    choice: &Choice,
+    opened: Result<D, FileFault>,
+) -> Result<Session<D>, u8>
+    ensures begun { IfOk opened (λ disk. IfOk result (λ session. Begins choice.now (D.state disk) (D.state session.disk) session.log session.state)) }
+    ensures refused { IfOk opened (λ disk. IfErr result (λ number. (left : D) × IsRefusedBy choice.now (D.state disk) (D.state left) number)) }
+    ensures unopened { IfErr opened (λ fault. result ≡ Err (file_fault_number fault)) }
+{
+    let disk = match opened {
+        Ok(disk) => disk,
+        Err(fault) => return Err(file_number(fault)),
+    };
+    match choice {
+        Choice::New(_) => match Session::create(alloc, disk) {
+            Ok(session) => Ok(session),
+            Err((fault, _disk)) => Err(create_number(fault)),
+        },
+        Choice::Open(_) => match Session::open(alloc, disk) {
+            Ok(session) => Ok(session),
+            Err((fault, _disk)) => Err(open_number(fault)),
+        },
+    }
+}
+
 /// Makes or opens the session in a file, or answers the number of the refusal.
 pub fn session_in(rt: &HostRuntime, choice: &Choice) -> Result<Session<FileDisk>, u8>
-    ensures begins { IfOk result (λ session. Begins choice.now session.log session.state) }
-    ensures at { IfOk result (λ session. (⟦<FileDisk as Disk>⟧.state session.disk).honest → IsAt (⟦<FileDisk as Disk>⟧.state session.disk) session.state) }
-    ensures refused { IfErr result (λ number. IsRefusedBy choice.now number) }
+    ensures begun { IfOk result (λ session. (disk : FileDisk) × IsOpened (⟦<FileDisk as Disk>⟧.state disk)
+        × Begins choice.now (⟦<FileDisk as Disk>⟧.state disk) (⟦<FileDisk as Disk>⟧.state session.disk) session.log session.state) }
+    ensures refused { IfErr result (λ number. ((fault : FileFault) × (number ≡ file_fault_number fault))
+        ⊎ ((disk : FileDisk) × (left : FileDisk) × IsOpened (⟦<FileDisk as Disk>⟧.state disk)
+            × IsRefusedBy choice.now (⟦<FileDisk as Disk>⟧.state disk) (⟦<FileDisk as Disk>⟧.state left) number)) }
 {
     let alloc = rt.alloc();
     let (file, make) = match choice {
         Choice::New(file) => (file, true),
         Choice::Open(file) => (file, false),
     };
-    let disk = match FileDisk::open_at(rt, alloc, file.as_str(), make) {
-        Ok(disk) => disk,
-        Err(FileFault::Device) => return Err(refusal_numbers::DEVICE),
-        Err(FileFault::NoMemory) => return Err(refusal_numbers::NO_MEMORY),
-    };
-    if make {
-        match Session::create(alloc, disk) {
-            Ok(session) => Ok(session),
-            Err((fault, _disk)) => Err(create_number(fault)),
-        }
-    } else {
-        match Session::open(alloc, disk) {
-            Ok(session) => Ok(session),
-            Err((fault, _disk)) => Err(open_number(fault)),
-        }
+    let opened = FileDisk::open_at(rt, alloc, file.as_str(), make);
+    session_on(alloc, choice, opened)
+}
+
+/// Serves a session over a reader and a writer, and gives the exit status of the shell's end.
+fn serve<R: Read, W: Write, D: Disk + Drop>(
+    rt: &HostRuntime,
+    reader: &mut R,
+    writer: &mut W,
+    session: &mut Session<D>,
+) -> io::Result<ExitCode>
+    ensures { IfOk result (λ code. RanToStatus (exit_status code) (R.remaining reader.old) (R.remaining reader.new)
+        (staged (D.state session.old.disk) session.old (W.contents writer.old)) (staged (D.state session.new.disk) session.new (W.contents writer.new))) }
+{
+    match run_shell(rt.alloc(), reader, writer, session) {
+        ShellEnd::NoMemory => refuse(rt, refusal_numbers::NO_MEMORY),
+        end => Ok(ExitCode::from(status(end))),
     }
 }
 
-/// Runs the bench by the words of the command line: session, shell, exit status.
-pub fn run_program(rt: &HostRuntime) -> io::Result<ExitCode> {
-    let Ok(words) = given_words(rt) else {
-        return refuse(rt, refusal_numbers::NO_MEMORY);
-    };
-    let choice = match choice(rt.alloc(), words.as_slice()) {
+/// Runs the bench by these words, the program's name first: session, shell, exit status.
+pub fn run_words<S: AsStr>(rt: &HostRuntime, words: &[S]) -> io::Result<ExitCode>
+    ensures { IfOk result (λ code. exit_status code ≡ WRONG_WORDS → is_taken (map S.text words.entry.now) ≡ true → chosen (map S.text words.entry.now) ≡ None) }
+{
+    let choice = match choice(rt.alloc(), words) {
         Ok(choice) => choice,
-        Err(WordsFault::Usage) => {
-            eprintln!(rt; "usage: mcs4 new FILE or mcs4 open FILE")?;
-            return Ok(ExitCode::from(WRONG_WORDS));
-        }
-        Err(WordsFault::NoMemory) => return refuse(rt, refusal_numbers::NO_MEMORY),
+        Err(fault) => return refuse_words(rt, fault),
     };
-    let mut session = match session_in(rt, &choice) {
-        Ok(session) => session,
-        Err(number) => return refuse(rt, number),
-    };
-    match run_shell(rt.alloc(), &mut rt.stdin(), &mut rt.stdout(), &mut session) {
-        ShellEnd::NoMemory => refuse(rt, refusal_numbers::NO_MEMORY),
-        end => Ok(ExitCode::from(status(end))),
+    match session_in(rt, &choice) {
+        Ok(mut session) => serve(rt, &mut rt.stdin(), &mut rt.stdout(), &mut session),
+        Err(number) => refuse(rt, number),
+    }
+}
+
+/// Runs the bench by the words of the command line.
+pub fn run_program(rt: &HostRuntime) -> io::Result<ExitCode> {
+    match given_words(rt) {
+        Ok(words) => run_words(rt, words.as_slice()),
+        Err(fault) => refuse_words(rt, fault),
     }
 }

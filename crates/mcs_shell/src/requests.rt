@@ -2,12 +2,14 @@
 ghost use Rattle.std.specs.Prelude.{◌≡◌, min, option_map};
 ghost use Rattle.std.specs.List.{list_all};
 ghost use Rattle.std.specs.Str.{bytes_eq};
-ghost use Rattle.mcs_shell.specs.Requests.{alone, is_plain_byte, number_of_fault, poke_of, poke_words, register_of, request_of, request_of_words, words_of};
+ghost use Rattle.mcs_shell.specs.RefusalNumbers.{line_fault_number};
+ghost use Rattle.mcs_shell.specs.Requests.{alone, is_plain_byte, poke_of, poke_words, register_named, request_of, request_of_words, words_of};
 
 use crate::lines::next_word;
 use mcs_model::command::{Command, Place};
 use mcs_model::numeral::{LARGE, number, number_within};
 use mcs_model::query::Query;
+use mcs_model::refusal_numbers;
 use mcs_nibble::{Nibble, RegNo};
 use thiserror::Error;
 
@@ -31,13 +33,13 @@ pub enum LineFault {
 impl LineFault {
     /// The number that the refusal is told by.
     pub fn number(self) -> u8
-        ensures { result ≡ number_of_fault self }
+        ensures { result ≡ line_fault_number self }
     {
         match self {
-            LineFault::NotACommand => 10,
-            LineFault::BadNumber => 11,
-            LineFault::LineTooLong => 12,
-            LineFault::NotAscii => 14,
+            LineFault::NotACommand => refusal_numbers::NOT_A_COMMAND,
+            LineFault::BadNumber => refusal_numbers::BAD_NUMBER,
+            LineFault::LineTooLong => refusal_numbers::LINE_TOO_LONG,
+            LineFault::NotAscii => refusal_numbers::NOT_ASCII,
         }
     }
 }
@@ -66,8 +68,8 @@ fn is_word(word: &[u8], name: &[u8]) -> bool
 }
 
 /// The number of the register that a place word names.
-fn register(place: &[u8]) -> Option<u64>
-    ensures { result ≡ option_map (λ n. min n LARGE) (register_of place.now) }
+fn register_named(place: &[u8]) -> Option<u64>
+    ensures { result ≡ option_map (λ n. min n LARGE) (register_named place.now) }
 {
     match place {
         [b'r', digits @ ..] => number(digits),
@@ -79,7 +81,7 @@ fn register(place: &[u8]) -> Option<u64>
 fn read_poke(place: &[u8], value: &[u8]) -> Request
     ensures { result ≡ poke_of place.now value.now }
 {
-    let Some(register) = register(place) else {
+    let Some(register) = register_named(place) else {
         return Request::Refused(LineFault::NotACommand);
     };
     if register >= 16 {

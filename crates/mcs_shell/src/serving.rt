@@ -5,7 +5,7 @@ ghost use Rattle.mcs_shell.specs.Stage.{staged};
 ghost use Rattle.mcs_shell.specs.Serving.{ServedLine, Stopped, StopsAt, WentFurther};
 
 use crate::answering::answer_line;
-use crate::outcome::{Outcome, Stop};
+use crate::outcome::{Outcome, Halt};
 use crate::sending::{WriteStopped, send};
 use crate::telling::Answer;
 use arrayvec::ArrayVec;
@@ -22,16 +22,16 @@ pub(crate) fn serve_line<W: Write, D: Disk + Drop>(
     line: &[u8],
     writer: &mut W,
     session: &mut Session<D>,
-) -> Result<(), Stop>
+) -> Result<(), Halt>
     ensures { ServedLine result (staged (D.state session.old.disk) session.old (W.contents writer.old)) (input_of line.now)
         (staged (D.state session.new.disk) session.new (W.contents writer.new)) }
 {
     let mut answer = Answer::new();
     let outcome = answer_line(line, session, &mut answer);
     match send(writer, answer.as_slice()) {
-        Err(WriteStopped) => Err(Stop::Write),
+        Err(WriteStopped) => Err(Halt::Write),
         Ok(()) => match outcome {
-            Outcome::Device => Err(Stop::Fault),
+            Outcome::Device => Err(Halt::Device),
             _ => Ok(()),
         },
     }
@@ -43,12 +43,12 @@ fn serve_byte<W: Write, D: Disk + Drop>(
     line: &mut ArrayVec<u8, 257>,
     writer: &mut W,
     session: &mut Session<D>,
-) -> Result<(), Stop>
+) -> Result<(), Halt>
     requires { HasNoFeed line.old.items }
     ensures ok { OnOk result (WentFurther (staged (D.state session.old.disk) session.old (W.contents writer.old))
         (staged (D.state session.new.disk) session.new (W.contents writer.new)) line.old.items line.new.items (byte ∷ [])) }
     ensures feed { OnErr result (byte ≡ 10) }
-    ensures err { IfErr result (λ stop. StopsAt stop (staged (D.state session.old.disk) session.old (W.contents writer.old)) (input_of line.old.items)
+    ensures err { IfErr result (λ halt. StopsAt halt (staged (D.state session.old.disk) session.old (W.contents writer.old)) (input_of line.old.items)
         (staged (D.state session.new.disk) session.new (W.contents writer.new))) }
 {
     if byte == b'\n' {
@@ -57,7 +57,7 @@ fn serve_byte<W: Write, D: Disk + Drop>(
                 line.clear();
                 Ok(())
             }
-            Err(stop) => Err(stop),
+            Err(halt) => Err(halt),
         }
     } else if line.is_full() {
         Ok(())
@@ -73,17 +73,17 @@ pub(crate) fn serve_chunk<W: Write, D: Disk + Drop>(
     line: &mut ArrayVec<u8, 257>,
     writer: &mut W,
     session: &mut Session<D>,
-) -> Result<(), Stop>
+) -> Result<(), Halt>
     requires { HasNoFeed line.old.items }
     ensures ok { OnOk result (WentFurther (staged (D.state session.old.disk) session.old (W.contents writer.old))
         (staged (D.state session.new.disk) session.new (W.contents writer.new)) line.old.items line.new.items chunk.now) }
-    ensures err { IfErr result (λ stop. Stopped stop (staged (D.state session.old.disk) session.old (W.contents writer.old))
+    ensures err { IfErr result (λ halt. Stopped halt (staged (D.state session.old.disk) session.old (W.contents writer.old))
         (staged (D.state session.new.disk) session.new (W.contents writer.new)) line.old.items chunk.now) }
 {
     for byte in chunk {
         match serve_byte(*byte, line, writer, session) {
             Ok(()) => {}
-            Err(stop) => return Err(stop),
+            Err(halt) => return Err(halt),
         }
     }
     Ok(())

@@ -3,11 +3,11 @@ ghost use Rattle.std.specs.Prelude.{◌≡◌, ◌<◌, ◌≤◌, take, length,
 ghost use Rattle.std.specs.Io.KnownBytes.{Keeps};
 ghost use Rattle.mcs_shell.specs.Inputs.{HasNoFeed};
 ghost use Rattle.mcs_shell.specs.Stage.{staged};
-ghost use Rattle.mcs_shell.specs.Shell.{LoopSettled, Ran, ReadSome, end_by};
+ghost use Rattle.mcs_shell.specs.Shell.{LoopSettled, Ran, ReadSome, end_of_halt};
 ghost use Rattle.mcs_shell.specs.Finishing.{FinishedBy};
 
 use crate::ends::ShellEnd;
-use crate::outcome::Stop;
+use crate::outcome::Halt;
 use crate::sending::{WriteStopped, send};
 use crate::serving::{UnfinishedLine, serve_chunk, serve_line};
 use crate::telling::{Answer, put_number};
@@ -36,13 +36,13 @@ fn read_some<R: Read>(reader: &mut R, buffer: &mut [u8], most: usize) -> Result<
     }
 }
 
-/// The end that a stop in the middle gives.
-fn end_of(stop: Stop) -> ShellEnd
-    ensures { result ≡ end_by stop }
+/// The end that a halt gives.
+fn end_of(halt: Halt) -> ShellEnd
+    ensures { result ≡ end_of_halt halt }
 {
-    match stop {
-        Stop::Write => ShellEnd::WriteFault,
-        Stop::Fault => ShellEnd::DeviceFault,
+    match halt {
+        Halt::Write => ShellEnd::WriteFault,
+        Halt::Device => ShellEnd::DeviceFault,
     }
 }
 
@@ -61,7 +61,7 @@ fn finish<W: Write, D: Disk + Drop>(
     }
     match serve_line(line, writer, session) {
         Ok(()) => ShellEnd::End,
-        Err(stop) => end_of(stop),
+        Err(halt) => end_of(halt),
     }
 }
 
@@ -85,7 +85,7 @@ fn run_loop<R: Read, W: Write, D: Disk + Drop>(
             Ok(0) => return finish(line.as_slice(), writer, session),
             Ok(count) => match serve_chunk(&buffer[..count], &mut line, writer, session) {
                 Ok(()) => total += count,
-                Err(stop) => return end_of(stop),
+                Err(halt) => return end_of(halt),
             },
         }
     }

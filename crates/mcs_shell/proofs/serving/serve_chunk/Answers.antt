@@ -10,7 +10,7 @@ pub serve_byte-requires : goal.serve_byte-requires
 serve_byte-requires g c = c.loop-byte.invariant.progress.no_feed
 
 pub returns-in-Err-clause-err : goal.returns-in-Err-clause-err
-returns-in-Err-clause-err g c = stopped_by c.in-Err.stop _ _ _ _ _ _ c.loop-byte.byte-index c.loop-byte-test.true c.in-Err.ensures.feed c.loop-byte.invariant c.in-Err.ensures.err
+returns-in-Err-clause-err g c = stopped_by c.in-Err.halt _ _ _ _ _ _ c.loop-byte.byte-index c.loop-byte-test.true c.in-Err.ensures.feed c.loop-byte.invariant c.in-Err.ensures.err
 
 pub loop-byte-preserved : goal.loop-byte-preserved
 loop-byte-preserved g c = went_byte _ _ _ _ _ _ c.args.chunk.now c.loop-byte.byte-index c.loop-byte-test.true c.loop-byte.invariant c.in-Ok.ensures.ok

@@ -10,4 +10,4 @@ returns-in-Ok g c = let some : 0 < length c.args.line.now = search rules in fini
 
 pub returns-in-Err : goal.returns-in-Err
 returns-in-Err g c = let some : 0 < length c.args.line.now = search rules in
-    rw c.end_of.ensures (finished_stop c.in-Err.stop _ _ _ c.requires some c.in-Err.ensures)
+    rw c.end_of.ensures (finished_stop c.in-Err.halt _ _ _ c.requires some c.in-Err.ensures)

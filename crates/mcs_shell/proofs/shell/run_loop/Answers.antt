@@ -1,4 +1,5 @@
 use Rattle.std.proofs.Common.{rules, arith, ◌≡◌, ◌≤◌, ◌+◌}
+use Rattle.mcs_model.specs.declared.limits.TheConstants.{INPUT_BYTES}
 use Rattle.mcs_shell.proofs.Looping.{ran_finish, ran_limit, ran_read_fault, ran_stop, so_far_more, so_far_nothing}
 use Rattle.mcs_shell.proofs.shell.run_loop.Goals as goal
 
@@ -14,13 +15,13 @@ returns-in-Ok-eq0 g c = ran_finish _ _ _ _ _ _ _ _ _ _ _ c.loop-total.invariant.
 
 pub loop-total-preserved : goal.loop-total-preserved
 loop-total-preserved g c = record {
-  small = let m : c.loop-total.total + c.min-most.result ≤ 16777216 = omega (arith, c.min-most.ensures) in omega (arith, m, c.in-Ok.ensures.ok.within);
+  small = let m : c.loop-total.total + c.min-most.result ≤ INPUT_BYTES = omega (arith, c.min-most.ensures) in omega (arith, m, c.in-Ok.ensures.ok.within);
   room = search rules;
   so_far = so_far_more _ _ _ _ _ _ _ _ _ _ _ _ c.loop-total.invariant.so_far c.in-Ok.ensures.ok c.in-Ok-serve_chunk.ensures.ok;
 }
 
 pub returns-in-Err-serve_chunk : goal.returns-in-Err-serve_chunk
-returns-in-Err-serve_chunk g c = rw c.end_of.ensures (ran_stop c.in-Err-serve_chunk.stop _ _ _ _ _ _ _ _ _ _ _ c.loop-total.invariant.so_far (omega (arith, c.min-most.ensures)) c.in-Ok.ensures.ok c.in-Err-serve_chunk.ensures.err)
+returns-in-Err-serve_chunk g c = rw c.end_of.ensures (ran_stop c.in-Err-serve_chunk.halt _ _ _ _ _ _ _ _ _ _ _ c.loop-total.invariant.so_far (omega (arith, c.min-most.ensures)) c.in-Ok.ensures.ok c.in-Err-serve_chunk.ensures.err)
 
 pub returns : goal.returns
 returns g c = ran_limit _ _ _ _ _ _ c.loop-total.invariant.so_far (omega (arith, c.loop-total-test.false, c.loop-total.invariant.small))

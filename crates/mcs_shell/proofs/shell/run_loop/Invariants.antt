@@ -1,11 +1,12 @@
 use Rattle.std.proofs.Common.{◌≤◌, ◌<◌, ◌-◌, length}
+use Rattle.mcs_model.specs.declared.limits.TheConstants.{INPUT_BYTES}
 use Rattle.mcs_shell.specs.Stage.{staged}
 use Rattle.mcs_shell.proofs.Looping.{SoFar}
 use Rattle.mcs_shell.proofs.shell.run_loop.Given as goal
 
 abbrev pub invariant-loop-total : goal.invariant-loop-total
 invariant-loop-total g l = record {
-  small : l.total ≤ 16777216;
+  small : l.total ≤ INPUT_BYTES;
   room : 0 < length l.buffer;
   so_far : SoFar (g.R.Read.remaining l.fn.reader) (g.R.Read.remaining l.reader)
       (staged (g.D.Disk.state l.fn.session.disk) l.fn.session (g.W.Write.contents l.fn.writer))
@@ -14,4 +15,4 @@ invariant-loop-total g l = record {
 }
 
 abbrev pub decreases-loop-total : goal.decreases-loop-total
-decreases-loop-total g l = 16777216 - l.total
+decreases-loop-total g l = INPUT_BYTES - l.total
