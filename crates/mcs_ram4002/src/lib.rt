@@ -167,6 +167,7 @@ impl<const CHIPS: usize> Bank<CHIPS> {
         requires { IsInBank write }
         ensures stored { self.new ≡ after_write self.old write }
         ensures whole { IsWhole self.old }
+        ensures few { chip_written write < 4 }
     {
         let (placed, kept) = (write, write);
         let chip = usize::from(placed.chip());
