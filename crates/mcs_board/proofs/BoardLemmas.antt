@@ -1,5 +1,5 @@
 -- What a board with which nothing is wrong has: its lines are in range, its clocks and data lines are output lines.
-use Rattle.std.proofs.Common.{◌≡◌, ℕ, ◌+◌, ◌<◌, ◌⊎◌, inl, inr, List, Option, Some, None, Bool, true, false, length, get_or, refl, sym, ap, ◌∙◌, arith, nat_lt, nat_le, not, ◌&&◌, ◌||◌, cond, slice_get}
+use Rattle.std.proofs.Common.{◌≡◌, ℕ, ◌+◌, ◌<◌, ◌≤◌, ◌⊎◌, inl, inr, List, Option, Some, None, Bool, true, false, length, get_or, refl, sym, ap, ◌∙◌, arith, nat_lt, nat_le, not, ◌&&◌, ◌||◌, cond, slice_get}
 use Rattle.std.proofs.lemmas.Option.{get_or_from_slice_get, slice_get_past}
 use Rattle.std.specs.List.{list_any}
 use Rattle.std.proofs.lemmas.List.Folds.{list_any_at}
@@ -58,6 +58,14 @@ keys-chain b m v is =
     let here = sym (ap (λ (o : Option KeyMatrix). elim o [ Some k ↦ nat_le (chain_count b) k.chain || nat_lt (chain_bits b k.chain) (k.first + k.rows) | None ↦ false ]) is) ∙ lacks in
     let first = (neither (nat_le (chain_count b) m.chain) (nat_lt (chain_bits b m.chain) (m.first + m.rows)) here).0 in
     grind (arith, nat_tests, first)
+
+-- and it has a bit for each row
+pub keys-rows : (b : BoardParts) (m : KeyMatrix) → fault_of b ≡ None → b.keys ≡ Some m → m.first + m.rows ≤ chain_bits b m.chain
+keys-rows b m v is =
+    let lacks = (neither (any_line (λ line. not (exists_on b line)) b) (lacks_rows b) (valid b v).1).1 in
+    let here = sym (ap (λ (o : Option KeyMatrix). elim o [ Some k ↦ nat_le (chain_count b) k.chain || nat_lt (chain_bits b k.chain) (k.first + k.rows) | None ↦ false ]) is) ∙ lacks in
+    let second = (neither (nat_le (chain_count b) m.chain) (nat_lt (chain_bits b m.chain) (m.first + m.rows)) here).1 in
+    grind (arith, nat_tests, second)
 
 -- the lines of the clocks, the data and the lamps
 driven : (b : BoardParts) (i : ℕ) → fault_of b ≡ None → i < chain_count b → (not (is_output_line b (chain_part b i).clock) || not (is_output_line b (chain_part b i).data_in)) ≡ false

@@ -1,7 +1,8 @@
-pub mod AnyLemmas
 pub mod BoardLemmas
 pub mod ClockLemmas
 pub mod FittedLemmas
+pub mod KeyLemmas
 mod MakingLemmas
 mod PlaceLemmas
 pub mod RigLemmas
+mod ValidLemmas

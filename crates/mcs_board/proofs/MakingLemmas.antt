@@ -13,10 +13,11 @@ use Rattle.mcs_model.specs.declared.board.ChainPart.{ChainPart}
 use Rattle.mcs_model.specs.Boards.{masks_on, chain_count, chain_bits, no_chain, key_count, empty_parts}
 use Rattle.mcs_model.specs.Bus.{zero_bus}
 use Rattle.mcs_model.specs.Places.{kept_rom, blank_chains, after_reset, after_wire}
-use Rattle.mcs_board.specs.RigState.{no_bank, bytes_of_rom, port_of_rom, masks_of_rom, wired_chains, rig_of, Fitted}
+use Rattle.mcs_keypad.specs.Keys.{KeyState, no_matrix}
+use Rattle.mcs_board.specs.RigState.{RigParts, matrix_on, no_bank, bytes_of_rom, port_of_rom, masks_of_rom, wired_chains, rig_of, Fitted}
 use Rattle.mcs_board.proofs.RigLemmas.{byte-of}
 use Rattle.mcs_board.proofs.ClockLemmas.{chain-read}
-use Rattle.mcs_board.specs.Fitting.{IsSizedBus, FitsCounts, bytes_in, rewired, silenced}
+use Rattle.mcs_board.specs.Fitting.{FitsCounts, bytes_in, rewired, silenced}
 
 -- a list of 0s is 0 at each index, and beyond its end
 pub zeros : (n k : ℕ) → slice_index (replicate n 0) k ≡ 0
@@ -104,7 +105,7 @@ rewired-bytes (Some m) rom k = bytes-in rom k
 rewired-bytes None rom k = refl
 
 -- a byte of the flat list, by its ROM
-rom-at : (roms : List (Option RomState)) (at : ℕ) → at < 4096 → slice_index (grid 16 256 bytes_of_rom None roms) at ≡ slice_index (bytes_of_rom (get_or roms (at / 256) None)) (at % 256)
+pub rom-at : (roms : List (Option RomState)) (at : ℕ) → at < 4096 → slice_index (grid 16 256 bytes_of_rom None roms) at ≡ slice_index (bytes_of_rom (get_or roms (at / 256) None)) (at % 256)
 rom-at roms at h = byte-of roms at (get_or roms (at / 256) None) h refl
 
 -- every place for a ROM, on a new board; beyond the places the board has none
@@ -132,40 +133,52 @@ kept-bytes b roms roms' every =
     ∙ rewired-bytes (masks_on b (at / 256)) (get_or roms (at / 256) None) (at % 256)
     ∙ ap (λ x. if is_some (masks_on b (at / 256)) then x else 0) (sym (rom-at roms at h)))
 
+-- a rig put on a new board: what each place is then
+pub record IsRewired (old new : RigParts) : Type 0 where
+  pub roms : (k : ℕ) → get_or new.roms k None ≡ rewired (masks_on new.board k) (get_or old.roms k None)
+  pub banks : AllBlank new.banks (slice_index new.board.banks)
+  pub fit : chain_count new.board ≤ length new.chains
+  pub chains : (k : ℕ) → k < chain_count new.board → get_or new.chains k [] ≡ replicate (chain_bits new.board k) 0
+  pub keys : new.keys ≡ record { matrix = matrix_on new.board; down = replicate (key_count new.board) 0 }
+  pub src : new.rom_src ≡ 0
+  pub test : new.test ≡ old.test
+
 -- the state of a rig on a new board
-pub wire-state : (b b' : BoardParts) (roms roms' : List (Option RomState)) (banks banks' : List BankState) (chains chains' : List (List ℕ)) (keys keys' : List ℕ) (rom_src test : ℕ) → ((k : ℕ) → get_or roms' k None ≡ rewired (masks_on b' k) (get_or roms k None)) → AllBlank banks' (slice_index b'.banks) → chain_count b' ≤ length chains' → ((k : ℕ) → k < chain_count b' → get_or chains' k [] ≡ replicate (chain_bits b' k) 0) → keys' ≡ replicate (key_count b') 0 → rig_of b' roms' banks' chains' keys' 0 test ≡ after_wire (rig_of b roms banks chains keys rom_src test) b'
-wire-state b b' roms roms' banks banks' chains chains' keys keys' rom_src test every blank fit rows up =
-    let z = blank-zeros banks' (slice_index b'.banks) blank in
-    let bytes = kept-bytes b' roms roms' every in
-    let ports = ports-blank roms' (λ k. ap port_of_rom (every k) ∙ rewired-port (masks_on b' k) (get_or roms k None)) in
-    let cs = chains-blank b' chains' fit rows in
-    rw (bytes, z.ram, z.status, z.ports, ports, z.src, cs, up) refl
+pub wire-state : (old new : RigParts) → IsRewired old new → rig_of new ≡ after_wire (rig_of old) new.board
+wire-state old new w =
+    let z = blank-zeros new.banks (slice_index new.board.banks) w.banks in
+    let bytes = kept-bytes new.board old.roms new.roms w.roms in
+    let ports = ports-blank new.roms (λ k. ap port_of_rom (w.roms k) ∙ rewired-port (masks_on new.board k) (get_or old.roms k None)) in
+    let cs = chains-blank new.board new.chains w.fit w.chains in
+    let up = ap (λ (x : KeyState). x.down) w.keys in
+    rw (bytes, z.ram, z.status, z.ports, ports, z.src, cs, up, w.src, w.test) refl
 
 -- the state of a rig after a reset
-pub reset-state : (b : BoardParts) (roms roms' : List (Option RomState)) (banks banks' : List BankState) (wired : ℕ → ℕ) (chains chains' : List (List ℕ)) (keys : List ℕ) (rom_src test : ℕ) → ((k : ℕ) → get_or roms' k None ≡ silenced (get_or roms k None)) → AllBlank banks' wired → chain_count b ≤ length chains' → ((k : ℕ) → k < chain_count b → get_or chains' k [] ≡ replicate (chain_bits b k) 0) → rig_of b roms' banks' chains' keys 0 test ≡ after_reset (rig_of b roms banks chains keys rom_src test)
-reset-state b roms roms' banks banks' wired chains chains' keys rom_src test every blank fit rows =
-    let z = blank-zeros banks' wired blank in
-    let bytes = same_grid 16 256 bytes_of_rom None roms' roms (λ k. ap bytes_of_rom (every k) ∙ silenced-bytes (get_or roms k None)) in
-    let ports = ports-blank roms' (λ k. ap port_of_rom (every k) ∙ silenced-port (get_or roms k None)) in
-    let cs = chains-blank b chains' fit rows in
+pub reset-state : (p : RigParts) (roms : List (Option RomState)) (banks : List BankState) (chains : List (List ℕ)) (wired : ℕ → ℕ) → ((k : ℕ) → get_or roms k None ≡ silenced (get_or p.roms k None)) → AllBlank banks wired → chain_count p.board ≤ length chains → ((k : ℕ) → k < chain_count p.board → get_or chains k [] ≡ replicate (chain_bits p.board k) 0) → rig_of (record p { roms = roms; banks = banks; chains = chains; rom_src = 0 }) ≡ after_reset (rig_of p)
+reset-state p roms banks chains wired every blank fit rows =
+    let z = blank-zeros banks wired blank in
+    let bytes = same_grid 16 256 bytes_of_rom None roms p.roms (λ k. ap bytes_of_rom (every k) ∙ silenced-bytes (get_or p.roms k None)) in
+    let ports = ports-blank roms (λ k. ap port_of_rom (every k) ∙ silenced-port (get_or p.roms k None)) in
+    let cs = chains-blank p.board chains fit rows in
     rw (bytes, z.ram, z.status, z.ports, ports, z.src, cs) refl
 
 -- the chips of a rig fit the board that it was put on
-pub wire-fitted : (b : BoardParts) (roms roms' : List (Option RomState)) (banks' : List BankState) (chains' : List (List ℕ)) (keys' : List ℕ) (rom_places bank_places chain_places chain_size : ℕ) → FitsCounts b rom_places bank_places chain_places chain_size → length roms' ≡ rom_places → length banks' ≡ bank_places → length chains' ≡ chain_places → ((k : ℕ) → get_or roms' k None ≡ rewired (masks_on b k) (get_or roms k None)) → AllBlank banks' (slice_index b.banks) → ((k : ℕ) → k < chain_count b → get_or chains' k [] ≡ replicate (chain_bits b k) 0) → keys' ≡ replicate (key_count b) 0 → Fitted b roms' banks' chains' keys' 0 rom_places bank_places chain_places
-wire-fitted b roms roms' banks' chains' keys' rom_places bank_places chain_places chain_size fits rl bl cl every blank rows up = record {
+pub wire-fitted : (old new : RigParts) (rom_places bank_places chain_places chain_size : ℕ) → FitsCounts new.board rom_places bank_places chain_places chain_size → length new.roms ≡ rom_places → length new.banks ≡ bank_places → length new.chains ≡ chain_places → IsRewired old new → Fitted new rom_places bank_places chain_places
+wire-fitted old new rom_places bank_places chain_places chain_size fits rl bl cl w = record {
   roms_len = rl;
   banks_len = bl;
   chains_len = cl;
-  keys_len = ap length up ∙ length-replicate {A = ℕ} (key_count b) 0;
+  matrix = ap (λ (x : KeyState). x.matrix) w.keys;
+  keys_len = ap (λ (x : KeyState). length x.down) w.keys ∙ length-replicate {A = ℕ} (key_count new.board) 0;
   chains_fit = fits.chains;
-  masks = λ k. ap masks_of_rom (every k) ∙ rewired-masks (masks_on b k) (get_or roms k None);
+  masks = λ k. ap masks_of_rom (w.roms k) ∙ rewired-masks (masks_on new.board k) (get_or old.roms k None);
   wired = λ k.
-      elim (cases_lt k (length banks')) [
-        | inl below ↦ ap (λ (x : BankState). x.wired) (blank.at k below)
-        | inr beyond ↦ ap (λ (x : BankState). x.wired) (get_or_past banks' k no_bank beyond) ∙ sym (fits.banks k (omega arith))
+      elim (cases_lt k (length new.banks)) [
+        | inl below ↦ ap (λ (x : BankState). x.wired) (w.banks.at k below)
+        | inr beyond ↦ ap (λ (x : BankState). x.wired) (get_or_past new.banks k no_bank beyond) ∙ sym (fits.banks k (omega arith))
       ];
-  bits = λ i h. ap length (rows i h) ∙ length-replicate {A = ℕ} (chain_bits b i) 0;
-  src = omega arith;
+  bits = λ i h. ap length (w.chains i h) ∙ length-replicate {A = ℕ} (chain_bits new.board i) 0;
+  src = let e = w.src in omega arith;
 }
 
 same-all : {X : Type 0} (n k : ℕ) (x : X) → get_or (replicate n x) k x ≡ x
@@ -182,51 +195,39 @@ no-wired n k =
       | inr h ↦ let l = length-replicate n (blank_bank 0) in ap (λ (x : BankState). x.wired) (get_or_past (replicate n (blank_bank 0)) k no_bank (omega arith))
     ]
 
+-- what a new rig keeps
+abbrev pub new_parts : ℕ → ℕ → ℕ → RigParts
+new_parts rom_places bank_places chain_places = record {
+  board = empty_parts;
+  roms = replicate rom_places None;
+  banks = replicate bank_places (blank_bank 0);
+  chains = replicate chain_places [];
+  keys = record { matrix = no_matrix; down = replicate 0 0 };
+  rom_src = 0;
+  test = 1;
+}
+
 -- the places of a new rig fit the empty board
-pub new-fitted : (b : BoardParts) (roms : List (Option RomState)) (banks : List BankState) (chains : List (List ℕ)) (keys : List ℕ) (rom_places bank_places chain_places : ℕ) → b ≡ empty_parts → roms ≡ replicate rom_places None → banks ≡ replicate bank_places (blank_bank 0) → chains ≡ replicate chain_places [] → keys ≡ [] → Fitted b roms banks chains keys 0 rom_places bank_places chain_places
-new-fitted b roms banks chains keys rom_places bank_places chain_places eb er ek ec ey =
-    rw (eb, er, ek, ec, ey) (record {
-      roms_len = length-replicate rom_places None;
-      banks_len = length-replicate bank_places (blank_bank 0);
-      chains_len = length-replicate chain_places [];
-      keys_len = refl;
-      chains_fit = omega arith;
-      masks = λ k. ap masks_of_rom (same-all rom_places k None) ∙ sym (same-all 16 k None);
-      wired = λ k. no-wired bank_places k ∙ sym (zeros 8 k);
-      bits = λ i h. absurd (omega arith);
-      src = omega arith;
-    })
+pub new-fitted : (rom_places bank_places chain_places : ℕ) → Fitted (new_parts rom_places bank_places chain_places) rom_places bank_places chain_places
+new-fitted rom_places bank_places chain_places = record {
+  roms_len = length-replicate rom_places None;
+  banks_len = length-replicate bank_places (blank_bank 0);
+  chains_len = length-replicate chain_places [];
+  matrix = refl;
+  keys_len = refl;
+  chains_fit = omega arith;
+  masks = λ k. ap masks_of_rom (same-all rom_places k None) ∙ sym (same-all 16 k None);
+  wired = λ k. no-wired bank_places k ∙ sym (zeros 8 k);
+  bits = λ i h. absurd (omega arith);
+  src = omega arith;
+}
 
 -- the state of a new rig
-pub new-state : (b : BoardParts) (roms : List (Option RomState)) (banks : List BankState) (chains : List (List ℕ)) (keys : List ℕ) (rom_places bank_places chain_places test : ℕ) → b ≡ empty_parts → roms ≡ replicate rom_places None → banks ≡ replicate bank_places (blank_bank 0) → keys ≡ [] → rig_of b roms banks chains keys 0 test ≡ record zero_bus { test = test }
+pub new-state : (rom_places bank_places chain_places : ℕ) → rig_of (new_parts rom_places bank_places chain_places) ≡ record zero_bus { test = 1 }
 unfolding zero_bus tabled
-new-state b roms banks chains keys rom_places bank_places chain_places test eb er ek ey =
+new-state rom_places bank_places chain_places =
     let blank : AllBlank (replicate bank_places (blank_bank 0)) (λ _. 0) = record { at = λ k h. let l = length-replicate bank_places (blank_bank 0) in get_or-replicate bank_places k (blank_bank 0) no_bank (omega arith) } in
     let z = blank-zeros (replicate bank_places (blank_bank 0)) (λ _. 0) blank in
     let bytes = blank-grid 16 256 bytes_of_rom None (replicate rom_places None) (λ i k. ap (λ r. slice_index (bytes_of_rom r) k) (same-all rom_places i None)) in
     let ports = ports-blank (replicate rom_places None) (λ k. ap port_of_rom (same-all rom_places k None)) in
-    rw (eb, er, ek, ey, bytes, z.ram, z.status, z.ports, ports, z.src) refl
-
-no-rom : (rom : Option RomState) → masks_of_rom rom ≡ None → rom ≡ None
-no-rom (Some r) h = absurd (cc)
-no-rom None h = refl
-
--- the lengths of the lists of a rig's state
-pub sized-state : (b : BoardParts) (roms : List (Option RomState)) (banks : List BankState) (chains : List (List ℕ)) (keys : List ℕ) (rom_src test rom_places bank_places chain_places : ℕ) → Fitted b roms banks chains keys rom_src rom_places bank_places chain_places → IsSizedBus (rig_of b roms banks chains keys rom_src test)
-sized-state b roms banks chains keys rom_src test rom_places bank_places chain_places v = record {
-  rom = length-grid 16 256 bytes_of_rom None roms;
-  ram = length-grid 8 256 (λ (x : BankState). x.main) no_bank banks;
-  status = length-grid 8 64 (λ (x : BankState). x.status) no_bank banks;
-  ram_ports = length-grid 8 4 (λ (x : BankState). x.ports) no_bank banks;
-  rom_ports = length-column 16 port_of_rom None roms;
-  rom_src = v.src;
-  ram_src = length-column 8 (λ (x : BankState). x.src) no_bank banks;
-  chains = length-tabled (chain_count b) _;
-  bits = λ i h. ap length (chain-read b chains i h) ∙ v.bits i h;
-  keys = v.keys_len;
-  absent = λ at none.
-      elim (cases_lt at 4096) [
-        | inl h ↦ rom-at roms at h ∙ ap (λ r. slice_index (bytes_of_rom r) (at % 256)) (no-rom (get_or roms (at / 256) None) (v.masks (at / 256) ∙ none))
-        | inr h ↦ let l = length-grid 16 256 bytes_of_rom None roms in get_or_past (grid 16 256 bytes_of_rom None roms) at 0 (omega arith)
-      ];
-}
+    rw (bytes, z.ram, z.status, z.ports, ports, z.src) refl

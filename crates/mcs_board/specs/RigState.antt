@@ -3,11 +3,16 @@
 use Rattle.std.specs.Prelude.{◌≡◌, ℕ, ◌<◌, ◌≤◌, List, [], Option, Some, None, slice_index, slice_index_or, length}
 use Rattle.mcs_nibble.specs.Tabled.{tabled, column, grid}
 use Rattle.mcs_nibble.specs.declared.lines.LineMask.{LineMask}
+use Rattle.mcs_ram4002.specs.declared.BankWrite.{BankWrite}
+use Rattle.mcs_ram4002.specs.declared.BankWrite.TheVariants.{Character, Status, Port, Src}
 use Rattle.mcs_ram4002.specs.RamBank.{BankState}
 use Rattle.mcs_rom4001.specs.Roms.{RomState}
+use Rattle.mcs_keypad.specs.Keys.{KeyState, no_matrix}
 use Rattle.mcs_model.specs.declared.board.BoardParts.{BoardParts}
+use Rattle.mcs_model.specs.declared.board.KeyMatrix.{KeyMatrix}
 use Rattle.mcs_model.specs.Boards.{masks_on, chain_count, chain_bits, key_count}
 use Rattle.mcs_model.specs.Bus.{BusState}
+use Rattle.mcs_model.specs.Places.{with_ram, with_status, with_ram_port, with_ram_src}
 
 -- what is read where a bank, or a ROM, is absent: nothing but 0
 abbrev pub no_bank : BankState
@@ -29,31 +34,53 @@ masks_of_rom None = None
 abbrev pub wired_chains : BoardParts → List (List ℕ) → List (List ℕ)
 wired_chains b chains = tabled (chain_count b) (λ i. slice_index_or chains i [])
 
+-- the key matrix of a board; one without rows and columns where it has none
+abbrev pub matrix_on : BoardParts → KeyMatrix
+matrix_on b = elim b.keys [ Some m ↦ m | None ↦ no_matrix ]
+
+-- what a rig keeps: a board, and a place for each chip that may be on it
+pub record RigParts : Type 0 where
+  pub board : BoardParts
+  pub roms : List (Option RomState)
+  pub banks : List BankState
+  pub chains : List (List ℕ)
+  pub keys : KeyState
+  pub rom_src : ℕ
+  pub test : ℕ
+
 -- the state that the chips of a rig are in
-abbrev pub rig_of : BoardParts → List (Option RomState) → List BankState → List (List ℕ) → List ℕ → ℕ → ℕ → BusState
-rig_of board roms banks chains keys rom_src test = record {
-  board = board;
-  rom = grid 16 256 bytes_of_rom None roms;
-  ram = grid 8 256 (λ b. b.main) no_bank banks;
-  status = grid 8 64 (λ b. b.status) no_bank banks;
-  ram_ports = grid 8 4 (λ b. b.ports) no_bank banks;
-  rom_ports = column 16 port_of_rom None roms;
-  rom_src = rom_src;
-  ram_src = column 8 (λ b. b.src) no_bank banks;
-  chains = wired_chains board chains;
-  keys = keys;
-  test = test;
+abbrev pub rig_of : RigParts → BusState
+rig_of p = record {
+  board = p.board;
+  rom = grid 16 256 bytes_of_rom None p.roms;
+  ram = grid 8 256 (λ b. b.main) no_bank p.banks;
+  status = grid 8 64 (λ b. b.status) no_bank p.banks;
+  ram_ports = grid 8 4 (λ b. b.ports) no_bank p.banks;
+  rom_ports = column 16 port_of_rom None p.roms;
+  rom_src = p.rom_src;
+  ram_src = column 8 (λ b. b.src) no_bank p.banks;
+  chains = wired_chains p.board p.chains;
+  keys = p.keys.down;
+  test = p.test;
 }
 
 -- the chips are those of the board: so many places for each kind of chip, the board's ROMs with their masks, so many
 -- chips in each bank, each of the board's chains with its bits, and a place for each key
-pub record Fitted (board : BoardParts) (roms : List (Option RomState)) (banks : List BankState) (chains : List (List ℕ)) (keys : List ℕ) (rom_src : ℕ) (rom_places bank_places chain_places : ℕ) : Type 0 where
-  pub roms_len : length roms ≡ rom_places
-  pub banks_len : length banks ≡ bank_places
-  pub chains_len : length chains ≡ chain_places
-  pub keys_len : length keys ≡ key_count board
-  pub chains_fit : chain_count board ≤ chain_places
-  pub masks : (k : ℕ) → masks_of_rom (slice_index_or roms k None) ≡ masks_on board k
-  pub wired : (k : ℕ) → (slice_index_or banks k no_bank).wired ≡ slice_index board.banks k
-  pub bits : (i : ℕ) → i < chain_count board → length (slice_index_or chains i []) ≡ chain_bits board i
-  pub src : rom_src < 256
+pub record Fitted (p : RigParts) (rom_places bank_places chain_places : ℕ) : Type 0 where
+  pub roms_len : length p.roms ≡ rom_places
+  pub banks_len : length p.banks ≡ bank_places
+  pub chains_len : length p.chains ≡ chain_places
+  pub matrix : p.keys.matrix ≡ matrix_on p.board
+  pub keys_len : length p.keys.down ≡ key_count p.board
+  pub chains_fit : chain_count p.board ≤ chain_places
+  pub masks : (k : ℕ) → masks_of_rom (slice_index_or p.roms k None) ≡ masks_on p.board k
+  pub wired : (k : ℕ) → (slice_index_or p.banks k no_bank).wired ≡ slice_index p.board.banks k
+  pub bits : (i : ℕ) → i < chain_count p.board → length (slice_index_or p.chains i []) ≡ chain_bits p.board i
+  pub src : p.rom_src < 256
+
+-- a write to a bank, in the flat state
+abbrev pub after_bank_write : BusState → ℕ → BankWrite → BusState
+after_bank_write s bank (Character src n) = with_ram s bank src n
+after_bank_write s bank (Status high k n) = with_status s bank high k n
+after_bank_write s bank (Port chip n) = with_ram_port s bank chip n
+after_bank_write s bank (Src byte) = with_ram_src s bank byte

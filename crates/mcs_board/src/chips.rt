@@ -1,15 +1,16 @@
 //! The chips of a rig, place by place: made, put on a board, and cleared.
 
-ghost use Rattle.std.specs.Prelude.{◌≡◌, ℕ, ◌<◌, ◌≤◌, ◌↔◌, IsTrue, length, replicate, [], None, IfOk, slice_index, slice_index_or};
-ghost use Rattle.mcs_ram4002.specs.RamBank.{blank_bank};
+ghost use Rattle.std.specs.Prelude.{◌≡◌, ℕ, ◌<◌, ◌≤◌, ◌↔◌, IsTrue, length, replicate, [], None, IfOk, IfSome, slice_index, slice_index_or};
+ghost use Rattle.mcs_ram4002.specs.RamBank.{blank_bank, IsValidBank};
+ghost use Rattle.mcs_rom4001.specs.Roms.{IsValidRom};
 ghost use Rattle.mcs_model.specs.Boards.{masks_on, chain_bits, key_count};
 ghost use Rattle.mcs_board.specs.Fitting.{rewired, silenced};
-ghost use Rattle.mcs_board.specs.RigState.{no_bank};
+ghost use Rattle.mcs_board.specs.RigState.{no_bank, matrix_on};
 
-use arrayvec::ArrayVec;
+use mcs_keypad::KeyPad;
 use mcs_model::board::Board;
 use mcs_model::limits::{BANKS, ROMS};
-use mcs_nibble::{Bit, LineMask};
+use mcs_nibble::LineMask;
 use mcs_ram4002::Bank;
 use mcs_rom4001::Rom;
 use mcs_shift4003::Chain;
@@ -167,16 +168,13 @@ pub(crate) fn rewire_chains<const MAX: usize>(chains: &mut Vec<Chain<MAX>>, boar
 }
 
 /// The keys of a board, all up.
-pub(crate) fn keys_of(board: &Board) -> ArrayVec<Bit, 80>
-    ensures { result.items ≡ replicate (key_count board.now) 0 }
+pub(crate) fn keys_of(board: &Board) -> KeyPad
+    ensures { result ≡ record { matrix = matrix_on board.now; down = replicate (key_count board.now) 0 } }
 {
-    let mut keys = ArrayVec::new();
-    if let Some(matrix) = &board.parts().keys {
-        for _ in 0..usize::from(matrix.rows) * matrix.columns.len() {
-            keys.push(Bit::ZERO);
-        }
+    match &board.parts().keys {
+        Some(matrix) => KeyPad::of(matrix),
+        None => KeyPad::none(),
     }
-    keys
 }
 
 /// Makes the latch of a ROM 0, if it is there.
@@ -215,5 +213,32 @@ pub(crate) fn clear_chains<const MAX: usize>(chains: &mut Vec<Chain<MAX>>)
 {
     for i in 0..chains.len() {
         chains[i].clear();
+    }
+}
+
+/// A law: a ROM's place is empty, or its ROM is valid.
+fn rom_is_valid(rom: &Option<Rom>)
+    ensures { IfSome rom.now IsValidRom }
+{
+    if let Some(rom) = rom {
+        rom.state_is_valid();
+    }
+}
+
+/// A law: each ROM that is there is valid.
+pub(crate) fn roms_are_valid(roms: &Vec<Option<Rom>>)
+    ensures { (k : ℕ) → k < length roms.now.items → IfSome (slice_index_or roms.now.items k None) IsValidRom }
+{
+    for i in 0..roms.len() {
+        rom_is_valid(&roms[i]);
+    }
+}
+
+/// A law: each bank is valid.
+pub(crate) fn banks_are_valid(banks: &Vec<Bank<4>>)
+    ensures { (k : ℕ) → k < length banks.now.items → IsValidBank (slice_index_or banks.now.items k no_bank) }
+{
+    for i in 0..banks.len() {
+        banks[i].state_is_valid();
     }
 }

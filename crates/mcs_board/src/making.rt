@@ -3,14 +3,15 @@
 ghost use Rattle.std.specs.Prelude.{◌≡◌, ◌↔◌, IfOk, IsTrue};
 ghost use Rattle.mcs_model.specs.Bus.{zero_bus};
 ghost use Rattle.mcs_model.specs.Places.{after_reset, after_wire};
-ghost use Rattle.mcs_board.specs.Fitting.{FitsCounts, IsSizedBus};
+ghost use Rattle.mcs_model.specs.Validity.{IsValidBus};
+ghost use Rattle.mcs_board.specs.Fitting.{FitsCounts};
 
 use crate::chips::{
-    banks_fit, chains_fit, clear_banks, clear_chains, clear_ports, keys_of, no_banks, no_chains,
-    no_roms, rewire_banks, rewire_chains, rewire_roms, roms_fit,
+    banks_are_valid, banks_fit, chains_fit, clear_banks, clear_chains, clear_ports, keys_of, no_banks,
+    no_chains, no_roms, rewire_banks, rewire_chains, rewire_roms, roms_are_valid, roms_fit,
 };
 use crate::rig::Rig;
-use arrayvec::ArrayVec;
+use mcs_keypad::KeyPad;
 use mcs_model::board::Board;
 use mcs_nibble::Bit;
 use std::alloc::{AllocError, Global};
@@ -49,7 +50,7 @@ impl<const ROMS: usize, const BANKS: usize, const CHAINS: usize, const MAX: usiz
             roms: no_roms(alloc, ROMS)?,
             banks: no_banks(alloc, BANKS)?,
             chains: no_chains(alloc, CHAINS)?,
-            keys: ArrayVec::new(),
+            keys: KeyPad::none(),
             rom_src: 0,
             test: Bit::ONE,
         })
@@ -101,10 +102,16 @@ impl<const ROMS: usize, const BANKS: usize, const CHAINS: usize, const MAX: usiz
         board.chain_count() <= CHAINS && chains_fit(board, MAX)
     }
 
-    /// A law: the lists of the state have the lengths that the board gives them, and what absent ROMs hold is 0.
-    pub fn lists_have_their_lengths(&self)
-        ensures { IsSizedBus self.now }
+    /// A law: the board is valid, each place of the chips holds a number of its kind, there are as many places as the
+    /// board gives, and what is absent holds 0.
+    pub fn state_is_valid(&self)
+        ensures { IsValidBus self.now }
     {
-        let _chains = &self.chains;
+        let _parts = self.parts();
+        roms_are_valid(&self.roms);
+        banks_are_valid(&self.banks);
+        self.chains_are_valid();
+        self.keys.state_is_valid();
+        let _level = self.test.get();
     }
 }

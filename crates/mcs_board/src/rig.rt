@@ -3,7 +3,7 @@ ghost use Rattle.std.specs.Prelude.{◌≡◌, ◌<◌, None};
 ghost use Rattle.mcs_model.specs.Boards.{fault_of, chain_count, IsSized};
 ghost use Rattle.mcs_model.specs.Levels.{chain_bit};
 
-use arrayvec::ArrayVec;
+use mcs_keypad::KeyPad;
 use mcs_model::board::{Board, BoardParts};
 use mcs_nibble::Bit;
 use mcs_ram4002::Bank;
@@ -19,7 +19,7 @@ pub struct Rig<const ROMS: usize, const BANKS: usize, const CHAINS: usize, const
     pub(crate) roms: Vec<Option<Rom>>,
     pub(crate) banks: Vec<Bank<4>>,
     pub(crate) chains: Vec<Chain<MAX>>,
-    pub(crate) keys: ArrayVec<Bit, 80>,
+    pub(crate) keys: KeyPad,
     pub(crate) rom_src: u8,
     pub(crate) test: Bit,
 }
@@ -27,13 +27,14 @@ pub struct Rig<const ROMS: usize, const BANKS: usize, const CHAINS: usize, const
 impl<const ROMS: usize, const BANKS: usize, const CHAINS: usize, const MAX: usize> Model
     for Rig<ROMS, BANKS, CHAINS, MAX> {
     ghost use Rattle.mcs_model.specs.Bus.{BusState};
-    ghost use Rattle.mcs_board.specs.RigState.{rig_of, Fitted};
-
     ghost Value = { BusState };
 
-    ghost view = { λ r. rig_of r.board r.roms.items r.banks.items r.chains.items r.keys.items r.rom_src r.test };
+    ghost use Rattle.mcs_board.specs.RigState.{rig_of, Fitted};
+    ghost use Rattle.mcs_board.specs.RigFields.{parts_of};
 
-    ghost invariant = { λ r. Fitted r.board r.roms.items r.banks.items r.chains.items r.keys.items r.rom_src ROMS BANKS CHAINS };
+    ghost view = { λ r. rig_of (parts_of r) };
+
+    ghost invariant = { λ r. Fitted (parts_of r) ROMS BANKS CHAINS };
 }
 
 impl<const ROMS: usize, const BANKS: usize, const CHAINS: usize, const MAX: usize> Rig<

@@ -1,13 +1,18 @@
 -- What a bank's flat lists are after a read of one of its chips, and after a write to one.
-use Rattle.std.proofs.Common.{◌≡◌, ℕ, ◌+◌, ◌*◌, ◌/◌, ◌<◌, ◌≤◌, ◌⊎◌, inl, inr, List, [], length, get_or, slice_set, slice_index, take, refl, sym, ap, ◌∙◌, arith, nat_lt, true, false, replicate, subst}
+use Rattle.std.proofs.Common.{◌≡◌, ℕ, ◌+◌, ◌*◌, ◌/◌, ◌%◌, ◌<◌, ◌≤◌, ◌⊎◌, inl, inr, List, [], length, get_or, slice_set, slice_index, take, refl, sym, ap, ◌∙◌, arith, nat_lt, true, false, replicate, subst}
 use Rattle.std.proofs.Math.Seq.{take-set-lt}
 use Rattle.std.proofs.lemmas.Grind.{common_steps}
 use Rattle.std.proofs.lemmas.Bool.{cases_lt, lt-ltb, le-ltb}
-use Rattle.std.proofs.lemmas.List.{get_or_default, get_or-replicate, length-replicate, get_or-take, length-take}
+use Rattle.std.specs.Prelude.{All}
+use Rattle.std.proofs.lemmas.List.{get_or_default, get_or_past, get_or-replicate, length-replicate, get_or-take, length-take}
+use Rattle.std.proofs.lemmas.List.Elements.{All-get_or, All-nil, All-take}
 use Rattle.mcs_nibble.specs.Tabled.{grid, column}
 use Rattle.mcs_nibble.proofs.GridLemmas.{get-grid, set-grid, kept-grid, length-grid, blank-grid, get-column, set-column, kept-column, length-column, blank-column}
+use Rattle.mcs_ram4002.specs.declared.BankWrite.{BankWrite}
+use Rattle.mcs_ram4002.specs.declared.BankWrite.TheVariants.{Character, Status, Port, Src}
 use Rattle.mcs_ram4002.specs.declared.Chip.{Chip}
-use Rattle.mcs_ram4002.specs.RamBank.{BankState, no_chip, bank_of, blank_bank, main_of, status_of, with_main, with_status, with_port, IsWhole}
+use Rattle.mcs_ram4002.specs.RamBank.{BankState, no_chip, bank_of, blank_bank, main_of, status_of, status_place, chip_written, chip_after, src_after, with_write, IsInBank, IsSizedChip, IsValidChip, IsWhole, IsValidBank}
+use Rattle.mcs_ram4002.proofs.Below.{below-at, grid-below, column-below}
 
 length_wired : (chips : List Chip) (wired : ℕ) → wired ≤ length chips → length (take wired chips) ≡ wired
 length_wired chips wired l = grind (arith, common_steps)
@@ -63,32 +68,51 @@ written wide f chips wired i k p n x d h l at there fits len new =
     ∙ set-grid 4 wide f no_chip (take wired chips) i k d n h l (within chips wired i there fits) (rw old (omega arith)) (new ∙ ap (λ c. slice_set (f c) k n) (sym old))
     ∙ ap (λ j. slice_set (grid 4 wide f no_chip (take wired chips)) j n) (sym at)
 
-pub main-write : (chips : List Chip) (wired src i k p n : ℕ) (x d : Chip) → i < 4 → k < 64 → p ≡ i * 64 + k → i < wired → wired ≤ length chips → length (main_of (get_or chips i x)) ≡ 64 → main_of d ≡ slice_set (main_of (get_or chips i x)) k n → status_of d ≡ status_of (get_or chips i x) → d.port ≡ (get_or chips i x).port → bank_of (slice_set chips i d) wired src ≡ record (bank_of chips wired src) { main = slice_set (bank_of chips wired src).main p n }
-main-write chips wired src i k p n x d h l at there fits len main status port =
-    rw (written 64 main_of chips wired i k p n x d h l at there fits len main, kept 16 status_of chips wired i x d there fits status, kept-ports chips wired i x d there fits port) refl
-
-pub status-write : (chips : List Chip) (wired src i k p n : ℕ) (x d : Chip) → i < 4 → k < 16 → p ≡ i * 16 + k → i < wired → wired ≤ length chips → length (status_of (get_or chips i x)) ≡ 16 → main_of d ≡ main_of (get_or chips i x) → status_of d ≡ slice_set (status_of (get_or chips i x)) k n → d.port ≡ (get_or chips i x).port → bank_of (slice_set chips i d) wired src ≡ record (bank_of chips wired src) { status = slice_set (bank_of chips wired src).status p n }
-status-write chips wired src i k p n x d h l at there fits len main status port =
-    rw (kept 64 main_of chips wired i x d there fits main, written 16 status_of chips wired i k p n x d h l at there fits len status, kept-ports chips wired i x d there fits port) refl
-
-pub port-write : (chips : List Chip) (wired src i n : ℕ) (x d : Chip) → i < 4 → i < wired → wired ≤ length chips → main_of d ≡ main_of (get_or chips i x) → status_of d ≡ status_of (get_or chips i x) → d.port ≡ n → bank_of (slice_set chips i d) wired src ≡ record (bank_of chips wired src) { ports = slice_set (bank_of chips wired src).ports i n }
-port-write chips wired src i n x d h there fits main status port =
+-- a bank whose chip that a write goes to did it
+pub stored : (chips : List Chip) (wired src i : ℕ) (x d : Chip) (write : BankWrite) → IsInBank write → i ≡ chip_written write → i < 4 → i < wired → wired ≤ length chips → IsSizedChip (get_or chips i x) → d ≡ chip_after (get_or chips i x) write → bank_of (slice_set chips i d) wired (src_after write src) ≡ with_write (bank_of chips wired src) write
+stored chips wired src i x d (Character at n) place is h there fits sized new =
+    rw (written 64 main_of chips wired i (at % 64) at n x d h (omega arith) (omega arith) there fits sized.main (ap main_of new), kept 16 status_of chips wired i x d there fits (ap status_of new), kept-ports chips wired i x d there fits (ap (λ (c : Chip). c.port) new)) refl
+stored chips wired src i x d (Status high k n) place is h there fits sized new =
+    rw (kept 64 main_of chips wired i x d there fits (ap main_of new), written 16 status_of chips wired i (high % 4 * 4 + k) (status_place high k) n x d h (omega arith) (omega arith) there fits sized.status (ap status_of new), kept-ports chips wired i x d there fits (ap (λ (c : Chip). c.port) new)) refl
+stored chips wired src i x d (Port chip n) place is h there fits sized new =
     let ports =
     ap (column 4 (λ (c : Chip). c.port) no_chip) (take-set-lt wired chips i d there)
-    ∙ set-column 4 (λ (c : Chip). c.port) no_chip (take wired chips) i d n h (within chips wired i there fits) port in
-    rw (kept 64 main_of chips wired i x d there fits main, kept 16 status_of chips wired i x d there fits status, ports) refl
+    ∙ set-column 4 (λ (c : Chip). c.port) no_chip (take wired chips) i d n h (within chips wired i there fits) (ap (λ (c : Chip). c.port) new)
+    ∙ ap (λ j. slice_set (column 4 (λ (c : Chip). c.port) no_chip (take wired chips)) j n) is in
+    rw (kept 64 main_of chips wired i x d there fits (ap main_of new), kept 16 status_of chips wired i x d there fits (ap status_of new), ports) refl
+stored chips wired src i x d (Src byte) place is h there fits sized new =
+    rw (kept 64 main_of chips wired i x d there fits (ap main_of new), kept 16 status_of chips wired i x d there fits (ap status_of new), kept-ports chips wired i x d there fits (ap (λ (c : Chip). c.port) new)) refl
 
--- what holds of every bank
-pub whole_of : (b : BankState) (chips : List Chip) (wired src : ℕ) → bank_of chips wired src ≡ b → src < 256 → (wired ≡ 0 → src ≡ 0) → IsWhole b
-whole_of b chips wired src is h unwired =
-    let at : IsWhole (bank_of chips wired src) = record {
-      main = length-grid 4 64 _ _ _;
-      status = length-grid 4 16 _ _ _;
-      ports = length-column 4 _ _ _;
-      src = h;
-      unwired = unwired;
+-- ---- what holds of every bank
+
+whole : (chips : List Chip) (wired src : ℕ) → IsWhole (bank_of chips wired src)
+whole chips wired src = record { main = length-grid 4 64 _ _ _; status = length-grid 4 16 _ _ _; ports = length-column 4 _ _ _ }
+
+pub whole_of : (b : BankState) (chips : List Chip) (wired src : ℕ) → bank_of chips wired src ≡ b → IsWhole b
+whole_of b chips wired src is = subst IsWhole is (whole chips wired src)
+
+-- a chip of a valid list, or an absent one
+chip_valid : (chips : List Chip) (wired i : ℕ) → All IsValidChip chips → IsValidChip (get_or (take wired chips) i no_chip)
+chip_valid chips wired i valid =
+    elim (cases_lt i (length (take wired chips))) [
+      | inl l ↦ All-get_or IsValidChip (take wired chips) i no_chip l (All-take IsValidChip wired chips valid)
+      | inr gone ↦ subst IsValidChip (sym (get_or_past (take wired chips) i no_chip gone)) (record { main = All-nil (λ n. n < 16); status = All-nil (λ n. n < 16); port = omega arith })
+    ]
+
+pub valid_of : (b : BankState) (chips : List Chip) (wired src : ℕ) → bank_of chips wired src ≡ b → src < 256 → (wired ≡ 0 → src ≡ 0) → All IsValidChip chips → IsValidBank b
+valid_of b chips wired src is small unwired valid =
+    let at : IsValidBank (bank_of chips wired src) = record {
+      whole = whole chips wired src;
+      main = grid-below 4 64 16 main_of no_chip (take wired chips) (λ i k. below-at 16 _ k (omega arith) (chip_valid chips wired i valid).main);
+      status = grid-below 4 16 16 status_of no_chip (take wired chips) (λ i k. below-at 16 _ k (omega arith) (chip_valid chips wired i valid).status);
+      ports = column-below 4 16 (λ (c : Chip). c.port) no_chip (take wired chips) (λ i. (chip_valid chips wired i valid).port);
+      src = small;
+      absent_main = λ at l gone. sym (absent-grid 64 main_of chips wired (at / 64) (at % 64) at refl (omega arith) (omega arith) (omega arith) gone);
+      absent_status = λ high k h l gone. sym (absent-grid 16 status_of chips wired (high / 4) (high % 4 * 4 + k) (status_place high k) refl (omega arith) (omega arith) (omega arith) gone);
+      absent_port = λ chip l gone. sym (port-absent chips wired src chip l gone);
+      absent_src = unwired;
     } in
-    subst IsWhole is at
+    subst IsValidBank is at
 
 -- a bank of blank chips
 equal : {X : Type 0} (f : Chip → X) (x : X) (n wired i : ℕ) (b : Chip) → wired ≤ n → f b ≡ x → f no_chip ≡ x → f (get_or (take wired (replicate n b)) i no_chip) ≡ x

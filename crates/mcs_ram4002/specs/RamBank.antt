@@ -1,8 +1,10 @@
 -- A bank of 4002s as flat lists.
 -- Source: MCS-4 Users Manual, 4002: four registers of 16 main and 4 status characters and an output port a chip; SRC
 -- selects chip, register and character. That an absent chip reads 0 is our own choice.
-use Rattle.std.specs.Prelude.{◌≡◌, ℕ, ◌+◌, ◌*◌, ◌/◌, ◌<◌, ◌≤◌, List, [], replicate, slice_set, length, take, if◌then◌else◌, nat_lt}
+use Rattle.std.specs.Prelude.{◌≡◌, ℕ, ◌+◌, ◌*◌, ◌/◌, ◌%◌, ◌<◌, ◌≤◌, List, [], All, replicate, slice_index, slice_set, length, take, if◌then◌else◌, nat_lt}
 use Rattle.mcs_nibble.specs.Tabled.{grid, column}
+use Rattle.mcs_ram4002.specs.declared.BankWrite.{BankWrite}
+use Rattle.mcs_ram4002.specs.declared.BankWrite.TheVariants.{Character, Status, Port, Src}
 use Rattle.mcs_ram4002.specs.declared.Chip.{Chip}
 
 pub record BankState : Type 0 where
@@ -29,29 +31,53 @@ chip_of src = src / 64
 abbrev pub blank_bank : ℕ → BankState
 blank_bank wired = record { wired = wired; src = 0; main = replicate 256 0; status = replicate 64 0; ports = replicate 4 0 }
 
--- an SRC byte kept; a bank without chips stays at 0
-unfoldable pub with_src : BankState → ℕ → BankState
-with_src b byte = if nat_lt 0 b.wired then record b { src = byte } else b
+-- ---- writes
 
--- a character written; lost where its chip is absent
-unfoldable pub with_main : BankState → ℕ → ℕ → BankState
-with_main b src n = if nat_lt (chip_of src) b.wired then record b { main = slice_set b.main src n } else b
+-- whether a write names a place of a bank
+abbrev pub IsInBank : BankWrite → Type 0
+IsInBank (Character src n) = Unit {0}
+IsInBank (Status high k n) = k < 4
+IsInBank (Port chip n) = chip < 4
+IsInBank (Src byte) = Unit {0}
 
--- a status character written; lost where its chip is absent
-unfoldable pub with_status : BankState → ℕ → ℕ → ℕ → BankState
-with_status b high k n = if nat_lt (high / 4) b.wired then record b { status = slice_set b.status (status_place high k) n } else b
+-- the chip that a write goes to
+abbrev pub chip_written : BankWrite → ℕ
+chip_written (Character src n) = chip_of src
+chip_written (Status high k n) = high / 4
+chip_written (Port chip n) = chip
+chip_written (Src byte) = 0
 
--- an output port written; lost where the chip is absent
-unfoldable pub with_port : BankState → ℕ → ℕ → BankState
-with_port b chip n = if nat_lt chip b.wired then record b { ports = slice_set b.ports chip n } else b
+-- a bank that has this chip, after the write
+abbrev pub with_write : BankState → BankWrite → BankState
+with_write b (Character src n) = record b { main = slice_set b.main src n }
+with_write b (Status high k n) = record b { status = slice_set b.status (status_place high k) n }
+with_write b (Port chip n) = record b { ports = slice_set b.ports chip n }
+with_write b (Src byte) = record b { src = byte }
 
--- what holds of every bank
+-- a bank after a write; lost where its chip is absent
+unfoldable pub after_write : BankState → BankWrite → BankState
+after_write b write = if nat_lt (chip_written write) b.wired then with_write b write else b
+
+-- ---- what holds of every bank
+
 pub record IsWhole (b : BankState) : Type 0 where
   pub main : length b.main ≡ 256
   pub status : length b.status ≡ 64
   pub ports : length b.ports ≡ 4
+
+-- each number is in its range, and what is absent is 0
+pub record IsValidBank (b : BankState) : Type 0 where
+  pub whole : IsWhole b
+  pub main : All (λ n. n < 16) b.main
+  pub status : All (λ n. n < 16) b.status
+  pub ports : All (λ n. n < 16) b.ports
   pub src : b.src < 256
-  pub unwired : b.wired ≡ 0 → b.src ≡ 0
+  pub absent_main : (src : ℕ) → src < 256 → b.wired ≤ chip_of src → slice_index b.main src ≡ 0
+  pub absent_status : (high k : ℕ) → high < 16 → k < 4 → b.wired ≤ high / 4 → slice_index b.status (status_place high k) ≡ 0
+  pub absent_port : (chip : ℕ) → chip < 4 → b.wired ≤ chip → slice_index b.ports chip ≡ 0
+  pub absent_src : b.wired ≡ 0 → b.src ≡ 0
+
+-- ---- how a bank holds its chips
 
 -- the cells of a chip, each list by index: how a chip stores them is said here alone
 abbrev pub main_of : Chip → List ℕ
@@ -72,3 +98,26 @@ bank_of chips wired src = record {
   status = grid 4 16 status_of no_chip (take wired chips);
   ports = column 4 (λ c. c.port) no_chip (take wired chips);
 }
+
+pub record IsSizedChip (c : Chip) : Type 0 where
+  pub main : length (main_of c) ≡ 64
+  pub status : length (status_of c) ≡ 16
+
+pub record IsValidChip (c : Chip) : Type 0 where
+  pub main : All (λ n. n < 16) (main_of c)
+  pub status : All (λ n. n < 16) (status_of c)
+  pub port : c.port < 16
+
+-- a chip after a write to its bank that goes to it
+abbrev pub chip_after : Chip → BankWrite → Chip
+chip_after c (Character src n) = record c { main = slice_set c.main (src % 64) n }
+chip_after c (Status high k n) = record c { status = slice_set c.status (high % 4 * 4 + k) n }
+chip_after c (Port chip n) = record c { port = n }
+chip_after c (Src byte) = c
+
+-- the SRC byte that a bank keeps after a write
+abbrev pub src_after : BankWrite → ℕ → ℕ
+src_after (Character at n) src = src
+src_after (Status high k n) src = src
+src_after (Port chip n) src = src
+src_after (Src byte) src = byte

@@ -1,11 +1,49 @@
 //! The 4002: RAM chips, and the banks that they form.
 #![tactic(auto)]
 
-ghost use Rattle.std.specs.Prelude.{◌≡◌, ℕ, ◌+◌, ◌*◌, ◌/◌, ◌<◌, ◌≤◌, slice_index, slice_set, length, nat_lt};
-ghost use Rattle.mcs_ram4002.specs.RamBank.{BankState, main_of, status_of, with_src, with_main, with_status, with_port, status_place, chip_of, blank_bank, IsWhole};
+ghost use Rattle.std.specs.Prelude.{◌≡◌, ℕ, ◌+◌, ◌*◌, ◌/◌, ◌<◌, ◌≤◌, All, slice_index};
+ghost use Rattle.mcs_ram4002.specs.RamBank.{BankState, main_of, status_of, status_place, chip_of, chip_written, src_after, chip_after, after_write, blank_bank, IsInBank, IsSizedChip, IsValidChip, IsWhole, IsValidBank};
 
 use mcs_nibble::Nibble;
 use std::marker::Model;
+
+/// One write to a bank: the place, and what it holds from then on.
+#[derive(Clone, Copy, Debug)]
+pub enum BankWrite {
+    /// The character of an SRC byte.
+    Character(u8, Nibble),
+    /// A status character, 0 to 3, of the register that the high nibble of an SRC byte selects.
+    Status(Nibble, u8, Nibble),
+    /// The output port of a chip, 0 to 3.
+    Port(u8, Nibble),
+    /// The SRC byte that the bank keeps. A bank without chip 0 keeps none.
+    Src(u8),
+}
+
+impl BankWrite {
+    /// The chip that it goes to.
+    fn chip(self) -> u8
+        ensures chip { result ≡ chip_written self }
+        ensures few { IsInBank self → result < 4 }
+    {
+        match self {
+            BankWrite::Character(src, _) => src / 64,
+            BankWrite::Status(high, _, _) => high.get() / 4,
+            BankWrite::Port(chip, _) => chip,
+            BankWrite::Src(_) => 0,
+        }
+    }
+
+    /// The SRC byte that a bank keeps after it.
+    fn src_after(self, src: u8) -> u8
+        ensures { result ≡ src_after self src }
+    {
+        match self {
+            BankWrite::Src(byte) => byte,
+            BankWrite::Character(_, _) | BankWrite::Status(_, _, _) | BankWrite::Port(_, _) => src,
+        }
+    }
+}
 
 /// A 4002, by the MCS-4 Users Manual: four registers of 16 main and four status characters, and an output
 /// port of four lines. A bank holds its chips and speaks for them.
@@ -25,16 +63,6 @@ impl Chip {
         self.main[usize::from(at)]
     }
 
-    fn set_character(&mut self, at: u8, n: Nibble)
-        requires { at < 64 }
-        ensures main { main_of self.new ≡ slice_set (main_of self.old) at n }
-        ensures status { status_of self.new ≡ status_of self.old }
-        ensures port { self.new.port ≡ self.old.port }
-        ensures length { length (main_of self.old) ≡ 64 }
-    {
-        self.main[usize::from(at)] = n;
-    }
-
     /// Status character `at`, which is register * 4 + character.
     fn status_character(&self, at: u8) -> Nibble
         requires { at < 16 }
@@ -43,28 +71,53 @@ impl Chip {
         self.status[usize::from(at)]
     }
 
-    fn set_status_character(&mut self, at: u8, n: Nibble)
-        requires { at < 16 }
-        ensures main { main_of self.new ≡ main_of self.old }
-        ensures status { status_of self.new ≡ slice_set (status_of self.old) at n }
-        ensures port { self.new.port ≡ self.old.port }
-        ensures length { length (status_of self.old) ≡ 16 }
-    {
-        self.status[usize::from(at)] = n;
-    }
-
     fn port(&self) -> Nibble
         ensures { result ≡ self.now.port }
     {
         self.port
     }
 
-    fn set_port(&mut self, n: Nibble)
-        ensures main { main_of self.new ≡ main_of self.old }
-        ensures status { status_of self.new ≡ status_of self.old }
-        ensures port { self.new.port ≡ n }
+    /// Does a write to a bank that goes to this chip.
+    fn store(&mut self, write: BankWrite)
+        requires { IsInBank write }
+        ensures stored { self.new ≡ chip_after self.old write }
+        ensures sized { IsSizedChip self.old }
     {
-        self.port = n;
+        match write {
+            BankWrite::Character(src, n) => self.main[usize::from(src % 64)] = n,
+            BankWrite::Status(high, k, n) => {
+                self.status[usize::from(high.get() % 4 * 4 + k)] = n;
+            }
+            BankWrite::Port(_, n) => self.port = n,
+            BankWrite::Src(_) => {}
+        }
+    }
+
+    /// A law: each character, each status character and the port is a nibble.
+    fn state_is_valid(&self)
+        ensures { IsValidChip self.now }
+    {
+        are_nibbles(&self.main);
+        are_nibbles(&self.status);
+        let _port = self.port.get();
+    }
+}
+
+/// A law: each number of a list of nibbles is below 16.
+fn are_nibbles(list: &[Nibble])
+    ensures { All (λ n. n < 16) list.now }
+{
+    for i in 0..list.len() {
+        let _n = list[i].get();
+    }
+}
+
+/// A law: each number that a chip holds is a nibble.
+fn are_valid(chips: &[Chip])
+    ensures { All IsValidChip chips.now }
+{
+    for i in 0..chips.len() {
+        chips[i].state_is_valid();
     }
 }
 
@@ -109,41 +162,39 @@ impl<const CHIPS: usize> Bank<CHIPS> {
         }
     }
 
-    /// How many chips are there.
-    pub fn wired(&self) -> usize
-        ensures wired { result ≡ self.now.wired }
-        ensures fits { result ≤ CHIPS }
-        ensures whole { IsWhole self.now }
+    /// Does a write; lost where its chip is absent.
+    pub fn store(&mut self, write: BankWrite)
+        requires { IsInBank write }
+        ensures stored { self.new ≡ after_write self.old write }
+        ensures whole { IsWhole self.old }
+        ensures few { chip_written write < 4 }
     {
-        let _chips = &self.chips;
-        let _src = self.src;
-        self.wired
+        let (placed, kept) = (write, write);
+        let chip = usize::from(placed.chip());
+        if chip < self.wired {
+            self.chips[chip].store(write);
+            self.src = kept.src_after(self.src);
+        }
     }
 
     /// Keeps an SRC byte. A bank without chips stays at 0.
     pub fn src(&mut self, byte: u8)
-        ensures { self.new ≡ with_src self.old byte }
+        ensures { self.new ≡ after_write self.old (BankWrite.Src byte) }
     {
-        let _chips = &self.chips;
-        if self.wired > 0 {
-            self.src = byte;
-        }
+        self.store(BankWrite::Src(byte));
     }
 
     /// The last SRC byte.
     pub fn last_src(&self) -> u8
-        ensures src { result ≡ self.now.src }
-        ensures whole { IsWhole self.now }
+        ensures { result ≡ self.now.src }
     {
         let _chips = &self.chips;
-        let _wired = self.wired;
         self.src
     }
 
     /// The character of an SRC byte.
     pub fn at(&self, src: u8) -> Nibble
-        ensures main { result ≡ slice_index self.now.main src }
-        ensures absent { self.now.wired ≤ chip_of src → result ≡ 0 }
+        ensures { result ≡ slice_index self.now.main src }
     {
         let chip = usize::from(src / 64);
         if chip < self.wired {
@@ -155,20 +206,15 @@ impl<const CHIPS: usize> Bank<CHIPS> {
 
     /// Writes the character of an SRC byte.
     pub fn set_at(&mut self, src: u8, n: Nibble)
-        ensures main { self.new ≡ with_main self.old src n }
-        ensures whole { IsWhole self.old }
+        ensures { self.new ≡ after_write self.old (BankWrite.Character src n) }
     {
-        let chip = usize::from(src / 64);
-        if chip < self.wired {
-            self.chips[chip].set_character(src % 64, n);
-        }
+        self.store(BankWrite::Character(src, n));
     }
 
     /// Status character `k`, 0 to 3, of the register that the high nibble of an SRC byte selects.
     pub fn status_at(&self, high: Nibble, k: u8) -> Nibble
         requires { k < 4 }
-        ensures status { result ≡ slice_index self.now.status (status_place high k) }
-        ensures absent { self.now.wired ≤ high / 4 → result ≡ 0 }
+        ensures { result ≡ slice_index self.now.status (status_place high k) }
     {
         let register = high.get();
         let chip = usize::from(register / 4);
@@ -182,21 +228,15 @@ impl<const CHIPS: usize> Bank<CHIPS> {
     /// Writes status character `k`, 0 to 3, of the register that the high nibble of an SRC byte selects.
     pub fn set_status_at(&mut self, high: Nibble, k: u8, n: Nibble)
         requires { k < 4 }
-        ensures status { self.new ≡ with_status self.old high k n }
-        ensures whole { IsWhole self.old }
+        ensures { self.new ≡ after_write self.old (BankWrite.Status high k n) }
     {
-        let register = high.get();
-        let chip = usize::from(register / 4);
-        if chip < self.wired {
-            self.chips[chip].set_status_character(register % 4 * 4 + k, n);
-        }
+        self.store(BankWrite::Status(high, k, n));
     }
 
     /// The output port of a chip, 0 to 3.
     pub fn port(&self, chip: u8) -> Nibble
         requires { chip < 4 }
-        ensures port { result ≡ slice_index self.now.ports chip }
-        ensures absent { self.now.wired ≤ chip → result ≡ 0 }
+        ensures { result ≡ slice_index self.now.ports chip }
     {
         let i = usize::from(chip);
         if i < self.wired {
@@ -206,31 +246,16 @@ impl<const CHIPS: usize> Bank<CHIPS> {
         }
     }
 
-    /// Writes the output port of a chip, 0 to 3.
-    pub fn set_port(&mut self, chip: u8, n: Nibble)
-        requires { chip < 4 }
-        ensures port { self.new ≡ with_port self.old chip n }
-        ensures whole { IsWhole self.old }
-    {
-        let i = usize::from(chip);
-        if i < self.wired {
-            self.chips[i].set_port(n);
-        }
-    }
-
     /// The character that the last SRC selected.
     pub fn read(&self) -> Nibble
-        ensures main { result ≡ slice_index self.now.main self.now.src }
-        ensures whole { IsWhole self.now }
+        ensures { result ≡ slice_index self.now.main self.now.src }
     {
-        let src = self.last_src();
-        self.at(src)
+        self.at(self.last_src())
     }
 
     /// Writes the character that the last SRC selected.
     pub fn write(&mut self, n: Nibble)
-        ensures main { self.new ≡ with_main self.old self.old.src n }
-        ensures whole { IsWhole self.old }
+        ensures { self.new ≡ after_write self.old (BankWrite.Character self.old.src n) }
     {
         let src = self.last_src();
         self.set_at(src, n);
@@ -239,49 +264,42 @@ impl<const CHIPS: usize> Bank<CHIPS> {
     /// Status character `k`, 0 to 3, of the register that the last SRC selected.
     pub fn read_status(&self, k: u8) -> Nibble
         requires { k < 4 }
-        ensures status { result ≡ slice_index self.now.status (status_place (self.now.src / 16) k) }
-        ensures whole { IsWhole self.now }
+        ensures { result ≡ slice_index self.now.status (status_place (self.now.src / 16) k) }
     {
-        let high = Nibble::high_of(self.last_src());
-        self.status_at(high, k)
+        self.status_at(Nibble::high_of(self.last_src()), k)
     }
 
     /// Writes status character `k`, 0 to 3, of the register that the last SRC selected.
     pub fn write_status(&mut self, k: u8, n: Nibble)
         requires { k < 4 }
-        ensures status { self.new ≡ with_status self.old (self.old.src / 16) k n }
-        ensures whole { IsWhole self.old }
+        ensures { self.new ≡ after_write self.old (BankWrite.Status (self.old.src / 16) k n) }
     {
         let high = Nibble::high_of(self.last_src());
         self.set_status_at(high, k, n);
     }
 
-    /// Whether the chip that the last SRC selected is there.
-    pub fn has_port(&self) -> bool
-        ensures there { result ≡ nat_lt (chip_of self.now.src) self.now.wired }
-        ensures whole { IsWhole self.now }
-    {
-        let chip = self.last_src() / 64;
-        usize::from(chip) < self.wired()
-    }
-
     /// Writes the output port of the chip that the last SRC selected.
     pub fn write_port(&mut self, n: Nibble)
-        ensures port { self.new ≡ with_port self.old (chip_of self.old.src) n }
-        ensures whole { IsWhole self.old }
+        ensures { self.new ≡ after_write self.old (BankWrite.Port (chip_of self.old.src) n) }
     {
         let chip = self.last_src() / 64;
-        self.set_port(chip, n);
+        self.store(BankWrite::Port(chip, n));
     }
 
     /// Makes all characters, status characters, ports and the SRC byte 0. The chips stay.
     pub fn clear(&mut self)
         ensures { self.new ≡ blank_bank self.old.wired }
     {
-        let wired = self.wired();
+        let _chips = &self.chips;
+        let wired = self.wired;
         *self = Bank::new(wired);
     }
-}
 
-#[cfg(test)]
-mod tests;
+    /// A law: there are so many characters, status characters and ports, each a nibble, and what is absent is 0.
+    pub fn state_is_valid(&self)
+        ensures { IsValidBank self.now }
+    {
+        let _kept = (self.wired, self.src);
+        are_valid(&self.chips);
+    }
+}

@@ -1,7 +1,8 @@
 //! The 4001: 256 bytes of program memory and a port of four lines.
 #![tactic(auto)]
 
-ghost use Rattle.std.specs.Prelude.{◌≡◌, ℕ, ◌<◌, slice_index, slice_set, replicate, length};
+ghost use Rattle.std.specs.Prelude.{◌≡◌, ℕ, ◌<◌, All, slice_index, slice_set, replicate, length};
+ghost use Rattle.mcs_rom4001.specs.Roms.{IsValidRom};
 ghost use Rattle.mcs_nibble.specs.Bits.{bit_of};
 ghost use Rattle.mcs_nibble.specs.Ports.{held, held_bit, read_bit, read_lines};
 
@@ -65,9 +66,10 @@ fn held_port(mask: &[LineMask; 4], n: Nibble) -> Nibble
     )
 }
 
-/// What the processor reads at the port, where `inputs` has the levels of the input lines.
+/// What the processor reads at a port with these masks, where bit `k` of `inputs` is the level of line `k`: that level
+/// on an input line, and the constant of its mask on an output line.
 #[tactic(auto, unfolding(mcs_nibble::specs::Ports::read_lines))]
-fn read_port_of(mask: &[LineMask; 4], inputs: Nibble) -> Nibble
+pub fn read_port_of(mask: &[LineMask; 4], inputs: Nibble) -> Nibble
     ensures { result ≡ read_lines (bit_of inputs) mask.now }
 {
     Nibble::of_bits(
@@ -76,6 +78,14 @@ fn read_port_of(mask: &[LineMask; 4], inputs: Nibble) -> Nibble
         read_line(mask, inputs, 2),
         read_line(mask, inputs, 3),
     )
+}
+
+/// A law: there are 256 numbers, each below 256.
+fn are_bytes(bytes: &[u8; 256])
+    ensures count { length bytes.now ≡ 256 }
+    ensures range { All (λ byte. byte < 256) bytes.now }
+{
+    let _bytes = bytes.as_slice();
 }
 
 impl Rom {
@@ -131,8 +141,7 @@ impl Rom {
 
     /// What the latch holds.
     pub fn port(&self) -> Nibble
-        ensures port { result ≡ self.now.port }
-        ensures inputs_are_0 { held self.now.mask result ≡ result }
+        ensures { result ≡ self.now.port }
     {
         self.port
     }
@@ -158,7 +167,12 @@ impl Rom {
         self.clear_port();
         self.mask = mask;
     }
-}
 
-#[cfg(test)]
-mod tests;
+    /// A law: there are 256 bytes, each below 256, and the latch holds a nibble, whose bits at input lines are 0.
+    pub fn state_is_valid(&self)
+        ensures { IsValidRom self.now }
+    {
+        let _latch = self.port.get();
+        are_bytes(&self.bytes);
+    }
+}

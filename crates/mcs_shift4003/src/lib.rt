@@ -1,7 +1,7 @@
 //! The 4003: a chain of 10-bit shift registers, as one row of bits.
 #![tactic(auto)]
 
-ghost use Rattle.std.specs.Prelude.{◌≡◌, ℕ, ◌<◌, ◌≤◌, length, replicate, slice_get, slice_set};
+ghost use Rattle.std.specs.Prelude.{◌≡◌, ℕ, ◌<◌, ◌≤◌, All, length, replicate, slice_get, slice_set};
 ghost use Rattle.mcs_shift4003.specs.Shifting.{shifted};
 
 use arrayvec::ArrayVec;
@@ -25,13 +25,6 @@ impl<const MAX: usize> Model for Chain<MAX> {
     ghost invariant = { λ c. length c.cells.items ≤ MAX };
 }
 
-impl<const MAX: usize> Default for Chain<MAX> {
-    /// A chain without bits.
-    fn default() -> Self {
-        Chain::new(0)
-    }
-}
-
 impl<const MAX: usize> Chain<MAX> {
     /// A chain of `bits` bits, all 0.
     pub fn new(bits: usize) -> Self
@@ -51,6 +44,13 @@ impl<const MAX: usize> Chain<MAX> {
         ensures fits { result ≤ MAX }
     {
         self.cells.len()
+    }
+
+    /// The bits, bit 0 first.
+    pub fn row(&self) -> &[Bit]
+        ensures { result.now ≡ self.now }
+    {
+        self.cells.as_slice()
     }
 
     /// Bit `i`, or none beyond the last one.
@@ -87,7 +87,13 @@ impl<const MAX: usize> Chain<MAX> {
             self.cells[i] = Bit::ZERO;
         }
     }
-}
 
-#[cfg(test)]
-mod tests;
+    /// A law: each bit is 0 or 1.
+    pub fn state_is_valid(&self)
+        ensures { All (λ bit. bit < 2) self.now }
+    {
+        for i in 0..self.cells.len() {
+            let _level = self.cells[i].get();
+        }
+    }
+}

@@ -3,16 +3,16 @@ use Rattle.mcs_ram4002.specs.RamBank.{BankState, main_of}
 use Rattle.mcs_ram4002.proofs.BankLemmas.{read-grid, absent-grid}
 use Rattle.mcs_ram4002.proofs.Bank.at.Goals as goal
 
-pub returns-then-chip-self-clause-main : goal.returns-then-chip-self-clause-main
-returns-then-chip-self-clause-main g c =
+pub returns-then-chip-self : goal.returns-then-chip-self
+returns-then-chip-self g c =
     let i = c.self.inside in
     let fits : i.wired ≤ length i.chips = omega (arith, c.self.invariant.0, c.self.told) in
     c.character.ensures
     ∙ read-grid 64 main_of i.chips i.wired c.from-chip.result (c.args.src % 64) c.args.src c.index-self-chip.result (omega arith) (omega arith) (omega arith) c.if-chip-self.true fits
     ∙ ap (λ (b : BankState). slice_index b.main c.args.src) c.self.view_is
 
-pub returns-else-chip-self-clause-main : goal.returns-else-chip-self-clause-main
-returns-else-chip-self-clause-main g c =
+pub returns-else-chip-self : goal.returns-else-chip-self
+returns-else-chip-self g c =
     let i = c.self.inside in
     absent-grid 64 main_of i.chips i.wired c.from-chip.result (c.args.src % 64) c.args.src refl (omega arith) (omega arith) (omega arith) c.if-chip-self.false
     ∙ ap (λ (b : BankState). slice_index b.main c.args.src) c.self.view_is

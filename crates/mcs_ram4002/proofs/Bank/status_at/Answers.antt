@@ -3,16 +3,16 @@ use Rattle.mcs_ram4002.specs.RamBank.{BankState, status_of, status_place}
 use Rattle.mcs_ram4002.proofs.BankLemmas.{read-grid, absent-grid}
 use Rattle.mcs_ram4002.proofs.Bank.status_at.Goals as goal
 
-pub returns-then-chip-self-clause-status : goal.returns-then-chip-self-clause-status
-returns-then-chip-self-clause-status g c =
+pub returns-then-chip-self : goal.returns-then-chip-self
+returns-then-chip-self g c =
     let i = c.self.inside in
     let fits : i.wired ≤ length i.chips = omega (arith, c.self.invariant.0, c.self.told) in
     c.status_character.ensures
     ∙ read-grid 16 status_of i.chips i.wired c.from-chip.result (c.get-register.result % 4 * 4 + c.args.k) (status_place c.args.high c.args.k) c.index-self-chip.result (omega arith) (omega arith) (omega arith) c.if-chip-self.true fits
     ∙ ap (λ (b : BankState). slice_index b.status (status_place c.args.high c.args.k)) c.self.view_is
 
-pub returns-else-chip-self-clause-status : goal.returns-else-chip-self-clause-status
-returns-else-chip-self-clause-status g c =
+pub returns-else-chip-self : goal.returns-else-chip-self
+returns-else-chip-self g c =
     let i = c.self.inside in
     absent-grid 16 status_of i.chips i.wired c.from-chip.result (c.get-register.result % 4 * 4 + c.args.k) (status_place c.args.high c.args.k) refl (omega arith) (omega arith) (omega arith) c.if-chip-self.false
     ∙ ap (λ (b : BankState). slice_index b.status (status_place c.args.high c.args.k)) c.self.view_is

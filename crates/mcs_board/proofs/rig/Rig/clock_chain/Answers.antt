@@ -3,6 +3,7 @@ use Rattle.std.proofs.lemmas.List.{get_or_default, set-get_or}
 use Rattle.mcs_model.specs.Bus.{BusState}
 use Rattle.mcs_model.specs.Boards.{chain_count}
 use Rattle.mcs_model.specs.Levels.{clocked}
+use Rattle.mcs_board.specs.RigFields.{parts_of}
 use Rattle.mcs_board.proofs.ClockLemmas.{chain-write, chain-read, clocked-high, clocked-was, clocked-low}
 use Rattle.mcs_board.proofs.rig.Rig.clock_chain.Goals as goal
 use Rattle.mcs_board.proofs.rig.Rig.clock_chain.Goals.{else-get-eq0-via-then-get-eq0+else-get-eq1, else-get-eq0-via-else-get-eq0}
@@ -20,7 +21,7 @@ returns-then-get-eq1 g c =
     c.shift.ensures
     ∙ ap (λ xs. take (length xs) (c.data_level-data.result ∷ xs)) row
     ∙ clocked-high s c.args.i c.args.was (get_or s.chains c.args.i []) c.clock_level.result c.data_level-data.result (sym c.get.ensures.value ∙ c.if-get-eq0.true) (sym c.get-then-get-eq0.ensures.value ∙ c.if-get-eq1.true) c.clock_level.ensures c.data_level-data.ensures in
-    chain-write i.board i.roms.items i.banks.items i.chains.items i.keys.items i.rom_src i.test c.args.i c.shift.new.self within there
+    chain-write (parts_of i) c.args.i c.shift.new.self within there
     ∙ ap (λ (t : BusState). record t { chains = slice_set t.chains c.args.i c.shift.new.self }) c.self.view_is
     ∙ ap (λ d. record s { chains = slice_set s.chains c.args.i d }) new
 

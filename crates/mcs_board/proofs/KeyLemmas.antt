@@ -1,0 +1,103 @@
+-- What a rig's keys are to its flat state.
+use Rattle.std.proofs.Common.{◌≡◌, ℕ, ◌+◌, ◌*◌, ◌/◌, ◌%◌, ◌<◌, ◌≤◌, zero, suc, Bool, true, false, List, [], Option, Some, None, length, get_or, refl, sym, ap, ◌∙◌, subst, arith, eqb}
+use Rattle.mcs_nibble.specs.declared.lines.LineMask.{LineMask}
+use Rattle.mcs_nibble.specs.declared.lines.LineMask.TheVariants.{Input, Zero, One}
+use Rattle.mcs_nibble.specs.Bits.{bit_of, nibble_of}
+use Rattle.mcs_nibble.specs.Ports.{read_bit, read_lines, mask_at}
+use Rattle.mcs_ram4002.specs.RamBank.{BankState}
+use Rattle.mcs_rom4001.specs.Roms.{RomState}
+use Rattle.mcs_keypad.specs.Keys.{KeyState, no_matrix}
+use Rattle.mcs_model.specs.declared.board.BoardParts.{BoardParts}
+use Rattle.mcs_model.specs.declared.board.KeyMatrix.{KeyMatrix}
+use Rattle.mcs_model.specs.Boards.{fault_of, masks_on, chain_count, chain_bits}
+use Rattle.mcs_model.specs.Bus.{BusState}
+use Rattle.mcs_model.specs.Levels.{keyed, pulled, bit_when, port_of}
+use Rattle.mcs_board.specs.RigState.{RigParts, rig_of, matrix_on}
+use Rattle.mcs_board.proofs.BoardLemmas.{keys-chain, keys-rows}
+use Rattle.mcs_board.proofs.ClockLemmas.{chain-read}
+
+matrix-some : (b : BoardParts) (m : KeyMatrix) → b.keys ≡ Some m → matrix_on b ≡ m
+matrix-some b m e = ap (λ (o : Option KeyMatrix). elim o [ Some k ↦ k | None ↦ no_matrix ]) e
+
+matrix-none : (b : BoardParts) → b.keys ≡ None → matrix_on b ≡ no_matrix
+matrix-none b e = ap (λ (o : Option KeyMatrix). elim o [ Some k ↦ k | None ↦ no_matrix ]) e
+
+-- the chain of the rows has a bit for each of them
+pub rows-fit : (b : BoardParts) (chains : List (List ℕ)) (m : KeyMatrix) → fault_of b ≡ None → m ≡ matrix_on b → ((i : ℕ) → i < chain_count b → length (get_or chains i []) ≡ chain_bits b i) → m.first + m.rows ≤ length (get_or chains m.chain [])
+rows-fit b chains m v is bits =
+    elim (b.keys) as (λ o. b.keys ≡ o → m.first + m.rows ≤ length (get_or chains m.chain [])) [
+      | Some k ↦ λ e.
+          let same : m ≡ k = is ∙ matrix-some b k e in
+          let fit = keys-rows b k v e in
+          let len = bits k.chain (keys-chain b k v e) in
+          let there : k.first + k.rows ≤ length (get_or chains k.chain []) = omega arith in
+          subst (λ (x : KeyMatrix). x.first + x.rows ≤ length (get_or chains x.chain [])) (sym same) there
+      | None ↦ λ e.
+          let same : m ≡ no_matrix = is ∙ matrix-none b e in
+          let there : 0 + 0 ≤ length (get_or chains 0 []) = omega arith in
+          subst (λ (x : KeyMatrix). x.first + x.rows ≤ length (get_or chains x.chain [])) (sym same) there
+    ] refl
+
+keyed-some : (s : BusState) (m : KeyMatrix) (chip k : ℕ) → s.board.keys ≡ Some m → pulled (get_or s.chains m.chain []) s.keys m chip k ≡ keyed s chip k
+unfolding keyed
+keyed-some s m chip k is = rw (is, keyed) refl
+
+keyed-none : (s : BusState) (chip k : ℕ) → s.board.keys ≡ None → false ≡ keyed s chip k
+unfolding keyed
+keyed-none s chip k is = rw (is, keyed) refl
+
+-- what the keys pull is what the flat state says
+pub keyed-by : (p : RigParts) (chip k : ℕ) → fault_of p.board ≡ None → p.keys.matrix ≡ matrix_on p.board → pulled (get_or p.chains p.keys.matrix.chain []) p.keys.down p.keys.matrix chip k ≡ keyed (rig_of p) chip k
+keyed-by p chip k v is =
+    let down = p.keys.down in
+    elim (p.board.keys) as (λ o. p.board.keys ≡ o → pulled (get_or p.chains p.keys.matrix.chain []) p.keys.down p.keys.matrix chip k ≡ keyed (rig_of p) chip k) [
+      | Some n ↦ λ e.
+          ap (λ (x : KeyMatrix). pulled (get_or p.chains x.chain []) down x chip k) (is ∙ matrix-some p.board n e)
+          ∙ ap (λ row. pulled row down n chip k) (sym (chain-read p.board p.chains n.chain (keys-chain p.board n v e)))
+          ∙ keyed-some (rig_of p) n chip k e
+      | None ↦ λ e.
+          ap (λ (x : KeyMatrix). pulled (get_or p.chains x.chain []) down x chip k) (is ∙ matrix-none p.board e)
+          ∙ keyed-none (rig_of p) chip k e
+    ] refl
+
+pub nibble-same : (f g : ℕ → ℕ) → ((k : ℕ) → f k ≡ g k) → nibble_of f ≡ nibble_of g
+nibble-same f g h = rw (h 0, h 1, h 2, h 3) refl
+
+pub bit-small : (b : Bool) → bit_when b < 2
+bit-small true = omega arith
+bit-small false = omega arith
+
+pub bit-is_one : (b : Bool) → eqb (bit_when b) 1 ≡ b
+bit-is_one true = refl
+bit-is_one false = refl
+
+pub bit-nibble : (f : ℕ → ℕ) (k : ℕ) → k < 4 → ((j : ℕ) → f j < 2) → bit_of (nibble_of f) k ≡ f k
+bit-nibble f zero l h = let a = h 0 in omega arith
+bit-nibble f (suc zero) l h = let a = h 0 in let b = h 1 in omega arith
+bit-nibble f (suc (suc zero)) l h = let a = h 0 in let b = h 1 in let d = h 2 in omega arith
+bit-nibble f (suc (suc (suc zero))) l h = let a = h 0 in let b = h 1 in let d = h 2 in let e = h 3 in omega arith
+bit-nibble f (suc (suc (suc (suc k)))) l h = absurd (omega arith)
+
+picked : (l : LineMask) (a b : ℕ) → a ≡ b → elim l as (λ _. ℕ) [ Input ↦ a | Zero ↦ 0 | One ↦ 1 ] ≡ elim l as (λ _. ℕ) [ Input ↦ b | Zero ↦ 0 | One ↦ 1 ]
+picked Input a b e = e
+picked Zero a b e = refl
+picked One a b e = refl
+
+-- a port whose input lines are at the bits of a nibble
+pub read-inputs : (f : ℕ → ℕ) (mask : List LineMask) → ((j : ℕ) → f j < 2) → read_lines (bit_of (nibble_of f)) mask ≡ read_lines f mask
+unfolding read_lines
+read-inputs f mask h =
+    rw (
+      picked (mask_at mask 0) (bit_of (nibble_of f) 0) (f 0) (bit-nibble f 0 (omega arith) h),
+      picked (mask_at mask 1) (bit_of (nibble_of f) 1) (f 1) (bit-nibble f 1 (omega arith) h),
+      picked (mask_at mask 2) (bit_of (nibble_of f) 2) (f 2) (bit-nibble f 2 (omega arith) h),
+      picked (mask_at mask 3) (bit_of (nibble_of f) 3) (f 3) (bit-nibble f 3 (omega arith) h),
+    ) refl
+
+pub port-some : (s : BusState) (mask : List LineMask) → masks_on s.board (s.rom_src / 16) ≡ Some mask → read_lines (λ k. bit_when (keyed s (s.rom_src / 16) k)) mask ≡ port_of s
+unfolding port_of
+port-some s mask is = rw (is, port_of) refl
+
+pub port-none : (s : BusState) → masks_on s.board (s.rom_src / 16) ≡ None → 0 ≡ port_of s
+unfolding port_of
+port-none s is = rw (is, port_of) refl

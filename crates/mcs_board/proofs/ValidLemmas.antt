@@ -1,0 +1,127 @@
+-- The flat state of a rig is valid.
+use Rattle.std.proofs.Common.{◌≡◌, ℕ, ◌+◌, ◌*◌, ◌/◌, ◌%◌, ◌<◌, ◌≤◌, inl, inr, List, [], Option, Some, None, length, get_or, slice_index, refl, sym, ap, ◌∙◌, subst, arith}
+use Rattle.std.specs.Prelude.{All, IfSome, MatchOption}
+use Rattle.std.proofs.lemmas.Bool.{cases_lt}
+use Rattle.std.proofs.lemmas.List.{get_or_past}
+use Rattle.mcs_nibble.specs.declared.lines.LineMask.{LineMask}
+use Rattle.mcs_nibble.specs.Ports.{held}
+use Rattle.mcs_nibble.specs.Tabled.{tabled, column, grid}
+use Rattle.mcs_nibble.proofs.TabledLemmas.{length-tabled}
+use Rattle.mcs_nibble.proofs.GridLemmas.{length-grid, length-column}
+use Rattle.mcs_nibble.proofs.PortLemmas.{held-zero}
+use Rattle.mcs_ram4002.specs.RamBank.{BankState, IsValidBank}
+use Rattle.mcs_ram4002.proofs.Below.{below-at, grid-below, column-below}
+use Rattle.mcs_rom4001.specs.Roms.{RomState, IsValidRom}
+use Rattle.mcs_model.specs.declared.board.BoardParts.{BoardParts}
+use Rattle.mcs_model.specs.Boards.{masks_on, chain_count, chain_bits, key_count}
+use Rattle.mcs_model.specs.Bus.{BusState, wired_of}
+use Rattle.mcs_model.specs.Validity.{AreBelow, IsValidBoard, IsInRange, IsAbsentZero, IsValidBus}
+use Rattle.mcs_board.specs.RigState.{RigParts, no_bank, bytes_of_rom, port_of_rom, masks_of_rom, wired_chains, rig_of, Fitted}
+use Rattle.mcs_board.proofs.ClockLemmas.{chain-read}
+use Rattle.mcs_board.proofs.MakingLemmas.{rom-at}
+use Rattle.mcs_board.proofs.RigLemmas.{src-of, main-of, status-of, port-of, rom_port-of}
+
+-- each chip that is there is valid
+pub record AreValidChips (p : RigParts) : Type 0 where
+  pub roms : (k : ℕ) → k < length p.roms → IfSome (get_or p.roms k None) IsValidRom
+  pub banks : (k : ℕ) → k < length p.banks → IsValidBank (get_or p.banks k no_bank)
+
+-- ---- ROMs
+
+rom_valid : (roms : List (Option RomState)) → ((k : ℕ) → k < length roms → IfSome (get_or roms k None) IsValidRom) → (k : ℕ) → IfSome (get_or roms k None) IsValidRom
+rom_valid roms valid k =
+    elim (cases_lt k (length roms)) [
+      | inl l ↦ valid k l
+      | inr beyond ↦ subst (λ (r : Option RomState). IfSome r IsValidRom) (sym (get_or_past roms k None beyond)) tt
+    ]
+
+byte-below : (rom : Option RomState) (k : ℕ) → IfSome rom IsValidRom → slice_index (bytes_of_rom rom) k < 256
+byte-below (Some r) k valid = below-at 256 r.bytes k (omega arith) valid.bytes
+byte-below None k valid = omega arith
+
+latch-below : (rom : Option RomState) → IfSome rom IsValidRom → port_of_rom rom < 16
+latch-below (Some r) valid = valid.latch
+latch-below None valid = omega arith
+
+-- the bits of a latch that are always 0
+abbrev kept_0 : ℕ → Option (List LineMask) → Type 0
+kept_0 n masks = MatchOption masks (n ≡ 0) (λ mask. held mask n ≡ n)
+
+latch-kept : (rom : Option RomState) (n : ℕ) → IfSome rom IsValidRom → n ≡ port_of_rom rom → kept_0 n (masks_of_rom rom)
+latch-kept (Some r) n valid is = ap (held r.mask) is ∙ valid.inputs ∙ sym is
+latch-kept None n valid is = is
+
+zero-kept : (masks : Option (List LineMask)) (n : ℕ) → n ≡ 0 → kept_0 n masks
+zero-kept (Some mask) n is = ap (held mask) is ∙ held-zero mask ∙ sym is
+zero-kept None n is = is
+
+no-rom : (rom : Option RomState) → masks_of_rom rom ≡ None → rom ≡ None
+no-rom (Some r) h = absurd (cc)
+no-rom None h = refl
+
+-- ---- banks
+
+module _ (banks : List BankState) (valid : (k : ℕ) → k < length banks → IsValidBank (get_or banks k no_bank)) where
+  -- what holds of every valid bank and of an absent one
+  at_bank : (P : BankState → Type 0) → P no_bank → ((b : BankState) → IsValidBank b → P b) → (k : ℕ) → P (get_or banks k no_bank)
+  at_bank P none each k =
+      elim (cases_lt k (length banks)) [
+        | inl l ↦ each (get_or banks k no_bank) (valid k l)
+        | inr beyond ↦ subst P (sym (get_or_past banks k no_bank beyond)) none
+      ]
+
+-- ---- the whole
+
+pub valid-state : (p : RigParts) (rom_places bank_places chain_places : ℕ) → IsValidBoard p.board → Fitted p rom_places bank_places chain_places → AreValidChips p → ((i : ℕ) → i < chain_count p.board → All (λ bit. bit < 2) (get_or (wired_chains p.board p.chains) i [])) → All (λ key. key < 2) p.keys.down → p.test < 2 → IsValidBus (rig_of p)
+valid-state p rom_places bank_places chain_places board v chips bits keys test =
+    let roms = rom_valid p.roms chips.roms in
+    let bank = at_bank p.banks chips.banks in
+    record {
+      board = board;
+      in_range = record {
+        rom = record { count_is = length-grid 16 256 bytes_of_rom None p.roms; below = grid-below 16 256 256 bytes_of_rom None p.roms (λ i k. byte-below (get_or p.roms i None) k (roms i)) };
+        ram = record { count_is = length-grid 8 256 (λ (x : BankState). x.main) no_bank p.banks; below = grid-below 8 256 16 (λ (x : BankState). x.main) no_bank p.banks (λ i k. bank (λ b. slice_index b.main k < 16) (omega arith) (λ b w. below-at 16 b.main k (omega arith) w.main) i) };
+        status = record { count_is = length-grid 8 64 (λ (x : BankState). x.status) no_bank p.banks; below = grid-below 8 64 16 (λ (x : BankState). x.status) no_bank p.banks (λ i k. bank (λ b. slice_index b.status k < 16) (omega arith) (λ b w. below-at 16 b.status k (omega arith) w.status) i) };
+        ram_ports = record { count_is = length-grid 8 4 (λ (x : BankState). x.ports) no_bank p.banks; below = grid-below 8 4 16 (λ (x : BankState). x.ports) no_bank p.banks (λ i k. bank (λ b. slice_index b.ports k < 16) (omega arith) (λ b w. below-at 16 b.ports k (omega arith) w.ports) i) };
+        rom_ports = record { count_is = length-column 16 port_of_rom None p.roms; below = column-below 16 16 port_of_rom None p.roms (λ i. latch-below (get_or p.roms i None) (roms i)) };
+        rom_src = v.src;
+        ram_src = record { count_is = length-column 8 (λ (x : BankState). x.src) no_bank p.banks; below = column-below 8 256 (λ (x : BankState). x.src) no_bank p.banks (λ i. bank (λ b. b.src < 256) (omega arith) (λ b w. w.src) i) };
+        chains = length-tabled (chain_count p.board) _;
+        chain_bits = λ i h. record { count_is = ap length (chain-read p.board p.chains i h) ∙ v.bits i h; below = bits i h };
+        keys = record { count_is = v.keys_len; below = keys };
+        test = test;
+      };
+      absent = record {
+        rom = λ at none.
+            elim (cases_lt at 4096) [
+              | inl h ↦ rom-at p.roms at h ∙ ap (λ r. slice_index (bytes_of_rom r) (at % 256)) (no-rom (get_or p.roms (at / 256) None) (v.masks (at / 256) ∙ none))
+              | inr h ↦ let l = length-grid 16 256 bytes_of_rom None p.roms in get_or_past (grid 16 256 bytes_of_rom None p.roms) at 0 (omega arith)
+            ];
+        ram = λ n src l gone.
+            elim (cases_lt n 8) [
+              | inl h ↦ main-of p.banks n src (get_or p.banks n no_bank) h l refl ∙ bank (λ b. b.wired ≤ src / 64 → slice_index b.main src ≡ 0) (λ _. refl) (λ b w. w.absent_main src l) n (let e = v.wired n in omega arith)
+              | inr h ↦ let len = length-grid 8 256 (λ (x : BankState). x.main) no_bank p.banks in get_or_past (grid 8 256 (λ (x : BankState). x.main) no_bank p.banks) (n * 256 + src) 0 (omega arith)
+            ];
+        status = λ n high k h4 k4 gone.
+            ap (slice_index (grid 8 64 (λ (x : BankState). x.status) no_bank p.banks)) (let e : (n * 16 + high) * 4 + k ≡ n * 64 + (high * 4 + k) = omega arith in e)
+            ∙ elim (cases_lt n 8) [
+              | inl h ↦ status-of p.banks n (high * 4 + k) (get_or p.banks n no_bank) h (omega arith) refl ∙ bank (λ b. b.wired ≤ high / 4 → slice_index b.status (high * 4 + k) ≡ 0) (λ _. refl) (λ b w. w.absent_status high k h4 k4) n (let e = v.wired n in omega arith)
+              | inr h ↦ let len = length-grid 8 64 (λ (x : BankState). x.status) no_bank p.banks in get_or_past (grid 8 64 (λ (x : BankState). x.status) no_bank p.banks) (n * 64 + (high * 4 + k)) 0 (omega arith)
+            ];
+        ram_ports = λ n chip l gone.
+            elim (cases_lt n 8) [
+              | inl h ↦ port-of p.banks n chip (get_or p.banks n no_bank) h l refl ∙ bank (λ b. b.wired ≤ chip → slice_index b.ports chip ≡ 0) (λ _. refl) (λ b w. w.absent_port chip l) n (let e = v.wired n in omega arith)
+              | inr h ↦ let len = length-grid 8 4 (λ (x : BankState). x.ports) no_bank p.banks in get_or_past (grid 8 4 (λ (x : BankState). x.ports) no_bank p.banks) (n * 4 + chip) 0 (omega arith)
+            ];
+        rom_ports = λ chip.
+            elim (cases_lt chip 16) [
+              | inl h ↦ subst (kept_0 (slice_index (column 16 port_of_rom None p.roms) chip)) (v.masks chip) (latch-kept (get_or p.roms chip None) _ (roms chip) (rom_port-of p.roms chip (get_or p.roms chip None) h refl))
+              | inr h ↦ zero-kept (masks_on p.board chip) _ (let l = length-column 16 port_of_rom None p.roms in get_or_past (column 16 port_of_rom None p.roms) chip 0 (omega arith))
+            ];
+        ram_src = λ n none.
+            elim (cases_lt n 8) [
+              | inl h ↦ src-of p.banks n (get_or p.banks n no_bank) h refl ∙ bank (λ b. b.wired ≡ 0 → b.src ≡ 0) (λ _. refl) (λ b w. w.absent_src) n (v.wired n ∙ none)
+              | inr h ↦ let l = length-column 8 (λ (x : BankState). x.src) no_bank p.banks in get_or_past (column 8 (λ (x : BankState). x.src) no_bank p.banks) n 0 (omega arith)
+            ];
+      };
+    }

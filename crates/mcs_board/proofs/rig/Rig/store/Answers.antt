@@ -1,0 +1,30 @@
+use Rattle.std.proofs.Common.{arith, sym, ap, ◌∙◌, ◌≡◌}
+use Rattle.mcs_ram4002.specs.RamBank.{BankState}
+use Rattle.mcs_model.specs.Bus.{wired_of}
+use Rattle.mcs_board.specs.RigState.{after_bank_write}
+use Rattle.mcs_board.specs.RigFields.{parts_of}
+use Rattle.mcs_board.proofs.FittedLemmas.{fitted-bank}
+use Rattle.mcs_board.proofs.RigLemmas.{bank_here, bank_absent, bank-write, bank_write-lost, wired-write}
+use Rattle.mcs_board.proofs.rig.Rig.store.Goals as goal
+
+pub invariant_of-self : goal.invariant_of-self
+invariant_of-self g c =
+    let e = c.index_mut.result.now in
+    let same = ap (λ (b : BankState). b.wired) c.store.ensures.stored ∙ wired-write e c.args.write in
+    fitted-bank c.self.invariant c.from-at.result e c.store.new.self (omega arith) c.index_mut.ensures.value same
+
+pub returns-then-at-len : goal.returns-then-at-len
+returns-then-at-len g c =
+    let i = c.self.inside in
+    let e = c.index_mut.result.now in
+    let here = bank_here i.banks.items c.args.bank c.from-at.result e c.from-at.ensures (omega arith) c.index_mut.ensures.value in
+    let wired = sym (ap (λ (b : BankState). b.wired) here) ∙ c.self.invariant.wired c.args.bank in
+    bank-write (parts_of i) c.args.bank c.from-at.result e c.store.new.self c.args.write c.requires.bank c.from-at.ensures (omega arith) here wired c.store.ensures.whole c.requires.place c.store.ensures.few c.store.ensures.stored
+    ∙ ap (λ s. after_bank_write s c.args.bank c.args.write) c.self.view_is
+
+pub returns-else-at-len : goal.returns-else-at-len
+returns-else-at-len g c =
+    let i = c.self.inside in
+    let here = bank_absent i.banks.items c.args.bank c.from-at.result c.from-at.ensures (omega arith) in
+    let none : wired_of c.args.self.now c.args.bank ≡ 0 = ap (λ s. wired_of s c.args.bank) (sym c.self.view_is) ∙ sym (c.self.invariant.wired c.args.bank) ∙ ap (λ (b : BankState). b.wired) here in
+    sym (bank_write-lost c.args.self.now c.args.bank c.args.write (omega arith))

@@ -1,0 +1,15 @@
+-- The fields of a rig as what it keeps.
+use Rattle.std.specs.Prelude.{ℕ}
+use Rattle.mcs_board.specs.declared.rig.Rig.TheInside.{Inside}
+use Rattle.mcs_board.specs.RigState.{RigParts}
+
+abbrev pub parts_of : {ROMS BANKS CHAINS MAX : ℕ} → Inside ROMS BANKS CHAINS MAX → RigParts
+parts_of i = record {
+  board = i.board;
+  roms = i.roms.items;
+  banks = i.banks.items;
+  chains = i.chains.items;
+  keys = i.keys;
+  rom_src = i.rom_src;
+  test = i.test;
+}

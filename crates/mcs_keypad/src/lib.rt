@@ -1,0 +1,253 @@
+//! The keys of a board, with what a port read asks of them at hand.
+//!
+//! Beside the keys themselves a `KeyPad` keeps bytes whose bit j stands for column j: for each row the byte of its keys
+//! that are down, and for each line of each ROM the byte of the columns at it. A port is then read by some ten ors (of
+//! the rows that are driven) and four ands (with its lines), however many keys there are.
+#![tactic(auto)]
+
+ghost use Rattle.std.specs.Prelude.{◌≡◌, ℕ, ◌+◌, ◌*◌, ◌/◌, ◌%◌, ◌<◌, ◌≤◌, Bool, ◌&&◌, All, length, replicate, slice_index, slice_index_or, slice_set};
+ghost use Rattle.std.specs.List.{list_any, range_with_len};
+ghost use Rattle.mcs_nibble.specs.Bits.{nibble_of};
+ghost use Rattle.mcs_model.specs.declared.board.Line.TheVariants.{Rom};
+ghost use Rattle.mcs_model.specs.Levels.{names, drives, pulled, bit_when};
+ghost use Rattle.mcs_keypad.specs.Keys.{KeyState, no_matrix, IsByteOf, is_down};
+
+use arrayvec::ArrayVec;
+use mcs_model::board::{KeyMatrix, Line};
+use mcs_nibble::{Bit, Nibble};
+use std::marker::Model;
+
+/// The keys of a matrix. A board without keys has a matrix of no rows and no columns. Contracts see the matrix and its
+/// keys alone.
+#[derive(Drop)]
+pub struct KeyPad {
+    matrix: KeyMatrix,
+    // Row by row.
+    down: ArrayVec<Bit, 80>,
+    // The byte of each row's keys that are down.
+    rows: [u8; 10],
+    // The byte of the columns at line k of ROM c, at 4 * c + k.
+    lines: [u8; 64],
+}
+
+impl Model for KeyPad {
+    ghost use Rattle.mcs_keypad.specs.Keys.{KeyState, IsScanned};
+
+    ghost Value = { KeyState };
+
+    ghost view = { λ k. record { matrix = k.matrix; down = k.down.items } };
+
+    ghost invariant = { λ k. IsScanned k.matrix k.down.items k.rows k.lines };
+}
+
+/// Whether a column is line `k` of a ROM.
+fn is_named(column: Line, chip: u8, k: u8) -> bool
+    ensures { result ≡ names chip k column }
+{
+    match column {
+        Line::Rom(c, j) => c == chip && j == k,
+        Line::Ram(_, _, _) | Line::Chain(_, _) => false,
+    }
+}
+
+/// Whether the key at a place, row by row, is down.
+fn is_down(down: &[Bit], at: usize) -> bool
+    ensures { result ≡ is_down down.now at }
+{
+    match down.get(at) {
+        Some(bit) => bit.get() == 1,
+        None => false,
+    }
+}
+
+/// The byte of the keys that are down, of as many columns from a place on.
+fn row_byte(down: &[Bit], from: usize, columns: usize) -> u8
+    requires columns { columns ≤ 8 }
+    requires from { from ≤ 80 }
+    ensures { IsByteOf result columns (λ j. is_down down.now (from + j)) }
+{
+    let mut byte: u8 = 0;
+    for j in 0..columns {
+        if is_down(down, from + j) {
+            byte |= 1 << j;
+        }
+    }
+    byte
+}
+
+/// The byte of the columns at line `k` of a ROM.
+fn line_byte(columns: &[Line], chip: u8, k: u8) -> u8
+    requires { length columns.now ≤ 8 }
+    ensures { IsByteOf result (length columns.now) (λ j. names chip k (slice_index_or columns.now j (Rom 0 0))) }
+{
+    let mut byte: u8 = 0;
+    for j in 0..columns.len() {
+        if is_named(columns[j], chip, k) {
+            byte |= 1 << j;
+        }
+    }
+    byte
+}
+
+/// The byte of the keys that are down, of each row.
+fn row_bytes(down: &[Bit], rows: u8, columns: usize) -> [u8; 10]
+    requires rows { rows ≤ 10 }
+    requires columns { columns ≤ 8 }
+    ensures { (r : ℕ) → r < rows → IsByteOf (slice_index result r) columns (λ j. is_down down.now (r * columns + j)) }
+{
+    let mut bytes = [0; 10];
+    for r in 0..usize::from(rows) {
+        bytes[r] = row_byte(down, r * columns, columns);
+    }
+    bytes
+}
+
+/// The byte of the columns at each line of each ROM, four lines a ROM.
+fn line_bytes(columns: &[Line]) -> [u8; 64]
+    requires { length columns.now ≤ 8 }
+    ensures { (i : ℕ) → i < 64 → IsByteOf (slice_index result i) (length columns.now) (λ j. names (i / 4) (i % 4) (slice_index_or columns.now j (Rom 0 0))) }
+{
+    let mut bytes = [0; 64];
+    for i in 0..64u8 {
+        bytes[usize::from(i)] = line_byte(columns, i / 4, i % 4);
+    }
+    bytes
+}
+
+/// 1 where the two bytes have a bit in common.
+fn meets(line: u8, driven: u8) -> Bit
+    ensures { (n : ℕ) (p q : ℕ → Bool) → IsByteOf line n p → IsByteOf driven n q → result ≡ bit_when (list_any (λ j. p j && q j) (range_with_len 0 n)) }
+{
+    if line & driven == 0 {
+        Bit::ZERO
+    } else {
+        Bit::ONE
+    }
+}
+
+/// Keys that are all up.
+fn up(rows: u8, columns: usize) -> ArrayVec<Bit, 80>
+    requires rows { rows ≤ 10 }
+    requires columns { columns ≤ 8 }
+    ensures { result.items ≡ replicate (rows * columns) 0 }
+{
+    let mut down = ArrayVec::new();
+    for _ in 0..usize::from(rows) * columns {
+        down.push(Bit::ZERO);
+    }
+    down
+}
+
+/// The same columns.
+fn copied(columns: &ArrayVec<Line, 8>) -> ArrayVec<Line, 8>
+    ensures same { result.items ≡ columns.now.items }
+    ensures few { length result.items ≤ 8 }
+{
+    let mut copy = ArrayVec::new();
+    for column in columns.as_slice() {
+        copy.push(*column);
+    }
+    copy
+}
+
+impl KeyPad {
+    /// The keys of a board without keys.
+    pub fn none() -> KeyPad
+        ensures { result ≡ record { matrix = no_matrix; down = replicate 0 0 } }
+    {
+        KeyPad::of(&KeyMatrix {
+            chain: 0,
+            first: 0,
+            rows: 0,
+            columns: ArrayVec::new(),
+        })
+    }
+
+    /// The keys of a matrix, all up.
+    pub fn of(matrix: &KeyMatrix) -> KeyPad
+        requires { matrix.now.rows ≤ 10 }
+        ensures { result ≡ record { matrix = matrix.now; down = replicate (matrix.now.rows * length matrix.now.columns.items) 0 } }
+    {
+        let columns = copied(&matrix.columns);
+        let down = up(matrix.rows, columns.len());
+        let rows = row_bytes(down.as_slice(), matrix.rows, columns.len());
+        let lines = line_bytes(columns.as_slice());
+        KeyPad {
+            matrix: KeyMatrix {
+                chain: matrix.chain,
+                first: matrix.first,
+                rows: matrix.rows,
+                columns,
+            },
+            down,
+            rows,
+            lines,
+        }
+    }
+
+    /// The chain that drives the rows.
+    pub fn chain(&self) -> u8
+        ensures { result ≡ self.now.matrix.chain }
+    {
+        self.matrix.chain
+    }
+
+    /// The key at a place, row by row: 1 where it is down.
+    pub fn key(&self, at: usize) -> Bit
+        requires { at < length self.now.down }
+        ensures { result ≡ slice_index self.now.down at }
+    {
+        self.down[at]
+    }
+
+    /// Puts the key at a place, row by row, down by 1, or up by 0.
+    pub fn set_key(&mut self, at: usize, bit: Bit)
+        requires { at < length self.old.down }
+        ensures { self.new ≡ record self.old { down = slice_set self.old.down at bit } }
+    {
+        self.down[at] = bit;
+        self.rows = row_bytes(
+            self.down.as_slice(),
+            self.matrix.rows,
+            self.matrix.columns.len(),
+        );
+    }
+
+    /// The byte of the columns that some row drives, where `bits` are those of the chain that drives the rows.
+    fn driven(&self, bits: &[Bit]) -> u8
+        requires { self.now.matrix.first + self.now.matrix.rows ≤ length bits.now }
+        ensures { IsByteOf result (length self.now.matrix.columns.items) (λ j. list_any (drives bits.now self.now.down self.now.matrix j) (range_with_len 0 self.now.matrix.rows)) }
+    {
+        let first = usize::from(self.matrix.first);
+        let mut driven: u8 = 0;
+        for r in 0..usize::from(self.matrix.rows) {
+            if bits[first + r].get() == 1 {
+                driven |= self.rows[r];
+            }
+        }
+        driven
+    }
+
+    /// The levels that keys pull the four lines of a ROM to, where `bits` are those of the chain that drives the rows.
+    pub fn pulls(&self, bits: &[Bit], chip: Nibble) -> Nibble
+        requires { self.now.matrix.first + self.now.matrix.rows ≤ length bits.now }
+        ensures { result ≡ nibble_of (λ k. bit_when (pulled bits.now self.now.down self.now.matrix chip k)) }
+    {
+        let driven = self.driven(bits);
+        let at = 4 * usize::from(chip.get());
+        Nibble::of_bits(
+            meets(self.lines[at], driven),
+            meets(self.lines[at + 1], driven),
+            meets(self.lines[at + 2], driven),
+            meets(self.lines[at + 3], driven),
+        )
+    }
+    /// A law: each key is 0 or 1.
+    pub fn state_is_valid(&self)
+        ensures { All (λ key. key < 2) self.now.down }
+    {
+        for i in 0..self.down.len() {
+            let _level = self.down[i].get();
+        }
+    }
+}
