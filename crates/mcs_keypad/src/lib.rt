@@ -9,7 +9,7 @@ ghost use Rattle.std.specs.Prelude.{◌≡◌, ℕ, ◌+◌, ◌*◌, ◌/◌, �
 ghost use Rattle.std.specs.List.{list_any, range_with_len};
 ghost use Rattle.mcs_nibble.specs.Bits.{nibble_of};
 ghost use Rattle.mcs_model.specs.declared.board.Line.TheVariants.{Rom};
-ghost use Rattle.mcs_model.specs.Levels.{names, drives, pulled, bit_when};
+ghost use Rattle.mcs_model.specs.Levels.{is_rom_line, drives, pulled, bit_when};
 ghost use Rattle.mcs_keypad.specs.Keys.{KeyState, no_matrix, IsByteOf, is_down};
 
 use arrayvec::ArrayVec;
@@ -42,7 +42,7 @@ impl Model for KeyPad {
 
 /// Whether a column is line `k` of a ROM.
 fn is_named(column: Line, chip: u8, k: u8) -> bool
-    ensures { result ≡ names chip k column }
+    ensures { result ≡ is_rom_line chip k column }
 {
     match column {
         Line::Rom(c, j) => c == chip && j == k,
@@ -78,7 +78,7 @@ fn row_byte(down: &[Bit], from: usize, columns: usize) -> u8
 /// The byte of the columns at line `k` of a ROM.
 fn line_byte(columns: &[Line], chip: u8, k: u8) -> u8
     requires { length columns.now ≤ 8 }
-    ensures { IsByteOf result (length columns.now) (λ j. names chip k (slice_index_or columns.now j (Rom 0 0))) }
+    ensures { IsByteOf result (length columns.now) (λ j. is_rom_line chip k (slice_index_or columns.now j (Rom 0 0))) }
 {
     let mut byte: u8 = 0;
     for j in 0..columns.len() {
@@ -105,7 +105,7 @@ fn row_bytes(down: &[Bit], rows: u8, columns: usize) -> [u8; 10]
 /// The byte of the columns at each line of each ROM, four lines a ROM.
 fn line_bytes(columns: &[Line]) -> [u8; 64]
     requires { length columns.now ≤ 8 }
-    ensures { (i : ℕ) → i < 64 → IsByteOf (slice_index result i) (length columns.now) (λ j. names (i / 4) (i % 4) (slice_index_or columns.now j (Rom 0 0))) }
+    ensures { (i : ℕ) → i < 64 → IsByteOf (slice_index result i) (length columns.now) (λ j. is_rom_line (i / 4) (i % 4) (slice_index_or columns.now j (Rom 0 0))) }
 {
     let mut bytes = [0; 64];
     for i in 0..64u8 {

@@ -4,7 +4,7 @@
 ghost use Rattle.std.specs.Prelude.{◌≡◌, ℕ, ◌<◌, All, slice_index, slice_set, replicate, length};
 ghost use Rattle.mcs_rom4001.specs.Roms.{IsValidRom};
 ghost use Rattle.mcs_nibble.specs.Bits.{bit_of};
-ghost use Rattle.mcs_nibble.specs.Ports.{held, held_bit, read_bit, read_lines};
+ghost use Rattle.mcs_nibble.specs.Ports.{latch_value, latch_bit, read_bit, read_lines};
 
 use mcs_nibble::{Bit, LineMask, Nibble};
 use std::marker::Model;
@@ -20,20 +20,20 @@ pub struct Rom {
 
 impl Model for Rom {
     ghost use Rattle.std.specs.Prelude.{◌≡◌};
-    ghost use Rattle.mcs_nibble.specs.Ports.{held};
+    ghost use Rattle.mcs_nibble.specs.Ports.{latch_value};
     ghost use Rattle.mcs_rom4001.specs.Roms.{RomState};
 
     ghost Value = { RomState };
 
     ghost view = { λ r. record { mask = r.mask; bytes = r.bytes; port = r.port } };
 
-    ghost invariant = { λ r. held r.mask r.port ≡ r.port };
+    ghost invariant = { λ r. latch_value r.mask r.port ≡ r.port };
 }
 
 /// What the latch holds on line `k` once `n` is written.
 fn held_line(mask: &[LineMask; 4], n: Nibble, k: u8) -> Bit
     requires { k < 4 }
-    ensures { result ≡ held_bit mask.now n k }
+    ensures { result ≡ latch_bit mask.now n k }
 {
     match mask[usize::from(k)] {
         LineMask::Input => Bit::ZERO,
@@ -54,9 +54,9 @@ fn read_line(mask: &[LineMask; 4], inputs: Nibble, k: u8) -> Bit
 }
 
 /// What the latch holds once `n` is written.
-#[tactic(auto, unfolding(mcs_nibble::specs::Ports::held))]
+#[tactic(auto, unfolding(mcs_nibble::specs::Ports::latch_value))]
 fn held_port(mask: &[LineMask; 4], n: Nibble) -> Nibble
-    ensures { result ≡ held mask.now n }
+    ensures { result ≡ latch_value mask.now n }
 {
     Nibble::of_bits(
         held_line(mask, n, 0),
@@ -118,7 +118,7 @@ impl Rom {
     /// Holds a value on the output lines until the next such write, as WRR does. Nothing happens on input
     /// lines.
     pub fn write_port(&mut self, n: Nibble)
-        ensures { self.new ≡ record self.old { port = held self.old.mask n } }
+        ensures { self.new ≡ record self.old { port = latch_value self.old.mask n } }
     {
         self.port = held_port(&self.mask, n);
     }
@@ -148,7 +148,7 @@ impl Rom {
 
     /// Sets the latch, whose bits at input lines stay 0.
     pub fn set_port(&mut self, n: Nibble)
-        ensures { self.new ≡ record self.old { port = held self.old.mask n } }
+        ensures { self.new ≡ record self.old { port = latch_value self.old.mask n } }
     {
         self.write_port(n);
     }

@@ -9,7 +9,7 @@ use Rattle.mcs_model.specs.declared.command.Reply.{Reply}
 use Rattle.mcs_model.specs.declared.query.Query.{Query}
 use Rattle.mcs_model.specs.declared.refusals.BenchFault.{BenchFault}
 use Rattle.mcs_model.specs.Command.{refusal, after, reply}
-use Rattle.mcs_model.specs.Refusal.{number_of}
+use Rattle.mcs_model.specs.Refusal.{bench_refusal_number}
 use Rattle.mcs_model.specs.declared.limits.TheConstants.{LINE_BYTES}
 use Rattle.mcs_model.specs.declared.refusal_numbers.TheConstants.{CLOSED, DEVICE, FULL, LINE_TOO_LONG}
 use Rattle.mcs_model.specs.Flat.{Flat}
@@ -54,7 +54,7 @@ refused_none s c f e = ap (λ (v : Option BenchFault). unless_refused v c) e
 text_accepted : (s : Flat) (c : Command) → refusal s c ≡ None → ok_text (reply s c) (after s c) ≡ change_text s c Plain
 text_accepted s c e = sym (ap (λ (v : Option BenchFault). plain_text v s c) e)
 
-text_refused : (s : Flat) (c : Command) (f : BenchFault) → refusal s c ≡ Some f → no_text (number_of f) ≡ change_text s c Plain
+text_refused : (s : Flat) (c : Command) (f : BenchFault) → refusal s c ≡ Some f → no_text (bench_refusal_number f) ≡ change_text s c Plain
 text_refused s c f e = sym (ap (λ (v : Option BenchFault). plain_text v s c) e)
 
 pub ok_changed : (r : Reply) (log : Log) (s : Flat) (d : DiskState) (b : SessionState) (c : Command) (told : List ℕ) → Tried log s d c (Ok r) b → told ≡ ok_text r b.standing.state → Changed (at log s d) c Plain told b

@@ -2,7 +2,7 @@
 use Rattle.std.specs.Prelude.{◌==◌, ◌&&◌, ◌||◌, Bool, ℕ, List, [], ◌∷◌, length, codes, filter, nat_lt, if◌then◌else◌, Option, Some, None}
 use Rattle.std.specs.List.{list_all}
 use Rattle.std.specs.Str.{bytes_eq}
-use Rattle.mcs_model.specs.Numerals.{number_of, number_up_to}
+use Rattle.mcs_model.specs.Numerals.{number_written, number_up_to}
 use Rattle.mcs_model.specs.declared.command.Command.TheVariants.{Poke}
 use Rattle.mcs_model.specs.declared.command.Place.TheVariants.{Register}
 use Rattle.mcs_model.specs.declared.query.Query.TheVariants as query
@@ -22,7 +22,7 @@ words_of line = filter (λ w. nat_lt 0 (length w)) (cut_at is_blank_byte line)
 -- the number of the register that a place word `rK` names, of any size; none where the word is no such place
 abbrev pub register_named : List ℕ → Option ℕ
 register_named [] = None
-register_named (b ∷ bs) = if b == 114 then number_of bs else None
+register_named (b ∷ bs) = if b == 114 then number_written bs else None
 
 -- `poke` with a place and a value: the place must be one, and then both numbers in range
 abbrev pub poke_of : List ℕ → List ℕ → Request

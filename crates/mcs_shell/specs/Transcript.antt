@@ -8,7 +8,7 @@ use Rattle.mcs_model.specs.declared.refusals.BenchFault.{BenchFault}
 use Rattle.mcs_model.specs.Flat.{Flat}
 use Rattle.mcs_model.specs.Command.{refusal, after, reply}
 use Rattle.mcs_model.specs.Fold.{fold}
-use Rattle.mcs_model.specs.Refusal.{number_of}
+use Rattle.mcs_model.specs.Refusal.{bench_refusal_number}
 use Rattle.mcs_model.specs.declared.refusal_numbers.TheConstants.{CLOSED, DEVICE, FULL, LINE_TOO_LONG}
 use Rattle.mcs_model.specs.QueryText.{text}
 use Rattle.mcs_shell.specs.declared.requests.Request.{Request}
@@ -42,7 +42,7 @@ no_text number = codes "no " ++ (decimal number ++ line_feed)
 -- the answer to a command on an open session, by why the state refuses it
 abbrev pub plain_text : Option BenchFault → Flat → Command → List ℕ
 plain_text None s c = ok_text (reply s c) (after s c)
-plain_text (Some f) s c = no_text (number_of f)
+plain_text (Some f) s c = no_text (bench_refusal_number f)
 
 -- the answer to a command
 abbrev pub change_text : Flat → Command → Outcome → List ℕ
