@@ -1,4 +1,4 @@
--- What the calls of a disk do to its bytes, and what a crash may leave. (Our own choice: a device that writes in ranges and
+-- What the calls of a disk do to its bytes, and what a power cut may leave. (Our own choice: a device that writes in ranges and
 -- promises nothing before a sync.)
 use Rattle.std.specs.Prelude.{◌<◌, ◌≡◌, ◌⊎◌, ◌↔◌, ℕ, zero, suc, ◌+◌, ◌-◌, ◌^◌, ◌≤◌, min, List, [], ◌∷◌, length, take, drop, slice_index, Result, OnOk, OnErr}
 
@@ -35,7 +35,7 @@ pub record Torn (at n : ℕ) (old new : List ℕ) : Type 0 where
   pub before : (i : ℕ) → i < at → slice_index new i ≡ slice_index old i
   pub after : (i : ℕ) → at + n ≤ i → slice_index new i ≡ slice_index old i
 
--- a crash leaves this and nothing else
+-- a power cut leaves this and nothing else
 abbrev pub Only : List ℕ → (List ℕ → Type 0) → Type 0
 Only file images = (c : List ℕ) → images c → c ≡ file
 
@@ -53,7 +53,7 @@ pub record IsCall {T E : Type 0} (old new : DiskState) (result : Result T E) : T
   pub fault : OnErr result (new.faults ≡ min (old.faults + 1) most_faults)
   pub honest : new.honest ↔ old.honest
 
--- What each call does on an honest disk to its times: an Ok is one step of the clock, and since an earlier time a crash may have
+-- What each call does on an honest disk to its times: an Ok is one step of the clock, and since an earlier time a power cut may have
 -- left what it might have by then, and what it may leave now.
 pub record Elapses {T E : Type 0} (old new : DiskState) (result : Result T E) : Type 0 where
   pub ticks : OnOk result (new.clock ≡ old.clock + 1)
@@ -70,7 +70,7 @@ pub record Reads {T E : Type 0} (at : ℕ) (old_into into : List ℕ) (old new :
   pub kept : Within old.images new.images
   pub time : Elapses old new result
 
--- a write on an honest disk: until a sync its range may hold any bytes after a crash, and the rest stays
+-- a write on an honest disk: until a sync its range may hold any bytes after a power cut, and the rest stays
 pub record Writes {T E : Type 0} (at : ℕ) (from : List ℕ) (old new : DiskState) (result : Result T E) : Type 0 where
   pub written : OnOk result (part at (length from) new.bytes ≡ from)
   -- also where it failed: then the range may hold any bytes

@@ -11,14 +11,14 @@ bytes_after size (Read ∷ calls) = bytes_after size calls
 bytes_after size (Sync ∷ calls) = bytes_after size calls
 bytes_after size (Write at from ∷ calls) = put at from.items (bytes_after size calls)
 
--- what a crash after these calls may leave
+-- what a power cut after these calls may leave
 abbrev pub images_after : ℕ → List Call → List ℕ → Type 0
 images_after size [] c = c ≡ replicate size 0
 images_after size (Read ∷ calls) c = images_after size calls c
 images_after size (Sync ∷ calls) c = c ≡ bytes_after size calls
 images_after size (Write at from ∷ calls) c = (d : List ℕ) × images_after size calls d × Torn at (length from.items) d c
 
--- what a crash after t or more of these calls may have left
+-- what a power cut after t or more of these calls may have left
 abbrev pub since_after : ℕ → List Call → ℕ → List ℕ → Type 0
 since_after size [] t c = images_after size [] c
 since_after size (call ∷ calls) t c = images_after size (call ∷ calls) c ⊎ ((t ≤ length calls) × since_after size calls t c)

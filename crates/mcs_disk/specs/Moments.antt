@@ -1,9 +1,9 @@
--- Stretches of calls on a disk, from one of its states to a later one: what stays, what a crash at any moment may leave, and what is
+-- Stretches of calls on a disk, from one of its states to a later one: what stays, what a power cut at any moment may leave, and what is
 -- safe behind them. (Our own choice.)
 use Rattle.std.specs.Prelude.{◌≡◌, ◌⊎◌, ◌↔◌, ℕ, ◌+◌, ◌≤◌, min, List, replicate, Result, OnOk}
 use Rattle.mcs_disk.specs.Disk.{DiskState, Only, most_faults}
 
--- all that is there is on the disk: a crash now leaves the current bytes, and since this moment there is no other image
+-- all that is there is on the disk: a power cut now leaves the current bytes, and since this moment there is no other image
 pub record IsDurable (disk : DiskState) : Type 0 where
   pub only : Only disk.bytes disk.images
   pub fresh : (c : List ℕ) → disk.since disk.clock c → c ≡ disk.bytes
@@ -61,7 +61,7 @@ GoesOn old new = LeavesOnly old new (λ c. Unit {0})
 abbrev pub Either : (List ℕ → Type 0) → (List ℕ → Type 0) → List ℕ → Type 0
 Either P Q c = P c ⊎ Q c
 
--- A change in so many steps. Until Ok, a crash leaves what has Before or what has After; from then on what has After alone.
+-- A change in so many steps. Until Ok, a power cut leaves what has Before or what has After; from then on what has After alone.
 pub record Changes {T E : Type 0} (steps : ℕ) (old new : DiskState) (Before After : List ℕ → Type 0) (result : Result T E) : Type 0 where
   pub after : OnOk result (After new.bytes)
   pub durable : OnOk result (IsDurable new)

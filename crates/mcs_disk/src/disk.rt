@@ -11,7 +11,7 @@ pub struct DiskFault;
 
 /// A device of bytes that can be read and written in ranges, and synced.
 ///
-/// Every disk owes its size and the count of faults. The rest is owed by an honest disk alone: between two syncs a crash may
+/// Every disk owes its size and the count of faults. The rest is owed by an honest disk alone: between two syncs a power cut may
 /// leave any bytes in a written range, and after a good sync it leaves the current bytes.
 pub trait Disk {
     /// What contracts see.
@@ -28,14 +28,14 @@ pub trait Disk {
         ensures honest { (state self.old).honest
             → Reads at into.old into.new (state self.old) (state self.new) result };
 
-    /// Writes over the bytes from `at` on. Until a sync, a crash may leave any bytes in that range.
+    /// Writes over the bytes from `at` on. Until a sync, a power cut may leave any bytes in that range.
     fn write(&mut self, at: usize, from: &[u8]) -> Result<(), DiskFault>
         requires { at + length from.now ≤ (state self.old).size }
         ensures call { IsCall (state self.old) (state self.new) result }
         ensures honest { (state self.old).honest
             → Writes at from.now (state self.old) (state self.new) result };
 
-    /// Makes what was written stable: after an Ok, a crash leaves what a read gives.
+    /// Makes what was written stable: after an Ok, a power cut leaves what a read gives.
     fn sync(&mut self) -> Result<(), DiskFault>
         ensures call { IsCall (state self.old) (state self.new) result }
         ensures honest { (state self.old).honest → Syncs (state self.old) (state self.new) result };

@@ -1,4 +1,4 @@
-//! Disks as the journal sees them: a fixed number of bytes, faults, and what a crash may leave.
+//! Disks as the journal sees them: a fixed number of bytes, faults, and what a power cut may leave.
 //!
 //! [`Disk`] is the trait that the journal is written over. [`MemDisk`] is an honest disk in memory, and [`FuseDisk`] one
 //! that fails chosen calls, for tests.

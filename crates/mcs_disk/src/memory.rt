@@ -18,7 +18,7 @@ pub(crate) enum Call {
 
 /// An honest disk in memory.
 ///
-/// It keeps a record of the calls that answered Ok, from which contracts read what a crash may have left at each moment. Where
+/// It keeps a record of the calls that answered Ok, from which contracts read what a power cut may have left at each moment. Where
 /// that record cannot grow, the call is a device fault, and changes nothing but the count of faults.
 #[derive(Drop)]
 pub struct MemDisk {

@@ -1,5 +1,5 @@
 -- One more call joins those on a file.
-use Rattle.std.proofs.Common.{◌≡◌, ◌⊎◌, inl, inr, ⊎_elim, ℕ, zero, suc, ◌+◌, ◌≤◌, List, [], ◌∷◌, ◌++◌, length, take, drop, refl, sym, ◌∙◌, ap, subst, arith, Ok, Err}
+use Rattle.std.proofs.Common.{◌≡◌, ◌⊎◌, inl, inr, ⊎_elim, ℕ, ◌+◌, ◌≤◌, List, ◌∷◌, length, refl, sym, ◌∙◌, ap, subst, arith, Ok, Err}
 use Rattle.mcs_disk.specs.Disk.{Elapses, Reads, Syncs, Writes, Torn, part, put}
 use Rattle.mcs_disk.specs.MemoryLaws.{put_torn}
 use Rattle.mcs_disk.proofs.Kept.{part_put}

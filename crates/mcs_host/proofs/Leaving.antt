@@ -1,5 +1,5 @@
 -- What is found in a file that was left behind some first part of its calls.
-use Rattle.std.proofs.Common.{◌≡◌, ◌⊎◌, inl, inr, ℕ, ◌+◌, ◌≤◌, List, [], ◌∷◌, ◌++◌, refl, sym, subst, arith}
+use Rattle.std.proofs.Common.{◌≡◌, ◌⊎◌, inl, inr, ℕ, ◌≤◌, List, [], ◌∷◌, ◌++◌, sym, subst, arith}
 use Rattle.mcs_host.specs.FileCalls.{FileCall, WasRead, Wrote, Failed, Synced, images_behind, clock_of, since_behind}
 use Rattle.mcs_host.specs.FileLaws.{counts_now}
 use Rattle.mcs_host.specs.Ending.{IsCutInWrite}

@@ -15,8 +15,8 @@ pub record IsCutInWrite (calls cut : List FileCall) : Type 0 where
   pub whole : calls ≡ Wrote at bytes ∷ before
   pub torn : cut ≡ Failed at bytes ∷ before
 
--- The file was left behind some first part of these calls, at a clock of t or later: of all of them, the newest first, those by the end
--- are the last ones of the list, and the newest of those may be a write that was cut off.
+-- The file was left at a clock of t or later, behind some first part of its calls. Lists of calls have the newest first, so that part is
+-- the tail of the list; the newest call of it may be a write that was cut off.
 pub record IsLeftSince (t : ℕ) (file : FileDisk) : Type 0 where
   pub never_made : List FileCall
   pub made : List FileCall

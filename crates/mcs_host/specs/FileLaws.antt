@@ -5,7 +5,7 @@ use mathlib.Core.Logic.{inl, inr}
 use Rattle.std.proofs.Common.{arith, sym, ◌∙◌, ap, subst}
 use Rattle.mcs_disk.specs.Disk.{IsLawful, Torn}
 use Rattle.mcs_disk.specs.MemoryLaws.{put_torn, length-put}
-use Rattle.mcs_host.specs.FileCalls.{FileCall, WasRead, Wrote, Failed, Synced, bytes_behind, images_behind, clock_of, since_behind}
+use Rattle.mcs_host.specs.FileCalls.{FileCall, WasRead, Wrote, Failed, Synced, bytes_behind, images_behind, since_behind}
 use Rattle.mcs_host.specs.FileDisk.{file_state}
 use Rattle.mcs_host.specs.declared.call_record.CallRecord.{CallRecord}
 

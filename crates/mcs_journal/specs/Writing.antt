@@ -1,5 +1,5 @@
 -- The parts of a file that the steps of reading and writing speak of.
-use Rattle.std.specs.Prelude.{◌≡◌, ℕ, ◌+◌, ◌≤◌, List, [], ◌∷◌, ◌⊎◌, length, slice_index, Result, OnOk}
+use Rattle.std.specs.Prelude.{◌≡◌, ℕ, ◌+◌, ◌≤◌, List, ◌⊎◌, length, slice_index, Result, OnOk}
 use Rattle.mcs_disk.specs.Disk.{DiskState, part, Torn}
 use Rattle.mcs_disk.specs.Moments.{IsDurable}
 use Rattle.mcs_journal.specs.File.{IsRecord, framed, spelled, slot_at, be32, slot_of}

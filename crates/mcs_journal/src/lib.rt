@@ -1,6 +1,6 @@
 //! The journal of a session: a file of two slots, each a snapshot and a log of records behind it.
 //!
-//! A [`Store`] keeps one pair of a snapshot and records on a disk, so that a crash at any moment leaves the pair of before a
+//! A [`Store`] keeps one pair of a snapshot and records on a disk, so that a power cut at any moment leaves the pair of before a
 //! call or the one of after it.
 #![tactic(auto)]
 

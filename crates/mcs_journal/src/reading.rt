@@ -167,7 +167,7 @@ pub struct Found {
 
 /// Syncs, and reads the pair that the disk holds.
 ///
-/// Without the sync, what is read may be lost by a crash that comes after the answer.
+/// Without the sync, what is read may be lost by a power cut that comes after the answer.
 pub fn read_pair<D: Disk>(alloc: Global, disk: &mut D) -> Result<Found, OpenFault>
     requires size { (D.state disk.old).size ≡ FILE_SIZE }
     ensures tells { Counts (D.state disk.old) (D.state disk.new) (IsErrOf result OpenFault.Device) }

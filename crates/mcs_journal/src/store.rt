@@ -51,7 +51,7 @@ pub struct Opened<D: Disk + Drop> {
 impl<D: Disk + Drop> Store<D> {
     /// Makes a store of `snap` and no records, on a disk of [`FILE_SIZE`](crate::FILE_SIZE) bytes whose first 16 are 0.
     ///
-    /// A refusal hands the disk back, and `NotBlank` has written nothing. A stop inside the call may leave anything.
+    /// A refusal hands the disk back, and `NotBlank` has written nothing. A power cut inside the call may leave anything.
     pub fn create(alloc: Global, disk: D, snap: &[u8]) -> Result<Store<D>, (CreateFault, D)>
         requires short { length snap.now ≤ MOST_SNAP }
 

@@ -1,5 +1,11 @@
-use mcs_disk::{Disk, FuseDisk, MemDisk};
-use mcs_journal::{CreateFault, FILE_SIZE, OpenFault, Opened, Store};
+use mcs_disk::{
+    Disk, FuseDisk, MemDisk, cut_is_before_a_stretch_or_since_its_start,
+    cut_is_since_an_earlier_time, cut_leaves_what_is_durable, cut_of_what_a_cut_left,
+};
+use mcs_journal::{
+    CreateFault, FILE_SIZE, OpenFault, Opened, Store, cut_leaves_a_durable_pair,
+    cut_leaves_one_of_two_pairs,
+};
 use std::alloc::Global;
 use std::process::Abort;
 use std::test::Fail;
@@ -220,4 +226,15 @@ fn makes_a_store_on_a_blank_disk_only(rt: HostRuntime) {
             Err((fault, _)) => assert_eq!(rt; fault, CreateFault::NotBlank),
         }
     }
+}
+
+/// The laws are proved of every two types of disks; these two are such types.
+#[test]
+fn laws_of_power_cuts_hold_of_disks_in_memory(_rt: HostRuntime) {
+    cut_is_since_an_earlier_time::<MemDisk, FuseDisk>();
+    cut_leaves_what_is_durable::<MemDisk, FuseDisk>();
+    cut_is_before_a_stretch_or_since_its_start::<FuseDisk, MemDisk>();
+    cut_of_what_a_cut_left::<FuseDisk, MemDisk, MemDisk>();
+    cut_leaves_one_of_two_pairs::<FuseDisk, MemDisk>();
+    cut_leaves_a_durable_pair::<MemDisk, MemDisk>();
 }
