@@ -8,21 +8,21 @@ ghost use Rattle.mcs_asm.specs.View.{operand_view, statement_view, line_view, No
 
 use crate::tokens::{Token, Tokens};
 use crate::words::{is_name, mnemonic_in, pair_named, register_named};
-use mcs_source::mnemonic::Mnemonic;
 use mcs_model::numeral::number;
 use mcs_model::op::Op;
 use mcs_nibble::{PairNo, RegNo};
+use mcs_source::mnemonic::Mnemonic;
 use std::alloc::{AllocError, Global};
 
 /// A value as it is written. A number from 4,294,967,296 on counts as 4,294,967,296.
-#[derive(Clone, Copy, Debug)]
+#[derive(Clone, Copy)]
 pub enum Operand<'a> {
     Number(u64),
     Name(&'a [u8]),
 }
 
 /// A statement as it is written. `Whole` is an instruction that needs no name's value.
-#[derive(Debug, Drop)]
+#[derive(Drop)]
 pub enum Statement<'a> {
     Origin(u64),
     Data(Vec<Operand<'a>>),
@@ -37,7 +37,7 @@ pub enum Statement<'a> {
 }
 
 /// A line that has a form: with its label and its statement, or a definition of a name.
-#[derive(Debug, Drop)]
+#[derive(Drop)]
 pub enum Line<'a> {
     Code(Option<&'a [u8]>, Option<Statement<'a>>),
     Define(&'a [u8], u64),

@@ -7,7 +7,7 @@ ghost use Rattle.mcs_asm.specs.View.{token_view};
 use std::marker::Model;
 
 /// A piece of a line; `Other` is a byte that is in no form.
-#[derive(Clone, Copy, Debug)]
+#[derive(Clone, Copy)]
 pub enum Token<'a> {
     Word(&'a [u8]),
     Comma,

@@ -6,9 +6,9 @@ ghost use Rattle.mcs_source.specs.declared.mnemonic.Mnemonic.TheVariants.{Bare};
 ghost use Rattle.mcs_source.specs.Lines.{begins_name, up_to_15, register_named, pair_named, is_reserved, is_name};
 
 use mcs_model::limits::NAME_BYTES;
-use mcs_source::mnemonic::Mnemonic;
 use mcs_model::op::Op;
 use mcs_nibble::{PairNo, RegNo};
+use mcs_source::mnemonic::Mnemonic;
 
 /// Whether two words are the same, in either case.
 fn is_word(a: &[u8], b: &[u8]) -> bool

@@ -1,5 +1,5 @@
 -- What is on a board, and which parts make a board (our own choice, after what the chips have).
-use Rattle.std.specs.Prelude.{◌≡◌, ℕ, ◌+◌, ◌*◌, ◌≤◌, Bool, true, false, ◌&&◌, ◌||◌, not, List, [], replicate, Option, Some, None, is_some, slice_index, slice_index_or, length, nat_lt, nat_le, if◌then◌else◌}
+use Rattle.std.specs.Prelude.{◌≡◌, ℕ, ◌+◌, ◌*◌, ◌≤◌, Bool, false, ◌&&◌, ◌||◌, not, List, [], replicate, Option, Some, None, is_some, slice_index, slice_index_or, length, nat_lt, nat_le, if◌then◌else◌}
 use Rattle.std.specs.List.{list_any}
 use Rattle.mcs_nibble.specs.declared.lines.LineMask.{LineMask}
 use Rattle.mcs_nibble.specs.Ports.{is_input, mask_at}

@@ -1,5 +1,5 @@
 -- A port's latch: its bits at input lines are 0, so that to write what it holds changes nothing.
-use Rattle.std.proofs.Common.{◌≡◌, ℕ, ◌+◌, ◌*◌, ◌/◌, ◌%◌, ◌<◌, ◌^◌, List, refl, arith, if◌then◌else◌}
+use Rattle.std.proofs.Common.{◌≡◌, ℕ, ◌+◌, ◌*◌, ◌<◌, List, refl, arith, if◌then◌else◌}
 use Rattle.mcs_nibble.specs.Bits.{bit_of, nibble_of}
 use Rattle.mcs_nibble.specs.Ports.{is_input, mask_at, latch_bit, latch_value}
 use Rattle.mcs_nibble.specs.declared.lines.LineMask.{LineMask}

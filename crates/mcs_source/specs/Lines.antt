@@ -56,7 +56,7 @@ pair_named word = None
 unfoldable pub is_reserved : List ℕ → Bool
 is_reserved w = is_some (mnemonic_of w) || (str_eq_ignore_ascii_case w (codes "WPM") || (is_some (register_named w) || is_some (pair_named w)))
 
--- a name begins with a letter or `_`, has at most so many bytes, and is not reserved
+-- a name begins with a letter or `_`, has at most `NAME_BYTES` bytes, and is not reserved
 abbrev pub is_name : List ℕ → Bool
 is_name w = (begins_name w && nat_le (length w) NAME_BYTES) && not (is_reserved w)
 
