@@ -57,9 +57,8 @@ fn replay(alloc: Global, snap: &[u8], records: &Records) -> Result<Option<Bench>
             Ok(None) => return Ok(None),
             Err(refused) => return Err(refused),
         };
-        match bench.check(&command) {
-            Ok(()) => {}
-            Err(_) => return Ok(None),
+        if bench.check(&command).is_err() {
+            return Ok(None);
         }
         let _reply = bench.apply(&command);
         at += 1;
@@ -192,10 +191,7 @@ impl<D: Disk + Drop> Session<D> {
         if !self.store.is_open() {
             return Err(SessionFault::Closed);
         }
-        match self.bench.check(command) {
-            Ok(()) => {}
-            Err(fault) => return Err(SessionFault::Refused(fault)),
-        }
+        self.bench.check(command).map_err(SessionFault::Refused)?;
         let count = spell(&mut self.buffer, command);
         if !self.store.has_room(count) {
             return Err(SessionFault::Full);
