@@ -22,7 +22,7 @@ returns-in-Ok-clause-records g c = rw (← c.self.view_is) (λ h.
     let accepted : refusal c.self.inside.bench c.args.command.now ≡ None = search rules in
     let was = c.self.invariant.recorded live h in
     let done = c.in-Ok.ensures.appends h was.stands.snap was.stands.records was.stands.holds in
-    acknowledged _ _ was.stands.snap _ was.stands.records _ _ was.stands.pair (rw c.as_slice.ensures.value c.spell-count.ensures.spells) accepted done.moments done.ticks done.durable done.after)
+    acknowledged _ _ was.stands.snap _ was.stands.records _ _ was.stands.stand (rw c.as_slice.ensures.value c.spell-count.ensures.spells) accepted done.moments done.ticks done.durable done.after)
 
 pub returns-in-Err-clause-records : goal.returns-in-Err-clause-records
 returns-in-Err-clause-records g c = rw (← c.self.view_is) (λ h.
@@ -30,4 +30,4 @@ returns-in-Err-clause-records g c = rw (← c.self.view_is) (λ h.
     let accepted : refusal c.self.inside.bench c.args.command.now ≡ None = search rules in
     let was = c.self.invariant.recorded live h in
     let done = c.append.ensures.appends h was.stands.snap was.stands.records was.stands.holds in
-    recorded _ _ was.stands.snap _ was.stands.records _ _ was.stands.pair (rw c.as_slice.ensures.value c.spell-count.ensures.spells) accepted done.moments)
+    recorded _ _ was.stands.snap _ was.stands.records _ _ was.stands.stand (rw c.as_slice.ensures.value c.spell-count.ensures.spells) accepted done.moments)
