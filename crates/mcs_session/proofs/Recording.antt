@@ -12,7 +12,7 @@ use Rattle.mcs_model.specs.declared.command.Command.{Command}
 use Rattle.mcs_model.specs.Flat.{Flat, new_flat}
 use Rattle.mcs_model.specs.Command.{refusal, after}
 use Rattle.mcs_session.specs.Codec.{Spells, new_text}
-use Rattle.mcs_session.specs.Stands.{PairStandsFor, StandsFor, IsAt}
+use Rattle.mcs_session.specs.Stands.{RecordsStandFor, StandsFor, IsAt}
 use Rattle.mcs_session.specs.Answers.{Acknowledges}
 use Rattle.mcs_session.specs.Answers.{CreatesSession, OpensSession, RefusesSession}
 use Rattle.mcs_session.specs.Invariant.{IsRecorded}
@@ -20,7 +20,7 @@ use Rattle.mcs_session.specs.Log.{HasUsed}
 use Rattle.mcs_session.proofs.Replaying.{replays-more, same_pair_state}
 use Rattle.mcs_session.proofs.Folds.{fold-append}
 
-pub pair_more : (snap r : List ℕ) (records : List (List ℕ)) (s : Flat) (c : Command) → PairStandsFor snap records s → Spells r c → refusal s c ≡ None → PairStandsFor snap (records ++ r ∷ []) (after s c)
+pub pair_more : (snap r : List ℕ) (records : List (List ℕ)) (s : Flat) (c : Command) → RecordsStandFor snap records s → Spells r c → refusal s c ≡ None → RecordsStandFor snap (records ++ r ∷ []) (after s c)
 pair_more snap r records s c p spells accepted = record {
   start = p.start;
   snapshot = p.snapshot;
@@ -29,14 +29,14 @@ pair_more snap r records s c p spells accepted = record {
   state = ap (λ (t : Flat). after t c) p.state ∙ sym (fold-append p.start p.commands (c ∷ []));
 }
 
-pub stands_by : (snap : List ℕ) (records : List (List ℕ)) (s : Flat) → PairStandsFor snap records s → (c : List ℕ) → Holds c snap records → StandsFor c s
-stands_by snap records s p c held = record { snap = snap; records = records; holds = held; pair = p }
+pub stands_by : (snap : List ℕ) (records : List (List ℕ)) (s : Flat) → RecordsStandFor snap records s → (c : List ℕ) → Holds c snap records → StandsFor c s
+stands_by snap records s p c held = record { snap = snap; records = records; holds = held; stand = p }
 
 pub at_of : (disk : DiskState) (s : Flat) → IsDurable disk → StandsFor disk.bytes s → IsAt disk s
 at_of disk s durable stands image now = subst (λ (f : List ℕ). StandsFor f s) (sym (durable.fresh image now)) stands
 
 -- the moments of an append, by what the files stand for
-pub recorded : (old new : DiskState) (snap r : List ℕ) (records : List (List ℕ)) (s : Flat) (c : Command) → PairStandsFor snap records s → Spells r c → refusal s c ≡ None
+pub recorded : (old new : DiskState) (snap r : List ℕ) (records : List (List ℕ)) (s : Flat) (c : Command) → RecordsStandFor snap records s → Spells r c → refusal s c ≡ None
     → LeavesOnly old new (λ f. Holds f snap records ⊎ Holds f snap (records ++ r ∷ []))
     → LeavesOnly old new (Either (λ f. StandsFor f s) (λ f. StandsFor f (after s c)))
 recorded old new snap r records s c p spells accepted moments = record {
@@ -46,7 +46,7 @@ recorded old new snap r records s c p spells accepted moments = record {
   keeps = moments.keeps;
 }
 
-pub acknowledged : (old new : DiskState) (snap r : List ℕ) (records : List (List ℕ)) (s : Flat) (c : Command) → PairStandsFor snap records s → Spells r c → refusal s c ≡ None
+pub acknowledged : (old new : DiskState) (snap r : List ℕ) (records : List (List ℕ)) (s : Flat) (c : Command) → RecordsStandFor snap records s → Spells r c → refusal s c ≡ None
     → LeavesOnly old new (λ f. Holds f snap records ⊎ Holds f snap (records ++ r ∷ []))
     → new.clock ≡ old.clock + 4 → IsDurable new → Holds new.bytes snap (records ++ r ∷ []) → Acknowledges old new s (after s c)
 acknowledged old new snap r records s c p spells accepted moments ticks durable held = record {
@@ -61,7 +61,7 @@ stands_new file snap is held = record {
   snap = snap;
   records = [];
   holds = held;
-  pair = record { start = new_flat; snapshot = record { is = is; state = refl }; commands = []; replays = tt; state = refl };
+  stand = record { start = new_flat; snapshot = record { is = is; state = refl }; commands = []; replays = tt; state = refl };
 }
 
 -- ---- how many bytes the records take
@@ -78,7 +78,7 @@ pub recorded_more : (old new : DiskState) (used more : ℕ) (s t : Flat) (c : Co
     → IsDurable new → Holds new.bytes was.stands.snap (was.stands.records ++ r ∷ []) → IsRecorded new more t
 recorded_more old new used more s t c r was spells accepted same grown durable held = record {
   durable = durable;
-  stands = subst (λ (u : Flat). StandsFor new.bytes u) (sym same) (stands_by was.stands.snap (was.stands.records ++ r ∷ []) (after s c) (pair_more was.stands.snap r was.stands.records s c was.stands.pair spells accepted) new.bytes held);
+  stands = subst (λ (u : Flat). StandsFor new.bytes u) (sym same) (stands_by was.stands.snap (was.stands.records ++ r ∷ []) (after s c) (pair_more was.stands.snap r was.stands.records s c was.stands.stand spells accepted) new.bytes held);
   log = used_of new.bytes was.stands.snap (was.stands.records ++ r ∷ []) more held
       (let known = was.log was.stands.snap was.stands.records was.stands.holds in let long = length-spelled-more was.stands.records r in let e : more ≡ length (spelled (was.stands.records ++ r ∷ [])) = omega (arith, grown, known, long) in e);
 }
@@ -99,12 +99,12 @@ recorded_new old new snap used s is none same made = record {
   log = used_of new.bytes snap [] used made.holds none;
 }
 
-pub recorded_opened : (old new : DiskState) (snap : List ℕ) (records : List (List ℕ)) (used : ℕ) (s : Flat) → Opens old new snap records → used ≡ length (spelled records) → PairStandsFor snap records s → IsRecorded new used s
+pub recorded_opened : (old new : DiskState) (snap : List ℕ) (records : List (List ℕ)) (used : ℕ) (s : Flat) → Opens old new snap records → used ≡ length (spelled records) → RecordsStandFor snap records s → IsRecorded new used s
 recorded_opened old new snap records used s opened long pair =
     let held : Holds new.bytes snap records = subst (λ (f : List ℕ). Holds f snap records) (sym opened.rests.bytes) opened.holds in
     record { durable = opened.durable; stands = stands_by snap records s pair new.bytes held; log = used_of new.bytes snap records used held long }
 
-pub opened_session : (old new : DiskState) (snap : List ℕ) (records : List (List ℕ)) (s : Flat) → Opens old new snap records → PairStandsFor snap records s → OpensSession old new s
+pub opened_session : (old new : DiskState) (snap : List ℕ) (records : List (List ℕ)) (s : Flat) → Opens old new snap records → RecordsStandFor snap records s → OpensSession old new s
 opened_session old new snap records s opened pair =
     let held : Holds new.bytes snap records = subst (λ (f : List ℕ). Holds f snap records) (sym opened.rests.bytes) opened.holds in
     record { stands = stands_by snap records s pair old.bytes opened.holds; rests = opened.rests; at = at_of new s opened.durable (stands_by snap records s pair new.bytes held) }
@@ -112,17 +112,17 @@ opened_session old new snap records s opened pair =
 -- ---- what `open` refuses
 
 -- a file stands for what its one pair stands for
-pub pair_of : (file snap : List ℕ) (records : List (List ℕ)) (s : Flat) → Holds file snap records → StandsFor file s → PairStandsFor snap records s
+pub pair_of : (file snap : List ℕ) (records : List (List ℕ)) (s : Flat) → Holds file snap records → StandsFor file s → RecordsStandFor snap records s
 pair_of file snap records s held stands =
-    subst (λ (x : List (List ℕ)). PairStandsFor snap x s) (same_pair _ _ _ _ _ stands.holds held)
-    (subst (λ (x : List ℕ). PairStandsFor x stands.records s) (same_snap _ _ _ _ _ stands.holds held) stands.pair)
+    subst (λ (x : List (List ℕ)). RecordsStandFor snap x s) (same_pair _ _ _ _ _ stands.holds held)
+    (subst (λ (x : List ℕ). RecordsStandFor x stands.records s) (same_snap _ _ _ _ _ stands.holds held) stands.stand)
 
 -- a file stands for at most one state
 pub one_state : (file : List ℕ) (s t : Flat) → StandsFor file s → StandsFor file t → s ≡ t
-one_state file s t a b = same_pair_state a.snap a.records s t a.pair (pair_of file a.snap a.records t a.holds b)
+one_state file s t a b = same_pair_state a.snap a.records s t a.stand (pair_of file a.snap a.records t a.holds b)
 
 -- no state behind the pair that was opened
-pub refuses_pair : (old new : DiskState) (snap : List ℕ) (records : List (List ℕ)) → IsLawful old → Opens old new snap records → ((s : Flat) → PairStandsFor snap records s → ⊥) → RefusesSession Damaged old × Rests old new
+pub refuses_pair : (old new : DiskState) (snap : List ℕ) (records : List (List ℕ)) → IsLawful old → Opens old new snap records → ((s : Flat) → RecordsStandFor snap records s → ⊥) → RefusesSession Damaged old × Rests old new
 refuses_pair old new snap records lawful opened none = (
   (
     λ no. elim no [ inl wrong ↦ wrong (sym (lawful.sized old.bytes lawful.current) ∙ opened.holds.size) | inr other ↦ other opened.holds.name ],

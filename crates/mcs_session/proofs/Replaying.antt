@@ -9,7 +9,7 @@ use Rattle.mcs_model.specs.Flat.{Flat}
 use Rattle.mcs_model.specs.Command.{refusal, after}
 use Rattle.mcs_model.specs.Fold.{fold}
 use Rattle.mcs_session.specs.Codec.{Spells, SpellsState, command_text}
-use Rattle.mcs_session.specs.Stands.{Replays, PairStandsFor}
+use Rattle.mcs_session.specs.Stands.{Replays, RecordsStandFor}
 
 -- one more
 pub replays-more : (s : Flat) (rs : List (List ℕ)) (cs : List Command) (r : List ℕ) (c : Command) → Replays s rs cs → Spells r c → refusal (fold s cs) c ≡ None → Replays s (rs ++ r ∷ []) (cs ++ c ∷ [])
@@ -53,7 +53,7 @@ pub same_start : (snap : List ℕ) (s t : Flat) → SpellsState snap s → Spell
 same_start snap s t a b = a.state ∙ sym b.state
 
 -- a snapshot and records stand for one state at most
-pub same_pair_state : (snap : List ℕ) (records : List (List ℕ)) (s t : Flat) → PairStandsFor snap records s → PairStandsFor snap records t → s ≡ t
+pub same_pair_state : (snap : List ℕ) (records : List (List ℕ)) (s t : Flat) → RecordsStandFor snap records s → RecordsStandFor snap records t → s ≡ t
 same_pair_state snap records s t a b =
     let start = same_start snap b.start a.start b.snapshot a.snapshot in
     let replays : Replays a.start records b.commands = subst (λ (x : Flat). Replays x records b.commands) start b.replays in
@@ -69,8 +69,8 @@ one_at xs r i e =
 pub one_more : {A : Type 0} (xs : List A) (r : A) (i : ℕ) → slice_get xs i ≡ Some r → take (i + 1) xs ≡ take i xs ++ r ∷ []
 one_more xs r i e = take_more xs i r (slice_get_within xs i r e) ∙ ap (λ v. take i xs ++ v ∷ []) (get_or_from_slice_get xs i r r e)
 
-pub no_pair : (snap : List ℕ) (records : List (List ℕ)) (r : List ℕ) (i : ℕ) (s t : Flat) → slice_get records i ≡ Some r → PairStandsFor snap (take i records) s
-    → ((c : Command) → Spells r c → refusal s c ≡ None → ⊥) → PairStandsFor snap records t → ⊥
+pub no_pair : (snap : List ℕ) (records : List (List ℕ)) (r : List ℕ) (i : ℕ) (s t : Flat) → slice_get records i ≡ Some r → RecordsStandFor snap (take i records) s
+    → ((c : Command) → Spells r c → refusal s c ≡ None → ⊥) → RecordsStandFor snap records t → ⊥
 no_pair snap records r i s t e a none b =
     let start = same_start snap b.start a.start b.snapshot a.snapshot in
     let replays : Replays a.start records b.commands = subst (λ (x : Flat). Replays x records b.commands) start b.replays in

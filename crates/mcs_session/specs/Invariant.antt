@@ -13,6 +13,7 @@ pub record IsRecorded (disk : DiskState) (used : ℕ) (s : Flat) : Type 0 where
   pub stands : StandsFor disk.bytes s
   pub log : HasUsed disk.bytes used
 
+-- the buffer has room for a record, and what an open session did is recorded on an honest disk
 pub record IsSession (disk : DiskState) (live : Bool) (used : ℕ) (s : Flat) (buffer : List ℕ) : Type 0 where
   pub lent : length buffer ≡ MOST_RECORD
   pub recorded : IsTrue live → disk.honest → IsRecorded disk used s

@@ -18,6 +18,7 @@ abbrev pub IsSpaced : ℕ → List ℕ → Type 0
 IsSpaced clock [] = Unit {0}
 IsSpaced clock (m ∷ ms) = ((m ≡ clock + 4) ⊎ (m ≡ clock + 8)) × IsSpaced m ms
 
+-- the last of the moments, or the clock where there is none
 abbrev pub last_moment : ℕ → List ℕ → ℕ
 last_moment clock [] = clock
 last_moment clock (m ∷ ms) = last_moment m ms

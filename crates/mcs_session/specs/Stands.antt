@@ -16,7 +16,7 @@ Replays s (r ∷ rs) [] = ⊥
 Replays s (r ∷ rs) (c ∷ cs) = Spells r c × (refusal s c ≡ None) × Replays (after s c) rs cs
 
 -- a snapshot and the records behind it stand for this state
-pub record PairStandsFor (snap : List ℕ) (records : List (List ℕ)) (s : Flat) : Type 0 where
+pub record RecordsStandFor (snap : List ℕ) (records : List (List ℕ)) (s : Flat) : Type 0 where
   pub start : Flat
   pub snapshot : SpellsState snap start
   pub commands : List Command
@@ -28,7 +28,7 @@ pub record StandsFor (file : List ℕ) (s : Flat) : Type 0 where
   pub snap : List ℕ
   pub records : List (List ℕ)
   pub holds : Holds file snap records
-  pub pair : PairStandsFor snap records s
+  pub stand : RecordsStandFor snap records s
 
 -- whatever a crash now leaves stands for this state
 abbrev pub IsAt : DiskState → Flat → Type 0

@@ -4,7 +4,7 @@ ghost use Rattle.mcs_disk.specs.Moments.{Counts, Rests};
 ghost use Rattle.mcs_journal.specs.Answers.{RefusesCreate};
 ghost use Rattle.mcs_session.specs.Codec.{Spells, command_text, new_text};
 ghost use Rattle.mcs_model.specs.Flat.{Flat, new_flat};
-ghost use Rattle.mcs_session.specs.Stands.{PairStandsFor, StandsFor, IsAt};
+ghost use Rattle.mcs_session.specs.Stands.{RecordsStandFor, StandsFor, IsAt};
 ghost use Rattle.mcs_session.specs.Answers.{Applied, Closes, CreatesSession, OpensSession, Recorded, RefusesSession};
 ghost use Rattle.mcs_session.specs.Log.{IsLogOf, Open, is_open_log};
 
@@ -42,8 +42,10 @@ impl<D: Disk + Drop> Model for Session<D> {
 
 /// The bench that a snapshot and the records behind it stand for, or none.
 fn replay(alloc: Global, snap: &[u8], records: &Records) -> Result<Option<Bench>, AllocError>
-    ensures some { IfOk result (λ found. IfSome found (λ s. PairStandsFor snap.now records.now s)) }
-    ensures none { IfOk result (λ found. IfNone found ((s : Flat) → PairStandsFor snap.now records.now s → ⊥)) }
+    ensures some { IfOk result (λ found.
+        IfSome found (λ s. RecordsStandFor snap.now records.now s)) }
+    ensures none { IfOk result (λ found.
+        IfNone found ((s : Flat) → RecordsStandFor snap.now records.now s → ⊥)) }
 {
     let mut bench = match bench_of(alloc, snap) {
         Ok(Some(bench)) => bench,
@@ -57,9 +59,8 @@ fn replay(alloc: Global, snap: &[u8], records: &Records) -> Result<Option<Bench>
             Ok(None) => return Ok(None),
             Err(refused) => return Err(refused),
         };
-        match bench.check(&command) {
-            Ok(()) => {}
-            Err(_) => return Ok(None),
+        if bench.check(&command).is_err() {
+            return Ok(None);
         }
         let _reply = bench.apply(&command);
         at += 1;
@@ -97,14 +98,19 @@ impl<D: Disk + Drop> Session<D> {
         ensures open { IfOk result (λ s. s.log ≡ Open 0) }
         ensures new { IfOk result (λ s. s.state ≡ new_flat) }
         ensures counts { IfOk result (λ s. Counts (D.state disk) (D.state s.disk) ⊥) }
-        ensures refusal_counts { IfErr result (λ refused. Counts (D.state disk) (D.state refused.1) (refused.0 ≡ CreateFault.Device)) }
-        ensures no_memory { IfErr result (λ refused. refused.0 ≡ CreateFault.NoMemory → refused.1 ≡ disk) }
-        ensures wrong_size { (D.state disk).size ≢ FILE_SIZE
-            → IsErrAnd result (λ refused. ((refused.0 ≡ CreateFault.NotBlank) ⊎ (refused.0 ≡ CreateFault.NoMemory)) × (refused.1 ≡ disk)) }
+        ensures refusal_counts { IfErr result (λ refused.
+            Counts (D.state disk) (D.state refused.1) (refused.0 ≡ CreateFault.Device)) }
+        ensures no_memory { IfErr result (λ refused.
+            refused.0 ≡ CreateFault.NoMemory → refused.1 ≡ disk) }
+        ensures wrong_size { (D.state disk).size ≢ FILE_SIZE → IsErrAnd result (λ refused.
+            ((refused.0 ≡ CreateFault.NotBlank) ⊎ (refused.0 ≡ CreateFault.NoMemory))
+            × (refused.1 ≡ disk)) }
 
         // on an honest disk
-        ensures created { (D.state disk).honest → IfOk result (λ s. CreatesSession (D.state disk) (D.state s.disk)) }
-        ensures refused { (D.state disk).honest → IfErr result (λ refused. RefusesCreate refused.0 (D.state disk) (D.state refused.1)) }
+        ensures created { (D.state disk).honest → IfOk result (λ s.
+            CreatesSession (D.state disk) (D.state s.disk)) }
+        ensures refused { (D.state disk).honest → IfErr result (λ refused.
+            RefusesCreate refused.0 (D.state disk) (D.state refused.1)) }
     {
         let Ok(buffer) = vec![in alloc; 0u8; COMMAND_BYTES] else {
             return Err((CreateFault::NoMemory, disk));
@@ -130,13 +136,17 @@ impl<D: Disk + Drop> Session<D> {
         // on any disk
         ensures open { IfOk result (λ s. IsTrue (is_open_log s.log)) }
         ensures counts { IfOk result (λ s. Counts (D.state disk) (D.state s.disk) ⊥) }
-        ensures refusal_counts { IfErr result (λ refused. Counts (D.state disk) (D.state refused.1) (refused.0 ≡ OpenFault.Device)) }
-        ensures wrong_size { (D.state disk).size ≢ FILE_SIZE
-            → IsErrAnd result (λ refused. ((refused.0 ≡ OpenFault.NotASession) ⊎ (refused.0 ≡ OpenFault.NoMemory)) × (refused.1 ≡ disk)) }
+        ensures refusal_counts { IfErr result (λ refused.
+            Counts (D.state disk) (D.state refused.1) (refused.0 ≡ OpenFault.Device)) }
+        ensures wrong_size { (D.state disk).size ≢ FILE_SIZE → IsErrAnd result (λ refused.
+            ((refused.0 ≡ OpenFault.NotASession) ⊎ (refused.0 ≡ OpenFault.NoMemory))
+            × (refused.1 ≡ disk)) }
 
         // on an honest disk
-        ensures opened { (D.state disk).honest → IfOk result (λ s. OpensSession (D.state disk) (D.state s.disk) s.state) }
-        ensures refused { (D.state disk).honest → IfErr result (λ refused. RefusesSession refused.0 (D.state disk) × Rests (D.state disk) (D.state refused.1)) }
+        ensures opened { (D.state disk).honest → IfOk result (λ s.
+            OpensSession (D.state disk) (D.state s.disk) s.state) }
+        ensures refused { (D.state disk).honest → IfErr result (λ refused.
+            RefusesSession refused.0 (D.state disk) × Rests (D.state disk) (D.state refused.1)) }
     {
         let Ok(buffer) = vec![in alloc; 0u8; COMMAND_BYTES] else {
             return Err((OpenFault::NoMemory, disk));
@@ -171,8 +181,10 @@ impl<D: Disk + Drop> Session<D> {
     /// The bench, as all the commands that were answered `Ok` left it.
     pub fn bench(&self) -> &Bench
         ensures is { result.now ≡ self.now.state }
-        ensures at { IsTrue (is_open_log self.now.log) → (D.state self.now.disk).honest → IsAt (D.state self.now.disk) self.now.state }
-        ensures log { (D.state self.now.disk).honest → IsLogOf (D.state self.now.disk).bytes self.now.log }
+        ensures at { IsTrue (is_open_log self.now.log) → (D.state self.now.disk).honest
+            → IsAt (D.state self.now.disk) self.now.state }
+        ensures log { (D.state self.now.disk).honest
+            → IsLogOf (D.state self.now.disk).bytes self.now.log }
     {
         &self.bench
     }
@@ -180,22 +192,25 @@ impl<D: Disk + Drop> Session<D> {
     /// Does a command and records it. It is acknowledged by `Ok`: from then on no crash loses it.
     ///
     /// It is refused on a closed session (54), where the bench refuses it (41 to 46), where its record has no room in the
-    /// log (52), and where a call on the disk failed (53).
+    /// log (52), and where a call on the disk failed (53). Each refusal but the last leaves the disk untouched.
     pub fn apply(&mut self, command: &Command) -> Result<Reply, SessionFault>
+        // on any disk
         ensures applied { Applied self.old.log self.old.state command.now result self.new.state }
-        ensures closes { Closes self.old.log (D.state self.old.disk).faults command.now result self.new.log (D.state self.new.disk).faults }
+        ensures closes { Closes self.old.log (D.state self.old.disk).faults command.now result
+            self.new.log (D.state self.new.disk).faults }
         ensures size { (D.state self.new.disk).size ≡ (D.state self.old.disk).size }
         ensures honest { (D.state self.new.disk).honest ↔ (D.state self.old.disk).honest }
-        ensures untouched { IfErr result (λ fault. fault ≢ SessionFault.Device → self.new.disk ≡ self.old.disk) }
-        ensures records { (D.state self.old.disk).honest → Recorded result (D.state self.old.disk) (D.state self.new.disk) self.old.state command.now }
+        ensures untouched { IfErr result (λ fault.
+            fault ≢ SessionFault.Device → self.new.disk ≡ self.old.disk) }
+
+        // on an honest disk
+        ensures records { (D.state self.old.disk).honest
+            → Recorded result (D.state self.old.disk) (D.state self.new.disk) self.old.state command.now }
     {
         if !self.store.is_open() {
             return Err(SessionFault::Closed);
         }
-        match self.bench.check(command) {
-            Ok(()) => {}
-            Err(fault) => return Err(SessionFault::Refused(fault)),
-        }
+        self.bench.check(command).map_err(SessionFault::Refused)?;
         let count = spell(&mut self.buffer, command);
         if !self.store.has_room(count) {
             return Err(SessionFault::Full);
@@ -209,7 +224,8 @@ impl<D: Disk + Drop> Session<D> {
     /// The disk. That of an open session stands for the state of its bench.
     pub fn into_disk(self) -> D
         ensures is { result ≡ self.disk }
-        ensures stands { IsTrue (is_open_log self.log) → (D.state result).honest → StandsFor (D.state result).bytes self.state }
+        ensures stands { IsTrue (is_open_log self.log) → (D.state result).honest
+            → StandsFor (D.state result).bytes self.state }
     {
         let Session {
             store,

@@ -9,8 +9,8 @@ pub returns-in-Ok-None-command_of-clause-none : goal.returns-in-Ok-None-command_
 returns-in-Ok-None-command_of-clause-none c = λ s pair.
     no_pair _ _ _ c.loop-at.at _ s c.get.ensures c.loop-at.invariant.so_far (λ d spells accepted. (rw c.in-Ok-None-command_of.field-0-is at c.in-Ok-None-command_of.ensures.none) d spells) pair
 
-pub returns-in-Err-check-clause-none : goal.returns-in-Err-check-clause-none
-returns-in-Err-check-clause-none c = λ s pair.
+pub returns-then-is_err-clause-none : goal.returns-then-is_err-clause-none
+returns-then-is_err-clause-none c = λ s pair.
     no_pair _ _ _ c.loop-at.at _ s c.get.ensures c.loop-at.invariant.so_far
     (λ d spells accepted.
     let same = same_command _ d c.in-Ok-Some-command_of.command spells (rw c.in-Ok-Some-command_of.field-0-is at c.in-Ok-Some-command_of.ensures.some) in
