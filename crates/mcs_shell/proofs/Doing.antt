@@ -1,5 +1,5 @@
 -- What a command leaves, by its answer, and what a line leaves.
-use Rattle.std.proofs.Common.{◌≡◌, ◌≢◌, ℕ, ◌<◌, ◌≤◌, true, false, List, [], ◌∷◌, Option, Some, None, Result, Ok, Err, length, nat_lt, sym, ap, ◌∙◌, refl, rules, subst}
+use Rattle.std.proofs.Common.{◌≡◌, ◌≢◌, ◌↔◌, ℕ, ◌<◌, ◌≤◌, true, false, List, [], ◌∷◌, Option, Some, None, Result, Ok, Err, length, nat_lt, sym, ap, ◌∙◌, refl, rules, subst}
 use Rattle.std.specs.Io.KnownBytes.{Appends}
 use Rattle.std.specs.Io.BufRead.{strip_last}
 use Rattle.std.specs.List.{list_all}
@@ -22,7 +22,9 @@ use Rattle.mcs_shell.specs.declared.requests.Request.{Request}
 use Rattle.mcs_shell.specs.declared.requests.Request.TheVariants.{Refused, Ask, Change}
 use Rattle.mcs_shell.specs.Inputs.{Input, Blank, TooLong, Line, input_of, is_blank_byte, line_input}
 use Rattle.mcs_shell.specs.Requests.{request_of}
-use Rattle.mcs_session.specs.Standing.{Applied, Closes, Log, Open, Recorded, SessionState, Shut}
+use Rattle.mcs_session.specs.Answers.{Applied, Closes, Recorded}
+use Rattle.mcs_session.specs.Log.{Log, Open, Shut}
+use Rattle.mcs_session.specs.Standing.{SessionState}
 use Rattle.mcs_shell.specs.Stage.{Stage}
 use Rattle.mcs_shell.specs.RefusalNumbers.{session_fault_number}
 use Rattle.mcs_shell.specs.Transcript.{MayEnd, answer, change_text, commands, commands_of_request, if_accepted, no_text, ok_text, plain_text, unless_refused, reached, reached_by_request, request_text}
@@ -37,7 +39,8 @@ at log s d = record { standing = record { log = log; state = s }; disk = d }
 pub record Tried (log : Log) (s : Flat) (d : DiskState) (c : Command) (result : Result Reply SessionFault) (b : SessionState) : Type 0 where
   pub applied : Applied log s c result b.standing.state
   pub closes : Closes log d.faults c result b.standing.log b.disk.faults
-  pub honest : d.honest → b.disk.honest
+  pub size : b.disk.size ≡ d.size
+  pub honest : b.disk.honest ↔ d.honest
   pub records : d.honest → Recorded result d b.disk s c
   pub lawful : b.disk.honest → IsLawful b.disk
 
@@ -68,8 +71,9 @@ ok_changed r (Open used) s d b c told h k =
       leaves = subst P (sym (accepted_alone s c yes)) (record {
         state = h.applied.3;
         closes = h.closes;
+        size = h.size;
         honest = h.honest;
-        kept = λ given. acknowledged_keeps d b.disk s c (h.records given.honest.1) (h.lawful (h.honest given.honest.1));
+        kept = λ given. acknowledged_keeps d b.disk s c (h.records given.honest.1) (h.lawful (h.honest.1 given.honest.1));
       });
     }
 
@@ -84,8 +88,9 @@ refused_changed f (Open used) s d b c told h k =
       leaves = subst P (sym (refused_none s c f no)) (record {
         state = h.applied.1;
         closes = h.closes;
+        size = h.size;
         honest = h.honest;
-        kept = λ given. stays_keeps d b.disk s (h.records given.honest.1) given.settled;
+        kept = λ given. stays_keeps d b.disk s (h.records given.honest.1) given.settled (h.lawful (h.honest.1 given.honest.1));
       });
     }
 
@@ -94,7 +99,7 @@ full_changed Shut s d b c told h k = absurd (h.applied)
 full_changed (Open used) s d b c told h k = record {
   may = (h.applied.0, h.applied.1);
   told_is = k;
-  leaves = record { state = h.applied.2; closes = h.closes; honest = h.honest; kept = λ given. stays_keeps d b.disk s (h.records given.honest.1) given.settled };
+  leaves = record { state = h.applied.2; closes = h.closes; size = h.size; honest = h.honest; kept = λ given. stays_keeps d b.disk s (h.records given.honest.1) given.settled (h.lawful (h.honest.1 given.honest.1)) };
 }
 
 pub device_changed : (log : Log) (s : Flat) (d : DiskState) (b : SessionState) (c : Command) (told : List ℕ) → Tried log s d c (Err fault.Device) b → told ≡ no_text DEVICE → Changed (at log s d) c Device told b
@@ -102,7 +107,7 @@ device_changed Shut s d b c told h k = absurd (h.applied)
 device_changed (Open used) s d b c told h k = record {
   may = (h.applied.0, h.applied.1);
   told_is = k;
-  leaves = record { state = h.applied.2; closes = h.closes; honest = h.honest; kept = λ given. failed_keeps d b.disk s c (h.records given.honest.1) (h.lawful (h.honest given.honest.1)) };
+  leaves = record { state = h.applied.2; closes = h.closes; size = h.size; honest = h.honest; kept = λ given. failed_keeps d b.disk s c (h.records given.honest.1) (h.lawful (h.honest.1 given.honest.1)) };
 }
 
 pub closed_changed : (log : Log) (s : Flat) (d : DiskState) (b : SessionState) (c : Command) (told : List ℕ) → Tried log s d c (Err fault.Closed) b → told ≡ no_text CLOSED → Changed (at log s d) c Closed told b
@@ -110,13 +115,13 @@ closed_changed (Open used) s d b c told h k = absurd (h.applied)
 closed_changed Shut s d b c told h k = record {
   may = tt;
   told_is = k;
-  leaves = record { state = h.applied; closes = h.closes; honest = h.honest; kept = λ given. absurd (cc given.honest.0) };
+  leaves = record { state = h.applied; closes = h.closes; size = h.size; honest = h.honest; kept = λ given. absurd (cc given.honest.0) };
 }
 
 -- ---- requests that change nothing
 
 pub leaves_nothing : (a : SessionState) → Leaves a Plain [] [] a
-leaves_nothing a = record { state = refl; closes = (refl, refl); honest = λ h. h; kept = λ given. whole_nothing a.disk a.standing.state given.settled }
+leaves_nothing a = record { state = refl; closes = (refl, refl); size = refl; honest = (λ h. h, λ h. h); kept = λ given. whole_nothing a.disk a.standing.state given.settled }
 
 pub refused_done : (a : SessionState) (f : LineFault) (told : List ℕ) → told ≡ request_text a.standing.state (Refused f) Plain → RequestDone a (Refused f) Plain told a
 refused_done a f told k = record { may = refl; told_is = k; leaves = leaves_nothing a }
@@ -166,7 +171,7 @@ answered_long a i told e h = let P : Input → Type 0 = λ x. Answered a x Plain
 
 -- ---- a line that was answered
 
-reached_same : (s : Flat) (i : Input) (o : Outcome) → o ≢ Device → reached s i o ≡ commands s i o
+pub reached_same : (s : Flat) (i : Input) (o : Outcome) → o ≢ Device → reached s i o ≡ commands s i o
 unfolding reached commands
 reached_same s Blank o h = refl
 reached_same s TooLong o h = refl
@@ -190,6 +195,7 @@ fares_of a b i o told h = record {
   may = h.may;
   state = h.leaves.state;
   closes = h.leaves.closes;
+  size = h.leaves.size;
   honest = h.leaves.honest;
   kept = λ given. kept_of o a.disk b.disk a.standing.state i (h.leaves.kept given);
 }
@@ -206,8 +212,8 @@ failed_of a b i Closed told out h is got = absurd (cc is)
 pub went_of : (a b : Stage) (i : Input) (o : Outcome) (told : List ℕ) → Answered a.session i o told b.session → o ≢ Device → Appends a.out b.out told → WentOn a i b
 went_of a b i Device told h is got = absurd (is refl)
 went_of a b i Plain told h is got = let P : List ℕ → Type 0 = λ x. Appends a.out b.out x in
-    record { outcome = Plain; may = (is, h.may); written = subst P h.told_is got; carries = record { standing = λ k. record { log = h.leaves.closes.0 k; state = h.leaves.state k }; same_faults = h.leaves.closes.1; honest = h.leaves.honest; kept = h.leaves.kept } }
+    record { outcome = Plain; may = (is, h.may); written = subst P h.told_is got; carries = record { standing = λ k. record { log = h.leaves.closes.0 k; state = h.leaves.state k }; same_faults = h.leaves.closes.1; size = h.leaves.size; honest = h.leaves.honest; kept = h.leaves.kept } }
 went_of a b i Full told h is got = let P : List ℕ → Type 0 = λ x. Appends a.out b.out x in
-    record { outcome = Full; may = (is, h.may); written = subst P h.told_is got; carries = record { standing = λ k. record { log = h.leaves.closes.0 k; state = h.leaves.state k }; same_faults = h.leaves.closes.1; honest = h.leaves.honest; kept = h.leaves.kept } }
+    record { outcome = Full; may = (is, h.may); written = subst P h.told_is got; carries = record { standing = λ k. record { log = h.leaves.closes.0 k; state = h.leaves.state k }; same_faults = h.leaves.closes.1; size = h.leaves.size; honest = h.leaves.honest; kept = h.leaves.kept } }
 went_of a b i Closed told h is got = let P : List ℕ → Type 0 = λ x. Appends a.out b.out x in
-    record { outcome = Closed; may = (is, h.may); written = subst P h.told_is got; carries = record { standing = λ k. record { log = h.leaves.closes.0 k; state = h.leaves.state k }; same_faults = h.leaves.closes.1; honest = h.leaves.honest; kept = h.leaves.kept } }
+    record { outcome = Closed; may = (is, h.may); written = subst P h.told_is got; carries = record { standing = λ k. record { log = h.leaves.closes.0 k; state = h.leaves.state k }; same_faults = h.leaves.closes.1; size = h.leaves.size; honest = h.leaves.honest; kept = h.leaves.kept } }

@@ -7,3 +7,4 @@ pub mod Steps
 pub mod Doing
 pub mod Looping
 pub mod DecimalDigits
+pub mod Surviving

@@ -11,7 +11,7 @@ use Rattle.mcs_shell.specs.declared.ends.ShellEnd.{ShellEnd}
 use Rattle.mcs_shell.specs.declared.ends.ShellEnd.TheVariants.{End, ReadFault, WriteFault, DeviceFault, InputLimit, NoMemory}
 use Rattle.mcs_model.specs.declared.limits.TheConstants.{INPUT_BYTES}
 use Rattle.mcs_shell.specs.Inputs.{Input, HasNoFeed, input_of, inputs}
-use Rattle.mcs_session.specs.Standing.{SessionState, Standing, on}
+use Rattle.mcs_session.specs.Standing.{SessionState, Standing, standing_after}
 use Rattle.mcs_shell.specs.Stage.{Stage}
 use Rattle.mcs_shell.specs.Transcript.{Went, all_commands, session_text, transcript}
 use Rattle.mcs_session.specs.Kept.{Carries, IsHonest, IsSettled}
@@ -22,7 +22,7 @@ use Rattle.mcs_shell.proofs.Cutting.{nil_right}
 use Rattle.mcs_shell.proofs.GrowingBytes.{appends_more, appends_nothing, consumes_kept, consumes_more, consumes_nothing}
 use Rattle.mcs_session.proofs.Keeping.{carries_more}
 use Rattle.mcs_shell.proofs.LineFeeds.{inputs-cut, inputs-ended, nat_lt-true}
-use Rattle.mcs_session.proofs.Folds.{on-further}
+use Rattle.mcs_session.proofs.Folds.{standing_after-further}
 use Rattle.mcs_shell.proofs.Served.{Went-append, Went-alone, Went-nothing, all_commands-alone, all_commands-further, all_commands-nothing, alone, map-append, transcript-alone, transcript-append, transcript-nothing}
 use Rattle.mcs_shell.proofs.Steps.{MovesBack, carries_none, cut_after, failed_after, went_stay, went_twice}
 
@@ -84,7 +84,7 @@ then_all whole a b c line bytes x y =
     let t = b.session.standing.state in
     let is = x.carries.standing in
     let state : t ≡ fold s (all_commands s x.progress.served) = ap (λ (v : Standing). v.state) is in
-    let went : Went (on a.session.standing (all_commands s x.progress.served)) y.served = subst (λ (v : Standing). Went v y.served) is y.went in
+    let went : Went (standing_after a.session.standing (all_commands s x.progress.served)) y.served = subst (λ (v : Standing). Went v y.served) is y.went in
     let written : Appends b.out c.out (transcript (fold s (all_commands s x.progress.served)) y.served) = subst (λ (v : Flat). Appends b.out c.out (transcript v y.served)) state y.written in
     let P : List ℕ → Type 0 = λ v. Appends a.out c.out v in
     record {
@@ -108,12 +108,12 @@ module _ (Last : LastStep) (back : MovesBack Last) where
       let t = b.session.standing.state in
       let is = x.carries.standing in
       let state : t ≡ fold s (all_commands s x.progress.served) = ap (λ (v : Standing). v.state) is in
-      let went : Went (on a.session.standing (all_commands s x.progress.served)) y.served = subst (λ (v : Standing). Went v y.served) is y.went in
+      let went : Went (standing_after a.session.standing (all_commands s x.progress.served)) y.served = subst (λ (v : Standing). Went v y.served) is y.went in
       let written : Appends b.out y.middle (transcript (fold s (all_commands s x.progress.served)) y.served) = subst (λ (v : Flat). Appends b.out y.middle (transcript v y.served)) state y.written in
       let P : List ℕ → Type 0 = λ v. Appends a.out y.middle v in
       let cs : all_commands s x.progress.served ++ all_commands t y.served ≡ all_commands s (x.progress.served ++ y.served) = all_commands-further s t x.progress.served y.served state in
-      let standing : on b.session.standing (all_commands t y.served) ≡ on a.session.standing (all_commands s (x.progress.served ++ y.served)) =
-      on-further a.session.standing b.session.standing (all_commands s x.progress.served) (all_commands t y.served) is ∙ ap (on a.session.standing) cs in
+      let standing : standing_after b.session.standing (all_commands t y.served) ≡ standing_after a.session.standing (all_commands s (x.progress.served ++ y.served)) =
+      standing_after-further a.session.standing b.session.standing (all_commands s x.progress.served) (all_commands t y.served) is ∙ ap (standing_after a.session.standing) cs in
       record {
         served = x.progress.served ++ y.served;
         last = y.last;
@@ -126,9 +126,9 @@ module _ (Last : LastStep) (back : MovesBack Last) where
         middle = y.middle;
         written = subst P (sym (transcript-append s x.progress.served y.served)) (appends_more a.out b.out y.middle (transcript s x.progress.served) (transcript (fold s (all_commands s x.progress.served)) y.served) x.progress.written written);
         ended =
-            let Q : List Command → Type 0 = λ es. Last IsSettled a.session es (on b.session.standing (all_commands t y.served)) y.last y.middle c in
+            let Q : List Command → Type 0 = λ es. Last IsSettled a.session es (standing_after b.session.standing (all_commands t y.served)) y.last y.middle c in
             subst (λ (v : Standing). Last IsSettled a.session (all_commands s (x.progress.served ++ y.served)) v y.last y.middle c) standing
-            (subst Q cs (back a.session b.session (all_commands s x.progress.served) (all_commands t y.served) (on b.session.standing (all_commands t y.served)) y.last y.middle c x.carries y.ended));
+            (subst Q cs (back a.session b.session (all_commands s x.progress.served) (all_commands t y.served) (standing_after b.session.standing (all_commands t y.served)) y.last y.middle c x.carries y.ended));
       }
 
   pub some_of_stopped : (a c : Stage) (line chunk : List ℕ) → StoppedAt Last a c line chunk → ServedSome IsSettled Last false (line ++ chunk) a c
@@ -153,7 +153,7 @@ module _ (Last : LastStep) (back : MovesBack Last) where
     went = Went-nothing a.session.standing;
     middle = a.out;
     written = subst P (sym (transcript-nothing a.session.standing.state)) (appends_nothing a.out);
-    ended = let Q : List Command → Type 0 = λ es. Last IsSettled a.session es (on a.session.standing es) (input_of line) a.out c in subst Q (sym (all_commands-nothing a.session.standing.state)) last;
+    ended = let Q : List Command → Type 0 = λ es. Last IsSettled a.session es (standing_after a.session.standing es) (input_of line) a.out c in subst Q (sym (all_commands-nothing a.session.standing.state)) last;
   }
 
 pub finished_empty : (a : Stage) (line : List ℕ) → HasNoFeed line → length line ≡ 0 → ServedAll IsSettled true line a a
@@ -210,8 +210,8 @@ ran_finish WriteFault r r' r'' a b c line chunk total most x small y z = record 
     true,
     was_read_whole x.bytes r'' (input_ended r' r'' x.bytes chunk total most x.count small y),
     let P : List ℕ → Type 0 = λ v. ServedSome IsSettled CutShort true v a c in
-    let Q : List ℕ → Type 0 = λ v. ServedSome IsSettled CutShort true v b c in
-    subst P (nil_right x.bytes) (then_some CutShort cut_after true a b c line x.bytes [] x.went (subst Q (sym (nil_right line)) z)),
+        let Q : List ℕ → Type 0 = λ v. ServedSome IsSettled CutShort true v b c in
+        subst P (nil_right x.bytes) (then_some CutShort cut_after true a b c line x.bytes [] x.went (subst Q (sym (nil_right line)) z)),
   );
 }
 ran_finish DeviceFault r r' r'' a b c line chunk total most x small y z = record {
@@ -221,8 +221,8 @@ ran_finish DeviceFault r r' r'' a b c line chunk total most x small y z = record
     true,
     was_read_whole x.bytes r'' (input_ended r' r'' x.bytes chunk total most x.count small y),
     let P : List ℕ → Type 0 = λ v. ServedSome IsSettled Failed true v a c in
-    let Q : List ℕ → Type 0 = λ v. ServedSome IsSettled Failed true v b c in
-    subst P (nil_right x.bytes) (then_some Failed failed_after true a b c line x.bytes [] x.went (subst Q (sym (nil_right line)) z)),
+        let Q : List ℕ → Type 0 = λ v. ServedSome IsSettled Failed true v b c in
+        subst P (nil_right x.bytes) (then_some Failed failed_after true a b c line x.bytes [] x.went (subst Q (sym (nil_right line)) z)),
   );
 }
 ran_finish ReadFault r r' r'' a b c line chunk total most x small y z = absurd z
@@ -253,7 +253,7 @@ ran_stop halt.Device r r' r'' a b c line chunk total n most x small y z = record
 -- ---- the premise that callers see
 
 carries_under : (a b : SessionState) (cs : List Command) → (IsHonest a → IsSettled a) → Carries IsSettled a b cs → Carries IsHonest a b cs
-carries_under a b cs settle x = record { standing = x.standing; same_faults = x.same_faults; honest = x.honest; kept = λ given. x.kept (settle given) }
+carries_under a b cs settle x = record { standing = x.standing; same_faults = x.same_faults; size = x.size; honest = x.honest; kept = λ given. x.kept (settle given) }
 
 -- a last step under that premise
 abbrev pub MovesUnder : LastStep → Type 1
@@ -262,13 +262,13 @@ MovesUnder Last = (a : SessionState) (cs : List Command) (m : Standing) (i : Inp
 cut_under : MovesUnder CutShort
 cut_under a cs m i p c settle x = record {
   outcome = x.outcome;
-  fares = record { may = x.fares.may; state = x.fares.state; closes = x.fares.closes; honest = x.fares.honest; kept = λ given. x.fares.kept (settle given) };
+  fares = record { may = x.fares.may; state = x.fares.state; closes = x.fares.closes; size = x.fares.size; honest = x.fares.honest; kept = λ given. x.fares.kept (settle given) };
   written = x.written;
 }
 
 failed_under : MovesUnder Failed
 failed_under a cs m i p c settle x = record {
-  fares = record { may = x.fares.may; state = x.fares.state; closes = x.fares.closes; honest = x.fares.honest; kept = λ given. x.fares.kept (settle given) };
+  fares = record { may = x.fares.may; state = x.fares.state; closes = x.fares.closes; size = x.fares.size; honest = x.fares.honest; kept = λ given. x.fares.kept (settle given) };
   written = x.written;
 }
 
@@ -293,7 +293,7 @@ module _ (Last : LastStep) (under : MovesUnder Last) where
         went = x.went;
         middle = x.middle;
         written = x.written;
-        ended = under a.session cs (on a.session.standing cs) x.last x.middle b settle x.ended;
+        ended = under a.session cs (standing_after a.session.standing cs) x.last x.middle b settle x.ended;
       }
 
 ends_under : (end : ShellEnd) (bytes : List ℕ) (left : Option (List ℕ)) (a b : Stage) → (IsHonest a.session → IsSettled a.session) → EndsBy IsSettled end bytes left a b → EndsBy IsHonest end bytes left a b

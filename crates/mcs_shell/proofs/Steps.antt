@@ -11,7 +11,8 @@ use Rattle.mcs_shell.specs.declared.outcome.Outcome.TheVariants.{Device}
 use Rattle.mcs_shell.specs.declared.outcome.Halt.{Halt}
 use Rattle.mcs_shell.specs.declared.outcome.Halt.TheVariants as halt
 use Rattle.mcs_shell.specs.Inputs.{Input, HasNoFeed, input_of, inputs, is_line_feed}
-use Rattle.mcs_session.specs.Standing.{SessionState, Standing, logged, on}
+use Rattle.mcs_session.specs.Log.{logged}
+use Rattle.mcs_session.specs.Standing.{SessionState, Standing, standing_after}
 use Rattle.mcs_shell.specs.Stage.{Stage}
 use Rattle.mcs_shell.specs.Transcript.{MayGo, Went, answer, commands, reached, transcript, all_commands}
 use Rattle.mcs_session.specs.Kept.{Carries, IsSettled, Kept}
@@ -63,10 +64,10 @@ end_line m o p line came f may sent = record {
 
 -- two stretches make one
 pub further : (m n : Standing) (o p q : Option (List ℕ)) (l k e bytes rest : List ℕ) (a : Progress m o p l k bytes)
-    → n ≡ on m (all_commands m.state a.served) → Progress n p q k e rest → Progress m o q l e (bytes ++ rest)
+    → n ≡ standing_after m (all_commands m.state a.served) → Progress n p q k e rest → Progress m o q l e (bytes ++ rest)
 further m n o p q l k e bytes rest a is b =
     let state : n.state ≡ fold m.state (all_commands m.state a.served) = ap (λ (v : Standing). v.state) is in
-    let went : Went (on m (all_commands m.state a.served)) b.served = subst (λ (v : Standing). Went v b.served) is b.went in
+    let went : Went (standing_after m (all_commands m.state a.served)) b.served = subst (λ (v : Standing). Went v b.served) is b.went in
     let written : Appends p q (transcript (fold m.state (all_commands m.state a.served)) b.served) = subst (λ (v : Flat). Appends p q (transcript v b.served)) state b.written in
     let P : List ℕ → Type 0 = λ v. Appends o q v in
     record {
@@ -137,7 +138,8 @@ fares_after a b c cs ds m i o x y = record {
   may = y.may;
   state = y.state;
   closes = subst (λ (n : ℕ). ClosesAt o (logged m.log (commands m.state i o)) n c.standing.log c.disk.faults) x.same_faults y.closes;
-  honest = λ h. y.honest (x.honest h);
+  size = y.size ∙ x.size;
+  honest = (λ h. x.honest.0 (y.honest.0 h), λ h. y.honest.1 (x.honest.1 h));
   kept = λ given.
       let both = kept_more a.disk b.disk c.disk a.standing.state b.standing.state cs (ds ++ commands m.state i o) (ds ++ reached m.state i o) (x.kept given) (ap (λ (v : Standing). v.state) x.standing) (y.kept (settled_on a b cs x given)) in
       let P : List Command → Type 0 = λ es. Kept a.disk c.disk a.standing.state es (cs ++ (ds ++ reached m.state i o)) in

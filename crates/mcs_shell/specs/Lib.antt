@@ -7,4 +7,5 @@ pub mod Transcript
 pub mod Serving
 pub mod Shell
 pub mod Finishing
+pub mod Headline
 pub mod Program

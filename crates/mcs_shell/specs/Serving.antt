@@ -1,5 +1,5 @@
 -- How serving one line, or a stretch of bytes, ends.
-use Rattle.std.specs.Prelude.{◌≡◌, ◌<◌, ◌+◌, min, Bool, ℕ, List, [], ◌∷◌, ◌++◌, length, map, take, Option, Result, Ok, Err}
+use Rattle.std.specs.Prelude.{◌≡◌, ◌↔◌, ◌<◌, ◌+◌, min, Bool, ℕ, List, [], ◌∷◌, ◌++◌, length, map, take, Option, Result, Ok, Err}
 use Rattle.std.specs.Io.KnownBytes.{Appends}
 use Rattle.mcs_disk.specs.Disk.{DiskState, most_faults}
 use Rattle.mcs_model.specs.declared.command.Command.{Command}
@@ -12,7 +12,8 @@ use Rattle.mcs_shell.specs.declared.outcome.Halt.TheVariants as halt
 use Rattle.mcs_shell.specs.declared.requests.Request.{Request}
 use Rattle.mcs_shell.specs.declared.requests.Request.TheVariants.{Change}
 use Rattle.mcs_shell.specs.Inputs.{Input, inputs, HasNoFeed}
-use Rattle.mcs_session.specs.Standing.{Log, Shut, Standing, SessionState, logged, on}
+use Rattle.mcs_session.specs.Log.{Log, Shut, logged}
+use Rattle.mcs_session.specs.Standing.{Standing, SessionState, standing_after}
 use Rattle.mcs_shell.specs.Stage.{Stage}
 use Rattle.mcs_shell.specs.Transcript.{ChangeMayEnd, RequestMayEnd, MayEnd, MayGo, Served, answer, commands, reached, reached_by_request, change_text, commands_of_request, request_text, Went, transcript, all_commands}
 use Rattle.mcs_session.specs.Kept.{Carries, IsSettled, Kept, KeptWhole}
@@ -39,7 +40,8 @@ KeptBy o old new s done reached_too = KeptWhole old new s done
 pub record Leaves (a : SessionState) (o : Outcome) (done reached_too : List Command) (b : SessionState) : Type 0 where
   pub state : b.standing.state ≡ fold a.standing.state done
   pub closes : ClosesAt o (logged a.standing.log done) a.disk.faults b.standing.log b.disk.faults
-  pub honest : a.disk.honest → b.disk.honest
+  pub size : b.disk.size ≡ a.disk.size
+  pub honest : b.disk.honest ↔ a.disk.honest
   pub kept : IsSettled a → KeptBy o a.disk b.disk a.standing.state done reached_too
 
 -- a command was tried: its answer is this
@@ -73,7 +75,8 @@ pub record Fares (Given : SessionState → Type 0) (a : SessionState) (cs : List
   pub may : MayEnd m i o
   pub state : b.standing.state ≡ fold m.state (commands m.state i o)
   pub closes : ClosesAt o (logged m.log (commands m.state i o)) a.disk.faults b.standing.log b.disk.faults
-  pub honest : a.disk.honest → b.disk.honest
+  pub size : b.disk.size ≡ a.disk.size
+  pub honest : b.disk.honest ↔ a.disk.honest
   pub kept : Given a → Kept a.disk b.disk a.standing.state (cs ++ commands m.state i o) (cs ++ reached m.state i o)
 
 abbrev pub LastStep : Type 1
@@ -127,7 +130,7 @@ pub record StoppedAt (Last : LastStep) (a b : Stage) (line bytes : List ℕ) : T
   pub went : Went a.session.standing served
   pub middle : Option (List ℕ)
   pub written : Appends a.out middle (transcript a.session.standing.state served)
-  pub ended : Last IsSettled a.session (all_commands a.session.standing.state served) (on a.session.standing (all_commands a.session.standing.state served)) last middle b
+  pub ended : Last IsSettled a.session (all_commands a.session.standing.state served) (standing_after a.session.standing (all_commands a.session.standing.state served)) last middle b
   -- whatever comes after these bytes
   pub spelled : (more : List ℕ) (whole : Bool) → (rest : List Input) × (inputs (line ++ (bytes ++ more)) whole
       ≡ map (λ p. p.0) served ++ last ∷ rest)

@@ -7,7 +7,7 @@ use Rattle.mcs_shell.specs.declared.outcome.Halt.{Halt}
 use Rattle.mcs_shell.specs.declared.outcome.Halt.TheVariants as halt
 use Rattle.mcs_model.specs.declared.limits.TheConstants.{INPUT_BYTES}
 use Rattle.mcs_shell.specs.Inputs.{Input, inputs}
-use Rattle.mcs_session.specs.Standing.{SessionState, on}
+use Rattle.mcs_session.specs.Standing.{SessionState, standing_after}
 use Rattle.mcs_shell.specs.Stage.{Stage}
 use Rattle.mcs_shell.specs.Transcript.{Served, Went, all_commands, session_text, transcript}
 use Rattle.mcs_session.specs.Kept.{Carries, IsHonest, IsSettled}
@@ -30,7 +30,7 @@ pub record ServedSome (Given : SessionState → Type 0) (Last : LastStep) (whole
   pub went : Went a.session.standing served
   pub middle : Option (List ℕ)
   pub written : Appends a.out middle (transcript a.session.standing.state served)
-  pub ended : Last Given a.session (all_commands a.session.standing.state served) (on a.session.standing (all_commands a.session.standing.state served)) last middle b
+  pub ended : Last Given a.session (all_commands a.session.standing.state served) (standing_after a.session.standing (all_commands a.session.standing.state served)) last middle b
 
 -- input ended behind these bytes: the reader has nothing left, and more would have been read
 pub record InputEnded (bytes : List ℕ) (left : Option (List ℕ)) : Type 0 where

@@ -2,7 +2,7 @@
 use Rattle.std.specs.Prelude.{ℕ, List, Option}
 use Rattle.mcs_disk.specs.Disk.{DiskState}
 use Rattle.mcs_session.specs.Standing.{SessionState}
-use Rattle.mcs_session.specs.SessionView.{SessionView, seen}
+use Rattle.mcs_session.specs.Standing.{SessionView, session_state}
 
 -- a session, and what its shell has written so far, where the writer tells it
 pub record Stage : Type 1 where
@@ -11,4 +11,4 @@ pub record Stage : Type 1 where
 
 -- the same with what its shell has written, where the writer tells it
 abbrev pub staged : {D : Type 0} → DiskState → SessionView D → Option (List ℕ) → Stage
-staged disk s out = record { session = seen disk s; out = out }
+staged disk s out = record { session = session_state disk s; out = out }

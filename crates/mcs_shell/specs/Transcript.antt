@@ -18,7 +18,8 @@ use Rattle.mcs_shell.specs.declared.outcome.Outcome.TheVariants.{Plain, Full, De
 use Rattle.mcs_shell.specs.Inputs.{Input, Blank, TooLong, Line}
 use Rattle.mcs_shell.specs.RefusalNumbers.{line_fault_number}
 use Rattle.mcs_shell.specs.Requests.{request_of}
-use Rattle.mcs_session.specs.Standing.{Log, Open, Shut, Standing, fits, on}
+use Rattle.mcs_session.specs.Log.{Log, Open, Shut, fits}
+use Rattle.mcs_session.specs.Standing.{Standing, standing_after}
 
 -- ---- texts
 
@@ -126,7 +127,12 @@ unfoldable pub all_commands : Flat → Served → List Command
 all_commands s [] = []
 all_commands s (p ∷ rest) = commands s p.0 p.1 ++ all_commands (fold s (commands s p.0 p.1)) rest
 
+-- the commands that may have reached the disk, in turn
+unfoldable pub all_reached : Flat → Served → List Command
+all_reached s [] = []
+all_reached s (p ∷ rest) = reached s p.0 p.1 ++ all_reached (fold s (commands s p.0 p.1)) rest
+
 -- each outcome is one that may come of its input in its turn
 unfoldable pub Went : Standing → Served → Type 0
 Went m [] = Unit {0}
-Went m (p ∷ rest) = MayGo m p.0 p.1 × Went (on m (commands m.state p.0 p.1)) rest
+Went m (p ∷ rest) = MayGo m p.0 p.1 × Went (standing_after m (commands m.state p.0 p.1)) rest

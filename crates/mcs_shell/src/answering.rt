@@ -1,7 +1,7 @@
 //! What is done and answered for a line.
 ghost use Rattle.std.specs.Prelude.{◌≡◌, []};
 ghost use Rattle.mcs_shell.specs.Inputs.{input_of};
-ghost use Rattle.mcs_session.specs.SessionView.{seen};
+ghost use Rattle.mcs_session.specs.Standing.{session_state};
 ghost use Rattle.mcs_shell.specs.Serving.{Answered, Changed, RequestDone};
 
 use crate::faults::session_number;
@@ -23,7 +23,7 @@ fn answer_change<D: Disk + Drop>(
     answer: &mut Answer,
 ) -> Outcome
     requires { answer.old.items ≡ [] }
-    ensures { Changed (seen (D.state session.old.disk) session.old) command.now result answer.new.items (seen (D.state session.new.disk) session.new) }
+    ensures { Changed (session_state (D.state session.old.disk) session.old) command.now result answer.new.items (session_state (D.state session.new.disk) session.new) }
 {
     match session.apply(command) {
         Ok(Reply::Done) => {
@@ -56,7 +56,7 @@ fn answer_request<D: Disk + Drop>(
     answer: &mut Answer,
 ) -> Outcome
     requires { answer.old.items ≡ [] }
-    ensures { RequestDone (seen (D.state session.old.disk) session.old) request.now result answer.new.items (seen (D.state session.new.disk) session.new) }
+    ensures { RequestDone (session_state (D.state session.old.disk) session.old) request.now result answer.new.items (session_state (D.state session.new.disk) session.new) }
 {
     match request {
         Request::Refused(fault) => {
@@ -82,7 +82,7 @@ pub(crate) fn answer_line<D: Disk + Drop>(
     answer: &mut Answer,
 ) -> Outcome
     requires { answer.old.items ≡ [] }
-    ensures { Answered (seen (D.state session.old.disk) session.old) (input_of line.now) result answer.new.items (seen (D.state session.new.disk) session.new) }
+    ensures { Answered (session_state (D.state session.old.disk) session.old) (input_of line.now) result answer.new.items (session_state (D.state session.new.disk) session.new) }
 {
     let line = without_return(line);
     if line.len() > LINE_BYTES {

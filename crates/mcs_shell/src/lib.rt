@@ -4,6 +4,7 @@
 mod answering;
 pub mod ends;
 pub mod faults;
+pub mod headline;
 pub mod lines;
 pub mod outcome;
 pub mod program;

@@ -18,8 +18,8 @@ use mcs_model::refusal_numbers;
 use mcs_session::session::Session;
 use std::alloc::Global;
 use std::convert::AsStr;
-use std::io::{self, ErrorKind, Read, Write};
 use std::env;
+use std::io::{self, ErrorKind, Read, Write};
 use std::process::ExitCode;
 
 /// The exit status where the words are none of the program's.
@@ -91,7 +91,7 @@ pub fn session_in(rt: &HostRuntime, choice: &Choice) -> Result<Session<FileDisk>
         × Begins choice.now (⟦<FileDisk as Disk>⟧.state disk) (⟦<FileDisk as Disk>⟧.state session.disk) session.log session.state) }
     ensures refused { IfErr result (λ number. ((fault : FileFault) × (number ≡ file_fault_number fault))
         ⊎ ((disk : FileDisk) × (left : FileDisk) × IsOpened (⟦<FileDisk as Disk>⟧.state disk)
-            × IsRefusedBy choice.now (⟦<FileDisk as Disk>⟧.state disk) (⟦<FileDisk as Disk>⟧.state left) number)) }
+        × IsRefusedBy choice.now (⟦<FileDisk as Disk>⟧.state disk) (⟦<FileDisk as Disk>⟧.state left) number)) }
 {
     let alloc = rt.alloc();
     let (file, make) = match choice {

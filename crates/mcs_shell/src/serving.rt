@@ -5,7 +5,7 @@ ghost use Rattle.mcs_shell.specs.Stage.{staged};
 ghost use Rattle.mcs_shell.specs.Serving.{ServedLine, Stopped, StopsAt, WentFurther};
 
 use crate::answering::answer_line;
-use crate::outcome::{Outcome, Halt};
+use crate::outcome::{Halt, Outcome};
 use crate::sending::{WriteStopped, send};
 use crate::telling::Answer;
 use arrayvec::ArrayVec;
@@ -52,13 +52,9 @@ fn serve_byte<W: Write, D: Disk + Drop>(
         (staged (D.state session.new.disk) session.new (W.contents writer.new))) }
 {
     if byte == b'\n' {
-        match serve_line(line.as_slice(), writer, session) {
-            Ok(()) => {
-                line.clear();
-                Ok(())
-            }
-            Err(halt) => Err(halt),
-        }
+        serve_line(line.as_slice(), writer, session)?;
+        line.clear();
+        Ok(())
     } else if line.is_full() {
         Ok(())
     } else {

@@ -9,52 +9,65 @@ use mcs_model::command::{Command, Place, Reply};
 use mcs_nibble::{Nibble, RegNo};
 use mcs_session::fault::SessionFault;
 use mcs_session::session::Session;
-use mcs_shell::FileDisk;
 use mcs_shell::ends::{ShellEnd, status};
+use mcs_shell::program::session_in;
 use mcs_shell::shell::run_shell;
+use mcs_shell::{Choice, choice};
 use std::alloc::Global;
 use std::fs;
 use std::io::{self, Read, Write};
 use std::test::Fail;
 
-/// Gives these bytes, and fails behind the first of them.
+/// Gives these bytes, but for so many reads that fail behind the first of them.
 #[derive(Drop)]
 struct CutReader<'a> {
     bytes: &'a [u8],
     left: usize,
+    failures: usize,
 }
 
 impl Read for CutReader<'_> {
     ghost remaining = { λ r. Some r.bytes.now };
 
     fn read(&mut self, buf: &mut [u8]) -> io::Result<usize> {
-        if self.left == 0 {
+        if self.left == 0 && 0 < self.failures {
+            self.failures -= 1;
             return Err(io::ErrorKind::Other.into());
         }
-        let most = self.left.min(buf.len());
+        let most = if self.left == 0 {
+            buf.len()
+        } else {
+            self.left.min(buf.len())
+        };
         let count = self.bytes.read(&mut buf[..most])?;
-        self.left -= count;
+        self.left = self.left.saturating_sub(count);
         Ok(count)
     }
 }
 
-/// Takes some bytes, and then fails.
+/// Takes all bytes, but for so many writes that fail behind the first of them.
 #[derive(Drop)]
 struct CutWriter {
     held: Vec<u8>,
     left: usize,
+    failures: usize,
 }
 
 impl Write for CutWriter {
     ghost contents = { λ w. Some w.held.items };
 
     fn write(&mut self, buf: &[u8]) -> io::Result<usize> {
-        if self.left == 0 {
+        if self.left == 0 && 0 < self.failures {
+            self.failures -= 1;
             return Err(io::ErrorKind::Other.into());
         }
-        let count = self.left.min(buf.len());
+        let count = if self.left == 0 {
+            buf.len()
+        } else {
+            self.left.min(buf.len())
+        };
         self.held.extend_from_slice(&buf[..count])?;
-        self.left -= count;
+        self.left = self.left.saturating_sub(count);
         Ok(count)
     }
 
@@ -78,6 +91,9 @@ const SCRIPT: &[u8] = b"poke r5 9\nseq\nregs\n";
 
 const ANSWERS: &[u8] =
     b"session 0\nok 1\nseq 1\nacc 0 cy 0 pc 000 owed 0 dcl 0 test 1 r 0000090000000000 ret 000 000 000\n";
+
+const NEW_REGISTERS: &[u8] =
+    b"acc 0 cy 0 pc 000 owed 0 dcl 0 test 1 r 0000000000000000 ret 000 000 000\n";
 
 /// A new session on a disk in memory.
 fn new_session(alloc: Global) -> Result<Session<MemDisk>, Fail> {
@@ -153,27 +169,54 @@ fn a_poke_is_answered_and_recorded(rt: HostRuntime) -> Result<(), Fail> {
 }
 
 #[test]
-fn lines_are_judged(rt: HostRuntime) -> Result<(), Fail> {
+fn each_line_has_its_answer(rt: HostRuntime) -> Result<(), Fail> {
     let alloc = rt.alloc();
-    let long = [b'a'; 255];
-    let mut script = Vec::new(alloc);
-    script.extend_from_slice(
-        b"foo\npoke r16 1\npoke r1 16\npoke rx 1\npoke r 1\npoke r1 x\npoke r1\npoke r1 2 3\nPOKE r1 2\nregs 1\n",
-    )?;
-    script.extend_from_slice(
-        b"poke r99999999999999999999 1\npoke acc 1\npoke r1 0x\n \t \n\n\r\n",
-    )?;
-    script.extend_from_slice(&long)?;
-    script.extend_from_slice(b"\r\n")?;
-    script.extend_from_slice(&long)?;
-    script.extend_from_slice(
-        b"a\n\x00\n\xff\n  poke\tr0x0F  0x0000000000000000000c \r\nseq\rx\nseq",
-    )?;
-    let (end, told) = run(alloc, script.as_slice())?;
-    assert_eq!(rt; end, ShellEnd::End);
-    let wanted =
-        b"session 0\nno 10\nno 11\nno 11\nno 10\nno 10\nno 11\nno 10\nno 10\nno 10\nno 10\nno 11\nno 10\nno 11\nno 10\nno 12\nno 14\nno 14\nok 1\nno 14\nseq 1\n";
-    assert_eq!(rt; told.as_slice(), wanted.as_slice());
+    let long = [b'a'; 256];
+    let rows: [(&[u8], &[u8]); 29] = [
+        (b"foo", b"no 10\n"),
+        (b"poke r16 1", b"no 11\n"),
+        (b"poke r1 16", b"no 11\n"),
+        (b"poke rx 1", b"no 10\n"),
+        (b"poke r 1", b"no 10\n"),
+        (b"poke r1 x", b"no 11\n"),
+        (b"poke r1", b"no 10\n"),
+        (b"poke r1 2 3", b"no 10\n"),
+        (b"POKE r1 2", b"no 10\n"),
+        (b"regs 1", b"no 10\n"),
+        (b"poke r99999999999999999999 1", b"no 11\n"),
+        (b"poke acc 1", b"no 10\n"),
+        (b"poke r1 0x", b"no 11\n"),
+        (b" \t ", b""),
+        (b"", b""),
+        (b"\r", b""),
+        (&long[1..], b"no 10\n"),
+        (&long, b"no 12\n"),
+        (b"\x00", b"no 14\n"),
+        (b"\xff", b"no 14\n"),
+        (b"  poke\tr0x0F  0x0000000000000000000c \r", b"ok 1\n"),
+        (b"seq\rx", b"no 14\n"),
+        (b"seq", b"seq 0\n"),
+        (b"\tseq ", b"seq 0\n"),
+        (b"seq\r", b"seq 0\n"),
+        (b"seq\r\r", b"no 14\n"),
+        (b"seqs", b"no 10\n"),
+        (b"regs", NEW_REGISTERS),
+        (b"poke r0 0", b"ok 1\n"),
+    ];
+    for (line, answer) in rows {
+        // the line ends with a line feed, or input ends
+        for ending in [b"\n".as_slice(), b"".as_slice()] {
+            let mut script = Vec::new(alloc);
+            script.extend_from_slice(line)?;
+            script.extend_from_slice(ending)?;
+            let mut wanted = Vec::new(alloc);
+            wanted.extend_from_slice(b"session 0\n")?;
+            wanted.extend_from_slice(answer)?;
+            let (end, told) = run(alloc, script.as_slice())?;
+            assert_eq!(rt; end, ShellEnd::End);
+            assert_eq!(rt; told.as_slice(), wanted.as_slice());
+        }
+    }
     Ok(())
 }
 
@@ -204,27 +247,33 @@ fn the_log_is_full_at_last(rt: HostRuntime) -> Result<(), Fail> {
     Ok(())
 }
 
+/// How often a reader or a writer fails: a second try would find the first one well again.
+const FAILURES: [usize; 2] = [1, usize::MAX];
+
 #[test]
 fn the_reader_fails_after_each_count_of_bytes(rt: HostRuntime) -> Result<(), Fail> {
     let alloc = rt.alloc();
-    for left in 0..SCRIPT.len() + 1 {
-        let mut session = new_session(alloc)?;
-        let mut reader = CutReader {
-            bytes: SCRIPT,
-            left,
-        };
-        let mut writer = Vec::new(alloc);
-        let end = run_shell(alloc, &mut reader, &mut writer, &mut session);
-        assert_eq!(rt; end, ShellEnd::ReadFault);
-        assert_eq!(rt; status(end), 1);
-        // the lines end behind 10, 14 and 19 bytes, and their answers behind 15, 21 and all
-        let told = match left {
-            0..10 => 10,
-            10..14 => 15,
-            14..19 => 21,
-            _ => ANSWERS.len(),
-        };
-        assert_eq!(rt; Some(writer.as_slice()), ANSWERS.get(..told));
+    for failures in FAILURES {
+        for left in 0..SCRIPT.len() + 1 {
+            let mut session = new_session(alloc)?;
+            let mut reader = CutReader {
+                bytes: SCRIPT,
+                left,
+                failures,
+            };
+            let mut writer = Vec::new(alloc);
+            let end = run_shell(alloc, &mut reader, &mut writer, &mut session);
+            assert_eq!(rt; end, ShellEnd::ReadFault);
+            assert_eq!(rt; status(end), 1);
+            // the lines end behind 10, 14 and 19 bytes, and their answers behind 15, 21 and all
+            let told = match left {
+                0..10 => 10,
+                10..14 => 15,
+                14..19 => 21,
+                _ => ANSWERS.len(),
+            };
+            assert_eq!(rt; Some(writer.as_slice()), ANSWERS.get(..told));
+        }
     }
     Ok(())
 }
@@ -232,21 +281,24 @@ fn the_reader_fails_after_each_count_of_bytes(rt: HostRuntime) -> Result<(), Fai
 #[test]
 fn the_writer_fails_after_each_count_of_bytes(rt: HostRuntime) -> Result<(), Fail> {
     let alloc = rt.alloc();
-    for left in 0..ANSWERS.len() + 1 {
-        let mut session = new_session(alloc)?;
-        let mut writer = CutWriter {
-            held: Vec::new(alloc),
-            left,
-        };
-        let mut reader = SCRIPT;
-        let end = run_shell(alloc, &mut reader, &mut writer, &mut session);
-        assert_eq!(rt; end == ShellEnd::End, left == ANSWERS.len());
-        assert_eq!(rt; end == ShellEnd::WriteFault, left < ANSWERS.len());
-        assert_eq!(rt; Some(writer.held.as_slice()), ANSWERS.get(..left));
-        let Ok(again) = Session::open(alloc, session.into_disk()) else {
-            return Err("not opened".into());
-        };
-        assert_eq!(rt; again.bench().seq() == 1, 10 <= left);
+    for failures in FAILURES {
+        for left in 0..ANSWERS.len() {
+            let mut session = new_session(alloc)?;
+            let mut writer = CutWriter {
+                held: Vec::new(alloc),
+                left,
+                failures,
+            };
+            let mut reader = SCRIPT;
+            let end = run_shell(alloc, &mut reader, &mut writer, &mut session);
+            assert_eq!(rt; end, ShellEnd::WriteFault);
+            assert_eq!(rt; status(end), 1);
+            assert_eq!(rt; Some(writer.held.as_slice()), ANSWERS.get(..left));
+            let Ok(again) = Session::open(alloc, session.into_disk()) else {
+                return Err("not opened".into());
+            };
+            assert_eq!(rt; again.bench().seq() == 1, 10 <= left);
+        }
     }
     Ok(())
 }
@@ -317,13 +369,29 @@ fn files_that_are_none(rt: HostRuntime) -> Result<(), Fail> {
     Ok(())
 }
 
+/// What the program is to do by a word of the command line with a file.
+fn chosen(alloc: Global, word: &str, path: &str) -> Result<Choice, Fail> {
+    match choice(alloc, &["mcs4", word, path]) {
+        Ok(choice) => Ok(choice),
+        Err(_) => Err("not chosen".into()),
+    }
+}
+
+/// The number that the session of a choice is refused by, or the count of its commands.
+fn begun(rt: &HostRuntime, word: &str, path: &str) -> Result<Result<u32, u8>, Fail> {
+    match session_in(rt, &chosen(rt.alloc(), word, path)?) {
+        Ok(session) => Ok(Ok(session.bench().seq())),
+        Err(number) => Ok(Err(number)),
+    }
+}
+
 #[test]
 fn a_session_in_a_file(rt: HostRuntime) -> Result<(), Fail> {
     let alloc = rt.alloc();
     let path = "session_in_a_file.mcs";
     let _ = fs::remove_file(&rt, path);
-    let disk = FileDisk::open_at(&rt, alloc, path, true)?;
-    let Ok(mut session) = Session::create(alloc, disk) else {
+    assert_eq!(rt; begun(&rt, "open", path)?, Err(53));
+    let Ok(mut session) = session_in(&rt, &chosen(alloc, "new", path)?) else {
         return Err("not made".into());
     };
     let mut writer = Vec::new(alloc);
@@ -331,10 +399,31 @@ fn a_session_in_a_file(rt: HostRuntime) -> Result<(), Fail> {
     let end = run_shell(alloc, &mut reader, &mut writer, &mut session);
     assert_eq!(rt; end, ShellEnd::End);
     assert_eq!(rt; writer.as_slice(), ANSWERS);
-    let Ok(again) = Session::open(alloc, FileDisk::open_at(&rt, alloc, path, false)?) else {
+    assert_eq!(rt; begun(&rt, "new", path)?, Err(55));
+    let Ok(again) = session_in(&rt, &chosen(alloc, "open", path)?) else {
         return Err("not opened".into());
     };
     assert_eq!(rt; again.bench().seq(), 1);
+    assert_eq!(rt; again.bench().regs().r[5].get(), 9);
+    fs::remove_file(&rt, path)?;
+    Ok(())
+}
+
+#[test]
+fn files_that_hold_no_session(rt: HostRuntime) -> Result<(), Fail> {
+    let alloc = rt.alloc();
+    let path = "files_that_hold_no_session.mcs";
+    let mut disk = new_session(alloc)?.into_disk();
+    // the length of the snapshot, the tag of the first register, the name, one byte less
+    let rows = [(16, 163_856, 51), (28, 163_856, 51), (0, 163_856, 50), (0, 163_855, 50)];
+    for (at, size, number) in rows {
+        let mut bytes = bytes_of(alloc, &mut disk)?;
+        bytes[at] ^= 1;
+        bytes.truncate(size);
+        fs::write(&rt, path, bytes.as_slice())?;
+        assert_eq!(rt; begun(&rt, "open", path)?, Err(number));
+        assert_eq!(rt; fs::read(&rt, path)?.as_slice(), bytes.as_slice());
+    }
     fs::remove_file(&rt, path)?;
     Ok(())
 }

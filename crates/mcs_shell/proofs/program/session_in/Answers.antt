@@ -4,7 +4,7 @@ use Rattle.mcs_host.specs.FileDisk.{IsOpened, file_state}
 use Rattle.mcs_host.specs.declared.file_disk.FileDisk.{FileDisk}
 use Rattle.mcs_host.specs.declared.file_disk.FileFault.{FileFault}
 use Rattle.mcs_host.specs.declared.words.Choice.{Choice}
-use Rattle.mcs_session.specs.SessionView.{SessionView}
+use Rattle.mcs_session.specs.Standing.{SessionView}
 use Rattle.mcs_shell.specs.Program.{Begins, IsRefusedBy}
 use Rattle.mcs_shell.specs.RefusalNumbers.{file_fault_number}
 use Rattle.mcs_shell.proofs.program.session_in.Goals as goal
@@ -27,7 +27,7 @@ refused_on : (choice : Choice) (opened : Result FileDisk FileFault) (result : Re
     → IfOk opened (λ disk. IfErr result (λ number. (left : FileDisk) × IsRefusedBy choice (state_of disk) (state_of left) number))
     → IfErr opened (λ fault. result ≡ Err (file_fault_number fault))
     → IfErr result (λ number. ((fault : FileFault) × (number ≡ file_fault_number fault))
-        ⊎ ((disk : FileDisk) × (left : FileDisk) × IsOpened (state_of disk) × IsRefusedBy choice (state_of disk) (state_of left) number))
+    ⊎ ((disk : FileDisk) × (left : FileDisk) × IsOpened (state_of disk) × IsRefusedBy choice (state_of disk) (state_of left) number))
 refused_on choice (Ok disk) (Ok s) is refused none = tt
 refused_on choice (Ok disk) (Err number) is refused none = inr (disk, refused.0, is, refused.1)
 refused_on choice (Err fault) (Ok s) is refused none = tt

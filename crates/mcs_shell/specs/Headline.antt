@@ -1,0 +1,52 @@
+-- The headline: what is found again after a power cut at any moment of a run.
+use Rattle.std.specs.Prelude.{◌≡◌, ◌⊎◌, ◌≤◌, ℕ, List, [], ◌∷◌, ◌++◌, length, Option}
+use mathlib.Core.Logic.{inl, inr}
+use Rattle.mcs_disk.specs.Disk.{DiskState}
+use Rattle.mcs_disk.specs.PowerCut.{IsLeftByCut}
+use Rattle.mcs_journal.specs.declared.fault.OpenFault.{OpenFault}
+use Rattle.mcs_journal.specs.declared.fault.OpenFault.TheVariants as open_fault
+use Rattle.mcs_model.specs.Flat.{Flat}
+use Rattle.mcs_session.specs.Answers.{RefusesSession}
+use Rattle.mcs_session.specs.Kept.{IsAfterPrefix, IsHonest, IsReopened, IsSpaced, acknowledged_by, last_moment}
+use Rattle.mcs_session.specs.Standing.{SessionState}
+use Rattle.mcs_shell.specs.declared.ends.ShellEnd.{ShellEnd}
+use Rattle.mcs_shell.specs.declared.ends.ShellEnd.TheVariants.{End, ReadFault, WriteFault, DeviceFault, InputLimit, NoMemory}
+use Rattle.mcs_shell.specs.declared.outcome.Outcome.TheVariants.{Device}
+use Rattle.mcs_shell.specs.Shell.{EndsBy, LoopRan, Ran}
+use Rattle.mcs_shell.specs.Stage.{Stage}
+use Rattle.mcs_shell.specs.Transcript.{Served, all_commands, all_reached}
+
+-- the inputs that a run met, in turn, each with what came of it; the last one may have been answered in part
+abbrev pub met_by_end : (end : ShellEnd) (bytes : List ℕ) (left : Option (List ℕ)) (a b : Stage) → EndsBy IsHonest end bytes left a b → Served
+met_by_end End bytes left a b h = h.1.served
+met_by_end ReadFault bytes left a b h = h.1.served
+met_by_end InputLimit bytes left a b h = h.1.served
+met_by_end WriteFault bytes left a b h = h.2.served ++ (h.2.last, h.2.ended.outcome) ∷ []
+met_by_end DeviceFault bytes left a b h = h.2.served ++ (h.2.last, Device) ∷ []
+met_by_end NoMemory bytes left a b h = []
+
+abbrev pub met_in_loop : (end : ShellEnd) (reader reader' : Option (List ℕ)) (a b : Stage) → LoopRan IsHonest end reader reader' a b → Served
+met_in_loop end reader reader' a b h = met_by_end end h.bytes reader' a b h.ends
+
+abbrev pub inputs_met : (end : ShellEnd) (reader reader' : Option (List ℕ)) (a b : Stage) → Ran end reader reader' a b → Served
+inputs_met NoMemory reader reader' a b ran = []
+inputs_met WriteFault reader reader' a b (inl untouched) = []
+inputs_met WriteFault reader reader' a b (inr began) = met_in_loop WriteFault reader reader' (record { session = a.session; out = began.started }) b began.ran
+inputs_met End reader reader' a b began = met_in_loop End reader reader' (record { session = a.session; out = began.started }) b began.ran
+inputs_met ReadFault reader reader' a b began = met_in_loop ReadFault reader reader' (record { session = a.session; out = began.started }) b began.ran
+inputs_met DeviceFault reader reader' a b began = met_in_loop DeviceFault reader reader' (record { session = a.session; out = began.started }) b began.ran
+inputs_met InputLimit reader reader' a b began = met_in_loop InputLimit reader reader' (record { session = a.session; out = began.started }) b began.ran
+
+-- A run met these inputs, from one session to the disk that it left. Each command that it answered `ok` was acknowledged at
+-- its moment. A power cut at any time of the run left a disk (`state_of` is what contracts see of one): opened, it gives the
+-- bench as it is after a prefix of the commands answered `ok` and the one answered `no 53`, and the prefix holds each one
+-- acknowledged by that time. It is refused for want of memory and for a device fault alone.
+pub record SurvivesPowerCuts {E : Type 0} (state_of : E → DiskState) (a : SessionState) (ran : DiskState) (met : Served) : Type 0 where
+  pub moments : List ℕ
+  pub count : length moments ≡ length (all_commands a.standing.state met)
+  pub spaced : IsSpaced a.disk.clock moments
+  pub within : last_moment a.disk.clock moments ≤ ran.clock
+  pub reopened : (t : ℕ) (found opened : E) (u : Flat) → a.disk.clock ≤ t → IsReopened t ran (state_of found) (state_of opened) u
+      → IsAfterPrefix a.standing.state (all_reached a.standing.state met) (acknowledged_by t moments) u
+  pub not_refused : (t : ℕ) (found : E) (fault : OpenFault) → a.disk.clock ≤ t → IsLeftByCut t ran (state_of found) → RefusesSession fault (state_of found)
+      → (fault ≡ open_fault.Device) ⊎ (fault ≡ open_fault.NoMemory)
