@@ -136,6 +136,7 @@ kept-bytes b roms roms' every =
 -- a rig put on a new board: what each place is then
 pub record IsRewired (old new : RigParts) : Type 0 where
   pub roms : (k : ℕ) → get_or new.roms k None ≡ rewired (masks_on new.board k) (get_or old.roms k None)
+  pub program : new.program ≡ kept_rom new.board old.program
   pub banks : AllBlank new.banks (slice_index new.board.banks)
   pub fit : chain_count new.board ≤ length new.chains
   pub chains : (k : ℕ) → k < chain_count new.board → get_or new.chains k [] ≡ replicate (chain_bits new.board k) 0
@@ -162,15 +163,36 @@ reset-state p roms banks chains wired every blank fit rows =
     let cs = chains-blank p.board chains fit rows in
     rw (bytes, z.ram, z.status, z.ports, ports, z.src, cs) refl
 
+-- the chips of a rig fit its board after a reset
+pub reset-fitted : (p : RigParts) (roms : List (Option RomState)) (banks : List BankState) (chains : List (List ℕ)) (rom_places bank_places chain_places : ℕ) → Fitted p rom_places bank_places chain_places → length roms ≡ length p.roms → length banks ≡ length p.banks → length chains ≡ length p.chains → ((k : ℕ) → get_or roms k None ≡ silenced (get_or p.roms k None)) → AllBlank banks (λ k. (get_or p.banks k no_bank).wired) → ((k : ℕ) → k < chain_count p.board → get_or chains k [] ≡ replicate (chain_bits p.board k) 0) → Fitted (record p { roms = roms; banks = banks; chains = chains; rom_src = 0 }) rom_places bank_places chain_places
+reset-fitted p roms banks chains rom_places bank_places chain_places v rl bl cl every blank rows = record {
+  roms_len = rl ∙ v.roms_len;
+  banks_len = bl ∙ v.banks_len;
+  chains_len = cl ∙ v.chains_len;
+  matrix = v.matrix;
+  keys_len = v.keys_len;
+  chains_fit = v.chains_fit;
+  program = v.program ∙ same_grid 16 256 bytes_of_rom None p.roms roms (λ k. sym (ap bytes_of_rom (every k) ∙ silenced-bytes (get_or p.roms k None)));
+  masks = λ k. ap masks_of_rom (every k) ∙ silenced-masks (get_or p.roms k None) ∙ v.masks k;
+  wired = λ k.
+      elim (cases_lt k (length banks)) [
+        | inl below ↦ ap (λ (x : BankState). x.wired) (blank.at k below) ∙ v.wired k
+        | inr beyond ↦ ap (λ (x : BankState). x.wired) (get_or_past banks k no_bank beyond ∙ sym (get_or_past p.banks k no_bank (omega arith))) ∙ v.wired k
+      ];
+  bits = λ i h. ap length (rows i h) ∙ length-replicate {A = ℕ} (chain_bits p.board i) 0;
+  src = omega arith;
+}
+
 -- the chips of a rig fit the board that it was put on
-pub wire-fitted : (old new : RigParts) (rom_places bank_places chain_places chain_size : ℕ) → FitsCounts new.board rom_places bank_places chain_places chain_size → length new.roms ≡ rom_places → length new.banks ≡ bank_places → length new.chains ≡ chain_places → IsRewired old new → Fitted new rom_places bank_places chain_places
-wire-fitted old new rom_places bank_places chain_places chain_size fits rl bl cl w = record {
+pub wire-fitted : (old new : RigParts) (rom_places bank_places chain_places chain_size : ℕ) → FitsCounts new.board rom_places bank_places chain_places chain_size → length new.roms ≡ rom_places → length new.banks ≡ bank_places → length new.chains ≡ chain_places → old.program ≡ grid 16 256 bytes_of_rom None old.roms → IsRewired old new → Fitted new rom_places bank_places chain_places
+wire-fitted old new rom_places bank_places chain_places chain_size fits rl bl cl copied w = record {
   roms_len = rl;
   banks_len = bl;
   chains_len = cl;
   matrix = ap (λ (x : KeyState). x.matrix) w.keys;
   keys_len = ap (λ (x : KeyState). length x.down) w.keys ∙ length-replicate {A = ℕ} (key_count new.board) 0;
   chains_fit = fits.chains;
+  program = w.program ∙ ap (kept_rom new.board) copied ∙ sym (kept-bytes new.board old.roms new.roms w.roms);
   masks = λ k. ap masks_of_rom (w.roms k) ∙ rewired-masks (masks_on new.board k) (get_or old.roms k None);
   wired = λ k.
       elim (cases_lt k (length new.banks)) [
@@ -200,12 +222,16 @@ abbrev pub new_parts : ℕ → ℕ → ℕ → RigParts
 new_parts rom_places bank_places chain_places = record {
   board = empty_parts;
   roms = replicate rom_places None;
+  program = replicate 4096 0;
   banks = replicate bank_places (blank_bank 0);
   chains = replicate chain_places [];
   keys = record { matrix = no_matrix; down = replicate 0 0 };
   rom_src = 0;
   test = 1;
 }
+
+no-bytes : (rom_places : ℕ) → grid 16 256 bytes_of_rom None (replicate rom_places None) ≡ replicate 4096 0
+no-bytes rom_places = blank-grid 16 256 bytes_of_rom None (replicate rom_places None) (λ i k. ap (λ r. slice_index (bytes_of_rom r) k) (same-all rom_places i None))
 
 -- the places of a new rig fit the empty board
 pub new-fitted : (rom_places bank_places chain_places : ℕ) → Fitted (new_parts rom_places bank_places chain_places) rom_places bank_places chain_places
@@ -216,6 +242,7 @@ new-fitted rom_places bank_places chain_places = record {
   matrix = refl;
   keys_len = refl;
   chains_fit = omega arith;
+  program = sym (no-bytes rom_places);
   masks = λ k. ap masks_of_rom (same-all rom_places k None) ∙ sym (same-all 16 k None);
   wired = λ k. no-wired bank_places k ∙ sym (zeros 8 k);
   bits = λ i h. absurd (omega arith);
@@ -228,6 +255,6 @@ unfolding zero_bus tabled
 new-state rom_places bank_places chain_places =
     let blank : AllBlank (replicate bank_places (blank_bank 0)) (λ _. 0) = record { at = λ k h. let l = length-replicate bank_places (blank_bank 0) in get_or-replicate bank_places k (blank_bank 0) no_bank (omega arith) } in
     let z = blank-zeros (replicate bank_places (blank_bank 0)) (λ _. 0) blank in
-    let bytes = blank-grid 16 256 bytes_of_rom None (replicate rom_places None) (λ i k. ap (λ r. slice_index (bytes_of_rom r) k) (same-all rom_places i None)) in
+    let bytes = no-bytes rom_places in
     let ports = ports-blank (replicate rom_places None) (λ k. ap port_of_rom (same-all rom_places k None)) in
     rw (bytes, z.ram, z.status, z.ports, ports, z.src) refl

@@ -7,6 +7,7 @@ abbrev pub parts_of : {ROMS BANKS CHAINS MAX : ℕ} → Inside ROMS BANKS CHAINS
 parts_of i = record {
   board = i.board;
   roms = i.roms.items;
+  program = i.program.items;
   banks = i.banks.items;
   chains = i.chains.items;
   keys = i.keys;

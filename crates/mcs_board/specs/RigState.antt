@@ -42,6 +42,8 @@ matrix_on b = elim b.keys [ Some m ↦ m | None ↦ no_matrix ]
 pub record RigParts : Type 0 where
   pub board : BoardParts
   pub roms : List (Option RomState)
+  -- the bytes of the ROMs once more, by address, as a fetch reads them
+  pub program : List ℕ
   pub banks : List BankState
   pub chains : List (List ℕ)
   pub keys : KeyState
@@ -65,7 +67,8 @@ rig_of p = record {
 }
 
 -- the chips are those of the board: so many places for each kind of chip, the board's ROMs with their masks, so many
--- chips in each bank, each of the board's chains with its bits, and a place for each key
+-- chips in each bank, each of the board's chains with its bits, and a place for each key; the program is what the ROMs
+-- hold
 pub record Fitted (p : RigParts) (rom_places bank_places chain_places : ℕ) : Type 0 where
   pub roms_len : length p.roms ≡ rom_places
   pub banks_len : length p.banks ≡ bank_places
@@ -73,6 +76,7 @@ pub record Fitted (p : RigParts) (rom_places bank_places chain_places : ℕ) : T
   pub matrix : p.keys.matrix ≡ matrix_on p.board
   pub keys_len : length p.keys.down ≡ key_count p.board
   pub chains_fit : chain_count p.board ≤ chain_places
+  pub program : p.program ≡ grid 16 256 bytes_of_rom None p.roms
   pub masks : (k : ℕ) → masks_of_rom (slice_index_or p.roms k None) ≡ masks_on p.board k
   pub wired : (k : ℕ) → (slice_index_or p.banks k no_bank).wired ≡ slice_index p.board.banks k
   pub bits : (i : ℕ) → i < chain_count p.board → length (slice_index_or p.chains i []) ≡ chain_bits p.board i

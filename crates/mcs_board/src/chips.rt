@@ -4,6 +4,7 @@ ghost use Rattle.std.specs.Prelude.{◌≡◌, ℕ, ◌<◌, ◌≤◌, ◌↔�
 ghost use Rattle.mcs_ram4002.specs.RamBank.{blank_bank, IsValidBank};
 ghost use Rattle.mcs_rom4001.specs.Roms.{IsValidRom};
 ghost use Rattle.mcs_model.specs.Boards.{masks_on, chain_bits, key_count};
+ghost use Rattle.mcs_model.specs.Places.{kept_rom};
 ghost use Rattle.mcs_board.specs.Fitting.{rewired, silenced};
 ghost use Rattle.mcs_board.specs.RigState.{no_bank, matrix_on};
 
@@ -25,6 +26,17 @@ pub(crate) fn no_roms(alloc: Global, count: usize) -> Result<Vec<Option<Rom>>, A
         roms.push(None)?;
     }
     Ok(roms)
+}
+
+/// So many bytes, all 0.
+pub(crate) fn no_program(alloc: Global, count: usize) -> Result<Vec<u8>, AllocError>
+    ensures { IfOk result (λ program. program.items ≡ replicate count 0) }
+{
+    let mut program = Vec::new(alloc);
+    for _ in 0..count {
+        program.push(0)?;
+    }
+    Ok(program)
 }
 
 /// So many banks without chips.
@@ -143,6 +155,19 @@ pub(crate) fn rewire_roms(roms: &mut Vec<Option<Rom>>, board: &Board)
     for i in 0..roms.len() {
         let mask = mask_of(board, i);
         rewire_rom(&mut roms[i], mask);
+    }
+}
+
+/// Makes the bytes of the ROMs that a board lacks 0.
+pub(crate) fn clear_absent(program: &mut Vec<u8>, board: &Board)
+    requires { length program.old.items ≡ 4096 }
+    ensures { program.new.items ≡ kept_rom board.now program.old.items }
+{
+    for at in 0..program.len() {
+        if mask_of(board, at / 256).is_some() {
+            continue;
+        }
+        program[at] = 0;
     }
 }
 

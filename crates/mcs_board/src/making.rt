@@ -7,8 +7,8 @@ ghost use Rattle.mcs_model.specs.Validity.{IsValidBus};
 ghost use Rattle.mcs_board.specs.Fitting.{FitsCounts};
 
 use crate::chips::{
-    banks_are_valid, banks_fit, chains_fit, clear_banks, clear_chains, clear_ports, keys_of, no_banks,
-    no_chains, no_roms, rewire_banks, rewire_chains, rewire_roms, roms_are_valid, roms_fit,
+    banks_are_valid, banks_fit, chains_fit, clear_absent, clear_banks, clear_chains, clear_ports,
+    keys_of, no_banks, no_chains, no_program, no_roms, rewire_banks, rewire_chains, rewire_roms, roms_are_valid, roms_fit,
 };
 use crate::rig::Rig;
 use mcs_keypad::KeyPad;
@@ -19,6 +19,9 @@ use std::alloc::{AllocError, Global};
 /// The most bits of a chain: half of the bytes that an address can tell apart, so that a chain of more would be
 /// larger than any memory.
 const MOST_BITS: usize = isize::MAX as usize / 2;
+
+/// How many addresses the ROMs have.
+const ADDRESSES: usize = 4096;
 
 /// A law: every board fits 16 ROMs, 8 banks, and 2 chains of 40 bits.
 pub fn every_board_fits_the_bench(board: &Board)
@@ -48,6 +51,7 @@ impl<const ROMS: usize, const BANKS: usize, const CHAINS: usize, const MAX: usiz
         Ok(Rig {
             board: Board::empty(),
             roms: no_roms(alloc, ROMS)?,
+            program: no_program(alloc, ADDRESSES)?,
             banks: no_banks(alloc, BANKS)?,
             chains: no_chains(alloc, CHAINS)?,
             keys: KeyPad::none(),
@@ -63,6 +67,7 @@ impl<const ROMS: usize, const BANKS: usize, const CHAINS: usize, const MAX: usiz
         ensures { self.new ≡ after_wire self.old board.now }
     {
         rewire_roms(&mut self.roms, board);
+        clear_absent(&mut self.program, board);
         rewire_banks(&mut self.banks, board);
         self.keys = keys_of(board);
         self.rom_src = 0;

@@ -17,6 +17,8 @@ use std::marker::Model;
 pub struct Rig<const ROMS: usize, const BANKS: usize, const CHAINS: usize, const MAX: usize> {
     pub(crate) board: Board,
     pub(crate) roms: Vec<Option<Rom>>,
+    // The bytes of the ROMs once more, by address: a fetch asks for no chip.
+    pub(crate) program: Vec<u8>,
     pub(crate) banks: Vec<Bank<4>>,
     pub(crate) chains: Vec<Chain<MAX>>,
     pub(crate) keys: KeyPad,

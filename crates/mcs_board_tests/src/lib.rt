@@ -1,8 +1,10 @@
-//! Runs the processor and the commands of a board over rigs: worked boards, with a key matrix, a lamp row and several
-//! banks of RAM.
+//! Runs the processor and the commands of a board over rigs (worked boards, with a key matrix, a lamp row and several
+//! banks of RAM), and the chips alone.
 #![tactic(auto)]
 
 #[cfg(test)]
 mod boards;
+#[cfg(test)]
+mod chips;
 #[cfg(test)]
 mod tests;

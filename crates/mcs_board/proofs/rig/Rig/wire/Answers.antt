@@ -1,5 +1,6 @@
 use Rattle.std.proofs.Common.{◌≡◌, ◌∙◌, sym, ap, arith, refl, length, slice_index, get_or}
 use Rattle.std.proofs.lemmas.Bool.{eqb-true}
+use Rattle.mcs_nibble.proofs.GridLemmas.{length-grid}
 use Rattle.mcs_model.specs.declared.board.BoardParts.{BoardParts}
 use Rattle.mcs_model.specs.Places.{after_wire}
 use Rattle.mcs_board.specs.RigState.{RigParts, rig_of}
@@ -14,9 +15,10 @@ returns-then-is_empty g c =
     let b = c.args.board.now in
     let fits = c.requires in
     let none : length i.chains.items ≡ 0 = ap length (sym c.as_slice.ensures.value) ∙ eqb-true (length c.as_slice.result.now) 0 (sym c.is_empty.ensures ∙ c.if-is_empty.true) in
-    let new : RigParts = record (parts_of i) { board = b; roms = c.rewire_roms.new.roms.items; banks = c.rewire_banks.new.banks.items; keys = c.keys_of-self-inside.result; rom_src = 0 } in
+    let new : RigParts = record (parts_of i) { board = b; roms = c.rewire_roms.new.roms.items; program = c.clear_absent.new.program.items; banks = c.rewire_banks.new.banks.items; keys = c.keys_of-self-inside.result; rom_src = 0 } in
     let is : IsRewired (parts_of i) new = record {
       roms = rewired-every b i.roms.items c.rewire_roms.new.roms.items c.rewire_roms.ensures.count c.rewire_roms.ensures.roms (λ k h. fits.roms k (let l = v.roms_len in omega arith));
+      program = c.clear_absent.ensures;
       banks = record { at = λ k h. c.rewire_banks.ensures.banks k (let n = c.rewire_banks.ensures.count in omega arith) };
       fit = omega (arith, fits.chains, v.chains_len);
       chains = λ k h. absurd (omega (arith, fits.chains, v.chains_len));
@@ -28,15 +30,37 @@ returns-then-is_empty g c =
     ∙ wire-state (parts_of i) new is
     ∙ ap (λ s. after_wire s b) c.self.view_is
 
+pub invariant_of-self : goal.invariant_of-self
+invariant_of-self g c =
+    let i = c.self.inside in
+    let v = c.self.invariant in
+    let b = c.args.board.now in
+    let fits = c.requires in
+    let none : length i.chains.items ≡ 0 = ap length (sym c.as_slice.ensures.value) ∙ eqb-true (length c.as_slice.result.now) 0 (sym c.is_empty.ensures ∙ c.if-is_empty.true) in
+    let new : RigParts = record (parts_of i) { board = b; roms = c.rewire_roms.new.roms.items; program = c.clear_absent.new.program.items; banks = c.rewire_banks.new.banks.items; keys = c.keys_of-self-inside.result; rom_src = 0 } in
+    let is : IsRewired (parts_of i) new = record {
+      roms = rewired-every b i.roms.items c.rewire_roms.new.roms.items c.rewire_roms.ensures.count c.rewire_roms.ensures.roms (λ k h. fits.roms k (let l = v.roms_len in omega arith));
+      program = c.clear_absent.ensures;
+      banks = record { at = λ k h. c.rewire_banks.ensures.banks k (let n = c.rewire_banks.ensures.count in omega arith) };
+      fit = omega (arith, fits.chains, v.chains_len);
+      chains = λ k h. absurd (omega (arith, fits.chains, v.chains_len));
+      keys = c.keys_of-self-inside.ensures;
+      src = refl;
+      test = refl;
+    } in
+    rw c.copy-self-inside.ensures
+    (wire-fitted (parts_of i) new g.row.ROMS g.row.BANKS g.row.CHAINS g.row.MAX fits (c.rewire_roms.ensures.count ∙ v.roms_len) (c.rewire_banks.ensures.count ∙ v.banks_len) v.chains_len v.program is)
+
 pub invariant_of-self-2 : goal.invariant_of-self-2
 invariant_of-self-2 g c =
     let i = c.self.inside in
     let v = c.self.invariant in
     let b = c.args.board.now in
     let fits = c.requires in
-    let new : RigParts = record { board = b; roms = c.rewire_roms.new.roms.items; banks = c.rewire_banks.new.banks.items; chains = c.rewire_chains.new.chains.items; keys = c.keys_of-self-inside.result; rom_src = 0; test = i.test } in
+    let new : RigParts = record { board = b; roms = c.rewire_roms.new.roms.items; program = c.clear_absent.new.program.items; banks = c.rewire_banks.new.banks.items; chains = c.rewire_chains.new.chains.items; keys = c.keys_of-self-inside.result; rom_src = 0; test = i.test } in
     let is : IsRewired (parts_of i) new = record {
       roms = rewired-every b i.roms.items c.rewire_roms.new.roms.items c.rewire_roms.ensures.count c.rewire_roms.ensures.roms (λ k h. fits.roms k (let l = v.roms_len in omega arith));
+      program = c.clear_absent.ensures;
       banks = record { at = λ k h. c.rewire_banks.ensures.banks k (let n = c.rewire_banks.ensures.count in omega arith) };
       fit = omega (arith, fits.chains, v.chains_len, c.rewire_chains.ensures.count);
       chains = λ k h. c.rewire_chains.ensures.rows k (omega (arith, fits.chains, v.chains_len));
@@ -45,7 +69,7 @@ invariant_of-self-2 g c =
       test = refl;
     } in
     rw c.copy-self-inside.ensures
-    (wire-fitted (parts_of i) new g.row.ROMS g.row.BANKS g.row.CHAINS g.row.MAX fits (c.rewire_roms.ensures.count ∙ v.roms_len) (c.rewire_banks.ensures.count ∙ v.banks_len) (c.rewire_chains.ensures.count ∙ v.chains_len) is)
+    (wire-fitted (parts_of i) new g.row.ROMS g.row.BANKS g.row.CHAINS g.row.MAX fits (c.rewire_roms.ensures.count ∙ v.roms_len) (c.rewire_banks.ensures.count ∙ v.banks_len) (c.rewire_chains.ensures.count ∙ v.chains_len) v.program is)
 
 pub returns : goal.returns
 returns g c =
@@ -53,9 +77,10 @@ returns g c =
     let v = c.self.invariant in
     let b = c.args.board.now in
     let fits = c.requires in
-    let new : RigParts = record { board = b; roms = c.rewire_roms.new.roms.items; banks = c.rewire_banks.new.banks.items; chains = c.rewire_chains.new.chains.items; keys = c.keys_of-self-inside.result; rom_src = 0; test = i.test } in
+    let new : RigParts = record { board = b; roms = c.rewire_roms.new.roms.items; program = c.clear_absent.new.program.items; banks = c.rewire_banks.new.banks.items; chains = c.rewire_chains.new.chains.items; keys = c.keys_of-self-inside.result; rom_src = 0; test = i.test } in
     let is : IsRewired (parts_of i) new = record {
       roms = rewired-every b i.roms.items c.rewire_roms.new.roms.items c.rewire_roms.ensures.count c.rewire_roms.ensures.roms (λ k h. fits.roms k (let l = v.roms_len in omega arith));
+      program = c.clear_absent.ensures;
       banks = record { at = λ k h. c.rewire_banks.ensures.banks k (let n = c.rewire_banks.ensures.count in omega arith) };
       fit = omega (arith, fits.chains, v.chains_len, c.rewire_chains.ensures.count);
       chains = λ k h. c.rewire_chains.ensures.rows k (omega (arith, fits.chains, v.chains_len));
@@ -66,3 +91,6 @@ returns g c =
     ap (λ (x : BoardParts). rig_of (record new { board = x })) c.copy-self-inside.ensures
     ∙ wire-state (parts_of i) new is
     ∙ ap (λ s. after_wire s b) c.self.view_is
+
+pub clear_absent-requires : goal.clear_absent-requires
+clear_absent-requires g c = ap length c.self.invariant.program ∙ length-grid 16 256 _ _ _
