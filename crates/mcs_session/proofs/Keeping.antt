@@ -1,4 +1,4 @@
--- What a stop leaves of two runs, one after the other.
+-- What a power cut leaves of two runs, one after the other.
 use Rattle.std.proofs.Common.{◌≡◌, ◌⊎◌, inl, inr, ◌+◌, ◌≤◌, ◌<◌, ◌↔◌, ⊎_elim, ℕ, IsTrue, List, [], ◌∷◌, ◌++◌, length, sym, ap, ◌∙◌, refl, subst, arith, length-append}
 use Rattle.std.proofs.lemmas.Bool.{cases_lt}
 use Rattle.mcs_disk.specs.Disk.{DiskState, IsLawful}
