@@ -1,5 +1,5 @@
--- What a stop leaves of two runs, one after the other.
-use Rattle.std.proofs.Common.{◌≡◌, ◌⊎◌, inl, inr, ◌+◌, ◌≤◌, ◌<◌, ◌↔◌, ⊎_elim, ℕ, IsTrue, List, [], ◌∷◌, ◌++◌, length, sym, ap, ◌∙◌, refl, subst, arith, length-append}
+-- What a power cut leaves of two runs, one after the other.
+use Rattle.std.proofs.Common.{◌≡◌, inl, inr, ◌+◌, ◌≤◌, ⊎_elim, ℕ, IsTrue, List, [], ◌∷◌, ◌++◌, length, sym, ap, ◌∙◌, refl, subst, arith, length-append}
 use Rattle.std.proofs.lemmas.Bool.{cases_lt}
 use Rattle.mcs_disk.specs.Disk.{DiskState, IsLawful}
 use Rattle.mcs_disk.specs.Moments.{LeavesOnly, Either, GoesOn, Stays}

@@ -1,5 +1,5 @@
 -- Moments that follow one another, and states after a prefix of the commands.
-use Rattle.std.proofs.Common.{◌≡◌, ◌⊎◌, inl, inr, ◌+◌, ◌≤◌, ◌<◌, ℕ, Bool, true, false, cond, List, [], ◌∷◌, ◌++◌, length, nat_le, take, sym, ap, ◌∙◌, refl, arith, length-append, slice_get, Some, suc, zero}
+use Rattle.std.proofs.Common.{◌≡◌, inl, inr, ◌+◌, ◌≤◌, ◌<◌, ℕ, Bool, cond, List, [], ◌∷◌, ◌++◌, length, nat_le, take, sym, ap, ◌∙◌, refl, arith, length-append, slice_get, Some, suc, zero}
 use Rattle.std.proofs.lemmas.Bool.{le-leb, lt-leb}
 use Rattle.std.proofs.lemmas.Grind.{common_steps}
 use Rattle.std.proofs.lemmas.List.Sums.{count_by-le-length, sum_by-append, sum_by-cons}

@@ -1,4 +1,4 @@
--- What is found after a power cut, and what a stop at the end leaves.
+-- What is found after a power cut, and what one at the end leaves.
 use Rattle.std.proofs.Common.{◌≡◌, ◌⊎◌, inl, inr, ◌+◌, ◌≤◌, ℕ, List, length, sym, ◌∙◌, subst, refl, arith, slice_get, Some}
 use Rattle.mcs_disk.specs.Disk.{DiskState, IsLawful}
 use Rattle.mcs_disk.specs.PowerCut.{IsLeftByCut}

@@ -1,5 +1,5 @@
 -- What the calls of a session answer, and what they do to the disk.
-use Rattle.std.specs.Prelude.{◌≡◌, ◌+◌, min, true, false, ℕ, Option, None, Some, Result, Ok, Err}
+use Rattle.std.specs.Prelude.{◌≡◌, ◌+◌, min, true, false, ℕ, None, Some, Result, Ok, Err}
 use Rattle.mcs_disk.specs.Disk.{DiskState, most_faults}
 use Rattle.mcs_disk.specs.Moments.{Either, GoesOn, LeavesOnly, Rests, Stays}
 use Rattle.mcs_journal.specs.Answers.{IsNoSession}
@@ -60,7 +60,7 @@ Closes log faults c (Ok r) new_log new_faults = (new_log ≡ with_record log c) 
 Closes log faults c (Err Device) new_log new_faults = (new_log ≡ Shut) × (new_faults ≡ min (faults + 1) most_faults)
 Closes log faults c (Err fault) new_log new_faults = (new_log ≡ log) × (new_faults ≡ faults)
 
--- Until it is acknowledged, a crash leaves the state before or after, and from then on the state after.
+-- Until it is acknowledged, a power cut leaves the state before or after, and from then on the state after.
 pub record Acknowledges (old new : DiskState) (s t : Flat) : Type 0 where
   pub moments : LeavesOnly old new (Either (λ c. StandsFor c s) (λ c. StandsFor c t))
   pub ticks : new.clock ≡ old.clock + 4

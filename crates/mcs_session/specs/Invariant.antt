@@ -7,7 +7,7 @@ use Rattle.mcs_model.specs.Flat.{Flat}
 use Rattle.mcs_session.specs.Log.{HasUsed}
 use Rattle.mcs_session.specs.Stands.{StandsFor}
 
--- an honest disk of an open session: whatever a crash leaves stands for the state of the bench
+-- an honest disk of an open session: whatever a power cut leaves stands for the state of the bench
 pub record IsRecorded (disk : DiskState) (used : ℕ) (s : Flat) : Type 0 where
   pub durable : IsDurable disk
   pub stands : StandsFor disk.bytes s

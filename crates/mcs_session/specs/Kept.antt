@@ -1,4 +1,4 @@
--- What a disk keeps of a run of commands, wherever it stops.
+-- What a disk keeps of a run of commands, wherever the power is cut.
 use Rattle.std.specs.Prelude.{◌≡◌, ◌⊎◌, ◌+◌, ◌≤◌, ◌↔◌, IsTrue, ℕ, List, [], ◌∷◌, count_by, length, nat_le, take}
 use Rattle.mcs_disk.specs.Disk.{DiskState, IsLawful}
 use Rattle.mcs_disk.specs.Moments.{GoesOn}
@@ -50,7 +50,7 @@ pub record Kept (old new : DiskState) (s : Flat) (done reached : List Command) :
   pub count : length moments ≡ length done
   pub spaced : IsSpaced old.clock moments
   pub within : last_moment old.clock moments ≤ new.clock
-  -- whatever a stop at some moment since t left stands for a prefix that holds what was acknowledged by t
+  -- whatever a power cut at some moment since t left stands for a prefix that holds what was acknowledged by t
   pub each : (t : ℕ) (image : List ℕ) → old.clock ≤ t → new.since t image → StandsForPrefix s reached (acknowledged_by t moments) image
   pub stretch : GoesOn old new
   pub lawful : IsLawful new
@@ -64,7 +64,7 @@ pub record KeptWhole (old new : DiskState) (s : Flat) (cs : List Command) : Type
 abbrev pub IsHonest : SessionState → Type 0
 IsHonest a = IsTrue (is_open_log a.standing.log) × a.disk.honest
 
--- whatever a stop now leaves stands for this state
+-- whatever a power cut now leaves stands for this state
 pub record IsSettledAt (disk : DiskState) (s : Flat) : Type 0 where
   pub at : IsAt disk s
   pub lawful : IsLawful disk

@@ -30,6 +30,6 @@ pub record StandsFor (file : List ℕ) (s : Flat) : Type 0 where
   pub holds : Holds file snap records
   pub stand : RecordsStandFor snap records s
 
--- whatever a crash now leaves stands for this state
+-- whatever a power cut now leaves stands for this state
 abbrev pub IsAt : DiskState → Flat → Type 0
 IsAt disk s = (image : List ℕ) → disk.since disk.clock image → StandsFor image s

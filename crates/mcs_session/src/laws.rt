@@ -34,7 +34,7 @@ pub fn what_a_power_cut_left_is_opened<D: Disk, E: Disk>()
         → (fault ≡ OpenFault.Device) ⊎ (fault ≡ OpenFault.NoMemory) }
 {}
 
-/// What a stop since the acknowledgement of a command left holds that command and those before it.
+/// What a power cut since the acknowledgement of a command left holds that command and those before it.
 pub fn since_an_acknowledgement_its_commands_are_kept<D: Disk>()
     ensures { (old new : D) (s : Flat) (done reached : List Command)
         (kept : Kept (D.state old) (D.state new) s done reached) (j moment : ℕ) (image : List ℕ)
@@ -42,8 +42,8 @@ pub fn since_an_acknowledgement_its_commands_are_kept<D: Disk>()
         → StandsForPrefix s reached (j + 1) image }
 {}
 
-/// What a stop at the end of a run leaves holds all that was acknowledged; where no call failed, it stands for the state
-/// after all commands.
+/// What a power cut at the end of a run leaves holds all that was acknowledged; where no call failed, it stands for the
+/// state after all commands.
 pub fn at_the_end_all_is_kept<D: Disk>()
     ensures acknowledged { (old new : D) (s : Flat) (done reached : List Command) (image : List ℕ)
         → Kept (D.state old) (D.state new) s done reached → (D.state new).images image

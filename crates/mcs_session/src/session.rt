@@ -189,7 +189,7 @@ impl<D: Disk + Drop> Session<D> {
         &self.bench
     }
 
-    /// Does a command and records it. It is acknowledged by `Ok`: from then on no crash loses it.
+    /// Does a command and records it. It is acknowledged by `Ok`: from then on no power cut loses it.
     ///
     /// It is refused on a closed session (54), where the bench refuses it (41 to 46), where its record has no room in the
     /// log (52), and where a call on the disk failed (53). Each refusal but the last leaves the disk untouched.
