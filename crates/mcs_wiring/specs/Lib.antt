@@ -1,3 +1,5 @@
 pub mod Refusals
 pub mod Format
 pub mod Names
+pub mod Wiring
+pub mod Flaws

@@ -3,6 +3,9 @@
 
 mod fault;
 mod names;
+mod parts;
+mod reading;
 mod sections;
+mod values;
 
 pub use fault::WiringFault;

@@ -3,7 +3,7 @@ ghost use Rattle.std.specs.Prelude.{◌≡◌};
 ghost use Rattle.mcs_wiring.specs.Format.{is_section_key, section_key, is_board_key};
 
 /// A section of a board text: a key at the top, and the tables that stand there.
-#[derive(Clone, Copy, Debug, PartialEq, Eq)]
+#[derive(Clone, Copy)]
 pub(crate) enum Section {
     /// The ROMs, a table each.
     Rom,
@@ -18,7 +18,7 @@ pub(crate) enum Section {
 }
 
 /// What can be wrong with a section by itself.
-#[derive(Clone, Copy, Debug, PartialEq, Eq)]
+#[derive(Clone, Copy)]
 pub(crate) enum Flaw {
     /// A key that its tables have not.
     UnknownKey,
@@ -26,6 +26,15 @@ pub(crate) enum Flaw {
     MissingKey,
     /// A value of another type or form, or a number out of its range.
     BadValue,
+}
+
+/// A part with the number of its chip or of its bank.
+#[derive(Clone, Copy, Default)]
+pub(crate) struct Numbered<T> {
+    /// The number.
+    pub(crate) number: u8,
+    /// What there is.
+    pub(crate) part: T,
 }
 
 /// Whether a key may stand at the top.
