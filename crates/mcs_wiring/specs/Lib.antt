@@ -3,3 +3,4 @@ pub mod Format
 pub mod Names
 pub mod Wiring
 pub mod Flaws
+pub mod BoardText

@@ -5,6 +5,7 @@ use Rattle.std.specs.Str.{bytes_eq}
 use Rattle.std.specs.Fmt.{decimal}
 use Rattle.mcs_nibble.specs.declared.lines.LineMask.{LineMask}
 use Rattle.mcs_nibble.specs.declared.lines.LineMask.TheVariants.{Input, Zero, One}
+use Rattle.mcs_nibble.specs.Ports.{mask_at}
 use Rattle.mcs_model.specs.declared.board.Line.{Line}
 use Rattle.mcs_model.specs.declared.board.Line.TheVariants.{Rom, Ram, Chain}
 use Rattle.mcs_model.specs.declared.limits.TheConstants.{ROMS, BANKS, BANK_CHIPS, CHAINS, CHAIN_BITS}
@@ -93,5 +94,4 @@ masks_named text = None
 
 -- the name of a port
 abbrev pub port_name : List LineMask → List ℕ
-port_name (m0 ∷ m1 ∷ m2 ∷ m3 ∷ []) = mask_code m3 ∷ mask_code m2 ∷ mask_code m1 ∷ mask_code m0 ∷ []
-port_name masks = []
+port_name masks = mask_code (mask_at masks 3) ∷ mask_code (mask_at masks 2) ∷ mask_code (mask_at masks 1) ∷ mask_code (mask_at masks 0) ∷ []

@@ -6,6 +6,7 @@ use Rattle.toml.specs.Data.{Data, array, table, Items, no_items, item, Members, 
 use Rattle.toml.specs.Parse.{parse_document}
 use Rattle.mcs_nibble.specs.declared.lines.LineMask.{LineMask}
 use Rattle.mcs_nibble.specs.Tabled.{tabled}
+use Rattle.mcs_model.specs.declared.board.BoardFault.{BoardFault}
 use Rattle.mcs_model.specs.declared.board.BoardParts.{BoardParts}
 use Rattle.mcs_model.specs.declared.board.ChainPart.{ChainPart}
 use Rattle.mcs_model.specs.declared.board.KeyMatrix.{KeyMatrix}
@@ -156,12 +157,16 @@ has_bad_value ms = list_any (lacks_array ms) sections || any_section is_malforme
 
 -- ---- 27: more parts of one kind than a board can have
 
-abbrev pub matrix_columns : Option Data → List Data
-matrix_columns (Some (table ms)) = values_at (codes "columns") ms
-matrix_columns d = []
+-- the table at `keys`, if a table stands there
+abbrev pub keys_table : Members → Option Members
+keys_table ms = get_member (codes "keys") ms >>= as_table
+
+abbrev pub matrix_columns : Option Members → List Data
+matrix_columns None = []
+matrix_columns (Some ms) = values_at (codes "columns") ms
 
 abbrev pub column_values : Members → List Data
-column_values ms = matrix_columns (get_member (codes "keys") ms)
+column_values ms = matrix_columns (keys_table ms)
 
 abbrev pub has_too_many : Members → Bool
 has_too_many ms =
@@ -190,7 +195,8 @@ has_double_chip ms = has_double (roms_of ms) || has_double (rams_of ms)
 
 -- the part of a number, or what stands for none
 abbrev pub part_at : {A : Type 0} → A → List (Numbered A) → ℕ → A
-part_at none ps n = option_map_or (λ p. p.part) (find (λ p. p.number == n) ps) none
+part_at none [] n = none
+part_at none (p ∷ ps) n = if p.number == n then p.part else part_at none ps n
 
 -- the parts that a table tells
 abbrev pub parts_of : Members → BoardParts
@@ -198,13 +204,21 @@ parts_of ms = record {
   roms = tabled ROMS (part_at None (roms_of ms));
   banks = tabled BANKS (part_at 0 (rams_of ms));
   chains = record { items = filter_map (told chain_in) (values_at (codes "chain") ms) };
-  keys = get_member (codes "keys") ms >>= told matrix_in;
+  keys = keys_table ms >>= matrix_in;
   lamps = record { items = filter_map (told lamp_in) (values_at (codes "lamp") ms) };
 }
 
 -- the board of these parts, or 25 or 26 (their numbers are in range)
+abbrev pub judged : BoardParts → Option BoardFault → Result BoardParts WiringFault
+judged parts None = Ok parts
+judged parts (Some fault) = Err (refusal_of fault)
+
 abbrev pub board_of_parts : BoardParts → Result BoardParts WiringFault
-board_of_parts parts = elim (fault_of parts) [ None ↦ Ok parts | Some fault ↦ Err (refusal_of fault) ]
+board_of_parts parts = judged parts (fault_of parts)
+
+-- the board of a table that has nothing of 21, 22, 23 and 27
+abbrev pub board_of_counted : Members → Result BoardParts WiringFault
+board_of_counted ms = if has_double_chip ms then Err DoubleChip else board_of_parts (parts_of ms)
 
 -- the board that a table describes, or the first refusal that holds of it
 unfoldable pub board_of_table : Members → Result BoardParts WiringFault
@@ -213,8 +227,7 @@ board_of_table ms =
     else if has_missing_key ms then Err MissingKey
     else if has_bad_value ms then Err BadValue
     else if has_too_many ms then Err TooManyParts
-    else if has_double_chip ms then Err DoubleChip
-    else board_of_parts (parts_of ms)
+    else board_of_counted ms
 
 -- the board of a text: 20 where it is not TOML, else that of its table
 abbrev pub board_of_text : List ℕ → Result BoardParts WiringFault

@@ -7,5 +7,8 @@ mod parts;
 mod reading;
 mod sections;
 mod values;
+mod writing;
 
 pub use fault::WiringFault;
+pub use reading::board_of;
+pub use writing::board_text;

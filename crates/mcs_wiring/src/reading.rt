@@ -1,18 +1,21 @@
 //! The board of a text.
-ghost use Rattle.std.specs.Prelude.{◌≡◌, not, length, map, string_bytes};
+ghost use Rattle.std.specs.Prelude.{◌≡◌, ◌==◌, ◌≤◌, ◌||◌, not, false, length, option_and_then, option_map, string_bytes, Err};
 ghost use Rattle.std.specs.List.{list_any};
 ghost use Rattle.std.specs.BTreeMap.{keys};
+ghost use Rattle.toml.specs.Errors.{IsBlank};
 ghost use Rattle.toml.specs.View.{view, table_view};
+ghost use Rattle.mcs_nibble.specs.Tabled.{tabled};
 ghost use Rattle.mcs_wiring.specs.Format.{sections, section_key, table_keys, is_board_key, is_section_key};
-ghost use Rattle.mcs_wiring.specs.Wiring.{has_unknown_key, has_missing_key, has_bad_value, has_too_many, has_double, has_double_chip, has_other_key, lacks_one_of, lacks_key, is_malformed, lacks_array, values_at, section_values, any_section, column_values, parts_of, part_at, board_of_table, board_of_text, Answers};
-ghost use Rattle.mcs_wiring.specs.Flaws.{has_flaw};
+ghost use Rattle.mcs_wiring.specs.Wiring.{has_unknown_key, has_missing_key, has_bad_value, has_too_many, has_double, has_double_chip, has_other_key, lacks_one_of, lacks_key, is_malformed, lacks_array, values_at, section_values, any_section, column_values, keys_table, matrix_in, roms_of, rams_of, parts_of, part_at, board_of_parts, board_of_counted, board_of_table, board_of_text, Answers};
+ghost use Rattle.mcs_wiring.specs.Flaws.{has_flaw, IsWithinLimits};
 
 use crate::fault::WiringFault;
 use crate::parts::{chain, chains, has_bad_columns, has_bad_numbers, lamp, lamps, matrix, ram, rams, rom, roms};
 use crate::sections::{Flaw, Numbered, Section, is_board_key};
-use crate::values::{has_no_array_at, lacks, member, values_at};
+use crate::values::{count_at, has_no_array_at, lacks, member, values_at};
 use mcs_model::board::{Board, BoardParts, KeyMatrix};
 use mcs_model::limits::{BANKS, CHAINS, KEY_COLUMNS, LAMPS, ROMS};
+use mcs_nibble::LineMask;
 use std::alloc::Global;
 use toml::{Table, Value};
 
@@ -179,4 +182,169 @@ fn has_bad_value(table: &Table) -> bool
     ensures { result ≡ has_bad_value (table_view table.now) }
 {
     lacks_an_array(table) || has_flaw_anywhere(Flaw::BadValue, table)
+}
+
+/// The table of the key matrix, if there is one.
+fn keys_table(table: &Table) -> Option<&Table>
+    ensures { option_map (λ t. table_view t.now) result ≡ keys_table (table_view table.now) }
+{
+    member(table, "keys")?.as_table()
+}
+
+/// How many columns the key matrix has; 0 where there is none.
+fn column_count(table: &Table) -> usize
+    ensures { result ≡ length (column_values (table_view table.now)) }
+{
+    match keys_table(table) {
+        Some(keys) => count_at(keys, "columns"),
+        None => 0,
+    }
+}
+
+/// Whether there are more parts of one kind than a board can have.
+fn has_too_many(table: &Table) -> bool
+    ensures { result ≡ has_too_many (table_view table.now) }
+{
+    if count_at(table, "rom") > ROMS {
+        return true;
+    }
+    if count_at(table, "ram") > BANKS {
+        return true;
+    }
+    if count_at(table, "chain") > CHAINS {
+        return true;
+    }
+    if column_count(table) > KEY_COLUMNS {
+        return true;
+    }
+    count_at(table, "lamp") > LAMPS
+}
+
+/// Whether some part has a number.
+fn has_number<T: Copy>(parts: &[Numbered<T>], number: u8) -> bool
+    ensures { result ≡ list_any (λ q. q.number == number) parts.now }
+{
+    parts.iter().any(|part| part.number == number)
+}
+
+/// Whether two parts have one number.
+#[tactic(auto, using(crate::proofs::Seen::double_from))]
+fn has_double<T: Copy>(parts: &[Numbered<T>]) -> bool
+    ensures { result ≡ has_double parts.now }
+{
+    for i in 0..parts.len() {
+        if has_number(&parts[i + 1..], parts[i].number) {
+            return true;
+        }
+    }
+    false
+}
+
+/// The part of a number, or what stands for none.
+#[tactic(auto, using(crate::proofs::Seen::part_from))]
+fn part_at<T: Copy>(parts: &[Numbered<T>], none: T, number: u8) -> T
+    ensures { result ≡ part_at none parts.now number }
+{
+    for part in parts {
+        if part.number == number {
+            return part.part;
+        }
+    }
+    none
+}
+
+/// The parts by their numbers.
+fn placed<T: Copy, const N: usize>(parts: &[Numbered<T>], none: T) -> [T; N]
+    requires { N ≤ 256 }
+    ensures { result ≡ tabled N (part_at none parts.now) }
+{
+    let mut placed = [none; N];
+    for i in 0..N {
+        placed[i] = part_at(parts, none, i as u8);
+    }
+    placed
+}
+
+/// The key matrix of a table, if it has one.
+fn matrix_of(table: &Table) -> Option<KeyMatrix>
+    requires { length (column_values (table_view table.now)) ≤ KEY_COLUMNS }
+    ensures { result ≡ option_and_then matrix_in (keys_table (table_view table.now)) }
+{
+    matrix(keys_table(table)?)
+}
+
+/// The parts that a table tells.
+#[tactic(auto, using(crate::proofs::Seen::length_seen))]
+fn parts_of(
+    table: &Table,
+    roms: &[Numbered<Option<[LineMask; 4]>>],
+    rams: &[Numbered<u8>],
+) -> BoardParts
+    requires within { IsWithinLimits (table_view table.now) }
+    requires roms { roms.now ≡ roms_of (table_view table.now) }
+    requires rams { rams.now ≡ rams_of (table_view table.now) }
+    ensures { result ≡ parts_of (table_view table.now) }
+{
+    BoardParts {
+        roms: placed(roms, None),
+        banks: placed(rams, 0),
+        chains: chains(values_at(table, "chain")),
+        keys: matrix_of(table),
+        lamps: lamps(values_at(table, "lamp")),
+    }
+}
+
+/// The board of parts, or what is wrong with them.
+fn board_of_parts(parts: BoardParts) -> Result<Board, WiringFault>
+    ensures { result ≡ board_of_parts parts }
+{
+    Ok(Board::of(parts)?)
+}
+
+/// The board of a table without too many parts.
+#[tactic(auto, using(crate::proofs::Seen::length_seen))]
+fn board_of_counted(table: &Table) -> Result<Board, WiringFault>
+    requires { IsWithinLimits (table_view table.now) }
+    ensures { result ≡ board_of_counted (table_view table.now) }
+{
+    let roms = roms(values_at(table, "rom"));
+    let rams = rams(values_at(table, "ram"));
+    if has_double(&roms) || has_double(&rams) {
+        return Err(WiringFault::DoubleChip);
+    }
+    board_of_parts(parts_of(table, &roms, &rams))
+}
+
+/// The board that a table describes, or the first refusal that holds of it.
+#[tactic(auto, using(crate::proofs::Limits::within), unfolding(crate::specs::Wiring::board_of_table))]
+fn board_of_table(table: &Table) -> Result<Board, WiringFault>
+    ensures { result ≡ board_of_table (table_view table.now) }
+{
+    if has_unknown_key(table) {
+        return Err(WiringFault::UnknownKey);
+    }
+    if has_missing_key(table) {
+        return Err(WiringFault::MissingKey);
+    }
+    if has_bad_value(table) {
+        return Err(WiringFault::BadValue);
+    }
+    if has_too_many(table) {
+        return Err(WiringFault::TooManyParts);
+    }
+    board_of_counted(table)
+}
+
+/// The board of a text in TOML, or the first refusal that holds of it.
+pub fn board_of(alloc: Global, text: &str) -> Result<Board, WiringFault>
+    ensures answers { Answers result (board_of_text text.now) }
+
+    // A text of blanks and comments alone has a board, whatever the memory.
+    ensures memory { result ≡ Err WiringFault.NoMemory → ¬ IsBlank text.now }
+{
+    match toml::table_from_str(alloc, text) {
+        Ok(table) => board_of_table(&table),
+        Err(e) if e.is_memory() => Err(WiringFault::NoMemory),
+        Err(_) => Err(WiringFault::BadToml),
+    }
 }

@@ -1,8 +1,8 @@
 //! What stands in the table of a board text.
-ghost use Rattle.std.specs.Prelude.{◌≡◌, ◌<◌, option_map, map, is_none, length};
+ghost use Rattle.std.specs.Prelude.{◌≡◌, option_map, map, is_none, length};
 ghost use Rattle.toml.specs.Data.{get_member};
 ghost use Rattle.toml.specs.View.{view, table_view};
-ghost use Rattle.mcs_wiring.specs.Wiring.{values_at, number_at, line_of, line_at, column_values, has_bad_columns, is_no_array};
+ghost use Rattle.mcs_wiring.specs.Wiring.{values_at, number_at, line_of, line_at, is_no_array};
 
 use crate::names::line_named;
 use mcs_model::board::Line;
@@ -65,4 +65,11 @@ pub(crate) fn has_no_array_at(table: &Table, key: &str) -> bool
         None | Some(Value::Array(_)) => false,
         Some(_) => true,
     }
+}
+
+/// How many values the array at a key has; 0 where no array stands there.
+pub(crate) fn count_at(table: &Table, key: &str) -> usize
+    ensures { result ≡ length (values_at key.now (table_view table.now)) }
+{
+    values_at(table, key).len()
 }
