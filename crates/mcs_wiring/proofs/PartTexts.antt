@@ -1,13 +1,21 @@
 -- The text of parts, one after another.
-use Rattle.std.proofs.Common.{◌≡◌, ℕ, zero, suc, ◌+◌, List, [], ◌∷◌, ◌++◌, refl, sym, ap, ◌∙◌, append_assoc, append-nil, arith, slice_index}
-use Rattle.std.specs.List.{flat_map, range_with_len}
+use Rattle.std.proofs.Common.{◌<◌, codes, Some, length, get_or, take, ◌≡◌, ℕ, zero, suc, ◌+◌, List, [], ◌∷◌, ◌++◌, refl, sym, ap, ◌∙◌, append_assoc, append-nil, arith, slice_index}
+use Rattle.std.specs.Fmt.{decimal}
+use Rattle.std.specs.List.{flat_map, join_by, range_with_len}
+use Rattle.mcs_nibble.specs.declared.lines.LineMask.{LineMask}
+use Rattle.mcs_nibble.specs.Ports.{mask_at}
+use Rattle.mcs_model.specs.declared.board.ChainPart.{ChainPart}
+use Rattle.mcs_model.specs.declared.board.KeyMatrix.{KeyMatrix}
+use Rattle.mcs_model.specs.declared.board.Line.{Line}
+use Rattle.mcs_wiring.specs.Names.{mask_code, port_name}
 use Rattle.std.specs.Option.{option_map_or}
+use Rattle.std.proofs.lemmas.List.{flat_map_more, take_more}
 use Rattle.std.proofs.lemmas.List.Concat.{flat_map-append}
 use Rattle.mcs_model.specs.declared.board.BoardParts.{BoardParts}
 use Rattle.mcs_model.specs.declared.limits.TheConstants.{ROMS, BANKS}
 use Rattle.mcs_model.specs.Boards.{masks_on}
 use Rattle.mcs_model.specs.Text.{as_line}
-use Rattle.mcs_wiring.specs.BoardText.{rom_lines, ram_lines, chain_lines, matrix_lines, lamp_lines, text_of, board_text}
+use Rattle.mcs_wiring.specs.BoardText.{quoted_name, rom_lines, ram_lines, chain_lines, matrix_lines, lamp_lines, text_of, board_text}
 use Rattle.mcs_wiring.specs.Flaws.{roms_text, rams_text}
 
 range_more : (a n : ℕ) → range_with_len a (suc n) ≡ range_with_len a n ++ (a + n) ∷ []
@@ -52,3 +60,55 @@ parts_text b =
     ∙ (ap (λ t. t ++ text_of (keys ++ lamps)) (text_of-flat_map chain_lines b.chains.items)
     ∙ ap (λ t. flat_map (λ c. text_of (chain_lines c)) b.chains.items ++ t) (
     text_of-append keys lamps ∙ ap (λ t. text_of keys ++ t) (text_of-flat_map lamp_lines b.lamps.items)))))))
+
+-- one more part is written
+pub step : (f : ℕ → List ℕ) (n : ℕ) (start before after piece : List ℕ) → before ≡ start ++ flat_map f (range_with_len 0 n) → after ≡ before ++ piece → piece ≡ f n → after ≡ start ++ flat_map f (range_with_len 0 (n + 1))
+step f n start before after piece so_far written is =
+    let done = flat_map f (range_with_len 0 n) in
+    written
+    ∙ (ap (λ t. t ++ piece) so_far
+    ∙ (append_assoc start done piece ∙ ap (λ t. start ++ t) (ap (λ p. done ++ p) is ∙ sym (one_more f n))))
+
+-- one more part of a list is written
+pub list_step : {A : Type 0} (f : A → List ℕ) (xs : List A) (i : ℕ) (d : A) (start before after : List ℕ) → i < length xs → before ≡ start ++ flat_map f (take i xs) → after ≡ before ++ f (get_or xs i d) → after ≡ start ++ flat_map f (take (i + 1) xs)
+list_step f xs i d start before after lt so_far written =
+    let x = get_or xs i d in
+    written ∙ (ap (λ t. t ++ f x) so_far ∙ (flat_map_more f start (take i xs) x ∙ ap (λ ys. start ++ flat_map f ys) (sym (take_more xs i d lt))))
+
+-- what the pieces of a part come to
+pub rom_is : (a f m3 m2 m1 m0 : List ℕ) (chip : ℕ) (masks : List LineMask) → m3 ≡ mask_code (mask_at masks 3) ∷ [] → m2 ≡ mask_code (mask_at masks 2) ∷ [] → m1 ≡ mask_code (mask_at masks 1) ∷ [] → m0 ≡ mask_code (mask_at masks 0) ∷ []
+    → f ≡ a ++ (codes "[[rom]]\nchip = " ++ (decimal chip ++ (codes "\nport = \"" ++ (m3 ++ (m2 ++ (m1 ++ (m0 ++ codes "\"\n")))))))
+    → f ≡ a ++ text_of (rom_lines chip (Some masks))
+rom_is a f m3 m2 m1 m0 chip masks e3 e2 e1 e0 h =
+    let port = codes "port = \"" ++ (port_name masks ++ codes "\"\n") in
+    rw (h, e3, e2, e1, e0) (simp append_assoc (rw (append_assoc (decimal chip) (10 ∷ []) port) refl))
+
+pub chain_is : (a b c d e f : List ℕ) (p : ChainPart) → b ≡ a ++ codes "[[chain]]\nclock = " → c ≡ b ++ quoted_name p.clock → d ≡ c ++ codes "\ndata = " → e ≡ d ++ quoted_name p.data_in
+    → f ≡ e ++ (codes "\nchips = " ++ (decimal p.chips ++ codes "\n")) → f ≡ a ++ text_of (chain_lines p)
+chain_is a b c d e f p h1 h2 h3 h4 h5 = rw (h5, h4, h3, h2, h1) (simp append_assoc)
+
+pub matrix_is : (a b c d : List ℕ) (m : KeyMatrix)
+    → b ≡ a ++ (codes "[keys]\nchain = " ++ (decimal m.chain ++ (codes "\nfirst = " ++ (decimal m.first ++ (codes "\nrows = " ++ (decimal m.rows ++ codes "\ncolumns = ["))))))
+    → c ≡ b ++ join_by quoted_name (codes ", ") m.columns.items → d ≡ c ++ codes "]\n" → d ≡ a ++ text_of (matrix_lines m)
+matrix_is a b c d m h1 h2 h3 =
+    let columns = codes "columns = [" ++ (join_by quoted_name (codes ", ") m.columns.items ++ codes "]\n") in
+    let rows = codes "rows = " ++ (decimal m.rows ++ 10 ∷ columns) in
+    let first = codes "first = " ++ (decimal m.first ++ 10 ∷ rows) in
+    rw (h3, h2, h1) (simp append_assoc (rw (append_assoc (decimal m.rows) (10 ∷ []) columns, append_assoc (decimal m.first) (10 ∷ []) rows, append_assoc (decimal m.chain) (10 ∷ []) first) refl))
+
+pub lamp_is : (a b c d : List ℕ) (l : Line) → b ≡ a ++ codes "[[lamp]]\nline = " → c ≡ b ++ quoted_name l → d ≡ c ++ codes "\n" → d ≡ a ++ text_of (lamp_lines l)
+lamp_is a b c d l h1 h2 h3 = rw (h3, h2, h1) (simp append_assoc)
+
+joined : (r a c k l : List ℕ) → (((([] ++ r) ++ a) ++ c) ++ k) ++ l ≡ r ++ (a ++ (c ++ (k ++ l)))
+joined r a c k l = simp append_assoc
+
+pub board_is : (b : BoardParts) (s0 s1 s2 s3 s4 s5 : List ℕ) → s0 ≡ [] → s1 ≡ s0 ++ roms_text b ROMS → s2 ≡ s1 ++ rams_text b BANKS
+    → s3 ≡ s2 ++ flat_map (λ c. text_of (chain_lines c)) b.chains.items → s4 ≡ s3 ++ text_of (option_map_or matrix_lines b.keys [])
+    → s5 ≡ s4 ++ flat_map (λ l. text_of (lamp_lines l)) b.lamps.items → s5 ≡ board_text b
+board_is b s0 s1 s2 s3 s4 s5 h0 h1 h2 h3 h4 h5 =
+    let r = roms_text b ROMS in
+    let a = rams_text b BANKS in
+    let c = flat_map (λ c. text_of (chain_lines c)) b.chains.items in
+    let k = text_of (option_map_or matrix_lines b.keys []) in
+    let l = flat_map (λ l. text_of (lamp_lines l)) b.lamps.items in
+    h5 ∙ (ap (λ t. t ++ l) (h4 ∙ ap (λ t. t ++ k) (h3 ∙ ap (λ t. t ++ c) (h2 ∙ ap (λ t. t ++ a) (h1 ∙ ap (λ t. t ++ r) h0)))) ∙ (joined r a c k l ∙ sym (parts_text b)))

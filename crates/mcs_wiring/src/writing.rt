@@ -1,7 +1,8 @@
 //! The text of a board.
-ghost use Rattle.std.specs.Prelude.{◌≡◌, ◌∷◌, [], ◌++◌, string_bytes, codes, OnOk, IfOk};
+ghost use Rattle.std.specs.Prelude.{◌≡◌, ◌<◌, ◌∷◌, [], ◌++◌, string_bytes, codes, OnOk, IfOk};
 ghost use Rattle.std.specs.List.{flat_map, join_by};
 ghost use Rattle.std.specs.Option.{option_map_or};
+ghost use Rattle.mcs_nibble.specs.Ports.{mask_at};
 ghost use Rattle.mcs_wiring.specs.Names.{mask_code};
 ghost use Rattle.mcs_wiring.specs.BoardText.{quoted_name, columns_text, rom_lines, ram_lines, chain_lines, matrix_lines, lamp_lines, text_of, board_text};
 ghost use Rattle.mcs_wiring.specs.Flaws.{roms_text, rams_text};
@@ -11,11 +12,12 @@ use mcs_model::limits::{BANKS, ROMS};
 use mcs_nibble::LineMask;
 use std::alloc::{AllocError, Global};
 
-/// The character of a line in the text of its port.
-fn mask_text(mask: LineMask) -> &'static str
-    ensures { result.now ≡ mask_code mask ∷ [] }
+/// The character of line `k` in the name of a port.
+fn mask_text(masks: &[LineMask; 4], k: usize) -> &'static str
+    requires { k < 4 }
+    ensures { result.now ≡ mask_code (mask_at masks.now k) ∷ [] }
 {
-    match mask {
+    match masks[k] {
         LineMask::Input => "i",
         LineMask::Zero => "0",
         LineMask::One => "1",
@@ -40,11 +42,12 @@ fn push_rom(out: &mut String, chip: u8, masks: Option<[LineMask; 4]>) -> Result<
     let Some(masks) = masks else {
         return Ok(());
     };
-    let m3 = mask_text(masks[3]);
-    let m2 = mask_text(masks[2]);
-    let m1 = mask_text(masks[1]);
-    let m0 = mask_text(masks[0]);
-    write!(out, "[[rom]]\nchip = {chip}\nport = \"{m3}{m2}{m1}{m0}\"\n")
+    let m3 = mask_text(&masks, 3);
+    let m2 = mask_text(&masks, 2);
+    let m1 = mask_text(&masks, 1);
+    let m0 = mask_text(&masks, 0);
+    write!(out, "[[rom]]\nchip = {chip}\nport = \"{m3}{m2}{m1}{m0}\"\n")?;
+    Ok(())
 }
 
 /// Writes the lines of a bank of RAM, where it has chips.
@@ -58,15 +61,16 @@ fn push_ram(out: &mut String, bank: u8, chips: u8) -> Result<(), AllocError>
 }
 
 /// Writes the lines of a chain.
-fn push_chain(out: &mut String, chain: ChainPart) -> Result<(), AllocError>
-    ensures { OnOk result (string_bytes out.new ≡ string_bytes out.old ++ text_of (chain_lines chain)) }
+fn push_chain(out: &mut String, chain: &ChainPart) -> Result<(), AllocError>
+    ensures { OnOk result (string_bytes out.new ≡ string_bytes out.old ++ text_of (chain_lines chain.now)) }
 {
     out.push_str("[[chain]]\nclock = ")?;
     push_name(out, chain.clock)?;
     out.push_str("\ndata = ")?;
     push_name(out, chain.data_in)?;
     let chips = chain.chips;
-    write!(out, "\nchips = {chips}\n")
+    write!(out, "\nchips = {chips}\n")?;
+    Ok(())
 }
 
 /// Writes the names of columns, separated by `, `.
@@ -91,7 +95,8 @@ fn push_matrix(out: &mut String, keys: &KeyMatrix) -> Result<(), AllocError>
     let (chain, first, rows) = (keys.chain, keys.first, keys.rows);
     write!(out, "[keys]\nchain = {chain}\nfirst = {first}\nrows = {rows}\ncolumns = [")?;
     push_names(out, keys.columns.as_slice())?;
-    out.push_str("]\n")
+    out.push_str("]\n")?;
+    Ok(())
 }
 
 /// Writes the lines of a lamp.
@@ -100,11 +105,11 @@ fn push_lamp(out: &mut String, line: Line) -> Result<(), AllocError>
 {
     out.push_str("[[lamp]]\nline = ")?;
     push_name(out, line)?;
-    out.push('\n')
+    out.push_str("\n")?;
+    Ok(())
 }
 
 /// Writes the ROMs of a board, by rising chip.
-#[tactic(auto, using(crate::proofs::PartTexts::one_more))]
 fn push_roms(out: &mut String, board: &Board) -> Result<(), AllocError>
     ensures { OnOk result (string_bytes out.new ≡ string_bytes out.old ++ roms_text board.now ROMS) }
 {
@@ -115,7 +120,6 @@ fn push_roms(out: &mut String, board: &Board) -> Result<(), AllocError>
 }
 
 /// Writes the banks of RAM of a board, by rising number.
-#[tactic(auto, using(crate::proofs::PartTexts::one_more))]
 fn push_rams(out: &mut String, board: &Board) -> Result<(), AllocError>
     ensures { OnOk result (string_bytes out.new ≡ string_bytes out.old ++ rams_text board.now BANKS) }
 {
@@ -130,7 +134,7 @@ fn push_chains(out: &mut String, chains: &[ChainPart]) -> Result<(), AllocError>
     ensures { OnOk result (string_bytes out.new ≡ string_bytes out.old ++ flat_map (λ c. text_of (chain_lines c)) chains.now) }
 {
     for chain in chains {
-        push_chain(out, *chain)?;
+        push_chain(out, chain)?;
     }
     Ok(())
 }
@@ -157,7 +161,6 @@ fn push_lamps(out: &mut String, lamps: &[Line]) -> Result<(), AllocError>
 
 /// The text of a board in TOML: the ROMs by rising chip, the RAM by rising bank, the chains, the key matrix and the lamps,
 /// each line ended by LF.
-#[tactic(auto, using(crate::proofs::PartTexts::parts_text))]
 pub fn board_text(alloc: Global, board: &Board) -> Result<String, AllocError>
     ensures { IfOk result (λ s. string_bytes s ≡ board_text board.now) }
 {
