@@ -6,6 +6,7 @@ use mcs_nibble::LineMask;
 use std::process::Abort;
 
 /// A generator of numbers (Knuth's MMIX linear congruential generator).
+#[derive(Drop)]
 pub(crate) struct Numbers {
     pub(crate) state: u64,
 }
