@@ -1,5 +1,5 @@
 -- No board of a table is refused for want of memory.
-use Rattle.std.proofs.Common.{◌≡◌, Bool, true, false, Option, Some, None, Result, Ok, Err, if◌then◌else◌}
+use Rattle.std.proofs.Common.{◌≡◌, Bool, true, false, Option, Some, None, Result, Err, if◌then◌else◌}
 use Rattle.toml.specs.Data.{Members}
 use Rattle.mcs_model.specs.declared.board.BoardFault.{BoardFault}
 use Rattle.mcs_model.specs.declared.board.BoardFault.TheVariants as board
@@ -7,7 +7,6 @@ use Rattle.mcs_model.specs.declared.board.BoardParts.{BoardParts}
 use Rattle.mcs_model.specs.Boards.{fault_of}
 use Rattle.mcs_wiring.specs.declared.fault.WiringFault.{WiringFault}
 use Rattle.mcs_wiring.specs.declared.fault.WiringFault.TheVariants.{UnknownKey, MissingKey, BadValue, TooManyParts, DoubleChip, NoMemory}
-use Rattle.mcs_wiring.specs.Refusals.{refusal_of}
 use Rattle.mcs_wiring.specs.Wiring.{has_unknown_key, has_missing_key, has_bad_value, has_too_many, has_double_chip, judged, parts_of, board_of_table}
 
 not_judged : (p : BoardParts) (o : Option BoardFault) → judged p o ≡ Err NoMemory → ⊥

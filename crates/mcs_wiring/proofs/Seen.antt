@@ -1,5 +1,5 @@
 -- Keys and values, in a map and a vector and in what they stand for.
-use Rattle.std.proofs.Common.{◌≡◌, ℕ, Bool, true, false, ◌||◌, eqb, List, [], ◌∷◌, length, map, String, Global, string_bytes, ◌+◌, ◌<◌, get_or, drop, if◌then◌else◌, suc, refl, sym, ap, ◌∙◌, arith}
+use Rattle.std.proofs.Common.{◌≡◌, ℕ, Bool, false, ◌||◌, eqb, List, [], ◌∷◌, length, map, string_bytes, ◌+◌, ◌<◌, get_or, drop, if◌then◌else◌, suc, refl, sym, ap, ◌∙◌}
 use Rattle.std.proofs.lemmas.Bool.{true≢false}
 use Rattle.std.proofs.lemmas.List.{drop_more}
 use Rattle.std.specs.List.{list_any}

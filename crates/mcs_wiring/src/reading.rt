@@ -10,7 +10,9 @@ ghost use Rattle.mcs_wiring.specs.Wiring.{has_unknown_key, has_missing_key, has_
 ghost use Rattle.mcs_wiring.specs.Flaws.{has_flaw, IsWithinLimits};
 
 use crate::fault::WiringFault;
-use crate::parts::{chain, chains, has_bad_columns, has_bad_numbers, lamp, lamps, matrix, ram, rams, rom, roms};
+use crate::parts::{
+    chain, chains, has_bad_columns, has_bad_numbers, lamp, lamps, matrix, ram, rams, rom, roms,
+};
 use crate::sections::{Flaw, Numbered, Section, is_board_key};
 use crate::values::{count_at, has_no_array_at, lacks, member, values_at};
 use mcs_model::board::{Board, BoardParts, KeyMatrix};

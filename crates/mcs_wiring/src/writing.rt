@@ -93,7 +93,10 @@ fn push_matrix(out: &mut String, keys: &KeyMatrix) -> Result<(), AllocError>
     ensures { OnOk result (string_bytes out.new ≡ string_bytes out.old ++ text_of (matrix_lines keys.now)) }
 {
     let (chain, first, rows) = (keys.chain, keys.first, keys.rows);
-    write!(out, "[keys]\nchain = {chain}\nfirst = {first}\nrows = {rows}\ncolumns = [")?;
+    write!(
+        out,
+        "[keys]\nchain = {chain}\nfirst = {first}\nrows = {rows}\ncolumns = ["
+    )?;
     push_names(out, keys.columns.as_slice())?;
     out.push_str("]\n")?;
     Ok(())

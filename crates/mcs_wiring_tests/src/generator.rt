@@ -1,5 +1,6 @@
 //! Boards that a seeded generator makes.
 ghost use Rattle.std.specs.Prelude.{◌<◌};
+
 use arrayvec::ArrayVec;
 use mcs_model::board::{Board, BoardParts, ChainPart, KeyMatrix, Line};
 use mcs_nibble::LineMask;
@@ -139,23 +140,29 @@ impl Numbers {
         for bank in banks.iter_mut() {
             *bank = self.below(5);
         }
-        let chips = valid(rt, BoardParts {
-            roms,
-            banks,
-            chains: ArrayVec::new(),
-            keys: None,
-            lamps: ArrayVec::new(),
-        });
+        let chips = valid(
+            rt,
+            BoardParts {
+                roms,
+                banks,
+                chains: ArrayVec::new(),
+                keys: None,
+                lamps: ArrayVec::new(),
+            },
+        );
         let chains = self.chains(&chips);
         let keys = self.keys(&chips, chains.as_slice());
         let lamps = self.lamps(&chips, chains.as_slice());
-        valid(rt, BoardParts {
-            roms,
-            banks,
-            chains,
-            keys,
-            lamps,
-        })
+        valid(
+            rt,
+            BoardParts {
+                roms,
+                banks,
+                chains,
+                keys,
+                lamps,
+            },
+        )
     }
 }
 

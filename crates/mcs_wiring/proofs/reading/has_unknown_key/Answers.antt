@@ -1,8 +1,7 @@
-use Rattle.std.proofs.Common.{◌≡◌, ◌∙◌, sym, ap, not, ◌||◌, refl}
-use Rattle.std.specs.List.{list_any}
+use Rattle.std.proofs.Common.{◌∙◌, sym, ap, not, ◌||◌, refl}
 use Rattle.toml.specs.View.{table_view}
 use Rattle.mcs_wiring.specs.Format.{is_board_key}
-use Rattle.mcs_wiring.specs.Wiring.{keys_of, any_section, has_other_key}
+use Rattle.mcs_wiring.specs.Wiring.{any_section, has_other_key}
 use Rattle.mcs_wiring.proofs.Seen.{any_key_seen}
 use Rattle.mcs_wiring.proofs.reading.has_unknown_key.Goals as goal
 
