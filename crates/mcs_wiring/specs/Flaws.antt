@@ -1,13 +1,16 @@
 -- What the clauses of private functions cite.
-use Rattle.std.specs.Prelude.{ℕ, ◌≤◌, Bool, List, length, codes, slice_index}
+use Rattle.std.specs.Prelude.{ℕ, ◌≤◌, Bool, List, length, codes, slice_index, Option, Some, None, Result, Ok, Err}
 use Rattle.std.specs.List.{flat_map, range_with_len}
 use Rattle.toml.specs.Data.{Data, Members}
 use Rattle.mcs_model.specs.declared.limits.TheConstants.{ROMS, BANKS, CHAINS, KEY_COLUMNS, LAMPS}
+use Rattle.mcs_model.specs.declared.board.BoardFault.{BoardFault}
 use Rattle.mcs_model.specs.declared.board.BoardParts.{BoardParts}
 use Rattle.mcs_model.specs.Boards.{masks_on}
+use Rattle.mcs_wiring.specs.declared.fault.WiringFault.{WiringFault}
 use Rattle.mcs_wiring.specs.declared.sections.Flaw.{Flaw}
 use Rattle.mcs_wiring.specs.declared.sections.Flaw.TheVariants.{UnknownKey, MissingKey, BadValue}
 use Rattle.mcs_wiring.specs.declared.sections.Section.{Section}
+use Rattle.mcs_wiring.specs.Refusals.{refusal_of}
 use Rattle.mcs_wiring.specs.BoardText.{rom_lines, ram_lines, text_of}
 use Rattle.mcs_wiring.specs.Wiring.{has_other_key, lacks_key, is_malformed, values_at, column_values}
 
@@ -37,3 +40,8 @@ ram_text b bank = text_of (ram_lines bank (slice_index b.banks bank))
 
 abbrev pub rams_text : BoardParts → ℕ → List ℕ
 rams_text b n = flat_map (ram_text b) (range_with_len 0 n)
+
+-- the board of parts, or the refusal of what is wrong with them
+abbrev pub judged : BoardParts → Option BoardFault → Result BoardParts WiringFault
+judged parts None = Ok parts
+judged parts (Some fault) = Err (refusal_of fault)

@@ -1,26 +1,24 @@
 -- The board that a table describes, or the first refusal that holds of it (our own choice).
-use Rattle.std.specs.Prelude.{◌≡◌, ℕ, ℤ, pos, negsuc, Bool, true, false, not, ◌&&◌, ◌||◌, List, [], ◌∷◌, length, Option, Some, None, is_none, Result, Ok, Err, nat_lt, nat_le, ◌==◌, if◌then◌else◌, codes}
-use Rattle.std.specs.List.{list_any, filter_map}
+use Rattle.std.specs.Prelude.{◌≡◌, ℕ, ◌+◌, ℤ, pos, negsuc, Bool, true, false, not, ◌&&◌, ◌||◌, List, [], ◌∷◌, length, map, Option, Some, None, is_none, option_map, Result, Ok, Err, nat_lt, nat_le, ◌==◌, if◌then◌else◌, codes}
+use Rattle.std.specs.List.{list_any, filter_map, find}
 use Rattle.std.specs.Option.{option_to_list, option_map_or}
 use Rattle.toml.specs.Data.{Data, array, table, Items, no_items, item, Members, no_members, member, get_member, as_str, as_integer, as_array, as_table}
 use Rattle.toml.specs.Parse.{parse_document}
 use Rattle.mcs_nibble.specs.declared.lines.LineMask.{LineMask}
 use Rattle.mcs_nibble.specs.Tabled.{tabled}
-use Rattle.mcs_model.specs.declared.board.BoardFault.{BoardFault}
 use Rattle.mcs_model.specs.declared.board.BoardParts.{BoardParts}
 use Rattle.mcs_model.specs.declared.board.ChainPart.{ChainPart}
 use Rattle.mcs_model.specs.declared.board.KeyMatrix.{KeyMatrix}
 use Rattle.mcs_model.specs.declared.board.Line.{Line}
-use Rattle.mcs_model.specs.declared.limits.TheConstants.{ROMS, BANKS, CHAINS, KEY_COLUMNS, LAMPS}
-use Rattle.mcs_model.specs.Boards.{fault_of}
+use Rattle.mcs_model.specs.declared.limits.TheConstants.{ROMS, BANKS, BANK_CHIPS, CHAINS, CHAIN_CHIPS, CHAIN_BITS, KEY_ROWS, KEY_COLUMNS, LAMPS}
+use Rattle.mcs_model.specs.Boards.{lacks_line, has_wrong_direction}
 use Rattle.mcs_wiring.specs.declared.fault.WiringFault.{WiringFault}
-use Rattle.mcs_wiring.specs.declared.fault.WiringFault.TheVariants.{BadToml, UnknownKey, MissingKey, BadValue, TooManyParts, DoubleChip, NoMemory}
+use Rattle.mcs_wiring.specs.declared.fault.WiringFault.TheVariants.{BadToml, UnknownKey, MissingKey, BadValue, TooManyParts, DoubleChip, NoSuchLine, WrongDirection, NoMemory}
 use Rattle.mcs_wiring.specs.declared.sections.Numbered.{Numbered}
 use Rattle.mcs_wiring.specs.declared.sections.Section.{Section}
 use Rattle.mcs_wiring.specs.declared.sections.Section.TheVariants.{Rom, Ram, Chain, Keys, Lamp}
 use Rattle.mcs_wiring.specs.Format.{sections, section_key, table_keys, is_board_key, is_section_key}
 use Rattle.mcs_wiring.specs.Names.{◌>>=◌, line_named, masks_named}
-use Rattle.mcs_wiring.specs.Refusals.{refusal_of}
 
 -- ---- what stands in a table
 
@@ -208,13 +206,12 @@ parts_of ms = record {
   lamps = record { items = filter_map (told lamp_in) (values_at (codes "lamp") ms) };
 }
 
--- the board of these parts, or 25 or 26 (their numbers are in range)
-abbrev pub judged : BoardParts → Option BoardFault → Result BoardParts WiringFault
-judged parts None = Ok parts
-judged parts (Some fault) = Err (refusal_of fault)
-
+-- the board of these parts; 25: a line, a chain or a row's bit that is not there; 26: a line of the wrong direction
 abbrev pub board_of_parts : BoardParts → Result BoardParts WiringFault
-board_of_parts parts = judged parts (fault_of parts)
+board_of_parts parts =
+    if lacks_line parts then Err NoSuchLine
+    else if has_wrong_direction parts then Err WrongDirection
+    else Ok parts
 
 -- the board of a table that has nothing of 21, 22, 23 and 27
 abbrev pub board_of_counted : Members → Result BoardParts WiringFault
