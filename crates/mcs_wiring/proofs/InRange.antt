@@ -1,0 +1,277 @@
+-- The parts that a table tells have numbers in their ranges.
+use Rattle.std.proofs.Common.{◌≡◌, ℕ, ◌<◌, ◌≤◌, ℤ, pos, negsuc, Bool, true, false, not, ◌||◌, ◌&&◌, List, [], ◌∷◌, length, map, codes, Option, Some, None, is_none, option_and_then, Result, Ok, Err, if◌then◌else◌, eqb, ltb, leb, refl, sym, ap, ◌∙◌, arith}
+use Rattle.std.proofs.lemmas.Bool.{and_parts, true≢false, leb-true, le-leb, le-ltb, lt-ltb}
+use Rattle.std.proofs.lemmas.Option.{same_Some}
+use Rattle.std.specs.List.{list_any, filter_map, cons_option, range_with_len}
+use Rattle.std.specs.Option.{option_to_list, option_map_or}
+use Rattle.toml.specs.Data.{Data, Members, get_member, as_integer, as_str, as_table}
+use Rattle.mcs_nibble.specs.declared.lines.LineMask.{LineMask}
+use Rattle.mcs_nibble.specs.Tabled.{tabled}
+use Rattle.mcs_model.specs.declared.board.BoardParts.{BoardParts}
+use Rattle.mcs_model.specs.declared.board.ChainPart.{ChainPart}
+use Rattle.mcs_model.specs.declared.board.KeyMatrix.{KeyMatrix}
+use Rattle.mcs_model.specs.declared.board.Line.{Line}
+use Rattle.mcs_model.specs.declared.board.Line.TheVariants as line
+use Rattle.mcs_model.specs.declared.limits.TheConstants.{ROMS, BANKS, BANK_CHIPS, CHAINS, CHAIN_BITS}
+use Rattle.mcs_model.specs.Boards as boards
+use Rattle.mcs_model.specs.declared.board.BoardFault.TheVariants as fault
+use Rattle.mcs_wiring.specs.declared.fault.WiringFault.{WiringFault}
+use Rattle.mcs_wiring.specs.declared.fault.WiringFault.TheVariants.{NoSuchLine, WrongDirection}
+use Rattle.mcs_wiring.specs.Flaws.{judged}
+use Rattle.mcs_wiring.specs.declared.sections.Numbered.{Numbered}
+use Rattle.mcs_wiring.specs.declared.sections.Section.{Section}
+use Rattle.mcs_wiring.specs.declared.sections.Section.TheVariants.{Rom, Ram, Chain, Keys, Lamp}
+use Rattle.mcs_wiring.specs.Names.{is_digit, if_below, number_below, behind, rom_line, ram_line, chain_line, line_named, around_dot}
+use Rattle.mcs_wiring.specs.Wiring.{if_within, number_at, line_of, line_at, told, ram_in, chain_in, matrix_in, lamp_in, values_at, is_no_line, are_bad_columns, has_bad_columns, is_malformed, has_bad_value, section_values, any_section, lacks_array, keys_table, part_at, rams_of, parts_of, board_of_parts}
+use Rattle.mcs_wiring.specs.Format.{sections}
+
+-- ---- what a step of a reading had
+
+bound : {A B : Type 0} (o : Option A) (f : A → Option B) (y : B) → option_and_then f o ≡ Some y → (x : A) × (o ≡ Some x) × (f x ≡ Some y)
+bound None f y e = cc
+bound (Some x) f y e = (x, refl, e)
+
+picked : (b : Bool) (k n : ℕ) → (if b then Some k else None) ≡ Some n → (b ≡ true) × (k ≡ n)
+picked true k n e = (refl, same_Some k n e)
+picked false k n e = cc
+
+neither : (a b : Bool) → (a || b) ≡ false → (a ≡ false) × (b ≡ false)
+neither true b h = absurd (true≢false h)
+neither false b h = (refl, h)
+
+-- ---- numbers
+
+within_bounds : (least most : ℕ) (z : ℤ) (n : ℕ) → if_within least most z ≡ Some n → (least ≤ n) × (n ≤ most)
+within_bounds least most (pos k) n e =
+    let (test, same) = picked (leb least k && leb k most) k n e in
+    let (low, high) = and_parts (leb least k) (leb k most) test in
+    let low' : least ≤ k = leb-true least k low in
+    let high' : k ≤ most = leb-true k most high in
+    (omega arith, omega arith)
+within_bounds least most (negsuc k) n e = cc
+
+number_bounds : (key : List ℕ) (least most : ℕ) (ms : Members) (n : ℕ) → number_at key least most ms ≡ Some n → (least ≤ n) × (n ≤ most)
+number_bounds key least most ms n e =
+    let (z, _, read) = bound (option_and_then as_integer (get_member key ms)) (if_within least most) n e in
+    within_bounds least most z n read
+
+below_bound : (b : Bool) (limit k n : ℕ) → (if b then if_below limit k else None) ≡ Some n → ltb n limit ≡ true
+below_bound true limit k n e = let (test, same) = picked (ltb k limit) k n e in rw (← same) test
+below_bound false limit k n e = cc
+
+named_below : (limit : ℕ) (text : List ℕ) (n : ℕ) → number_below limit text ≡ Some n → ltb n limit ≡ true
+named_below limit [] n e = cc
+named_below limit (d ∷ []) n e = below_bound (is_digit d) limit _ n e
+named_below limit (t ∷ d ∷ []) n e = below_bound ((is_digit t && is_digit d) && not (eqb t 48)) limit _ n e
+named_below limit (a ∷ b ∷ c ∷ rest) n e = cc
+
+-- ---- lines
+
+rom_in_range : (text : List ℕ) (l : Line) → rom_line text ≡ Some l → boards.in_range l ≡ true
+rom_in_range text l e =
+    let (p, _, e1) = bound (around_dot text) _ l e in
+    let (chip, chip_is, e2) = bound (number_below ROMS p.0) _ l e1 in
+    let (k, k_is, e3) = bound (number_below 4 p.1) _ l e2 in
+    let same : line.Rom chip k ≡ l = same_Some (line.Rom chip k) l e3 in
+    let here : boards.in_range (line.Rom chip k) ≡ true = rw (named_below ROMS p.0 chip chip_is, named_below 4 p.1 k k_is) refl in
+    ap boards.in_range (sym same) ∙ here
+
+ram_in_range : (text : List ℕ) (l : Line) → ram_line text ≡ Some l → boards.in_range l ≡ true
+ram_in_range text l e =
+    let (p, _, e1) = bound (around_dot text) _ l e in
+    let (q, _, e2) = bound (around_dot p.1) _ l e1 in
+    let (bank, bank_is, e3) = bound (number_below BANKS p.0) _ l e2 in
+    let (chip, chip_is, e4) = bound (number_below BANK_CHIPS q.0) _ l e3 in
+    let (k, k_is, e5) = bound (number_below 4 q.1) _ l e4 in
+    let same : line.Ram bank chip k ≡ l = same_Some (line.Ram bank chip k) l e5 in
+    let here : boards.in_range (line.Ram bank chip k) ≡ true = rw (named_below BANKS p.0 bank bank_is, named_below BANK_CHIPS q.0 chip chip_is, named_below 4 q.1 k k_is) refl in
+    ap boards.in_range (sym same) ∙ here
+
+chain_in_range : (text : List ℕ) (l : Line) → chain_line text ≡ Some l → boards.in_range l ≡ true
+chain_in_range text l e =
+    let (p, _, e1) = bound (around_dot text) _ l e in
+    let (n, n_is, e2) = bound (number_below CHAINS p.0) _ l e1 in
+    let (i, i_is, e3) = bound (number_below CHAIN_BITS p.1) _ l e2 in
+    let same : line.Chain n i ≡ l = same_Some (line.Chain n i) l e3 in
+    let here : boards.in_range (line.Chain n i) ≡ true = rw (named_below CHAINS p.0 n n_is, named_below CHAIN_BITS p.1 i i_is) refl in
+    ap boards.in_range (sym same) ∙ here
+
+named_in_range : (a b c : Option (List ℕ)) (l : Line)
+    → (elim a [ Some rest ↦ rom_line rest | None ↦ elim b [ Some rest ↦ ram_line rest | None ↦ option_and_then chain_line c ] ]) ≡ Some l → boards.in_range l ≡ true
+named_in_range (Some rest) b c l e = rom_in_range rest l e
+named_in_range None (Some rest) c l e = ram_in_range rest l e
+named_in_range None None c l e = let (rest, _, read) = bound c chain_line l e in chain_in_range rest l read
+
+line_in_range : (text : List ℕ) (l : Line) → line_named text ≡ Some l → boards.in_range l ≡ true
+line_in_range text l e = named_in_range (behind (codes "rom") text) (behind (codes "ram") text) (behind (codes "chain") text) l e
+
+-- whether a line is out of range: never
+abbrev is_out : Line → Bool
+is_out l = not (boards.in_range l)
+
+of_in_range : (d : Data) (l : Line) → line_of d ≡ Some l → is_out l ≡ false
+of_in_range d l e = let (text, _, read) = bound (as_str d) line_named l e in ap not (line_in_range text l read)
+
+at_in_range : (key : List ℕ) (ms : Members) (l : Line) → line_at key ms ≡ Some l → is_out l ≡ false
+at_in_range key ms l e = let (d, _, read) = bound (get_member key ms) line_of l e in of_in_range d l read
+
+-- ---- lists of parts
+
+one_more : {Y : Type 0} (q : Y → Bool) (o : Option Y) (ys : List Y) → ((y : Y) → o ≡ Some y → q y ≡ false) → list_any q ys ≡ false → list_any q (cons_option o ys) ≡ false
+one_more q None ys h e = e
+one_more q (Some y) ys h e = rw (h y refl) e
+
+none_of : {X Y : Type 0} (q : Y → Bool) (f : X → Option Y) → ((x : X) (y : Y) → f x ≡ Some y → q y ≡ false) → (xs : List X) → list_any q (filter_map f xs) ≡ false
+none_of q f h [] = refl
+none_of q f h (x ∷ xs) = one_more q (f x) (filter_map f xs) (h x) (none_of q f h xs)
+
+any-map : {X Y : Type 0} (q : Y → Bool) (f : X → Y) → ((x : X) → q (f x) ≡ false) → (xs : List X) → list_any q (map f xs) ≡ false
+any-map q f h [] = refl
+any-map q f h (x ∷ xs) = rw (h x) (any-map q f h xs)
+
+any-tabled : {Y : Type 0} (q : Y → Bool) (f : ℕ → Y) → ((k : ℕ) → q (f k) ≡ false) → (n : ℕ) → list_any q (tabled n f) ≡ false
+unfolding tabled
+any-tabled q f h n = any-map q f h (range_with_len 0 n)
+
+abbrev above : ℕ → Bool
+above n = ltb BANK_CHIPS n
+
+-- ---- banks
+
+ram_within : (d : Data) (p : Numbered ℕ) → told ram_in d ≡ Some p → above p.part ≡ false
+ram_within d p e =
+    let (ms, _, e1) = bound (as_table d) ram_in p e in
+    let (bank, _, e2) = bound (number_at (codes "bank") 0 7 ms) _ p e1 in
+    let (chips, chips_is, e3) = bound (number_at (codes "chips") 1 4 ms) _ p e2 in
+    let made : Numbered ℕ = record { number = bank; part = chips } in
+    let same : made ≡ p = same_Some made p e3 in
+    let (low, high) = number_bounds (codes "chips") 1 4 ms chips chips_is in
+    ap (λ (q : Numbered ℕ). above q.part) (sym same) ∙ le-ltb 4 chips high
+
+chosen : (b : Bool) (x y : ℕ) → above x ≡ false → above y ≡ false → above (if b then x else y) ≡ false
+chosen true x y h k = h
+chosen false x y h k = k
+
+part_within : (ps : List (Numbered ℕ)) (n : ℕ) → list_any (λ p. above p.part) ps ≡ false → above (part_at 0 ps n) ≡ false
+part_within [] n h = refl
+part_within (p ∷ ps) n h =
+    let (here, later) = neither (above p.part) (list_any (λ (q : Numbered ℕ). above q.part) ps) h in
+    chosen (eqb p.number n) p.part (part_at 0 ps n) here (part_within ps n later)
+
+banks_within : (ms : Members) → list_any above (parts_of ms).banks ≡ false
+banks_within ms =
+    let rams = none_of (λ (p : Numbered ℕ). above p.part) (told ram_in) ram_within (values_at (codes "ram") ms) in
+    any-tabled above (part_at 0 (rams_of ms)) (λ k. part_within (rams_of ms) k rams) BANKS
+
+-- ---- chains
+
+chain_right : (d : Data) (c : ChainPart) → told chain_in d ≡ Some c → (not (boards.is_chain_size c) ≡ false) × ((is_out c.clock || is_out c.data_in) ≡ false)
+chain_right d c e =
+    let (ms, _, e1) = bound (as_table d) chain_in c e in
+    let (clock, clock_is, e2) = bound (line_at (codes "clock") ms) _ c e1 in
+    let (data_in, data_is, e3) = bound (line_at (codes "data") ms) _ c e2 in
+    let (chips, chips_is, e4) = bound (number_at (codes "chips") 1 4 ms) _ c e3 in
+    let made : ChainPart = record { clock = clock; data_in = data_in; chips = chips } in
+    let same : made ≡ c = same_Some made c e4 in
+    let (low, high) = number_bounds (codes "chips") 1 4 ms chips chips_is in
+    let some : ltb 0 chips ≡ true = lt-ltb 0 chips low in
+    let few : leb chips 4 ≡ true = le-leb chips 4 high in
+    let sized : not (ltb 0 chips && leb chips 4) ≡ false = rw (some, few) refl in
+    let lines : (is_out clock || is_out data_in) ≡ false = rw (at_in_range (codes "clock") ms clock clock_is, at_in_range (codes "data") ms data_in data_is) refl in
+    (ap (λ (x : ChainPart). not (boards.is_chain_size x)) (sym same) ∙ sized, ap (λ (x : ChainPart). is_out x.clock || is_out x.data_in) (sym same) ∙ lines)
+
+-- ---- the key matrix
+
+some_first : (o : Option Line) (ls : List Line) → is_none o ≡ false → 0 < length (cons_option o ls)
+some_first None ls h = absurd (true≢false h)
+some_first (Some l) ls h = omega arith
+
+some_columns : (ds : List Data) → are_bad_columns ds ≡ false → 0 < length (filter_map line_of ds)
+some_columns [] h = absurd (true≢false h)
+some_columns (d ∷ ds) h =
+    let (here, later) = neither (is_no_line d) (list_any is_no_line ds) h in
+    some_first (line_of d) (filter_map line_of ds) here
+
+abbrev IsRightMatrix : KeyMatrix → Type 0
+IsRightMatrix m = (not (boards.is_matrix_size m) ≡ false) × (list_any is_out m.columns.items ≡ false)
+
+matrix_right : (t : Members) (m : KeyMatrix) → matrix_in t ≡ Some m → has_bad_columns t ≡ false → IsRightMatrix m
+matrix_right t m e good =
+    let (chain, chain_is, e1) = bound (number_at (codes "chain") 0 1 t) _ m e in
+    let (first, first_is, e2) = bound (number_at (codes "first") 0 39 t) _ m e1 in
+    let (rows, rows_is, e3) = bound (number_at (codes "rows") 1 10 t) _ m e2 in
+    let values = values_at (codes "columns") t in
+    let made : KeyMatrix = record { chain = chain; first = first; rows = rows; columns = record { items = filter_map line_of values } } in
+    let same : made ≡ m = same_Some made m e3 in
+    let (_, chain_high) = number_bounds (codes "chain") 0 1 t chain chain_is in
+    let (_, first_high) = number_bounds (codes "first") 0 39 t first first_is in
+    let (rows_low, rows_high) = number_bounds (codes "rows") 1 10 t rows rows_is in
+    let a : ltb chain 2 ≡ true = lt-ltb chain 2 (omega arith) in
+    let b : ltb first 40 ≡ true = lt-ltb first 40 (omega arith) in
+    let c : ltb 0 rows ≡ true = lt-ltb 0 rows rows_low in
+    let d : leb rows 10 ≡ true = le-leb rows 10 rows_high in
+    let f : ltb 0 (length (filter_map line_of values)) ≡ true = lt-ltb 0 _ (some_columns values good) in
+    let sized : not (boards.is_matrix_size made) ≡ false = rw (a, b, c, d, f) refl in
+    let lines : list_any is_out made.columns.items ≡ false = none_of is_out line_of of_in_range values in
+    (ap (λ (x : KeyMatrix). not (boards.is_matrix_size x)) (sym same) ∙ sized, ap (λ (x : KeyMatrix). list_any is_out x.columns.items) (sym same) ∙ lines)
+
+abbrev IsRight : Option KeyMatrix → Type 0
+IsRight k =
+    ((elim k [ Some m ↦ not (boards.is_matrix_size m) | None ↦ false ]) ≡ false)
+    × ((elim k [ Some m ↦ list_any is_out m.columns.items | None ↦ false ]) ≡ false)
+
+right_keys : (k : Option KeyMatrix) → ((m : KeyMatrix) → k ≡ Some m → IsRightMatrix m) → IsRight k
+right_keys None h = (refl, refl)
+right_keys (Some m) h = h m refl
+
+good_columns : (o : Option Data) (t : Members) → list_any (is_malformed Keys) (option_to_list o) ≡ false → option_and_then as_table o ≡ Some t → has_bad_columns t ≡ false
+good_columns None t h e = cc
+good_columns (Some d) t h e =
+    let (bad, _) = neither (is_malformed Keys d) false h in
+    let (_, columns) = neither (is_none (told matrix_in d)) (option_map_or has_bad_columns (as_table d) true) bad in
+    ap (λ o. option_map_or has_bad_columns o true) (sym e) ∙ columns
+
+keys_right : (ms : Members) → has_bad_value ms ≡ false → IsRight (parts_of ms).keys
+keys_right ms h =
+    let any = λ (s : Section). list_any (is_malformed s) (section_values s ms) in
+    let (_, h1) = neither (list_any (lacks_array ms) sections) (any_section is_malformed ms) h in
+    let (_, h2) = neither (any Rom) (any Ram || (any Chain || (any Keys || (any Lamp || false)))) h1 in
+    let (_, h3) = neither (any Ram) (any Chain || (any Keys || (any Lamp || false))) h2 in
+    let (_, h4) = neither (any Chain) (any Keys || (any Lamp || false)) h3 in
+    let (h5, _) = neither (any Keys) (any Lamp || false) h4 in
+    right_keys (option_and_then matrix_in (keys_table ms)) (λ m e.
+    let (t, t_is, read) = bound (keys_table ms) matrix_in m e in
+    matrix_right t m read (good_columns (get_member (codes "keys") ms) t h5 t_is))
+
+-- ---- all parts
+
+lamp_right : (d : Data) (l : Line) → told lamp_in d ≡ Some l → is_out l ≡ false
+lamp_right d l e = let (ms, _, read) = bound (as_table d) lamp_in l e in at_in_range (codes "line") ms l read
+
+all_false : (a b c d e f : Bool) → a ≡ false → b ≡ false → c ≡ false → d ≡ false → e ≡ false → f ≡ false → (((a || b) || c) || ((d || e) || f)) ≡ false
+all_false a b c d e f ha hb hc hd he hf = rw (ha, hb, hc, hd, he, hf) refl
+
+pub in_range : (ms : Members) → has_bad_value ms ≡ false → boards.has_bad_value (parts_of ms) ≡ false
+in_range ms h =
+    let b = parts_of ms in
+    let chains = values_at (codes "chain") ms in
+    let keys = keys_right ms h in
+    all_false (list_any above b.banks) (list_any (λ c. not (boards.is_chain_size c)) b.chains.items) (boards.has_bad_matrix b)
+    (boards.any_chain_line is_out b) (boards.any_column is_out b) (boards.any_lamp is_out b)
+    (banks_within ms) (none_of (λ c. not (boards.is_chain_size c)) (told chain_in) (λ d c e. (chain_right d c e).0) chains) keys.0
+    (none_of (λ (c : ChainPart). is_out c.clock || is_out c.data_in) (told chain_in) (λ d c e. (chain_right d c e).1) chains) keys.1
+    (none_of is_out (told lamp_in) lamp_right (values_at (codes "lamp") ms))
+
+judged_tests : (b : BoardParts) (bad lacks wrong : Bool) → bad ≡ false
+    → judged b (if bad then Some fault.BadValue else if lacks then Some fault.NoSuchLine else if wrong then Some fault.WrongDirection else None)
+    ≡ (if lacks then Err NoSuchLine else if wrong then Err WrongDirection else Ok b)
+judged_tests b true lacks wrong h = absurd (true≢false h)
+judged_tests b false true wrong h = refl
+judged_tests b false false true h = refl
+judged_tests b false false false h = refl
+
+-- nothing but 25 and 26 can be wrong with the parts
+pub judged_parts : (ms : Members) → has_bad_value ms ≡ false → judged (parts_of ms) (boards.fault_of (parts_of ms)) ≡ board_of_parts (parts_of ms)
+judged_parts ms h =
+    let b = parts_of ms in
+    judged_tests b (boards.has_bad_value b) (boards.lacks_line b) (boards.has_wrong_direction b) (in_range ms h)

@@ -1,0 +1,14 @@
+-- A table without too many parts.
+use Rattle.std.proofs.Common.{◌≡◌, ℕ, ◌≤◌, false, ◌||◌, length, codes, ltb, arith}
+use Rattle.std.proofs.lemmas.Bool.Decides.{nat_tests}
+use Rattle.toml.specs.Data.{Members}
+use Rattle.mcs_wiring.specs.Wiring.{has_too_many, values_at, column_values}
+use Rattle.mcs_wiring.specs.Flaws.{IsWithinLimits}
+
+below_all : (a b c d e : ℕ) → ((((ltb 16 a || ltb 8 b) || ltb 2 c) || ltb 8 d) || ltb 64 e) ≡ false → (a ≤ 16) × (b ≤ 8) × (c ≤ 2) × (d ≤ 8) × (e ≤ 64)
+below_all a b c d e h = (grind (arith, nat_tests), grind (arith, nat_tests), grind (arith, nat_tests), grind (arith, nat_tests), grind (arith, nat_tests))
+
+pub within : (ms : Members) → has_too_many ms ≡ false → IsWithinLimits ms
+within ms h =
+    let all = below_all (length (values_at (codes "rom") ms)) (length (values_at (codes "ram") ms)) (length (values_at (codes "chain") ms)) (length (column_values ms)) (length (values_at (codes "lamp") ms)) h in
+    record { roms = all.0; banks = all.1; chains = all.2; columns = all.3; lamps = all.4 }

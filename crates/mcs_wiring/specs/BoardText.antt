@@ -1,0 +1,78 @@
+-- The text of a board, line by line, and the answer to the query `board` (our own choice).
+use Rattle.std.specs.Prelude.{ℕ, nat_lt, List, [], ◌∷◌, ◌++◌, Option, Some, None, codes, slice_index, if◌then◌else◌}
+use Rattle.std.specs.List.{flat_map, join_by, range_with_len}
+use Rattle.std.specs.Option.{option_map_or}
+use Rattle.std.specs.Fmt.{decimal}
+use Rattle.mcs_nibble.specs.declared.lines.LineMask.{LineMask}
+use Rattle.mcs_model.specs.declared.board.BoardParts.{BoardParts}
+use Rattle.mcs_model.specs.declared.board.ChainPart.{ChainPart}
+use Rattle.mcs_model.specs.declared.board.KeyMatrix.{KeyMatrix}
+use Rattle.mcs_model.specs.declared.board.Line.{Line}
+use Rattle.mcs_model.specs.declared.limits.TheConstants.{ROMS, BANKS}
+use Rattle.mcs_model.specs.Boards.{masks_on}
+use Rattle.mcs_model.specs.Text.{as_line}
+use Rattle.mcs_wiring.specs.Names.{line_name, port_name}
+
+-- `key = value`
+abbrev pub entry : List ℕ → List ℕ → List ℕ
+entry key value = key ++ (codes " = " ++ value)
+
+abbrev pub quoted : List ℕ → List ℕ
+quoted text = codes "\"" ++ (text ++ codes "\"")
+
+abbrev pub quoted_name : Line → List ℕ
+quoted_name line = quoted (line_name line)
+
+-- the lines of a ROM, where the board has it
+abbrev pub rom_lines : ℕ → Option (List LineMask) → List (List ℕ)
+rom_lines chip None = []
+rom_lines chip (Some masks) =
+    codes "[[rom]]" ∷ entry (codes "chip") (decimal chip) ∷ entry (codes "port") (quoted (port_name masks)) ∷ []
+
+-- the lines of a bank, where it has chips
+abbrev pub ram_lines : ℕ → ℕ → List (List ℕ)
+ram_lines bank chips =
+    if nat_lt 0 chips
+    then codes "[[ram]]" ∷ entry (codes "bank") (decimal bank) ∷ entry (codes "chips") (decimal chips) ∷ []
+    else []
+
+abbrev pub chain_lines : ChainPart → List (List ℕ)
+chain_lines c =
+    codes "[[chain]]" ∷ entry (codes "clock") (quoted_name c.clock) ∷ entry (codes "data") (quoted_name c.data_in)
+    ∷ entry (codes "chips") (decimal c.chips) ∷ []
+
+-- the names of columns between brackets, separated by `, `
+abbrev pub columns_text : List Line → List ℕ
+columns_text lines = codes "[" ++ (join_by quoted_name (codes ", ") lines ++ codes "]")
+
+abbrev pub matrix_lines : KeyMatrix → List (List ℕ)
+matrix_lines m =
+    codes "[keys]" ∷ entry (codes "chain") (decimal m.chain) ∷ entry (codes "first") (decimal m.first)
+    ∷ entry (codes "rows") (decimal m.rows) ∷ entry (codes "columns") (columns_text m.columns.items) ∷ []
+
+abbrev pub lamp_lines : Line → List (List ℕ)
+lamp_lines line = codes "[[lamp]]" ∷ entry (codes "line") (quoted_name line) ∷ []
+
+-- the lines of a board: the ROMs by rising chip, the RAM by rising bank, the chains, the key matrix, the lamps
+abbrev pub board_lines : BoardParts → List (List ℕ)
+board_lines b =
+    flat_map (λ chip. rom_lines chip (masks_on b chip)) (range_with_len 0 ROMS)
+    ++ (flat_map (λ bank. ram_lines bank (slice_index b.banks bank)) (range_with_len 0 BANKS)
+    ++ (flat_map chain_lines b.chains.items
+    ++ (option_map_or matrix_lines b.keys []
+    ++ flat_map lamp_lines b.lamps.items)))
+
+-- lines as a text, each ended by LF
+abbrev pub text_of : List (List ℕ) → List ℕ
+text_of lines = flat_map as_line lines
+
+-- the text of a board
+abbrev pub board_text : BoardParts → List ℕ
+board_text b = text_of (board_lines b)
+
+-- the lines of the answer to the query `board`, and their text
+abbrev pub answer_lines : BoardParts → List (List ℕ)
+answer_lines b = codes "board" ∷ board_lines b
+
+abbrev pub answer_text : BoardParts → List ℕ
+answer_text b = text_of (answer_lines b)

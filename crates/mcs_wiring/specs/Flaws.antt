@@ -1,0 +1,47 @@
+-- What the clauses of private functions cite.
+use Rattle.std.specs.Prelude.{ℕ, ◌≤◌, Bool, List, length, codes, slice_index, Option, Some, None, Result, Ok, Err}
+use Rattle.std.specs.List.{flat_map, range_with_len}
+use Rattle.toml.specs.Data.{Data, Members}
+use Rattle.mcs_model.specs.declared.limits.TheConstants.{ROMS, BANKS, CHAINS, KEY_COLUMNS, LAMPS}
+use Rattle.mcs_model.specs.declared.board.BoardFault.{BoardFault}
+use Rattle.mcs_model.specs.declared.board.BoardParts.{BoardParts}
+use Rattle.mcs_model.specs.Boards.{masks_on}
+use Rattle.mcs_wiring.specs.declared.fault.WiringFault.{WiringFault}
+use Rattle.mcs_wiring.specs.declared.sections.Flaw.{Flaw}
+use Rattle.mcs_wiring.specs.declared.sections.Flaw.TheVariants.{UnknownKey, MissingKey, BadValue}
+use Rattle.mcs_wiring.specs.declared.sections.Section.{Section}
+use Rattle.mcs_wiring.specs.Refusals.{refusal_of}
+use Rattle.mcs_wiring.specs.BoardText.{rom_lines, ram_lines, text_of}
+use Rattle.mcs_wiring.specs.Wiring.{has_other_key, lacks_key, is_malformed, values_at, column_values}
+
+-- whether a value in the place of a section's table has a flaw
+abbrev pub has_flaw : Flaw → Section → Data → Bool
+has_flaw UnknownKey = has_other_key
+has_flaw MissingKey = lacks_key
+has_flaw BadValue = is_malformed
+
+-- there are no more parts of one kind than a board can have
+pub record IsWithinLimits (ms : Members) : Type 0 where
+  pub roms : length (values_at (codes "rom") ms) ≤ ROMS
+  pub banks : length (values_at (codes "ram") ms) ≤ BANKS
+  pub chains : length (values_at (codes "chain") ms) ≤ CHAINS
+  pub columns : length (column_values ms) ≤ KEY_COLUMNS
+  pub lamps : length (values_at (codes "lamp") ms) ≤ LAMPS
+
+-- the texts of the first ROMs of a board, and of its first banks
+abbrev pub rom_text : BoardParts → ℕ → List ℕ
+rom_text b chip = text_of (rom_lines chip (masks_on b chip))
+
+abbrev pub roms_text : BoardParts → ℕ → List ℕ
+roms_text b n = flat_map (rom_text b) (range_with_len 0 n)
+
+abbrev pub ram_text : BoardParts → ℕ → List ℕ
+ram_text b bank = text_of (ram_lines bank (slice_index b.banks bank))
+
+abbrev pub rams_text : BoardParts → ℕ → List ℕ
+rams_text b n = flat_map (ram_text b) (range_with_len 0 n)
+
+-- the board of parts, or the refusal of what is wrong with them
+abbrev pub judged : BoardParts → Option BoardFault → Result BoardParts WiringFault
+judged parts None = Ok parts
+judged parts (Some fault) = Err (refusal_of fault)

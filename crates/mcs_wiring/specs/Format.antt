@@ -1,0 +1,33 @@
+-- The format of a board text: its sections, and the keys of their tables (our own choice).
+use Rattle.std.specs.Prelude.{ℕ, Bool, List, [], ◌∷◌, codes}
+use Rattle.std.specs.List.{list_any}
+use Rattle.std.specs.Str.{bytes_eq}
+use Rattle.mcs_wiring.specs.declared.sections.Section.{Section}
+use Rattle.mcs_wiring.specs.declared.sections.Section.TheVariants.{Rom, Ram, Chain, Keys, Lamp}
+
+-- the sections, as they stand in a board text
+abbrev pub sections : List Section
+sections = Rom ∷ Ram ∷ Chain ∷ Keys ∷ Lamp ∷ []
+
+-- the key of a section at the top
+abbrev pub section_key : Section → List ℕ
+section_key Rom = codes "rom"
+section_key Ram = codes "ram"
+section_key Chain = codes "chain"
+section_key Keys = codes "keys"
+section_key Lamp = codes "lamp"
+
+-- the keys of its tables
+abbrev pub table_keys : Section → List (List ℕ)
+table_keys Rom = codes "chip" ∷ codes "port" ∷ []
+table_keys Ram = codes "bank" ∷ codes "chips" ∷ []
+table_keys Chain = codes "clock" ∷ codes "data" ∷ codes "chips" ∷ []
+table_keys Keys = codes "chain" ∷ codes "first" ∷ codes "rows" ∷ codes "columns" ∷ []
+table_keys Lamp = codes "line" ∷ []
+
+-- whether a key may stand at the top, and in a table of a section
+abbrev pub is_board_key : List ℕ → Bool
+is_board_key key = list_any (λ s. bytes_eq key (section_key s)) sections
+
+abbrev pub is_section_key : Section → List ℕ → Bool
+is_section_key s key = list_any (bytes_eq key) (table_keys s)

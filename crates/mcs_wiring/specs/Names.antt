@@ -1,0 +1,97 @@
+-- How a board text names a line of the board, and the port of a ROM (our own choice).
+use Rattle.std.specs.Prelude.{ℕ, ◌+◌, ◌*◌, ◌-◌, Bool, ◌&&◌, not, List, [], ◌∷◌, ◌++◌, length, Option, Some, None, option_and_then, nat_lt, nat_le, ◌==◌, if◌then◌else◌, codes, take, drop}
+use Rattle.std.specs.List.{position_or_len, before_first, after_first}
+use Rattle.std.specs.Str.{bytes_eq}
+use Rattle.std.specs.Fmt.{decimal}
+use Rattle.mcs_nibble.specs.declared.lines.LineMask.{LineMask}
+use Rattle.mcs_nibble.specs.declared.lines.LineMask.TheVariants.{Input, Zero, One}
+use Rattle.mcs_nibble.specs.Ports.{mask_at}
+use Rattle.mcs_model.specs.declared.board.Line.{Line}
+use Rattle.mcs_model.specs.declared.board.Line.TheVariants.{Rom, Ram, Chain}
+use Rattle.mcs_model.specs.declared.limits.TheConstants.{ROMS, BANKS, BANK_CHIPS, CHAINS, CHAIN_BITS}
+
+-- what follows, if there was something before
+infixl 10 ◌>>=◌
+abbrev pub ◌>>=◌ : {A B : Type 0} → Option A → (A → Option B) → Option B
+o >>= f = option_and_then f o
+
+-- ---- numbers
+
+abbrev pub is_digit : ℕ → Bool
+is_digit c = nat_le 48 c && nat_le c 57
+
+abbrev pub if_below : ℕ → ℕ → Option ℕ
+if_below limit n = if nat_lt n limit then Some n else None
+
+-- the number below a limit that one or two decimal digits are, without a leading zero (no number of a line has three)
+abbrev pub number_below : ℕ → List ℕ → Option ℕ
+number_below limit (d ∷ []) = if is_digit d then if_below limit (d - 48) else None
+number_below limit (t ∷ d ∷ []) = if (is_digit t && is_digit d) && not (t == 48) then if_below limit (10 * (t - 48) + (d - 48)) else None
+number_below limit text = None
+
+-- ---- lines: `romC.K`, `ramB.C.K`, `chainN.I`
+
+-- what stands behind a word, if the text begins with it
+abbrev pub behind : List ℕ → List ℕ → Option (List ℕ)
+behind word text = if bytes_eq (take (length word) text) word then Some (drop (length word) text) else None
+
+-- what stands before and behind the first dot
+abbrev pub around_dot : List ℕ → Option (List ℕ × List ℕ)
+around_dot text =
+    if nat_lt (position_or_len (λ b. b == 46) text) (length text)
+    then Some (before_first (λ b. b == 46) text, after_first (λ b. b == 46) text) else None
+
+abbrev pub rom_line : List ℕ → Option Line
+rom_line text =
+    around_dot text >>= (λ (p : List ℕ × List ℕ).
+    number_below ROMS p.0 >>= (λ chip.
+    number_below 4 p.1 >>= (λ k. Some (Rom chip k))))
+
+abbrev pub ram_line : List ℕ → Option Line
+ram_line text =
+    around_dot text >>= (λ (p : List ℕ × List ℕ).
+    around_dot p.1 >>= (λ (q : List ℕ × List ℕ).
+    number_below BANKS p.0 >>= (λ bank.
+    number_below BANK_CHIPS q.0 >>= (λ chip.
+    number_below 4 q.1 >>= (λ k. Some (Ram bank chip k))))))
+
+abbrev pub chain_line : List ℕ → Option Line
+chain_line text =
+    around_dot text >>= (λ (p : List ℕ × List ℕ).
+    number_below CHAINS p.0 >>= (λ n.
+    number_below CHAIN_BITS p.1 >>= (λ i. Some (Chain n i))))
+
+-- the line that a text names, if it has the form of a line
+abbrev pub line_named : List ℕ → Option Line
+line_named text =
+    elim (behind (codes "rom") text) [
+      | Some rest ↦ rom_line rest
+      | None ↦ elim (behind (codes "ram") text) [ Some rest ↦ ram_line rest | None ↦ behind (codes "chain") text >>= chain_line ]
+    ]
+
+-- the name of a line
+abbrev pub line_name : Line → List ℕ
+line_name (Rom chip k) = codes "rom" ++ (decimal chip ++ (codes "." ++ decimal k))
+line_name (Ram bank chip k) = codes "ram" ++ (decimal bank ++ (codes "." ++ (decimal chip ++ (codes "." ++ decimal k))))
+line_name (Chain n i) = codes "chain" ++ (decimal n ++ (codes "." ++ decimal i))
+
+-- ---- ports: four characters, line 3 first
+
+-- `i` an input line, `0` and `1` an output line that is read as 0 and as 1
+abbrev pub mask_of : ℕ → Option LineMask
+mask_of c = if c == 105 then Some Input else if c == 48 then Some Zero else if c == 49 then Some One else None
+
+abbrev pub mask_code : LineMask → ℕ
+mask_code Input = 105
+mask_code Zero = 48
+mask_code One = 49
+
+-- the masks of a port, line 0 first, that a text names
+abbrev pub masks_named : List ℕ → Option (List LineMask)
+masks_named (c3 ∷ c2 ∷ c1 ∷ c0 ∷ []) =
+    mask_of c0 >>= (λ m0. mask_of c1 >>= (λ m1. mask_of c2 >>= (λ m2. mask_of c3 >>= (λ m3. Some (m0 ∷ m1 ∷ m2 ∷ m3 ∷ [])))))
+masks_named text = None
+
+-- the name of a port
+abbrev pub port_name : List LineMask → List ℕ
+port_name masks = mask_code (mask_at masks 3) ∷ mask_code (mask_at masks 2) ∷ mask_code (mask_at masks 1) ∷ mask_code (mask_at masks 0) ∷ []

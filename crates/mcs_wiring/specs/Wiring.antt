@@ -1,0 +1,237 @@
+-- The board that a table describes, or the first refusal that holds of it (our own choice).
+use Rattle.std.specs.Prelude.{◌≡◌, ℕ, ◌+◌, ℤ, pos, negsuc, Bool, true, false, not, ◌&&◌, ◌||◌, List, [], ◌∷◌, length, map, Option, Some, None, is_none, option_map, Result, Ok, Err, nat_lt, nat_le, ◌==◌, if◌then◌else◌, codes}
+use Rattle.std.specs.List.{list_any, filter_map, find}
+use Rattle.std.specs.Option.{option_to_list, option_map_or}
+use Rattle.toml.specs.Data.{Data, array, table, Items, no_items, item, Members, no_members, member, get_member, as_str, as_integer, as_array, as_table}
+use Rattle.toml.specs.Parse.{parse_document}
+use Rattle.mcs_nibble.specs.declared.lines.LineMask.{LineMask}
+use Rattle.mcs_nibble.specs.Tabled.{tabled}
+use Rattle.mcs_model.specs.declared.board.BoardParts.{BoardParts}
+use Rattle.mcs_model.specs.declared.board.ChainPart.{ChainPart}
+use Rattle.mcs_model.specs.declared.board.KeyMatrix.{KeyMatrix}
+use Rattle.mcs_model.specs.declared.board.Line.{Line}
+use Rattle.mcs_model.specs.declared.limits.TheConstants.{ROMS, BANKS, BANK_CHIPS, CHAINS, CHAIN_CHIPS, CHAIN_BITS, KEY_ROWS, KEY_COLUMNS, LAMPS}
+use Rattle.mcs_model.specs.Boards.{lacks_line, has_wrong_direction}
+use Rattle.mcs_wiring.specs.declared.fault.WiringFault.{WiringFault}
+use Rattle.mcs_wiring.specs.declared.fault.WiringFault.TheVariants.{BadToml, UnknownKey, MissingKey, BadValue, TooManyParts, DoubleChip, NoSuchLine, WrongDirection, NoMemory}
+use Rattle.mcs_wiring.specs.declared.sections.Numbered.{Numbered}
+use Rattle.mcs_wiring.specs.declared.sections.Section.{Section}
+use Rattle.mcs_wiring.specs.declared.sections.Section.TheVariants.{Rom, Ram, Chain, Keys, Lamp}
+use Rattle.mcs_wiring.specs.Format.{sections, section_key, table_keys, is_board_key, is_section_key}
+use Rattle.mcs_wiring.specs.Names.{◌>>=◌, line_named, masks_named}
+
+-- ---- what stands in a table
+
+-- the values of an array, in order
+abbrev pub values_of : Items → List Data
+values_of no_items = []
+values_of (item d ds) = d ∷ values_of ds
+
+-- the keys of a table
+abbrev pub keys_of : Members → List (List ℕ)
+keys_of no_members = []
+keys_of (member key d ms) = key ∷ keys_of ms
+
+-- the values of the array at a key; none where no array stands there
+abbrev pub array_values : Option Data → List Data
+array_values (Some (array ds)) = values_of ds
+array_values d = []
+
+abbrev pub values_at : List ℕ → Members → List Data
+values_at key ms = array_values (get_member key ms)
+
+-- the values that stand in the place of a section's tables: at `keys` the one value, else the values of the array
+abbrev pub section_values : Section → Members → List Data
+section_values Keys ms = option_to_list (get_member (codes "keys") ms)
+section_values s ms = values_at (section_key s) ms
+
+-- p holds of some value in the place of some section's table
+abbrev pub any_section : (Section → Data → Bool) → Members → Bool
+any_section p ms = list_any (λ s. list_any (p s) (section_values s ms)) sections
+
+-- ---- 21: a key that is not known, at the top or in a table that stands in its place
+
+abbrev pub has_other_key : Section → Data → Bool
+has_other_key s (table ms) = list_any (λ key. not (is_section_key s key)) (keys_of ms)
+has_other_key s d = false
+
+abbrev pub has_unknown_key : Members → Bool
+has_unknown_key ms = list_any (λ key. not (is_board_key key)) (keys_of ms) || any_section has_other_key ms
+
+-- ---- 22: a table that stands in its place lacks a key
+
+abbrev pub lacks_one_of : List (List ℕ) → Members → Bool
+lacks_one_of names ms = list_any (λ key. is_none (get_member key ms)) names
+
+abbrev pub lacks_key : Section → Data → Bool
+lacks_key s (table ms) = lacks_one_of (table_keys s) ms
+lacks_key s d = false
+
+abbrev pub has_missing_key : Members → Bool
+has_missing_key ms = any_section lacks_key ms
+
+-- ---- 23: a value of another type or form, or a number out of its range
+
+-- a number from `least` to `most`
+abbrev pub if_within : ℕ → ℕ → ℤ → Option ℕ
+if_within least most (pos n) = if nat_le least n && nat_le n most then Some n else None
+if_within least most (negsuc n) = None
+
+abbrev pub number_at : List ℕ → ℕ → ℕ → Members → Option ℕ
+number_at key least most ms = get_member key ms >>= as_integer >>= if_within least most
+
+abbrev pub line_of : Data → Option Line
+line_of d = as_str d >>= line_named
+
+abbrev pub line_at : List ℕ → Members → Option Line
+line_at key ms = get_member key ms >>= line_of
+
+-- a ROM: its chip and its masks
+abbrev pub rom_in : Members → Option (Numbered (Option (List LineMask)))
+rom_in ms =
+    number_at (codes "chip") 0 15 ms >>= (λ chip.
+    get_member (codes "port") ms >>= as_str >>= masks_named >>= (λ masks.
+    Some (record { number = chip; part = Some masks })))
+
+-- a bank of RAM, and how many chips it has
+abbrev pub ram_in : Members → Option (Numbered ℕ)
+ram_in ms =
+    number_at (codes "bank") 0 7 ms >>= (λ bank.
+    number_at (codes "chips") 1 4 ms >>= (λ chips.
+    Some (record { number = bank; part = chips })))
+
+abbrev pub chain_in : Members → Option ChainPart
+chain_in ms =
+    line_at (codes "clock") ms >>= (λ clock.
+    line_at (codes "data") ms >>= (λ data_in.
+    number_at (codes "chips") 1 4 ms >>= (λ chips.
+    Some (record { clock = clock; data_in = data_in; chips = chips }))))
+
+-- a key matrix, but for columns that are no line
+abbrev pub matrix_in : Members → Option KeyMatrix
+matrix_in ms =
+    number_at (codes "chain") 0 1 ms >>= (λ chain.
+    number_at (codes "first") 0 39 ms >>= (λ first.
+    number_at (codes "rows") 1 10 ms >>= (λ rows.
+    Some (record { chain = chain; first = first; rows = rows; columns = record { items = filter_map line_of (values_at (codes "columns") ms) } }))))
+
+-- no array, an empty one, or one with something that is no line
+abbrev pub is_no_line : Data → Bool
+is_no_line d = is_none (line_of d)
+
+abbrev pub are_bad_columns : List Data → Bool
+are_bad_columns [] = true
+are_bad_columns (d ∷ ds) = list_any is_no_line (d ∷ ds)
+
+abbrev pub has_bad_columns : Members → Bool
+has_bad_columns ms = are_bad_columns (values_at (codes "columns") ms)
+
+abbrev pub lamp_in : Members → Option Line
+lamp_in ms = line_at (codes "line") ms
+
+-- what a table tells, if the value is a table that tells it
+abbrev pub told : {A : Type 0} → (Members → Option A) → Data → Option A
+told read d = as_table d >>= read
+
+-- whether a value in the place of a section's table is none of it
+abbrev pub is_malformed : Section → Data → Bool
+is_malformed Rom d = is_none (told rom_in d)
+is_malformed Ram d = is_none (told ram_in d)
+is_malformed Chain d = is_none (told chain_in d)
+is_malformed Keys d = is_none (told matrix_in d) || option_map_or has_bad_columns (as_table d) true
+is_malformed Lamp d = is_none (told lamp_in d)
+
+-- whether no array stands where a section has one
+abbrev pub is_no_array : Option Data → Bool
+is_no_array None = false
+is_no_array (Some d) = is_none (as_array d)
+
+abbrev pub lacks_array : Members → Section → Bool
+lacks_array ms Keys = false
+lacks_array ms s = is_no_array (get_member (section_key s) ms)
+
+abbrev pub has_bad_value : Members → Bool
+has_bad_value ms = list_any (lacks_array ms) sections || any_section is_malformed ms
+
+-- ---- 27: more parts of one kind than a board can have
+
+-- the table at `keys`, if a table stands there
+abbrev pub keys_table : Members → Option Members
+keys_table ms = get_member (codes "keys") ms >>= as_table
+
+abbrev pub matrix_columns : Option Members → List Data
+matrix_columns None = []
+matrix_columns (Some ms) = values_at (codes "columns") ms
+
+abbrev pub column_values : Members → List Data
+column_values ms = matrix_columns (keys_table ms)
+
+abbrev pub has_too_many : Members → Bool
+has_too_many ms =
+    nat_lt ROMS (length (values_at (codes "rom") ms))
+    || nat_lt BANKS (length (values_at (codes "ram") ms))
+    || nat_lt CHAINS (length (values_at (codes "chain") ms))
+    || nat_lt KEY_COLUMNS (length (column_values ms))
+    || nat_lt LAMPS (length (values_at (codes "lamp") ms))
+
+-- ---- 24: two ROMs of one chip, or two entries for one bank
+
+abbrev pub has_double : {A : Type 0} → List (Numbered A) → Bool
+has_double [] = false
+has_double (p ∷ ps) = list_any (λ q. q.number == p.number) ps || has_double ps
+
+abbrev pub roms_of : Members → List (Numbered (Option (List LineMask)))
+roms_of ms = filter_map (told rom_in) (values_at (codes "rom") ms)
+
+abbrev pub rams_of : Members → List (Numbered ℕ)
+rams_of ms = filter_map (told ram_in) (values_at (codes "ram") ms)
+
+abbrev pub has_double_chip : Members → Bool
+has_double_chip ms = has_double (roms_of ms) || has_double (rams_of ms)
+
+-- ---- the board
+
+-- the part of a number, or what stands for none
+abbrev pub part_at : {A : Type 0} → A → List (Numbered A) → ℕ → A
+part_at none [] n = none
+part_at none (p ∷ ps) n = if p.number == n then p.part else part_at none ps n
+
+-- the parts that a table tells
+abbrev pub parts_of : Members → BoardParts
+parts_of ms = record {
+  roms = tabled ROMS (part_at None (roms_of ms));
+  banks = tabled BANKS (part_at 0 (rams_of ms));
+  chains = record { items = filter_map (told chain_in) (values_at (codes "chain") ms) };
+  keys = keys_table ms >>= matrix_in;
+  lamps = record { items = filter_map (told lamp_in) (values_at (codes "lamp") ms) };
+}
+
+-- the board of these parts; 25: a line, a chain or a row's bit that is not there; 26: a line of the wrong direction
+abbrev pub board_of_parts : BoardParts → Result BoardParts WiringFault
+board_of_parts parts =
+    if lacks_line parts then Err NoSuchLine
+    else if has_wrong_direction parts then Err WrongDirection
+    else Ok parts
+
+-- the board of a table that has nothing of 21, 22, 23 and 27
+abbrev pub board_of_counted : Members → Result BoardParts WiringFault
+board_of_counted ms = if has_double_chip ms then Err DoubleChip else board_of_parts (parts_of ms)
+
+-- the board that a table describes, or the first refusal that holds of it
+unfoldable pub board_of_table : Members → Result BoardParts WiringFault
+board_of_table ms =
+    if has_unknown_key ms then Err UnknownKey
+    else if has_missing_key ms then Err MissingKey
+    else if has_bad_value ms then Err BadValue
+    else if has_too_many ms then Err TooManyParts
+    else board_of_counted ms
+
+-- the board of a text: 20 where it is not TOML, else that of its table
+abbrev pub board_of_text : List ℕ → Result BoardParts WiringFault
+board_of_text text = elim (parse_document text) [ None ↦ Err BadToml | Some ms ↦ board_of_table ms ]
+
+-- an answer is what is wanted, or memory was refused
+abbrev pub Answers : Result BoardParts WiringFault → Result BoardParts WiringFault → Type 0
+Answers (Err NoMemory) wanted = Unit {0}
+Answers (Err fault) wanted = wanted ≡ Err fault
+Answers (Ok board) wanted = wanted ≡ Ok board

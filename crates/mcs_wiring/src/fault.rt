@@ -1,0 +1,74 @@
+//! Why a text has no board.
+ghost use Rattle.std.specs.Prelude.{◌≡◌};
+ghost use Rattle.mcs_wiring.specs.Refusals.{number_of};
+
+use mcs_model::board::BoardFault;
+use mcs_model::refusal_numbers;
+use thiserror::Error;
+
+/// Why a text has no board: the first of these that holds of it, in the order in which they stand here, where memory
+/// was not refused.
+#[derive(Clone, Copy, Debug, PartialEq, Eq, Error)]
+pub enum WiringFault {
+    /// The text is not TOML.
+    #[error("not TOML")]
+    BadToml,
+    /// A key that no board has, at the top or in the table of a part.
+    #[error("an unknown key")]
+    UnknownKey,
+    /// The table of a part lacks a key.
+    #[error("a missing key")]
+    MissingKey,
+    /// A value of another type or form, a number out of its range, or a key matrix without columns.
+    #[error("a bad value")]
+    BadValue,
+    /// More parts of one kind than a board can have.
+    #[error("too many parts")]
+    TooManyParts,
+    /// Two ROMs of one chip number, or two entries for one bank of RAM.
+    #[error("a chip twice")]
+    DoubleChip,
+    /// A line, a chain or a row's bit that the board lacks.
+    #[error("no such line on the board")]
+    NoSuchLine,
+    /// A clock or data line that is no output line, a column that is no input line, or a lamp at an input line.
+    #[error("a line of the wrong direction")]
+    WrongDirection,
+    /// Memory was refused, so nothing is said of the text.
+    #[error("no memory")]
+    NoMemory,
+}
+
+impl WiringFault {
+    /// The number that the refusal is told by.
+    pub fn number(self) -> u8
+        ensures { result ≡ number_of self }
+    {
+        match self {
+            WiringFault::BadToml => refusal_numbers::BAD_TOML,
+            WiringFault::UnknownKey => refusal_numbers::UNKNOWN_KEY,
+            WiringFault::MissingKey => refusal_numbers::MISSING_KEY,
+            WiringFault::BadValue => refusal_numbers::BAD_VALUE,
+            WiringFault::TooManyParts => refusal_numbers::TOO_MANY_PARTS,
+            WiringFault::DoubleChip => refusal_numbers::DOUBLE_CHIP,
+            WiringFault::NoSuchLine => refusal_numbers::NO_SUCH_LINE,
+            WiringFault::WrongDirection => refusal_numbers::WRONG_DIRECTION,
+            WiringFault::NoMemory => refusal_numbers::NO_MEMORY,
+        }
+    }
+}
+
+impl From<BoardFault> for WiringFault {
+    ghost use Rattle.std.specs.Prelude.{◌≡◌};
+    ghost use Rattle.mcs_wiring.specs.Refusals.{refusal_of};
+
+    ghost from_gives = { λ fault e. e ≡ refusal_of fault };
+
+    fn from(fault: BoardFault) -> WiringFault {
+        match fault {
+            BoardFault::BadValue => WiringFault::BadValue,
+            BoardFault::NoSuchLine => WiringFault::NoSuchLine,
+            BoardFault::WrongDirection => WiringFault::WrongDirection,
+        }
+    }
+}

@@ -1,0 +1,86 @@
+//! The names of lines and ports in a board text.
+ghost use Rattle.std.specs.Prelude.{◌≡◌, string_bytes};
+ghost use Rattle.mcs_wiring.specs.Names.{number_below, rom_line, ram_line, chain_line, line_named, mask_of, masks_named};
+
+use mcs_model::board::Line;
+use mcs_model::limits::{BANK_CHIPS, BANKS, CHAIN_BITS, CHAINS, ROMS};
+use mcs_nibble::LineMask;
+
+/// The number below a limit that a text is, in decimal without leading zeros.
+fn number_below(text: &str, limit: u8) -> Option<u8>
+    ensures { result ≡ number_below limit text.now }
+{
+    let n = match text.as_bytes() {
+        [d @ b'0'..=b'9'] => *d - b'0',
+        [t @ b'1'..=b'9', d @ b'0'..=b'9'] => 10 * (*t - b'0') + (*d - b'0'),
+        _ => return None,
+    };
+    if n < limit { Some(n) } else { None }
+}
+
+/// Behind `rom`: the chip, a dot and the line.
+fn rom_line(text: &str) -> Option<Line>
+    ensures { result ≡ rom_line text.now }
+{
+    let (chip, k) = text.split_once('.')?;
+    let chip = number_below(chip, ROMS as u8)?;
+    let k = number_below(k, 4)?;
+    Some(Line::Rom(chip, k))
+}
+
+/// Behind `ram`: the bank, a dot, the chip, a dot and the line.
+fn ram_line(text: &str) -> Option<Line>
+    ensures { result ≡ ram_line text.now }
+{
+    let (bank, rest) = text.split_once('.')?;
+    let (chip, k) = rest.split_once('.')?;
+    let bank = number_below(bank, BANKS as u8)?;
+    let chip = number_below(chip, BANK_CHIPS)?;
+    let k = number_below(k, 4)?;
+    Some(Line::Ram(bank, chip, k))
+}
+
+/// Behind `chain`: the chain, a dot and the bit.
+fn chain_line(text: &str) -> Option<Line>
+    ensures { result ≡ chain_line text.now }
+{
+    let (n, i) = text.split_once('.')?;
+    let n = number_below(n, CHAINS as u8)?;
+    let i = number_below(i, CHAIN_BITS)?;
+    Some(Line::Chain(n, i))
+}
+
+/// The line that a text names, if it has the form of a line.
+pub(crate) fn line_named(text: &str) -> Option<Line>
+    ensures { result ≡ line_named text.now }
+{
+    if let Some(rest) = text.strip_prefix("rom") {
+        return rom_line(rest);
+    }
+    if let Some(rest) = text.strip_prefix("ram") {
+        return ram_line(rest);
+    }
+    chain_line(text.strip_prefix("chain")?)
+}
+
+/// What a character of a port makes its line.
+fn mask_of(character: u8) -> Option<LineMask>
+    ensures { result ≡ mask_of character }
+{
+    match character {
+        b'i' => Some(LineMask::Input),
+        b'0' => Some(LineMask::Zero),
+        b'1' => Some(LineMask::One),
+        _ => None,
+    }
+}
+
+/// The masks of a port, line 0 first, that four characters name, line 3 first.
+pub(crate) fn masks_named(text: &str) -> Option<[LineMask; 4]>
+    ensures { result ≡ masks_named text.now }
+{
+    match text.as_bytes() {
+        [c3, c2, c1, c0] => Some([mask_of(*c0)?, mask_of(*c1)?, mask_of(*c2)?, mask_of(*c3)?]),
+        _ => None,
+    }
+}

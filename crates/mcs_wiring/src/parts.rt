@@ -1,0 +1,183 @@
+//! The parts that the tables of a board text tell.
+ghost use Rattle.std.specs.Prelude.{◌≡◌, ◌≤◌, ◌||◌, ◌==◌, codes, map, is_none, length};
+ghost use Rattle.std.specs.List.{filter_map, list_any};
+ghost use Rattle.toml.specs.View.{view, table_view};
+ghost use Rattle.mcs_wiring.specs.Wiring.{told, values_at, column_values, rom_in, ram_in, chain_in, matrix_in, lamp_in, line_of, is_no_line, has_bad_columns};
+
+use crate::names::masks_named;
+use crate::sections::Numbered;
+use crate::values::{line_at, line_of, member, number_at, values_at};
+use arrayvec::ArrayVec;
+use mcs_model::board::{ChainPart, KeyMatrix, Line};
+use mcs_model::limits::{BANKS, CHAINS, KEY_COLUMNS, LAMPS, ROMS};
+use mcs_nibble::LineMask;
+use toml::{Table, Value};
+
+/// The ROM that a value tells.
+pub(crate) fn rom(value: &Value) -> Option<Numbered<Option<[LineMask; 4]>>>
+    ensures { result ≡ told rom_in (view value.now) }
+{
+    let table = value.as_table()?;
+    let chip = number_at(table, "chip", 0, 15)?;
+    let masks = masks_named(member(table, "port")?.as_str()?)?;
+    Some(Numbered {
+        number: chip,
+        part: Some(masks),
+    })
+}
+
+/// The bank of RAM that a value tells.
+pub(crate) fn ram(value: &Value) -> Option<Numbered<u8>>
+    ensures { result ≡ told ram_in (view value.now) }
+{
+    let table = value.as_table()?;
+    let bank = number_at(table, "bank", 0, 7)?;
+    let chips = number_at(table, "chips", 1, 4)?;
+    Some(Numbered {
+        number: bank,
+        part: chips,
+    })
+}
+
+/// The chain that a value tells.
+pub(crate) fn chain(value: &Value) -> Option<ChainPart>
+    ensures { result ≡ told chain_in (view value.now) }
+{
+    let table = value.as_table()?;
+    let clock = line_at(table, "clock")?;
+    let data_in = line_at(table, "data")?;
+    let chips = number_at(table, "chips", 1, 4)?;
+    Some(ChainPart {
+        clock,
+        data_in,
+        chips,
+    })
+}
+
+/// The line of the lamp that a value tells.
+pub(crate) fn lamp(value: &Value) -> Option<Line>
+    ensures { result ≡ told lamp_in (view value.now) }
+{
+    line_at(value.as_table()?, "line")
+}
+
+/// Whether a value is no line.
+pub(crate) fn is_no_line(value: &Value) -> bool
+    ensures { result ≡ is_no_line (view value.now) }
+{
+    line_of(value).is_none()
+}
+
+/// Whether some value is no line.
+fn has_no_line(values: &[Value]) -> bool
+    ensures { result ≡ list_any (λ v. is_no_line (view v)) values.now }
+{
+    values.iter().any(|value| is_no_line(value))
+}
+
+/// Whether the columns of a key matrix are no array, none at all, or not all lines.
+pub(crate) fn has_bad_columns(table: &Table) -> bool
+    ensures { result ≡ has_bad_columns (table_view table.now) }
+{
+    let columns = values_at(table, "columns");
+    columns.is_empty() || has_no_line(columns)
+}
+
+/// Whether a number of a key matrix is none, or out of its range.
+pub(crate) fn has_bad_numbers(table: &Table) -> bool
+    ensures { result ≡ is_none (matrix_in (table_view table.now)) }
+{
+    if number_at(table, "chain", 0, 1).is_none() {
+        return true;
+    }
+    if number_at(table, "first", 0, 39).is_none() {
+        return true;
+    }
+    number_at(table, "rows", 1, 10).is_none()
+}
+
+/// The key matrix that a table tells.
+pub(crate) fn matrix(table: &Table) -> Option<KeyMatrix>
+    requires { length (values_at (codes "columns") (table_view table.now)) ≤ KEY_COLUMNS }
+    ensures { result ≡ matrix_in (table_view table.now) }
+{
+    let chain = number_at(table, "chain", 0, 1)?;
+    let first = number_at(table, "first", 0, 39)?;
+    let rows = number_at(table, "rows", 1, 10)?;
+    Some(KeyMatrix {
+        chain,
+        first,
+        rows,
+        columns: columns(values_at(table, "columns")),
+    })
+}
+
+/// The lines that values name.
+fn columns(values: &[Value]) -> ArrayVec<Line, KEY_COLUMNS>
+    requires { length values.now ≤ KEY_COLUMNS }
+    ensures { result.items ≡ filter_map line_of (map view values.now) }
+{
+    let mut columns = ArrayVec::new();
+    for value in values {
+        if let Some(line) = line_of(value) {
+            columns.push(line);
+        }
+    }
+    columns
+}
+
+/// The ROMs that values tell.
+pub(crate) fn roms(values: &[Value]) -> ArrayVec<Numbered<Option<[LineMask; 4]>>, ROMS>
+    requires { length values.now ≤ ROMS }
+    ensures { result.items ≡ filter_map (told rom_in) (map view values.now) }
+{
+    let mut roms = ArrayVec::new();
+    for value in values {
+        if let Some(rom) = rom(value) {
+            roms.push(rom);
+        }
+    }
+    roms
+}
+
+/// The banks of RAM that values tell.
+pub(crate) fn rams(values: &[Value]) -> ArrayVec<Numbered<u8>, BANKS>
+    requires { length values.now ≤ BANKS }
+    ensures { result.items ≡ filter_map (told ram_in) (map view values.now) }
+{
+    let mut rams = ArrayVec::new();
+    for value in values {
+        if let Some(ram) = ram(value) {
+            rams.push(ram);
+        }
+    }
+    rams
+}
+
+/// The chains that values tell.
+pub(crate) fn chains(values: &[Value]) -> ArrayVec<ChainPart, CHAINS>
+    requires { length values.now ≤ CHAINS }
+    ensures { result.items ≡ filter_map (told chain_in) (map view values.now) }
+{
+    let mut chains = ArrayVec::new();
+    for value in values {
+        if let Some(chain) = chain(value) {
+            chains.push(chain);
+        }
+    }
+    chains
+}
+
+/// The lines of the lamps that values tell.
+pub(crate) fn lamps(values: &[Value]) -> ArrayVec<Line, LAMPS>
+    requires { length values.now ≤ LAMPS }
+    ensures { result.items ≡ filter_map (told lamp_in) (map view values.now) }
+{
+    let mut lamps = ArrayVec::new();
+    for value in values {
+        if let Some(line) = lamp(value) {
+            lamps.push(line);
+        }
+    }
+    lamps
+}

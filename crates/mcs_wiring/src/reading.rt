@@ -1,0 +1,354 @@
+//! The board of a text.
+ghost use Rattle.std.specs.Prelude.{◌≡◌, ◌==◌, ◌≤◌, ◌||◌, not, false, length, option_and_then, option_map, string_bytes, Err};
+ghost use Rattle.std.specs.List.{list_any};
+ghost use Rattle.std.specs.BTreeMap.{keys};
+ghost use Rattle.toml.specs.Errors.{IsBlank};
+ghost use Rattle.toml.specs.View.{view, table_view};
+ghost use Rattle.mcs_nibble.specs.Tabled.{tabled};
+ghost use Rattle.mcs_model.specs.Boards.{fault_of};
+ghost use Rattle.mcs_wiring.specs.Format.{sections, section_key, table_keys, is_board_key, is_section_key};
+ghost use Rattle.mcs_wiring.specs.Wiring.{has_unknown_key, has_missing_key, has_bad_value, has_too_many, has_double, has_double_chip, has_other_key, lacks_one_of, lacks_key, is_malformed, lacks_array, values_at, section_values, any_section, column_values, keys_table, matrix_in, roms_of, rams_of, parts_of, part_at, board_of_counted, board_of_table, board_of_text, Answers};
+ghost use Rattle.mcs_wiring.specs.Flaws.{has_flaw, judged, IsWithinLimits};
+
+use crate::fault::WiringFault;
+use crate::parts::{
+    chain, chains, has_bad_columns, has_bad_numbers, lamp, lamps, matrix, ram, rams, rom, roms,
+};
+use crate::sections::{Flaw, Numbered, Section, is_board_key};
+use crate::values::{count_at, has_no_array_at, lacks, member, values_at};
+use mcs_model::board::{Board, BoardParts, KeyMatrix};
+use mcs_model::limits::{BANKS, CHAINS, KEY_COLUMNS, LAMPS, ROMS};
+use mcs_nibble::LineMask;
+use std::alloc::Global;
+use toml::{Table, Value};
+
+/// Whether a key stands at the top that no board has.
+fn has_other_board_key(table: &Table) -> bool
+    ensures { result ≡ list_any (λ key. not (is_board_key (string_bytes key))) (keys table.now) }
+{
+    table.keys().any(|key| !is_board_key(key.as_str()))
+}
+
+/// Whether a table has a key that the tables of a section have not.
+fn has_key_beside(section: Section, table: &Table) -> bool
+    ensures { result ≡ list_any (λ key. not (is_section_key section (string_bytes key))) (keys table.now) }
+{
+    table.keys().any(|key| !section.has_key(key.as_str()))
+}
+
+/// Whether a value in the place of a section's table is a table with a key that those have not.
+fn has_other_key(section: Section, value: &Value) -> bool
+    ensures { result ≡ has_other_key section (view value.now) }
+{
+    match value {
+        Value::Table(table) => has_key_beside(section, table),
+        _ => false,
+    }
+}
+
+/// Whether a table lacks a key of a section's tables.
+fn lacks_one_of(section: Section, table: &Table) -> bool
+    ensures { result ≡ lacks_one_of (table_keys section) (table_view table.now) }
+{
+    match section {
+        Section::Rom => lacks(table, "chip") || lacks(table, "port"),
+        Section::Ram => lacks(table, "bank") || lacks(table, "chips"),
+        Section::Chain => lacks(table, "clock") || lacks(table, "data") || lacks(table, "chips"),
+        Section::Keys => {
+            lacks(table, "chain")
+                || lacks(table, "first")
+                || lacks(table, "rows")
+                || lacks(table, "columns")
+        }
+        Section::Lamp => lacks(table, "line"),
+    }
+}
+
+/// Whether a value in the place of a section's table is a table that lacks a key of those.
+fn lacks_key(section: Section, value: &Value) -> bool
+    ensures { result ≡ lacks_key section (view value.now) }
+{
+    match value {
+        Value::Table(table) => lacks_one_of(section, table),
+        _ => false,
+    }
+}
+
+/// Whether a value is no key matrix.
+fn is_no_matrix(value: &Value) -> bool
+    ensures { result ≡ is_malformed Section.Keys (view value.now) }
+{
+    match value {
+        Value::Table(table) => has_bad_numbers(table) || has_bad_columns(table),
+        _ => true,
+    }
+}
+
+/// Whether a value in the place of a section's table is none of them.
+fn is_malformed(section: Section, value: &Value) -> bool
+    ensures { result ≡ is_malformed section (view value.now) }
+{
+    match section {
+        Section::Rom => rom(value).is_none(),
+        Section::Ram => ram(value).is_none(),
+        Section::Chain => chain(value).is_none(),
+        Section::Keys => is_no_matrix(value),
+        Section::Lamp => lamp(value).is_none(),
+    }
+}
+
+/// Whether a value in the place of a section's table has a flaw.
+fn has_flaw(flaw: Flaw, section: Section, value: &Value) -> bool
+    ensures { result ≡ has_flaw flaw section (view value.now) }
+{
+    match flaw {
+        Flaw::UnknownKey => has_other_key(section, value),
+        Flaw::MissingKey => lacks_key(section, value),
+        Flaw::BadValue => is_malformed(section, value),
+    }
+}
+
+/// Whether some value of an array has a flaw.
+fn any_flawed(flaw: Flaw, section: Section, values: &[Value]) -> bool
+    ensures { result ≡ list_any (λ v. has_flaw flaw section (view v)) values.now }
+{
+    values.iter().any(|value| has_flaw(flaw, section, value))
+}
+
+/// Whether some value of the array at a section's key has a flaw.
+fn has_flaw_in_array(flaw: Flaw, table: &Table, section: Section) -> bool
+    ensures { result ≡ list_any (has_flaw flaw section) (values_at (section_key section) (table_view table.now)) }
+{
+    any_flawed(flaw, section, values_at(table, section.key()))
+}
+
+/// Whether some value in the place of a section's tables has a flaw.
+fn has_flaw_in(flaw: Flaw, table: &Table, section: Section) -> bool
+    ensures { result ≡ list_any (has_flaw flaw section) (section_values section (table_view table.now)) }
+{
+    match section {
+        Section::Keys => match member(table, "keys") {
+            Some(value) => has_flaw(flaw, section, value),
+            None => false,
+        },
+        Section::Rom | Section::Ram | Section::Chain | Section::Lamp => {
+            has_flaw_in_array(flaw, table, section)
+        }
+    }
+}
+
+/// Whether some section of a table has a flaw.
+fn has_flaw_anywhere(flaw: Flaw, table: &Table) -> bool
+    ensures { result ≡ any_section (has_flaw flaw) (table_view table.now) }
+{
+    Section::ALL
+        .iter()
+        .any(|section| has_flaw_in(flaw, table, *section))
+}
+
+/// Whether a key is not known, at the top or in a table of a section.
+fn has_unknown_key(table: &Table) -> bool
+    ensures { result ≡ has_unknown_key (table_view table.now) }
+{
+    has_other_board_key(table) || has_flaw_anywhere(Flaw::UnknownKey, table)
+}
+
+/// Whether a table of a section lacks a key.
+fn has_missing_key(table: &Table) -> bool
+    ensures { result ≡ has_missing_key (table_view table.now) }
+{
+    has_flaw_anywhere(Flaw::MissingKey, table)
+}
+
+/// Whether no array stands where a section has one.
+fn lacks_array(table: &Table, section: Section) -> bool
+    ensures { result ≡ lacks_array (table_view table.now) section }
+{
+    match section {
+        Section::Keys => false,
+        Section::Rom | Section::Ram | Section::Chain | Section::Lamp => {
+            has_no_array_at(table, section.key())
+        }
+    }
+}
+
+fn lacks_an_array(table: &Table) -> bool
+    ensures { result ≡ list_any (lacks_array (table_view table.now)) sections }
+{
+    Section::ALL
+        .iter()
+        .any(|section| lacks_array(table, *section))
+}
+
+/// Whether a value is of another type or form, or a number out of its range.
+fn has_bad_value(table: &Table) -> bool
+    ensures { result ≡ has_bad_value (table_view table.now) }
+{
+    lacks_an_array(table) || has_flaw_anywhere(Flaw::BadValue, table)
+}
+
+/// The table of the key matrix, if there is one.
+fn keys_table(table: &Table) -> Option<&Table>
+    ensures { option_map (λ t. table_view t.now) result ≡ keys_table (table_view table.now) }
+{
+    member(table, "keys")?.as_table()
+}
+
+/// How many columns the key matrix has; 0 where there is none.
+fn column_count(table: &Table) -> usize
+    ensures { result ≡ length (column_values (table_view table.now)) }
+{
+    match keys_table(table) {
+        Some(keys) => count_at(keys, "columns"),
+        None => 0,
+    }
+}
+
+/// Whether there are more parts of one kind than a board can have.
+fn has_too_many(table: &Table) -> bool
+    ensures { result ≡ has_too_many (table_view table.now) }
+{
+    if count_at(table, "rom") > ROMS {
+        return true;
+    }
+    if count_at(table, "ram") > BANKS {
+        return true;
+    }
+    if count_at(table, "chain") > CHAINS {
+        return true;
+    }
+    if column_count(table) > KEY_COLUMNS {
+        return true;
+    }
+    count_at(table, "lamp") > LAMPS
+}
+
+/// Whether some part has a number.
+fn has_number<T: Copy>(parts: &[Numbered<T>], number: u8) -> bool
+    ensures { result ≡ list_any (λ q. q.number == number) parts.now }
+{
+    parts.iter().any(|part| part.number == number)
+}
+
+/// Whether two parts have one number.
+#[tactic(auto, using(crate::proofs::Seen::double_from))]
+fn has_double<T: Copy>(parts: &[Numbered<T>]) -> bool
+    ensures { result ≡ has_double parts.now }
+{
+    for i in 0..parts.len() {
+        if has_number(&parts[i + 1..], parts[i].number) {
+            return true;
+        }
+    }
+    false
+}
+
+/// The part of a number, or what stands for none.
+#[tactic(auto, using(crate::proofs::Seen::part_from))]
+fn part_at<T: Copy>(parts: &[Numbered<T>], none: T, number: u8) -> T
+    ensures { result ≡ part_at none parts.now number }
+{
+    for part in parts {
+        if part.number == number {
+            return part.part;
+        }
+    }
+    none
+}
+
+/// The parts by their numbers.
+fn placed<T: Copy, const N: usize>(parts: &[Numbered<T>], none: T) -> [T; N]
+    requires { N ≤ 256 }
+    ensures { result ≡ tabled N (part_at none parts.now) }
+{
+    let mut placed = [none; N];
+    for i in 0..N {
+        placed[i] = part_at(parts, none, i as u8);
+    }
+    placed
+}
+
+/// The key matrix of a table, if it has one.
+fn matrix_of(table: &Table) -> Option<KeyMatrix>
+    requires { length (column_values (table_view table.now)) ≤ KEY_COLUMNS }
+    ensures { result ≡ option_and_then matrix_in (keys_table (table_view table.now)) }
+{
+    matrix(keys_table(table)?)
+}
+
+/// The parts that a table tells.
+#[tactic(auto, using(crate::proofs::Seen::length_seen))]
+fn parts_of(
+    table: &Table,
+    roms: &[Numbered<Option<[LineMask; 4]>>],
+    rams: &[Numbered<u8>],
+) -> BoardParts
+    requires within { IsWithinLimits (table_view table.now) }
+    requires roms { roms.now ≡ roms_of (table_view table.now) }
+    requires rams { rams.now ≡ rams_of (table_view table.now) }
+    ensures { result ≡ parts_of (table_view table.now) }
+{
+    BoardParts {
+        roms: placed(roms, None),
+        banks: placed(rams, 0),
+        chains: chains(values_at(table, "chain")),
+        keys: matrix_of(table),
+        lamps: lamps(values_at(table, "lamp")),
+    }
+}
+
+/// The board of parts, or what is wrong with them.
+fn board_of_parts(parts: BoardParts) -> Result<Board, WiringFault>
+    ensures { result ≡ judged parts (fault_of parts) }
+{
+    Ok(Board::of(parts)?)
+}
+
+/// The board of a table without too many parts.
+#[tactic(auto, using(crate::proofs::Seen::length_seen))]
+fn board_of_counted(table: &Table) -> Result<Board, WiringFault>
+    requires no_bad_value { has_bad_value (table_view table.now) ≡ false }
+    requires within { IsWithinLimits (table_view table.now) }
+    ensures { result ≡ board_of_counted (table_view table.now) }
+{
+    let roms = roms(values_at(table, "rom"));
+    let rams = rams(values_at(table, "ram"));
+    if has_double(&roms) || has_double(&rams) {
+        return Err(WiringFault::DoubleChip);
+    }
+    board_of_parts(parts_of(table, &roms, &rams))
+}
+
+/// The board that a table describes, or the first refusal that holds of it.
+#[tactic(auto, using(crate::proofs::Limits::within), unfolding(crate::specs::Wiring::board_of_table))]
+fn board_of_table(table: &Table) -> Result<Board, WiringFault>
+    ensures { result ≡ board_of_table (table_view table.now) }
+{
+    if has_unknown_key(table) {
+        return Err(WiringFault::UnknownKey);
+    }
+    if has_missing_key(table) {
+        return Err(WiringFault::MissingKey);
+    }
+    if has_bad_value(table) {
+        return Err(WiringFault::BadValue);
+    }
+    if has_too_many(table) {
+        return Err(WiringFault::TooManyParts);
+    }
+    board_of_counted(table)
+}
+
+/// The board of a text in TOML, or the first refusal that holds of it.
+pub fn board_of(alloc: Global, text: &str) -> Result<Board, WiringFault>
+    ensures answers { Answers result (board_of_text text.now) }
+
+    // A text of blanks and comments alone has a board, whatever the memory.
+    ensures memory { result ≡ Err WiringFault.NoMemory → ¬ IsBlank text.now }
+{
+    match toml::table_from_str(alloc, text) {
+        Ok(table) => board_of_table(&table),
+        Err(e) if e.is_memory() => Err(WiringFault::NoMemory),
+        Err(_) => Err(WiringFault::BadToml),
+    }
+}

@@ -1,0 +1,178 @@
+//! The text of a board.
+ghost use Rattle.std.specs.Prelude.{◌≡◌, ◌<◌, ◌∷◌, [], ◌++◌, string_bytes, codes, OnOk, IfOk};
+ghost use Rattle.std.specs.List.{flat_map, join_by};
+ghost use Rattle.std.specs.Option.{option_map_or};
+ghost use Rattle.mcs_nibble.specs.Ports.{mask_at};
+ghost use Rattle.mcs_wiring.specs.Names.{mask_code};
+ghost use Rattle.mcs_wiring.specs.BoardText.{quoted_name, columns_text, rom_lines, ram_lines, chain_lines, matrix_lines, lamp_lines, text_of, board_text};
+ghost use Rattle.mcs_wiring.specs.Flaws.{roms_text, rams_text};
+
+use mcs_model::board::{Board, ChainPart, KeyMatrix, Line};
+use mcs_model::limits::{BANKS, ROMS};
+use mcs_nibble::LineMask;
+use std::alloc::{AllocError, Global};
+
+/// The character of line `k` in the name of a port.
+fn mask_text(masks: &[LineMask; 4], k: usize) -> &'static str
+    requires { k < 4 }
+    ensures { result.now ≡ mask_code (mask_at masks.now k) ∷ [] }
+{
+    match masks[k] {
+        LineMask::Input => "i",
+        LineMask::Zero => "0",
+        LineMask::One => "1",
+    }
+}
+
+/// Writes the name of a line, in quotes.
+fn push_name(out: &mut String, line: Line) -> Result<(), AllocError>
+    ensures { OnOk result (string_bytes out.new ≡ string_bytes out.old ++ quoted_name line) }
+{
+    match line {
+        Line::Rom(chip, k) => write!(out, "\"rom{chip}.{k}\""),
+        Line::Ram(bank, chip, k) => write!(out, "\"ram{bank}.{chip}.{k}\""),
+        Line::Chain(n, i) => write!(out, "\"chain{n}.{i}\""),
+    }
+}
+
+/// Writes the lines of a ROM, where it is there.
+fn push_rom(out: &mut String, chip: u8, masks: Option<[LineMask; 4]>) -> Result<(), AllocError>
+    ensures { OnOk result (string_bytes out.new ≡ string_bytes out.old ++ text_of (rom_lines chip masks)) }
+{
+    let Some(masks) = masks else {
+        return Ok(());
+    };
+    let m3 = mask_text(&masks, 3);
+    let m2 = mask_text(&masks, 2);
+    let m1 = mask_text(&masks, 1);
+    let m0 = mask_text(&masks, 0);
+    write!(out, "[[rom]]\nchip = {chip}\nport = \"{m3}{m2}{m1}{m0}\"\n")?;
+    Ok(())
+}
+
+/// Writes the lines of a bank of RAM, where it has chips.
+fn push_ram(out: &mut String, bank: u8, chips: u8) -> Result<(), AllocError>
+    ensures { OnOk result (string_bytes out.new ≡ string_bytes out.old ++ text_of (ram_lines bank chips)) }
+{
+    if chips == 0 {
+        return Ok(());
+    }
+    write!(out, "[[ram]]\nbank = {bank}\nchips = {chips}\n")
+}
+
+/// Writes the lines of a chain.
+fn push_chain(out: &mut String, chain: &ChainPart) -> Result<(), AllocError>
+    ensures { OnOk result (string_bytes out.new ≡ string_bytes out.old ++ text_of (chain_lines chain.now)) }
+{
+    out.push_str("[[chain]]\nclock = ")?;
+    push_name(out, chain.clock)?;
+    out.push_str("\ndata = ")?;
+    push_name(out, chain.data_in)?;
+    let chips = chain.chips;
+    write!(out, "\nchips = {chips}\n")?;
+    Ok(())
+}
+
+/// Writes the names of columns, separated by `, `.
+fn push_names(out: &mut String, lines: &[Line]) -> Result<(), AllocError>
+    ensures { OnOk result (string_bytes out.new ≡ string_bytes out.old ++ join_by quoted_name (codes ", ") lines.now) }
+{
+    let [first, rest @ ..] = lines else {
+        return Ok(());
+    };
+    push_name(out, *first)?;
+    for line in rest {
+        out.push_str(", ")?;
+        push_name(out, *line)?;
+    }
+    Ok(())
+}
+
+/// Writes the lines of a key matrix.
+fn push_matrix(out: &mut String, keys: &KeyMatrix) -> Result<(), AllocError>
+    ensures { OnOk result (string_bytes out.new ≡ string_bytes out.old ++ text_of (matrix_lines keys.now)) }
+{
+    let (chain, first, rows) = (keys.chain, keys.first, keys.rows);
+    write!(
+        out,
+        "[keys]\nchain = {chain}\nfirst = {first}\nrows = {rows}\ncolumns = ["
+    )?;
+    push_names(out, keys.columns.as_slice())?;
+    out.push_str("]\n")?;
+    Ok(())
+}
+
+/// Writes the lines of a lamp.
+fn push_lamp(out: &mut String, line: Line) -> Result<(), AllocError>
+    ensures { OnOk result (string_bytes out.new ≡ string_bytes out.old ++ text_of (lamp_lines line)) }
+{
+    out.push_str("[[lamp]]\nline = ")?;
+    push_name(out, line)?;
+    out.push_str("\n")?;
+    Ok(())
+}
+
+/// Writes the ROMs of a board, by rising chip.
+fn push_roms(out: &mut String, board: &Board) -> Result<(), AllocError>
+    ensures { OnOk result (string_bytes out.new ≡ string_bytes out.old ++ roms_text board.now ROMS) }
+{
+    for chip in 0..ROMS {
+        push_rom(out, chip as u8, board.mask(chip as u8))?;
+    }
+    Ok(())
+}
+
+/// Writes the banks of RAM of a board, by rising number.
+fn push_rams(out: &mut String, board: &Board) -> Result<(), AllocError>
+    ensures { OnOk result (string_bytes out.new ≡ string_bytes out.old ++ rams_text board.now BANKS) }
+{
+    for bank in 0..BANKS {
+        push_ram(out, bank as u8, board.bank_chips(bank as u8))?;
+    }
+    Ok(())
+}
+
+/// Writes chains.
+fn push_chains(out: &mut String, chains: &[ChainPart]) -> Result<(), AllocError>
+    ensures { OnOk result (string_bytes out.new ≡ string_bytes out.old ++ flat_map (λ c. text_of (chain_lines c)) chains.now) }
+{
+    for chain in chains {
+        push_chain(out, chain)?;
+    }
+    Ok(())
+}
+
+/// Writes the key matrix, if there is one.
+fn push_keys(out: &mut String, keys: &Option<KeyMatrix>) -> Result<(), AllocError>
+    ensures { OnOk result (string_bytes out.new ≡ string_bytes out.old ++ text_of (option_map_or matrix_lines keys.now [])) }
+{
+    match keys {
+        Some(keys) => push_matrix(out, keys),
+        None => Ok(()),
+    }
+}
+
+/// Writes lamps.
+fn push_lamps(out: &mut String, lamps: &[Line]) -> Result<(), AllocError>
+    ensures { OnOk result (string_bytes out.new ≡ string_bytes out.old ++ flat_map (λ l. text_of (lamp_lines l)) lamps.now) }
+{
+    for line in lamps {
+        push_lamp(out, *line)?;
+    }
+    Ok(())
+}
+
+/// The text of a board in TOML: the ROMs by rising chip, the RAM by rising bank, the chains, the key matrix and the lamps,
+/// each line ended by LF.
+pub fn board_text(alloc: Global, board: &Board) -> Result<String, AllocError>
+    ensures { IfOk result (λ s. string_bytes s ≡ board_text board.now) }
+{
+    let mut out = String::new(alloc);
+    push_roms(&mut out, board)?;
+    push_rams(&mut out, board)?;
+    let parts = board.parts();
+    push_chains(&mut out, parts.chains.as_slice())?;
+    push_keys(&mut out, &parts.keys)?;
+    push_lamps(&mut out, parts.lamps.as_slice())?;
+    Ok(out)
+}

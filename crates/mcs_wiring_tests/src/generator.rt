@@ -1,0 +1,181 @@
+//! Boards that a seeded generator makes.
+ghost use Rattle.std.specs.Prelude.{◌<◌};
+
+use arrayvec::ArrayVec;
+use mcs_model::board::{Board, BoardParts, ChainPart, KeyMatrix, Line};
+use mcs_nibble::LineMask;
+use std::process::Abort;
+
+/// A generator of numbers (Knuth's MMIX linear congruential generator).
+#[derive(Drop)]
+pub(crate) struct Numbers {
+    pub(crate) state: u64,
+}
+
+impl Numbers {
+    /// A number below `n`.
+    pub(crate) fn below(&mut self, n: u8) -> u8
+        requires { 0 < n }
+        ensures { result < n }
+    {
+        self.state = self
+            .state
+            .wrapping_mul(6_364_136_223_846_793_005)
+            .wrapping_add(1_442_695_040_888_963_407);
+        ((self.state >> 33) % u64::from(n)) as u8
+    }
+
+    fn mask(&mut self) -> LineMask {
+        match self.below(3) {
+            0 => LineMask::Input,
+            1 => LineMask::Zero,
+            _ => LineMask::One,
+        }
+    }
+
+    fn port(&mut self) -> Option<[LineMask; 4]> {
+        if self.below(2) == 0 {
+            return None;
+        }
+        Some([self.mask(), self.mask(), self.mask(), self.mask()])
+    }
+
+    /// A line of a ROM or of RAM, whether the board has it or not.
+    fn port_line(&mut self) -> Line {
+        if self.below(2) == 0 {
+            Line::Rom(self.below(16), self.below(4))
+        } else {
+            Line::Ram(self.below(8), self.below(4), self.below(4))
+        }
+    }
+
+    /// An output line of a board, unless it finds none.
+    fn output(&mut self, board: &Board) -> Option<Line> {
+        for _ in 0..60 {
+            let line = self.port_line();
+            if board.has_line(line) && !is_input(board, line) {
+                return Some(line);
+            }
+        }
+        None
+    }
+
+    /// An input line of a board, unless it finds none.
+    fn input(&mut self, board: &Board) -> Option<Line> {
+        for _ in 0..60 {
+            let line = Line::Rom(self.below(16), self.below(4));
+            if is_input(board, line) {
+                return Some(line);
+            }
+        }
+        None
+    }
+
+    fn chains(&mut self, board: &Board) -> ArrayVec<ChainPart, 2> {
+        let mut chains = ArrayVec::new();
+        for _ in 0..self.below(3) {
+            if let (Some(clock), Some(data_in)) = (self.output(board), self.output(board)) {
+                let chips = 1 + self.below(4);
+                let _ = chains.try_push(ChainPart {
+                    clock,
+                    data_in,
+                    chips,
+                });
+            }
+        }
+        chains
+    }
+
+    fn keys(&mut self, board: &Board, chains: &[ChainPart]) -> Option<KeyMatrix> {
+        let chain = self.below(2);
+        let bits = 10 * chains.get(usize::from(chain))?.chips.min(4);
+        if bits == 0 {
+            return None;
+        }
+        let rows = 1 + self.below(10);
+        let first = self.below(bits);
+        if first + rows > bits {
+            return None;
+        }
+        let mut columns = ArrayVec::new();
+        for _ in 0..1 + self.below(8) {
+            if let Some(line) = self.input(board) {
+                let _ = columns.try_push(line);
+            }
+        }
+        if columns.is_empty() {
+            return None;
+        }
+        Some(KeyMatrix {
+            chain,
+            first,
+            rows,
+            columns,
+        })
+    }
+
+    fn lamps(&mut self, board: &Board, chains: &[ChainPart]) -> ArrayVec<Line, 64> {
+        let mut lamps = ArrayVec::new();
+        for _ in 0..self.below(65) {
+            let bit = Line::Chain(self.below(2), self.below(40));
+            if let Line::Chain(n, i) = bit
+                && let Some(chain) = chains.get(usize::from(n))
+                && u16::from(i) < chain.bits()
+            {
+                let _ = lamps.try_push(bit);
+            } else if let Some(line) = self.output(board) {
+                let _ = lamps.try_push(line);
+            }
+        }
+        lamps
+    }
+
+    /// The next board.
+    pub(crate) fn board(&mut self, rt: &impl Abort) -> Board {
+        let mut roms = [None; 16];
+        for rom in roms.iter_mut() {
+            *rom = self.port();
+        }
+        let mut banks = [0; 8];
+        for bank in banks.iter_mut() {
+            *bank = self.below(5);
+        }
+        let chips = valid(
+            rt,
+            BoardParts {
+                roms,
+                banks,
+                chains: ArrayVec::new(),
+                keys: None,
+                lamps: ArrayVec::new(),
+            },
+        );
+        let chains = self.chains(&chips);
+        let keys = self.keys(&chips, chains.as_slice());
+        let lamps = self.lamps(&chips, chains.as_slice());
+        valid(
+            rt,
+            BoardParts {
+                roms,
+                banks,
+                chains,
+                keys,
+                lamps,
+            },
+        )
+    }
+}
+
+fn is_input(board: &Board, line: Line) -> bool {
+    match line {
+        Line::Rom(chip, k) => k < 4 && board.is_input(chip, k),
+        Line::Ram(_, _, _) | Line::Chain(_, _) => false,
+    }
+}
+
+fn valid(rt: &impl Abort, parts: BoardParts) -> Board {
+    match Board::of(parts) {
+        Ok(board) => board,
+        Err(_) => panic!(rt; "the generator made parts that are no board"),
+    }
+}
