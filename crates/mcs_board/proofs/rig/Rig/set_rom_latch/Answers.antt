@@ -1,7 +1,7 @@
 use Rattle.std.proofs.Common.{arith, sym, ap, refl, ◌∙◌, ◌≡◌, ℕ, List, Some, None, slice_set}
 use Rattle.std.proofs.lemmas.List.{set-get_or}
 use Rattle.mcs_nibble.specs.declared.lines.LineMask.{LineMask}
-use Rattle.mcs_nibble.specs.Ports.{held}
+use Rattle.mcs_nibble.specs.Ports.{latch_value}
 use Rattle.mcs_rom4001.specs.Roms.{RomState}
 use Rattle.mcs_model.specs.Bus.{BusState}
 use Rattle.mcs_model.specs.Boards.{masks_on}
@@ -13,7 +13,7 @@ use Rattle.mcs_board.proofs.FittedLemmas.{fitted-rom}
 use Rattle.mcs_board.proofs.RigLemmas.{rom_here, rom_absent, rom_latch-grid, rom_latch-write}
 use Rattle.mcs_board.proofs.rig.Rig.set_rom_latch.Goals as goal
 
-written : (s : BusState) (chip n : ℕ) (mask : List LineMask) → masks_on s.board chip ≡ Some mask → with_rom_latch s chip (held mask n) ≡ with_rom_port s chip n
+written : (s : BusState) (chip n : ℕ) (mask : List LineMask) → masks_on s.board chip ≡ Some mask → with_rom_latch s chip (latch_value mask n) ≡ with_rom_port s chip n
 unfolding with_rom_port
 written s chip n mask is = rw (is, with_rom_port) refl
 
@@ -27,8 +27,8 @@ returns-in-Some g c =
     let s = c.args.self.now in
     let here = rom_here i.roms.items c.args.chip c.from-at.result c.index_mut.result.now c.from-at.ensures (omega arith) c.index_mut.ensures.value in
     let mask = ap (λ (t : BusState). masks_on t.board c.args.chip) (sym c.self.view_is) ∙ sym (c.self.invariant.masks c.args.chip) ∙ ap masks_of_rom (here ∙ c.in-Some.is) in
-    rom_latch-write (parts_of i) c.args.chip c.from-at.result (held c.in-Some.rom.mask c.args.n) c.in-Some.rom c.set_port.new.self c.requires c.from-at.ensures (omega arith) (here ∙ c.in-Some.is) c.set_port.ensures
-    ∙ ap (λ t. with_rom_latch t c.args.chip (held c.in-Some.rom.mask c.args.n)) c.self.view_is
+    rom_latch-write (parts_of i) c.args.chip c.from-at.result (latch_value c.in-Some.rom.mask c.args.n) c.in-Some.rom c.set_port.new.self c.requires c.from-at.ensures (omega arith) (here ∙ c.in-Some.is) c.set_port.ensures
+    ∙ ap (λ t. with_rom_latch t c.args.chip (latch_value c.in-Some.rom.mask c.args.n)) c.self.view_is
     ∙ written s c.args.chip c.args.n c.in-Some.rom.mask mask
 
 pub returns-in-None : goal.returns-in-None
@@ -56,4 +56,4 @@ invariant_of-self g c =
     let at = c.from-at.result in
     let here = rom_here i.roms.items at at c.index_mut.result.now refl (omega arith) c.index_mut.ensures.value ∙ c.in-Some.is in
     fitted-rom v at c.in-Some.rom c.set_port.new.self (omega arith) here (ap (λ (x : RomState). x.mask) c.set_port.ensures) i.program.items
-    (v.program ∙ sym (rom_latch-grid i.roms.items at (held c.in-Some.rom.mask c.args.n) c.in-Some.rom c.set_port.new.self (omega arith) here c.set_port.ensures))
+    (v.program ∙ sym (rom_latch-grid i.roms.items at (latch_value c.in-Some.rom.mask c.args.n) c.in-Some.rom c.set_port.new.self (omega arith) here c.set_port.ensures))
