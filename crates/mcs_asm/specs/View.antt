@@ -102,6 +102,11 @@ abbrev pub NumbersLine : FaultKind → ℕ → ℕ → Type 0
 NumbersLine NoMemory index line = line ≡ 0
 NumbersLine (Refused f) index line = line ≡ index + 1
 
+-- what came of a line, told with the number of the line
+abbrev pub ComesOf : ℕ → Result (Unit {0}) FaultKind → Result (Unit {0}) AsmFault → Type 0
+ComesOf index came (Ok u) = came ≡ Ok u
+ComesOf index came (Err f) = (came ≡ Err f.kind) × NumbersLine f.kind index f.line
+
 abbrev pub IsNoData : lines.Statement → Type 0
 IsNoData (lines.Data vs) = ⊥
 IsNoData s = Unit {0}

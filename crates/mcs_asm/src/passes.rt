@@ -3,7 +3,7 @@ ghost use Rattle.std.specs.Prelude.{List, ℕ, ◌+◌, length, Ok, ◌≡◌, �
 ghost use Rattle.mcs_source.specs.Lexical.{tokens};
 ghost use Rattle.mcs_source.specs.Lines.{line_of};
 ghost use Rattle.mcs_source.specs.Assembly.{nothing_before, before_with_line, class_one, class_two, nothing_spelt, pairs_of, assembled, spelt_with_bytes, spelt_with_line};
-ghost use Rattle.mcs_asm.specs.View.{Steps, Passes, Assembles, NumbersLine, Keeps, Adds, Spells, HasNoFault};
+ghost use Rattle.mcs_asm.specs.View.{Steps, Passes, Assembles, NumbersLine, ComesOf, Keeps, Adds, Spells, HasNoFault};
 ghost use Rattle.mcs_asm.specs.Cells.{IsKept};
 
 use crate::bytes::line_bytes;
@@ -29,7 +29,7 @@ fn step<'a>(alloc: Global, names: &mut Names<'a>, line: &'a [u8]) -> Result<(), 
 }
 
 /// A fault of the line that has this index.
-fn at_line(index: usize, kind: FaultKind) -> AsmFault
+fn fault_at(index: usize, kind: FaultKind) -> AsmFault
     requires { index < 2 ^ 63 }
     ensures { (result.kind ≡ kind) × NumbersLine kind index result.line }
 {
@@ -42,16 +42,24 @@ fn at_line(index: usize, kind: FaultKind) -> AsmFault
     }
 }
 
+/// What came of the line that has this index, a fault with the line's number.
+fn at_line(index: usize, came: Result<(), FaultKind>) -> Result<(), AsmFault>
+    requires { index < 2 ^ 63 }
+    ensures { ComesOf index came result }
+{
+    match came {
+        Ok(()) => Ok(()),
+        Err(kind) => Err(fault_at(index, kind)),
+    }
+}
+
 /// What all lines say of names and addresses, or the first fault of class one.
 fn first_pass<'a>(alloc: Global, lines: &[&'a [u8]]) -> Result<Names<'a>, AsmFault>
     ensures { Passes result (class_one 1 nothing_before (map (λ l. l.now) lines.now)) }
 {
     let mut names = Names::new(alloc);
     for i in 0..lines.len() {
-        match step(alloc, &mut names, lines[i]) {
-            Ok(()) => {}
-            Err(kind) => return Err(at_line(i, kind)),
-        }
+        at_line(i, step(alloc, &mut names, lines[i]))?;
     }
     Ok(names)
 }
@@ -111,10 +119,7 @@ fn second_pass<'a>(alloc: Global, names: &Names<'a>, lines: &[&'a [u8]]) -> Resu
         cells: Cells::new(alloc)?,
     };
     for i in 0..lines.len() {
-        match spelt.spell(alloc, names, lines[i]) {
-            Ok(()) => {}
-            Err(kind) => return Err(at_line(i, kind)),
-        }
+        at_line(i, spelt.spell(alloc, names, lines[i]))?;
     }
     Ok(spelt.cells)
 }
