@@ -1,5 +1,5 @@
 -- What is found after a power cut, and what one at the end leaves.
-use Rattle.std.proofs.Common.{◌≡◌, ◌⊎◌, inl, inr, ◌+◌, ◌≤◌, ℕ, List, length, sym, ◌∙◌, subst, refl, arith, slice_get, Some}
+use Rattle.std.proofs.Common.{◌≡◌, ◌⊎◌, inl, inr, ◌+◌, ◌≤◌, ℕ, List, length, subst, refl, arith, slice_get, Some}
 use Rattle.mcs_disk.specs.Disk.{DiskState, IsLawful}
 use Rattle.mcs_disk.specs.PowerCut.{IsLeftByCut}
 use Rattle.mcs_journal.specs.declared.fault.OpenFault.{OpenFault}
