@@ -2,7 +2,7 @@
 use Rattle.std.proofs.Common.{◌≡◌, ◌⊎◌, ◌+◌, inl, inr, ⊎_elim, List, [], ◌∷◌, ◌++◌, ℕ, None, sym, ◌∙◌, ap, subst, refl, arith, length, length-append}
 use Rattle.mcs_disk.specs.Disk.{DiskState, IsLawful}
 use Rattle.mcs_disk.specs.Moments.{LeavesOnly, IsDurable, Either, Rests}
-use Rattle.mcs_journal.specs.Answers.{Creates, Opens, RefusesOpen}
+use Rattle.mcs_journal.specs.Answers.{Creates, IsNoSession, Opens, RefusesOpen}
 use Rattle.mcs_journal.specs.File.{Holds, framed, spelled}
 use Rattle.mcs_journal.specs.declared.fault.OpenFault.{OpenFault}
 use Rattle.mcs_journal.specs.declared.fault.OpenFault.TheVariants.{NotASession, Damaged, Device, NoMemory}
@@ -121,11 +121,18 @@ pair_of file snap records s held stands =
 pub one_state : (file : List ℕ) (s t : Flat) → StandsFor file s → StandsFor file t → s ≡ t
 one_state file s t a b = same_pair_state a.snap a.records s t a.stand (pair_of file a.snap a.records t a.holds b)
 
+-- a disk that holds a pair has the size and the name of a session file
+pub is_session : (disk : DiskState) (snap : List ℕ) (records : List (List ℕ)) → IsLawful disk → Holds disk.bytes snap records → IsNoSession disk → ⊥
+is_session disk snap records lawful holds other = elim other [
+  | inl wrong ↦ wrong (sym (lawful.sized disk.bytes lawful.current) ∙ holds.size)
+  | inr unnamed ↦ unnamed holds.name
+]
+
 -- no state behind the pair that was opened
 pub refuses_pair : (old new : DiskState) (snap : List ℕ) (records : List (List ℕ)) → IsLawful old → Opens old new snap records → ((s : Flat) → RecordsStandFor snap records s → ⊥) → RefusesSession Damaged old × Rests old new
 refuses_pair old new snap records lawful opened none = (
   (
-    λ no. elim no [ inl wrong ↦ wrong (sym (lawful.sized old.bytes lawful.current) ∙ opened.holds.size) | inr other ↦ other opened.holds.name ],
+    is_session old snap records lawful opened.holds,
     λ s stands. none s (pair_of old.bytes snap records s opened.holds stands),
   ),
   opened.rests,

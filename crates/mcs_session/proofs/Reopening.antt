@@ -1,8 +1,7 @@
 -- What is found after a power cut, and what one at the end leaves.
-use Rattle.std.proofs.Common.{◌≡◌, ◌⊎◌, inl, inr, ◌+◌, ◌≤◌, ℕ, List, length, sym, ◌∙◌, subst, refl, arith, slice_get, Some}
+use Rattle.std.proofs.Common.{◌≡◌, ◌⊎◌, inl, inr, ◌+◌, ◌≤◌, ℕ, List, length, subst, refl, arith, slice_get, Some}
 use Rattle.mcs_disk.specs.Disk.{DiskState, IsLawful}
 use Rattle.mcs_disk.specs.PowerCut.{IsLeftByCut}
-use Rattle.mcs_journal.specs.Answers.{IsNoSession}
 use Rattle.mcs_journal.specs.declared.fault.OpenFault.{OpenFault}
 use Rattle.mcs_journal.specs.declared.fault.OpenFault.TheVariants.{NotASession, Damaged, Device, NoMemory}
 use Rattle.mcs_model.specs.declared.command.Command.{Command}
@@ -12,7 +11,7 @@ use Rattle.mcs_session.specs.Answers.{RefusesSession}
 use Rattle.mcs_session.specs.Kept.{IsAfterPrefix, IsReopened, Kept, StandsForPrefix, acknowledged_by}
 use Rattle.mcs_session.specs.Stands.{StandsFor}
 use Rattle.mcs_session.proofs.Prefixes.{acknowledged_all, acknowledged_at, prefix_all, prefix_fewer, spaced_le}
-use Rattle.mcs_session.proofs.Recording.{one_state}
+use Rattle.mcs_session.proofs.Recording.{is_session, one_state}
 
 pub reopened : (t : ℕ) (old new found opened : DiskState) (s u : Flat) (done reached : List Command) (kept : Kept old new s done reached) → old.clock ≤ t
     → IsReopened t new found opened u → IsAfterPrefix s reached (acknowledged_by t kept.moments) u
@@ -20,15 +19,8 @@ reopened t old new found opened s u done reached kept le h =
     let there = kept.each t found.bytes le h.cut.found in
     subst (λ (v : Flat). IsAfterPrefix s reached (acknowledged_by t kept.moments) v) (one_state found.bytes there.state u there.stands h.opens.stands) there.after
 
--- a file that stands for a state is of a session
-is_session : (disk : DiskState) (s : Flat) → IsLawful disk → StandsFor disk.bytes s → IsNoSession disk → ⊥
-is_session disk s lawful stands other = elim other [
-  | inl wrong ↦ wrong (sym (lawful.sized disk.bytes lawful.current) ∙ stands.holds.size)
-  | inr unnamed ↦ unnamed stands.holds.name
-]
-
 pub not_refused : (fault : OpenFault) (disk : DiskState) (s : Flat) → IsLawful disk → StandsFor disk.bytes s → RefusesSession fault disk → (fault ≡ Device) ⊎ (fault ≡ NoMemory)
-not_refused NotASession disk s lawful stands h = absurd (is_session disk s lawful stands h)
+not_refused NotASession disk s lawful stands h = absurd (is_session disk stands.snap stands.records lawful stands.holds h)
 not_refused Damaged disk s lawful stands h = absurd (h.1 s stands)
 not_refused Device disk s lawful stands h = inl refl
 not_refused NoMemory disk s lawful stands h = inr refl
