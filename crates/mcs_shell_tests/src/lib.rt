@@ -418,7 +418,9 @@ fn files_that_hold_no_session(rt: HostRuntime) -> Result<(), Fail> {
     let rows = [(16, 163_856, 51), (28, 163_856, 51), (0, 163_856, 50), (0, 163_855, 50)];
     for (at, size, number) in rows {
         let mut bytes = bytes_of(alloc, &mut disk)?;
-        bytes[at] ^= 1;
+        if let Some(byte) = bytes.get_mut(at) {
+            *byte ^= 1;
+        }
         bytes.truncate(size);
         fs::write(&rt, path, bytes.as_slice())?;
         assert_eq!(rt; begun(&rt, "open", path)?, Err(number));
