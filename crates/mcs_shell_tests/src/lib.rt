@@ -414,8 +414,13 @@ fn files_that_hold_no_session(rt: HostRuntime) -> Result<(), Fail> {
     let alloc = rt.alloc();
     let path = "files_that_hold_no_session.mcs";
     let mut disk = new_session(alloc)?.into_disk();
-    // the length of the snapshot, the tag of the first register, the name, one byte less
-    let rows = [(16, 163_856, 51), (28, 163_856, 51), (0, 163_856, 50), (0, 163_855, 50)];
+    // the length of the snapshot, a byte of it, a byte of the name, one byte less
+    let rows = [
+        (16, 163_856, 51),
+        (28, 163_856, 51),
+        (0, 163_856, 50),
+        (0, 163_855, 50),
+    ];
     for (at, size, number) in rows {
         let mut bytes = bytes_of(alloc, &mut disk)?;
         if let Some(byte) = bytes.get_mut(at) {
