@@ -414,7 +414,7 @@ fn files_that_hold_no_session(rt: HostRuntime) -> Result<(), Fail> {
     let alloc = rt.alloc();
     let path = "files_that_hold_no_session.mcs";
     let mut disk = new_session(alloc)?.into_disk();
-    // the length of the snapshot, the tag of the first register, the name, one byte less
+    // the length of the snapshot, a byte of it, a byte of the name, one byte less
     let rows = [
         (16, 163_856, 51),
         (28, 163_856, 51),
@@ -423,7 +423,9 @@ fn files_that_hold_no_session(rt: HostRuntime) -> Result<(), Fail> {
     ];
     for (at, size, number) in rows {
         let mut bytes = bytes_of(alloc, &mut disk)?;
-        bytes[at] ^= 1;
+        if let Some(byte) = bytes.get_mut(at) {
+            *byte ^= 1;
+        }
         bytes.truncate(size);
         fs::write(&rt, path, bytes.as_slice())?;
         assert_eq!(rt; begun(&rt, "open", path)?, Err(number));
