@@ -5,17 +5,15 @@ use Rattle.std.proofs.lemmas.Bool.{cases_lt}
 use Rattle.std.proofs.lemmas.List.{get_or_past}
 use Rattle.mcs_nibble.specs.declared.lines.LineMask.{LineMask}
 use Rattle.mcs_nibble.specs.Ports.{held}
-use Rattle.mcs_nibble.specs.Tabled.{tabled, column, grid}
+use Rattle.mcs_nibble.specs.Tabled.{column, grid}
 use Rattle.mcs_nibble.proofs.TabledLemmas.{length-tabled}
 use Rattle.mcs_nibble.proofs.GridLemmas.{length-grid, length-column}
 use Rattle.mcs_nibble.proofs.PortLemmas.{held-zero}
 use Rattle.mcs_ram4002.specs.RamBank.{BankState, IsValidBank}
 use Rattle.mcs_ram4002.proofs.Below.{below-at, grid-below, column-below}
 use Rattle.mcs_rom4001.specs.Roms.{RomState, IsValidRom}
-use Rattle.mcs_model.specs.declared.board.BoardParts.{BoardParts}
-use Rattle.mcs_model.specs.Boards.{masks_on, chain_count, chain_bits, key_count}
-use Rattle.mcs_model.specs.Bus.{BusState, wired_of}
-use Rattle.mcs_model.specs.Validity.{AreBelow, IsValidBoard, IsInRange, IsAbsentZero, IsValidBus}
+use Rattle.mcs_model.specs.Boards.{masks_on, chain_count}
+use Rattle.mcs_model.specs.Validity.{IsValidBoard, IsValidBus}
 use Rattle.mcs_board.specs.RigState.{RigParts, no_bank, bytes_of_rom, port_of_rom, masks_of_rom, wired_chains, rig_of, Fitted}
 use Rattle.mcs_board.proofs.ClockLemmas.{chain-read}
 use Rattle.mcs_board.proofs.MakingLemmas.{rom-at}

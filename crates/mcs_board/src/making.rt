@@ -8,7 +8,8 @@ ghost use Rattle.mcs_board.specs.Fitting.{FitsCounts};
 
 use crate::chips::{
     banks_are_valid, banks_fit, chains_fit, clear_absent, clear_banks, clear_chains, clear_ports,
-    keys_of, no_banks, no_chains, no_program, no_roms, rewire_banks, rewire_chains, rewire_roms, roms_are_valid, roms_fit,
+    keys_of, no_banks, no_chains, no_program, no_roms, rewire_banks, rewire_chains, rewire_roms,
+    roms_are_valid, roms_fit,
 };
 use crate::rig::Rig;
 use mcs_keypad::KeyPad;
@@ -40,8 +41,8 @@ impl<const ROMS: usize, const BANKS: usize, const CHAINS: usize, const MAX: usiz
     ///
     /// # Errors
     ///
-    /// Where memory for the places of its chips is refused, or where one chain would not fit any memory. No other
-    /// call of a rig takes memory.
+    /// Where memory for the places of its chips and for their program is refused, or where one chain would not fit any
+    /// memory. No other call of a rig takes memory.
     pub fn new(alloc: Global) -> Result<Self, AllocError>
         ensures { IfOk result (λ rig. rig ≡ record zero_bus { test = 1 }) }
     {

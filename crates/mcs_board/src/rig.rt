@@ -29,6 +29,7 @@ pub struct Rig<const ROMS: usize, const BANKS: usize, const CHAINS: usize, const
 impl<const ROMS: usize, const BANKS: usize, const CHAINS: usize, const MAX: usize> Model
     for Rig<ROMS, BANKS, CHAINS, MAX> {
     ghost use Rattle.mcs_model.specs.Bus.{BusState};
+
     ghost Value = { BusState };
 
     ghost use Rattle.mcs_board.specs.RigState.{rig_of, Fitted};
