@@ -1,12 +1,10 @@
 -- What a rig's keys are to its flat state.
-use Rattle.std.proofs.Common.{◌≡◌, ℕ, ◌+◌, ◌*◌, ◌/◌, ◌%◌, ◌<◌, ◌≤◌, zero, suc, Bool, true, false, List, [], Option, Some, None, length, get_or, refl, sym, ap, ◌∙◌, subst, arith, eqb}
+use Rattle.std.proofs.Common.{◌≡◌, ℕ, ◌+◌, ◌/◌, ◌<◌, ◌≤◌, zero, suc, Bool, true, false, List, [], Option, Some, None, length, get_or, refl, sym, ap, ◌∙◌, subst, arith, eqb}
 use Rattle.mcs_nibble.specs.declared.lines.LineMask.{LineMask}
 use Rattle.mcs_nibble.specs.declared.lines.LineMask.TheVariants.{Input, Zero, One}
 use Rattle.mcs_nibble.specs.Bits.{bit_of, nibble_of}
-use Rattle.mcs_nibble.specs.Ports.{read_bit, read_lines, mask_at}
-use Rattle.mcs_ram4002.specs.RamBank.{BankState}
-use Rattle.mcs_rom4001.specs.Roms.{RomState}
-use Rattle.mcs_keypad.specs.Keys.{KeyState, no_matrix}
+use Rattle.mcs_nibble.specs.Ports.{read_lines, mask_at}
+use Rattle.mcs_keypad.specs.Keys.{no_matrix}
 use Rattle.mcs_model.specs.declared.board.BoardParts.{BoardParts}
 use Rattle.mcs_model.specs.declared.board.KeyMatrix.{KeyMatrix}
 use Rattle.mcs_model.specs.Boards.{fault_of, masks_on, chain_count, chain_bits}

@@ -4,8 +4,8 @@ use Rattle.std.proofs.lemmas.Bool.{cases_lt}
 use Rattle.std.proofs.lemmas.List.{get_or-replicate, get_or_past, length-replicate, length-map, get_or-map}
 use Rattle.mcs_nibble.specs.declared.lines.LineMask.{LineMask}
 use Rattle.mcs_nibble.specs.Tabled.{tabled, column, grid}
-use Rattle.mcs_nibble.proofs.TabledLemmas.{length-tabled, same_tabled, tabled_from}
-use Rattle.mcs_nibble.proofs.GridLemmas.{length-grid, length-column, blank-grid, blank-column}
+use Rattle.mcs_nibble.proofs.TabledLemmas.{same_tabled, tabled_from}
+use Rattle.mcs_nibble.proofs.GridLemmas.{length-grid, blank-grid, blank-column}
 use Rattle.mcs_ram4002.specs.RamBank.{BankState, blank_bank}
 use Rattle.mcs_rom4001.specs.Roms.{RomState}
 use Rattle.mcs_model.specs.declared.board.BoardParts.{BoardParts}
@@ -16,7 +16,6 @@ use Rattle.mcs_model.specs.Places.{kept_rom, blank_chains, after_reset, after_wi
 use Rattle.mcs_keypad.specs.Keys.{KeyState, no_matrix}
 use Rattle.mcs_board.specs.RigState.{RigParts, matrix_on, no_bank, bytes_of_rom, port_of_rom, masks_of_rom, wired_chains, rig_of, Fitted}
 use Rattle.mcs_board.proofs.RigLemmas.{byte-of}
-use Rattle.mcs_board.proofs.ClockLemmas.{chain-read}
 use Rattle.mcs_board.specs.Fitting.{FitsCounts, bytes_in, rewired, silenced}
 
 -- a list of 0s is 0 at each index, and beyond its end

@@ -4,18 +4,16 @@ use Rattle.std.specs.Prelude.{All, IfSome, MatchOption}
 use Rattle.std.proofs.lemmas.Bool.{cases_lt}
 use Rattle.std.proofs.lemmas.List.{get_or_past}
 use Rattle.mcs_nibble.specs.declared.lines.LineMask.{LineMask}
-use Rattle.mcs_nibble.specs.Ports.{latch_value}
-use Rattle.mcs_nibble.specs.Tabled.{tabled, column, grid}
+use Rattle.mcs_nibble.specs.Ports.{held}
+use Rattle.mcs_nibble.specs.Tabled.{column, grid}
 use Rattle.mcs_nibble.proofs.TabledLemmas.{length-tabled}
 use Rattle.mcs_nibble.proofs.GridLemmas.{length-grid, length-column}
-use Rattle.mcs_nibble.proofs.PortLemmas.{latch_value-zero}
+use Rattle.mcs_nibble.proofs.PortLemmas.{held-zero}
 use Rattle.mcs_ram4002.specs.RamBank.{BankState, IsValidBank}
 use Rattle.mcs_ram4002.proofs.Below.{below-at, grid-below, column-below}
 use Rattle.mcs_rom4001.specs.Roms.{RomState, IsValidRom}
-use Rattle.mcs_model.specs.declared.board.BoardParts.{BoardParts}
-use Rattle.mcs_model.specs.Boards.{masks_on, chain_count, chain_bits, key_count}
-use Rattle.mcs_model.specs.Bus.{BusState, wired_of}
-use Rattle.mcs_model.specs.Validity.{AreBelow, IsValidBoard, IsInRange, IsAbsentZero, IsValidBus}
+use Rattle.mcs_model.specs.Boards.{masks_on, chain_count}
+use Rattle.mcs_model.specs.Validity.{IsValidBoard, IsValidBus}
 use Rattle.mcs_board.specs.RigState.{RigParts, no_bank, bytes_of_rom, port_of_rom, masks_of_rom, wired_chains, rig_of, Fitted}
 use Rattle.mcs_board.proofs.ClockLemmas.{chain-read}
 use Rattle.mcs_board.proofs.MakingLemmas.{rom-at}
@@ -45,14 +43,14 @@ latch-below None valid = omega arith
 
 -- the bits of a latch that are always 0
 abbrev kept_0 : ℕ → Option (List LineMask) → Type 0
-kept_0 n masks = MatchOption masks (n ≡ 0) (λ mask. latch_value mask n ≡ n)
+kept_0 n masks = MatchOption masks (n ≡ 0) (λ mask. held mask n ≡ n)
 
 latch-kept : (rom : Option RomState) (n : ℕ) → IfSome rom IsValidRom → n ≡ port_of_rom rom → kept_0 n (masks_of_rom rom)
-latch-kept (Some r) n valid is = ap (latch_value r.mask) is ∙ valid.inputs ∙ sym is
+latch-kept (Some r) n valid is = ap (held r.mask) is ∙ valid.inputs ∙ sym is
 latch-kept None n valid is = is
 
 zero-kept : (masks : Option (List LineMask)) (n : ℕ) → n ≡ 0 → kept_0 n masks
-zero-kept (Some mask) n is = ap (latch_value mask) is ∙ latch_value-zero mask ∙ sym is
+zero-kept (Some mask) n is = ap (held mask) is ∙ held-zero mask ∙ sym is
 zero-kept None n is = is
 
 no-rom : (rom : Option RomState) → masks_of_rom rom ≡ None → rom ≡ None

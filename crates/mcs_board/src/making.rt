@@ -41,8 +41,8 @@ impl<const ROMS: usize, const BANKS: usize, const CHAINS: usize, const MAX: usiz
     ///
     /// # Errors
     ///
-    /// Where memory for the places of its chips is refused, or where one chain would not fit any memory. No other
-    /// call of a rig takes memory.
+    /// Where memory for the places of its chips and for their program is refused, or where one chain would not fit any
+    /// memory. No other call of a rig takes memory.
     pub fn new(alloc: Global) -> Result<Self, AllocError>
         ensures { IfOk result (λ rig. rig ≡ record zero_bus { test = 1 }) }
     {

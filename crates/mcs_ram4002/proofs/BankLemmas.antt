@@ -1,10 +1,10 @@
 -- What a bank's flat lists are after a read of one of its chips, and after a write to one.
-use Rattle.std.proofs.Common.{◌≡◌, ℕ, ◌+◌, ◌*◌, ◌/◌, ◌%◌, ◌<◌, ◌≤◌, ◌⊎◌, inl, inr, List, [], length, get_or, slice_set, slice_index, take, refl, sym, ap, ◌∙◌, arith, nat_lt, true, false, replicate, subst}
+use Rattle.std.proofs.Common.{◌≡◌, ℕ, ◌+◌, ◌*◌, ◌/◌, ◌%◌, ◌<◌, ◌≤◌, inl, inr, List, length, get_or, slice_set, slice_index, take, refl, sym, ap, ◌∙◌, arith, replicate, subst}
 use Rattle.std.proofs.Math.Seq.{take-set-lt}
 use Rattle.std.proofs.lemmas.Grind.{common_steps}
-use Rattle.std.proofs.lemmas.Bool.{cases_lt, lt-ltb, le-ltb}
+use Rattle.std.proofs.lemmas.Bool.{cases_lt}
 use Rattle.std.specs.Prelude.{All}
-use Rattle.std.proofs.lemmas.List.{get_or_default, get_or_past, get_or-replicate, length-replicate, get_or-take, length-take}
+use Rattle.std.proofs.lemmas.List.{get_or_default, get_or_past, get_or-replicate, get_or-take}
 use Rattle.std.proofs.lemmas.List.Elements.{All-get_or, All-nil, All-take}
 use Rattle.mcs_nibble.specs.Tabled.{grid, column}
 use Rattle.mcs_nibble.proofs.GridLemmas.{get-grid, set-grid, kept-grid, length-grid, blank-grid, get-column, set-column, kept-column, length-column, blank-column}

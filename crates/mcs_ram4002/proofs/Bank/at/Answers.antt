@@ -1,4 +1,4 @@
-use Rattle.std.proofs.Common.{refl, sym, ap, ◌∙◌, ◌≡◌, ◌<◌, ◌≤◌, ◌+◌, ◌*◌, ◌/◌, ◌%◌, slice_index, length, arith}
+use Rattle.std.proofs.Common.{refl, ap, ◌∙◌, ◌≤◌, ◌%◌, slice_index, length, arith}
 use Rattle.mcs_ram4002.specs.RamBank.{BankState, main_of}
 use Rattle.mcs_ram4002.proofs.BankLemmas.{read-grid, absent-grid}
 use Rattle.mcs_ram4002.proofs.Bank.at.Goals as goal

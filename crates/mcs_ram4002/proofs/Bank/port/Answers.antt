@@ -1,4 +1,4 @@
-use Rattle.std.proofs.Common.{refl, sym, ap, ◌∙◌, ◌≡◌, ◌<◌, ◌≤◌, ◌+◌, ◌*◌, ◌/◌, ◌%◌, slice_index, length, arith}
+use Rattle.std.proofs.Common.{ap, ◌∙◌, ◌≤◌, slice_index, length, arith}
 use Rattle.mcs_ram4002.specs.RamBank.{BankState}
 use Rattle.mcs_ram4002.proofs.BankLemmas.{port-read, port-absent}
 use Rattle.mcs_ram4002.proofs.Bank.port.Goals as goal

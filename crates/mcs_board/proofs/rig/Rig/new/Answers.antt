@@ -1,4 +1,3 @@
-use Rattle.std.proofs.Common.{refl}
 use Rattle.mcs_board.proofs.MakingLemmas.{new-fitted, new-state}
 use Rattle.mcs_board.proofs.rig.Rig.new.Goals as goal
 

@@ -1,6 +1,5 @@
-use Rattle.std.proofs.Common.{◌≡◌, ◌+◌, ◌<◌, ◌≤◌, ◌∙◌, ℕ, List, [], sym, ap, subst, arith, length, get_or}
+use Rattle.std.proofs.Common.{◌+◌, ◌<◌, ◌≤◌, ◌∙◌, ℕ, List, [], sym, ap, subst, arith, length, get_or}
 use Rattle.std.proofs.lemmas.List.{get_or_default, get_or_past}
-use Rattle.mcs_nibble.specs.Bits.{nibble_of}
 use Rattle.mcs_model.specs.Bus.{BusState}
 use Rattle.mcs_model.specs.Levels.{keyed, pulled, bit_when}
 use Rattle.mcs_board.specs.RigFields.{parts_of}

@@ -1,6 +1,5 @@
-use Rattle.std.proofs.Common.{arith, ◌≡◌, ◌<◌, ◌∙◌, ℕ, [], get_or, sym, ap, subst}
+use Rattle.std.proofs.Common.{arith, ◌<◌, ℕ, [], get_or, sym, ap, subst}
 use Rattle.std.specs.Prelude.{All}
-use Rattle.mcs_model.specs.declared.board.BoardParts.{BoardParts}
 use Rattle.mcs_model.specs.Boards.{chain_count}
 use Rattle.mcs_model.specs.Bus.{BusState}
 use Rattle.mcs_model.specs.Validity.{IsValidBoard, IsValidBus}

@@ -1,4 +1,4 @@
-use Rattle.std.proofs.Common.{◌≡◌, ◌∙◌, sym, ap, arith, refl, length, slice_index, get_or}
+use Rattle.std.proofs.Common.{◌≡◌, ◌∙◌, sym, ap, arith, refl, length}
 use Rattle.std.proofs.lemmas.Bool.{eqb-true}
 use Rattle.mcs_nibble.proofs.GridLemmas.{length-grid}
 use Rattle.mcs_model.specs.declared.board.BoardParts.{BoardParts}
