@@ -1,11 +1,10 @@
 -- The parts that a table tells have numbers in their ranges.
-use Rattle.std.proofs.Common.{◌≡◌, ℕ, ◌<◌, ◌≤◌, ℤ, pos, negsuc, Bool, true, false, not, ◌||◌, ◌&&◌, List, [], ◌∷◌, length, map, codes, Option, Some, None, is_none, option_and_then, Result, Ok, Err, if◌then◌else◌, eqb, ltb, leb, refl, sym, ap, ◌∙◌, arith}
+use Rattle.std.proofs.Common.{◌≡◌, ℕ, ◌<◌, ◌≤◌, ℤ, pos, negsuc, Bool, true, false, not, ◌||◌, ◌&&◌, List, [], ◌∷◌, length, map, codes, Option, Some, None, is_none, option_and_then, Ok, Err, if◌then◌else◌, eqb, ltb, leb, refl, sym, ap, ◌∙◌, arith}
 use Rattle.std.proofs.lemmas.Bool.{and_parts, true≢false, leb-true, le-leb, le-ltb, lt-ltb}
 use Rattle.std.proofs.lemmas.Option.{same_Some}
 use Rattle.std.specs.List.{list_any, filter_map, cons_option, range_with_len}
 use Rattle.std.specs.Option.{option_to_list, option_map_or}
 use Rattle.toml.specs.Data.{Data, Members, get_member, as_integer, as_str, as_table}
-use Rattle.mcs_nibble.specs.declared.lines.LineMask.{LineMask}
 use Rattle.mcs_nibble.specs.Tabled.{tabled}
 use Rattle.mcs_model.specs.declared.board.BoardParts.{BoardParts}
 use Rattle.mcs_model.specs.declared.board.ChainPart.{ChainPart}
@@ -15,7 +14,6 @@ use Rattle.mcs_model.specs.declared.board.Line.TheVariants as line
 use Rattle.mcs_model.specs.declared.limits.TheConstants.{ROMS, BANKS, BANK_CHIPS, CHAINS, CHAIN_BITS}
 use Rattle.mcs_model.specs.Boards as boards
 use Rattle.mcs_model.specs.declared.board.BoardFault.TheVariants as fault
-use Rattle.mcs_wiring.specs.declared.fault.WiringFault.{WiringFault}
 use Rattle.mcs_wiring.specs.declared.fault.WiringFault.TheVariants.{NoSuchLine, WrongDirection}
 use Rattle.mcs_wiring.specs.Flaws.{judged}
 use Rattle.mcs_wiring.specs.declared.sections.Numbered.{Numbered}

@@ -1,6 +1,6 @@
 -- The board that a table describes, or the first refusal that holds of it (our own choice).
-use Rattle.std.specs.Prelude.{◌≡◌, ℕ, ◌+◌, ℤ, pos, negsuc, Bool, true, false, not, ◌&&◌, ◌||◌, List, [], ◌∷◌, length, map, Option, Some, None, is_none, option_map, Result, Ok, Err, nat_lt, nat_le, ◌==◌, if◌then◌else◌, codes}
-use Rattle.std.specs.List.{list_any, filter_map, find}
+use Rattle.std.specs.Prelude.{◌≡◌, ℕ, ℤ, pos, negsuc, Bool, true, false, not, ◌&&◌, ◌||◌, List, [], ◌∷◌, length, Option, Some, None, is_none, Result, Ok, Err, nat_lt, nat_le, ◌==◌, if◌then◌else◌, codes}
+use Rattle.std.specs.List.{list_any, filter_map}
 use Rattle.std.specs.Option.{option_to_list, option_map_or}
 use Rattle.toml.specs.Data.{Data, array, table, Items, no_items, item, Members, no_members, member, get_member, as_str, as_integer, as_array, as_table}
 use Rattle.toml.specs.Parse.{parse_document}
@@ -10,7 +10,7 @@ use Rattle.mcs_model.specs.declared.board.BoardParts.{BoardParts}
 use Rattle.mcs_model.specs.declared.board.ChainPart.{ChainPart}
 use Rattle.mcs_model.specs.declared.board.KeyMatrix.{KeyMatrix}
 use Rattle.mcs_model.specs.declared.board.Line.{Line}
-use Rattle.mcs_model.specs.declared.limits.TheConstants.{ROMS, BANKS, BANK_CHIPS, CHAINS, CHAIN_CHIPS, CHAIN_BITS, KEY_ROWS, KEY_COLUMNS, LAMPS}
+use Rattle.mcs_model.specs.declared.limits.TheConstants.{ROMS, BANKS, CHAINS, KEY_COLUMNS, LAMPS}
 use Rattle.mcs_model.specs.Boards.{lacks_line, has_wrong_direction}
 use Rattle.mcs_wiring.specs.declared.fault.WiringFault.{WiringFault}
 use Rattle.mcs_wiring.specs.declared.fault.WiringFault.TheVariants.{BadToml, UnknownKey, MissingKey, BadValue, TooManyParts, DoubleChip, NoSuchLine, WrongDirection, NoMemory}
