@@ -17,17 +17,17 @@ use Rattle.mcs_wiring.specs.Names.{line_name, port_name}
 abbrev pub entry : List ℕ → List ℕ → List ℕ
 entry key value = key ++ (codes " = " ++ value)
 
-abbrev pub quoted : List ℕ → List ℕ
-quoted text = codes "\"" ++ (text ++ codes "\"")
+abbrev pub quoted_text : List ℕ → List ℕ
+quoted_text text = codes "\"" ++ (text ++ codes "\"")
 
 abbrev pub quoted_name : Line → List ℕ
-quoted_name line = quoted (line_name line)
+quoted_name line = quoted_text (line_name line)
 
 -- the lines of a ROM, where the board has it
 abbrev pub rom_lines : ℕ → Option (List LineMask) → List (List ℕ)
 rom_lines chip None = []
 rom_lines chip (Some masks) =
-    codes "[[rom]]" ∷ entry (codes "chip") (decimal chip) ∷ entry (codes "port") (quoted (port_name masks)) ∷ []
+    codes "[[rom]]" ∷ entry (codes "chip") (decimal chip) ∷ entry (codes "port") (quoted_text (port_name masks)) ∷ []
 
 -- the lines of a bank, where it has chips
 abbrev pub ram_lines : ℕ → ℕ → List (List ℕ)
