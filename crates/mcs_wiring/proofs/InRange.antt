@@ -1,11 +1,10 @@
 -- The parts that a table tells have numbers in their ranges.
-use Rattle.std.proofs.Common.{◌≡◌, ℕ, ◌<◌, ◌≤◌, ℤ, pos, negsuc, Bool, true, false, not, ◌||◌, ◌&&◌, List, [], ◌∷◌, length, map, codes, Option, Some, None, is_none, option_and_then, Result, Ok, Err, if◌then◌else◌, eqb, ltb, leb, refl, sym, ap, ◌∙◌, arith}
+use Rattle.std.proofs.Common.{◌≡◌, ℕ, ◌<◌, ◌≤◌, ℤ, pos, negsuc, Bool, true, false, not, ◌||◌, ◌&&◌, List, [], ◌∷◌, length, map, codes, Option, Some, None, is_none, option_and_then, Ok, Err, if◌then◌else◌, eqb, ltb, leb, refl, sym, ap, ◌∙◌, arith}
 use Rattle.std.proofs.lemmas.Bool.{and_parts, true≢false, leb-true, le-leb, le-ltb, lt-ltb}
 use Rattle.std.proofs.lemmas.Option.{same_Some}
 use Rattle.std.specs.List.{list_any, filter_map, cons_option, range_with_len}
 use Rattle.std.specs.Option.{option_to_list, option_map_or}
 use Rattle.toml.specs.Data.{Data, Members, get_member, as_integer, as_str, as_table}
-use Rattle.mcs_nibble.specs.declared.lines.LineMask.{LineMask}
 use Rattle.mcs_nibble.specs.Tabled.{tabled}
 use Rattle.mcs_model.specs.declared.board.BoardParts.{BoardParts}
 use Rattle.mcs_model.specs.declared.board.ChainPart.{ChainPart}
@@ -15,14 +14,13 @@ use Rattle.mcs_model.specs.declared.board.Line.TheVariants as line
 use Rattle.mcs_model.specs.declared.limits.TheConstants.{ROMS, BANKS, BANK_CHIPS, CHAINS, CHAIN_BITS}
 use Rattle.mcs_model.specs.Boards as boards
 use Rattle.mcs_model.specs.declared.board.BoardFault.TheVariants as fault
-use Rattle.mcs_wiring.specs.declared.fault.WiringFault.{WiringFault}
 use Rattle.mcs_wiring.specs.declared.fault.WiringFault.TheVariants.{NoSuchLine, WrongDirection}
-use Rattle.mcs_wiring.specs.Flaws.{judged}
+use Rattle.mcs_wiring.specs.Flaws.{judgement_of, board_of_parts}
 use Rattle.mcs_wiring.specs.declared.sections.Numbered.{Numbered}
 use Rattle.mcs_wiring.specs.declared.sections.Section.{Section}
 use Rattle.mcs_wiring.specs.declared.sections.Section.TheVariants.{Rom, Ram, Chain, Keys, Lamp}
-use Rattle.mcs_wiring.specs.Names.{is_digit, if_below, number_below, behind, rom_line, ram_line, chain_line, line_named, around_dot}
-use Rattle.mcs_wiring.specs.Wiring.{if_within, number_at, line_of, line_at, told, ram_in, chain_in, matrix_in, lamp_in, values_at, is_no_line, are_bad_columns, has_bad_columns, is_malformed, has_bad_value, section_values, any_section, lacks_array, keys_table, part_at, rams_of, parts_of, board_of_parts}
+use Rattle.mcs_wiring.specs.Names.{is_digit, below_or_none, number_below, rest_behind, rom_line, ram_line, chain_line, line_named, parts_around_dot}
+use Rattle.mcs_wiring.specs.Wiring.{within_or_none, number_at, line_of, line_at, part_of, ram_in, chain_in, matrix_in, lamp_in, values_at, is_no_line, are_bad_columns, has_bad_columns, is_malformed, has_bad_value, section_values, any_section, lacks_array, keys_table, part_at, rams_of, parts_of}
 use Rattle.mcs_wiring.specs.Format.{sections}
 
 -- ---- what a step of a reading had
@@ -41,7 +39,7 @@ neither false b h = (refl, h)
 
 -- ---- numbers
 
-within_bounds : (least most : ℕ) (z : ℤ) (n : ℕ) → if_within least most z ≡ Some n → (least ≤ n) × (n ≤ most)
+within_bounds : (least most : ℕ) (z : ℤ) (n : ℕ) → within_or_none least most z ≡ Some n → (least ≤ n) × (n ≤ most)
 within_bounds least most (pos k) n e =
     let (test, same) = picked (leb least k && leb k most) k n e in
     let (low, high) = and_parts (leb least k) (leb k most) test in
@@ -52,10 +50,10 @@ within_bounds least most (negsuc k) n e = cc
 
 number_bounds : (key : List ℕ) (least most : ℕ) (ms : Members) (n : ℕ) → number_at key least most ms ≡ Some n → (least ≤ n) × (n ≤ most)
 number_bounds key least most ms n e =
-    let (z, _, read) = bound (option_and_then as_integer (get_member key ms)) (if_within least most) n e in
+    let (z, _, read) = bound (option_and_then as_integer (get_member key ms)) (within_or_none least most) n e in
     within_bounds least most z n read
 
-below_bound : (b : Bool) (limit k n : ℕ) → (if b then if_below limit k else None) ≡ Some n → ltb n limit ≡ true
+below_bound : (b : Bool) (limit k n : ℕ) → (if b then below_or_none limit k else None) ≡ Some n → ltb n limit ≡ true
 below_bound true limit k n e = let (test, same) = picked (ltb k limit) k n e in rw (← same) test
 below_bound false limit k n e = cc
 
@@ -69,7 +67,7 @@ named_below limit (a ∷ b ∷ c ∷ rest) n e = cc
 
 rom_in_range : (text : List ℕ) (l : Line) → rom_line text ≡ Some l → boards.in_range l ≡ true
 rom_in_range text l e =
-    let (p, _, e1) = bound (around_dot text) _ l e in
+    let (p, _, e1) = bound (parts_around_dot text) _ l e in
     let (chip, chip_is, e2) = bound (number_below ROMS p.0) _ l e1 in
     let (k, k_is, e3) = bound (number_below 4 p.1) _ l e2 in
     let same : line.Rom chip k ≡ l = same_Some (line.Rom chip k) l e3 in
@@ -78,8 +76,8 @@ rom_in_range text l e =
 
 ram_in_range : (text : List ℕ) (l : Line) → ram_line text ≡ Some l → boards.in_range l ≡ true
 ram_in_range text l e =
-    let (p, _, e1) = bound (around_dot text) _ l e in
-    let (q, _, e2) = bound (around_dot p.1) _ l e1 in
+    let (p, _, e1) = bound (parts_around_dot text) _ l e in
+    let (q, _, e2) = bound (parts_around_dot p.1) _ l e1 in
     let (bank, bank_is, e3) = bound (number_below BANKS p.0) _ l e2 in
     let (chip, chip_is, e4) = bound (number_below BANK_CHIPS q.0) _ l e3 in
     let (k, k_is, e5) = bound (number_below 4 q.1) _ l e4 in
@@ -89,7 +87,7 @@ ram_in_range text l e =
 
 chain_in_range : (text : List ℕ) (l : Line) → chain_line text ≡ Some l → boards.in_range l ≡ true
 chain_in_range text l e =
-    let (p, _, e1) = bound (around_dot text) _ l e in
+    let (p, _, e1) = bound (parts_around_dot text) _ l e in
     let (n, n_is, e2) = bound (number_below CHAINS p.0) _ l e1 in
     let (i, i_is, e3) = bound (number_below CHAIN_BITS p.1) _ l e2 in
     let same : line.Chain n i ≡ l = same_Some (line.Chain n i) l e3 in
@@ -103,7 +101,7 @@ named_in_range None (Some rest) c l e = ram_in_range rest l e
 named_in_range None None c l e = let (rest, _, read) = bound c chain_line l e in chain_in_range rest l read
 
 line_in_range : (text : List ℕ) (l : Line) → line_named text ≡ Some l → boards.in_range l ≡ true
-line_in_range text l e = named_in_range (behind (codes "rom") text) (behind (codes "ram") text) (behind (codes "chain") text) l e
+line_in_range text l e = named_in_range (rest_behind (codes "rom") text) (rest_behind (codes "ram") text) (rest_behind (codes "chain") text) l e
 
 -- whether a line is out of range: never
 abbrev is_out : Line → Bool
@@ -138,7 +136,7 @@ above n = ltb BANK_CHIPS n
 
 -- ---- banks
 
-ram_within : (d : Data) (p : Numbered ℕ) → told ram_in d ≡ Some p → above p.part ≡ false
+ram_within : (d : Data) (p : Numbered ℕ) → part_of ram_in d ≡ Some p → above p.part ≡ false
 ram_within d p e =
     let (ms, _, e1) = bound (as_table d) ram_in p e in
     let (bank, _, e2) = bound (number_at (codes "bank") 0 7 ms) _ p e1 in
@@ -160,12 +158,12 @@ part_within (p ∷ ps) n h =
 
 banks_within : (ms : Members) → list_any above (parts_of ms).banks ≡ false
 banks_within ms =
-    let rams = none_of (λ (p : Numbered ℕ). above p.part) (told ram_in) ram_within (values_at (codes "ram") ms) in
+    let rams = none_of (λ (p : Numbered ℕ). above p.part) (part_of ram_in) ram_within (values_at (codes "ram") ms) in
     any-tabled above (part_at 0 (rams_of ms)) (λ k. part_within (rams_of ms) k rams) BANKS
 
 -- ---- chains
 
-chain_right : (d : Data) (c : ChainPart) → told chain_in d ≡ Some c → (not (boards.is_chain_size c) ≡ false) × ((is_out c.clock || is_out c.data_in) ≡ false)
+chain_right : (d : Data) (c : ChainPart) → part_of chain_in d ≡ Some c → (not (boards.is_chain_size c) ≡ false) × ((is_out c.clock || is_out c.data_in) ≡ false)
 chain_right d c e =
     let (ms, _, e1) = bound (as_table d) chain_in c e in
     let (clock, clock_is, e2) = bound (line_at (codes "clock") ms) _ c e1 in
@@ -228,7 +226,7 @@ good_columns : (o : Option Data) (t : Members) → list_any (is_malformed Keys) 
 good_columns None t h e = cc
 good_columns (Some d) t h e =
     let (bad, _) = neither (is_malformed Keys d) false h in
-    let (_, columns) = neither (is_none (told matrix_in d)) (option_map_or has_bad_columns (as_table d) true) bad in
+    let (_, columns) = neither (is_none (part_of matrix_in d)) (option_map_or has_bad_columns (as_table d) true) bad in
     ap (λ o. option_map_or has_bad_columns o true) (sym e) ∙ columns
 
 keys_right : (ms : Members) → has_bad_value ms ≡ false → IsRight (parts_of ms).keys
@@ -245,7 +243,7 @@ keys_right ms h =
 
 -- ---- all parts
 
-lamp_right : (d : Data) (l : Line) → told lamp_in d ≡ Some l → is_out l ≡ false
+lamp_right : (d : Data) (l : Line) → part_of lamp_in d ≡ Some l → is_out l ≡ false
 lamp_right d l e = let (ms, _, read) = bound (as_table d) lamp_in l e in at_in_range (codes "line") ms l read
 
 all_false : (a b c d e f : Bool) → a ≡ false → b ≡ false → c ≡ false → d ≡ false → e ≡ false → f ≡ false → (((a || b) || c) || ((d || e) || f)) ≡ false
@@ -258,12 +256,12 @@ in_range ms h =
     let keys = keys_right ms h in
     all_false (list_any above b.banks) (list_any (λ c. not (boards.is_chain_size c)) b.chains.items) (boards.has_bad_matrix b)
     (boards.any_chain_line is_out b) (boards.any_column is_out b) (boards.any_lamp is_out b)
-    (banks_within ms) (none_of (λ c. not (boards.is_chain_size c)) (told chain_in) (λ d c e. (chain_right d c e).0) chains) keys.0
-    (none_of (λ (c : ChainPart). is_out c.clock || is_out c.data_in) (told chain_in) (λ d c e. (chain_right d c e).1) chains) keys.1
-    (none_of is_out (told lamp_in) lamp_right (values_at (codes "lamp") ms))
+    (banks_within ms) (none_of (λ c. not (boards.is_chain_size c)) (part_of chain_in) (λ d c e. (chain_right d c e).0) chains) keys.0
+    (none_of (λ (c : ChainPart). is_out c.clock || is_out c.data_in) (part_of chain_in) (λ d c e. (chain_right d c e).1) chains) keys.1
+    (none_of is_out (part_of lamp_in) lamp_right (values_at (codes "lamp") ms))
 
 judged_tests : (b : BoardParts) (bad lacks wrong : Bool) → bad ≡ false
-    → judged b (if bad then Some fault.BadValue else if lacks then Some fault.NoSuchLine else if wrong then Some fault.WrongDirection else None)
+    → judgement_of b (if bad then Some fault.BadValue else if lacks then Some fault.NoSuchLine else if wrong then Some fault.WrongDirection else None)
     ≡ (if lacks then Err NoSuchLine else if wrong then Err WrongDirection else Ok b)
 judged_tests b true lacks wrong h = absurd (true≢false h)
 judged_tests b false true wrong h = refl
@@ -271,7 +269,7 @@ judged_tests b false false true h = refl
 judged_tests b false false false h = refl
 
 -- nothing but 25 and 26 can be wrong with the parts
-pub judged_parts : (ms : Members) → has_bad_value ms ≡ false → judged (parts_of ms) (boards.fault_of (parts_of ms)) ≡ board_of_parts (parts_of ms)
+pub judged_parts : (ms : Members) → has_bad_value ms ≡ false → judgement_of (parts_of ms) (boards.fault_of (parts_of ms)) ≡ board_of_parts (parts_of ms)
 judged_parts ms h =
     let b = parts_of ms in
     judged_tests b (boards.has_bad_value b) (boards.lacks_line b) (boards.has_wrong_direction b) (in_range ms h)

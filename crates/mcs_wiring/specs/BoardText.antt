@@ -1,6 +1,6 @@
 -- The text of a board, line by line, and the answer to the query `board` (our own choice).
 use Rattle.std.specs.Prelude.{ℕ, nat_lt, List, [], ◌∷◌, ◌++◌, Option, Some, None, codes, slice_index, if◌then◌else◌}
-use Rattle.std.specs.List.{flat_map, join_by, range_with_len}
+use Rattle.std.specs.List.{flat_map, join_by, join_with_byte, range_with_len}
 use Rattle.std.specs.Option.{option_map_or}
 use Rattle.std.specs.Fmt.{decimal}
 use Rattle.mcs_nibble.specs.declared.lines.LineMask.{LineMask}
@@ -17,17 +17,17 @@ use Rattle.mcs_wiring.specs.Names.{line_name, port_name}
 abbrev pub entry : List ℕ → List ℕ → List ℕ
 entry key value = key ++ (codes " = " ++ value)
 
-abbrev pub quoted : List ℕ → List ℕ
-quoted text = codes "\"" ++ (text ++ codes "\"")
+abbrev pub quoted_text : List ℕ → List ℕ
+quoted_text text = codes "\"" ++ (text ++ codes "\"")
 
 abbrev pub quoted_name : Line → List ℕ
-quoted_name line = quoted (line_name line)
+quoted_name line = quoted_text (line_name line)
 
 -- the lines of a ROM, where the board has it
 abbrev pub rom_lines : ℕ → Option (List LineMask) → List (List ℕ)
 rom_lines chip None = []
 rom_lines chip (Some masks) =
-    codes "[[rom]]" ∷ entry (codes "chip") (decimal chip) ∷ entry (codes "port") (quoted (port_name masks)) ∷ []
+    codes "[[rom]]" ∷ entry (codes "chip") (decimal chip) ∷ entry (codes "port") (quoted_text (port_name masks)) ∷ []
 
 -- the lines of a bank, where it has chips
 abbrev pub ram_lines : ℕ → ℕ → List (List ℕ)
@@ -70,9 +70,9 @@ text_of lines = flat_map as_line lines
 abbrev pub board_text : BoardParts → List ℕ
 board_text b = text_of (board_lines b)
 
--- the lines of the answer to the query `board`, and their text
-abbrev pub answer_lines : BoardParts → List (List ℕ)
-answer_lines b = codes "board" ∷ board_lines b
+-- the answer to the query `board`: the line `board`, then the lines of the board; its text ends without a line feed
+abbrev pub query_lines : BoardParts → List (List ℕ)
+query_lines b = codes "board" ∷ board_lines b
 
-abbrev pub answer_text : BoardParts → List ℕ
-answer_text b = text_of (answer_lines b)
+abbrev pub query_text : BoardParts → List ℕ
+query_text b = join_with_byte 10 (query_lines b)

@@ -1,18 +1,19 @@
 -- What the clauses of private functions cite.
-use Rattle.std.specs.Prelude.{ℕ, ◌≤◌, Bool, List, length, codes, slice_index, Option, Some, None, Result, Ok, Err}
+use Rattle.std.specs.Prelude.{if◌then◌else◌, ℕ, ◌≤◌, Bool, List, length, codes, slice_index, Option, Some, None, Result, Ok, Err}
 use Rattle.std.specs.List.{flat_map, range_with_len}
 use Rattle.toml.specs.Data.{Data, Members}
 use Rattle.mcs_model.specs.declared.limits.TheConstants.{ROMS, BANKS, CHAINS, KEY_COLUMNS, LAMPS}
 use Rattle.mcs_model.specs.declared.board.BoardFault.{BoardFault}
 use Rattle.mcs_model.specs.declared.board.BoardParts.{BoardParts}
-use Rattle.mcs_model.specs.Boards.{masks_on}
+use Rattle.mcs_model.specs.Boards.{lacks_line, has_wrong_direction, masks_on}
 use Rattle.mcs_wiring.specs.declared.fault.WiringFault.{WiringFault}
+use Rattle.mcs_wiring.specs.declared.fault.WiringFault.TheVariants.{DoubleChip, NoSuchLine, WrongDirection}
 use Rattle.mcs_wiring.specs.declared.sections.Flaw.{Flaw}
 use Rattle.mcs_wiring.specs.declared.sections.Flaw.TheVariants.{UnknownKey, MissingKey, BadValue}
 use Rattle.mcs_wiring.specs.declared.sections.Section.{Section}
 use Rattle.mcs_wiring.specs.Refusals.{refusal_of}
 use Rattle.mcs_wiring.specs.BoardText.{rom_lines, ram_lines, text_of}
-use Rattle.mcs_wiring.specs.Wiring.{has_other_key, lacks_key, is_malformed, values_at, column_values}
+use Rattle.mcs_wiring.specs.Wiring.{has_other_key, lacks_key, is_malformed, values_at, column_values, has_double_chip, parts_of}
 
 -- whether a value in the place of a section's table has a flaw
 abbrev pub has_flaw : Flaw → Section → Data → Bool
@@ -42,6 +43,16 @@ abbrev pub rams_text : BoardParts → ℕ → List ℕ
 rams_text b n = flat_map (ram_text b) (range_with_len 0 n)
 
 -- the board of parts, or the refusal of what is wrong with them
-abbrev pub judged : BoardParts → Option BoardFault → Result BoardParts WiringFault
-judged parts None = Ok parts
-judged parts (Some fault) = Err (refusal_of fault)
+abbrev pub judgement_of : BoardParts → Option BoardFault → Result BoardParts WiringFault
+judgement_of parts None = Ok parts
+judgement_of parts (Some fault) = Err (refusal_of fault)
+
+-- what is left to say of parts whose numbers are in range, and of a table that has nothing of 21, 22, 23 and 27
+abbrev pub board_of_parts : BoardParts → Result BoardParts WiringFault
+board_of_parts parts =
+    if lacks_line parts then Err NoSuchLine
+    else if has_wrong_direction parts then Err WrongDirection
+    else Ok parts
+
+abbrev pub board_within_limits : Members → Result BoardParts WiringFault
+board_within_limits ms = if has_double_chip ms then Err DoubleChip else board_of_parts (parts_of ms)

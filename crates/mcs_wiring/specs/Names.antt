@@ -20,53 +20,53 @@ o >>= f = option_and_then f o
 abbrev pub is_digit : ℕ → Bool
 is_digit c = nat_le 48 c && nat_le c 57
 
-abbrev pub if_below : ℕ → ℕ → Option ℕ
-if_below limit n = if nat_lt n limit then Some n else None
+abbrev pub below_or_none : ℕ → ℕ → Option ℕ
+below_or_none limit n = if nat_lt n limit then Some n else None
 
 -- the number below a limit that one or two decimal digits are, without a leading zero (no number of a line has three)
 abbrev pub number_below : ℕ → List ℕ → Option ℕ
-number_below limit (d ∷ []) = if is_digit d then if_below limit (d - 48) else None
-number_below limit (t ∷ d ∷ []) = if (is_digit t && is_digit d) && not (t == 48) then if_below limit (10 * (t - 48) + (d - 48)) else None
+number_below limit (d ∷ []) = if is_digit d then below_or_none limit (d - 48) else None
+number_below limit (t ∷ d ∷ []) = if (is_digit t && is_digit d) && not (t == 48) then below_or_none limit (10 * (t - 48) + (d - 48)) else None
 number_below limit text = None
 
 -- ---- lines: `romC.K`, `ramB.C.K`, `chainN.I`
 
 -- what stands behind a word, if the text begins with it
-abbrev pub behind : List ℕ → List ℕ → Option (List ℕ)
-behind word text = if bytes_eq (take (length word) text) word then Some (drop (length word) text) else None
+abbrev pub rest_behind : List ℕ → List ℕ → Option (List ℕ)
+rest_behind word text = if bytes_eq (take (length word) text) word then Some (drop (length word) text) else None
 
 -- what stands before and behind the first dot
-abbrev pub around_dot : List ℕ → Option (List ℕ × List ℕ)
-around_dot text =
+abbrev pub parts_around_dot : List ℕ → Option (List ℕ × List ℕ)
+parts_around_dot text =
     if nat_lt (position_or_len (λ b. b == 46) text) (length text)
     then Some (before_first (λ b. b == 46) text, after_first (λ b. b == 46) text) else None
 
 abbrev pub rom_line : List ℕ → Option Line
 rom_line text =
-    around_dot text >>= (λ (p : List ℕ × List ℕ).
+    parts_around_dot text >>= (λ (p : List ℕ × List ℕ).
     number_below ROMS p.0 >>= (λ chip.
     number_below 4 p.1 >>= (λ k. Some (Rom chip k))))
 
 abbrev pub ram_line : List ℕ → Option Line
 ram_line text =
-    around_dot text >>= (λ (p : List ℕ × List ℕ).
-    around_dot p.1 >>= (λ (q : List ℕ × List ℕ).
+    parts_around_dot text >>= (λ (p : List ℕ × List ℕ).
+    parts_around_dot p.1 >>= (λ (q : List ℕ × List ℕ).
     number_below BANKS p.0 >>= (λ bank.
     number_below BANK_CHIPS q.0 >>= (λ chip.
     number_below 4 q.1 >>= (λ k. Some (Ram bank chip k))))))
 
 abbrev pub chain_line : List ℕ → Option Line
 chain_line text =
-    around_dot text >>= (λ (p : List ℕ × List ℕ).
+    parts_around_dot text >>= (λ (p : List ℕ × List ℕ).
     number_below CHAINS p.0 >>= (λ n.
     number_below CHAIN_BITS p.1 >>= (λ i. Some (Chain n i))))
 
 -- the line that a text names, if it has the form of a line
 abbrev pub line_named : List ℕ → Option Line
 line_named text =
-    elim (behind (codes "rom") text) [
+    elim (rest_behind (codes "rom") text) [
       | Some rest ↦ rom_line rest
-      | None ↦ elim (behind (codes "ram") text) [ Some rest ↦ ram_line rest | None ↦ behind (codes "chain") text >>= chain_line ]
+      | None ↦ elim (rest_behind (codes "ram") text) [ Some rest ↦ ram_line rest | None ↦ rest_behind (codes "chain") text >>= chain_line ]
     ]
 
 -- the name of a line

@@ -1,6 +1,6 @@
 -- The board that a table describes, or the first refusal that holds of it (our own choice).
-use Rattle.std.specs.Prelude.{◌≡◌, ℕ, ◌+◌, ℤ, pos, negsuc, Bool, true, false, not, ◌&&◌, ◌||◌, List, [], ◌∷◌, length, map, Option, Some, None, is_none, option_map, Result, Ok, Err, nat_lt, nat_le, ◌==◌, if◌then◌else◌, codes}
-use Rattle.std.specs.List.{list_any, filter_map, find}
+use Rattle.std.specs.Prelude.{◌≡◌, ℕ, ℤ, pos, negsuc, Bool, true, false, not, ◌&&◌, ◌||◌, List, [], ◌∷◌, length, Option, Some, None, is_none, Result, Ok, Err, nat_lt, nat_le, ◌==◌, if◌then◌else◌, codes}
+use Rattle.std.specs.List.{list_any, filter_map}
 use Rattle.std.specs.Option.{option_to_list, option_map_or}
 use Rattle.toml.specs.Data.{Data, array, table, Items, no_items, item, Members, no_members, member, get_member, as_str, as_integer, as_array, as_table}
 use Rattle.toml.specs.Parse.{parse_document}
@@ -10,7 +10,7 @@ use Rattle.mcs_model.specs.declared.board.BoardParts.{BoardParts}
 use Rattle.mcs_model.specs.declared.board.ChainPart.{ChainPart}
 use Rattle.mcs_model.specs.declared.board.KeyMatrix.{KeyMatrix}
 use Rattle.mcs_model.specs.declared.board.Line.{Line}
-use Rattle.mcs_model.specs.declared.limits.TheConstants.{ROMS, BANKS, BANK_CHIPS, CHAINS, CHAIN_CHIPS, CHAIN_BITS, KEY_ROWS, KEY_COLUMNS, LAMPS}
+use Rattle.mcs_model.specs.declared.limits.TheConstants.{ROMS, BANKS, CHAINS, KEY_COLUMNS, LAMPS}
 use Rattle.mcs_model.specs.Boards.{lacks_line, has_wrong_direction}
 use Rattle.mcs_wiring.specs.declared.fault.WiringFault.{WiringFault}
 use Rattle.mcs_wiring.specs.declared.fault.WiringFault.TheVariants.{BadToml, UnknownKey, MissingKey, BadValue, TooManyParts, DoubleChip, NoSuchLine, WrongDirection, NoMemory}
@@ -73,12 +73,12 @@ has_missing_key ms = any_section lacks_key ms
 -- ---- 23: a value of another type or form, or a number out of its range
 
 -- a number from `least` to `most`
-abbrev pub if_within : ℕ → ℕ → ℤ → Option ℕ
-if_within least most (pos n) = if nat_le least n && nat_le n most then Some n else None
-if_within least most (negsuc n) = None
+abbrev pub within_or_none : ℕ → ℕ → ℤ → Option ℕ
+within_or_none least most (pos n) = if nat_le least n && nat_le n most then Some n else None
+within_or_none least most (negsuc n) = None
 
 abbrev pub number_at : List ℕ → ℕ → ℕ → Members → Option ℕ
-number_at key least most ms = get_member key ms >>= as_integer >>= if_within least most
+number_at key least most ms = get_member key ms >>= as_integer >>= within_or_none least most
 
 abbrev pub line_of : Data → Option Line
 line_of d = as_str d >>= line_named
@@ -130,16 +130,16 @@ abbrev pub lamp_in : Members → Option Line
 lamp_in ms = line_at (codes "line") ms
 
 -- what a table tells, if the value is a table that tells it
-abbrev pub told : {A : Type 0} → (Members → Option A) → Data → Option A
-told read d = as_table d >>= read
+abbrev pub part_of : {A : Type 0} → (Members → Option A) → Data → Option A
+part_of read d = as_table d >>= read
 
 -- whether a value in the place of a section's table is none of it
 abbrev pub is_malformed : Section → Data → Bool
-is_malformed Rom d = is_none (told rom_in d)
-is_malformed Ram d = is_none (told ram_in d)
-is_malformed Chain d = is_none (told chain_in d)
-is_malformed Keys d = is_none (told matrix_in d) || option_map_or has_bad_columns (as_table d) true
-is_malformed Lamp d = is_none (told lamp_in d)
+is_malformed Rom d = is_none (part_of rom_in d)
+is_malformed Ram d = is_none (part_of ram_in d)
+is_malformed Chain d = is_none (part_of chain_in d)
+is_malformed Keys d = is_none (part_of matrix_in d) || option_map_or has_bad_columns (as_table d) true
+is_malformed Lamp d = is_none (part_of lamp_in d)
 
 -- whether no array stands where a section has one
 abbrev pub is_no_array : Option Data → Bool
@@ -181,10 +181,10 @@ has_double [] = false
 has_double (p ∷ ps) = list_any (λ q. q.number == p.number) ps || has_double ps
 
 abbrev pub roms_of : Members → List (Numbered (Option (List LineMask)))
-roms_of ms = filter_map (told rom_in) (values_at (codes "rom") ms)
+roms_of ms = filter_map (part_of rom_in) (values_at (codes "rom") ms)
 
 abbrev pub rams_of : Members → List (Numbered ℕ)
-rams_of ms = filter_map (told ram_in) (values_at (codes "ram") ms)
+rams_of ms = filter_map (part_of ram_in) (values_at (codes "ram") ms)
 
 abbrev pub has_double_chip : Members → Bool
 has_double_chip ms = has_double (roms_of ms) || has_double (rams_of ms)
@@ -201,30 +201,23 @@ abbrev pub parts_of : Members → BoardParts
 parts_of ms = record {
   roms = tabled ROMS (part_at None (roms_of ms));
   banks = tabled BANKS (part_at 0 (rams_of ms));
-  chains = record { items = filter_map (told chain_in) (values_at (codes "chain") ms) };
+  chains = record { items = filter_map (part_of chain_in) (values_at (codes "chain") ms) };
   keys = keys_table ms >>= matrix_in;
-  lamps = record { items = filter_map (told lamp_in) (values_at (codes "lamp") ms) };
+  lamps = record { items = filter_map (part_of lamp_in) (values_at (codes "lamp") ms) };
 }
 
--- the board of these parts; 25: a line, a chain or a row's bit that is not there; 26: a line of the wrong direction
-abbrev pub board_of_parts : BoardParts → Result BoardParts WiringFault
-board_of_parts parts =
-    if lacks_line parts then Err NoSuchLine
-    else if has_wrong_direction parts then Err WrongDirection
-    else Ok parts
-
--- the board of a table that has nothing of 21, 22, 23 and 27
-abbrev pub board_of_counted : Members → Result BoardParts WiringFault
-board_of_counted ms = if has_double_chip ms then Err DoubleChip else board_of_parts (parts_of ms)
-
--- the board that a table describes, or the first refusal that holds of it
+-- the board that a table describes, or the first refusal that holds of it; 25: a line, a chain or a row's bit that is not
+-- there; 26: a line of the wrong direction
 unfoldable pub board_of_table : Members → Result BoardParts WiringFault
 board_of_table ms =
     if has_unknown_key ms then Err UnknownKey
     else if has_missing_key ms then Err MissingKey
     else if has_bad_value ms then Err BadValue
     else if has_too_many ms then Err TooManyParts
-    else board_of_counted ms
+    else if has_double_chip ms then Err DoubleChip
+    else if lacks_line (parts_of ms) then Err NoSuchLine
+    else if has_wrong_direction (parts_of ms) then Err WrongDirection
+    else Ok (parts_of ms)
 
 -- the board of a text: 20 where it is not TOML, else that of its table
 abbrev pub board_of_text : List ℕ → Result BoardParts WiringFault

@@ -2,7 +2,7 @@
 ghost use Rattle.std.specs.Prelude.{◌≡◌, ◌≤◌, ◌||◌, ◌==◌, codes, map, is_none, length};
 ghost use Rattle.std.specs.List.{filter_map, list_any};
 ghost use Rattle.toml.specs.View.{view, table_view};
-ghost use Rattle.mcs_wiring.specs.Wiring.{told, values_at, column_values, rom_in, ram_in, chain_in, matrix_in, lamp_in, line_of, is_no_line, has_bad_columns};
+ghost use Rattle.mcs_wiring.specs.Wiring.{part_of, values_at, column_values, rom_in, ram_in, chain_in, matrix_in, lamp_in, line_of, is_no_line, has_bad_columns};
 
 use crate::names::masks_named;
 use crate::sections::Numbered;
@@ -15,7 +15,7 @@ use toml::{Table, Value};
 
 /// The ROM that a value tells.
 pub(crate) fn rom(value: &Value) -> Option<Numbered<Option<[LineMask; 4]>>>
-    ensures { result ≡ told rom_in (view value.now) }
+    ensures { result ≡ part_of rom_in (view value.now) }
 {
     let table = value.as_table()?;
     let chip = number_at(table, "chip", 0, 15)?;
@@ -28,7 +28,7 @@ pub(crate) fn rom(value: &Value) -> Option<Numbered<Option<[LineMask; 4]>>>
 
 /// The bank of RAM that a value tells.
 pub(crate) fn ram(value: &Value) -> Option<Numbered<u8>>
-    ensures { result ≡ told ram_in (view value.now) }
+    ensures { result ≡ part_of ram_in (view value.now) }
 {
     let table = value.as_table()?;
     let bank = number_at(table, "bank", 0, 7)?;
@@ -41,7 +41,7 @@ pub(crate) fn ram(value: &Value) -> Option<Numbered<u8>>
 
 /// The chain that a value tells.
 pub(crate) fn chain(value: &Value) -> Option<ChainPart>
-    ensures { result ≡ told chain_in (view value.now) }
+    ensures { result ≡ part_of chain_in (view value.now) }
 {
     let table = value.as_table()?;
     let clock = line_at(table, "clock")?;
@@ -56,7 +56,7 @@ pub(crate) fn chain(value: &Value) -> Option<ChainPart>
 
 /// The line of the lamp that a value tells.
 pub(crate) fn lamp(value: &Value) -> Option<Line>
-    ensures { result ≡ told lamp_in (view value.now) }
+    ensures { result ≡ part_of lamp_in (view value.now) }
 {
     line_at(value.as_table()?, "line")
 }
@@ -129,7 +129,7 @@ fn columns(values: &[Value]) -> ArrayVec<Line, KEY_COLUMNS>
 /// The ROMs that values tell.
 pub(crate) fn roms(values: &[Value]) -> ArrayVec<Numbered<Option<[LineMask; 4]>>, ROMS>
     requires { length values.now ≤ ROMS }
-    ensures { result.items ≡ filter_map (told rom_in) (map view values.now) }
+    ensures { result.items ≡ filter_map (part_of rom_in) (map view values.now) }
 {
     let mut roms = ArrayVec::new();
     for value in values {
@@ -143,7 +143,7 @@ pub(crate) fn roms(values: &[Value]) -> ArrayVec<Numbered<Option<[LineMask; 4]>>
 /// The banks of RAM that values tell.
 pub(crate) fn rams(values: &[Value]) -> ArrayVec<Numbered<u8>, BANKS>
     requires { length values.now ≤ BANKS }
-    ensures { result.items ≡ filter_map (told ram_in) (map view values.now) }
+    ensures { result.items ≡ filter_map (part_of ram_in) (map view values.now) }
 {
     let mut rams = ArrayVec::new();
     for value in values {
@@ -157,7 +157,7 @@ pub(crate) fn rams(values: &[Value]) -> ArrayVec<Numbered<u8>, BANKS>
 /// The chains that values tell.
 pub(crate) fn chains(values: &[Value]) -> ArrayVec<ChainPart, CHAINS>
     requires { length values.now ≤ CHAINS }
-    ensures { result.items ≡ filter_map (told chain_in) (map view values.now) }
+    ensures { result.items ≡ filter_map (part_of chain_in) (map view values.now) }
 {
     let mut chains = ArrayVec::new();
     for value in values {
@@ -171,7 +171,7 @@ pub(crate) fn chains(values: &[Value]) -> ArrayVec<ChainPart, CHAINS>
 /// The lines of the lamps that values tell.
 pub(crate) fn lamps(values: &[Value]) -> ArrayVec<Line, LAMPS>
     requires { length values.now ≤ LAMPS }
-    ensures { result.items ≡ filter_map (told lamp_in) (map view values.now) }
+    ensures { result.items ≡ filter_map (part_of lamp_in) (map view values.now) }
 {
     let mut lamps = ArrayVec::new();
     for value in values {

@@ -7,8 +7,8 @@ ghost use Rattle.toml.specs.View.{view, table_view};
 ghost use Rattle.mcs_nibble.specs.Tabled.{tabled};
 ghost use Rattle.mcs_model.specs.Boards.{fault_of};
 ghost use Rattle.mcs_wiring.specs.Format.{sections, section_key, table_keys, is_board_key, is_section_key};
-ghost use Rattle.mcs_wiring.specs.Wiring.{has_unknown_key, has_missing_key, has_bad_value, has_too_many, has_double, has_double_chip, has_other_key, lacks_one_of, lacks_key, is_malformed, lacks_array, values_at, section_values, any_section, column_values, keys_table, matrix_in, roms_of, rams_of, parts_of, part_at, board_of_counted, board_of_table, board_of_text, Answers};
-ghost use Rattle.mcs_wiring.specs.Flaws.{has_flaw, judged, IsWithinLimits};
+ghost use Rattle.mcs_wiring.specs.Wiring.{has_unknown_key, has_missing_key, has_bad_value, has_too_many, has_double, has_double_chip, has_other_key, lacks_one_of, lacks_key, is_malformed, lacks_array, values_at, section_values, any_section, column_values, keys_table, matrix_in, roms_of, rams_of, parts_of, part_at, board_of_table, board_of_text, Answers};
+ghost use Rattle.mcs_wiring.specs.Flaws.{has_flaw, judgement_of, board_within_limits, IsWithinLimits};
 
 use crate::fault::WiringFault;
 use crate::parts::{
@@ -299,17 +299,17 @@ fn parts_of(
 
 /// The board of parts, or what is wrong with them.
 fn board_of_parts(parts: BoardParts) -> Result<Board, WiringFault>
-    ensures { result ≡ judged parts (fault_of parts) }
+    ensures { result ≡ judgement_of parts (fault_of parts) }
 {
     Ok(Board::of(parts)?)
 }
 
 /// The board of a table without too many parts.
 #[tactic(auto, using(crate::proofs::Seen::length_seen))]
-fn board_of_counted(table: &Table) -> Result<Board, WiringFault>
+fn board_within_limits(table: &Table) -> Result<Board, WiringFault>
     requires no_bad_value { has_bad_value (table_view table.now) ≡ false }
     requires within { IsWithinLimits (table_view table.now) }
-    ensures { result ≡ board_of_counted (table_view table.now) }
+    ensures { result ≡ board_within_limits (table_view table.now) }
 {
     let roms = roms(values_at(table, "rom"));
     let rams = rams(values_at(table, "ram"));
@@ -336,7 +336,7 @@ fn board_of_table(table: &Table) -> Result<Board, WiringFault>
     if has_too_many(table) {
         return Err(WiringFault::TooManyParts);
     }
-    board_of_counted(table)
+    board_within_limits(table)
 }
 
 /// The board of a text in TOML, or the first refusal that holds of it.

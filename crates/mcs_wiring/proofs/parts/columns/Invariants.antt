@@ -6,6 +6,6 @@ use Rattle.mcs_wiring.proofs.parts.columns.Given as goal
 
 abbrev pub invariant-loop-value : goal.invariant-loop-value
 invariant-loop-value l = record {
-  told : l.columns.items ++ filter_map line_of (map view (drop l.value-index l.values)) ≡ filter_map line_of (map view l.values);
+  so_far : l.columns.items ++ filter_map line_of (map view (drop l.value-index l.values)) ≡ filter_map line_of (map view l.values);
   room : length l.columns.items ≤ l.value-index;
 }

@@ -1,11 +1,11 @@
 use Rattle.std.proofs.Common.{◌≡◌, ◌++◌, ◌≤◌, drop, length, map}
 use Rattle.std.specs.List.{filter_map}
 use Rattle.toml.specs.View.{view}
-use Rattle.mcs_wiring.specs.Wiring.{told, ram_in}
+use Rattle.mcs_wiring.specs.Wiring.{part_of, ram_in}
 use Rattle.mcs_wiring.proofs.parts.rams.Given as goal
 
 abbrev pub invariant-loop-value : goal.invariant-loop-value
 invariant-loop-value l = record {
-  told : l.rams.items ++ filter_map (told ram_in) (map view (drop l.value-index l.values)) ≡ filter_map (told ram_in) (map view l.values);
+  so_far : l.rams.items ++ filter_map (part_of ram_in) (map view (drop l.value-index l.values)) ≡ filter_map (part_of ram_in) (map view l.values);
   room : length l.rams.items ≤ l.value-index;
 }

@@ -1,0 +1,107 @@
+-- The name of a line is read back as that line, and the name of a port as its masks.
+use Rattle.std.proofs.Common.{◌≡◌, ℕ, zero, suc, ◌+◌, ◌<◌, Bool, true, false, ◌&&◌, [], ◌∷◌, Option, Some, None, eqb, ltb, refl, ap, ◌∙◌, arith}
+use Rattle.std.proofs.lemmas.Bool.{and_parts, false≢true, eqb-true, ltb-true}
+use Rattle.std.specs.List.{list_all, range_with_len}
+use Rattle.std.specs.Fmt.{digits}
+use Rattle.mcs_nibble.specs.declared.lines.LineMask.{LineMask}
+use Rattle.mcs_nibble.specs.declared.lines.LineMask.TheVariants.{Input, Zero, One}
+use Rattle.mcs_model.specs.declared.board.Line.{Line}
+use Rattle.mcs_model.specs.declared.board.Line.TheVariants.{Rom, Ram, Chain}
+use Rattle.mcs_model.specs.declared.limits.TheConstants.{ROMS, BANKS, BANK_CHIPS, CHAINS, CHAIN_BITS}
+use Rattle.mcs_model.specs.Boards.{in_range}
+use Rattle.mcs_wiring.specs.Names.{line_name, line_named, mask_of, mask_code, masks_named, port_name}
+
+-- ---- ports
+
+mask_back : (m : LineMask) → mask_of (mask_code m) ≡ Some m
+mask_back Input = refl
+mask_back Zero = refl
+mask_back One = refl
+
+pub port_back : (m0 m1 m2 m3 : LineMask) → masks_named (port_name (m0 ∷ m1 ∷ m2 ∷ m3 ∷ [])) ≡ Some (m0 ∷ m1 ∷ m2 ∷ m3 ∷ [])
+port_back m0 m1 m2 m3 = rw (mask_back m0, mask_back m1, mask_back m2, mask_back m3) refl
+
+-- ---- lines, by computing each of them
+
+abbrev same_line : Option Line → Line → Bool
+same_line (Some (Rom a b)) (Rom c d) = eqb a c && eqb b d
+same_line (Some (Ram a b c)) (Ram d e f) = (eqb a d && eqb b e) && eqb c f
+same_line (Some (Chain a b)) (Chain c d) = eqb a c && eqb b d
+same_line o l = false
+
+abbrev is_read_back : Line → Bool
+is_read_back l = same_line (line_named (line_name l)) l
+
+roms_back : list_all (λ chip. list_all (λ k. is_read_back (Rom chip k)) (range_with_len 0 4)) (range_with_len 0 ROMS) ≡ true
+unfolding digits
+roms_back = refl
+
+rams_back : list_all (λ bank. list_all (λ chip. list_all (λ k. is_read_back (Ram bank chip k)) (range_with_len 0 4)) (range_with_len 0 BANK_CHIPS)) (range_with_len 0 BANKS) ≡ true
+unfolding digits
+rams_back = refl
+
+chains_back : list_all (λ n. list_all (λ i. is_read_back (Chain n i)) (range_with_len 0 CHAIN_BITS)) (range_with_len 0 CHAINS) ≡ true
+unfolding digits
+chains_back = refl
+
+-- ---- from all to each
+
+each_from : (p : ℕ → Bool) (a n k : ℕ) → list_all p (range_with_len a n) ≡ true → k < n → p (a + k) ≡ true
+each_from p a zero k h lt = absurd (omega arith)
+each_from p a (suc n) zero h lt =
+    let (here, _) = and_parts (p a) (list_all p (range_with_len (a + 1) n)) h in
+    let same : a + 0 ≡ a = omega arith in
+    ap p same ∙ here
+each_from p a (suc n) (suc k) h lt =
+    let (_, later) = and_parts (p a) (list_all p (range_with_len (a + 1) n)) h in
+    let same : a + suc k ≡ (a + 1) + k = omega arith in
+    ap p same ∙ each_from p (a + 1) n k later (omega arith)
+
+each : (p : ℕ → Bool) (n k : ℕ) → list_all p (range_with_len 0 n) ≡ true → ltb k n ≡ true → p k ≡ true
+each p n k h below =
+    let lt : k < n = ltb-true k n below in
+    let same : k ≡ 0 + k = omega arith in
+    ap p same ∙ each_from p 0 n k h lt
+
+same_is : (o : Option Line) (l : Line) → same_line o l ≡ true → o ≡ Some l
+same_is None (Rom c d) h = absurd (false≢true h)
+same_is None (Ram d e f) h = absurd (false≢true h)
+same_is None (Chain c d) h = absurd (false≢true h)
+same_is (Some (Rom a b)) (Rom c d) h =
+    let (x, y) = and_parts (eqb a c) (eqb b d) h in
+    let p : a ≡ c = eqb-true a c x in
+    let q : b ≡ d = eqb-true b d y in
+    cc
+same_is (Some (Rom a b)) (Ram d e f) h = absurd (false≢true h)
+same_is (Some (Rom a b)) (Chain c d) h = absurd (false≢true h)
+same_is (Some (Ram a b c)) (Rom d e) h = absurd (false≢true h)
+same_is (Some (Ram a b c)) (Ram d e f) h =
+    let (xy, z) = and_parts (eqb a d && eqb b e) (eqb c f) h in
+    let (x, y) = and_parts (eqb a d) (eqb b e) xy in
+    let p : a ≡ d = eqb-true a d x in
+    let q : b ≡ e = eqb-true b e y in
+    let r : c ≡ f = eqb-true c f z in
+    cc
+same_is (Some (Ram a b c)) (Chain d e) h = absurd (false≢true h)
+same_is (Some (Chain a b)) (Rom c d) h = absurd (false≢true h)
+same_is (Some (Chain a b)) (Ram d e f) h = absurd (false≢true h)
+same_is (Some (Chain a b)) (Chain c d) h =
+    let (x, y) = and_parts (eqb a c) (eqb b d) h in
+    let p : a ≡ c = eqb-true a c x in
+    let q : b ≡ d = eqb-true b d y in
+    cc
+
+pub line_back : (l : Line) → in_range l ≡ true → line_named (line_name l) ≡ Some l
+line_back (Rom chip k) h =
+    let (x, y) = and_parts (ltb chip ROMS) (ltb k 4) h in
+    same_is _ (Rom chip k) (each (λ j. is_read_back (Rom chip j)) 4 k (each (λ c. list_all (λ j. is_read_back (Rom c j)) (range_with_len 0 4)) ROMS chip roms_back x) y)
+line_back (Ram bank chip k) h =
+    let (xy, z) = and_parts (ltb bank BANKS && ltb chip BANK_CHIPS) (ltb k 4) h in
+    let (x, y) = and_parts (ltb bank BANKS) (ltb chip BANK_CHIPS) xy in
+    let in_bank = each (λ b. list_all (λ c. list_all (λ j. is_read_back (Ram b c j)) (range_with_len 0 4)) (range_with_len 0 BANK_CHIPS)) BANKS bank rams_back x in
+    let in_chip = each (λ c. list_all (λ j. is_read_back (Ram bank c j)) (range_with_len 0 4)) BANK_CHIPS chip in_bank y in
+    same_is _ (Ram bank chip k) (each (λ j. is_read_back (Ram bank chip j)) 4 k in_chip z)
+line_back (Chain n i) h =
+    let (x, y) = and_parts (ltb n CHAINS) (ltb i CHAIN_BITS) h in
+    let in_chain = each (λ c. list_all (λ j. is_read_back (Chain c j)) (range_with_len 0 CHAIN_BITS)) CHAINS n chains_back x in
+    same_is _ (Chain n i) (each (λ j. is_read_back (Chain n j)) CHAIN_BITS i in_chain y)

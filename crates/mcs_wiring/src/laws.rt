@@ -1,0 +1,21 @@
+//! Laws of the definitions, proved as the contract of a function that does nothing.
+ghost use Rattle.std.specs.Prelude.{◌≡◌, ◌∷◌, ◌++◌, [], true, Some, codes};
+ghost use Rattle.mcs_model.specs.Boards.{in_range};
+ghost use Rattle.mcs_model.specs.Text.{as_line};
+ghost use Rattle.mcs_model.specs.declared.board.BoardParts.{BoardParts};
+ghost use Rattle.mcs_model.specs.declared.board.Line.{Line};
+ghost use Rattle.mcs_nibble.specs.declared.lines.LineMask.{LineMask};
+ghost use Rattle.mcs_wiring.specs.BoardText.{board_text, query_text};
+ghost use Rattle.mcs_wiring.specs.Names.{line_name, line_named, port_name, masks_named};
+
+/// The name of each line is read back as that line, and the name of each port as its masks. So no two lines, and no two
+/// ports, have one name.
+pub fn names_are_read_back()
+    ensures lines { (line : Line) → in_range line ≡ true → line_named (line_name line) ≡ Some line }
+    ensures ports { (m0 m1 m2 m3 : LineMask) → masks_named (port_name (m0 ∷ m1 ∷ m2 ∷ m3 ∷ [])) ≡ Some (m0 ∷ m1 ∷ m2 ∷ m3 ∷ []) }
+{}
+
+/// The answer to the query `board`, with the line feed that ends it, is the line `board` and the text of the board.
+pub fn query_text_is_the_board_text()
+    ensures { (board : BoardParts) → query_text board ++ 10 ∷ [] ≡ as_line (codes "board") ++ board_text board }
+{}
