@@ -4,11 +4,11 @@ use Rattle.std.specs.Prelude.{All, IfSome, MatchOption}
 use Rattle.std.proofs.lemmas.Bool.{cases_lt}
 use Rattle.std.proofs.lemmas.List.{get_or_past}
 use Rattle.mcs_nibble.specs.declared.lines.LineMask.{LineMask}
-use Rattle.mcs_nibble.specs.Ports.{held}
+use Rattle.mcs_nibble.specs.Ports.{latch_value}
 use Rattle.mcs_nibble.specs.Tabled.{column, grid}
 use Rattle.mcs_nibble.proofs.TabledLemmas.{length-tabled}
 use Rattle.mcs_nibble.proofs.GridLemmas.{length-grid, length-column}
-use Rattle.mcs_nibble.proofs.PortLemmas.{held-zero}
+use Rattle.mcs_nibble.proofs.PortLemmas.{latch_value-zero}
 use Rattle.mcs_ram4002.specs.RamBank.{BankState, IsValidBank}
 use Rattle.mcs_ram4002.proofs.Below.{below-at, grid-below, column-below}
 use Rattle.mcs_rom4001.specs.Roms.{RomState, IsValidRom}
@@ -43,14 +43,14 @@ latch-below None valid = omega arith
 
 -- the bits of a latch that are always 0
 abbrev kept_0 : ℕ → Option (List LineMask) → Type 0
-kept_0 n masks = MatchOption masks (n ≡ 0) (λ mask. held mask n ≡ n)
+kept_0 n masks = MatchOption masks (n ≡ 0) (λ mask. latch_value mask n ≡ n)
 
 latch-kept : (rom : Option RomState) (n : ℕ) → IfSome rom IsValidRom → n ≡ port_of_rom rom → kept_0 n (masks_of_rom rom)
-latch-kept (Some r) n valid is = ap (held r.mask) is ∙ valid.inputs ∙ sym is
+latch-kept (Some r) n valid is = ap (latch_value r.mask) is ∙ valid.inputs ∙ sym is
 latch-kept None n valid is = is
 
 zero-kept : (masks : Option (List LineMask)) (n : ℕ) → n ≡ 0 → kept_0 n masks
-zero-kept (Some mask) n is = ap (held mask) is ∙ held-zero mask ∙ sym is
+zero-kept (Some mask) n is = ap (latch_value mask) is ∙ latch_value-zero mask ∙ sym is
 zero-kept None n is = is
 
 no-rom : (rom : Option RomState) → masks_of_rom rom ≡ None → rom ≡ None
