@@ -129,6 +129,8 @@ fn toml_and_keys(rt: HostRuntime) -> Result<(), Fail> {
         alloc,
         &[
             ("rom = ", 20),
+            ("\u{0}", 20),
+            ("\"\u{e9}\" = 1", 21),
             ("rom = []\nrom = []", 20),
             ("[[rom]]\nchip = 0\nchip = 0\nport = \"0000\"", 20),
             ("[keys]\n[keys]", 20),
@@ -158,6 +160,12 @@ fn toml_and_keys(rt: HostRuntime) -> Result<(), Fail> {
             ("[[lamp]]", 22),
         ],
     );
+    // As deep as toml reads, and one level deeper.
+    for (depth, number) in [(80, 23), (81, 20)] {
+        let mut text = joined(alloc, "rom = ", repeated(alloc, "[", depth)?.as_str())?;
+        text.push_str(repeated(alloc, "]", depth)?.as_str())?;
+        assert_eq!(rt; answer(alloc, text.as_str()), number, "{depth} deep");
+    }
     Ok(())
 }
 
