@@ -3,7 +3,7 @@ use Rattle.std.proofs.Common.{◌≡◌, ℕ, Bool, true, false, not, eqb, List,
 use Rattle.std.proofs.lemmas.Bool.{and_parts, not-true}
 use Rattle.std.specs.List.{list_all, flat_map, AllByRecursion}
 use Rattle.mcs_source.specs.Assembly.{without_cr, ends_in_cr, lines_after, lines_of}
-use Rattle.mcs_source.specs.Text.{as_line}
+use Rattle.mcs_model.specs.QueryText.{as_line}
 
 abbrev pub no_lf : ℕ → Bool
 no_lf b = not (eqb b 10)

@@ -6,7 +6,8 @@ use Rattle.std.proofs.lemmas.List.{length-drop, length-take, take_all}
 use Rattle.std.specs.List.{flat_map}
 use Rattle.mcs_model.specs.declared.op.Op.{Op}
 use Rattle.mcs_model.specs.Table.{decoded, words_of}
-use Rattle.mcs_source.specs.Text.{op_at, whole_or_byte, second_word, piece_text, piece_size, second_of, as_line, piece_texts, listing_lines, listed_line, origin_text, range, source_text, listing_text}
+use Rattle.mcs_source.specs.Text.{op_at, whole_or_byte, second_word, piece_text, piece_size, second_of, piece_texts, listing_lines, listed_line, origin_text, range, source_text, listing_text}
+use Rattle.mcs_model.specs.QueryText.{as_line}
 use Rattle.mcs_source.proofs.Decoding.{one_or_two}
 
 pub size_some : (x : Option Op) → 1 ≤ piece_size x

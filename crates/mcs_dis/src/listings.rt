@@ -1,6 +1,7 @@
 //! The text of one instruction, the listing of a ROM, and the source of a range of it.
 ghost use Rattle.std.specs.Prelude.{◌≡◌, ◌<◌, ◌≤◌, ◌++◌, length, slice_index, drop, string_bytes, IfOk};
-ghost use Rattle.mcs_source.specs.Text.{op_at, piece_size, piece_text, as_line, listed_line, line_text, listing_text, source_text};
+ghost use Rattle.mcs_source.specs.Text.{op_at, piece_size, piece_text, listed_line, line_text, listing_text, source_text};
+ghost use Rattle.mcs_model.specs.QueryText.{as_line};
 
 use crate::decoding::{front, op_of, second, size};
 use crate::texts::{push_columns, push_origin, push_piece};

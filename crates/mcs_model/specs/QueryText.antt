@@ -5,6 +5,10 @@ use Rattle.mcs_model.specs.declared.query.Query.{Query}
 use Rattle.mcs_model.specs.declared.query.Query.TheVariants.{Regs, Seq}
 use Rattle.mcs_model.specs.Flat.{Flat}
 
+-- a line, ended by its line feed
+abbrev pub as_line : List ℕ → List ℕ
+as_line text = text ++ 10 ∷ []
+
 -- the upper case hexadecimal digit of a nibble
 abbrev pub hex_digit : ℕ → ℕ
 hex_digit n = if nat_lt n 10 then 48 + n else 55 + n

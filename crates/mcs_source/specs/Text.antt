@@ -7,7 +7,7 @@ use Rattle.std.specs.Fmt.{decimal}
 use Rattle.mcs_model.specs.declared.op.Op.{Op}
 use Rattle.mcs_model.specs.declared.op.Op.TheVariants.{Nop, Jcn, Fim, Src, Fin, Jin, Jun, Jms, Inc, Isz, Add, Sub, Ld, Xch, Bbl, Ldm, Wrm, Wmp, Wrr, Wr0, Wr1, Wr2, Wr3, Sbm, Rdm, Rdr, Adm, Rd0, Rd1, Rd2, Rd3, Clb, Clc, Iac, Cmc, Cma, Ral, Rar, Tcc, Dac, Tcs, Stc, Daa, Kbp, Dcl}
 use Rattle.mcs_model.specs.Numbers.{page_of}
-use Rattle.mcs_model.specs.QueryText.{hex_digit}
+use Rattle.mcs_model.specs.QueryText.{as_line, hex_digit}
 use Rattle.mcs_model.specs.Table.{decoded, words_of}
 use Rattle.mcs_model.specs.Pairs.{from_address}
 use Rattle.mcs_source.specs.Assembly.{assembled}
@@ -135,9 +135,6 @@ piece_texts zero at bytes = []
 piece_texts (suc most) at [] = []
 piece_texts (suc most) at (b ∷ rest) =
     piece_text at b (op_at b rest) ∷ piece_texts most (at + piece_size (op_at b rest)) (drop (piece_size (op_at b rest) - 1) rest)
-
-abbrev pub as_line : List ℕ → List ℕ
-as_line text = text ++ 10 ∷ []
 
 -- ---- the source of a range
 
