@@ -38,7 +38,7 @@ fn given_words(rt: &HostRuntime) -> Result<Vec<String>, WordsFault> {
 }
 
 /// Tells why there is no session.
-fn refuse(rt: &HostRuntime, number: u8) -> io::Result<ExitCode>
+pub fn refuse(rt: &HostRuntime, number: u8) -> io::Result<ExitCode>
     ensures { IfOk result (λ code. exit_status code ≡ REFUSED) }
 {
     println!(rt; "no {number}")?;
@@ -46,7 +46,7 @@ fn refuse(rt: &HostRuntime, number: u8) -> io::Result<ExitCode>
 }
 
 /// Tells that the words choose nothing, or that there was no memory to read them.
-fn refuse_words(rt: &HostRuntime, fault: WordsFault) -> io::Result<ExitCode>
+pub fn refuse_words(rt: &HostRuntime, fault: WordsFault) -> io::Result<ExitCode>
     ensures usage { fault ≡ WordsFault.Usage → IfOk result (λ code. exit_status code ≡ WRONG_WORDS) }
     ensures no_memory { fault ≡ WordsFault.NoMemory → IfOk result (λ code. exit_status code ≡ REFUSED) }
 {
@@ -103,7 +103,7 @@ pub fn session_in(rt: &HostRuntime, choice: &Choice) -> Result<Session<FileDisk>
 }
 
 /// Serves a session over a reader and a writer, and gives the exit status of the shell's end.
-fn serve<R: Read, W: Write, D: Disk + Drop>(
+pub fn serve<R: Read, W: Write, D: Disk + Drop>(
     rt: &HostRuntime,
     reader: &mut R,
     writer: &mut W,
