@@ -242,6 +242,7 @@ impl KeyPad {
             meets(self.lines[at + 3], driven),
         )
     }
+
     /// A law: each key is 0 or 1.
     pub fn state_is_valid(&self)
         ensures { All (λ key. key < 2) self.now.down }
