@@ -3,7 +3,7 @@ ghost use Rattle.std.specs.Prelude.{◌≡◌, ◌<◌, ◌≤◌, ◌==◌, fal
 ghost use Rattle.std.specs.List.{insert};
 ghost use Rattle.std.specs.List.Sorted.{IsStrictlyIncreasing};
 ghost use Rattle.mcs_model.specs.Validity.{AreBreakpoints};
-ghost use Rattle.mcs_bench.specs.Breaks.{is_break, inserted, with_break, without_break};
+ghost use Rattle.mcs_model.specs.Breakpoints.{is_breakpoint, inserted, with_breakpoint, without_breakpoint};
 
 use arrayvec::ArrayVec;
 use mcs_model::limits::BREAKPOINTS;
@@ -43,7 +43,7 @@ fn place_of(list: &[Addr], at: Addr) -> usize
 
 /// The other addresses.
 fn others(list: &ArrayVec<Addr, BREAKPOINTS>, at: Addr) -> ArrayVec<Addr, BREAKPOINTS>
-    ensures { result.items ≡ without_break list.now.items at }
+    ensures { result.items ≡ without_breakpoint list.now.items at }
 {
     let mut kept = ArrayVec::new();
     for address in list.as_slice() {
@@ -83,15 +83,15 @@ impl Breaks {
 
     /// Whether an address is one.
     pub(crate) fn contains(&self, at: Addr) -> bool
-        ensures { result ≡ is_break self.now at }
+        ensures { result ≡ is_breakpoint self.now at }
     {
         self.marks[usize::from(at.get())]
     }
 
     /// Makes an address one; nothing where it was.
     pub(crate) fn set(&mut self, at: Addr)
-        requires { is_break self.old at ≡ false → length self.old < BREAKPOINTS }
-        ensures { self.new ≡ with_break self.old at }
+        requires { is_breakpoint self.old at ≡ false → length self.old < BREAKPOINTS }
+        ensures { self.new ≡ with_breakpoint self.old at }
     {
         if !self.contains(at) {
             let place = place_of(self.list.as_slice(), at);
@@ -102,7 +102,7 @@ impl Breaks {
 
     /// Makes an address none; nothing where it was none.
     pub(crate) fn clear(&mut self, at: Addr)
-        ensures { self.new ≡ without_break self.old at }
+        ensures { self.new ≡ without_breakpoint self.old at }
     {
         self.list = others(&self.list, at);
         self.marks[usize::from(at.get())] = false;

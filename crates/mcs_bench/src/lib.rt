@@ -6,9 +6,11 @@
 
 mod bench;
 mod breaks;
+mod commands;
 mod flat;
 mod laws;
 mod reading;
+mod restoring;
 mod running;
 
 pub use bench::Bench;

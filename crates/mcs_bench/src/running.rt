@@ -2,7 +2,7 @@
 ghost use Rattle.std.specs.Prelude.{◌≡◌, ◌&&◌, ◌==◌, not, [], unwrap_or};
 ghost use Rattle.mcs_model.specs.Effect.{cycle_of};
 ghost use Rattle.mcs_model.specs.Running.{is_outside};
-ghost use Rattle.mcs_bench.specs.Breaks.{is_break};
+ghost use Rattle.mcs_model.specs.Breakpoints.{is_breakpoint};
 ghost use Rattle.mcs_bench.specs.Runs.{RanTo, SteppedTo};
 
 use crate::breaks::Breaks;
@@ -35,7 +35,7 @@ fn is_outside(cpu: &Cpu, rig: &BenchRig) -> bool
 /// Whether the processor is between instructions at a breakpoint.
 #[inline(always)]
 fn is_at_break(cpu: &Cpu, breaks: &Breaks) -> bool
-    ensures { result ≡ (cpu.now.owed == 0 && is_break breaks.now cpu.now.pc) }
+    ensures { result ≡ (cpu.now.owed == 0 && is_breakpoint breaks.now cpu.now.pc) }
 {
     let regs = cpu.regs();
     regs.owed == 0 && breaks.contains(regs.pc)
