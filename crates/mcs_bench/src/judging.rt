@@ -4,6 +4,7 @@ ghost use Rattle.std.specs.List.Sorted.{IsStrictlyIncreasing};
 ghost use Rattle.mcs_nibble.specs.Ports.{latch_value};
 ghost use Rattle.mcs_model.specs.Boards.{masks_on, chain_count, chain_bits, key_count};
 ghost use Rattle.mcs_model.specs.Validity.{AreBelow, AreBreakpoints, IsAbsentZero, IsInRange, IsValid, IsValidBus, IsValidRegs};
+ghost use Rattle.mcs_bench.specs.Held.{IsZeroWhereAbsent};
 ghost use Rattle.mcs_bench.specs.States.{state_of, rows_of};
 
 use crate::flat::Flat;
@@ -33,6 +34,13 @@ fn are_bytes(numbers: &[u8], count: usize) -> bool
     ensures { IsTrue result ↔ AreBelow count 256 numbers.now }
 {
     numbers.len() == count
+}
+
+/// Eight bytes are eight, each below 256: their type says so, and proofs learn it here.
+fn are_eight(numbers: &[u8; 8])
+    ensures { AreBelow 8 256 numbers.now }
+{
+    let _numbers = numbers.as_slice();
 }
 
 /// Whether all are addresses.
@@ -149,7 +157,7 @@ impl Flat {
     fn is_in_range(&self) -> bool
         ensures { IsTrue result ↔ IsInRange (state_of self.now).bus }
     {
-        let _srcs = are_bytes(&self.ram_src, 8);
+        are_eight(&self.ram_src);
         let _src = self.rom_src;
         if self.test >= 2 {
             return false;
@@ -163,28 +171,42 @@ impl Flat {
         are_below(self.keys.as_slice(), key_count(&self.board), 2)
     }
 
+    /// Whether the numbers of absent chips in a list are 0.
+    fn is_zero_where_absent(&self, held: Held) -> bool
+        requires { IsInRange (state_of self.now).bus }
+        ensures { IsTrue result ↔ IsZeroWhereAbsent (state_of self.now).bus held }
+    {
+        let board = &self.board;
+        match held {
+            Held::RomBytes => is_absent_zero(board, held, self.rom.bytes()),
+            Held::Characters => is_absent_zero(board, held, self.ram.bytes()),
+            Held::StatusCharacters => is_absent_zero(board, held, self.status.bytes()),
+            Held::RamPorts => is_absent_zero(board, held, self.ram_ports.bytes()),
+            Held::BankSrcs => is_absent_zero(board, held, &self.ram_src),
+        }
+    }
+
     /// Whether what is absent holds 0.
     fn is_absent_zero(&self) -> bool
         requires { IsInRange (state_of self.now).bus }
         ensures { IsTrue result ↔ IsAbsentZero (state_of self.now).bus }
     {
-        let board = &self.board;
-        if !is_absent_zero(board, Held::RomBytes, self.rom.bytes()) {
+        if !self.is_zero_where_absent(Held::RomBytes) {
             return false;
         }
-        if !is_absent_zero(board, Held::Characters, self.ram.bytes()) {
+        if !self.is_zero_where_absent(Held::Characters) {
             return false;
         }
-        if !is_absent_zero(board, Held::StatusCharacters, self.status.bytes()) {
+        if !self.is_zero_where_absent(Held::StatusCharacters) {
             return false;
         }
-        if !is_absent_zero(board, Held::RamPorts, self.ram_ports.bytes()) {
+        if !self.is_zero_where_absent(Held::RamPorts) {
             return false;
         }
-        if !is_absent_zero(board, Held::BankSrcs, &self.ram_src) {
+        if !self.is_zero_where_absent(Held::BankSrcs) {
             return false;
         }
-        can_all_hold(board, self.rom_ports.bytes())
+        can_all_hold(&self.board, self.rom_ports.bytes())
     }
 
     /// Whether the board and what its chips hold are valid.

@@ -48,6 +48,7 @@ impl Bench {
     pub fn state_is_valid(&self)
         ensures { IsValid self.now }
     {
+        let _seq = self.seq;
         registers_are_valid(self.cpu.regs());
         self.rig.state_is_valid();
         self.breaks.state_is_valid();
