@@ -2,7 +2,7 @@
 use Rattle.std.specs.Prelude.{◌≡◌, ℕ, List}
 use Rattle.mcs_model.specs.Flat.{Flat}
 use Rattle.mcs_model.specs.Validity.{IsValid}
-use Rattle.mcs_codec.specs.declared.command.Command.{Command}
+use Rattle.mcs_model.specs.declared.command.Command.{Command}
 use Rattle.mcs_codec.specs.CommandText.{command_text, IsCommand}
 use Rattle.mcs_codec.specs.StateText.{state_text}
 

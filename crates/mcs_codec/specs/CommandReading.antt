@@ -2,10 +2,10 @@
 use Rattle.std.specs.Prelude.{ℕ, zero, suc, ◌+◌, ◌/◌, ◌%◌, ◌==◌, List, [], ◌∷◌, Option, Some, None, slice_index, if◌then◌else◌}
 use Rattle.std.specs.Int.{w32}
 use Rattle.mcs_nibble.specs.Bits.{bit_of}
-use Rattle.mcs_codec.specs.declared.command.Place.{Place}
-use Rattle.mcs_codec.specs.declared.command.Place.TheVariants.{Acc, Cy, Pc, Register, Dcl, Rom, Ram, Status}
-use Rattle.mcs_codec.specs.declared.command.Command.{Command}
-use Rattle.mcs_codec.specs.declared.command.Command.TheVariants.{Wire, Load, Press, Release, Run, Step, Poke, Test, Reset, Break, Unbreak}
+use Rattle.mcs_model.specs.declared.command.Place.{Place}
+use Rattle.mcs_model.specs.declared.command.Place.TheVariants.{Acc, Cy, Pc, Register, Dcl, Rom, Ram, Status}
+use Rattle.mcs_model.specs.declared.command.Command.{Command}
+use Rattle.mcs_model.specs.declared.command.Command.TheVariants.{Wire, Load, Press, Release, Run, Step, Poke, Test, Reset, Break, Unbreak}
 use Rattle.mcs_codec.specs.Reading.{◌>>=◌, giving, byte_at, number_at, address_at, bytes_at, small_at, both, depending, done_at}
 use Rattle.mcs_codec.specs.BoardReading.{board_at}
 

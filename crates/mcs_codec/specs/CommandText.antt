@@ -5,10 +5,10 @@ use Rattle.std.specs.Int.{w16, w32, to_be_bytes}
 use Rattle.mcs_nibble.specs.Tabled.{tabled}
 use Rattle.mcs_model.specs.Pairs.{IsImage}
 use Rattle.mcs_model.specs.Validity.{IsValidBoard}
-use Rattle.mcs_codec.specs.declared.command.Place.{Place}
-use Rattle.mcs_codec.specs.declared.command.Place.TheVariants.{Acc, Cy, Pc, Register, Dcl, Rom, Ram, Status}
-use Rattle.mcs_codec.specs.declared.command.Command.{Command}
-use Rattle.mcs_codec.specs.declared.command.Command.TheVariants.{Wire, Load, Press, Release, Run, Step, Poke, Test, Reset, Break, Unbreak}
+use Rattle.mcs_model.specs.declared.command.Place.{Place}
+use Rattle.mcs_model.specs.declared.command.Place.TheVariants.{Acc, Cy, Pc, Register, Dcl, Rom, Ram, Status}
+use Rattle.mcs_model.specs.declared.command.Command.{Command}
+use Rattle.mcs_model.specs.declared.command.Command.TheVariants.{Wire, Load, Press, Release, Run, Step, Poke, Test, Reset, Break, Unbreak}
 use Rattle.mcs_codec.specs.BoardText.{board_text}
 
 -- ---- spelling

@@ -6,3 +6,4 @@ pub mod CommandReading
 pub mod StateText
 pub mod StateReading
 pub mod Codec
+pub mod Parts

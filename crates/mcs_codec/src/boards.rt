@@ -195,7 +195,7 @@ fn read_parts(reader: &mut Reader<'_>) -> Option<BoardParts>
     let mut roms = [None; ROMS];
     fill(reader, &mut roms)?;
     let mut banks = [0; BANKS];
-    reader.bytes(&mut banks)?;
+    reader.fill(&mut banks)?;
     let chains = counted(reader)?;
     let keys = read_keys(reader)?;
     let lamps = counted(reader)?;

@@ -1,17 +1,17 @@
 //! The bytes of a command.
 ghost use Rattle.std.specs.Prelude.{◌≡◌, ℕ, ◌+◌, ◌≤◌, ◌<◌, ◌∷◌, ◌++◌, List, [], length, take, option_map, Option, Some, None, IfOk, IfSome, IfNone, if◌then◌else◌};
-ghost use Rattle.mcs_codec.specs.declared.command.Command.{Command};
+ghost use Rattle.mcs_model.specs.declared.command.Command.{Command};
 ghost use Rattle.mcs_codec.specs.Reading.{whole};
 ghost use Rattle.mcs_codec.specs.CommandText.{command_text, IsCommand};
 ghost use Rattle.mcs_codec.specs.CommandReading.{command_behind, all_behind, command_at};
 ghost use Rattle.mcs_codec.specs.Codec.{Spells};
 
 use crate::boards::{put_board, read_board};
-use crate::command::{Command, Place};
 use crate::field::{Field, Spelled, put};
 use crate::images::{put_image, read_image};
 use crate::places::place_is_in_range;
 use crate::reader::Reader;
+use mcs_model::command::{Command, Place};
 use mcs_nibble::{Addr, Bit};
 use std::alloc::{AllocError, Global};
 

@@ -115,9 +115,8 @@ fn read_pairs(
 pub fn read_image(alloc: Global, reader: &mut Reader<'_>) -> Result<Option<Image>, AllocError>
     ensures { IfOk result (λ found. option_map (λ x. (x, reader.new)) found ≡ image_at reader.old) }
 {
-    let mut marks = [0; 512];
-    if reader.bytes(&mut marks).is_none() {
-        return Ok(None);
+    match reader.bytes(MAP_BYTES) {
+        Some(marks) => read_pairs(alloc, reader, marks),
+        None => Ok(None),
     }
-    read_pairs(alloc, reader, &marks)
 }

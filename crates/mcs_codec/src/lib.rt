@@ -5,11 +5,14 @@
 #![tactic(auto)]
 
 mod boards;
-pub mod command;
 mod commands;
 mod field;
 mod images;
 mod places;
 mod reader;
+mod restoring;
+mod saving;
 
-pub use commands::{command_bytes, command_of, one_command, COMMAND_BYTES};
+pub use commands::{COMMAND_BYTES, command_bytes, command_of, one_command};
+pub use restoring::{bench_of, one_state};
+pub use saving::{STATE_BYTES, state_bytes};

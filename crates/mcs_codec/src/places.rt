@@ -3,10 +3,10 @@ ghost use Rattle.std.specs.Prelude.{◌≡◌, ℕ, ◌+◌, ◌≤◌, ◌∷�
 ghost use Rattle.mcs_codec.specs.CommandText.{place_text, IsPlace};
 ghost use Rattle.mcs_codec.specs.CommandReading.{place_at};
 
-use crate::command::{BankNo, Place, StatusNo};
 use crate::field::{Field, Spelled, put};
 use crate::reader::Reader;
-use mcs_nibble::{Addr, Bit, Nibble, RegNo};
+use mcs_model::command::Place;
+use mcs_nibble::{Addr, BankNo, Bit, Nibble, RegNo, StatusNo};
 
 impl Field for RegNo {
     ghost use Rattle.mcs_codec.specs.Reading.{small_at};
