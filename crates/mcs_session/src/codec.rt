@@ -74,17 +74,13 @@ fn new_byte(at: usize) -> u8
     }
 }
 
-/// Spells the state of a new bench at the front of these bytes, and answers how many it took.
-pub fn state_bytes(_bench: &Bench, into: &mut [u8]) -> usize
-    requires new { _bench.now ≡ new_flat }
-    requires lent { STATE_BYTES ≤ length into.old }
-    ensures spells { SpellsState (take result into.new) _bench.now }
-    ensures count { result ≡ NEW_STATE_BYTES }
-{
-    for at in 0..NEW_STATE_BYTES {
-        into[at] = new_byte(at);
-    }
-    NEW_STATE_BYTES
+/// How states are spelled.
+pub trait Spelling {
+    /// Spells the state of a bench at the front of these bytes, and answers how many it took.
+    fn state_bytes(bench: &Bench, into: &mut [u8]) -> usize
+        requires lent { STATE_BYTES ≤ length into.old }
+        ensures spells { SpellsState (take result into.new) bench.now }
+        ensures count { result ≤ STATE_BYTES };
 }
 
 /// Whether these bytes spell the state of a new bench.

@@ -5,4 +5,6 @@ pub mod bench;
 pub mod codec;
 pub mod fault;
 pub mod laws;
+mod recording;
+mod replaying;
 pub mod session;
