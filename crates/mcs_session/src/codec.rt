@@ -29,6 +29,8 @@ pub fn command_bytes(command: &Command, into: &mut [u8]) -> usize
     requires lent { COMMAND_BYTES ≤ length into.old }
     ensures spells { Spells (take result into.new) command.now }
     ensures count { result ≡ length (command_text command.now) }
+    ensures some { 1 ≤ result }
+    ensures fits { result ≤ COMMAND_BYTES }
 {
     match *command {
         Command::Poke(Place::Register(register, value)) => {

@@ -1,9 +1,10 @@
 //! The log of a session: the records of its commands, and a snapshot in their place where there is no room for one more.
-ghost use Rattle.std.specs.Prelude.{◌≡◌, ◌+◌, ◌≤◌, None, IsErr, IsTrue, OnOk, is_ok, length};
+ghost use Rattle.std.specs.Prelude.{◌≡◌, ◌+◌, ◌≤◌, None, IsErr, IsTrue, OnOk, is_ok, length, take};
 ghost use Rattle.mcs_disk.specs.Moments.{Counts, LeavesOnly};
 ghost use Rattle.mcs_journal.specs.File.{HasRoom};
 ghost use Rattle.mcs_model.specs.Command.{after, refusal};
 ghost use Rattle.mcs_session.specs.Answers.{Acknowledges, MayLeave};
+ghost use Rattle.mcs_session.specs.Codec.{Spells, SpellsState, command_text};
 ghost use Rattle.mcs_session.specs.Invariant.{HasMadeRoom, IsReady, IsRecorded};
 ghost use Rattle.mcs_session.specs.Stands.{StandsFor};
 
@@ -11,7 +12,7 @@ use crate::bench::Bench;
 use crate::codec::{Spelling, command_bytes};
 use crate::replaying::replay_cycles;
 use mcs_disk::{Disk, DiskFault};
-use mcs_journal::{MOST_RECORD, Store};
+use mcs_journal::{MOST_RECORD, MOST_SNAP, Store};
 use mcs_model::command::Command;
 use mcs_model::limits::REPLAY_CYCLES;
 
@@ -25,6 +26,27 @@ pub struct CommandLog<D: Disk + Drop> {
     pub text: Vec<u8>,
     /// Room for a snapshot.
     pub snapshot: Vec<u8>,
+}
+
+/// Spells a command at the front of a buffer, and answers how many bytes it took.
+fn spell_command(text: &mut Vec<u8>, command: &Command) -> usize
+    requires { length text.old.items ≡ MOST_RECORD }
+    ensures lent { length text.new.items ≡ MOST_RECORD }
+    ensures spells { Spells (take result text.new.items) command.now }
+    ensures count { result ≡ length (command_text command.now) }
+    ensures record { (1 ≤ result) × (result ≤ MOST_RECORD) }
+{
+    command_bytes(command, text.as_mut_slice())
+}
+
+/// Spells the state of a bench at the front of a buffer, and answers how many bytes it took.
+pub(crate) fn spell_state<C: Spelling>(snapshot: &mut Vec<u8>, bench: &Bench) -> usize
+    requires { length snapshot.old.items ≡ MOST_SNAP }
+    ensures lent { length snapshot.new.items ≡ MOST_SNAP }
+    ensures spells { SpellsState (take result snapshot.new.items) bench.now }
+    ensures short { result ≤ MOST_SNAP }
+{
+    C::state_bytes(bench, snapshot.as_mut_slice())
 }
 
 impl<D: Disk + Drop> CommandLog<D> {
@@ -53,7 +75,7 @@ impl<D: Disk + Drop> CommandLog<D> {
         if self.store.has_room(count) && more <= REPLAY_CYCLES - self.cycles {
             return Ok(());
         }
-        let length = C::state_bytes(bench, self.snapshot.as_mut_slice());
+        let length = spell_state::<C>(&mut self.snapshot, bench);
         self.store.replace(&self.snapshot.as_slice()[..length])?;
         self.cycles = 0;
         Ok(())
@@ -80,7 +102,7 @@ impl<D: Disk + Drop> CommandLog<D> {
             → OnOk result (IsRecorded (D.state self.new.store.disk) self.new.cycles
             (after bench.now command.now)) }
     {
-        let count = command_bytes(command, self.text.as_mut_slice());
+        let count = spell_command(&mut self.text, command);
         let more = replay_cycles(command);
         self.make_room::<C>(bench, count, more)?;
         self.store.append(&self.text.as_slice()[..count])?;

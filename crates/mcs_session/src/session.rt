@@ -9,7 +9,7 @@ ghost use Rattle.mcs_session.specs.Answers.{Applied, Closes, CreatesSession, Ope
 use crate::bench::Bench;
 use crate::codec::{COMMAND_BYTES, STATE_BYTES, Spelling};
 use crate::fault::SessionFault;
-use crate::recording::CommandLog;
+use crate::recording::{CommandLog, spell_state};
 use crate::replaying::{Replayed, replay};
 use mcs_disk::{Disk, DiskFault};
 use mcs_journal::{CreateFault, FILE_SIZE, OpenFault, Opened, Store};
@@ -70,7 +70,7 @@ impl<D: Disk + Drop> Session<D> {
             return Err((CreateFault::NoMemory, disk));
         };
         let bench = Bench::new();
-        let length = C::state_bytes(&bench, snapshot.as_mut_slice());
+        let length = spell_state::<C>(&mut snapshot, &bench);
         match Store::create(alloc, disk, &snapshot.as_slice()[..length]) {
             Ok(store) => Ok(Session {
                 log: CommandLog {

@@ -1,4 +1,5 @@
-use Rattle.std.proofs.Common.{rules, arith, ◌≡◌, ◌+◌, ◌≤◌, ◌∙◌, ℕ, List, None, ap, length, subst, take, take-length}
+use Rattle.std.proofs.Common.{rules, arith, ◌≡◌, ◌+◌, ◌≤◌, ℕ, List, None, length, subst, take}
+use Rattle.std.proofs.lemmas.List.{take_all}
 use Rattle.mcs_model.specs.declared.command.Command.{Command}
 use Rattle.mcs_model.specs.Command.{refusal}
 use Rattle.mcs_model.specs.declared.limits.TheConstants.{REPLAY_CYCLES}
@@ -48,6 +49,5 @@ loop-at-preserved c =
 
 pub returns-clause-some : goal.returns-clause-some
 returns-clause-some c =
-    let at : c.loop-at.at ≡ length c.args.records.now = omega (arith, c.loop-at-test.false, c.len.ensures, c.loop-at.invariant.within) in
-    let all : take c.loop-at.at c.args.records.now ≡ c.args.records.now = ap (λ n. take n c.args.records.now) at ∙ take-length c.args.records.now in
-    subst (λ (rs : List (List ℕ)). IsReplayed c.args.snap.now rs c.loop-at.cycles c.loop-at.bench) all c.loop-at.invariant.so_far
+    let whole : length c.args.records.now ≤ c.loop-at.at = omega (arith, c.loop-at-test.false, c.len.ensures) in
+    subst (λ (rs : List (List ℕ)). IsReplayed c.args.snap.now rs c.loop-at.cycles c.loop-at.bench) (take_all c.loop-at.at c.args.records.now whole) c.loop-at.invariant.so_far
