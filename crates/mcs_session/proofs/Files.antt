@@ -8,7 +8,7 @@ use Rattle.mcs_journal.specs.declared.fault.OpenFault.{OpenFault}
 use Rattle.mcs_journal.specs.declared.fault.OpenFault.TheVariants.{NotASession, Damaged, Device, NoMemory}
 use Rattle.mcs_journal.proofs.Unique.{same_snap, same_pair}
 use Rattle.mcs_model.specs.Flat.{Flat, new_flat}
-use Rattle.mcs_session.specs.Codec.{SpellsState}
+use Rattle.mcs_codec.specs.Codec.{SpellsState}
 use Rattle.mcs_session.specs.Stands.{RecordsStandFor, StandsFor, IsAt}
 use Rattle.mcs_session.specs.Answers.{CreatesSession, OpensSession, RefusesSession}
 use Rattle.mcs_session.specs.Invariant.{IsRecorded, IsReplayed}

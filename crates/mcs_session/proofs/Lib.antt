@@ -1,4 +1,3 @@
-pub mod NewText
 pub mod Folds
 pub mod Prefixes
 pub mod Keeping

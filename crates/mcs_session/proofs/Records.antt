@@ -4,12 +4,12 @@ use Rattle.std.proofs.lemmas.List.{take_more}
 use Rattle.std.proofs.lemmas.List.Sums.{sum_by-cons, sum_by_push}
 use Rattle.std.proofs.lemmas.Option.{slice_get_within, get_or_from_slice_get}
 use Rattle.mcs_model.specs.declared.command.Command.{Command}
-use Rattle.mcs_model.specs.declared.command.Command.TheVariants.{Poke}
-use Rattle.mcs_model.specs.declared.command.Place.TheVariants.{Register}
 use Rattle.mcs_model.specs.Flat.{Flat}
 use Rattle.mcs_model.specs.Command.{refusal, after}
 use Rattle.mcs_model.specs.Fold.{fold}
-use Rattle.mcs_session.specs.Codec.{Spells, SpellsState, command_text}
+use Rattle.mcs_codec.specs.Codec.{Spells, SpellsState}
+use Rattle.mcs_codec.proofs.CommandCodec.{same_command}
+use Rattle.mcs_codec.proofs.StateCodec.{same_state}
 use Rattle.mcs_model.specs.declared.limits.TheConstants.{REPLAY_CYCLES}
 use Rattle.mcs_session.specs.Invariant.{IsReplayed}
 use Rattle.mcs_session.specs.Stands.{Replays, RecordsStandFor, log_cycles, replay_cycles}
@@ -21,13 +21,6 @@ replays-more s [] [] r c h spells accepted = (spells, accepted, tt)
 replays-more s [] (d ∷ cs) r c h spells accepted = absurd h
 replays-more s (q ∷ rs) [] r c h spells accepted = absurd h
 replays-more s (q ∷ rs) (d ∷ cs) r c h spells accepted = (h.0, h.1, replays-more (after s d) rs cs r c (h.2) spells accepted)
-
--- two commands of the same bytes
-same_text : (c d : Command) → command_text c ≡ command_text d → c ≡ d
-same_text (Poke (Register a b)) (Poke (Register x y)) e = let p : a ≡ x = cc in let q : b ≡ y = cc in rw (p, q) refl
-
-pub same_command : (r : List ℕ) (c d : Command) → Spells r c → Spells r d → c ≡ d
-same_command r c d a b = same_text c d (sym a.is ∙ b.is)
 
 -- where the next record spells no accepted command, no commands are spelled
 pub no_replay : (s : Flat) (rs : List (List ℕ)) (cs ds : List Command) (r : List ℕ) (more : List (List ℕ)) → Replays s rs cs
@@ -53,14 +46,11 @@ same_commands s (q ∷ rs) (c ∷ cs) (d ∷ ds) h k =
     let rest : cs ≡ ds = same_commands (after s c) rs cs ds (h.2) (subst (λ (x : Command). Replays (after s x) rs ds) same (k.2)) in
     rw (same, rest) refl
 
-pub same_start : (snap : List ℕ) (s t : Flat) → SpellsState snap s → SpellsState snap t → s ≡ t
-same_start snap s t a b = a.state ∙ sym b.state
-
 -- the same snapshot and the same records stand for one list of commands
 pub same_list : (snap other : List ℕ) (records more : List (List ℕ)) (s t : Flat) → snap ≡ other → records ≡ more → (a : RecordsStandFor snap records s) (b : RecordsStandFor other more t)
     → (a.start ≡ b.start) × (a.commands ≡ b.commands)
 same_list snap other records more s t e f a b =
-    let start : a.start ≡ b.start = same_start snap a.start b.start a.snapshot (subst (λ (x : List ℕ). SpellsState x b.start) (sym e) b.snapshot) in
+    let start : a.start ≡ b.start = same_state snap a.start b.start a.snapshot (subst (λ (x : List ℕ). SpellsState x b.start) (sym e) b.snapshot) in
     let replays : Replays a.start records b.commands = subst (λ (x : Flat). Replays x records b.commands) (sym start) (subst (λ (x : List (List ℕ)). Replays b.start x b.commands) (sym f) b.replays) in
     (start, same_commands a.start records a.commands b.commands a.replays replays)
 
@@ -83,7 +73,7 @@ one_more xs r i e = take_more xs i r (slice_get_within xs i r e) ∙ ap (λ v. t
 pub no_pair : (snap : List ℕ) (records : List (List ℕ)) (r : List ℕ) (i : ℕ) (s t : Flat) → slice_get records i ≡ Some r → RecordsStandFor snap (take i records) s
     → ((c : Command) → Spells r c → refusal s c ≡ None → ⊥) → RecordsStandFor snap records t → ⊥
 no_pair snap records r i s t e a none b =
-    let start = same_start snap b.start a.start b.snapshot a.snapshot in
+    let start = same_state snap b.start a.start b.snapshot a.snapshot in
     let replays : Replays a.start records b.commands = subst (λ (x : Flat). Replays x records b.commands) start b.replays in
     let split = one_at records r i e in
     let whole : Replays a.start (take i records ++ r ∷ split.0) b.commands = subst (λ (x : List (List ℕ)). Replays a.start x b.commands) split.1 replays in
@@ -113,7 +103,7 @@ front_cycles s (q ∷ rs) (d ∷ cs) (e ∷ ds) r c more h spells k =
 pub too_long : (snap : List ℕ) (records : List (List ℕ)) (r : List ℕ) (i cycles : ℕ) (s t : Flat) (c : Command) → slice_get records i ≡ Some r → IsReplayed snap (take i records) cycles s
     → Spells r c → REPLAY_CYCLES < cycles + replay_cycles c → RecordsStandFor snap records t → ⊥
 too_long snap records r i cycles s t c e a spells over b =
-    let start = same_start snap b.start a.stand.start b.snapshot a.stand.snapshot in
+    let start = same_state snap b.start a.stand.start b.snapshot a.stand.snapshot in
     let replays : Replays a.stand.start records b.commands = subst (λ (x : Flat). Replays x records b.commands) start b.replays in
     let split = one_at records r i e in
     let whole : Replays a.stand.start (take i records ++ r ∷ split.0) b.commands = subst (λ (x : List (List ℕ)). Replays a.stand.start x b.commands) split.1 replays in

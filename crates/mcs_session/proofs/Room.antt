@@ -1,20 +1,39 @@
 -- Room for a record, a snapshot where there is none, and the record behind it.
 use Rattle.std.proofs.Common.{◌≡◌, ◌⊎◌, ◌+◌, ◌≤◌, inl, inr, ⊎_elim, List, [], ◌∷◌, ◌++◌, ℕ, None, sym, ◌∙◌, ap, subst, refl, arith, length}
+use Rattle.std.proofs.lemmas.Grind.{common_steps}
 use Rattle.mcs_disk.specs.Disk.{DiskState, IsLawful}
 use Rattle.mcs_disk.specs.Moments.{Either, IsDurable, LeavesOnly}
 use Rattle.mcs_disk.proofs.Composing.{leaves_map, leaves_then}
 use Rattle.mcs_journal.specs.File.{HasRoom, Holds, spelled}
 use Rattle.mcs_journal.proofs.Unique.{same_snap, same_pair}
 use Rattle.mcs_model.specs.declared.command.Command.{Command}
+use Rattle.mcs_model.specs.declared.command.Command.TheVariants.{Wire, Load, Press, Release, Run, Step, Poke, Test, Reset, Break, Unbreak}
 use Rattle.mcs_model.specs.declared.limits.TheConstants.{REPLAY_CYCLES}
 use Rattle.mcs_model.specs.Flat.{Flat}
 use Rattle.mcs_model.specs.Command.{refusal, after}
 use Rattle.mcs_session.specs.Answers.{Acknowledges, MayLeave, Ticks}
-use Rattle.mcs_session.specs.Codec.{Spells, SpellsState, command_text}
+use Rattle.mcs_codec.specs.Codec.{Spells, SpellsState}
+use Rattle.mcs_codec.specs.CommandText.{command_text}
 use Rattle.mcs_session.specs.Invariant.{HasMadeRoom, IsRecorded, IsReplayed}
 use Rattle.mcs_session.specs.Stands.{HasSpace, RecordsStandFor, StandsFor, log_cycles, replay_cycles}
 use Rattle.mcs_session.proofs.Files.{at_of, recorded_new, stands_by, stands_new}
 use Rattle.mcs_session.proofs.Records.{pair_more, replayed_more, same_list}
+
+-- ---- cycles
+
+-- the cycles of an accepted command are few enough for an empty log
+pub few_cycles : (s : Flat) (c : Command) → refusal s c ≡ None → replay_cycles c ≤ REPLAY_CYCLES
+few_cycles s (Wire board) h = omega arith
+few_cycles s (Load image) h = omega arith
+few_cycles s (Press row column) h = omega arith
+few_cycles s (Release row column) h = omega arith
+few_cycles s (Run n) h = grind (arith, common_steps)
+few_cycles s Step h = omega arith
+few_cycles s (Poke place) h = omega arith
+few_cycles s (Test bit) h = omega arith
+few_cycles s Reset h = omega arith
+few_cycles s (Break at) h = omega arith
+few_cycles s (Unbreak at) h = omega arith
 
 -- ---- where there is room
 

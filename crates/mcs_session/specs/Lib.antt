@@ -1,4 +1,3 @@
-pub mod Codec
 pub mod Stands
 pub mod Standing
 pub mod Answers

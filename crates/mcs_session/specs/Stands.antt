@@ -1,14 +1,15 @@
 -- What a session file stands for, and what it has room for.
 use Rattle.std.specs.Prelude.{◌≡◌, ◌+◌, ◌≤◌, ℕ, List, [], ◌∷◌, None, length, sum_by}
+use Rattle.mcs_codec.specs.Codec.{Spells, SpellsState}
+use Rattle.mcs_codec.specs.CommandText.{command_text}
 use Rattle.mcs_disk.specs.Disk.{DiskState}
 use Rattle.mcs_journal.specs.File.{HasRoom, Holds, spelled}
 use Rattle.mcs_model.specs.declared.command.Command.{Command}
-use Rattle.mcs_model.specs.declared.command.Command.TheVariants.{Poke}
+use Rattle.mcs_model.specs.declared.command.Command.TheVariants.{Run, Step}
 use Rattle.mcs_model.specs.declared.limits.TheConstants.{REPLAY_CYCLES}
 use Rattle.mcs_model.specs.Flat.{Flat}
 use Rattle.mcs_model.specs.Command.{refusal, after}
 use Rattle.mcs_model.specs.Fold.{fold}
-use Rattle.mcs_session.specs.Codec.{Spells, SpellsState, command_text}
 
 -- these records spell these commands, accepted in turn from this state
 abbrev pub Replays : Flat → List (List ℕ) → List Command → Type 0
@@ -20,7 +21,9 @@ Replays s (r ∷ rs) (c ∷ cs) = Spells r c × (refusal s c ≡ None) × Replay
 -- The instruction cycles that a command counts for in the log: those that it may take to be done again. (Our own choice: n for a
 -- run of n, 2 for a step.)
 abbrev pub replay_cycles : Command → ℕ
-replay_cycles (Poke place) = 0
+replay_cycles (Run n) = n
+replay_cycles Step = 2
+replay_cycles _ = 0
 
 -- those of a list of commands
 abbrev pub log_cycles : List Command → ℕ

@@ -1,16 +1,17 @@
 //! The log of a session: the records of its commands, and a snapshot in their place where there is no room for one more.
 ghost use Rattle.std.specs.Prelude.{◌≡◌, ◌+◌, ◌≤◌, None, IsErr, IsTrue, OnOk, is_ok, length, take};
+ghost use Rattle.mcs_codec.specs.Codec.{Spells, SpellsState};
+ghost use Rattle.mcs_codec.specs.CommandText.{command_text};
 ghost use Rattle.mcs_disk.specs.Moments.{Counts, LeavesOnly};
 ghost use Rattle.mcs_journal.specs.File.{HasRoom};
 ghost use Rattle.mcs_model.specs.Command.{after, refusal};
 ghost use Rattle.mcs_session.specs.Answers.{Acknowledges, MayLeave};
-ghost use Rattle.mcs_session.specs.Codec.{Spells, SpellsState, command_text};
 ghost use Rattle.mcs_session.specs.Invariant.{HasMadeRoom, IsReady, IsRecorded};
 ghost use Rattle.mcs_session.specs.Stands.{StandsFor};
 
-use crate::bench::Bench;
-use crate::codec::{Spelling, command_bytes};
 use crate::replaying::replay_cycles;
+use mcs_bench::Bench;
+use mcs_codec::{command_bytes, state_bytes};
 use mcs_disk::{Disk, DiskFault};
 use mcs_journal::{MOST_RECORD, MOST_SNAP, Store};
 use mcs_model::command::Command;
@@ -40,19 +41,19 @@ fn spell_command(text: &mut Vec<u8>, command: &Command) -> usize
 }
 
 /// Spells the state of a bench at the front of a buffer, and answers how many bytes it took.
-pub(crate) fn spell_state<C: Spelling>(snapshot: &mut Vec<u8>, bench: &Bench) -> usize
+pub(crate) fn spell_state(snapshot: &mut Vec<u8>, bench: &Bench) -> usize
     requires { length snapshot.old.items ≡ MOST_SNAP }
     ensures lent { length snapshot.new.items ≡ MOST_SNAP }
     ensures spells { SpellsState (take result snapshot.new.items) bench.now }
     ensures short { result ≤ MOST_SNAP }
 {
-    C::state_bytes(bench, snapshot.as_mut_slice())
+    state_bytes(bench, snapshot.as_mut_slice())
 }
 
 impl<D: Disk + Drop> CommandLog<D> {
     /// Makes room for a record of `count` bytes and for `more` cycles: where there is none, a snapshot of the bench takes the
     /// place of all that the store holds.
-    fn make_room<C: Spelling>(&mut self, bench: &Bench, count: usize, more: u32) -> Result<(), DiskFault>
+    fn make_room(&mut self, bench: &Bench, count: usize, more: u32) -> Result<(), DiskFault>
         requires live { IsTrue self.old.store.live }
         requires count { count ≤ MOST_RECORD }
         requires more { more ≤ REPLAY_CYCLES }
@@ -75,14 +76,14 @@ impl<D: Disk + Drop> CommandLog<D> {
         if self.store.has_room(count) && more <= REPLAY_CYCLES - self.cycles {
             return Ok(());
         }
-        let length = spell_state::<C>(&mut self.snapshot, bench);
+        let length = spell_state(&mut self.snapshot, bench);
         self.store.replace(&self.snapshot.as_slice()[..length])?;
         self.cycles = 0;
         Ok(())
     }
 
     /// Records a command that the bench accepts. It is on the disk once this answers Ok.
-    pub(crate) fn record<C: Spelling>(&mut self, bench: &Bench, command: &Command) -> Result<(), DiskFault>
+    pub(crate) fn record(&mut self, bench: &Bench, command: &Command) -> Result<(), DiskFault>
         requires live { IsTrue self.old.store.live }
         requires accepted { refusal bench.now command.now ≡ None }
         requires ready { IsReady self.old.cycles self.old.text.items self.old.snapshot.items }
@@ -104,7 +105,7 @@ impl<D: Disk + Drop> CommandLog<D> {
     {
         let count = spell_command(&mut self.text, command);
         let more = replay_cycles(command);
-        self.make_room::<C>(bench, count, more)?;
+        self.make_room(bench, count, more)?;
         self.store.append(&self.text.as_slice()[..count])?;
         self.cycles += more;
         Ok(())

@@ -4,8 +4,8 @@ ghost use Rattle.mcs_model.specs.Flat.{Flat};
 ghost use Rattle.mcs_session.specs.Invariant.{IsReplayed};
 ghost use Rattle.mcs_session.specs.Stands.{RecordsStandFor, replay_cycles};
 
-use crate::bench::Bench;
-use crate::codec::{bench_of, command_of};
+use mcs_bench::Bench;
+use mcs_codec::{bench_of, command_of};
 use mcs_journal::Records;
 use mcs_model::command::Command;
 use mcs_model::limits::REPLAY_CYCLES;
@@ -23,7 +23,9 @@ pub(crate) fn replay_cycles(command: &Command) -> u32
     ensures { result ≡ replay_cycles command.now }
 {
     match command {
-        Command::Poke(_) => 0,
+        Command::Run(cycles) => *cycles,
+        Command::Step => 2,
+        _ => 0,
     }
 }
 

@@ -6,11 +6,11 @@ ghost use Rattle.mcs_model.specs.Flat.{new_flat};
 ghost use Rattle.mcs_session.specs.Stands.{StandsFor, IsAt};
 ghost use Rattle.mcs_session.specs.Answers.{Applied, Closes, CreatesSession, OpensSession, Recorded, RefusesSession};
 
-use crate::bench::Bench;
-use crate::codec::{COMMAND_BYTES, STATE_BYTES, Spelling};
 use crate::fault::SessionFault;
 use crate::recording::{CommandLog, spell_state};
 use crate::replaying::{Replayed, replay};
+use mcs_bench::Bench;
+use mcs_codec::{COMMAND_BYTES, STATE_BYTES};
 use mcs_disk::{Disk, DiskFault};
 use mcs_journal::{CreateFault, FILE_SIZE, OpenFault, Opened, Store};
 use mcs_model::command::{Command, Reply};
@@ -44,7 +44,7 @@ impl<D: Disk + Drop> Session<D> {
     ///
     /// It is refused for want of memory (90), where the disk is not blank (55; nothing is written then), and where a call on
     /// it failed (53; what the disk then holds is not said). A refusal hands the disk back.
-    pub fn create<C: Spelling>(alloc: Global, disk: D) -> Result<Session<D>, (CreateFault, D)>
+    pub fn create(alloc: Global, disk: D) -> Result<Session<D>, (CreateFault, D)>
         // on any disk
         ensures open { IfOk result (λ s. IsTrue s.live) }
         ensures new { IfOk result (λ s. s.state ≡ new_flat) }
@@ -69,8 +69,10 @@ impl<D: Disk + Drop> Session<D> {
         let Ok(mut snapshot) = vec![in alloc; 0u8; STATE_BYTES] else {
             return Err((CreateFault::NoMemory, disk));
         };
-        let bench = Bench::new();
-        let length = spell_state::<C>(&mut snapshot, &bench);
+        let Ok(bench) = Bench::new(alloc) else {
+            return Err((CreateFault::NoMemory, disk));
+        };
+        let length = spell_state(&mut snapshot, &bench);
         match Store::create(alloc, disk, &snapshot.as_slice()[..length]) {
             Ok(store) => Ok(Session {
                 log: CommandLog {
@@ -158,7 +160,7 @@ impl<D: Disk + Drop> Session<D> {
     ///
     /// It is refused on a closed session (54), where the bench refuses it (41 to 46), and where a call on the disk failed
     /// (53). Each refusal but the last leaves the disk untouched.
-    pub fn apply<C: Spelling>(&mut self, command: &Command) -> Result<Reply, SessionFault>
+    pub fn apply(&mut self, command: &Command) -> Result<Reply, SessionFault>
         // on any disk
         ensures applied { Applied self.old.live self.old.state command.now result self.new.state }
         ensures closes { Closes self.old.live (D.state self.old.disk).faults result
@@ -176,7 +178,7 @@ impl<D: Disk + Drop> Session<D> {
             return Err(SessionFault::Closed);
         }
         self.bench.check(command).map_err(SessionFault::Refused)?;
-        match self.log.record::<C>(&self.bench, command) {
+        match self.log.record(&self.bench, command) {
             Ok(()) => Ok(self.bench.apply(command)),
             Err(DiskFault) => Err(SessionFault::Device),
         }

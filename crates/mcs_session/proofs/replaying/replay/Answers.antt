@@ -3,8 +3,9 @@ use Rattle.std.proofs.lemmas.List.{take_all}
 use Rattle.mcs_model.specs.declared.command.Command.{Command}
 use Rattle.mcs_model.specs.Command.{refusal}
 use Rattle.mcs_model.specs.declared.limits.TheConstants.{REPLAY_CYCLES}
+use Rattle.mcs_codec.proofs.CommandCodec.{same_command}
 use Rattle.mcs_session.specs.Invariant.{IsReplayed}
-use Rattle.mcs_session.proofs.Records.{no_pair, one_more, replayed_more, replayed_none, same_command, too_long}
+use Rattle.mcs_session.proofs.Records.{no_pair, one_more, replayed_more, replayed_none, too_long}
 use Rattle.mcs_session.proofs.replaying.replay.Goals as goal
 
 pub returns-in-Ok-None-command_of-clause-none : goal.returns-in-Ok-None-command_of-clause-none

@@ -12,4 +12,4 @@ invariant_of-result g c = record {
 
 pub returns-in-Ok-create-clause-created : goal.returns-in-Ok-create-clause-created
 returns-in-Ok-create-clause-created g c = λ honest.
-    created _ _ _ _ (rw c.as_slice.ensures.value c.spell_state-length.ensures.spells) c.new-bench.ensures (c.in-Ok-create.ensures.created honest)
+    created _ _ _ _ (rw c.as_slice.ensures.value c.spell_state-length.ensures.spells) c.in-Ok-new.ensures (c.in-Ok-create.ensures.created honest)
