@@ -1,6 +1,9 @@
 pub mod Cutting
 pub mod LineWords
 pub mod LineFeeds
+pub mod ShortLines
+pub mod TextLaws
+pub mod PlainText
 pub mod Served
 pub mod GrowingBytes
 pub mod Steps

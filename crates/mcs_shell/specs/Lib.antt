@@ -1,7 +1,12 @@
-pub mod Inputs
+pub mod Lines
 pub mod Words
 pub mod Requests
+pub mod Inputs
+pub mod Reading
+pub mod Spelling
 pub mod RefusalNumbers
+pub mod AnswerTexts
+pub mod Telling
 pub mod Stage
 pub mod Transcript
 pub mod Serving

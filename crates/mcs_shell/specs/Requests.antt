@@ -8,8 +8,9 @@ use Rattle.mcs_model.specs.declared.command.Place.TheVariants.{Register}
 use Rattle.mcs_model.specs.declared.query.Query.TheVariants as query
 use Rattle.mcs_shell.specs.declared.requests.Request.{Request}
 use Rattle.mcs_shell.specs.declared.requests.Request.TheVariants.{Refused, Ask, Change}
+use Rattle.mcs_shell.specs.declared.requests.Question.TheVariants.{State}
 use Rattle.mcs_shell.specs.declared.requests.LineFault.TheVariants.{NotACommand, BadNumber, NotAscii}
-use Rattle.mcs_shell.specs.Inputs.{cut_at, is_blank_byte}
+use Rattle.mcs_shell.specs.Lines.{cut_at, is_blank_byte}
 
 -- a tab, or a character of ASCII that prints
 abbrev pub is_plain_byte : ℕ → Bool
@@ -45,8 +46,8 @@ poke_words ws = Refused NotACommand
 abbrev pub request_of_words : List (List ℕ) → Request
 request_of_words [] = Refused NotACommand
 request_of_words (w ∷ ws) =
-    if bytes_eq w (codes "seq") then alone (Ask query.Seq) ws
-    else if bytes_eq w (codes "regs") then alone (Ask query.Regs) ws
+    if bytes_eq w (codes "seq") then alone (Ask (State query.Seq)) ws
+    else if bytes_eq w (codes "regs") then alone (Ask (State query.Regs)) ws
     else if bytes_eq w (codes "poke") then poke_words ws
     else Refused NotACommand
 

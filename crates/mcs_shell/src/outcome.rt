@@ -11,6 +11,8 @@ pub enum Outcome {
     Device,
     /// The session is closed.
     Closed,
+    /// Memory for it was refused, and nothing was done.
+    NoMemory,
 }
 
 /// What halts a shell before its input ends.

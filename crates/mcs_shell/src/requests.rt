@@ -1,11 +1,10 @@
 //! What a command line asks for.
 ghost use Rattle.std.specs.Prelude.{◌≡◌, min, option_map};
 ghost use Rattle.std.specs.List.{list_all};
-ghost use Rattle.std.specs.Str.{bytes_eq};
 ghost use Rattle.mcs_shell.specs.RefusalNumbers.{line_fault_number};
 ghost use Rattle.mcs_shell.specs.Requests.{alone, is_plain_byte, poke_of, poke_words, register_named, request_of, request_of_words, words_of};
 
-use crate::lines::next_word;
+use crate::lines::{is_word, next_word};
 use mcs_model::command::{Command, Place};
 use mcs_model::numeral::{LARGE, number, number_within};
 use mcs_model::query::Query;
@@ -44,27 +43,35 @@ impl LineFault {
     }
 }
 
+/// What a line asks to be told.
+#[derive(Clone, Copy, Debug, PartialEq, Eq)]
+pub enum Question {
+    /// What the state is asked.
+    State(Query),
+}
+
 /// What a command line asks for.
 #[derive(Clone, Copy, Debug, PartialEq, Eq)]
 pub enum Request {
     /// Nothing that the bench knows.
     Refused(LineFault),
     /// To be told of the bench.
-    Ask(Query),
+    Ask(Question),
     /// A command on the bench.
     Change(Command),
+}
+
+/// Whether a byte is a tab, or a character of ASCII that prints.
+pub fn is_plain_byte(byte: u8) -> bool
+    ensures { result ≡ is_plain_byte byte }
+{
+    byte == b'\t' || (31 < byte && byte < 127)
 }
 
 fn is_plain(line: &[u8]) -> bool
     ensures { result ≡ list_all is_plain_byte line.now }
 {
-    line.iter().all(|b| *b == b'\t' || (31 < *b && *b < 127))
-}
-
-fn is_word(word: &[u8], name: &[u8]) -> bool
-    ensures { result ≡ bytes_eq word.now name.now }
-{
-    word == name
+    line.iter().all(|b| is_plain_byte(*b))
 }
 
 /// The number of the register that a place word names.
@@ -125,9 +132,9 @@ fn read_words(line: &[u8]) -> Request
         return Request::Refused(LineFault::NotACommand);
     };
     if is_word(word, b"seq") {
-        read_alone(Request::Ask(Query::Seq), rest)
+        read_alone(Request::Ask(Question::State(Query::Seq)), rest)
     } else if is_word(word, b"regs") {
-        read_alone(Request::Ask(Query::Regs), rest)
+        read_alone(Request::Ask(Question::State(Query::Regs)), rest)
     } else if is_word(word, b"poke") {
         read_poke_words(rest)
     } else {
