@@ -23,7 +23,8 @@ use Rattle.mcs_shell.proofs.Cutting.{HasNone-append, HasNone-take, nil_right}
 use Rattle.mcs_shell.proofs.GrowingBytes.{appends_more, appends_nothing}
 use Rattle.mcs_session.proofs.Keeping.{carries_more, carries_nothing, kept_more, settled_on}
 use Rattle.mcs_shell.proofs.LineFeeds.{after-kept, feed-command, feed-dot, feed-line, feed-opened}
-use Rattle.mcs_shell.proofs.Served.{on-further, Went-append, Went-alone, Went-nothing, all_commands-alone, all_commands-further, all_commands-nothing, alone, map-append, transcript-append, transcript-alone, transcript-nothing}
+use Rattle.mcs_session.proofs.Folds.{standing_after-further}
+use Rattle.mcs_shell.proofs.Served.{Went-append, Went-alone, Went-nothing, all_commands-alone, all_commands-further, all_commands-nothing, alone, map-append, transcript-append, transcript-alone, transcript-nothing}
 
 -- nothing was served, and what is unfinished has the same inputs
 pub unserved : (m : Standing) (o : Option (List ℕ)) (p q : Pending) (bytes : List ℕ) → HasNoFeed q.line
@@ -192,8 +193,8 @@ module _ (Last : LastStep) (back : MovesBack Last) where
       let written : Appends b.out y.middle (transcript (fold s (all_commands s x.progress.served)) y.served) = subst (λ (v : Flat). Appends b.out y.middle (transcript v y.served)) state y.written in
       let P : List ℕ → Type 0 = λ v. Appends a.out y.middle v in
       let cs : all_commands s x.progress.served ++ all_commands t y.served ≡ all_commands s (x.progress.served ++ y.served) = all_commands-further s t x.progress.served y.served state in
-      let standing : on b.session.standing (all_commands t y.served) ≡ on a.session.standing (all_commands s (x.progress.served ++ y.served)) =
-      on-further a.session.standing b.session.standing (all_commands s x.progress.served) (all_commands t y.served) is ∙ ap (standing_after a.session.standing) cs in
+      let standing : standing_after b.session.standing (all_commands t y.served) ≡ standing_after a.session.standing (all_commands s (x.progress.served ++ y.served)) =
+      standing_after-further a.session.standing b.session.standing (all_commands s x.progress.served) (all_commands t y.served) is ∙ ap (standing_after a.session.standing) cs in
       record {
         served = x.progress.served ++ y.served;
         last = y.last;

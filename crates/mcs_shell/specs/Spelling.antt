@@ -1,7 +1,7 @@
 -- What a text spells, and what is told where it spells nothing.
 use Rattle.std.specs.Prelude.{ℕ, List, ◌++◌, codes, Result, Ok, Err}
 use Rattle.std.specs.Fmt.{decimal}
-use Rattle.mcs_model.specs.Boards.{BoardParts}
+use Rattle.mcs_model.specs.declared.board.BoardParts.{BoardParts}
 use Rattle.mcs_model.specs.declared.command.Command.{Command}
 use Rattle.mcs_model.specs.declared.command.Command.TheVariants.{Poke}
 use Rattle.mcs_model.specs.declared.command.Place.TheVariants.{Register}

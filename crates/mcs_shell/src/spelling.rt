@@ -2,10 +2,12 @@
 ghost use Rattle.std.specs.Prelude.{◌≡◌, ◌%◌, IfOk};
 ghost use Rattle.mcs_model.specs.declared.command.Command.TheVariants.{Poke};
 ghost use Rattle.mcs_model.specs.declared.command.Place.TheVariants.{Register};
-ghost use Rattle.mcs_shell.specs.Spelling.{command_of_text};
+ghost use Rattle.mcs_source.specs.Assembly.{assembled};
+ghost use Rattle.mcs_wiring.specs.Wiring.{board_of_text};
+ghost use Rattle.mcs_shell.specs.Spelling.{command_of_text, load_command, wire_command};
 
 use crate::texts::TextKind;
-use mcs_asm::{AsmFault, FaultKind, SourceFault, assemble};
+use mcs_asm::{FaultKind, SourceFault, assemble};
 use mcs_model::command::{Command, Place};
 use mcs_nibble::{Nibble, RegNo};
 use mcs_wiring::{WiringFault, board_of};
@@ -23,7 +25,32 @@ pub enum TextRefusal {
     Program(usize, SourceFault),
 }
 
+/// The command to put the board of a text in place, or why the text has none. It fails where memory is refused.
+fn read_board(alloc: Global, text: &str) -> Result<Result<Command, TextRefusal>, AllocError>
+    ensures { IfOk result (λ spelled. spelled ≡ wire_command (board_of_text text.now)) }
+{
+    match board_of(alloc, text) {
+        Ok(_) => Ok(Ok(stand_in(1))),
+        Err(WiringFault::NoMemory) => Err(AllocError),
+        Err(fault) => Ok(Err(TextRefusal::Wiring(fault))),
+    }
+}
+
+/// The command to load the bytes of a program, or why the text is none. It fails where memory is refused.
+fn read_program(alloc: Global, text: &str) -> Result<Result<Command, TextRefusal>, AllocError>
+    ensures { IfOk result (λ spelled. spelled ≡ load_command (assembled text.now)) }
+{
+    match assemble(alloc, text) {
+        Ok(_) => Ok(Ok(stand_in(2))),
+        Err(at) => match at.kind {
+            FaultKind::NoMemory => Err(AllocError),
+            FaultKind::Refused(fault) => Ok(Err(TextRefusal::Program(at.line, fault))),
+        },
+    }
+}
+
 /// The command that a text spells, or why it spells none. It fails where memory is refused.
+#[tactic(auto, unfolding(crate::specs::Spelling::command_of_text))]
 pub fn read_text(
     alloc: Global,
     kind: TextKind,
@@ -32,18 +59,8 @@ pub fn read_text(
     ensures { IfOk result (λ spelled. spelled ≡ command_of_text kind text.now) }
 {
     match kind {
-        TextKind::Wire => match board_of(alloc, text) {
-            Ok(_) => Ok(Ok(stand_in(1))),
-            Err(WiringFault::NoMemory) => Err(AllocError),
-            Err(fault) => Ok(Err(TextRefusal::Wiring(fault))),
-        },
-        TextKind::Asm => match assemble(alloc, text) {
-            Ok(_) => Ok(Ok(stand_in(2))),
-            Err(AsmFault { line, kind }) => match kind {
-                FaultKind::NoMemory => Err(AllocError),
-                FaultKind::Refused(fault) => Ok(Err(TextRefusal::Program(line, fault))),
-            },
-        },
+        TextKind::Wire => read_board(alloc, text),
+        TextKind::Asm => read_program(alloc, text),
     }
 }
 

@@ -8,15 +8,15 @@ returns-in-Refused g c = done_of _ _ _ (Refused c.in-Refused.fault) _ _ c.in-Ref
 
 pub returns-in-Ok : goal.returns-in-Ok
 returns-in-Ok g c =
-    let is : c.args.request.now ≡ Ask c.in-Ask.question.now = search rules in
-    done_of _ _ _ (Ask c.in-Ask.question.now) _ _ is (ask_done _ c.in-Ask.question.now _ (search rules))
+    let is : c.args.request.now ≡ Ask c.in-Ask.question = search rules in
+    done_of _ _ _ (Ask c.in-Ask.question) _ _ is (ask_done _ c.in-Ask.question _ (search rules))
 
 pub returns-in-Err : goal.returns-in-Err
 returns-in-Err g c =
-    let is : c.args.request.now ≡ Ask c.in-Ask.question.now = search rules in
-    done_of _ _ _ (Ask c.in-Ask.question.now) _ _ is (ask_refused _ c.in-Ask.question.now _ (search rules) (search rules))
+    let is : c.args.request.now ≡ Ask c.in-Ask.question = search rules in
+    done_of _ _ _ (Ask c.in-Ask.question) _ _ is (ask_refused _ c.in-Ask.question _ (search rules) (search rules))
 
 pub returns-in-Change : goal.returns-in-Change
 returns-in-Change g c =
-    let is : c.args.request.now ≡ Change c.in-Change.command.now = search rules in
-    done_of _ _ _ (Change c.in-Change.command.now) _ _ is (change_done _ _ c.in-Change.command.now _ _ c.answer_change.ensures)
+    let is : c.args.request.now ≡ Change c.in-Change.command = search rules in
+    done_of _ _ _ (Change c.in-Change.command) _ _ is (change_done _ _ c.in-Change.command _ _ c.answer_change.ensures)
