@@ -22,7 +22,6 @@ use Rattle.mcs_shell.specs.declared.requests.Question.{Question}
 use Rattle.mcs_shell.specs.declared.spelling.TextRefusal.{TextRefusal}
 use Rattle.mcs_shell.specs.declared.texts.TextKind.{TextKind}
 use Rattle.mcs_shell.specs.declared.texts.TextFault.{TextFault}
-use Rattle.mcs_shell.specs.declared.texts.TextFault.TheVariants.{NoEnd}
 use Rattle.mcs_shell.specs.declared.outcome.Halt.{Halt}
 use Rattle.mcs_shell.specs.declared.outcome.Halt.TheVariants as halt
 use Rattle.mcs_shell.specs.Lines.{is_blank_byte}

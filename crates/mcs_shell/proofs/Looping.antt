@@ -1,5 +1,5 @@
 -- The loop over chunks.
-use Rattle.std.proofs.Common.{◌≡◌, ℕ, ◌+◌, ◌<◌, ◌≤◌, List, [], ◌∷◌, ◌++◌, Bool, true, false, length, Option, map, inr, ap, sym, append_assoc, length-append, ◌∙◌, refl, subst, arith, if◌then◌else◌, nat_lt}
+use Rattle.std.proofs.Common.{◌≡◌, ℕ, ◌+◌, ◌<◌, ◌≤◌, List, [], ◌∷◌, ◌++◌, Bool, true, false, length, Option, map, inr, ap, sym, append_assoc, length-append, ◌∙◌, refl, subst, arith}
 use Rattle.std.specs.Io.KnownBytes.{Appends, Consumes, Keeps}
 use Rattle.std.proofs.lemmas.Grind.{common_steps}
 use Rattle.mcs_model.specs.declared.command.Command.{Command}
@@ -19,7 +19,7 @@ use Rattle.mcs_shell.specs.Stage.{Stage}
 use Rattle.mcs_shell.specs.Transcript.{Went, all_commands, transcript}
 use Rattle.mcs_shell.specs.AnswerTexts.{session_text}
 use Rattle.mcs_session.specs.Kept.{Carries, IsHonest, IsSettled}
-use Rattle.mcs_shell.specs.Serving.{CutShort, Failed, LastBy, LastStep, StopsAt, Stopped, StoppedAt, WentFurther, WentOn}
+use Rattle.mcs_shell.specs.Serving.{CutShort, Failed, LastStep, StopsAt, Stopped, StoppedAt, WentFurther, WentOn}
 use Rattle.mcs_shell.specs.Shell.{Began, EndsBy, InputEnded, LoopRan, RanGiven, ReadSome, ServedAll, ServedSome, Untouched, WasRead, end_of_halt}
 use Rattle.mcs_shell.specs.Finishing.{FinishedBy}
 use Rattle.mcs_shell.proofs.Cutting.{nil_right}

@@ -18,8 +18,8 @@ use Rattle.mcs_session.specs.Standing.{SessionState, Standing, standing_after}
 use Rattle.mcs_shell.specs.Stage.{Stage}
 use Rattle.mcs_shell.specs.Transcript.{MayGo, Went, answer, commands, reached, transcript, all_commands}
 use Rattle.mcs_session.specs.Kept.{Carries, IsSettled, Kept}
-use Rattle.mcs_shell.specs.Serving.{ClosesAt, StopsAt, CutShort, Failed, Fares, LastBy, LastStep, Progress, Stopped, StoppedAt, WentFurther, WentOn}
-use Rattle.mcs_shell.proofs.Cutting.{HasNone-append, HasNone-take, nil_right}
+use Rattle.mcs_shell.specs.Serving.{ClosesAt, StopsAt, CutShort, Failed, Fares, LastStep, Progress, Stopped, StoppedAt, WentFurther, WentOn}
+use Rattle.mcs_shell.proofs.Cutting.{HasNone-append, HasNone-take}
 use Rattle.mcs_shell.proofs.GrowingBytes.{appends_more, appends_nothing}
 use Rattle.mcs_session.proofs.Keeping.{carries_more, carries_nothing, kept_more, settled_on}
 use Rattle.mcs_shell.proofs.LineFeeds.{after-kept, feed-command, feed-dot, feed-line, feed-opened}
@@ -280,8 +280,8 @@ pub stopped_line : (halt : Halt) (a b c : Stage) (p q r : Pending) (front back r
     → r ≡ record { mode = q.mode; line = take 16386 (q.line ++ front) } → Stopped halt b c r (10 ∷ []) → Stopped halt a c p chunk
 stopped_line halt a b c p q r front back rest chunk x e kept h =
     stopped_by halt a b c p r (x.done ++ front) (10 ∷ []) back chunk
-        (x.split ∙ ap (λ v. x.done ++ v) (e.1) ∙ sym (append_assoc x.done front (10 ∷ back)))
-        (went_twice a b b p q r x.done front x.went (went_kept b q r front x.went.progress.no_feed (e.0) kept)) h
+    (x.split ∙ ap (λ v. x.done ++ v) (e.1) ∙ sym (append_assoc x.done front (10 ∷ back)))
+    (went_twice a b b p q r x.done front x.went (went_kept b q r front x.went.progress.no_feed (e.0) kept)) h
 
 -- the rest has no line feed
 pub served_rest : (a b : Stage) (p q r : Pending) (rest chunk : List ℕ) → ServedTo a b p q rest chunk → HasNoFeed rest

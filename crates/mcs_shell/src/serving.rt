@@ -9,7 +9,7 @@ ghost use Rattle.mcs_shell.specs.Serving.{Sent, ServedLine, Stopped, WentFurther
 use crate::answer::Answer;
 use crate::answering::{answer_line, answer_text};
 use crate::lines::without_return;
-use crate::outcome::{Outcome, Halt};
+use crate::outcome::{Halt, Outcome};
 use crate::sending::WriteStopped;
 use crate::texts::{TextFault, TextKind, ends_text, opens};
 use crate::unfinished::Unfinished;

@@ -105,7 +105,13 @@ fn run_loop<R: Read, W: Write, D: Disk + Drop>(
         match read_some(reader, buffer, most) {
             Err(ReadFailed) => return ShellEnd::ReadFault,
             Ok(0) => return finish(alloc, &mut unfinished, writer, session),
-            Ok(count) => match serve_chunk(alloc, &buffer[..count], &mut unfinished, writer, session) {
+            Ok(count) => match serve_chunk(
+                alloc,
+                &buffer[..count],
+                &mut unfinished,
+                writer,
+                session,
+            ) {
                 Ok(()) => total += count,
                 Err(halt) => return end_of(halt),
             },

@@ -1,5 +1,3 @@
-use Rattle.std.proofs.Common.{rules, ◌≡◌}
-use Rattle.mcs_shell.specs.Inputs.{InText}
 use Rattle.mcs_shell.proofs.Looping.{finished_empty, finished_text, finished_text_stop}
 use Rattle.mcs_shell.proofs.shell.finish_text.Goals as goal
 
