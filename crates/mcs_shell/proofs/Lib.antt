@@ -4,6 +4,7 @@ pub mod LineFeeds
 pub mod ShortLines
 pub mod TextLaws
 pub mod PlainText
+pub mod ByAddress
 pub mod Served
 pub mod GrowingBytes
 pub mod Steps

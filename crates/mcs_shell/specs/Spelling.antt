@@ -1,5 +1,5 @@
 -- What a text spells, and what is told where it spells nothing.
-use Rattle.std.specs.Prelude.{ℕ, List, ◌++◌, codes, Result, Ok, Err}
+use Rattle.std.specs.Prelude.{ℕ, List, [], ◌∷◌, ◌++◌, nat_lt, if◌then◌else◌, codes, Result, Ok, Err}
 use Rattle.std.specs.Fmt.{decimal}
 use Rattle.mcs_model.specs.declared.board.BoardParts.{BoardParts}
 use Rattle.mcs_model.specs.declared.command.Command.{Command}
@@ -22,7 +22,17 @@ abbrev pub wire_command : Result BoardParts WiringFault → Result Command TextR
 wire_command (Ok board) = Ok (Poke (Register 0 1))
 wire_command (Err fault) = Err (Wiring fault)
 
--- the command to load the bytes of a program, by rising address
+-- a pair among pairs that rise by address
+abbrev pub placed : ℕ × ℕ → List (ℕ × ℕ) → List (ℕ × ℕ)
+placed p [] = p ∷ []
+placed p (q ∷ qs) = if nat_lt p.0 q.0 then p ∷ q ∷ qs else (if nat_lt q.0 p.0 then q ∷ placed p qs else q ∷ qs)
+
+-- these pairs by rising address
+abbrev pub by_address : List (ℕ × ℕ) → List (ℕ × ℕ)
+by_address [] = []
+by_address (p ∷ ps) = placed p (by_address ps)
+
+-- the command to load the bytes of a program
 abbrev pub load_command : Result (List (ℕ × ℕ)) (ℕ × SourceFault) → Result Command TextRefusal
 load_command (Ok pairs) = Ok (Poke (Register 0 2))
 load_command (Err at) = Err (Program (at.0) (at.1))
