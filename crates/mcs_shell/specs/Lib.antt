@@ -2,6 +2,7 @@ pub mod Lines
 pub mod Words
 pub mod Requests
 pub mod Inputs
+pub mod TextLaws
 pub mod Reading
 pub mod Spelling
 pub mod RefusalNumbers

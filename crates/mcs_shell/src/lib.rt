@@ -6,6 +6,7 @@ mod answering;
 pub mod ends;
 pub mod faults;
 pub mod headline;
+pub mod laws;
 pub mod lines;
 pub mod outcome;
 pub mod program;
