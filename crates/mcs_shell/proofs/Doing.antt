@@ -9,51 +9,50 @@ use Rattle.mcs_model.specs.declared.refusals.BenchFault.{BenchFault}
 use Rattle.mcs_model.specs.Command.{refusal, after, reply}
 use Rattle.mcs_model.specs.Refusal.{bench_refusal_number}
 use Rattle.mcs_model.specs.declared.limits.TheConstants.{LINE_BYTES}
-use Rattle.mcs_model.specs.declared.refusal_numbers.TheConstants.{CLOSED, DEVICE, FULL, LINE_TOO_LONG, NO_MEMORY}
+use Rattle.mcs_model.specs.declared.refusal_numbers.TheConstants.{CLOSED, DEVICE, LINE_TOO_LONG, NO_MEMORY}
 use Rattle.mcs_model.specs.Flat.{Flat}
 use Rattle.mcs_session.specs.declared.fault.SessionFault.{SessionFault}
 use Rattle.mcs_session.specs.declared.fault.SessionFault.TheVariants as fault
 use Rattle.mcs_shell.specs.declared.outcome.Outcome.{Outcome}
-use Rattle.mcs_shell.specs.declared.outcome.Outcome.TheVariants.{Plain, Full, Device, Closed, NoMemory}
-use Rattle.mcs_shell.specs.declared.requests.LineFault.{LineFault}
-use Rattle.mcs_shell.specs.declared.requests.Request.{Request}
-use Rattle.mcs_shell.specs.declared.requests.Request.TheVariants.{Refused, Ask, Change}
-use Rattle.mcs_shell.specs.declared.requests.Question.{Question}
+use Rattle.mcs_shell.specs.declared.outcome.Outcome.TheVariants.{Plain, Device, Closed, NoMemory}
+use Rattle.mcs_lines.specs.declared.requests.LineFault.{LineFault}
+use Rattle.mcs_lines.specs.declared.requests.Request.{Request}
+use Rattle.mcs_lines.specs.declared.requests.Request.TheVariants.{Refused, Ask, Change}
+use Rattle.mcs_lines.specs.declared.requests.Question.{Question}
 use Rattle.mcs_shell.specs.declared.spelling.TextRefusal.{TextRefusal}
 use Rattle.mcs_shell.specs.declared.texts.TextKind.{TextKind}
 use Rattle.mcs_shell.specs.declared.texts.TextFault.{TextFault}
 use Rattle.mcs_shell.specs.declared.outcome.Halt.{Halt}
 use Rattle.mcs_shell.specs.declared.outcome.Halt.TheVariants as halt
-use Rattle.mcs_shell.specs.Lines.{is_blank_byte}
+use Rattle.mcs_lines.specs.Words.{is_blank_byte}
 use Rattle.mcs_shell.specs.Inputs.{Input, Blank, TooLong, Line, Text, BadText, fault_of, judged, judged_text, text_or_fault}
-use Rattle.mcs_shell.specs.Requests.{request_of}
+use Rattle.mcs_lines.specs.Requests.{request_of}
 use Rattle.mcs_shell.specs.Spelling.{command_of_text, text_refusal}
 use Rattle.mcs_session.specs.Answers.{Applied, Closes, Recorded}
-use Rattle.mcs_session.specs.Log.{Log, Open, Shut}
 use Rattle.mcs_session.specs.Standing.{SessionState}
 use Rattle.mcs_shell.specs.Stage.{Stage}
 use Rattle.mcs_shell.specs.RefusalNumbers.{session_fault_number, text_fault_number}
-use Rattle.mcs_shell.specs.AnswerTexts.{no_text, ok_text, takes_memory}
+use Rattle.mcs_answers.specs.AnswerTexts.{no_text, ok_text, takes_memory}
 use Rattle.mcs_shell.specs.Transcript.{MayEnd, SpelledMayEnd, answer, change_text, commands, commands_of_change, commands_of_request, commands_of_spelled, if_accepted, plain_text, unless_refused, reached, reached_by_change, reached_by_request, reached_by_spelled, request_text, spelled_text}
 use Rattle.mcs_session.specs.Kept.{IsSettled, Kept}
 use Rattle.mcs_shell.specs.Serving.{Sent, ServedLine, Answered, Changed, CutShort, Failed, Fares, GotSome, KeptBy, Leaves, RequestDone, WentOn}
 use Rattle.mcs_session.proofs.Keeping.{acknowledged_keeps, failed_keeps, stays_keeps, whole_nothing}
 
-abbrev pub at : Log → Flat → DiskState → SessionState
-at log s d = record { standing = record { log = log; state = s }; disk = d }
+abbrev pub at : Bool → Flat → DiskState → SessionState
+at live s d = record { standing = record { live = live; state = s }; disk = d }
 
 -- what `apply` says of the session and its disk
-pub record Tried (log : Log) (s : Flat) (d : DiskState) (c : Command) (result : Result Reply SessionFault) (b : SessionState) : Type 0 where
-  pub applied : Applied log s c result b.standing.state
-  pub closes : Closes log d.faults c result b.standing.log b.disk.faults
+pub record Tried (live : Bool) (s : Flat) (d : DiskState) (c : Command) (result : Result Reply SessionFault) (b : SessionState) : Type 0 where
+  pub applied : Applied live s c result b.standing.state
+  pub closes : Closes live d.faults result b.standing.live b.disk.faults
   pub size : b.disk.size ≡ d.size
   pub honest : b.disk.honest ↔ d.honest
   pub records : d.honest → Recorded result d b.disk s c
   pub lawful : b.disk.honest → IsLawful b.disk
 
 -- what it says of a known result
-pub known : (q r : Result Reply SessionFault) (log : Log) (s : Flat) (d : DiskState) (b : SessionState) (c : Command) → q ≡ r → Tried log s d c q b → Tried log s d c r b
-known q r log s d b c same h = subst (λ x. Tried log s d c x b) same h
+pub known : (q r : Result Reply SessionFault) (live : Bool) (s : Flat) (d : DiskState) (b : SessionState) (c : Command) → q ≡ r → Tried live s d c q b → Tried live s d c r b
+known q r live s d b c same h = subst (λ x. Tried live s d c x b) same h
 
 accepted_alone : (s : Flat) (c : Command) → refusal s c ≡ None → if_accepted s c ≡ c ∷ []
 accepted_alone s c e = ap (λ (v : Option BenchFault). unless_refused v c) e
@@ -67,16 +66,16 @@ text_accepted s c e = sym (ap (λ (v : Option BenchFault). plain_text v s c) e)
 text_refused : (s : Flat) (c : Command) (f : BenchFault) → refusal s c ≡ Some f → no_text (bench_refusal_number f) ≡ change_text s c Plain
 text_refused s c f e = sym (ap (λ (v : Option BenchFault). plain_text v s c) e)
 
-pub ok_changed : (r : Reply) (log : Log) (s : Flat) (d : DiskState) (b : SessionState) (c : Command) (told : List ℕ) → Tried log s d c (Ok r) b → told ≡ ok_text r b.standing.state → Changed (at log s d) c Plain told b
-ok_changed r Shut s d b c told h k = absurd (h.applied)
-ok_changed r (Open used) s d b c told h k =
+pub ok_changed : (r : Reply) (live : Bool) (s : Flat) (d : DiskState) (b : SessionState) (c : Command) (told : List ℕ) → Tried live s d c (Ok r) b → told ≡ ok_text r b.standing.state → Changed (at live s d) c Plain told b
+ok_changed r false s d b c told h k = absurd (h.applied)
+ok_changed r true s d b c told h k =
     let yes : refusal s c ≡ None = h.applied.0 in
-    let P : List Command → Type 0 = λ cs. Leaves (at (Open used) s d) Plain cs cs b in
+    let P : List Command → Type 0 = λ cs. Leaves (at true s d) Plain cs cs b in
     record {
-      may = λ e. h.applied.1;
-      told_is = k ∙ ap (λ v. ok_text v b.standing.state) (h.applied.2) ∙ ap (ok_text (reply s c)) (h.applied.3) ∙ text_accepted s c yes;
+      may = tt;
+      told_is = k ∙ ap (λ v. ok_text v b.standing.state) (h.applied.1) ∙ ap (ok_text (reply s c)) (h.applied.2) ∙ text_accepted s c yes;
       leaves = subst P (sym (accepted_alone s c yes)) (record {
-        state = h.applied.3;
+        state = h.applied.2;
         closes = h.closes;
         size = h.size;
         honest = h.honest;
@@ -84,13 +83,13 @@ ok_changed r (Open used) s d b c told h k =
       });
     }
 
-pub refused_changed : (f : BenchFault) (log : Log) (s : Flat) (d : DiskState) (b : SessionState) (c : Command) (told : List ℕ) → Tried log s d c (Err (fault.Refused f)) b → told ≡ no_text (session_fault_number (fault.Refused f)) → Changed (at log s d) c Plain told b
-refused_changed f Shut s d b c told h k = absurd (h.applied)
-refused_changed f (Open used) s d b c told h k =
+pub refused_changed : (f : BenchFault) (live : Bool) (s : Flat) (d : DiskState) (b : SessionState) (c : Command) (told : List ℕ) → Tried live s d c (Err (fault.Refused f)) b → told ≡ no_text (session_fault_number (fault.Refused f)) → Changed (at live s d) c Plain told b
+refused_changed f false s d b c told h k = absurd (h.applied)
+refused_changed f true s d b c told h k =
     let no : refusal s c ≡ Some f = h.applied.0 in
-    let P : List Command → Type 0 = λ cs. Leaves (at (Open used) s d) Plain cs cs b in
+    let P : List Command → Type 0 = λ cs. Leaves (at true s d) Plain cs cs b in
     record {
-      may = λ e. absurd (cc (no, e));
+      may = tt;
       told_is = k ∙ text_refused s c f no;
       leaves = subst P (sym (refused_none s c f no)) (record {
         state = h.applied.1;
@@ -101,25 +100,17 @@ refused_changed f (Open used) s d b c told h k =
       });
     }
 
-pub full_changed : (log : Log) (s : Flat) (d : DiskState) (b : SessionState) (c : Command) (told : List ℕ) → Tried log s d c (Err fault.Full) b → told ≡ no_text FULL → Changed (at log s d) c Full told b
-full_changed Shut s d b c told h k = absurd (h.applied)
-full_changed (Open used) s d b c told h k = record {
-  may = (h.applied.0, h.applied.1);
+pub device_changed : (live : Bool) (s : Flat) (d : DiskState) (b : SessionState) (c : Command) (told : List ℕ) → Tried live s d c (Err fault.Device) b → told ≡ no_text DEVICE → Changed (at live s d) c Device told b
+device_changed false s d b c told h k = absurd (h.applied)
+device_changed true s d b c told h k = record {
+  may = h.applied.0;
   told_is = k;
-  leaves = record { state = h.applied.2; closes = h.closes; size = h.size; honest = h.honest; kept = λ given. stays_keeps d b.disk s (h.records given.honest.1) given.settled (h.lawful (h.honest.1 given.honest.1)) };
+  leaves = record { state = h.applied.1; closes = h.closes; size = h.size; honest = h.honest; kept = λ given. failed_keeps d b.disk s c (h.records given.honest.1) (h.lawful (h.honest.1 given.honest.1)) };
 }
 
-pub device_changed : (log : Log) (s : Flat) (d : DiskState) (b : SessionState) (c : Command) (told : List ℕ) → Tried log s d c (Err fault.Device) b → told ≡ no_text DEVICE → Changed (at log s d) c Device told b
-device_changed Shut s d b c told h k = absurd (h.applied)
-device_changed (Open used) s d b c told h k = record {
-  may = (h.applied.0, h.applied.1);
-  told_is = k;
-  leaves = record { state = h.applied.2; closes = h.closes; size = h.size; honest = h.honest; kept = λ given. failed_keeps d b.disk s c (h.records given.honest.1) (h.lawful (h.honest.1 given.honest.1)) };
-}
-
-pub closed_changed : (log : Log) (s : Flat) (d : DiskState) (b : SessionState) (c : Command) (told : List ℕ) → Tried log s d c (Err fault.Closed) b → told ≡ no_text CLOSED → Changed (at log s d) c Closed told b
-closed_changed (Open used) s d b c told h k = absurd (h.applied)
-closed_changed Shut s d b c told h k = record {
+pub closed_changed : (live : Bool) (s : Flat) (d : DiskState) (b : SessionState) (c : Command) (told : List ℕ) → Tried live s d c (Err fault.Closed) b → told ≡ no_text CLOSED → Changed (at live s d) c Closed told b
+closed_changed true s d b c told h k = absurd (h.applied)
+closed_changed false s d b c told h k = record {
   may = tt;
   told_is = k;
   leaves = record { state = h.applied; closes = h.closes; size = h.size; honest = h.honest; kept = λ given. absurd (cc given.honest.0) };
@@ -144,7 +135,6 @@ ask_refused a q told may k = record { may = may; told_is = k; leaves = leaves_re
 
 pub change_done : (a b : SessionState) (c : Command) (o : Outcome) (told : List ℕ) → Changed a c o told b → RequestDone a (Change c) o told b
 change_done a b c Plain told h = record { may = h.may; told_is = h.told_is; leaves = h.leaves }
-change_done a b c Full told h = record { may = h.may; told_is = h.told_is; leaves = h.leaves }
 change_done a b c Device told h = record { may = h.may; told_is = h.told_is; leaves = h.leaves }
 change_done a b c Closed told h = record { may = h.may; told_is = h.told_is; leaves = h.leaves }
 change_done a b c NoMemory told h = record { may = h.may; told_is = h.told_is; leaves = h.leaves }
@@ -199,7 +189,6 @@ pub record SpelledDone (a : SessionState) (r : Result Command TextRefusal) (o : 
 
 pub spelled_change : (a b : SessionState) (c : Command) (o : Outcome) (told : List ℕ) → Changed a c o told b → SpelledDone a (Ok c) o told b
 spelled_change a b c Plain told h = record { may = h.may; told_is = h.told_is; leaves = h.leaves }
-spelled_change a b c Full told h = record { may = h.may; told_is = h.told_is; leaves = h.leaves }
 spelled_change a b c Device told h = record { may = h.may; told_is = h.told_is; leaves = h.leaves }
 spelled_change a b c Closed told h = record { may = h.may; told_is = h.told_is; leaves = h.leaves }
 spelled_change a b c NoMemory told h = record { may = tt; told_is = h.told_is; leaves = h.leaves }
@@ -229,7 +218,6 @@ answered_bad_text a i f told e h = let P : Input → Type 0 = λ x. Answered a x
 
 of_change : (s : Flat) (c : Command) (o : Outcome) → o ≢ Device → reached_by_change s c o ≡ commands_of_change s c o
 of_change s c Plain h = refl
-of_change s c Full h = refl
 of_change s c Device h = absurd (h refl)
 of_change s c Closed h = refl
 of_change s c NoMemory h = refl
@@ -254,7 +242,6 @@ reached_same s (Line line) o h = of_request s (request_of line) o h
 kept_of : (o : Outcome) (d e : DiskState) (s : Flat) (i : Input) → KeptBy o d e s (commands s i o) (reached s i o) → Kept d e s (commands s i o) (reached s i o)
 kept_of Device d e s i h = h
 kept_of Plain d e s i h = let P : List Command → Type 0 = λ cs. Kept d e s (commands s i Plain) cs in subst P (sym (reached_same s i Plain (λ x. absurd (cc x)))) h.kept
-kept_of Full d e s i h = let P : List Command → Type 0 = λ cs. Kept d e s (commands s i Full) cs in subst P (sym (reached_same s i Full (λ x. absurd (cc x)))) h.kept
 kept_of Closed d e s i h = let P : List Command → Type 0 = λ cs. Kept d e s (commands s i Closed) cs in subst P (sym (reached_same s i Closed (λ x. absurd (cc x)))) h.kept
 kept_of NoMemory d e s i h = let P : List Command → Type 0 = λ cs. Kept d e s (commands s i NoMemory) cs in subst P (sym (reached_same s i NoMemory (λ x. absurd (cc x)))) h.kept
 
@@ -274,7 +261,6 @@ cut_of a b i o told out h got = record { outcome = o; fares = fares_of a b.sessi
 pub failed_of : (a : SessionState) (b : Stage) (i : Input) (o : Outcome) (told : List ℕ) (out : Option (List ℕ)) → Answered a i o told b.session → o ≡ Device → Appends out b.out told → Failed IsSettled a [] a.standing i out b
 failed_of a b i Device told out h is got = let P : List ℕ → Type 0 = λ x. Appends out b.out x in record { fares = fares_of a b.session i Device told h; written = subst P h.told_is got }
 failed_of a b i Plain told out h is got = absurd (cc is)
-failed_of a b i Full told out h is got = absurd (cc is)
 failed_of a b i Closed told out h is got = absurd (cc is)
 failed_of a b i NoMemory told out h is got = absurd (cc is)
 
@@ -282,8 +268,6 @@ pub went_of : (a b : Stage) (i : Input) (o : Outcome) (told : List ℕ) → Answ
 went_of a b i Device told h is got = absurd (is refl)
 went_of a b i Plain told h is got = let P : List ℕ → Type 0 = λ x. Appends a.out b.out x in
     record { outcome = Plain; may = (is, h.may); written = subst P h.told_is got; carries = record { standing = λ k. record { log = h.leaves.closes.0 k; state = h.leaves.state k }; same_faults = h.leaves.closes.1; size = h.leaves.size; honest = h.leaves.honest; kept = h.leaves.kept } }
-went_of a b i Full told h is got = let P : List ℕ → Type 0 = λ x. Appends a.out b.out x in
-    record { outcome = Full; may = (is, h.may); written = subst P h.told_is got; carries = record { standing = λ k. record { log = h.leaves.closes.0 k; state = h.leaves.state k }; same_faults = h.leaves.closes.1; size = h.leaves.size; honest = h.leaves.honest; kept = h.leaves.kept } }
 went_of a b i Closed told h is got = let P : List ℕ → Type 0 = λ x. Appends a.out b.out x in
     record { outcome = Closed; may = (is, h.may); written = subst P h.told_is got; carries = record { standing = λ k. record { log = h.leaves.closes.0 k; state = h.leaves.state k }; same_faults = h.leaves.closes.1; size = h.leaves.size; honest = h.leaves.honest; kept = h.leaves.kept } }
 went_of a b i NoMemory told h is got = let P : List ℕ → Type 0 = λ x. Appends a.out b.out x in

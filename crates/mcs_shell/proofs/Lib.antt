@@ -1,5 +1,4 @@
 pub mod Cutting
-pub mod LineWords
 pub mod LineFeeds
 pub mod ShortLines
 pub mod TextLaws
@@ -10,5 +9,4 @@ pub mod GrowingBytes
 pub mod Steps
 pub mod Doing
 pub mod Looping
-pub mod DecimalDigits
 pub mod Surviving

@@ -17,12 +17,12 @@ use Rattle.mcs_shell.specs.declared.texts.TextFault.TheVariants.{NoEnd}
 use Rattle.mcs_session.specs.Standing.{SessionState, Standing, standing_after}
 use Rattle.mcs_shell.specs.Stage.{Stage}
 use Rattle.mcs_shell.specs.Transcript.{Went, all_commands, transcript}
-use Rattle.mcs_shell.specs.AnswerTexts.{session_text}
+use Rattle.mcs_answers.specs.AnswerTexts.{session_text}
 use Rattle.mcs_session.specs.Kept.{Carries, IsHonest, IsSettled}
 use Rattle.mcs_shell.specs.Serving.{CutShort, Failed, LastStep, StopsAt, Stopped, StoppedAt, WentFurther, WentOn}
 use Rattle.mcs_shell.specs.Shell.{Began, EndsBy, InputEnded, LoopRan, RanGiven, ReadSome, ServedAll, ServedSome, Untouched, WasRead, end_of_halt}
 use Rattle.mcs_shell.specs.Finishing.{FinishedBy}
-use Rattle.mcs_shell.proofs.Cutting.{nil_right}
+use Rattle.mcs_lines.proofs.Cutting.{nil_right}
 use Rattle.mcs_shell.proofs.GrowingBytes.{appends_more, appends_nothing, consumes_kept, consumes_more, consumes_nothing}
 use Rattle.mcs_session.proofs.Keeping.{carries_more}
 use Rattle.mcs_shell.proofs.LineFeeds.{after-commands, after-cut, after-no_end, after-whole}

@@ -13,7 +13,6 @@ use Rattle.mcs_shell.specs.Inputs.{Input, Pending, Commands, InText, fresh, inpu
 use Rattle.mcs_shell.specs.Reading.{Gathers, GathersLine}
 use Rattle.mcs_shell.specs.declared.texts.TextKind.{TextKind}
 use Rattle.std.specs.Io.BufRead.{strip_last}
-use Rattle.mcs_session.specs.Log.{logged}
 use Rattle.mcs_session.specs.Standing.{SessionState, Standing, standing_after}
 use Rattle.mcs_shell.specs.Stage.{Stage}
 use Rattle.mcs_shell.specs.Transcript.{MayGo, Went, answer, commands, reached, transcript, all_commands}
@@ -145,7 +144,7 @@ pub fares_after : (a b c : SessionState) (cs ds : List Command) (m : Standing) (
 fares_after a b c cs ds m i o x y = record {
   may = y.may;
   state = y.state;
-  closes = subst (λ (n : ℕ). ClosesAt o (logged m.log (commands m.state i o)) n c.standing.log c.disk.faults) x.same_faults y.closes;
+  closes = subst (λ (n : ℕ). ClosesAt o m.live n c.standing.live c.disk.faults) x.same_faults y.closes;
   size = y.size ∙ x.size;
   honest = (λ h. x.honest.0 (y.honest.0 h), λ h. y.honest.1 (x.honest.1 h));
   kept = λ given.

@@ -7,8 +7,10 @@ use Rattle.mcs_shell.specs.declared.texts.TextKind.{TextKind}
 use Rattle.mcs_shell.specs.declared.texts.TextKind.TheVariants.{Wire, Asm}
 use Rattle.mcs_shell.specs.declared.texts.TextFault.{TextFault}
 use Rattle.mcs_shell.specs.declared.texts.TextFault.TheVariants.{NoEnd, TextTooLong, HasLongLine, HasBadByte}
-use Rattle.mcs_shell.specs.Lines.{cut_at, is_blank_byte, is_line_feed, lines}
-use Rattle.mcs_shell.specs.Requests.{is_plain_byte, words_of}
+use Rattle.mcs_lines.specs.Cutting.{cut_at}
+use Rattle.mcs_lines.specs.Words.{is_blank_byte}
+use Rattle.mcs_shell.specs.Lines.{is_line_feed, lines}
+use Rattle.mcs_lines.specs.Words.{is_plain_byte, words_of}
 
 -- a line without words, a line of too many bytes, a command line, a text, or a text that is refused whatever its lines say
 pub data Input : Type 0 where

@@ -1,13 +1,9 @@
 pub mod Lines
-pub mod Words
-pub mod Requests
 pub mod Inputs
 pub mod TextLaws
 pub mod Reading
 pub mod Spelling
 pub mod RefusalNumbers
-pub mod AnswerTexts
-pub mod Telling
 pub mod Stage
 pub mod Transcript
 pub mod Serving

@@ -1,5 +1,5 @@
 -- How serving one input, or a stretch of bytes, ends.
-use Rattle.std.specs.Prelude.{◌≡◌, ◌≢◌, ◌↔◌, ◌<◌, ◌+◌, min, Bool, ℕ, List, [], ◌∷◌, ◌++◌, length, map, take, Option, Result, Ok, Err}
+use Rattle.std.specs.Prelude.{◌≡◌, ◌≢◌, ◌↔◌, ◌<◌, ◌+◌, min, Bool, false, ℕ, List, [], ◌∷◌, ◌++◌, length, map, take, Option, Result, Ok, Err}
 use Rattle.std.specs.Io.KnownBytes.{Appends}
 use Rattle.mcs_disk.specs.Disk.{DiskState, most_faults}
 use Rattle.mcs_model.specs.declared.command.Command.{Command}
@@ -9,10 +9,9 @@ use Rattle.mcs_shell.specs.declared.outcome.Outcome.{Outcome}
 use Rattle.mcs_shell.specs.declared.outcome.Outcome.TheVariants.{Device}
 use Rattle.mcs_shell.specs.declared.outcome.Halt.{Halt}
 use Rattle.mcs_shell.specs.declared.outcome.Halt.TheVariants as halt
-use Rattle.mcs_shell.specs.declared.requests.Request.{Request}
+use Rattle.mcs_lines.specs.declared.requests.Request.{Request}
 use Rattle.mcs_shell.specs.Lines.{HasNoFeed}
 use Rattle.mcs_shell.specs.Inputs.{Input, Pending, inputs_after}
-use Rattle.mcs_session.specs.Log.{Log, Shut, logged}
 use Rattle.mcs_session.specs.Standing.{Standing, SessionState, standing_after}
 use Rattle.mcs_shell.specs.Stage.{Stage}
 use Rattle.mcs_shell.specs.Transcript.{ChangeMayEnd, RequestMayEnd, MayEnd, MayGo, Served, answer, commands, reached, reached_by_change, reached_by_request, change_text, commands_of_change, commands_of_request, request_text, Went, transcript, all_commands}
@@ -26,10 +25,10 @@ pub record GotSome (old new : Option (List ℕ)) (bytes : List ℕ) : Type 0 whe
 
 -- ---- one input
 
--- the session was closed where the device failed, and there alone; `log` is what it is else
-abbrev pub ClosesAt : Outcome → Log → ℕ → Log → ℕ → Type 0
-ClosesAt Device log faults new_log new_faults = (new_log ≡ Shut) × (new_faults ≡ min (faults + 1) most_faults)
-ClosesAt o log faults new_log new_faults = (new_log ≡ log) × (new_faults ≡ faults)
+-- the session was closed where the device failed, and there alone
+abbrev pub ClosesAt : Outcome → Bool → ℕ → Bool → ℕ → Type 0
+ClosesAt Device live faults new_live new_faults = (new_live ≡ false) × (new_faults ≡ min (faults + 1) most_faults)
+ClosesAt o live faults new_live new_faults = (new_live ≡ live) × (new_faults ≡ faults)
 
 -- what the disk keeps of a command that met this outcome
 abbrev pub KeptBy : Outcome → DiskState → DiskState → Flat → List Command → List Command → Type 0
@@ -39,14 +38,14 @@ KeptBy o old new s done reached_too = KeptWhole old new s done
 -- an outcome's effects on the session and its disk, beside its answer
 pub record Leaves (a : SessionState) (o : Outcome) (done reached_too : List Command) (b : SessionState) : Type 0 where
   pub state : b.standing.state ≡ fold a.standing.state done
-  pub closes : ClosesAt o (logged a.standing.log done) a.disk.faults b.standing.log b.disk.faults
+  pub closes : ClosesAt o a.standing.live a.disk.faults b.standing.live b.disk.faults
   pub size : b.disk.size ≡ a.disk.size
   pub honest : b.disk.honest ↔ a.disk.honest
   pub kept : IsSettled a → KeptBy o a.disk b.disk a.standing.state done reached_too
 
 -- a command was tried: its answer is this
 pub record Changed (a : SessionState) (c : Command) (o : Outcome) (told : List ℕ) (b : SessionState) : Type 0 where
-  pub may : ChangeMayEnd a.standing.log a.standing.state c o
+  pub may : ChangeMayEnd a.standing.live a.standing.state c o
   pub told_is : told ≡ change_text a.standing.state c o
   pub leaves : Leaves a o (commands_of_change a.standing.state c o) (reached_by_change a.standing.state c o) b
 
@@ -74,7 +73,7 @@ pub record WentOn (a : Stage) (i : Input) (b : Stage) : Type 0 where
 pub record Fares (Given : SessionState → Type 0) (a : SessionState) (cs : List Command) (m : Standing) (i : Input) (o : Outcome) (b : SessionState) : Type 0 where
   pub may : MayEnd m i o
   pub state : b.standing.state ≡ fold m.state (commands m.state i o)
-  pub closes : ClosesAt o (logged m.log (commands m.state i o)) a.disk.faults b.standing.log b.disk.faults
+  pub closes : ClosesAt o m.live a.disk.faults b.standing.live b.disk.faults
   pub size : b.disk.size ≡ a.disk.size
   pub honest : b.disk.honest ↔ a.disk.honest
   pub kept : Given a → Kept a.disk b.disk a.standing.state (cs ++ commands m.state i o) (cs ++ reached m.state i o)

@@ -10,7 +10,7 @@ use Rattle.mcs_shell.specs.Inputs.{Input, inputs}
 use Rattle.mcs_session.specs.Standing.{SessionState, standing_after}
 use Rattle.mcs_shell.specs.Stage.{Stage}
 use Rattle.mcs_shell.specs.Transcript.{Served, Went, all_commands, transcript}
-use Rattle.mcs_shell.specs.AnswerTexts.{session_text}
+use Rattle.mcs_answers.specs.AnswerTexts.{session_text}
 use Rattle.mcs_session.specs.Kept.{Carries, IsHonest, IsSettled}
 use Rattle.mcs_shell.specs.Serving.{CutShort, Failed, GotSome, LastStep}
 

@@ -1,10 +1,8 @@
 -- What a text spells, and what is told where it spells nothing.
-use Rattle.std.specs.Prelude.{ℕ, List, [], ◌∷◌, ◌++◌, nat_lt, if◌then◌else◌, codes, Result, Ok, Err}
-use Rattle.std.specs.Fmt.{decimal}
+use Rattle.std.specs.Prelude.{ℕ, List, [], ◌∷◌, nat_lt, if◌then◌else◌, Result, Ok, Err}
 use Rattle.mcs_model.specs.declared.board.BoardParts.{BoardParts}
 use Rattle.mcs_model.specs.declared.command.Command.{Command}
-use Rattle.mcs_model.specs.declared.command.Command.TheVariants.{Poke}
-use Rattle.mcs_model.specs.declared.command.Place.TheVariants.{Register}
+use Rattle.mcs_model.specs.declared.command.Command.TheVariants as command
 use Rattle.mcs_source.specs.Assembly.{assembled}
 use Rattle.mcs_source.specs.Refusal.{source_refusal_number}
 use Rattle.mcs_source.specs.declared.fault.SourceFault.{SourceFault}
@@ -15,11 +13,11 @@ use Rattle.mcs_shell.specs.declared.spelling.TextRefusal.{TextRefusal}
 use Rattle.mcs_shell.specs.declared.spelling.TextRefusal.TheVariants.{Wiring, Program}
 use Rattle.mcs_shell.specs.declared.texts.TextKind.{TextKind}
 use Rattle.mcs_shell.specs.declared.texts.TextKind.TheVariants.{Wire, Asm}
-use Rattle.mcs_shell.specs.AnswerTexts.{line_feed, no_text}
+use Rattle.mcs_answers.specs.AnswerTexts.{no_line_text, no_text}
 
 -- the command to put a board in place of the one that is there
 abbrev pub wire_command : Result BoardParts WiringFault → Result Command TextRefusal
-wire_command (Ok board) = Ok (Poke (Register 0 1))
+wire_command (Ok board) = Ok (command.Wire board)
 wire_command (Err fault) = Err (Wiring fault)
 
 -- a pair among pairs that rise by address
@@ -34,7 +32,7 @@ by_address (p ∷ ps) = placed p (by_address ps)
 
 -- the command to load the bytes of a program
 abbrev pub load_command : Result (List (ℕ × ℕ)) (ℕ × SourceFault) → Result Command TextRefusal
-load_command (Ok pairs) = Ok (Poke (Register 0 2))
+load_command (Ok pairs) = Ok (command.Load (by_address pairs))
 load_command (Err at) = Err (Program (at.0) (at.1))
 
 -- the command that a text spells, or why it spells none
@@ -45,4 +43,4 @@ command_of_text Asm text = load_command (assembled text)
 -- the answer to a text that spells nothing
 abbrev pub text_refusal : TextRefusal → List ℕ
 text_refusal (Wiring fault) = no_text (wiring_refusal_number fault)
-text_refusal (Program line fault) = codes "no " ++ (decimal (source_refusal_number fault) ++ (codes " line " ++ (decimal line ++ line_feed)))
+text_refusal (Program line fault) = no_line_text (source_refusal_number fault) line

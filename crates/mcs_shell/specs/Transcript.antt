@@ -1,23 +1,23 @@
 -- What is answered to inputs, and what they do.
-use Rattle.std.specs.Prelude.{◌≡◌, ◌≢◌, true, false, ℕ, List, [], ◌∷◌, ◌++◌, Option, Some, None, Result, Ok, Err}
+use Rattle.std.specs.Prelude.{◌≡◌, ◌≢◌, Bool, true, false, ℕ, List, [], ◌∷◌, ◌++◌, Option, Some, None, Result, Ok, Err}
 use Rattle.mcs_model.specs.declared.command.Command.{Command}
 use Rattle.mcs_model.specs.declared.refusals.BenchFault.{BenchFault}
 use Rattle.mcs_model.specs.Flat.{Flat}
 use Rattle.mcs_model.specs.Command.{refusal, after, reply}
 use Rattle.mcs_model.specs.Fold.{fold}
 use Rattle.mcs_model.specs.Refusal.{bench_refusal_number}
-use Rattle.mcs_model.specs.declared.refusal_numbers.TheConstants.{CLOSED, DEVICE, FULL, LINE_TOO_LONG, NO_MEMORY}
-use Rattle.mcs_shell.specs.declared.requests.Request.{Request}
-use Rattle.mcs_shell.specs.declared.requests.Request.TheVariants.{Refused, Ask, Change}
+use Rattle.mcs_model.specs.declared.refusal_numbers.TheConstants.{CLOSED, DEVICE, LINE_TOO_LONG, NO_MEMORY}
+use Rattle.mcs_lines.specs.declared.requests.Request.{Request}
+use Rattle.mcs_lines.specs.declared.requests.Request.TheVariants.{Refused, Ask, Change}
 use Rattle.mcs_shell.specs.declared.outcome.Outcome.{Outcome}
-use Rattle.mcs_shell.specs.declared.outcome.Outcome.TheVariants.{Plain, Full, Device, Closed, NoMemory}
+use Rattle.mcs_shell.specs.declared.outcome.Outcome.TheVariants.{Plain, Device, Closed, NoMemory}
 use Rattle.mcs_shell.specs.declared.spelling.TextRefusal.{TextRefusal}
-use Rattle.mcs_shell.specs.AnswerTexts.{answer_text, no_text, ok_text, takes_memory}
+use Rattle.mcs_answers.specs.AnswerTexts.{answer_text, no_text, ok_text, takes_memory}
 use Rattle.mcs_shell.specs.Inputs.{Input, Blank, TooLong, Line, Text, BadText}
-use Rattle.mcs_shell.specs.RefusalNumbers.{line_fault_number, text_fault_number}
-use Rattle.mcs_shell.specs.Requests.{request_of}
+use Rattle.mcs_lines.specs.RefusalNumbers.{line_fault_number}
+use Rattle.mcs_shell.specs.RefusalNumbers.{text_fault_number}
+use Rattle.mcs_lines.specs.Requests.{request_of}
 use Rattle.mcs_shell.specs.Spelling.{command_of_text, text_refusal}
-use Rattle.mcs_session.specs.Log.{Log, Open, Shut, fits}
 use Rattle.mcs_session.specs.Standing.{Standing, standing_after}
 
 -- ---- one input
@@ -30,7 +30,6 @@ plain_text (Some f) s c = no_text (bench_refusal_number f)
 -- the answer to a command
 abbrev pub change_text : Flat → Command → Outcome → List ℕ
 change_text s c Plain = plain_text (refusal s c) s c
-change_text s c Full = no_text FULL
 change_text s c Device = no_text DEVICE
 change_text s c Closed = no_text CLOSED
 change_text s c NoMemory = no_text NO_MEMORY
@@ -101,25 +100,24 @@ reached s (Line line) o = reached_by_request s (request_of line) o
 reached s (Text kind text) o = reached_by_spelled s (command_of_text kind text) o
 reached s i o = []
 
--- What may come of a command. On an open session it is refused as the state refuses it; else it is done where its record
--- has room and the device does not fail. On a closed session nothing is done.
-abbrev pub ChangeMayEnd : Log → Flat → Command → Outcome → Type 0
-ChangeMayEnd (Open used) s c Plain = refusal s c ≡ None → fits used c ≡ true
-ChangeMayEnd (Open used) s c Full = (refusal s c ≡ None) × (fits used c ≡ false)
-ChangeMayEnd (Open used) s c Device = (refusal s c ≡ None) × (fits used c ≡ true)
-ChangeMayEnd Shut s c Closed = Unit {0}
-ChangeMayEnd log s c o = ⊥
+-- What may come of a command. On an open session it is refused as the state refuses it; else it is done where the device
+-- does not fail. On a closed session nothing is done.
+abbrev pub ChangeMayEnd : Bool → Flat → Command → Outcome → Type 0
+ChangeMayEnd true s c Plain = Unit {0}
+ChangeMayEnd true s c Device = refusal s c ≡ None
+ChangeMayEnd false s c Closed = Unit {0}
+ChangeMayEnd live s c o = ⊥
 
 -- a question may want memory for its answer
 abbrev pub RequestMayEnd : Standing → Request → Outcome → Type 0
-RequestMayEnd m (Change c) o = ChangeMayEnd m.log m.state c o
+RequestMayEnd m (Change c) o = ChangeMayEnd m.live m.state c o
 RequestMayEnd m (Ask q) NoMemory = takes_memory q ≡ true
 RequestMayEnd m r o = o ≡ Plain
 
 -- a text takes memory before all else
 abbrev pub SpelledMayEnd : Standing → Result Command TextRefusal → Outcome → Type 0
 SpelledMayEnd m r NoMemory = Unit {0}
-SpelledMayEnd m (Ok c) o = ChangeMayEnd m.log m.state c o
+SpelledMayEnd m (Ok c) o = ChangeMayEnd m.live m.state c o
 SpelledMayEnd m (Err f) o = o ≡ Plain
 
 -- what may come of the last input

@@ -2,17 +2,18 @@
 ghost use Rattle.std.specs.Prelude.{◌≡◌, ◌≤◌, ◌++◌, [], length, true, IfErr, OnOk, OnErr};
 ghost use Rattle.std.specs.Io.KnownBytes.{Appends};
 ghost use Rattle.std.specs.Fmt.{decimal};
-ghost use Rattle.mcs_shell.specs.AnswerTexts.{answer_text, line_feed, no_text, ok_text, takes_memory};
+ghost use Rattle.mcs_answers.specs.AnswerTexts.{answer_text, line_feed, no_text, ok_text, takes_memory};
 ghost use Rattle.mcs_shell.specs.Serving.{GotSome};
 ghost use Rattle.mcs_shell.specs.Spelling.{text_refusal};
 
-use crate::requests::Question;
 use crate::sending::{WriteStopped, send, send_two};
 use crate::spelling::TextRefusal;
-use crate::telling::{put_answer, put_number, put_refusal_at, put_reply};
+use crate::telling::{put_answer, put_reply};
 use arrayvec::ArrayVec;
+use mcs_answers::{put_number, put_refusal_at};
+use mcs_bench::Bench;
+use mcs_lines::requests::Question;
 use mcs_model::command::Reply;
-use mcs_session::bench::Bench;
 use std::alloc::{AllocError, Global};
 use std::io::Write;
 use std::marker::Model;
@@ -26,7 +27,7 @@ pub struct Answer {
 
 impl Model for Answer {
     ghost use Rattle.std.specs.Prelude.{ℕ, List, option_map};
-    ghost use Rattle.mcs_shell.specs.Telling.{told};
+    ghost use Rattle.mcs_answers.specs.Told.{told};
 
     ghost Value = { List ℕ };
 
@@ -70,7 +71,7 @@ impl Answer {
             TextRefusal::Program(line, fault) => {
                 self.long = None;
                 self.short.clear();
-                put_refusal_at(&mut self.short, u64::from(fault.number()), line as u64);
+                put_refusal_at(&mut self.short, fault.number(), line as u64);
             }
         }
     }

@@ -6,12 +6,12 @@ ghost use Rattle.mcs_shell.specs.Serving.{Answered, Changed, RequestDone};
 
 use crate::answer::Answer;
 use crate::faults::session_number;
-use crate::lines::is_blank;
 use crate::outcome::Outcome;
-use crate::requests::{LineFault, Request, read_request};
 use crate::spelling::read_text;
 use crate::texts::{TextKind, as_text, text_fault};
 use mcs_disk::Disk;
+use mcs_lines::requests::{LineFault, Request, read_request};
+use mcs_lines::words::is_blank;
 use mcs_model::command::Command;
 use mcs_model::limits::LINE_BYTES;
 use mcs_model::refusal_numbers;
@@ -35,10 +35,6 @@ fn answer_change<D: Disk + Drop>(
         Err(SessionFault::Refused(fault)) => {
             answer.tell_refusal(session_number(SessionFault::Refused(fault)));
             Outcome::Plain
-        }
-        Err(SessionFault::Full) => {
-            answer.tell_refusal(session_number(SessionFault::Full));
-            Outcome::Full
         }
         Err(SessionFault::Device) => {
             answer.tell_refusal(session_number(SessionFault::Device));

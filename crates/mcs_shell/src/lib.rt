@@ -10,7 +10,6 @@ pub mod laws;
 pub mod lines;
 pub mod outcome;
 pub mod program;
-pub mod requests;
 pub mod sending;
 mod serving;
 pub mod shell;

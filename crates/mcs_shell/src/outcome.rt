@@ -5,8 +5,6 @@
 pub enum Outcome {
     /// It was answered by the state of the bench.
     Plain,
-    /// Its record has no room in the log.
-    Full,
     /// The device failed while it was recorded.
     Device,
     /// The session is closed.

@@ -1,15 +1,12 @@
 //! What a text spells.
-ghost use Rattle.std.specs.Prelude.{◌≡◌, ◌%◌, IfOk};
-ghost use Rattle.mcs_model.specs.declared.command.Command.TheVariants.{Poke};
-ghost use Rattle.mcs_model.specs.declared.command.Place.TheVariants.{Register};
+ghost use Rattle.std.specs.Prelude.{◌≡◌, IfOk};
 ghost use Rattle.mcs_source.specs.Assembly.{assembled};
 ghost use Rattle.mcs_wiring.specs.Wiring.{board_of_text};
 ghost use Rattle.mcs_shell.specs.Spelling.{command_of_text, load_command, wire_command};
 
 use crate::texts::TextKind;
 use mcs_asm::{FaultKind, SourceFault, assemble};
-use mcs_model::command::{Command, Place};
-use mcs_nibble::{Nibble, RegNo};
+use mcs_model::command::Command;
 use mcs_wiring::{WiringFault, board_of};
 use std::alloc::{AllocError, Global};
 use thiserror::Error;
@@ -30,7 +27,7 @@ fn read_board(alloc: Global, text: &str) -> Result<Result<Command, TextRefusal>,
     ensures { IfOk result (λ spelled. spelled ≡ wire_command (board_of_text text.now)) }
 {
     match board_of(alloc, text) {
-        Ok(_) => Ok(Ok(stand_in(1))),
+        Ok(board) => Ok(Ok(Command::Wire(board))),
         Err(WiringFault::NoMemory) => Err(AllocError),
         Err(fault) => Ok(Err(TextRefusal::Wiring(fault))),
     }
@@ -41,7 +38,7 @@ fn read_program(alloc: Global, text: &str) -> Result<Result<Command, TextRefusal
     ensures { IfOk result (λ spelled. spelled ≡ load_command (assembled text.now)) }
 {
     match assemble(alloc, text) {
-        Ok(_) => Ok(Ok(stand_in(2))),
+        Ok(image) => Ok(Ok(Command::Load(image))),
         Err(at) => match at.kind {
             FaultKind::NoMemory => Err(AllocError),
             FaultKind::Refused(fault) => Ok(Err(TextRefusal::Program(at.line, fault))),
@@ -62,12 +59,4 @@ pub fn read_text(
         TextKind::Wire => read_board(alloc, text),
         TextKind::Asm => read_program(alloc, text),
     }
-}
-
-// ---- until the bench takes boards and images
-
-fn stand_in(value: u8) -> Command
-    ensures { result ≡ Poke (Register 0 (value % 16)) }
-{
-    Command::Poke(Place::Register(RegNo::of_code(0), Nibble::low_of(value)))
 }

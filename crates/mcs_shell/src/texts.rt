@@ -1,12 +1,12 @@
 //! Texts: where they begin and end, and which are refused whatever their lines say.
 ghost use Rattle.std.specs.Prelude.{◌≡◌, None};
 ghost use Rattle.std.specs.List.{list_all};
-ghost use Rattle.mcs_shell.specs.Lines.{cut_at, is_line_feed};
+ghost use Rattle.mcs_lines.specs.Cutting.{cut_at};
+ghost use Rattle.mcs_shell.specs.Lines.{is_line_feed};
 ghost use Rattle.mcs_shell.specs.Inputs.{fault_of, is_dot, is_short, is_text_byte, opened};
 ghost use Rattle.mcs_shell.specs.RefusalNumbers.{text_fault_number};
 
-use crate::lines::{is_word, next_word};
-use crate::requests::is_plain_byte;
+use mcs_lines::words::{is_plain_byte, is_word, next_word};
 use mcs_model::limits::{LINE_BYTES, TEXT_BYTES};
 use mcs_model::refusal_numbers;
 use std::str;

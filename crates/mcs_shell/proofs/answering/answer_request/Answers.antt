@@ -1,5 +1,5 @@
 use Rattle.std.proofs.Common.{rules, ◌≡◌}
-use Rattle.mcs_shell.specs.declared.requests.Request.TheVariants.{Refused, Ask, Change}
+use Rattle.mcs_lines.specs.declared.requests.Request.TheVariants.{Refused, Ask, Change}
 use Rattle.mcs_shell.proofs.Doing.{ask_done, ask_refused, change_done, done_of, refused_done}
 use Rattle.mcs_shell.proofs.answering.answer_request.Goals as goal
 

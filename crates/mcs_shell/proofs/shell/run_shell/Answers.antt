@@ -1,7 +1,7 @@
 use Rattle.std.proofs.Common.{rules, ◌≡◌, inl}
 use Rattle.mcs_session.specs.Kept.{IsHonest, IsSettled}
 use Rattle.mcs_session.specs.Standing.{session_state}
-use Rattle.mcs_shell.specs.AnswerTexts.{session_text}
+use Rattle.mcs_answers.specs.AnswerTexts.{session_text}
 use Rattle.mcs_shell.proofs.GrowingBytes.{appends_nothing}
 use Rattle.mcs_session.proofs.Keeping.{carries_nothing, settle}
 use Rattle.mcs_shell.proofs.Looping.{ran_after, untouched}

@@ -1,0 +1,3 @@
+pub mod Breaks
+pub mod Runs
+pub mod States
