@@ -2,6 +2,11 @@
 #![tactic(auto)]
 
 mod digits;
+mod lists;
 mod numbers;
+mod questions;
+mod ram;
+mod registers;
 
-pub use numbers::{put_counted, put_number, put_refusal, put_refusal_at};
+pub use numbers::{put_counted, put_number, put_refusal, put_refusal_at, put_reply};
+pub use questions::put_answer;

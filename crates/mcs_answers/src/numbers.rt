@@ -2,10 +2,11 @@
 ghost use Rattle.std.specs.Prelude.{◌≡◌, ◌+◌, ◌++◌, ◌≤◌, [], length};
 ghost use Rattle.std.specs.Fmt.{decimal};
 ghost use Rattle.arrayvec.specs.ArrayVec.{array_vec_len};
-ghost use Rattle.mcs_answers.specs.AnswerTexts.{line_feed, no_line_text, no_text, reply_text, stop_name};
+ghost use Rattle.mcs_answers.specs.AnswerTexts.{line_feed, no_line_text, no_text, ok_text, reply_text, stop_name};
 
 use crate::digits::{put, put_decimal};
 use arrayvec::ArrayVec;
+use mcs_bench::Bench;
 use mcs_model::command::Reply;
 use mcs_model::stop::Stop;
 
@@ -74,4 +75,14 @@ fn put_told(answer: &mut ArrayVec<u8, 512>, reply: &Reply)
             put(answer, stop_name(stop));
         }
     }
+}
+
+/// Tells of an accepted command, in an empty answer, from its reply and the bench after it.
+pub fn put_reply(answer: &mut ArrayVec<u8, 512>, reply: &Reply, bench: &Bench)
+    requires { answer.old.items ≡ [] }
+    ensures { answer.new.items ≡ ok_text reply.now bench.now }
+{
+    put_counted(answer, b"ok ", u64::from(bench.seq()));
+    put_told(answer, reply);
+    put(answer, b"\n");
 }
