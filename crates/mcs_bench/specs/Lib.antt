@@ -1,3 +1,4 @@
 pub mod Breaks
+pub mod Held
 pub mod Runs
 pub mod States

@@ -1,7 +1,12 @@
 -- A state as plain numbers, as the flat state that it stands for. (Our own choice.)
 use Rattle.std.specs.Prelude.{ℕ, List, map}
+use Rattle.arrayvec.specs.ArrayVec.{ArrayVec}
 use Rattle.mcs_model.specs.Flat.{Flat as State}
 use Rattle.mcs_bench.specs.declared.flat.Flat.{Flat}
+
+-- the bits of each chain
+abbrev pub rows_of : List (ArrayVec ℕ) → List (List ℕ)
+rows_of rows = map (λ row. row.items) rows
 
 abbrev pub state_of : Flat → State
 state_of f = record {
@@ -15,7 +20,7 @@ state_of f = record {
     rom_ports = f.rom_ports;
     rom_src = f.rom_src;
     ram_src = f.ram_src;
-    chains = map (λ row. row.items) f.chains.items;
+    chains = rows_of f.chains.items;
     keys = f.keys.items;
     test = f.test;
   };

@@ -1,10 +1,11 @@
 //! Breakpoints.
-ghost use Rattle.std.specs.Prelude.{◌≡◌, ◌<◌, ◌≤◌, ◌==◌, false, [], length};
+ghost use Rattle.std.specs.Prelude.{◌≡◌, ◌<◌, ◌≤◌, ◌==◌, ◌||◌, true, [], length, nat_lt};
 ghost use Rattle.std.specs.List.{insert};
 ghost use Rattle.std.specs.List.Sorted.{IsStrictlyIncreasing};
 ghost use Rattle.mcs_model.specs.Validity.{AreBreakpoints};
 ghost use Rattle.mcs_model.specs.Breakpoints.{is_breakpoint, inserted, with_breakpoint, without_breakpoint};
 
+use crate::laws::are_addresses;
 use arrayvec::ArrayVec;
 use mcs_model::limits::BREAKPOINTS;
 use mcs_nibble::Addr;
@@ -88,9 +89,16 @@ impl Breaks {
         self.marks[usize::from(at.get())]
     }
 
+    /// Whether an address is one, or can be made one.
+    pub(crate) fn has_room_for(&self, at: Addr) -> bool
+        ensures { result ≡ (is_breakpoint self.now at || nat_lt (length self.now) BREAKPOINTS) }
+    {
+        self.contains(at) || self.list.len() < BREAKPOINTS
+    }
+
     /// Makes an address one; nothing where it was.
     pub(crate) fn set(&mut self, at: Addr)
-        requires { is_breakpoint self.old at ≡ false → length self.old < BREAKPOINTS }
+        requires { (is_breakpoint self.old at || nat_lt (length self.old) BREAKPOINTS) ≡ true }
         ensures { self.new ≡ with_breakpoint self.old at }
     {
         if !self.contains(at) {
@@ -112,9 +120,6 @@ impl Breaks {
     pub(crate) fn state_is_valid(&self)
         ensures { AreBreakpoints self.now }
     {
-        let list = self.list();
-        for i in 0..list.len() {
-            let _address = list[i].get();
-        }
+        are_addresses(self.list());
     }
 }

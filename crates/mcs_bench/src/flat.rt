@@ -40,6 +40,13 @@ impl Cells {
         self.bytes.len()
     }
 
+    /// All of them.
+    pub(crate) fn bytes(&self) -> &[u8]
+        ensures { result.now ≡ self.now }
+    {
+        &self.bytes
+    }
+
     /// Byte `i`, counted from 0.
     pub fn get(&self, i: usize) -> u8
         requires { i < length self.now }

@@ -8,6 +8,8 @@ mod bench;
 mod breaks;
 mod commands;
 mod flat;
+mod held;
+mod judging;
 mod laws;
 mod reading;
 mod restoring;

@@ -9,7 +9,7 @@ use Rattle.mcs_model.specs.declared.board.BoardFault.TheVariants.{BadValue, NoSu
 use Rattle.mcs_model.specs.declared.board.BoardParts.{BoardParts}
 use Rattle.mcs_model.specs.declared.board.ChainPart.{ChainPart}
 use Rattle.mcs_model.specs.declared.board.KeyMatrix.{KeyMatrix}
-use Rattle.mcs_model.specs.Boards.{fault_of, has_bad_value, has_bad_matrix, lacks_line, has_wrong_direction, any_line, in_range, is_chain_size, is_matrix_size, key_count, IsSized}
+use Rattle.mcs_model.specs.Boards.{fault_of, has_bad_value, has_bad_matrix, lacks_line, no_chain, chain_bits, has_wrong_direction, any_line, in_range, is_chain_size, is_matrix_size, key_count, IsSized}
 use Rattle.mcs_model.specs.Validity.{IsValidBoard}
 
 abbrev pub IsMask : Option (List LineMask) → Type 0
@@ -87,6 +87,15 @@ few_keys (Some m) h e =
 
 pub chips_of : (b : BoardParts) → fault_of b ≡ None → AllByRecursion (λ c. c.chips ≤ 4) b.chains.items
 chips_of b h = few_chips b.chains.items (good_values b h).chains
+
+chips_at : (chains : List ChainPart) (i : ℕ) → AllByRecursion (λ c. c.chips ≤ 4) chains → (get_or chains i no_chain).chips ≤ 4
+chips_at [] i h = omega arith
+chips_at (c ∷ chains) zero h = h.0
+chips_at (c ∷ chains) (suc i) h = chips_at chains i h.1
+
+-- no chain has more bits
+pub few_bits : (b : BoardParts) (i : ℕ) → fault_of b ≡ None → chain_bits b i ≤ 40
+few_bits b i h = omega (arith, chips_at b.chains.items i (chips_of b h))
 
 pub keys_of : (b : BoardParts) → IsKeys b.keys → fault_of b ≡ None → key_count b ≤ 80
 keys_of b k h = few_keys b.keys k (good_values b h).matrix

@@ -1,9 +1,12 @@
 -- The law of an image: a map of its addresses, and its bytes.
-use Rattle.std.proofs.Common.{◌≡◌, ℕ, zero, suc, ◌+◌, ◌*◌, ◌/◌, ◌%◌, ◌^◌, ◌<◌, ◌≤◌, Bool, true, false, cond, eqb, List, [], ◌∷◌, ◌++◌, length, get_or, map, Option, Some, None, refl, sym, ap, subst, ◌∙◌, arith, inl, inr, ◌⊎◌}
-use Rattle.std.specs.Prelude.{◌||◌}
+use Rattle.std.proofs.Common.{◌≡◌, ℕ, zero, suc, ◌+◌, ◌*◌, ◌/◌, ◌%◌, ◌^◌, ◌<◌, ◌≤◌, Bool, true, false, cond, eqb, List, [], ◌∷◌, ◌++◌, length, get_or, slice_set, take, get_or-set_other, map, Option, Some, None, refl, sym, ap, subst, ◌∙◌, arith, inl, inr, ◌⊎◌}
+use Rattle.std.specs.Prelude.{◌||◌, ◌≢◌}
 use Rattle.std.specs.List.{list_any, All, AllByRecursion}
+use Rattle.std.proofs.lemmas.List.{length-append, length-map, take_more}
 use Rattle.std.proofs.lemmas.List.Kept.{AllPairs-cons}
-use Rattle.std.proofs.lemmas.Bool.{eqb-true, cases_lt}
+use Rattle.std.proofs.lemmas.List.Folds.{list_any-append}
+use Rattle.std.proofs.lemmas.Bool.{eqb-true, cases_lt, cases_eq}
+use Rattle.std.proofs.lemmas.Grind.{get_or-set_at}
 use Rattle.std.proofs.lemmas.List.Elements.{All-from_recursion, recursion_from_All}
 use Rattle.std.proofs.lemmas.Bool.Decides.{nat_tests}
 use Rattle.mcs_nibble.specs.Bits.{bit_of}
@@ -208,3 +211,58 @@ image_from (p ∷ image) low h =
 
 pub image_codec : IsCodec image_text IsImage image_at
 image_codec = refit_codec IsImage (λ image h. (image_from image 0 h).0) (λ image h. from_image image 0 h (λ i d lt. omega arith)) rising_codec
+
+-- ---- how many bytes
+
+-- each address leaves one place less
+few_pairs : (image : List (ℕ × ℕ)) (low limit : ℕ) → low ≤ limit → AreFrom low limit image → length image + low ≤ limit
+few_pairs [] low limit le h = omega arith
+few_pairs (p ∷ image) low limit le h =
+    let rest = few_pairs image (p.0 + 1) limit (omega (arith, h.1)) h.3 in
+    omega (arith, h.0, rest)
+
+pub length-image : (image : List (ℕ × ℕ)) → IsImage image → length (image_text image) ≤ 4608
+length-image image h =
+    let few = few_pairs image 0 4096 (omega arith) (from_image image 0 h (λ i d lt. omega arith)) in
+    omega (arith, few, (map_cells image).len, length-append (map_text image) (values image), length-map image (λ p. p.1))
+
+-- ---- one pair more
+
+mark_both : (a b : Bool) → cond {A = ℕ} (a || (b || false)) 1 0 ≡ cond {A = ℕ} b 1 (cond {A = ℕ} a 1 0)
+mark_both true true = refl
+mark_both true false = refl
+mark_both false true = refl
+mark_both false false = refl
+
+-- the marks of one pair more: its own address has one
+pub mark_more : (image : List (ℕ × ℕ)) (p : ℕ × ℕ) (at : ℕ) → mark (image ++ p ∷ []) at ≡ cond (eqb p.0 at) 1 (mark image at)
+mark_more image p at = rw (list_any-append (λ q. eqb q.0 at) image (p ∷ [])) (mark_both (list_any (λ q. eqb q.0 at) image) (eqb p.0 at))
+
+pub marks_go_on : (pairs : List (ℕ × ℕ)) (marks : List ℕ) (i : ℕ) (p : ℕ × ℕ) (a : ℕ) → i < length pairs → p ≡ get_or pairs i p → a ≡ p.0 → a < length marks → ((at : ℕ) → at < 4096 → get_or marks at 0 ≡ mark (take i pairs) at)
+    → (at : ℕ) → at < 4096 → get_or (slice_set marks a 1) at 0 ≡ mark (take (i + 1) pairs) at
+marks_go_on pairs marks i p a lt is same inside so_far at fits =
+    let more : take (i + 1) pairs ≡ take i pairs ++ p ∷ [] = take_more pairs i p lt ∙ ap (λ (q : ℕ × ℕ). take i pairs ++ q ∷ []) (sym is) in
+    let one : mark (take (i + 1) pairs) at ≡ cond (eqb p.0 at) 1 (mark (take i pairs) at) = ap (λ l. mark l at) more ∙ mark_more (take i pairs) p at in
+    elim (cases_eq at a) [
+      | inl e ↦ let own : eqb p.0 at ≡ true = let k : p.0 ≡ at = omega arith in grind (arith, nat_tests) in get_or-set_at marks a at 1 0 e inside ∙ sym (one ∙ rw own refl)
+      | inr ne ↦ let other : eqb p.0 at ≡ false = let k : p.0 ≢ at = λ h. ne (sym (same ∙ h)) in grind (arith, nat_tests) in get_or-set_other marks a at 1 0 ne ∙ so_far at fits ∙ sym (one ∙ rw other refl)
+    ]
+
+-- ---- the map, byte by byte
+
+pub same_byte : (f g : ℕ → ℕ) → ((k : ℕ) → k < 8 → f k ≡ g k) → byte_of f ≡ byte_of g
+same_byte f g h = rw (h 0 (omega arith), h 1 (omega arith), h 2 (omega arith), h 3 (omega arith), h 4 (omega arith), h 5 (omega arith), h 6 (omega arith), h 7 (omega arith)) refl
+
+pub map_goes_on : (pairs : List (ℕ × ℕ)) (marks map : List ℕ) (i byte : ℕ) → i < 512 → length map ≡ 512 → ((at : ℕ) → at < 4096 → get_or marks at 0 ≡ mark pairs at) → byte ≡ byte_of (λ k. get_or marks (8 * i + k) 0)
+    → ((j : ℕ) → j < i → get_or map j 0 ≡ byte_of (λ k. mark pairs (8 * j + k))) → (j : ℕ) → j < i + 1 → get_or (slice_set map i byte) j 0 ≡ byte_of (λ k. mark pairs (8 * j + k))
+map_goes_on pairs marks map i byte lt len marked is so_far j below =
+    elim (cases_eq j i) [
+      | inl e ↦
+          let here : byte ≡ byte_of (λ k. mark pairs (8 * i + k)) = is ∙ same_byte (λ k. get_or marks (8 * i + k) 0) (λ k. mark pairs (8 * i + k)) (λ k small. marked (8 * i + k) (omega arith)) in
+          get_or-set_at map i j byte 0 e (omega arith) ∙ here ∙ ap (λ n. byte_of (λ k. mark pairs (8 * n + k))) (sym e)
+      | inr ne ↦ get_or-set_other map i j byte 0 ne ∙ so_far j (omega arith)
+    ]
+
+pub map_done : (pairs : List (ℕ × ℕ)) (map : List ℕ) (i : ℕ) → 512 ≤ i → length map ≡ 512 → ((j : ℕ) → j < i → get_or map j 0 ≡ byte_of (λ k. mark pairs (8 * j + k))) → map ≡ map_text pairs
+unfolding map_text
+map_done pairs map i le len so_far = tabled_from 512 (λ j. byte_of (λ k. mark pairs (8 * j + k))) map 0 len (λ j lt. so_far j (omega arith))

@@ -5,3 +5,7 @@ pub mod BoardCodec
 pub mod ImageCodec
 pub mod ImageLoops
 pub mod CommandCodec
+pub mod StateCodec
+pub mod StateLoops
+pub mod StateParts
+pub mod Sizes

@@ -1,5 +1,5 @@
 //! Bytes, read from left to right.
-ghost use Rattle.std.specs.Prelude.{◌≡◌, ◌==◌, List, [], length, option_map, Option, Some, None, if◌then◌else◌};
+ghost use Rattle.std.specs.Prelude.{◌≡◌, ◌==◌, List, [], length, option_map, Option, Some, None, IfSome, if◌then◌else◌};
 ghost use Rattle.std.specs.Int.{w16, w32};
 ghost use Rattle.mcs_codec.specs.Reading.{byte_at, number_at, bytes_at};
 
@@ -70,7 +70,8 @@ impl<'a> Reader<'a> {
     /// So many bytes.
     #[tactic(auto, unfolding(crate::specs::Reading::bytes_at))]
     pub fn bytes(&mut self, count: usize) -> Option<&'a [u8]>
-        ensures { option_map (λ bytes. (bytes.now, self.new)) result ≡ bytes_at count self.old }
+        ensures read { option_map (λ bytes. (bytes.now, self.new)) result ≡ bytes_at count self.old }
+        ensures count { IfSome result (λ bytes. length bytes.now ≡ count) }
     {
         if self.rest.len() < count {
             return None;

@@ -69,7 +69,8 @@ impl Part {
 
     /// The byte at a place of the list.
     fn byte(self, bench: &Bench, i: usize) -> u8
-        requires { i < count_of self bench.now }
+        requires valid { IsValid bench.now }
+        requires place { i < count_of self bench.now }
         ensures { result ≡ slice_index (list_of self bench.now) i }
     {
         match self {
@@ -90,7 +91,7 @@ impl Part {
 
     /// Puts the list at a place of the buffer, and answers the place after it.
     fn put(self, bench: &Bench, out: &mut [u8], at: usize) -> usize
-        requires whole { length (list_of self bench.now) ≡ count_of self bench.now }
+        requires valid { IsValid bench.now }
         requires room { at + length (list_of self bench.now) ≤ length out.old }
         ensures end { result ≡ at + length (list_of self bench.now) }
         ensures front { take result out.new ≡ take at out.old ++ list_of self bench.now }
@@ -117,7 +118,8 @@ fn put_memory(bench: &Bench, out: &mut [u8], at: usize) -> usize
 }
 
 fn put_registers(bench: &Bench, out: &mut [u8], at: usize) -> usize
-    requires { at + length (registers_text bench.now.processor) ≤ length out.old }
+    requires valid { IsValid bench.now }
+    requires room { at + length (registers_text bench.now.processor) ≤ length out.old }
     ensures end { result ≡ at + length (registers_text bench.now.processor) }
     ensures front { take result out.new ≡ take at out.old ++ registers_text bench.now.processor }
 {

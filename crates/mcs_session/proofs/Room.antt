@@ -1,5 +1,5 @@
 -- Room for a record, a snapshot where there is none, and the record behind it.
-use Rattle.std.proofs.Common.{◌≡◌, ◌⊎◌, ◌+◌, ◌≤◌, inl, inr, ⊎_elim, List, [], ◌∷◌, ◌++◌, ℕ, None, sym, ◌∙◌, ap, subst, refl, arith, length}
+use Rattle.std.proofs.Common.{◌≡◌, ◌+◌, ◌≤◌, inl, inr, ⊎_elim, List, [], ◌∷◌, ◌++◌, ℕ, None, sym, ap, subst, refl, arith, length}
 use Rattle.std.proofs.lemmas.Grind.{common_steps}
 use Rattle.mcs_disk.specs.Disk.{DiskState, IsLawful}
 use Rattle.mcs_disk.specs.Moments.{Either, IsDurable, LeavesOnly}
@@ -15,7 +15,7 @@ use Rattle.mcs_session.specs.Answers.{Acknowledges, MayLeave, Ticks}
 use Rattle.mcs_codec.specs.Codec.{Spells, SpellsState}
 use Rattle.mcs_codec.specs.CommandText.{command_text}
 use Rattle.mcs_session.specs.Invariant.{HasMadeRoom, IsRecorded, IsReplayed}
-use Rattle.mcs_session.specs.Stands.{HasSpace, RecordsStandFor, StandsFor, log_cycles, replay_cycles}
+use Rattle.mcs_session.specs.Stands.{HasSpace, StandsFor, log_cycles, replay_cycles}
 use Rattle.mcs_session.proofs.Files.{at_of, recorded_new, stands_by, stands_new}
 use Rattle.mcs_session.proofs.Records.{pair_more, replayed_more, same_list}
 

@@ -1,5 +1,5 @@
 -- What the calls of a session answer, and what they do to the disk.
-use Rattle.std.specs.Prelude.{◌≡◌, ◌⊎◌, ◌+◌, min, Bool, true, false, ℕ, List, None, Some, Result, Ok, Err}
+use Rattle.std.specs.Prelude.{◌≡◌, ◌⊎◌, ◌+◌, min, Bool, true, false, ℕ, None, Some, Result, Ok, Err}
 use Rattle.mcs_disk.specs.Disk.{DiskState, most_faults}
 use Rattle.mcs_disk.specs.Moments.{Either, GoesOn, LeavesOnly, Rests, Stays}
 use Rattle.mcs_journal.specs.Answers.{IsNoSession}

@@ -30,7 +30,11 @@ pub(crate) fn replay_cycles(command: &Command) -> u32
 }
 
 /// The bench that a snapshot and the records behind it stand for, or none.
-pub(crate) fn replay(alloc: Global, snap: &[u8], records: &Records) -> Result<Option<Replayed>, AllocError>
+pub(crate) fn replay(
+    alloc: Global,
+    snap: &[u8],
+    records: &Records,
+) -> Result<Option<Replayed>, AllocError>
     ensures some { IfOk result (λ found.
         IfSome found (λ r. IsReplayed snap.now records.now r.cycles r.bench)) }
     ensures none { IfOk result (λ found.

@@ -3,7 +3,7 @@ use Rattle.mcs_session.proofs.Room.{acknowledged, appended, few_cycles, recorded
 use Rattle.mcs_session.proofs.recording.CommandLog.record.Goals as goal
 
 pub make_room-requires-clause-more : goal.make_room-requires-clause-more
-make_room-requires-clause-more g c = rw c.replay_cycles-more.ensures (few_cycles _ _ c.requires.accepted)
+make_room-requires-clause-more g c = rw c.replay_cycles-more.ensures (few_cycles c.args.bench.now c.args.command.now c.requires.accepted)
 
 pub returns-in_err-append-clause-moments : goal.returns-in_err-append-clause-moments
 returns-in_err-append-clause-moments g c = λ honest was.
