@@ -8,9 +8,8 @@ ghost use Rattle.mcs_shell.specs.Spelling.{text_refusal};
 
 use crate::sending::{WriteStopped, send, send_two};
 use crate::spelling::TextRefusal;
-use crate::telling::{put_answer, put_reply};
 use arrayvec::ArrayVec;
-use mcs_answers::{put_number, put_refusal_at};
+use mcs_answers::{put_answer, put_number, put_refusal_at, put_reply};
 use mcs_bench::Bench;
 use mcs_lines::requests::Question;
 use mcs_model::command::Reply;

@@ -14,7 +14,6 @@ pub mod sending;
 mod serving;
 pub mod shell;
 pub mod spelling;
-mod telling;
 pub mod texts;
 mod unfinished;
 
