@@ -1,23 +1,20 @@
 -- The laws of a board and its parts.
-use Rattle.std.proofs.Common.{◌≡◌, ℕ, zero, suc, ◌+◌, ◌<◌, ◌≤◌, Bool, true, false, cond, eqb, inl, inr, ◌⊎◌, List, [], ◌∷◌, ◌++◌, length, map, Option, Some, None, refl, sym, ap, subst, ◌∙◌, arith}
+use Rattle.std.proofs.Common.{◌≡◌, ℕ, Bool, true, false, cond, eqb, inl, inr, ◌⊎◌, List, [], ◌∷◌, ◌++◌, Option, Some, None, refl, sym, ap, subst, arith}
 use Rattle.std.specs.Prelude.{is_none, ◌&&◌}
-use Rattle.std.specs.List.{flat_map, AllByRecursion}
 use Rattle.std.proofs.lemmas.Bool.{eqb-true}
 use Rattle.mcs_nibble.specs.declared.lines.LineMask.{LineMask}
 use Rattle.mcs_nibble.specs.declared.lines.LineMask.TheVariants.{Input, Zero, One}
-use Rattle.mcs_model.specs.declared.board.BoardParts.{BoardParts}
-use Rattle.mcs_model.specs.declared.board.ChainPart.{ChainPart}
 use Rattle.mcs_model.specs.declared.board.KeyMatrix.{KeyMatrix}
 use Rattle.mcs_model.specs.declared.board.Line.{Line}
 use Rattle.mcs_model.specs.declared.board.Line.TheVariants.{Rom, Ram, Chain}
 use Rattle.mcs_model.specs.declared.board.BoardFault.{BoardFault}
-use Rattle.mcs_model.specs.Boards.{fault_of, has_bad_value}
-use Rattle.mcs_codec.specs.Reading.{◌>>=◌, giving, byte_at, four_at}
+use Rattle.mcs_model.specs.Boards.{fault_of}
+use Rattle.mcs_codec.specs.Reading.{giving, four_at}
 use Rattle.mcs_model.specs.Validity.{IsValidBoard}
 use Rattle.mcs_codec.specs.BoardText.{mask_byte, rom_text, line_text, chain_text, counted, keys_text, board_text}
-use Rattle.mcs_codec.specs.BoardReading.{mask_of, rom_of, rom_at, line_of, line_at, chain_at, keys_behind, keys_at, matrix_at, parts_at, board_at}
+use Rattle.mcs_codec.specs.BoardReading.{mask_of, rom_of, rom_at, line_of, line_at, chain_at, keys_at, matrix_at, parts_at, board_at}
 use Rattle.mcs_codec.proofs.BoardLengths.{IsMask, IsKeys, HasLengths, lengths_of, valid_of}
-use Rattle.mcs_codec.proofs.Codecs.{IsCodec, IsBytes-rest, bind_some, any_codec, bytes_codec, both_codec, many_codec, any_counted_codec, giving_codec, decoding_codec, only_codec, refit_codec, done_codec, row, Spelled, IsBytes}
+use Rattle.mcs_codec.proofs.Codecs.{IsCodec, IsBytes-rest, bind_some, any_codec, bytes_codec, both_codec, many_codec, any_counted_codec, giving_codec, decoding_codec, only_codec, refit_codec, done_codec, row, IsBytes}
 
 -- four bytes
 abbrev pub Four : Type 0

@@ -1,5 +1,5 @@
 -- What the lengths and the soundness of a board bound, in forms for lists read one by one.
-use Rattle.std.proofs.Common.{◌≡◌, ℕ, zero, suc, ◌+◌, ◌*◌, ◌<◌, ◌≤◌, Bool, true, false, cond, List, [], ◌∷◌, length, get_or, Option, Some, None, refl, sym, ap, subst, ◌∙◌, arith}
+use Rattle.std.proofs.Common.{◌≡◌, ℕ, zero, suc, ◌*◌, ◌<◌, ◌≤◌, Bool, true, false, cond, List, [], ◌∷◌, length, get_or, Option, Some, None, refl, subst, arith}
 use Rattle.std.specs.Prelude.{◌||◌, ◌&&◌, not, nat_lt, nat_le}
 use Rattle.std.specs.List.{list_any, AllByRecursion}
 use Rattle.std.proofs.lemmas.Nat.{mul-le}
@@ -9,7 +9,7 @@ use Rattle.mcs_model.specs.declared.board.BoardFault.TheVariants.{BadValue, NoSu
 use Rattle.mcs_model.specs.declared.board.BoardParts.{BoardParts}
 use Rattle.mcs_model.specs.declared.board.ChainPart.{ChainPart}
 use Rattle.mcs_model.specs.declared.board.KeyMatrix.{KeyMatrix}
-use Rattle.mcs_model.specs.Boards.{fault_of, has_bad_value, has_bad_matrix, lacks_line, no_chain, chain_bits, has_wrong_direction, any_line, in_range, is_chain_size, is_matrix_size, key_count, IsSized}
+use Rattle.mcs_model.specs.Boards.{fault_of, has_bad_value, has_bad_matrix, lacks_line, no_chain, chain_bits, has_wrong_direction, any_line, in_range, is_chain_size, is_matrix_size, key_count}
 use Rattle.mcs_model.specs.Validity.{IsValidBoard}
 
 abbrev pub IsMask : Option (List LineMask) → Type 0

@@ -1,14 +1,13 @@
 -- The laws of places and commands: a line for each in `takes` and in `again`.
-use Rattle.std.proofs.Common.{◌≡◌, ℕ, zero, suc, ◌+◌, ◌^◌, ◌<◌, ◌≤◌, Bool, true, false, List, [], ◌∷◌, ◌++◌, length, map, Option, Some, None, refl, sym, ap, subst, ◌∙◌, arith}
+use Rattle.std.proofs.Common.{◌≡◌, ℕ, ◌<◌, List, [], ◌∷◌, ◌++◌, Option, Some, None, refl, sym, ap, ◌∙◌, arith}
 use Rattle.std.specs.Prelude.{IfSome, IfNone, IfOk, Result, Ok, Err}
-use Rattle.mcs_model.specs.Pairs.{IsImage}
 use Rattle.mcs_model.specs.declared.command.Place.{Place}
 use Rattle.mcs_model.specs.declared.command.Place.TheVariants.{Acc, Cy, Pc, Register, Dcl, Rom, Ram, Status}
 use Rattle.mcs_model.specs.declared.command.Command.{Command}
 use Rattle.mcs_model.specs.declared.command.Command.TheVariants.{Wire, Load, Press, Release, Run, Step, Poke, Test, Reset, Break, Unbreak}
-use Rattle.mcs_codec.specs.Reading.{◌>>=◌, giving, byte_at, small_at, whole}
-use Rattle.mcs_codec.specs.CommandText.{place_text, command_text, image_text, IsPlace, IsCommand}
-use Rattle.mcs_codec.specs.CommandReading.{place_at, command_at, all_behind, image_at}
+use Rattle.mcs_codec.specs.Reading.{giving, small_at, whole}
+use Rattle.mcs_codec.specs.CommandText.{place_text, command_text, IsPlace, IsCommand}
+use Rattle.mcs_codec.specs.CommandReading.{place_at, command_at, all_behind}
 use Rattle.mcs_codec.specs.Codec.{Spells}
 use Rattle.mcs_codec.proofs.Codecs.{IsCodec, IsBytes, IsBytes-rest, byte_codec, long_codec, address_codec, small_codec, both_codec, done_codec, row, whole_takes, whole_again, same_value}
 use Rattle.mcs_codec.proofs.BoardCodec.{board_codec}

@@ -1,18 +1,18 @@
 -- The law of an image: a map of its addresses, and its bytes.
-use Rattle.std.proofs.Common.{◌≡◌, ℕ, zero, suc, ◌+◌, ◌*◌, ◌/◌, ◌%◌, ◌^◌, ◌<◌, ◌≤◌, Bool, true, false, cond, eqb, List, [], ◌∷◌, ◌++◌, length, get_or, slice_set, take, get_or-set_other, map, Option, Some, None, refl, sym, ap, subst, ◌∙◌, arith, inl, inr, ◌⊎◌}
+use Rattle.std.proofs.Common.{◌≡◌, ℕ, zero, suc, ◌+◌, ◌*◌, ◌/◌, ◌%◌, ◌^◌, ◌<◌, ◌≤◌, Bool, true, false, cond, eqb, List, [], ◌∷◌, ◌++◌, length, get_or, slice_set, take, get_or-set_other, map, Some, refl, sym, ap, subst, ◌∙◌, arith, inl, inr, ◌⊎◌}
 use Rattle.std.specs.Prelude.{◌||◌, ◌≢◌}
-use Rattle.std.specs.List.{list_any, All, AllByRecursion}
+use Rattle.std.specs.List.{list_any, All}
 use Rattle.std.proofs.lemmas.List.{length-append, length-map, take_more}
 use Rattle.std.proofs.lemmas.List.Kept.{AllPairs-cons}
 use Rattle.std.proofs.lemmas.List.Folds.{list_any-append}
-use Rattle.std.proofs.lemmas.Bool.{eqb-true, cases_lt, cases_eq}
+use Rattle.std.proofs.lemmas.Bool.{cases_lt, cases_eq}
 use Rattle.std.proofs.lemmas.Grind.{get_or-set_at}
 use Rattle.std.proofs.lemmas.List.Elements.{All-from_recursion, recursion_from_All}
 use Rattle.std.proofs.lemmas.Bool.Decides.{nat_tests}
 use Rattle.mcs_nibble.specs.Bits.{bit_of}
 use Rattle.mcs_nibble.specs.Tabled.{tabled}
 use Rattle.mcs_nibble.proofs.TabledLemmas.{tabled_from, get_or-tabled, length-tabled}
-use Rattle.mcs_codec.specs.Reading.{◌>>=◌, giving, byte_at, bytes_at}
+use Rattle.mcs_codec.specs.Reading.{giving, byte_at}
 use Rattle.mcs_model.specs.Pairs.{IsImage}
 use Rattle.mcs_codec.specs.CommandText.{mark, byte_of, map_text, image_text, values}
 use Rattle.mcs_codec.specs.CommandReading.{mark_at, pairs_at, image_at}
@@ -203,8 +203,7 @@ image_from [] low h = (record { rising = λ i j d lt in_list. absurd (omega arit
 image_from (p ∷ image) low h =
     let rest = image_from image (p.0 + 1) h.3 in
     let later : All (λ q. p.0 < q.0) image = λ i d lt. let x = rest.1 i d lt in omega arith in
-    let above : All (λ q. low ≤ q.0) image = λ i d lt. let x = rest.1 i d lt in omega (arith, h.0) in
-    (
+    let above : All (λ q. low ≤ q.0) image = λ i d lt. let x = rest.1 i d lt in omega (arith, h.0) in (
       record { rising = AllPairs-cons (λ x y. x.0 < y.0) p image later rest.0.rising; in_range = all_cons (λ q. (q.0 < 4096) × (q.1 < 256)) p image (h.1, h.2) rest.0.in_range },
       all_cons (λ q. low ≤ q.0) p image h.0 above,
     )

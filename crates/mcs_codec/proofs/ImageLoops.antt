@@ -1,9 +1,9 @@
 -- The bytes of an image, as a loop over all addresses reads them.
-use Rattle.std.proofs.Common.{◌≡◌, ℕ, zero, suc, ◌-◌, ◌+◌, ◌≤◌, ◌<◌, Bool, true, false, eqb, List, [], ◌∷◌, ◌++◌, Option, Some, None, refl, sym, ap, ◌∙◌, arith}
+use Rattle.std.proofs.Common.{◌≡◌, ℕ, suc, ◌-◌, ◌+◌, ◌≤◌, ◌<◌, false, eqb, List, [], ◌∷◌, ◌++◌, Option, Some, None, refl, sym, ap, ◌∙◌, arith}
 use Rattle.std.specs.Prelude.{◌≢◌}
 use Rattle.std.proofs.lemmas.Bool.Decides.{nat_tests}
 use Rattle.std.proofs.lemmas.List.{append-nil}
-use Rattle.mcs_codec.specs.Reading.{◌>>=◌, giving, byte_at}
+use Rattle.mcs_codec.specs.Reading.{byte_at}
 use Rattle.mcs_codec.specs.CommandReading.{mark_at, pairs_at}
 use Rattle.mcs_codec.proofs.Loops.{with_front, regroup}
 

@@ -1,18 +1,16 @@
 -- The law of a state, group by group: its fields in their widths, whether or not they make a valid state.
-use Rattle.std.proofs.Common.{◌≡◌, ℕ, zero, suc, ◌+◌, ◌*◌, ◌<◌, ◌≤◌, ◌^◌, Bool, true, false, List, [], ◌∷◌, ◌++◌, length, get_or, Option, Some, None, refl, sym, ap, subst, ◌∙◌, append_assoc, arith}
+use Rattle.std.proofs.Common.{◌≡◌, ℕ, suc, ◌*◌, ◌<◌, ◌≤◌, ◌^◌, List, [], ◌∷◌, ◌++◌, length, get_or, Some, None, refl, sym, ap, subst, ◌∙◌, append_assoc, arith}
 use Rattle.std.specs.List.{flat_map, All, AllByRecursion}
 use Rattle.std.proofs.lemmas.List.Elements.{recursion_from_All}
-use Rattle.std.specs.Int.{w16, w32, to_be_bytes}
 use Rattle.mcs_model.specs.declared.board.BoardParts.{BoardParts}
 use Rattle.mcs_model.specs.declared.board.ChainPart.{ChainPart}
-use Rattle.mcs_model.specs.declared.regs.Regs.{Regs}
 use Rattle.mcs_model.specs.Boards.{key_count}
 use Rattle.mcs_model.specs.Flat.{Flat}
 use Rattle.mcs_model.specs.Boards.{no_chain}
 use Rattle.mcs_model.specs.Bus.{BusState}
 use Rattle.mcs_model.specs.Validity.{AreBelow, IsValid, IsValidBoard}
-use Rattle.mcs_codec.specs.Reading.{◌>>=◌, giving, bytes_at, whole}
-use Rattle.mcs_codec.specs.BoardText.{board_text, counted}
+use Rattle.mcs_codec.specs.Reading.{giving, bytes_at, whole}
+use Rattle.mcs_codec.specs.BoardText.{counted}
 use Rattle.mcs_codec.specs.CommandText.{address}
 use Rattle.mcs_codec.specs.StateText.{state_text}
 use Rattle.mcs_codec.specs.StateReading.{memory_at, registers_at, sources_at, rows_at, breakpoints_at, wiring_at, state_at}

@@ -1,8 +1,8 @@
 -- The rows of the chains, as a loop reads them.
-use Rattle.std.proofs.Common.{◌≡◌, ℕ, ◌+◌, ◌*◌, ◌<◌, ◌≤◌, Bool, true, false, eqb, List, [], ◌∷◌, ◌++◌, length, get_or, drop, Option, Some, None, refl, sym, ap, ◌∙◌, arith}
+use Rattle.std.proofs.Common.{◌≡◌, ℕ, ◌+◌, ◌*◌, ◌<◌, ◌≤◌, List, [], ◌∷◌, ◌++◌, length, get_or, drop, Option, Some, None, refl, sym, ap, ◌∙◌}
 use Rattle.std.proofs.lemmas.List.{at_drop_more, at_drop_all, append-nil}
 use Rattle.mcs_model.specs.declared.board.ChainPart.{ChainPart}
-use Rattle.mcs_codec.specs.Reading.{◌>>=◌, giving, bytes_at}
+use Rattle.mcs_codec.specs.Reading.{bytes_at}
 use Rattle.mcs_codec.specs.StateReading.{rows_at}
 use Rattle.mcs_codec.proofs.Loops.{with_front, regroup}
 

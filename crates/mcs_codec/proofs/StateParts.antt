@@ -1,10 +1,9 @@
 -- The lists of a valid state, part by part.
-use Rattle.std.proofs.Common.{◌≡◌, ℕ, ◌+◌, ◌*◌, ◌<◌, ◌≤◌, List, [], ◌∷◌, ◌++◌, length, get_or, slice_set, take, refl, sym, ap, ◌∙◌, append_assoc, arith, inl, inr}
+use Rattle.std.proofs.Common.{◌≡◌, ℕ, ◌+◌, ◌<◌, ◌≤◌, List, [], ◌∷◌, ◌++◌, length, get_or, slice_set, take, refl, sym, ap, ◌∙◌, append_assoc, arith, inl, inr}
 use Rattle.std.specs.List.{flat_map}
 use Rattle.std.proofs.lemmas.Bool.{cases_lt}
 use Rattle.std.proofs.lemmas.List.Folds.{length-flat_map-take}
-use Rattle.std.proofs.lemmas.List.{get_or_past, length-replicate, take_more, take_more_set, take_all}
-use Rattle.mcs_model.specs.declared.board.ChainPart.{ChainPart}
+use Rattle.std.proofs.lemmas.List.{get_or_past, length-replicate, take_more, take_more_set}
 use Rattle.mcs_model.specs.Boards.{chain_count, chain_bits, no_chain}
 use Rattle.mcs_model.specs.Bus.{zero_bus}
 use Rattle.mcs_model.specs.Flat.{Flat, new_flat}

@@ -53,10 +53,7 @@ fn read_cells(reader: &mut Reader<'_>, cells: &mut Cells) -> Option<()>
 }
 
 /// Reads so many bytes.
-fn read_bytes<const CAP: usize>(
-    reader: &mut Reader<'_>,
-    count: usize,
-) -> Option<ArrayVec<u8, CAP>>
+fn read_bytes<const CAP: usize>(reader: &mut Reader<'_>, count: usize) -> Option<ArrayVec<u8, CAP>>
     requires { count ≤ CAP }
     ensures { option_map (λ v. (v.items, reader.new)) result ≡ bytes_at count reader.old }
 {

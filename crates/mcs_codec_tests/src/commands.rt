@@ -47,7 +47,10 @@ fn commands_of_a_few_bytes(rt: HostRuntime) {
         (Command::Step, &[6]),
         (Command::Poke(Place::Acc(nibble(15))), &[7, 0, 15]),
         (Command::Poke(Place::Cy(Bit::ONE)), &[7, 1, 1]),
-        (Command::Poke(Place::Pc(address(0xFFE))), &[7, 2, 0x0F, 0xFE]),
+        (
+            Command::Poke(Place::Pc(address(0xFFE))),
+            &[7, 2, 0x0F, 0xFE],
+        ),
         (
             Command::Poke(Place::Register(register, nibble(9))),
             &[7, 3, 5, 9],
@@ -99,21 +102,22 @@ fn boards(rt: HostRuntime) {
     want[0] = 1;
     want[65..].copy_from_slice(&[0; 11]);
     expect_both(&rt, alloc, &Command::Wire(Board::empty()), &want);
-    let mut want = [b'-'; 96];
+    let mut want = [b'-'; 97];
     want[0] = 1;
     want[1..5].copy_from_slice(b"i0i1");
     want[65..73].copy_from_slice(&[0, 2, 0, 0, 0, 0, 0, 0]);
     want[73..83].copy_from_slice(&[1, 0, 0, 1, 0, 0, 0, 3, 0, 3]);
     want[83..92].copy_from_slice(&[1, 0, 5, 2, 1, 0, 0, 2, 0]);
-    want[92..].copy_from_slice(&[1, 1, 1, 0]);
+    want[92..].copy_from_slice(&[1, 1, 1, 0, 3]);
+    expect_both(&rt, alloc, &Command::Wire(each_part(&rt)), &want);
     let mut bytes = [0; COMMAND_BYTES];
-    let count = command_bytes(&Command::Wire(each_part(&rt)), &mut bytes);
-    assert_eq!(rt; count, 97);
-    assert_eq!(rt; &bytes[..96], &want);
-    assert_eq!(rt; bytes[96], 3);
     let count = command_bytes(&Command::Wire(largest(&rt)), &mut bytes);
     assert_eq!(rt; count, 386);
-    assert!(rt; command_of(alloc, &bytes[..386]).expect(&rt, "memory").is_some());
+    assert!(rt;
+        command_of(alloc, &bytes[..386])
+            .expect(&rt, "memory")
+            .is_some()
+    );
 }
 
 #[test]
@@ -159,12 +163,20 @@ fn boards_and_loads_that_are_no_command(rt: HostRuntime) {
     assert!(rt; command_of(alloc, &wire).expect(&rt, "memory").is_none());
     wire[65] = 0;
     assert!(rt; command_of(alloc, &wire).expect(&rt, "memory").is_some());
-    assert!(rt; command_of(alloc, &wire[..75]).expect(&rt, "memory").is_none());
+    assert!(rt;
+        command_of(alloc, &wire[..75])
+            .expect(&rt, "memory")
+            .is_none()
+    );
     let mut load = [0; 515];
     load[0] = 2;
     load[1] = 3;
     assert!(rt; command_of(alloc, &load).expect(&rt, "memory").is_some());
-    assert!(rt; command_of(alloc, &load[..514]).expect(&rt, "memory").is_none());
+    assert!(rt;
+        command_of(alloc, &load[..514])
+            .expect(&rt, "memory")
+            .is_none()
+    );
     load[1] = 1;
     assert!(rt; command_of(alloc, &load).expect(&rt, "memory").is_none());
 }

@@ -25,6 +25,10 @@ fn apply(rt: &impl Abort, bench: &mut Bench, command: &Command) {
     }
 }
 
+fn expect_bytes(rt: &impl Abort, got: &[u8], want: &[u8]) {
+    assert_eq!(rt; got, want);
+}
+
 fn is_read(rt: &impl Abort, alloc: Global, bytes: &[u8]) -> bool {
     bench_of(alloc, bytes).expect(rt, "memory").is_some()
 }
@@ -50,7 +54,7 @@ fn a_new_bench(rt: HostRuntime) {
     let mut bytes = buffer(&rt, alloc);
     let count = state_bytes(&bench, &mut bytes);
     assert_eq!(rt; count, PLAIN_STATE);
-    assert_eq!(rt; &bytes[..PLAIN_STATE], &new_state());
+    expect_bytes(&rt, &bytes[..PLAIN_STATE], &new_state());
     assert!(rt; is_read(&rt, alloc, &bytes[..PLAIN_STATE]));
     assert!(rt; !is_read(&rt, alloc, &bytes[..PLAIN_STATE - 1]));
     assert!(rt; !is_read(&rt, alloc, &bytes[..PLAIN_STATE + 1]));
@@ -126,14 +130,14 @@ fn an_owed_cycle_is_kept(rt: HostRuntime) {
     want[6_819] = 1;
     let mut bytes = buffer(&rt, alloc);
     let count = state_bytes(&bench, &mut bytes);
-    assert_eq!(rt; &bytes[..count], &want);
+    expect_bytes(&rt, &bytes[..count], &want);
     match bench_of(alloc, &want).expect(&rt, "memory") {
         Some(read) => {
             assert_eq!(rt; read.seq(), 3);
             assert!(rt; read.regs() == bench.regs());
             assert_eq!(rt; read.rom_byte(address(1)), 0x23);
             let again = state_bytes(&read, &mut bytes);
-            assert_eq!(rt; &bytes[..again], &want);
+            expect_bytes(&rt, &bytes[..again], &want);
         }
         None => panic!(rt; "a state was not read"),
     }
@@ -148,7 +152,7 @@ fn breakpoints_rise(rt: HostRuntime) {
     let mut bytes = buffer(&rt, alloc);
     let count = state_bytes(&bench, &mut bytes);
     assert_eq!(rt; count, PLAIN_STATE + 4);
-    assert_eq!(rt; &bytes[6_821..6_826], &[2, 0, 3, 1, 0x23]);
+    expect_bytes(&rt, &bytes[6_821..6_826], &[2, 0, 3, 1, 0x23]);
     assert!(rt; is_read(&rt, alloc, &bytes[..6_826]));
     bytes[6_824] = 0;
     bytes[6_825] = 3;

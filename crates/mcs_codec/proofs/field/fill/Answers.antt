@@ -1,7 +1,7 @@
-use Rattle.std.proofs.Common.{◌≡◌, ◌-◌, ◌+◌, length, take, ap, sym, arith}
+use Rattle.std.proofs.Common.{◌≡◌, length, take, arith}
 use Rattle.std.proofs.lemmas.List.{take_more_set, take_all, length-set}
 use Rattle.mcs_codec.specs.Reading.{many}
-use Rattle.mcs_codec.proofs.Loops.{goes_on, ends, is_done, with_front}
+use Rattle.mcs_codec.proofs.Loops.{goes_on, ends, is_done}
 use Rattle.mcs_codec.proofs.field.fill.Goals as goal
 
 pub returns-in_err-items : goal.returns-in_err-items

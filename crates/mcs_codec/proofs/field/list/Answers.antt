@@ -1,7 +1,7 @@
-use Rattle.std.proofs.Common.{◌≡◌, ◌-◌, ◌+◌, ◌++◌, ◌∷◌, [], length, take, ap, sym, arith}
+use Rattle.std.proofs.Common.{arith}
 use Rattle.std.proofs.lemmas.List.{length_push}
 use Rattle.mcs_codec.specs.Reading.{many}
-use Rattle.mcs_codec.proofs.Loops.{goes_on, ends, is_done, with_front}
+use Rattle.mcs_codec.proofs.Loops.{goes_on, ends, is_done}
 use Rattle.mcs_codec.proofs.field.list.Goals as goal
 
 pub returns-in_err-read : goal.returns-in_err-read

@@ -1,4 +1,4 @@
-use Rattle.std.proofs.Common.{◌≡◌, ◌∙◌, rules, arith}
+use Rattle.std.proofs.Common.{◌∙◌, rules}
 use Rattle.std.proofs.lemmas.List.{get_or-replicate}
 use Rattle.mcs_codec.proofs.ImageCodec.{marks_go_on}
 use Rattle.mcs_codec.proofs.images.marks_of.Goals as goal

@@ -1,4 +1,4 @@
-use Rattle.std.proofs.Common.{◌≡◌, sym, subst, rules, arith}
+use Rattle.std.proofs.Common.{sym, subst, rules, arith}
 use Rattle.mcs_bench.specs.States.{state_of}
 use Rattle.mcs_codec.specs.Codec.{SpellsState}
 use Rattle.mcs_codec.proofs.StateCodec.{state_none, state_invalid, state_read}

@@ -1,7 +1,6 @@
-use Rattle.std.proofs.Common.{◌≡◌, ℕ, ◌+◌, ◌*◌, ◌++◌, ◌∷◌, [], List, Option, Some, None, map, length, get_or, arith, ap, sym, ◌∙◌}
+use Rattle.std.proofs.Common.{◌≡◌, ◌*◌, ◌++◌, ◌∷◌, [], map, get_or, arith, ◌∙◌}
 use Rattle.std.proofs.lemmas.List.{map_push}
 use Rattle.mcs_model.specs.Boards.{no_chain}
-
 use Rattle.mcs_codec.specs.StateReading.{rows_at}
 use Rattle.mcs_codec.proofs.StateLoops.{rows_done, rows_end, rows_go_on}
 use Rattle.mcs_codec.proofs.restoring.read_rows.Goals as goal
