@@ -144,6 +144,7 @@ impl Field for ChainPart {
     }
 }
 
+/// Reads a key matrix.
 #[tactic(auto, unfolding(crate::specs::BoardReading::matrix_at))]
 fn read_matrix(reader: &mut Reader<'_>) -> Option<KeyMatrix>
     ensures { option_map (λ x. (x, reader.new)) result ≡ matrix_at reader.old }
@@ -160,6 +161,7 @@ fn read_matrix(reader: &mut Reader<'_>) -> Option<KeyMatrix>
     })
 }
 
+/// Reads the keys: whether there are any, and their matrix.
 #[tactic(auto, unfolding(crate::specs::BoardReading::keys_at))]
 fn read_keys(reader: &mut Reader<'_>) -> Option<Option<KeyMatrix>>
     ensures { option_map (λ x. (x, reader.new)) result ≡ keys_at reader.old }
@@ -174,6 +176,7 @@ fn read_keys(reader: &mut Reader<'_>) -> Option<Option<KeyMatrix>>
     }
 }
 
+/// Puts the keys: whether there are any, and their matrix.
 fn put_keys(keys: &Option<KeyMatrix>, out: &mut [u8], at: usize) -> usize
     requires { at + length (keys_text keys.now) ≤ length out.old }
     ensures end { result ≡ at + length (keys_text keys.now) }
@@ -188,6 +191,7 @@ fn put_keys(keys: &Option<KeyMatrix>, out: &mut [u8], at: usize) -> usize
     }
 }
 
+/// Reads the parts of a board, whatever is wrong with them.
 #[tactic(auto, unfolding(crate::specs::BoardReading::parts_at))]
 fn read_parts(reader: &mut Reader<'_>) -> Option<BoardParts>
     ensures { option_map (λ x. (x, reader.new)) result ≡ parts_at reader.old }

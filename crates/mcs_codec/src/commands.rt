@@ -85,7 +85,7 @@ fn put_command(command: &Command, out: &mut [u8], at: usize) -> usize
     }
 }
 
-/// Spells a command at the front of these bytes, and answers how many it took.
+/// Spells a command at the front of these bytes, and answers how many it took: 1 to 4,609.
 pub fn command_bytes(command: &Command, into: &mut [u8]) -> usize
     requires lent { COMMAND_BYTES ≤ length into.old }
     ensures spells { Spells (take result into.new) command.now }
@@ -158,7 +158,11 @@ fn read_command(alloc: Global, bytes: &[u8]) -> Result<Option<Command>, AllocErr
     }
 }
 
-/// The command that these bytes spell, or none. It fails where the memory for an image is refused.
+/// The command that these bytes spell, or none where they spell no command.
+///
+/// # Errors
+///
+/// Where memory is refused. A load alone takes memory.
 pub fn command_of(alloc: Global, bytes: &[u8]) -> Result<Option<Command>, AllocError>
     ensures some { IfOk result (λ found. IfSome found (λ c. Spells bytes.now c)) }
     ensures none { IfOk result (λ found. IfNone found ((c : Command) → Spells bytes.now c → ⊥)) }

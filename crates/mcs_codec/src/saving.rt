@@ -18,15 +18,23 @@ pub const STATE_BYTES: usize = 16_380;
 /// The lists of a bench that are written place by place.
 #[derive(Clone, Copy)]
 pub enum Part {
+    /// The bytes of the ROMs, by address.
     RomBytes,
+    /// The RAM characters, by bank and SRC byte.
     RamCharacters,
+    /// The status characters, by bank, upper nibble of the SRC byte, and number.
     StatusCharacters,
+    /// The port latches of the RAM chips, by bank and chip.
     RamPorts,
+    /// The port latches of the ROMs.
     RomPorts,
+    /// The index registers of the processor.
     IndexRegisters,
+    /// The SRC byte of each bank.
     RamSources,
-    /// The bits of a chain.
+    /// The bits of a chain, bit 0 first.
     ChainBits(u8),
+    /// The keys, row by row.
     Keys,
 }
 
@@ -104,6 +112,7 @@ impl Part {
     }
 }
 
+/// Puts what the ROMs and the RAM chips hold, and their ports.
 fn put_memory(bench: &Bench, out: &mut [u8], at: usize) -> usize
     requires valid { IsValid bench.now }
     requires room { at + length (memory_text bench.now.bus) ≤ length out.old }
@@ -117,6 +126,7 @@ fn put_memory(bench: &Bench, out: &mut [u8], at: usize) -> usize
     Part::RomPorts.put(bench, out, at)
 }
 
+/// Puts the accumulator, the carry, the index registers, the counter and the return addresses.
 fn put_registers(bench: &Bench, out: &mut [u8], at: usize) -> usize
     requires valid { IsValid bench.now }
     requires room { at + length (registers_text bench.now.processor) ≤ length out.old }
@@ -130,6 +140,7 @@ fn put_registers(bench: &Bench, out: &mut [u8], at: usize) -> usize
     put_all(&registers.ret, out, at)
 }
 
+/// Puts the command register, the SRC bytes of the ROMs and of the banks, and the owed cycles.
 fn put_sources(bench: &Bench, out: &mut [u8], at: usize) -> usize
     requires valid { IsValid bench.now }
     requires room { at + length (sources_text bench.now.processor.dcl bench.now.bus.rom_src bench.now.bus.ram_src bench.now.processor.owed) ≤ length out.old }
@@ -156,6 +167,7 @@ fn put_rows(bench: &Bench, out: &mut [u8], at: usize) -> usize
     end
 }
 
+/// Puts what the chains and the keys hold, TEST, and the breakpoints.
 fn put_wiring(bench: &Bench, out: &mut [u8], at: usize) -> usize
     requires valid { IsValid bench.now }
     requires room { at + length (wiring_text bench.now.bus.chains bench.now.bus.keys bench.now.bus.test bench.now.breakpoints) ≤ length out.old }
@@ -193,7 +205,7 @@ fn put_state(bench: &Bench, into: &mut [u8]) -> usize
     put_groups(bench, into, at)
 }
 
-/// Spells the state of a bench at the front of these bytes, and answers how many it took.
+/// Spells the state of a bench at the front of these bytes, and answers how many it took: at most 7,356.
 pub fn state_bytes(bench: &Bench, into: &mut [u8]) -> usize
     requires lent { STATE_BYTES ≤ length into.old }
     ensures spells { SpellsState (take result into.new) bench.now }
