@@ -1,15 +1,16 @@
 //! Laws of a bench, each proved as the contract of a function that changes nothing.
 ghost use Rattle.std.specs.Prelude.{◌≡◌, ◌<◌, All};
-ghost use Rattle.mcs_model.specs.Running.{RunsCompose};
 ghost use Rattle.mcs_model.specs.Validity.{IsValid, IsValidRegs};
+ghost use Rattle.mcs_bench.specs.Runs.{RunsAddUp};
 
 use crate::bench::Bench;
 use mcs_model::regs::Regs;
 use mcs_nibble::{Addr, Nibble};
 
-/// Where no breakpoint is set, two runs come to the state that one run of all their cycles comes to.
+/// Where no breakpoint is set, two runs come to the state that one run of all their cycles comes to, the count of
+/// commands aside.
 pub fn runs_add_up()
-    ensures { RunsCompose }
+    ensures { RunsAddUp }
 {
     mcs_model::laws::runs_compose();
 }

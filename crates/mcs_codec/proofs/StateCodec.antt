@@ -236,6 +236,15 @@ state_read bytes s all e valid = record { is = (whole_takes state_codec bytes s 
 pub state_again : (bytes : List ℕ) (s : Flat) → SpellsState bytes s → whole state_at bytes ≡ Some s
 state_again bytes s h = ap (whole state_at) h.is ∙ whole_again state_codec s (shape_of s h.valid)
 
+pub state_none : (bytes : List ℕ) → None ≡ whole state_at bytes → (s : Flat) → SpellsState bytes s → ⊥
+state_none bytes e s h = let back : Some s ≡ None = sym (state_again bytes s h) ∙ sym e in cc
+
+pub state_invalid : (bytes : List ℕ) (t : Flat) → Some t ≡ whole state_at bytes → (IsValid t → ⊥) → (s : Flat) → SpellsState bytes s → ⊥
+state_invalid bytes t e wrong s h =
+    let same : Some t ≡ Some s = e ∙ state_again bytes s h in
+    let is : s ≡ t = cc in
+    wrong (subst IsValid is h.valid)
+
 pub same_state : (bytes : List ℕ) (s t : Flat) → SpellsState bytes s → SpellsState bytes t → s ≡ t
 same_state bytes s t h k =
     let one : Some s ≡ Some t = sym (state_again bytes s h) ∙ state_again bytes t k in
