@@ -8,5 +8,5 @@ mod questions;
 mod ram;
 mod registers;
 
-pub use numbers::{put_counted, put_number, put_refusal, put_refusal_at, put_reply};
+pub use numbers::{put_number, put_refusal_at, put_reply};
 pub use questions::put_answer;

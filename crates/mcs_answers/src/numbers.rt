@@ -2,7 +2,7 @@
 ghost use Rattle.std.specs.Prelude.{◌≡◌, ◌+◌, ◌++◌, ◌≤◌, [], length};
 ghost use Rattle.std.specs.Fmt.{decimal};
 ghost use Rattle.arrayvec.specs.ArrayVec.{array_vec_len};
-ghost use Rattle.mcs_answers.specs.AnswerTexts.{line_feed, no_line_text, no_text, ok_text, reply_text, stop_name};
+ghost use Rattle.mcs_answers.specs.AnswerTexts.{line_feed, no_line_text, ok_text, reply_text, stop_name};
 
 use crate::digits::{put, put_decimal};
 use arrayvec::ArrayVec;
@@ -11,7 +11,7 @@ use mcs_model::command::Reply;
 use mcs_model::stop::Stop;
 
 /// Adds a word and a number in decimal digits.
-pub fn put_counted(answer: &mut ArrayVec<u8, 512>, word: &[u8], n: u64)
+fn put_counted(answer: &mut ArrayVec<u8, 512>, word: &[u8], n: u64)
     requires { array_vec_len answer.old + length word.now + 20 ≤ 512 }
     ensures text { answer.new.items ≡ answer.old.items ++ (word.now ++ decimal n) }
     ensures count { length answer.new.items ≤ length answer.old.items + length word.now + 20 }
@@ -28,14 +28,6 @@ pub fn put_number(answer: &mut ArrayVec<u8, 512>, word: &[u8], n: u64)
 {
     put_counted(answer, word, n);
     put(answer, b"\n");
-}
-
-/// Tells a refusal by its number, in an empty answer.
-pub fn put_refusal(answer: &mut ArrayVec<u8, 512>, number: u8)
-    requires { answer.old.items ≡ [] }
-    ensures { answer.new.items ≡ no_text number }
-{
-    put_number(answer, b"no ", u64::from(number));
 }
 
 /// Tells the refusal of a text by its number and the line that it is for, counted from 1, in an empty answer.

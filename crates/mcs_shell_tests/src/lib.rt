@@ -4,6 +4,8 @@
 ghost use Rattle.std.specs.Prelude.{Some, ◌≡◌};
 
 mod texts;
+mod worked;
+
 
 use mcs_disk::{Disk, FuseDisk, MemDisk};
 use mcs_journal::{CreateFault, FILE_SIZE, OpenFault};
