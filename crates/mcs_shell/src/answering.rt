@@ -17,7 +17,7 @@ use mcs_model::limits::LINE_BYTES;
 use mcs_model::refusal_numbers;
 use mcs_session::fault::SessionFault;
 use mcs_session::session::Session;
-use std::alloc::Global;
+use std::alloc::{AllocError, Global};
 
 /// Does a command, and tells of it.
 fn answer_change<D: Disk + Drop>(
@@ -112,7 +112,7 @@ pub(crate) fn answer_text<D: Disk + Drop>(
             answer.tell_text_refusal(refusal);
             Outcome::Plain
         }
-        Err(_) => {
+        Err(AllocError) => {
             answer.tell_refusal(refusal_numbers::NO_MEMORY);
             Outcome::NoMemory
         }
