@@ -1,5 +1,5 @@
 //! Breakpoints.
-ghost use Rattle.std.specs.Prelude.{◌≡◌, ◌<◌, ◌≤◌, ◌==◌, ◌||◌, true, [], length, nat_lt};
+ghost use Rattle.std.specs.Prelude.{◌≡◌, ◌<◌, ◌≤◌, ◌||◌, true, [], length, nat_lt};
 ghost use Rattle.std.specs.List.{insert};
 ghost use Rattle.std.specs.List.Sorted.{IsStrictlyIncreasing};
 ghost use Rattle.mcs_model.specs.Validity.{AreBreakpoints};
@@ -73,13 +73,6 @@ impl Breaks {
         ensures rising { IsStrictlyIncreasing result.now }
     {
         self.list.as_slice()
-    }
-
-    /// Whether there are none.
-    pub(crate) fn is_empty(&self) -> bool
-        ensures { result ≡ (length self.now == 0) }
-    {
-        self.list.is_empty()
     }
 
     /// Whether an address is one.

@@ -6,7 +6,7 @@ ghost use Rattle.mcs_model.specs.Places.{with_rom_bytes};
 ghost use Rattle.mcs_model.specs.Command.{refusal, own_refusal, place_refusal, lacks_rom, after, changed, reply, with_place};
 
 use crate::bench::Bench;
-use crate::running::{BenchRig, run_free, run_watched, step};
+use crate::running::{BenchRig, run, step};
 use mcs_board::every_board_fits_the_bench;
 use mcs_cpu4004::Cpu;
 use mcs_model::board::Board;
@@ -165,11 +165,7 @@ impl Bench {
         ensures state { self.new ≡ changed self.old (Command.Run n) }
         ensures reply { result ≡ reply self.old (Command.Run n) }
     {
-        let (cycles, stop) = if self.breaks.is_empty() {
-            run_free(&mut self.cpu, &mut self.rig, n)
-        } else {
-            run_watched(&mut self.cpu, &mut self.rig, &self.breaks, n)
-        };
+        let (cycles, stop) = run(&mut self.cpu, &mut self.rig, &self.breaks, n);
         Reply::Ran { cycles, stop }
     }
 

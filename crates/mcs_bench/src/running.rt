@@ -1,5 +1,5 @@
 //! Runs and steps of a processor over a rig of the bench's size.
-ghost use Rattle.std.specs.Prelude.{◌≡◌, ◌&&◌, ◌==◌, not, [], unwrap_or};
+ghost use Rattle.std.specs.Prelude.{◌≡◌, ◌&&◌, ◌==◌, not, unwrap_or};
 ghost use Rattle.mcs_model.specs.Effect.{cycle_of};
 ghost use Rattle.mcs_model.specs.Running.{is_outside};
 ghost use Rattle.mcs_model.specs.Breakpoints.{is_breakpoint};
@@ -41,23 +41,8 @@ fn is_at_break(cpu: &Cpu, breaks: &Breaks) -> bool
     regs.owed == 0 && breaks.contains(regs.pc)
 }
 
-/// A run without breakpoints.
-pub(crate) fn run_free(cpu: &mut Cpu, rig: &mut BenchRig, n: u32) -> (u32, Stop)
-    ensures { RanTo [] n (cpu.old, rig.old) (cpu.new, rig.new) result.0 result.1 }
-{
-    for k in 0..n {
-        if !advance(cpu, rig) {
-            return (k, Stop::Outside);
-        }
-    }
-    if is_outside(cpu, rig) {
-        return (n, Stop::Outside);
-    }
-    (n, Stop::Ended)
-}
-
-/// A run with breakpoints.
-pub(crate) fn run_watched(cpu: &mut Cpu, rig: &mut BenchRig, breaks: &Breaks, n: u32) -> (u32, Stop)
+/// A run of at most `n` cycles: how many it did, and why it stopped.
+pub(crate) fn run(cpu: &mut Cpu, rig: &mut BenchRig, breaks: &Breaks, n: u32) -> (u32, Stop)
     ensures { RanTo breaks.now n (cpu.old, rig.old) (cpu.new, rig.new) result.0 result.1 }
 {
     for k in 0..n {
@@ -77,16 +62,25 @@ pub(crate) fn run_watched(cpu: &mut Cpu, rig: &mut BenchRig, breaks: &Breaks, n:
     (n, Stop::Ended)
 }
 
-/// One instruction, or its idle cycle.
+/// One cycle, if one can follow, and whether one could: called, and not in line as in a run.
+#[inline(never)]
+fn advance_once(cpu: &mut Cpu, rig: &mut BenchRig) -> bool
+    ensures went { result ≡ not (is_outside (cpu.old, rig.old)) }
+    ensures machine { (cpu.new, rig.new) ≡ unwrap_or (cycle_of cpu.old rig.old) (cpu.old, rig.old) }
+{
+    advance(cpu, rig)
+}
+
+/// One instruction, or its idle cycle: how many cycles it did, and why it stopped.
 pub(crate) fn step(cpu: &mut Cpu, rig: &mut BenchRig) -> (u32, Stop)
     ensures { SteppedTo (cpu.old, rig.old) (cpu.new, rig.new) result.0 result.1 }
 {
-    if !advance(cpu, rig) {
+    if !advance_once(cpu, rig) {
         return (0, Stop::Outside);
     }
     if cpu.regs().owed == 0 {
         return (1, Stop::Ended);
     }
-    let _ = advance(cpu, rig);
+    let _ = advance_once(cpu, rig);
     (2, Stop::Ended)
 }

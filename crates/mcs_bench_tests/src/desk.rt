@@ -63,17 +63,19 @@ pub(crate) fn image(alloc: Global, rt: &impl Abort, pairs: &[(u16, u8)]) -> Imag
 
 /// Loads bytes, each at its address.
 pub(crate) fn load_at(alloc: Global, rt: &impl Abort, bench: &mut Bench, pairs: &[(u16, u8)]) {
+    assert!(rt; pairs.len() <= 4096);
     let reply = done(rt, bench, &Command::Load(image(alloc, rt, pairs)));
     assert_eq!(rt; reply, Reply::Loaded(pairs.len() as u16));
 }
 
 /// Loads bytes from address 0 on.
 pub(crate) fn load(alloc: Global, rt: &impl Abort, bench: &mut Bench, bytes: &[u8]) {
+    assert!(rt; bytes.len() <= 4096);
     let mut image = Image::new(alloc).expect(rt, "memory");
-    for (at, byte) in bytes.iter().enumerate() {
+    for at in 0..bytes.len() {
         let place = address(at as u16);
         assert!(rt; image.pairs().iter().all(|pair| pair.0 < place));
-        image.push(place, *byte).expect(rt, "memory");
+        image.push(place, bytes[at]).expect(rt, "memory");
     }
     assert_eq!(rt; done(rt, bench, &Command::Load(image)), Reply::Loaded(bytes.len() as u16));
 }

@@ -1,5 +1,5 @@
 //! Runs beside single steps.
-use crate::desk::{did, done, lamps, load, runs, wired};
+use crate::desk::{address, did, done, lamps, load, runs, wired};
 use mcs_bench::Bench;
 use mcs_model::command::{Command, Reply};
 use mcs_model::stop::Stop;
@@ -63,9 +63,8 @@ fn a_run_does_what_its_steps_do(rt: HostRuntime) {
 fn a_run_to_a_breakpoint_does_what_its_steps_do(rt: HostRuntime) {
     let mut running = scanning(rt.alloc(), &rt);
     let mut stepping = scanning(rt.alloc(), &rt);
-    for bench in [&mut running, &mut stepping] {
-        did(&rt, bench, &Command::Break(crate::desk::address(4)));
-    }
+    did(&rt, &mut running, &Command::Break(address(4)));
+    did(&rt, &mut stepping, &Command::Break(address(4)));
     for _ in 0..50 {
         let mut cycles = stepped(&rt, &mut stepping);
         for _ in 0..12 {

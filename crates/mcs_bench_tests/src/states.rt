@@ -57,6 +57,7 @@ fn what_is_absent_is_0(rt: HostRuntime) {
     flat.ram_src[3] = 1;
     assert!(rt; !flat.check());
     flat.ram_src[3] = 0;
+    assert!(rt; flat.keys.is_empty());
     flat.keys.push(0);
     assert!(rt; !flat.check());
 }
@@ -86,12 +87,13 @@ fn a_state_of_a_board_is_restored(rt: HostRuntime) {
     assert!(rt; !flat.check());
     let mut row = arrayvec::ArrayVec::new();
     for i in 0..10 {
+        assert!(rt; row.len() < 40);
         row.push(u8::from(i == 9));
     }
     assert!(rt; flat.chains.is_empty());
     flat.chains.push(row);
-    assert!(rt; flat.keys.is_empty());
     for i in 0..80 {
+        assert!(rt; flat.keys.len() < 80);
         flat.keys.push(u8::from(i == 79));
     }
     assert!(rt; flat.check());
