@@ -4,7 +4,13 @@ use Rattle.std.specs.List.{Contains}
 use Rattle.std.proofs.lemmas.Bool.{cases_lt, cases_eq}
 use Rattle.std.proofs.lemmas.List.Elements.{Contains-append_cases, Contains-append_right}
 use Rattle.mcs_model.specs.Pairs.{IsImageOf, IsRising}
-use Rattle.mcs_shell.specs.Spelling.{by_address, placed}
+use Rattle.std.specs.Prelude.{Result, Ok}
+use Rattle.mcs_asm.specs.View.{Assembles}
+use Rattle.mcs_model.specs.declared.command.Command.{Command}
+use Rattle.mcs_model.specs.declared.command.Command.TheVariants as command
+use Rattle.mcs_source.specs.declared.fault.SourceFault.{SourceFault}
+use Rattle.mcs_shell.specs.declared.spelling.TextRefusal.{TextRefusal}
+use Rattle.mcs_shell.specs.Spelling.{by_address, load_command, placed}
 
 -- ---- elements
 
@@ -165,3 +171,10 @@ image_by_address image pairs h =
     same_rising image (by_address pairs) rises (by_rises pairs)
         (λ p a. by_all pairs p (λ q r x y same. one_at image q r rises ((h.1 q).1 x) ((h.1 r).1 y) same) ((h.1 p).0 a))
         (λ p a. (h.1 p).1 (by_has pairs p a))
+
+-- the command to load an image
+abbrev pub loading : List (ℕ × ℕ) → Result Command TextRefusal
+loading image = Ok (command.Load image)
+
+pub loads : (image : List (ℕ × ℕ)) (wanted : Result (List (ℕ × ℕ)) (ℕ × SourceFault)) → Assembles (Ok image) wanted → loading image ≡ load_command wanted
+loads image wanted h = ap loading (image_by_address image h.0 h.2) ∙ ap load_command (sym h.1)
