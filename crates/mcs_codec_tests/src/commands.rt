@@ -3,7 +3,6 @@ use crate::boards::{each_part, largest};
 use mcs_codec::{COMMAND_BYTES, command_bytes, command_of};
 use mcs_model::board::Board;
 use mcs_model::command::{Command, Place};
-use mcs_model::image::Image;
 use mcs_nibble::{Addr, BankNo, Bit, Nibble, RegNo, StatusNo};
 use std::alloc::Global;
 use std::process::Abort;
@@ -80,10 +79,6 @@ fn commands_of_a_few_bytes(rt: HostRuntime) {
 
 #[test]
 fn a_load_has_a_map_of_its_addresses(rt: HostRuntime) {
-    let mut image = Image::new(rt.alloc()).expect(&rt, "memory");
-    image.push(address(0), 0xAA).expect(&rt, "memory");
-    image.push(address(0x00A), 0x55).expect(&rt, "memory");
-    image.push(address(0xFFF), 1).expect(&rt, "memory");
     let mut want = [0; 516];
     want[0] = 2;
     want[1] = 0x01;
@@ -92,7 +87,17 @@ fn a_load_has_a_map_of_its_addresses(rt: HostRuntime) {
     want[513] = 0xAA;
     want[514] = 0x55;
     want[515] = 1;
-    expect_both(&rt, rt.alloc(), &Command::Load(image), &want);
+    match command_of(rt.alloc(), &want).expect(&rt, "memory") {
+        Some(Command::Load(image)) => {
+            let pairs = image.pairs();
+            assert_eq!(rt; pairs.len(), 3);
+            assert!(rt; pairs[0] == (address(0), 0xAA));
+            assert!(rt; pairs[1] == (address(0x00A), 0x55));
+            assert!(rt; pairs[2] == (address(0xFFF), 1));
+            expect_bytes(&rt, &Command::Load(image), &want);
+        }
+        _ => panic!(rt; "a load was not read"),
+    }
 }
 
 #[test]

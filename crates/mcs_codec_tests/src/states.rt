@@ -2,8 +2,7 @@
 use crate::boards::{largest, one_rom};
 use mcs_bench::Bench;
 use mcs_codec::{STATE_BYTES, bench_of, state_bytes};
-use mcs_model::command::Command;
-use mcs_model::image::Image;
+use mcs_model::command::{Command, Place};
 use mcs_nibble::Addr;
 use std::alloc::Global;
 use std::process::Abort;
@@ -114,14 +113,20 @@ fn one_byte_of_a_new_bench_changed(rt: HostRuntime) {
 fn an_owed_cycle_is_kept(rt: HostRuntime) {
     let alloc = rt.alloc();
     let mut bench = Bench::new(alloc).expect(&rt, "memory");
-    let mut image = Image::new(alloc).expect(&rt, "memory");
-    image.push(address(0), 0x41).expect(&rt, "memory");
-    image.push(address(1), 0x23).expect(&rt, "memory");
     apply(&rt, &mut bench, &Command::Wire(one_rom(&rt)));
-    apply(&rt, &mut bench, &Command::Load(image));
+    apply(
+        &rt,
+        &mut bench,
+        &Command::Poke(Place::Rom(address(0), 0x41)),
+    );
+    apply(
+        &rt,
+        &mut bench,
+        &Command::Poke(Place::Rom(address(1), 0x23)),
+    );
     apply(&rt, &mut bench, &Command::Run(1));
     let mut want = new_state();
-    want[3] = 3;
+    want[3] = 4;
     want[4..8].copy_from_slice(b"0000");
     want[79] = 0x41;
     want[80] = 0x23;
@@ -133,7 +138,7 @@ fn an_owed_cycle_is_kept(rt: HostRuntime) {
     expect_bytes(&rt, &bytes[..count], &want);
     match bench_of(alloc, &want).expect(&rt, "memory") {
         Some(read) => {
-            assert_eq!(rt; read.seq(), 3);
+            assert_eq!(rt; read.seq(), 4);
             assert!(rt; read.regs() == bench.regs());
             assert_eq!(rt; read.rom_byte(address(1)), 0x23);
             let again = state_bytes(&read, &mut bytes);
