@@ -16,28 +16,28 @@ fn poke(place: Place) -> Option<Request>
     Some(Request::Change(Command::Poke(place)))
 }
 
-/// What `poke rK` with a value asks for; none where they are no numbers in range. So below.
+/// What `poke rK` with a value asks for; none where one of them is no number, or out of its range.
 fn read_register(k: &[u8], value: &[u8]) -> Option<Request>
     ensures { or_bad_number result ≡ poke_register k.now value.now }
 {
     poke(Place::Register(register(k)?, nibble(value)?))
 }
 
-/// What `poke rom.A` with a value asks for.
+/// What `poke rom.A` with a value asks for; none where one of them is no number, or out of its range.
 fn read_rom(a: &[u8], value: &[u8]) -> Option<Request>
     ensures { or_bad_number result ≡ poke_rom a.now value.now }
 {
     poke(Place::Rom(address(a)?, byte(value)?))
 }
 
-/// What `poke ram.B.S` with a value asks for.
+/// What `poke ram.B.S` with a value asks for; none where one of them is no number, or out of its range.
 fn read_ram(b: &[u8], s: &[u8], value: &[u8]) -> Option<Request>
     ensures { or_bad_number result ≡ poke_ram b.now s.now value.now }
 {
     poke(Place::Ram(bank(b)?, byte(s)?, nibble(value)?))
 }
 
-/// What `poke st.B.H.K` with a value asks for.
+/// What `poke st.B.H.K` with a value asks for; none where one of them is no number, or out of its range.
 fn read_status(b: &[u8], h: &[u8], k: &[u8], value: &[u8]) -> Option<Request>
     ensures { or_bad_number result ≡ poke_status b.now h.now k.now value.now }
 {
@@ -54,7 +54,7 @@ fn read_numbered(name: &[u8], value: &[u8]) -> Request
     }
 }
 
-/// What `poke` with a place of one part asks for; none where the value is no number in range.
+/// What `poke` with a place of one part asks for; none where its value is no number, or out of its range.
 fn read_plain(name: &[u8], value: &[u8]) -> Option<Request>
     ensures { or_bad_number result ≡ poke_plain name.now value.now }
 {

@@ -101,7 +101,7 @@ pub(crate) fn in_range(request: Option<Request>) -> Request
     }
 }
 
-/// What a line of two words asks for; none where the second is no number in range.
+/// What a line of two words asks for; none where its number is none, or out of its range.
 fn read_with_one(word: &[u8], a: &[u8]) -> Option<Request>
     ensures { or_bad_number result ≡ request_with_one word.now a.now }
 {
@@ -121,7 +121,7 @@ fn read_with_one(word: &[u8], a: &[u8]) -> Option<Request>
     Some(request)
 }
 
-/// What `list` with an address and a number of lines asks for; none where they are no numbers in range.
+/// What `list` with an address and a number of lines asks for; none where one is no number, or out of its range.
 fn read_list(a: &[u8], n: &[u8]) -> Option<Request>
     ensures { or_bad_number result ≡ list_of a.now n.now }
 {
@@ -133,7 +133,7 @@ fn read_list(a: &[u8], n: &[u8]) -> Option<Request>
     Some(Request::Ask(Question::Listing(at, lines as u16)))
 }
 
-/// What a line of three words asks for, but for `poke`; none where the others are no numbers in range.
+/// What a line of three words asks for; none where a number is none, or out of its range.
 fn read_with_two(word: &[u8], a: &[u8], b: &[u8]) -> Option<Request>
     ensures { or_bad_number result ≡ request_with_two word.now a.now b.now }
 {

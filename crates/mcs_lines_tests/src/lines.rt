@@ -138,7 +138,13 @@ fn lines_with_bad_numbers(rt: HostRuntime) -> Result<(), Fail> {
 
 #[test]
 fn bytes_that_no_line_has(rt: HostRuntime) -> Result<(), Fail> {
-    let lines: [&[u8]; 5] = [b"step\x7f", b"foo\x1f", b"run x\0", b"poke acc\r 1", b"se\xffq"];
+    let lines: [&[u8]; 5] = [
+        b"step\x7f",
+        b"foo\x1f",
+        b"run x\0",
+        b"poke acc\r 1",
+        b"se\xffq",
+    ];
     for line in lines {
         assert_eq!(rt; refusal(line), 14);
     }
