@@ -62,7 +62,6 @@ impl Cpu {
     }
 
     /// The first cycle of the instruction at the counter, where none is owed.
-    #[inline(always)]
     #[tactic(auto, unfolding(mcs_model::specs::Effect::cycle_of))]
     fn begin<B: Bus>(&mut self, bus: &mut B) -> Cycle
         requires { self.old.owed ≢ 1 }
