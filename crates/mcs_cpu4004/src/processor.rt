@@ -12,6 +12,7 @@ use mcs_nibble::{Addr, Bit, Nibble, RegNo};
 use std::marker::Model;
 
 /// The first cycle of an instruction, which does all its work.
+#[inline(always)]
 fn perform<B: Bus>(regs: &mut Regs, bus: &mut B, op: Op)
     requires { regs.old.dcl < 8 }
     ensures effect { (regs.new, B.flat bus.new) ≡ effect op regs.old (B.flat bus.old) }
@@ -62,6 +63,7 @@ impl Cpu {
     }
 
     /// The first cycle of the instruction at the counter, where none is owed.
+    #[inline(always)]
     #[tactic(auto, unfolding(mcs_model::specs::Effect::cycle_of))]
     fn begin<B: Bus>(&mut self, bus: &mut B) -> Cycle
         requires { self.old.owed ≢ 1 }
