@@ -148,6 +148,7 @@ fn adjust(regs: &mut Regs)
 }
 
 /// Does an instruction, where the counter already stands behind its words.
+#[inline(always)]
 pub fn execute<B: Bus>(regs: &mut Regs, bus: &mut B, op: Op)
     requires { regs.old.dcl < 8 }
     ensures regs { regs.new ≡ registers_after op regs.old (B.flat bus.old) }

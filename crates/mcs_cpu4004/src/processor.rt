@@ -12,6 +12,7 @@ use mcs_nibble::{Addr, Bit, Nibble, RegNo};
 use std::marker::Model;
 
 /// The first cycle of an instruction, which does all its work.
+#[inline(always)]
 fn perform<B: Bus>(regs: &mut Regs, bus: &mut B, op: Op)
     requires { regs.old.dcl < 8 }
     ensures effect { (regs.new, B.flat bus.new) ≡ effect op regs.old (B.flat bus.old) }
