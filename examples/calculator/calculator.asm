@@ -42,10 +42,10 @@ start:  FIM P2, zeros   ; a RAM chip begins with anything: register 2 is made 0
 ; C: the number, its sign, operator, mode and overflow become 0.
 
 clear:  FIM P2, shown
-        JMS wipe
-        WR1
-        WR2
-        WR3
+        JMS wipe        ; it comes back with 0 in the accumulator
+        WR1             ; no operator waits
+        WR2             ; digits go on
+        WR3             ; no overflow
 
 ; Each key comes back to here: the display is written, then keys are awaited.
 
@@ -84,7 +84,7 @@ alike:  ISZ R9, await
 
         FIM P2, shown
         SRC P2
-        RD3
+        RD3             ; overflow
         JCN zero, act
         LDM 4           ; the number of C
         CLC
@@ -98,9 +98,8 @@ act:    FIM P0, keys
         XCH R1
         FIN P1
         LD R2
-        JCN nonzero, other
-        JUN digit
-other:  JIN P1
+        JCN zero, digit
+        JIN P1
 
 ; A digit. Behind an operator it begins a new number. All digits move one
 ; place up and it becomes the lowest, unless eight digits are there.
@@ -108,7 +107,7 @@ other:  JIN P1
 digit:  RD2             ; the mode
         JCN zero, more
         JMS wipe
-        WR2
+        WR2             ; mode 0
 more:   FIM P2, 0x07    ; the highest digit
         SRC P2
         RDM
@@ -131,15 +130,18 @@ sign:   RD0
         CMC
         TCC             ; and back, turned
         WR0
-        RD2
-        JCN zero, ready ; digits may go on
+        RD2             ; the mode
+        JCN zero, ready ; 0 stays: digits go on
         LDM 2
-        WR2
+        WR2             ; 1 becomes 2: the operator has its number
         JUN ready
 
-; Plus, minus, equals: the operator that waited is done, unless another one
-; was keyed just before; then this one waits for its number.
+; Equals, plus, minus: the operator that waited is done. Where it was keyed
+; just before, plus and minus only take its place.
 
+equals: LDM 0           ; no operator will wait
+        XCH R7
+        JUN work
 plus:   LDM 2
         JUN keyed
 minus:  LDM 1
@@ -147,9 +149,6 @@ keyed:  XCH R7
         RD2
         DAC
         JCN zero, wait  ; mode 1: only the operator changes
-        JUN work
-equals: LDM 0
-        XCH R7
 work:   JMS compute
 wait:   FIM P0, shown
         FIM P1, before
@@ -168,9 +167,9 @@ copy:   SRC P0          ; the number stays on the display
         WR0             ; its sign
         SRC P0
         LD R7
-        WR1
+        WR1             ; the operator waits
         LDM 1
-        WR2
+        WR2             ; and the next digit begins a new number
         JUN ready
 
         ORG 0x100

@@ -58,7 +58,7 @@ impl Talk {
     /// Wires the board, assembles the program, and waits until it awaits keys.
     fn new(alloc: Global) -> Result<Talk, Fail> {
         let (Some((script, _)), Some((answers, _))) = (
-            SUM.split_once("press"),
+            SUM.split_once("\npress "),
             SUM_ANSWERS.split_once("ok 4\n"),
         ) else {
             return Err("no head".into());
@@ -69,7 +69,7 @@ impl Talk {
             answers: Vec::new(alloc),
             accepted: 3,
         };
-        talk.script.extend_from_slice(script.as_bytes())?;
+        talk.line(script)?;
         talk.answers.extend_from_slice(answers.as_bytes())?;
         Ok(talk)
     }
