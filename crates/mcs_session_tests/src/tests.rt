@@ -110,30 +110,39 @@ fn a_log_of_many_cycles_gives_way_to_a_snapshot(rt: HostRuntime) {
     assert_eq!(rt; session.bench().regs().pc.get(), 0x901);
 }
 
+/// So many runs that count 100,000 cycles each in the log. They stop at the breakpoint 0, once round the addresses.
+fn run_round<D: Disk + Drop>(rt: &impl Abort, session: &mut Session<D>, runs: u32) {
+    let round = Reply::Ran {
+        cycles: 4_096,
+        stop: Stop::Breakpoint,
+    };
+    for _ in 0..runs {
+        expect_reply(rt, session, &Command::Run(100_000), round);
+    }
+}
+
 #[test]
 fn the_second_snapshot_goes_back_to_the_first_slot(rt: HostRuntime) {
     let alloc = rt.alloc();
     let mut session = new_session(alloc, &rt);
-    // the 41st run makes a snapshot of 40 commands, and the 81st one of 80
-    for _ in 0..40 {
-        run(&rt, &mut session, 100_000);
-    }
+    done(&rt, &mut session, &Command::Break(Addr::ZERO));
+    // the 41st run makes a snapshot of 41 commands, and the 81st one of 81
+    run_round(&rt, &mut session, 40);
     let mut disk = session.into_disk();
     expect_bytes(&rt, &mut disk, 8, &[0]);
     let mut session = opened(alloc, &rt, disk);
-    for _ in 0..40 {
-        run(&rt, &mut session, 100_000);
-    }
+    run_round(&rt, &mut session, 40);
     let mut disk = session.into_disk();
     expect_bytes(&rt, &mut disk, 8, &[1]);
-    expect_bytes(&rt, &mut disk, SECOND_SLOT, &[0, 0, 0x1A, 0xA6, 0, 0, 0, 40]);
+    // the breakpoint takes two bytes
+    expect_bytes(&rt, &mut disk, SECOND_SLOT, &[0, 0, 0x1A, 0xA8, 0, 0, 0, 41]);
     let mut session = opened(alloc, &rt, disk);
-    run(&rt, &mut session, 100_000);
+    run_round(&rt, &mut session, 1);
     let mut disk = session.into_disk();
     expect_bytes(&rt, &mut disk, 8, &[0]);
-    expect_bytes(&rt, &mut disk, 16, &[0, 0, 0x1A, 0xA6, 0, 0, 0, 80]);
+    expect_bytes(&rt, &mut disk, 16, &[0, 0, 0x1A, 0xA8, 0, 0, 0, 81]);
     expect_bytes(&rt, &mut disk, FIRST_LOG, &[1, 0, 5, 5, 0, 1, 0x86, 0xA0, 0]);
-    expect_seq(alloc, &rt, disk, 81);
+    expect_seq(alloc, &rt, disk, 82);
 }
 
 #[test]
