@@ -4,16 +4,22 @@ ghost use Rattle.std.specs.Prelude.{Some};
 use crate::{CutReader, new_session, run};
 use mcs_shell::ends::ShellEnd;
 use mcs_shell::shell::run_shell;
+use std::alloc::Global;
 use std::io::{self, Read};
 use std::process::Abort;
-use std::alloc::Global;
 use std::test::Fail;
 
 /// The board of most of these sessions: three ROMs, two RAM chips, a chain that drives a key matrix, three lamps.
 const WORKED_BOARD: &[u8] =
     b"wire\n[[rom]]\nchip = 0\nport = \"0000\"\n[[rom]]\nchip = 1\nport = \"iiii\"\n[[rom]]\nchip = 2\nport = \"iiii\"\n[[ram]]\nbank = 0\nchips = 1\n[[ram]]\nbank = 1\nchips = 1\n[[chain]]\nclock = \"rom0.0\"\ndata = \"rom0.1\"\nchips = 1\n[keys]\nchain = 0\nfirst = 0\nrows = 10\ncolumns = [\"rom1.0\", \"rom1.1\", \"rom1.2\", \"rom1.3\", \"rom2.0\", \"rom2.1\", \"rom2.2\", \"rom2.3\"]\n[[lamp]]\nline = \"chain0.0\"\n[[lamp]]\nline = \"chain0.1\"\n[[lamp]]\nline = \"ram0.0.3\"\n.\n";
+
 /// Runs each script in a session of its own, behind some lines and their answers.
-fn run_all(alloc: Global, rt: &impl Abort, before: (&[u8], &[u8]), rows: &[(&[u8], &[u8])]) -> Result<(), Fail> {
+fn run_all(
+    rt: &impl Abort,
+    alloc: Global,
+    before: (&[u8], &[u8]),
+    rows: &[(&[u8], &[u8])],
+) -> Result<(), Fail> {
     for (lines, answers) in rows {
         let mut script = Vec::new(alloc);
         script.extend_from_slice(before.0)?;
@@ -74,7 +80,7 @@ fn worked_instructions(rt: HostRuntime) -> Result<(), Fail> {
             b"ok 2 bytes 11\nok 3\nok 4\nok 5 ran 10 end\nlamps **.\nacc 6 cy 0 pc 00A owed 0 dcl 0 test 1 r 1000000000000000 ret 000 000 000\nok 6 ran 1 end\nacc F cy 0 pc 00B owed 0 dcl 0 test 1 r 1000000000000000 ret 000 000 000\n",
         ),
     ];
-    run_all(rt.alloc(), &rt, (WORKED_BOARD, b"session 0\nok 1\n"), &rows)
+    run_all(&rt, rt.alloc(), (WORKED_BOARD, b"session 0\nok 1\n"), &rows)
 }
 
 #[test]
@@ -106,7 +112,7 @@ fn worked_commands(rt: HostRuntime) -> Result<(), Fail> {
             b"board\n[[rom]]\nchip = 0\nport = \"0000\"\n[[rom]]\nchip = 1\nport = \"iiii\"\n[[rom]]\nchip = 2\nport = \"iiii\"\n[[ram]]\nbank = 0\nchips = 1\n[[ram]]\nbank = 1\nchips = 1\n[[chain]]\nclock = \"rom0.0\"\ndata = \"rom0.1\"\nchips = 1\n[keys]\nchain = 0\nfirst = 0\nrows = 10\ncolumns = [\"rom1.0\", \"rom1.1\", \"rom1.2\", \"rom1.3\", \"rom2.0\", \"rom2.1\", \"rom2.2\", \"rom2.3\"]\n[[lamp]]\nline = \"chain0.0\"\n[[lamp]]\nline = \"chain0.1\"\n[[lamp]]\nline = \"ram0.0.3\"\n",
         ),
     ];
-    run_all(rt.alloc(), &rt, (WORKED_BOARD, b"session 0\nok 1\n"), &rows)
+    run_all(&rt, rt.alloc(), (WORKED_BOARD, b"session 0\nok 1\n"), &rows)
 }
 
 #[test]
@@ -122,7 +128,7 @@ fn worked_lines(rt: HostRuntime) -> Result<(), Fail> {
             b"ok 1\nok 2 bytes 6\nok 3\nok 4\nok 5 ran 6 end\nacc D cy 0 pc 006 owed 0 dcl 0 test 1 r 1000000000000000 ret 000 000 000\n",
         ),
     ];
-    run_all(rt.alloc(), &rt, (b"", b"session 0\n"), &rows)
+    run_all(&rt, rt.alloc(), (b"", b"session 0\n"), &rows)
 }
 
 #[test]
@@ -153,7 +159,7 @@ fn worked_board_texts(rt: HostRuntime) -> Result<(), Fail> {
         ),
         (b"wire\n[[rom\n.\n", b"no 20\n"),
     ];
-    run_all(rt.alloc(), &rt, (b"", b"session 0\n"), &rows)
+    run_all(&rt, rt.alloc(), (b"", b"session 0\n"), &rows)
 }
 /// Gives one byte at each read.
 #[derive(Drop)]
