@@ -83,11 +83,7 @@ impl<D: Disk + Drop> CommandLog<D> {
     }
 
     /// Records a command that the bench accepts. It is on the disk once this answers Ok.
-    pub(crate) fn record(
-        &mut self,
-        bench: &Bench,
-        command: &Command,
-    ) -> Result<(), DiskFault>
+    pub(crate) fn record(&mut self, bench: &Bench, command: &Command) -> Result<(), DiskFault>
         requires live { IsTrue self.old.store.live }
         requires accepted { refusal bench.now command.now ≡ None }
         requires ready { IsReady self.old.cycles self.old.text.items self.old.snapshot.items }

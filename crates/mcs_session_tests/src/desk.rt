@@ -69,11 +69,7 @@ pub(crate) fn expect_reply<D: Disk + Drop>(
 }
 
 /// The command is acknowledged, and has nothing to tell.
-pub(crate) fn done<D: Disk + Drop>(
-    rt: &impl Abort,
-    session: &mut Session<D>,
-    command: &Command,
-) {
+pub(crate) fn done<D: Disk + Drop>(rt: &impl Abort, session: &mut Session<D>, command: &Command) {
     expect_reply(rt, session, command, Reply::Done);
 }
 

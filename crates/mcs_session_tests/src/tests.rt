@@ -61,7 +61,12 @@ fn a_full_log_gives_way_to_a_snapshot(rt: HostRuntime) {
     let mut disk = session.into_disk();
     expect_bytes(&rt, &mut disk, 8, &[1]);
     // 6,822 bytes of a state, whose count of commands comes first
-    expect_bytes(&rt, &mut disk, SECOND_SLOT, &[0, 0, 0x1A, 0xA6, 0, 0, 0x24, 0x92]);
+    expect_bytes(
+        &rt,
+        &mut disk,
+        SECOND_SLOT,
+        &[0, 0, 0x1A, 0xA6, 0, 0, 0x24, 0x92],
+    );
     expect_bytes(&rt, &mut disk, SECOND_LOG, &[1, 0, 4, 7, 3, 0, 2, 0]);
     // the last byte of the first log is a closed gate
     expect_bytes(&rt, &mut disk, 81_935, &[0]);
@@ -102,7 +107,12 @@ fn a_log_of_many_cycles_gives_way_to_a_snapshot(rt: HostRuntime) {
     expect_reply(&rt, &mut session, &Command::Step, stepped);
     let mut disk = session.into_disk();
     expect_bytes(&rt, &mut disk, 8, &[1]);
-    expect_bytes(&rt, &mut disk, SECOND_SLOT, &[0, 0, 0x1A, 0xA6, 0, 0, 0, 0x28]);
+    expect_bytes(
+        &rt,
+        &mut disk,
+        SECOND_SLOT,
+        &[0, 0, 0x1A, 0xA6, 0, 0, 0, 0x28],
+    );
     expect_bytes(&rt, &mut disk, SECOND_LOG, &[1, 0, 1, 6, 0]);
     let mut session = opened(alloc, &rt, disk);
     run(&rt, &mut session, 1);
@@ -135,13 +145,23 @@ fn the_second_snapshot_goes_back_to_the_first_slot(rt: HostRuntime) {
     let mut disk = session.into_disk();
     expect_bytes(&rt, &mut disk, 8, &[1]);
     // the breakpoint takes two bytes
-    expect_bytes(&rt, &mut disk, SECOND_SLOT, &[0, 0, 0x1A, 0xA8, 0, 0, 0, 41]);
+    expect_bytes(
+        &rt,
+        &mut disk,
+        SECOND_SLOT,
+        &[0, 0, 0x1A, 0xA8, 0, 0, 0, 41],
+    );
     let mut session = opened(alloc, &rt, disk);
     run_round(&rt, &mut session, 1);
     let mut disk = session.into_disk();
     expect_bytes(&rt, &mut disk, 8, &[0]);
     expect_bytes(&rt, &mut disk, 16, &[0, 0, 0x1A, 0xA8, 0, 0, 0, 81]);
-    expect_bytes(&rt, &mut disk, FIRST_LOG, &[1, 0, 5, 5, 0, 1, 0x86, 0xA0, 0]);
+    expect_bytes(
+        &rt,
+        &mut disk,
+        FIRST_LOG,
+        &[1, 0, 5, 5, 0, 1, 0x86, 0xA0, 0],
+    );
     expect_seq(alloc, &rt, disk, 82);
 }
 
@@ -150,13 +170,23 @@ fn a_log_of_too_many_cycles_stands_for_no_state(rt: HostRuntime) {
     let alloc = rt.alloc();
     let mut disk = new_session(alloc, &rt).into_disk();
     for record in 0..40 {
-        leave(&rt, &mut disk, FIRST_LOG + 8 * record, &[1, 0, 5, 5, 0, 1, 0x86, 0xA0, 0]);
+        leave(
+            &rt,
+            &mut disk,
+            FIRST_LOG + 8 * record,
+            &[1, 0, 5, 5, 0, 1, 0x86, 0xA0, 0],
+        );
     }
     let session = opened(alloc, &rt, disk);
     assert_eq!(rt; session.bench().seq(), 40);
     assert_eq!(rt; session.bench().regs().pc.get(), 0x900);
     let mut disk = session.into_disk();
-    leave(&rt, &mut disk, FIRST_LOG + 8 * 40, &[1, 0, 5, 5, 0, 1, 0x86, 0xA0, 0]);
+    leave(
+        &rt,
+        &mut disk,
+        FIRST_LOG + 8 * 40,
+        &[1, 0, 5, 5, 0, 1, 0x86, 0xA0, 0],
+    );
     expect_refusal(alloc, &rt, disk, OpenFault::Damaged);
 }
 
@@ -219,7 +249,12 @@ fn a_session_is_closed_after_a_fault(rt: HostRuntime) {
 fn halfway(alloc: Global, rt: &impl Abort) -> Session<FuseDisk> {
     let mut session = made(alloc, rt, fused(alloc, rt, usize::MAX));
     done(rt, &mut session, &wire(rt));
-    expect_reply(rt, &mut session, &load(alloc, rt, &[0x41, 0x23]), Reply::Loaded(2));
+    expect_reply(
+        rt,
+        &mut session,
+        &load(alloc, rt, &[0x41, 0x23]),
+        Reply::Loaded(2),
+    );
     done(rt, &mut session, &Command::Press(1, 1));
     done(rt, &mut session, &Command::Break(Addr::MAX));
     run(rt, &mut session, 1);

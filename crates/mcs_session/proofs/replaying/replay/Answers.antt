@@ -48,6 +48,19 @@ loop-at-preserved c =
           (replayed_more _ _ _ _ _ _ _ c.loop-at.invariant.so_far (rw c.in-Ok-Some-command_of.field-0-is at c.in-Ok-Some-command_of.ensures.some) accepted c.replay_cycles-more.ensures few);
     }
 
+pub loop-at-preserved-else-more-cycles : goal.loop-at-preserved-else-more-cycles
+loop-at-preserved-else-more-cycles c =
+    let bounded = c.loop-at.invariant.bounded in
+    let over = c.if-more-cycles.false in
+    let few : c.loop-at.cycles + c.replay_cycles-more.result ≤ REPLAY_CYCLES = omega (arith, bounded, over) in
+    let accepted : refusal c.loop-at.bench c.in-Ok-Some-command_of.command ≡ None = search rules in
+    record {
+      within = omega (arith, c.loop-at-test.true, c.len.ensures);
+      bounded = few;
+      so_far = rw (one_more _ _ c.loop-at.at c.get.ensures, c.apply-reply.ensures.state)
+          (replayed_more _ _ _ _ _ _ _ c.loop-at.invariant.so_far (rw c.in-Ok-Some-command_of.field-0-is at c.in-Ok-Some-command_of.ensures.some) accepted c.replay_cycles-more.ensures few);
+    }
+
 pub returns-clause-some : goal.returns-clause-some
 returns-clause-some c =
     let whole : length c.args.records.now ≤ c.loop-at.at = omega (arith, c.loop-at-test.false, c.len.ensures) in
