@@ -13,7 +13,7 @@ fn texts_are_judged(rt: HostRuntime) -> Result<(), Fail> {
     let rows: [(&[u8], &[u8], &[u8], &[u8]); 15] = [
         (b"wire\n# a\r\n\n.\r\nboard\n", b"", b"", b"ok 1\nboard\n"),
         (b" wire\t\n.\nseq\n", b"", b"", b"ok 1\nseq 1\n"),
-        (b"asm\r\nNOP\r\n.\r\n", b"", b"", b"ok 1 bytes 1\n"),
+        (b"asm\r\nNOP\r\n.\r\n", b"", b"", b"no 42\n"),
         (b"asm\n..\n.\nseq\n", b"", b"", b"no 30 line 1\nseq 0\n"),
         (b"asm\nNOP\n .\n.\n", b"", b"", b"no 30 line 2\n"),
         (b"asm\nNOP\n. \n.\n", b"", b"", b"no 30 line 2\n"),
@@ -94,8 +94,8 @@ fn a_line_longer_than_all_that_is_kept(rt: HostRuntime) -> Result<(), Fail> {
 #[test]
 fn a_text_is_cut_at_each_byte(rt: HostRuntime) -> Result<(), Fail> {
     let alloc = rt.alloc();
-    let script = b"seq\nasm\nNOP\n.\nseq\n".as_slice();
-    let answers = b"session 0\nseq 0\nok 1 bytes 1\nseq 1\n".as_slice();
+    let script = b"seq\nasm\n;ab\n.\nseq\n".as_slice();
+    let answers = b"session 0\nseq 0\nok 1 bytes 0\nseq 1\n".as_slice();
     for left in 0..script.len() + 1 {
         // the text is open from the 8th byte on, and ends with the 14th
         let told = match left {
