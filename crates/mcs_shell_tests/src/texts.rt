@@ -94,7 +94,7 @@ fn a_line_longer_than_all_that_is_kept(rt: HostRuntime) -> Result<(), Fail> {
 #[test]
 fn a_text_is_cut_at_each_byte(rt: HostRuntime) -> Result<(), Fail> {
     let alloc = rt.alloc();
-    let script = b"seq\nasm\n;no\n.\nseq\n".as_slice();
+    let script = b"seq\nasm\n;ab\n.\nseq\n".as_slice();
     let answers = b"session 0\nseq 0\nok 1 bytes 0\nseq 1\n".as_slice();
     for left in 0..script.len() + 1 {
         // the text is open from the 8th byte on, and ends with the 14th
