@@ -1,0 +1,15 @@
+//! Hostile use: disks that stop and tear, readers and writers that fail, files that others wrote, texts of broken pieces.
+#![tactic(auto)]
+
+#[cfg(test)]
+mod disks;
+#[cfg(test)]
+mod generator;
+#[cfg(test)]
+mod scripts;
+#[cfg(test)]
+mod sessions;
+#[cfg(test)]
+mod stops;
+#[cfg(test)]
+mod torn;

@@ -1,0 +1,131 @@
+//! A stop at each call of a disk, and after each byte that is read or written.
+use crate::scripts::{ANSWERS, INPUTS};
+use crate::sessions::{blank, bytes_of, disk_of, found, joined, new_session, states_behind, told};
+use mcs_disk::FuseDisk;
+use mcs_journal::{CreateFault, OpenFault};
+use mcs_model::command::{Command, Place};
+use mcs_nibble::{Nibble, RegNo};
+use mcs_session::fault::SessionFault;
+use mcs_session::session::Session;
+use mcs_shell::ends::{ShellEnd, status};
+use mcs_shell::shell::run_shell;
+use std::alloc::Global;
+use std::io::{self, Read, Write};
+use std::process::Abort;
+
+/// Gives these bytes; each read behind the first `left` of them fails.
+#[derive(Drop)]
+struct CutReader<'a> {
+    bytes: &'a [u8],
+    left: usize,
+}
+
+impl Read for CutReader<'_> {
+    fn read(&mut self, buf: &mut [u8]) -> io::Result<usize> {
+        if self.left == 0 {
+            return Err(io::ErrorKind::Other.into());
+        }
+        let most = self.left.min(buf.len());
+        let count = self.bytes.read(&mut buf[..most])?;
+        self.left = self.left.saturating_sub(count);
+        Ok(count)
+    }
+}
+
+/// Takes bytes; each write behind the first `left` of them fails.
+#[derive(Drop)]
+struct CutWriter {
+    held: Vec<u8>,
+    left: usize,
+}
+
+impl Write for CutWriter {
+    fn write(&mut self, buf: &[u8]) -> io::Result<usize> {
+        if self.left == 0 {
+            return Err(io::ErrorKind::Other.into());
+        }
+        let count = self.left.min(buf.len());
+        self.held.extend_from_slice(&buf[..count])?;
+        self.left = self.left.saturating_sub(count);
+        Ok(count)
+    }
+
+    fn flush(&mut self) -> io::Result<()> {
+        Ok(())
+    }
+}
+
+/// The first line of the answers of a new session.
+const FIRST: &[u8] = b"session 0\n";
+
+/// What a new session answers where the device refuses the command behind these.
+fn answers_before_a_fault(alloc: Global, rt: &impl Abort, done: usize) -> Vec<u8> {
+    let mut answers = joined(alloc, rt, &[FIRST]);
+    for answer in ANSWERS.iter().take(done) {
+        answers.extend_from_slice(answer).expect(rt, "memory");
+    }
+    if done < ANSWERS.len() {
+        answers.extend_from_slice(b"no 53\n").expect(rt, "memory");
+    }
+    answers
+}
+
+/// A disk that fails each call behind so many, or that one alone.
+fn failing(alloc: Global, rt: &impl Abort, calls: usize, is_once: bool) -> FuseDisk {
+    let disk = blank(alloc, rt);
+    if is_once {
+        FuseDisk::once(disk, calls)
+    } else {
+        FuseDisk::after(disk, calls)
+    }
+}
+
+/// The commands on a session that took five calls to make, each of them four, of which the last acknowledges it.
+fn stop_in_commands(
+    alloc: Global,
+    rt: &impl Abort,
+    mut session: Session<FuseDisk>,
+    calls: usize,
+    states: &[Vec<u8>],
+) {
+    assert!(rt; 5 <= calls, "the call {calls} did not fail");
+    let done = (calls - 5) / 4;
+    let script = joined(alloc, rt, &INPUTS);
+    let mut reader = script.as_slice();
+    let mut writer = Vec::new(alloc);
+    let end = run_shell(alloc, &mut reader, &mut writer, &mut session);
+    let is_stopped = done < INPUTS.len();
+    assert_eq!(rt; end == ShellEnd::DeviceFault, is_stopped, "at {calls}");
+    assert_eq!(rt; end == ShellEnd::End, !is_stopped, "at {calls}");
+    assert_eq!(rt; status(end) == 1, is_stopped, "at {calls}");
+    let wanted = answers_before_a_fault(alloc, rt, done);
+    assert!(rt; writer.as_slice() == wanted.as_slice(), "at {calls}");
+    let poke = Command::Poke(Place::Register(RegNo::ZERO, Nibble::ONE));
+    if is_stopped {
+        assert!(rt; session.apply(&poke) == Err(SessionFault::Closed), "at {calls}");
+    }
+    let mut disk = session.into_disk();
+    disk.mend();
+    let file = bytes_of(alloc, rt, &mut disk);
+    let again = found(alloc, rt, file.as_slice());
+    let state = states.get((calls - 4) / 4);
+    assert!(rt; again.ok().as_deref() == state.map(|told| told.as_slice()), "at {calls}");
+}
+
+#[test]
+fn at_each_call_of_the_disk(rt: HostRuntime) {
+    let alloc = rt.alloc();
+    let mut session = new_session(alloc, &rt, blank(alloc, &rt));
+    let states = states_behind(alloc, &rt, &mut session, &INPUTS);
+    for is_once in [false, true] {
+        for calls in 0..26usize {
+            match Session::create(alloc, failing(alloc, &rt, calls, is_once)) {
+                Ok(session) => stop_in_commands(alloc, &rt, session, calls, states.as_slice()),
+                Err((fault, _disk)) => {
+                    assert_eq!(rt; fault, CreateFault::Device, "at {calls}");
+                    assert!(rt; calls < 5, "at {calls}");
+                }
+            }
+        }
+    }
+}
