@@ -38,13 +38,13 @@ impl NotingDisk {
 impl Disk for NotingDisk {
     // Contracts see its size and its faults alone.
     ghost state = { λ d. record {
-        size = (⟦<MemDisk as Disk>⟧.state d.disk).size;
-        faults = (⟦<MemDisk as Disk>⟧.state d.disk).faults;
-        honest = ⊥;
-        bytes = [];
-        clock = 0;
-        images = λ _. ⊥;
-        since = λ _ _. ⊥;
+      size = (⟦<MemDisk as Disk>⟧.state d.disk).size;
+      faults = (⟦<MemDisk as Disk>⟧.state d.disk).faults;
+      honest = ⊥;
+      bytes = [];
+      clock = 0;
+      images = λ _. ⊥;
+      since = λ _ _. ⊥;
     } };
 
     ghost lawful = { λ _ honest. absurd honest };

@@ -4,6 +4,8 @@
 #[cfg(test)]
 mod disks;
 #[cfg(test)]
+mod files;
+#[cfg(test)]
 mod generator;
 #[cfg(test)]
 mod scripts;
@@ -11,5 +13,7 @@ mod scripts;
 mod sessions;
 #[cfg(test)]
 mod stops;
+#[cfg(test)]
+mod texts;
 #[cfg(test)]
 mod torn;

@@ -4,6 +4,8 @@ ghost use Rattle.std.specs.Prelude.{◌≡◌, ◌≤◌, ◌+◌, length};
 use crate::scripts::QUESTIONS;
 use mcs_disk::{Disk, MemDisk};
 use mcs_journal::{FILE_SIZE, OpenFault};
+use mcs_model::command::{Command, Place};
+use mcs_nibble::{Nibble, RegNo};
 use mcs_session::session::Session;
 use mcs_shell::ends::ShellEnd;
 use mcs_shell::shell::run_shell;
@@ -31,7 +33,10 @@ pub(crate) fn bytes_of<D: Disk>(alloc: Global, rt: &impl Abort, disk: &mut D) ->
 
 /// Puts bytes over those of a file from `at` on.
 pub(crate) fn put(rt: &impl Abort, file: &mut [u8], at: usize, bytes: &[u8]) {
-    assert!(rt; at <= file.len() && bytes.len() <= file.len() - at, "at {at}");
+    assert!(rt;
+        at <= file.len() && bytes.len() <= file.len() - at,
+        "at {at}"
+    );
     file[at..at + bytes.len()].copy_from_slice(bytes);
 }
 
@@ -92,4 +97,38 @@ pub(crate) fn states_behind<D: Disk + Drop>(
             .expect(rt, "memory");
     }
     states
+}
+
+/// Puts the first register to 1, so many times.
+fn poke<D: Disk + Drop>(rt: &impl Abort, session: &mut Session<D>, times: usize) {
+    let command = Command::Poke(Place::Register(RegNo::ZERO, Nibble::ONE));
+    for i in 0..times {
+        assert!(rt; session.apply(&command).is_ok(), "at {i}");
+    }
+}
+
+/// The file of a session after these commands, so many pokes, and a last command.
+pub(crate) fn file_of(
+    alloc: Global,
+    rt: &impl Abort,
+    commands: &[&[u8]],
+    pokes: usize,
+    last: &[u8],
+) -> Vec<u8> {
+    let mut session = new_session(alloc, rt, blank(alloc, rt));
+    for command in commands {
+        let _answers = told(alloc, rt, &mut session, command);
+    }
+    poke(rt, &mut session, pokes);
+    let _answers = told(alloc, rt, &mut session, last);
+    let mut disk = session.into_disk();
+    bytes_of(alloc, rt, &mut disk)
+}
+
+/// The session of a file.
+pub(crate) fn opened<D: Disk + Drop>(alloc: Global, rt: &impl Abort, disk: D) -> Session<D> {
+    match Session::open(alloc, disk) {
+        Ok(session) => session,
+        Err(_) => panic!(rt; "the session was not opened"),
+    }
 }

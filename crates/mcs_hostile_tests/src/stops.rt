@@ -1,6 +1,8 @@
 //! A stop at each call of a disk, and after each byte that is read or written.
-use crate::scripts::{ANSWERS, INPUTS};
-use crate::sessions::{blank, bytes_of, disk_of, found, joined, new_session, states_behind, told};
+use crate::scripts::{ANSWERS, INPUTS, POKE, POKES};
+use crate::sessions::{
+    blank, bytes_of, disk_of, file_of, found, joined, new_session, opened, states_behind,
+};
 use mcs_disk::FuseDisk;
 use mcs_journal::{CreateFault, OpenFault};
 use mcs_model::command::{Command, Place};
@@ -102,14 +104,20 @@ fn stop_in_commands(
     assert!(rt; writer.as_slice() == wanted.as_slice(), "at {calls}");
     let poke = Command::Poke(Place::Register(RegNo::ZERO, Nibble::ONE));
     if is_stopped {
-        assert!(rt; session.apply(&poke) == Err(SessionFault::Closed), "at {calls}");
+        assert!(rt;
+            session.apply(&poke) == Err(SessionFault::Closed),
+            "at {calls}"
+        );
     }
     let mut disk = session.into_disk();
     disk.mend();
     let file = bytes_of(alloc, rt, &mut disk);
     let again = found(alloc, rt, file.as_slice());
     let state = states.get((calls - 4) / 4);
-    assert!(rt; again.ok().as_deref() == state.map(|told| told.as_slice()), "at {calls}");
+    assert!(rt;
+        again.ok().as_deref() == state.map(|told| told.as_slice()),
+        "at {calls}"
+    );
 }
 
 #[test]
@@ -127,5 +135,123 @@ fn at_each_call_of_the_disk(rt: HostRuntime) {
                 }
             }
         }
+    }
+}
+
+/// How many calls of the disk it takes to open a file. Stopped at each of them it hands the disk back, with the same bytes.
+fn calls_of_open(alloc: Global, rt: &impl Abort, file: &[u8]) -> usize {
+    for calls in 0..64 {
+        match Session::open(alloc, FuseDisk::after(disk_of(alloc, rt, file), calls)) {
+            Ok(_) => return calls,
+            Err((fault, mut disk)) => {
+                assert!(rt; fault == OpenFault::Device, "at {calls}");
+                disk.mend();
+                let bytes = bytes_of(alloc, rt, &mut disk);
+                assert!(rt; bytes.as_slice() == file, "at {calls}");
+            }
+        }
+    }
+    panic!(rt; "it does not open")
+}
+
+#[test]
+fn at_each_call_of_a_checkpoint(rt: HostRuntime) {
+    let alloc = rt.alloc();
+    let full = file_of(alloc, &rt, &INPUTS, POKES, b"");
+    let file = full.as_slice();
+    let mut session = opened(alloc, &rt, disk_of(alloc, &rt, file));
+    let states = states_behind(alloc, &rt, &mut session, &[POKE]);
+    let opening = calls_of_open(alloc, &rt, file);
+    for calls in 0..9usize {
+        let disk = FuseDisk::after(disk_of(alloc, &rt, file), opening.saturating_add(calls));
+        let mut session = opened(alloc, &rt, disk);
+        let mut writer = Vec::new(alloc);
+        let mut reader = POKE;
+        let end = run_shell(alloc, &mut reader, &mut writer, &mut session);
+        assert_eq!(rt; end == ShellEnd::DeviceFault, calls < 8, "at {calls}");
+        assert_eq!(rt;
+            writer.as_slice().ends_with(b"\nno 53\n"),
+            calls < 8,
+            "at {calls}"
+        );
+        assert_eq!(rt;
+            writer.as_slice().ends_with(b"\nok 9270\n"),
+            calls == 8,
+            "at {calls}"
+        );
+        let mut disk = session.into_disk();
+        disk.mend();
+        let left = bytes_of(alloc, &rt, &mut disk);
+        let again = found(alloc, &rt, left.as_slice());
+        let state = states.get(if calls < 7 { 0 } else { 1 });
+        assert!(rt;
+            again.ok().as_deref() == state.map(|told| told.as_slice()),
+            "at {calls}"
+        );
+    }
+}
+
+#[test]
+fn at_each_byte_that_is_read(rt: HostRuntime) {
+    let alloc = rt.alloc();
+    let script = joined(alloc, &rt, &INPUTS);
+    for left in 0..=script.len() {
+        let mut session = new_session(alloc, &rt, blank(alloc, &rt));
+        let mut reader = CutReader {
+            bytes: script.as_slice(),
+            left,
+        };
+        let mut writer = Vec::new(alloc);
+        let end = run_shell(alloc, &mut reader, &mut writer, &mut session);
+        assert_eq!(rt; end, ShellEnd::ReadFault, "at {left}");
+        assert_eq!(rt; status(end), 1);
+        // the inputs that were read whole are answered
+        let mut wanted = joined(alloc, &rt, &[FIRST]);
+        let mut place = 0usize;
+        for (input, answer) in INPUTS.iter().zip(ANSWERS.iter()) {
+            place = place.saturating_add(input.len());
+            if place <= left {
+                wanted.extend_from_slice(answer).expect(&rt, "memory");
+            }
+        }
+        assert!(rt; writer.as_slice() == wanted.as_slice(), "at {left}");
+    }
+}
+
+#[test]
+fn at_each_byte_that_is_written(rt: HostRuntime) {
+    let alloc = rt.alloc();
+    let script = joined(alloc, &rt, &INPUTS);
+    let mut answers = joined(alloc, &rt, &[FIRST]);
+    for answer in ANSWERS {
+        answers.extend_from_slice(answer).expect(&rt, "memory");
+    }
+    for left in 0..=answers.len() {
+        let mut session = new_session(alloc, &rt, blank(alloc, &rt));
+        let mut writer = CutWriter {
+            held: Vec::new(alloc),
+            left,
+        };
+        let mut reader = script.as_slice();
+        let end = run_shell(alloc, &mut reader, &mut writer, &mut session);
+        let is_whole = left == answers.len();
+        assert_eq!(rt; end == ShellEnd::WriteFault, !is_whole, "at {left}");
+        assert_eq!(rt; end == ShellEnd::End, is_whole, "at {left}");
+        assert!(rt;
+            answers.as_slice().starts_with(writer.held.as_slice()),
+            "at {left}"
+        );
+        assert_eq!(rt; writer.held.len(), left);
+        // a command is recorded once all answers before its own are out
+        let mut kept = 0u32;
+        let mut place = FIRST.len();
+        for answer in ANSWERS {
+            if place <= left {
+                kept = kept.saturating_add(1);
+            }
+            place = place.saturating_add(answer.len());
+        }
+        let again = opened(alloc, &rt, session.into_disk());
+        assert_eq!(rt; again.bench().seq(), kept, "at {left}");
     }
 }

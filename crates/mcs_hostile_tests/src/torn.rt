@@ -1,12 +1,9 @@
 //! Writes that a power cut tore: whatever it left opens to a state that the acknowledged commands allow.
 use crate::disks::{Note, NotingDisk};
 use crate::generator::Numbers;
-use crate::scripts::INPUTS;
-use crate::sessions::{blank, bytes_of, disk_of, found, new_session, put, states_behind};
+use crate::scripts::{INPUTS, LAST, POKE, POKES};
+use crate::sessions::{blank, disk_of, file_of, found, new_session, opened, put, states_behind};
 use mcs_journal::{FILE_SIZE, OpenFault};
-use mcs_model::command::{Command, Place};
-use mcs_nibble::{Nibble, RegNo};
-use mcs_session::session::Session;
 use std::alloc::Global;
 use std::process::Abort;
 
@@ -42,7 +39,10 @@ fn torn(
     numbers: &mut Numbers,
 ) -> Vec<u8> {
     let mut image = file.to_vec(alloc).expect(rt, "memory");
-    assert!(rt; at <= image.len() && bytes.len() <= image.len() - at, "at {at}");
+    assert!(rt;
+        at <= image.len() && bytes.len() <= image.len() - at,
+        "at {at}"
+    );
     let range = &mut image[at..at + bytes.len()];
     for ((i, place), new) in range.iter_mut().enumerate().zip(bytes.iter()) {
         match if i < cut { left.0 } else { left.1 } {
@@ -168,7 +168,15 @@ fn tear_all(
                         new.as_slice()
                     },
                 };
-                let made = tear(alloc, rt, file, *at, bytes.as_slice(), &allowed, &mut numbers);
+                let made = tear(
+                    alloc,
+                    rt,
+                    file,
+                    *at,
+                    bytes.as_slice(),
+                    &allowed,
+                    &mut numbers,
+                );
                 images = images.saturating_add(made);
                 put(rt, file, *at, bytes.as_slice());
             }
@@ -183,6 +191,11 @@ fn writes_of_a_new_session_and_its_commands(rt: HostRuntime) {
     let disk = NotingDisk::new(alloc, blank(alloc, &rt));
     let mut session = new_session(alloc, &rt, disk);
     let states = states_behind(alloc, &rt, &mut session, &INPUTS);
+    assert!(rt;
+        states
+            .last()
+            .is_some_and(|state| state.as_slice().ends_with(LAST))
+    );
     let notes = session.into_disk().into_notes();
     let mut file = vec![in alloc; 0u8; FILE_SIZE].expect(&rt, "memory");
     let pace = Pace { first: 2, each: 2 };
@@ -194,5 +207,28 @@ fn writes_of_a_new_session_and_its_commands(rt: HostRuntime) {
         states.as_slice(),
         pace,
     );
-    assert_eq!(rt; images, 1_000);
+    // Making the session: 20 places of the snapshot and 17 of the name. The records: 137, 528, 7, 9 and 8 places. Each in 5 ways; and
+    // each of the five gates has 256 values.
+    assert_eq!(rt; images, 5 * (20 + 17 + 137 + 528 + 7 + 9 + 8) + 5 * 256);
+}
+
+#[test]
+fn writes_of_a_checkpoint(rt: HostRuntime) {
+    let alloc = rt.alloc();
+    let mut file = file_of(alloc, &rt, &INPUTS, POKES, b"");
+    let disk = NotingDisk::new(alloc, disk_of(alloc, &rt, file.as_slice()));
+    let mut session = opened(alloc, &rt, disk);
+    let states = states_behind(alloc, &rt, &mut session, &[POKE]);
+    let notes = session.into_disk().into_notes();
+    let pace = Pace { first: 1, each: 4 };
+    let images = tear_all(
+        alloc,
+        &rt,
+        file.as_mut_slice(),
+        notes.as_slice(),
+        states.as_slice(),
+        pace,
+    );
+    // 20 places of the snapshot, in 5 ways; the turn has 256 values; 8 places of the record; the gate.
+    assert_eq!(rt; images, 5 * 20 + 256 + 5 * 8 + 256);
 }
