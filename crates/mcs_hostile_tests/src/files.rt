@@ -2,7 +2,7 @@
 use crate::generator::Numbers;
 use crate::scripts::{INPUTS, POKE, POKES};
 use crate::sessions::{disk_of, file_of, found, opened, put, told};
-use mcs_journal::OpenFault;
+use mcs_journal::{FILE_SIZE, OpenFault};
 use mcs_session::session::Session;
 use std::alloc::Global;
 use std::process::Abort;
@@ -169,65 +169,58 @@ fn gate(file: &[u8], log: usize, number: usize) -> usize {
     at
 }
 
-/// A file of a right one, changed as the generator has it.
-fn spoiled(alloc: Global, rt: &impl Abort, right: &[u8], numbers: &mut Numbers) -> Vec<u8> {
-    let mut file = right.to_vec(alloc).expect(rt, "memory");
+/// A range of a file that the generator is to change: a place, and how many bytes.
+fn range_of(right: &[u8], numbers: &mut Numbers) -> (usize, usize) {
     // the slot that counts, or the other one
     let is_second = right.get(8) == Some(&1);
-    let slot = if is_second == (numbers.below(4) != 0) {
+    let snapshot: usize = if is_second == (numbers.below(4) != 0) {
         81_936
     } else {
         16
     };
+    let log = snapshot.saturating_add(16_384);
     let number = numbers.below(8);
-    let gate = gate(right, slot + 16_384, number);
-    let bytes = file.as_mut_slice();
+    let gate = gate(right, log, number);
     match numbers.below(8) {
         // a byte of the snapshot, of the log, or any
-        0 => {
-            let at = slot + numbers.below(7_000);
-            numbers.fill(bytes, at, 1);
-        }
-        1 => {
-            let at = slot + 16_384 + numbers.below(800);
-            numbers.fill(bytes, at, 1);
-        }
-        2 => {
-            let at = numbers.below(163_856);
-            numbers.fill(bytes, at, 1);
-        }
+        0 => (snapshot.saturating_add(numbers.below(7_000)), 1),
+        1 => (log.saturating_add(numbers.below(800)), 1),
+        2 => (numbers.below(FILE_SIZE), 1),
         // a range
-        3 => {
-            let at = slot + numbers.below(17_000);
-            let count = numbers.below(64);
-            numbers.fill(bytes, at, count);
-        }
-        // a length
-        4 => {
-            let (at, count) = if numbers.below(4) == 0 {
-                (slot + 2, 2)
-            } else {
-                (gate.saturating_add(1), 2)
-            };
-            numbers.fill(bytes, at, count);
-        }
+        3 => (
+            snapshot.saturating_add(numbers.below(17_000)),
+            numbers.below(64),
+        ),
+        // the length of the snapshot, or of a record
+        4 => (snapshot.saturating_add(2), 2),
+        5 => (gate.saturating_add(1), 2),
         // a gate
-        5 => {
-            let count = if numbers.below(2) == 0 { 1 } else { 12 };
-            numbers.fill(bytes, gate, count);
-            if let Some(byte) = bytes.get_mut(gate) {
-                *byte = if count == 12 { 1 } else { *byte };
-            }
-        }
-        // another size
-        6 => file.truncate(numbers.below(163_856)),
-        // a right name before anything
-        _ => {
-            let at = 8 + numbers.below(13);
-            numbers.fill(bytes, at, 163_856);
-        }
+        6 => (gate, 1),
+        // all behind the name, or behind some of the snapshot
+        _ => (8usize.saturating_add(numbers.below(20)), FILE_SIZE),
+    }
+}
+
+/// A file of a right one, changed as the generator has it: one in eight is cut, the others have other bytes in a range.
+fn spoiled(alloc: Global, rt: &impl Abort, right: &[u8], numbers: &mut Numbers) -> Vec<u8> {
+    let mut file = right.to_vec(alloc).expect(rt, "memory");
+    if numbers.below(8) == 0 {
+        file.truncate(numbers.below(FILE_SIZE));
+    } else {
+        let (at, count) = range_of(right, numbers);
+        numbers.fill(file.as_mut_slice(), at, count);
     }
     file
+}
+
+/// Some answer is a refusal.
+fn has_refusal(answers: &[u8]) -> bool {
+    for part in answers.windows(4) {
+        if part == b"\nno ".as_slice() {
+            return true;
+        }
+    }
+    false
 }
 
 #[test]
@@ -248,11 +241,7 @@ fn of_a_generator(rt: HostRuntime) {
                 // each question has its answer
                 Ok(answers) => {
                     taken = taken.saturating_add(1);
-                    let is_refused = answers
-                        .as_slice()
-                        .windows(4)
-                        .any(|part| part == b"\nno ".as_slice());
-                    assert!(rt; !is_refused, "at {i}");
+                    assert!(rt; !has_refusal(answers.as_slice()), "at {i}");
                 }
                 Err(fault) => {
                     assert!(rt;

@@ -8,6 +8,8 @@ mod files;
 #[cfg(test)]
 mod generator;
 #[cfg(test)]
+mod refused;
+#[cfg(test)]
 mod scripts;
 #[cfg(test)]
 mod sessions;

@@ -79,6 +79,22 @@ pub(crate) fn found(alloc: Global, rt: &impl Abort, file: &[u8]) -> Result<Vec<u
     }
 }
 
+/// The session of a file tells this state.
+pub(crate) fn expect_state(
+    alloc: Global,
+    rt: &impl Abort,
+    file: &[u8],
+    state: Option<&Vec<u8>>,
+    at: usize,
+) {
+    match (found(alloc, rt, file), state) {
+        (Ok(told), Some(state)) => {
+            assert!(rt; told.as_slice() == state.as_slice(), "at {at}");
+        }
+        _ => panic!(rt; "no state, at {at}"),
+    }
+}
+
 /// What a new session tells of its state, and then behind each of these commands.
 pub(crate) fn states_behind<D: Disk + Drop>(
     alloc: Global,

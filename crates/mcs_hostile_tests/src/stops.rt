@@ -1,7 +1,7 @@
 //! A stop at each call of a disk, and after each byte that is read or written.
 use crate::scripts::{ANSWERS, INPUTS, POKE, POKES};
 use crate::sessions::{
-    blank, bytes_of, disk_of, file_of, found, joined, new_session, opened, states_behind,
+    blank, bytes_of, disk_of, expect_state, file_of, joined, new_session, opened, states_behind,
 };
 use mcs_disk::FuseDisk;
 use mcs_journal::{CreateFault, OpenFault};
@@ -112,11 +112,12 @@ fn stop_in_commands(
     let mut disk = session.into_disk();
     disk.mend();
     let file = bytes_of(alloc, rt, &mut disk);
-    let again = found(alloc, rt, file.as_slice());
-    let state = states.get((calls - 4) / 4);
-    assert!(rt;
-        again.ok().as_deref() == state.map(|told| told.as_slice()),
-        "at {calls}"
+    expect_state(
+        alloc,
+        rt,
+        file.as_slice(),
+        states.get((calls - 4) / 4),
+        calls,
     );
 }
 
@@ -182,12 +183,8 @@ fn at_each_call_of_a_checkpoint(rt: HostRuntime) {
         let mut disk = session.into_disk();
         disk.mend();
         let left = bytes_of(alloc, &rt, &mut disk);
-        let again = found(alloc, &rt, left.as_slice());
         let state = states.get(if calls < 7 { 0 } else { 1 });
-        assert!(rt;
-            again.ok().as_deref() == state.map(|told| told.as_slice()),
-            "at {calls}"
-        );
+        expect_state(alloc, &rt, left.as_slice(), state, calls);
     }
 }
 

@@ -191,12 +191,13 @@ fn expect_answer(
     let after = session.bench().seq();
     let first = format!(in alloc; "session {before}\n").expect(rt, "memory");
     let last = format!(in alloc; "\nseq {after}\n").expect(rt, "memory");
-    let lines = answers.iter().filter(|byte| **byte == b'\n').count();
-    assert_eq!(rt; lines, 3);
-    assert!(rt; answers.as_slice().ends_with(last.as_str().as_bytes()));
-    let Some(answer) = answers.as_slice().strip_prefix(first.as_str().as_bytes()) else {
+    let Some(behind) = answers.as_slice().strip_prefix(first.as_str().as_bytes()) else {
         panic!(rt; "no first line")
     };
+    let Some(answer) = behind.strip_suffix(last.as_str().as_bytes()) else {
+        panic!(rt; "no last line")
+    };
+    assert!(rt; !answer.contains(&b'\n'));
     if after == before {
         let [one, other] = refusals;
         assert!(rt; answer.starts_with(one) || answer.starts_with(other));
@@ -233,7 +234,7 @@ fn of_a_generator(rt: HostRuntime) {
             &mut session,
             b"asm\n",
             text.as_slice(),
-            [b"no 3", b"no 42\n"],
+            [b"no 3", b"no 42"],
         ) {
             programs = programs.saturating_add(1);
         }

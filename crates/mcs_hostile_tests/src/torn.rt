@@ -191,11 +191,10 @@ fn writes_of_a_new_session_and_its_commands(rt: HostRuntime) {
     let disk = NotingDisk::new(alloc, blank(alloc, &rt));
     let mut session = new_session(alloc, &rt, disk);
     let states = states_behind(alloc, &rt, &mut session, &INPUTS);
-    assert!(rt;
-        states
-            .last()
-            .is_some_and(|state| state.as_slice().ends_with(LAST))
-    );
+    let Some(last) = states.last() else {
+        panic!(rt; "no states")
+    };
+    assert!(rt; last.as_slice().ends_with(LAST));
     let notes = session.into_disk().into_notes();
     let mut file = vec![in alloc; 0u8; FILE_SIZE].expect(&rt, "memory");
     let pace = Pace { first: 2, each: 2 };
