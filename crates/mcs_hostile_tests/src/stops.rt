@@ -155,37 +155,41 @@ fn calls_of_open(alloc: Global, rt: &impl Abort, file: &[u8]) -> usize {
     panic!(rt; "it does not open")
 }
 
-#[test]
-fn at_each_call_of_a_checkpoint(rt: HostRuntime) {
-    let alloc = rt.alloc();
-    let full = file_of(alloc, &rt, &INPUTS, POKES, b"");
-    let file = full.as_slice();
-    let mut session = opened(alloc, &rt, disk_of(alloc, &rt, file));
-    let states = states_behind(alloc, &rt, &mut session, &[POKE]);
-    let opening = calls_of_open(alloc, &rt, file);
+/// A poke for which the log of a file has no room, stopped at each of its eight calls. `accepted` ends the answers of a whole one.
+fn stop_in_a_checkpoint(alloc: Global, rt: &impl Abort, file: &[u8], accepted: &[u8]) {
+    let mut session = opened(alloc, rt, disk_of(alloc, rt, file));
+    let states = states_behind(alloc, rt, &mut session, &[POKE]);
+    let opening = calls_of_open(alloc, rt, file);
     for calls in 0..9usize {
-        let disk = FuseDisk::after(disk_of(alloc, &rt, file), opening.saturating_add(calls));
-        let mut session = opened(alloc, &rt, disk);
+        let disk = FuseDisk::after(disk_of(alloc, rt, file), opening.saturating_add(calls));
+        let mut session = opened(alloc, rt, disk);
         let mut writer = Vec::new(alloc);
         let mut reader = POKE;
         let end = run_shell(alloc, &mut reader, &mut writer, &mut session);
-        assert_eq!(rt; end == ShellEnd::DeviceFault, calls < 8, "at {calls}");
-        assert_eq!(rt;
-            writer.as_slice().ends_with(b"\nno 53\n"),
-            calls < 8,
-            "at {calls}"
-        );
-        assert_eq!(rt;
-            writer.as_slice().ends_with(b"\nok 9270\n"),
-            calls == 8,
-            "at {calls}"
-        );
+        let (wanted, answer) = if calls < 8 {
+            (ShellEnd::DeviceFault, b"\nno 53\n".as_slice())
+        } else {
+            (ShellEnd::End, accepted)
+        };
+        assert_eq!(rt; end, wanted, "at {calls}");
+        assert!(rt; writer.as_slice().ends_with(answer), "at {calls}");
         let mut disk = session.into_disk();
         disk.mend();
-        let left = bytes_of(alloc, &rt, &mut disk);
+        let left = bytes_of(alloc, rt, &mut disk);
         let state = states.get(if calls < 7 { 0 } else { 1 });
-        expect_state(alloc, &rt, left.as_slice(), state, calls);
+        expect_state(alloc, rt, left.as_slice(), state, calls);
     }
+}
+
+#[test]
+fn at_each_call_of_a_checkpoint(rt: HostRuntime) {
+    let alloc = rt.alloc();
+    let full = file_of(alloc, &rt, &[], 9_361, b"run 1\n");
+    stop_in_a_checkpoint(alloc, &rt, full.as_slice(), b"\nok 9363\n");
+    let full = file_of(alloc, &rt, &INPUTS, POKES, b"");
+    stop_in_a_checkpoint(alloc, &rt, full.as_slice(), b"\nok 9270\n");
+    let file = file_of(alloc, &rt, &INPUTS, 0, b"");
+    let _calls = calls_of_open(alloc, &rt, file.as_slice());
 }
 
 #[test]
