@@ -158,8 +158,8 @@ fn with_too_much_in_the_log(rt: HostRuntime) {
 fn gate(file: &[u8], log: usize, number: usize) -> usize {
     let mut at = log;
     for _ in 0..number {
-        match file.get(at..).and_then(|rest| rest.get(..3)) {
-            Some([1, high, low]) => {
+        match file.get(at..) {
+            Some([1, high, low, ..]) => {
                 let length = usize::from(*high) * 256 + usize::from(*low);
                 at = at.saturating_add(length).saturating_add(3);
             }

@@ -8,7 +8,7 @@ use mcs_session::session::Session;
 use mcs_shell::ends::ShellEnd;
 use mcs_shell::shell::run_shell;
 use std::alloc::Global;
-use std::io::{self, Read, Write};
+use std::io::{self, Write};
 use std::process::Abort;
 
 /// Takes so many bytes, without memory of its own.
@@ -27,23 +27,6 @@ impl Write for FixedWriter {
 
     fn flush(&mut self) -> io::Result<()> {
         Ok(())
-    }
-}
-
-/// Gives the bytes of the first part, and then those of the second.
-#[derive(Drop)]
-struct TwoParts<'a> {
-    first: &'a [u8],
-    second: &'a [u8],
-}
-
-impl Read for TwoParts<'_> {
-    fn read(&mut self, buf: &mut [u8]) -> io::Result<usize> {
-        if self.first.is_empty() {
-            self.second.read(buf)
-        } else {
-            self.first.read(buf)
-        }
     }
 }
 
@@ -136,10 +119,13 @@ fn is_allowed(output: &[u8], is_device: bool) -> bool {
 
 /// The script, and then the file opened again.
 fn run(alloc: Global, rt: &impl Abort, mut session: Session<MemDisk>) {
-    let mut reader = TwoParts {
-        first: INPUTS[0],
-        second: QUESTIONS,
-    };
+    let mut script: ArrayVec<u8, 1_024> = ArrayVec::new();
+    for part in [INPUTS[0], QUESTIONS] {
+        for byte in part {
+            let _ = script.try_push(*byte);
+        }
+    }
+    let mut reader = script.as_slice();
     let mut writer = FixedWriter {
         held: ArrayVec::new(),
     };

@@ -139,20 +139,30 @@ fn at_each_call_of_the_disk(rt: HostRuntime) {
     }
 }
 
-/// How many calls of the disk it takes to open a file. Stopped at each of them it hands the disk back, with the same bytes.
-fn calls_of_open(alloc: Global, rt: &impl Abort, file: &[u8]) -> usize {
-    for calls in 0..64 {
-        match Session::open(alloc, FuseDisk::after(disk_of(alloc, rt, file), calls)) {
-            Ok(_) => return calls,
-            Err((fault, mut disk)) => {
-                assert!(rt; fault == OpenFault::Device, "at {calls}");
-                disk.mend();
-                let bytes = bytes_of(alloc, rt, &mut disk);
-                assert!(rt; bytes.as_slice() == file, "at {calls}");
-            }
+/// Whether a stop behind so many calls of the disk keeps a file from opening. The disk is handed back then, with the same bytes.
+fn is_stopped_opening(alloc: Global, rt: &impl Abort, file: &[u8], calls: usize) -> bool {
+    match Session::open(alloc, FuseDisk::after(disk_of(alloc, rt, file), calls)) {
+        Ok(_) => false,
+        Err((fault, mut disk)) => {
+            assert!(rt; fault == OpenFault::Device, "at {calls}");
+            disk.mend();
+            let bytes = bytes_of(alloc, rt, &mut disk);
+            assert!(rt; bytes.as_slice() == file, "at {calls}");
+            true
         }
     }
-    panic!(rt; "it does not open")
+}
+
+/// How many calls of the disk it takes to open a file, below 65,536.
+fn calls_of_open(alloc: Global, rt: &impl Abort, file: &[u8]) -> usize {
+    let mut calls = 0usize;
+    for bit in 0..16u32 {
+        let more = calls.saturating_add(32_768 >> bit);
+        if is_stopped_opening(alloc, rt, file, more.saturating_sub(1)) {
+            calls = more;
+        }
+    }
+    calls
 }
 
 /// A poke for which the log of a file has no room, stopped at each of its eight calls. `accepted` ends the answers of a whole one.
@@ -188,8 +198,20 @@ fn at_each_call_of_a_checkpoint(rt: HostRuntime) {
     stop_in_a_checkpoint(alloc, &rt, full.as_slice(), b"\nok 9363\n");
     let full = file_of(alloc, &rt, &INPUTS, POKES, b"");
     stop_in_a_checkpoint(alloc, &rt, full.as_slice(), b"\nok 9270\n");
+}
+
+#[test]
+fn at_each_call_of_opening(rt: HostRuntime) {
+    let alloc = rt.alloc();
     let file = file_of(alloc, &rt, &INPUTS, 0, b"");
-    let _calls = calls_of_open(alloc, &rt, file.as_slice());
+    let opening = calls_of_open(alloc, &rt, file.as_slice());
+    assert!(rt; 1 < opening && opening < 64, "{opening}");
+    for calls in 0..opening {
+        assert!(rt;
+            is_stopped_opening(alloc, &rt, file.as_slice(), calls),
+            "at {calls}"
+        );
+    }
 }
 
 #[test]

@@ -8,7 +8,7 @@ use std::alloc::Global;
 use std::process::Abort;
 
 /// What is found of a part of a torn write.
-#[derive(Clone, Copy, PartialEq, Eq)]
+#[derive(Clone, Copy)]
 enum Left {
     Old,
     New,
