@@ -1,7 +1,7 @@
 //! Files that others wrote: one change of a right file, and files of a seeded generator.
 use crate::generator::Numbers;
 use crate::scripts::{INPUTS, POKE, POKES};
-use crate::sessions::{disk_of, file_of, found, opened, put, told};
+use crate::sessions::{disk_of, expect, file_of, found, opened, put, told};
 use mcs_journal::{FILE_SIZE, OpenFault};
 use mcs_session::session::Session;
 use std::alloc::Global;
@@ -73,7 +73,7 @@ const CHANGES: [(usize, &[u8], &[u8], &[u8]); 5] = [
 fn expect_refused(alloc: Global, rt: &impl Abort, file: &[u8], fault: OpenFault, at: usize) {
     match Session::open(alloc, disk_of(alloc, rt, file)) {
         Ok(_) => panic!(rt; "it opened, at {at}"),
-        Err((found, _)) => assert_eq!(rt; found, fault, "at {at}"),
+        Err((found, _)) => expect(rt, found == fault, at),
     }
 }
 
@@ -108,7 +108,7 @@ fn with_one_change(rt: HostRuntime) {
         let file = changed(alloc, &rt, new.as_slice(), *at, bytes);
         let mut session = opened(alloc, &rt, disk_of(alloc, &rt, file.as_slice()));
         let found = told(alloc, &rt, &mut session, script);
-        assert!(rt; found.as_slice() == *answers, "at {row}");
+        expect(&rt, found.as_slice() == *answers, row);
     }
 }
 
@@ -241,12 +241,13 @@ fn of_a_generator(rt: HostRuntime) {
                 // each question has its answer
                 Ok(answers) => {
                     taken = taken.saturating_add(1);
-                    assert!(rt; !has_refusal(answers.as_slice()), "at {i}");
+                    expect(&rt, !has_refusal(answers.as_slice()), i);
                 }
                 Err(fault) => {
-                    assert!(rt;
+                    expect(
+                        &rt,
                         matches!(fault, OpenFault::NotASession | OpenFault::Damaged),
-                        "at {i}"
+                        i,
                     );
                 }
             }

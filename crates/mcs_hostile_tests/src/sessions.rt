@@ -12,6 +12,11 @@ use mcs_shell::shell::run_shell;
 use std::alloc::Global;
 use std::process::Abort;
 
+/// It holds, in the row or at the place of that number.
+pub(crate) fn expect(rt: &impl Abort, holds: bool, at: usize) {
+    assert!(rt; holds, "at {at}");
+}
+
 /// A disk of a session file's size, all 0.
 pub(crate) fn blank(alloc: Global, rt: &impl Abort) -> MemDisk {
     MemDisk::new(alloc, FILE_SIZE).expect(rt, "memory")
@@ -33,10 +38,7 @@ pub(crate) fn bytes_of<D: Disk>(alloc: Global, rt: &impl Abort, disk: &mut D) ->
 
 /// Puts bytes over those of a file from `at` on.
 pub(crate) fn put(rt: &impl Abort, file: &mut [u8], at: usize, bytes: &[u8]) {
-    assert!(rt;
-        at <= file.len() && bytes.len() <= file.len() - at,
-        "at {at}"
-    );
+    assert!(rt; at <= file.len() && bytes.len() <= file.len() - at);
     file[at..at + bytes.len()].copy_from_slice(bytes);
 }
 
@@ -89,7 +91,7 @@ pub(crate) fn expect_state(
 ) {
     match (found(alloc, rt, file), state) {
         (Ok(told), Some(state)) => {
-            assert!(rt; told.as_slice() == state.as_slice(), "at {at}");
+            expect(rt, told.as_slice() == state.as_slice(), at);
         }
         _ => panic!(rt; "no state, at {at}"),
     }
@@ -119,7 +121,7 @@ pub(crate) fn states_behind<D: Disk + Drop>(
 fn poke<D: Disk + Drop>(rt: &impl Abort, session: &mut Session<D>, times: usize) {
     let command = Command::Poke(Place::Register(RegNo::ZERO, Nibble::ONE));
     for i in 0..times {
-        assert!(rt; session.apply(&command).is_ok(), "at {i}");
+        expect(rt, session.apply(&command).is_ok(), i);
     }
 }
 

@@ -1,7 +1,8 @@
 //! A stop at each call of a disk, and after each byte that is read or written.
 use crate::scripts::{ANSWERS, INPUTS, POKE, POKES};
 use crate::sessions::{
-    blank, bytes_of, disk_of, expect_state, file_of, joined, new_session, opened, states_behind,
+    blank, bytes_of, disk_of, expect, expect_state, file_of, joined, new_session, opened,
+    states_behind,
 };
 use mcs_disk::FuseDisk;
 use mcs_journal::{CreateFault, OpenFault};
@@ -97,17 +98,14 @@ fn stop_in_commands(
     let mut writer = Vec::new(alloc);
     let end = run_shell(alloc, &mut reader, &mut writer, &mut session);
     let is_stopped = done < INPUTS.len();
-    assert_eq!(rt; end == ShellEnd::DeviceFault, is_stopped, "at {calls}");
-    assert_eq!(rt; end == ShellEnd::End, !is_stopped, "at {calls}");
-    assert_eq!(rt; status(end) == 1, is_stopped, "at {calls}");
+    expect(rt, (end == ShellEnd::DeviceFault) == (is_stopped), calls);
+    expect(rt, (end == ShellEnd::End) == (!is_stopped), calls);
+    expect(rt, (status(end) == 1) == (is_stopped), calls);
     let wanted = answers_before_a_fault(alloc, rt, done);
-    assert!(rt; writer.as_slice() == wanted.as_slice(), "at {calls}");
+    expect(rt, writer.as_slice() == wanted.as_slice(), calls);
     let poke = Command::Poke(Place::Register(RegNo::ZERO, Nibble::ONE));
     if is_stopped {
-        assert!(rt;
-            session.apply(&poke) == Err(SessionFault::Closed),
-            "at {calls}"
-        );
+        expect(rt, session.apply(&poke) == Err(SessionFault::Closed), calls);
     }
     let mut disk = session.into_disk();
     disk.mend();
@@ -131,8 +129,8 @@ fn at_each_call_of_the_disk(rt: HostRuntime) {
             match Session::create(alloc, failing(alloc, &rt, calls, is_once)) {
                 Ok(session) => stop_in_commands(alloc, &rt, session, calls, states.as_slice()),
                 Err((fault, _disk)) => {
-                    assert_eq!(rt; fault, CreateFault::Device, "at {calls}");
-                    assert!(rt; calls < 5, "at {calls}");
+                    expect(&rt, fault == CreateFault::Device, calls);
+                    expect(&rt, calls < 5, calls);
                 }
             }
         }
@@ -144,10 +142,10 @@ fn is_stopped_opening(alloc: Global, rt: &impl Abort, file: &[u8], calls: usize)
     match Session::open(alloc, FuseDisk::after(disk_of(alloc, rt, file), calls)) {
         Ok(_) => false,
         Err((fault, mut disk)) => {
-            assert!(rt; fault == OpenFault::Device, "at {calls}");
+            expect(rt, fault == OpenFault::Device, calls);
             disk.mend();
             let bytes = bytes_of(alloc, rt, &mut disk);
-            assert!(rt; bytes.as_slice() == file, "at {calls}");
+            expect(rt, bytes.as_slice() == file, calls);
             true
         }
     }
@@ -181,8 +179,8 @@ fn stop_in_a_checkpoint(alloc: Global, rt: &impl Abort, file: &[u8], accepted: &
         } else {
             (ShellEnd::End, accepted)
         };
-        assert_eq!(rt; end, wanted, "at {calls}");
-        assert!(rt; writer.as_slice().ends_with(answer), "at {calls}");
+        expect(rt, end == wanted, calls);
+        expect(rt, writer.as_slice().ends_with(answer), calls);
         let mut disk = session.into_disk();
         disk.mend();
         let left = bytes_of(alloc, rt, &mut disk);
@@ -207,9 +205,10 @@ fn at_each_call_of_opening(rt: HostRuntime) {
     let opening = calls_of_open(alloc, &rt, file.as_slice());
     assert!(rt; 1 < opening && opening < 64, "{opening}");
     for calls in 0..opening {
-        assert!(rt;
+        expect(
+            &rt,
             is_stopped_opening(alloc, &rt, file.as_slice(), calls),
-            "at {calls}"
+            calls,
         );
     }
 }
@@ -226,7 +225,7 @@ fn at_each_byte_that_is_read(rt: HostRuntime) {
         };
         let mut writer = Vec::new(alloc);
         let end = run_shell(alloc, &mut reader, &mut writer, &mut session);
-        assert_eq!(rt; end, ShellEnd::ReadFault, "at {left}");
+        expect(&rt, end == ShellEnd::ReadFault, left);
         assert_eq!(rt; status(end), 1);
         // the inputs that were read whole are answered
         let mut wanted = joined(alloc, &rt, &[FIRST]);
@@ -237,7 +236,7 @@ fn at_each_byte_that_is_read(rt: HostRuntime) {
                 wanted.extend_from_slice(answer).expect(&rt, "memory");
             }
         }
-        assert!(rt; writer.as_slice() == wanted.as_slice(), "at {left}");
+        expect(&rt, writer.as_slice() == wanted.as_slice(), left);
     }
 }
 
@@ -258,11 +257,12 @@ fn at_each_byte_that_is_written(rt: HostRuntime) {
         let mut reader = script.as_slice();
         let end = run_shell(alloc, &mut reader, &mut writer, &mut session);
         let is_whole = left == answers.len();
-        assert_eq!(rt; end == ShellEnd::WriteFault, !is_whole, "at {left}");
-        assert_eq!(rt; end == ShellEnd::End, is_whole, "at {left}");
-        assert!(rt;
+        expect(&rt, (end == ShellEnd::WriteFault) == (!is_whole), left);
+        expect(&rt, (end == ShellEnd::End) == (is_whole), left);
+        expect(
+            &rt,
             answers.as_slice().starts_with(writer.held.as_slice()),
-            "at {left}"
+            left,
         );
         assert_eq!(rt; writer.held.len(), left);
         // a command is recorded once all answers before its own are out
@@ -275,6 +275,6 @@ fn at_each_byte_that_is_written(rt: HostRuntime) {
             place = place.saturating_add(answer.len());
         }
         let again = opened(alloc, &rt, session.into_disk());
-        assert_eq!(rt; again.bench().seq(), kept, "at {left}");
+        expect(&rt, again.bench().seq() == kept, left);
     }
 }

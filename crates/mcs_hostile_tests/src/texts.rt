@@ -1,6 +1,6 @@
 //! Texts and lines that no one should write, and readers without end.
 use crate::generator::Numbers;
-use crate::sessions::{blank, joined, new_session, told};
+use crate::sessions::{blank, expect, joined, new_session, told};
 use mcs_disk::MemDisk;
 use mcs_session::session::Session;
 use mcs_shell::ends::ShellEnd;
@@ -69,7 +69,7 @@ fn of_too_many_bytes(rt: HostRuntime) {
             let script = joined(alloc, &rt, &[b"asm\n", text, ending]);
             let mut session = new_session(alloc, &rt, blank(alloc, &rt));
             let found = told(alloc, &rt, &mut session, script.as_slice());
-            assert!(rt; found.as_slice() == answers, "at {row}");
+            expect(&rt, found.as_slice() == answers, row);
         }
     }
 }
@@ -92,7 +92,7 @@ fn of_odd_bytes(rt: HostRuntime) {
         };
         let mut session = new_session(alloc, &rt, blank(alloc, &rt));
         let found = told(alloc, &rt, &mut session, script.as_slice());
-        assert!(rt; found.as_slice() == *answers, "at {row}");
+        expect(&rt, found.as_slice() == *answers, row);
     }
 }
 

@@ -39,10 +39,7 @@ fn torn(
     numbers: &mut Numbers,
 ) -> Vec<u8> {
     let mut image = file.to_vec(alloc).expect(rt, "memory");
-    assert!(rt;
-        at <= image.len() && bytes.len() <= image.len() - at,
-        "at {at}"
-    );
+    assert!(rt; at <= image.len() && bytes.len() <= image.len() - at);
     let range = &mut image[at..at + bytes.len()];
     for ((i, place), new) in range.iter_mut().enumerate().zip(bytes.iter()) {
         match if i < cut { left.0 } else { left.1 } {
