@@ -98,9 +98,16 @@ fn stop_in_commands(
     let mut writer = Vec::new(alloc);
     let end = run_shell(alloc, &mut reader, &mut writer, &mut session);
     let is_stopped = done < INPUTS.len();
-    expect(rt, (end == ShellEnd::DeviceFault) == (is_stopped), calls);
-    expect(rt, (end == ShellEnd::End) == (!is_stopped), calls);
-    expect(rt, (status(end) == 1) == (is_stopped), calls);
+    let wanted_end = if is_stopped {
+        ShellEnd::DeviceFault
+    } else {
+        ShellEnd::End
+    };
+    expect(
+        rt,
+        end == wanted_end && (status(end) == 1) == is_stopped,
+        calls,
+    );
     let wanted = answers_before_a_fault(alloc, rt, done);
     expect(rt, writer.as_slice() == wanted.as_slice(), calls);
     let poke = Command::Poke(Place::Register(RegNo::ZERO, Nibble::ONE));
@@ -257,8 +264,12 @@ fn at_each_byte_that_is_written(rt: HostRuntime) {
         let mut reader = script.as_slice();
         let end = run_shell(alloc, &mut reader, &mut writer, &mut session);
         let is_whole = left == answers.len();
-        expect(&rt, (end == ShellEnd::WriteFault) == (!is_whole), left);
-        expect(&rt, (end == ShellEnd::End) == (is_whole), left);
+        let wanted_end = if is_whole {
+            ShellEnd::End
+        } else {
+            ShellEnd::WriteFault
+        };
+        expect(&rt, end == wanted_end, left);
         expect(
             &rt,
             answers.as_slice().starts_with(writer.held.as_slice()),
