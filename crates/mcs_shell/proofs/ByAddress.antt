@@ -4,7 +4,13 @@ use Rattle.std.specs.List.{Contains}
 use Rattle.std.proofs.lemmas.Bool.{cases_lt, cases_eq}
 use Rattle.std.proofs.lemmas.List.Elements.{Contains-append_cases, Contains-append_right}
 use Rattle.mcs_model.specs.Pairs.{IsImageOf, IsRising}
-use Rattle.mcs_shell.specs.Spelling.{by_address, placed}
+use Rattle.std.specs.Prelude.{Result, Ok}
+use Rattle.mcs_asm.specs.View.{Assembles}
+use Rattle.mcs_model.specs.declared.command.Command.{Command}
+use Rattle.mcs_model.specs.declared.command.Command.TheVariants as command
+use Rattle.mcs_source.specs.declared.fault.SourceFault.{SourceFault}
+use Rattle.mcs_shell.specs.declared.spelling.TextRefusal.{TextRefusal}
+use Rattle.mcs_shell.specs.Spelling.{by_address, load_command, placed}
 
 -- ---- elements
 
@@ -73,8 +79,8 @@ same_rising (x ∷ xs) [] h k to from = absurd (in_none x (to x (head_in x xs)))
 same_rising (x ∷ xs) (y ∷ ys) h k to from =
     let e : x ≡ y = same_heads x y xs ys h k (to x (head_in x xs)) (from y (head_in y ys)) in
     let rest : xs ≡ ys = same_rising xs ys (h.1) (k.1)
-        (λ p a. not_head x y xs ys p e h a (to p (in_rest x xs p a)))
-        (λ p a. not_head y x ys xs p (sym e) k a (from p (in_rest y ys p a))) in
+    (λ p a. not_head x y xs ys p e h a (to p (in_rest x xs p a)))
+    (λ p a. not_head y x ys xs p (sym e) k a (from p (in_rest y ys p a))) in
     ap (λ (v : ℕ × ℕ). v ∷ xs) e ∙ ap (λ (v : List (ℕ × ℕ)). y ∷ v) rest
 
 -- ---- one pair more
@@ -128,14 +134,20 @@ placed_in p (q ∷ qs) one = elim (tri p.0 q.0) [
 placed_rises : (p : ℕ × ℕ) (qs : List (ℕ × ℕ)) → Rises qs → Rises (placed p qs)
 placed_rises p [] h = ((λ q a. absurd (in_none q a)), tt)
 placed_rises p (q ∷ qs) h = elim (tri p.0 q.0) [
-  | inl lt ↦ subst Rises (sym (placed_below p q qs lt)) ((λ r a. elim (in_cases q qs r a) [
-    | inl e ↦ omega (arith, lt, ap (λ (v : ℕ × ℕ). v.0) e)
-    | inr more ↦ let further : q.0 < r.0 = h.0 r more in omega (arith, lt, further)
-  ]), h)
-  | inr (inl gt) ↦ subst Rises (sym (placed_above p q qs gt)) ((λ r a. elim (placed_has p qs r a) [
-    | inl e ↦ omega (arith, gt, ap (λ (v : ℕ × ℕ). v.0) e)
-    | inr old ↦ h.0 r old
-  ]), placed_rises p qs (h.1))
+  | inl lt ↦ subst Rises (sym (placed_below p q qs lt)) (
+    (λ r a. elim (in_cases q qs r a) [
+      | inl e ↦ omega (arith, lt, ap (λ (v : ℕ × ℕ). v.0) e)
+      | inr more ↦ let further : q.0 < r.0 = h.0 r more in omega (arith, lt, further)
+    ]),
+    h,
+  )
+  | inr (inl gt) ↦ subst Rises (sym (placed_above p q qs gt)) (
+    (λ r a. elim (placed_has p qs r a) [
+      | inl e ↦ omega (arith, gt, ap (λ (v : ℕ × ℕ). v.0) e)
+      | inr old ↦ h.0 r old
+    ]),
+    placed_rises p qs (h.1),
+  )
   | inr (inr e) ↦ subst Rises (sym (placed_same p q qs e)) h
 ]
 
@@ -163,5 +175,12 @@ pub image_by_address : (image pairs : List (ℕ × ℕ)) → IsImageOf image pai
 image_by_address image pairs h =
     let rises : Rises image = rises_of image (h.0) in
     same_rising image (by_address pairs) rises (by_rises pairs)
-        (λ p a. by_all pairs p (λ q r x y same. one_at image q r rises ((h.1 q).1 x) ((h.1 r).1 y) same) ((h.1 p).0 a))
-        (λ p a. (h.1 p).1 (by_has pairs p a))
+    (λ p a. by_all pairs p (λ q r x y same. one_at image q r rises ((h.1 q).1 x) ((h.1 r).1 y) same) ((h.1 p).0 a))
+    (λ p a. (h.1 p).1 (by_has pairs p a))
+
+-- the command to load an image
+abbrev pub loading : List (ℕ × ℕ) → Result Command TextRefusal
+loading image = Ok (command.Load image)
+
+pub loads : (image : List (ℕ × ℕ)) (wanted : Result (List (ℕ × ℕ)) (ℕ × SourceFault)) → Assembles (Ok image) wanted → loading image ≡ load_command wanted
+loads image wanted h = ap loading (image_by_address image h.0 h.2) ∙ ap load_command (sym h.1)

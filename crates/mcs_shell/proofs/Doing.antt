@@ -1,5 +1,5 @@
 -- What a command leaves, by its answer, and what a line leaves.
-use Rattle.std.proofs.Common.{◌≡◌, ◌≢◌, ◌↔◌, ℕ, ◌<◌, ◌≤◌, true, false, List, [], ◌∷◌, Option, Some, None, Result, Ok, Err, length, nat_lt, sym, ap, ◌∙◌, refl, rules, subst}
+use Rattle.std.proofs.Common.{◌≡◌, ◌≢◌, ◌↔◌, ℕ, ◌<◌, ◌≤◌, Bool, true, false, List, [], ◌∷◌, Option, Some, None, Result, Ok, Err, length, nat_lt, sym, ap, ◌∙◌, refl, rules, subst}
 use Rattle.std.specs.Io.KnownBytes.{Appends}
 use Rattle.std.specs.List.{list_all}
 use Rattle.mcs_disk.specs.Disk.{DiskState, IsLawful}
@@ -267,11 +267,11 @@ failed_of a b i NoMemory told out h is got = absurd (cc is)
 pub went_of : (a b : Stage) (i : Input) (o : Outcome) (told : List ℕ) → Answered a.session i o told b.session → o ≢ Device → Appends a.out b.out told → WentOn a i b
 went_of a b i Device told h is got = absurd (is refl)
 went_of a b i Plain told h is got = let P : List ℕ → Type 0 = λ x. Appends a.out b.out x in
-    record { outcome = Plain; may = (is, h.may); written = subst P h.told_is got; carries = record { standing = λ k. record { log = h.leaves.closes.0 k; state = h.leaves.state k }; same_faults = h.leaves.closes.1; size = h.leaves.size; honest = h.leaves.honest; kept = h.leaves.kept } }
+    record { outcome = Plain; may = (is, h.may); written = subst P h.told_is got; carries = record { standing = λ k. record { live = h.leaves.closes.0 k; state = h.leaves.state k }; same_faults = h.leaves.closes.1; size = h.leaves.size; honest = h.leaves.honest; kept = h.leaves.kept } }
 went_of a b i Closed told h is got = let P : List ℕ → Type 0 = λ x. Appends a.out b.out x in
-    record { outcome = Closed; may = (is, h.may); written = subst P h.told_is got; carries = record { standing = λ k. record { log = h.leaves.closes.0 k; state = h.leaves.state k }; same_faults = h.leaves.closes.1; size = h.leaves.size; honest = h.leaves.honest; kept = h.leaves.kept } }
+    record { outcome = Closed; may = (is, h.may); written = subst P h.told_is got; carries = record { standing = λ k. record { live = h.leaves.closes.0 k; state = h.leaves.state k }; same_faults = h.leaves.closes.1; size = h.leaves.size; honest = h.leaves.honest; kept = h.leaves.kept } }
 went_of a b i NoMemory told h is got = let P : List ℕ → Type 0 = λ x. Appends a.out b.out x in
-    record { outcome = NoMemory; may = (is, h.may); written = subst P h.told_is got; carries = record { standing = λ k. record { log = h.leaves.closes.0 k; state = h.leaves.state k }; same_faults = h.leaves.closes.1; size = h.leaves.size; honest = h.leaves.honest; kept = h.leaves.kept } }
+    record { outcome = NoMemory; may = (is, h.may); written = subst P h.told_is got; carries = record { standing = λ k. record { live = h.leaves.closes.0 k; state = h.leaves.state k }; same_faults = h.leaves.closes.1; size = h.leaves.size; honest = h.leaves.honest; kept = h.leaves.kept } }
 
 -- what was answered was sent, or not
 pub served_of : {T : Type 0} → (r : Result T Halt) (a b : Stage) (i : Input) (o : Outcome) (told : List ℕ) → Answered a.session i o told b.session → Sent r o told a.out b.out → ServedLine r a i b

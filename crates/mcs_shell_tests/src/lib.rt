@@ -6,7 +6,6 @@ ghost use Rattle.std.specs.Prelude.{Some, ◌≡◌};
 mod texts;
 mod worked;
 
-
 use mcs_disk::{Disk, FuseDisk, MemDisk};
 use mcs_journal::{CreateFault, FILE_SIZE, OpenFault};
 use mcs_model::command::{Command, Place, Reply};

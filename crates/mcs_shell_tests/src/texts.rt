@@ -18,7 +18,12 @@ fn texts_are_judged(rt: HostRuntime) -> Result<(), Fail> {
         (b"asm\nNOP\n .\n.\n", b"", b"", b"no 30 line 2\n"),
         (b"asm\nNOP\n. \n.\n", b"", b"", b"no 30 line 2\n"),
         (b"asm\nseq\n.\nseq\n", b"", b"", b"no 30 line 1\nseq 0\n"),
-        (b"wire x\nseq\nasm now\nWire\n", b"", b"", b"no 10\nseq 0\nno 10\nno 10\n"),
+        (
+            b"wire x\nseq\nasm now\nWire\n",
+            b"",
+            b"",
+            b"no 10\nseq 0\nno 10\nno 10\n",
+        ),
         (b"wire\nx\n.", b"", b"", b"no 20\n"),
         (b"asm\n\x00\n.\nseq\n", b"", b"", b"no 14\nseq 0\n"),
         (b"asm\n\x00\n", &long, b"\n.\nseq\n", b"no 12\nseq 0\n"),

@@ -4,14 +4,22 @@ ghost use Rattle.std.specs.Prelude.{Some};
 use crate::{CutReader, new_session, run};
 use mcs_shell::ends::ShellEnd;
 use mcs_shell::shell::run_shell;
+use std::alloc::Global;
 use std::io::{self, Read};
+use std::process::Abort;
 use std::test::Fail;
 
 /// The board of most of these sessions: three ROMs, two RAM chips, a chain that drives a key matrix, three lamps.
-const WORKED_BOARD: &[u8] = b"wire\n[[rom]]\nchip = 0\nport = \"0000\"\n[[rom]]\nchip = 1\nport = \"iiii\"\n[[rom]]\nchip = 2\nport = \"iiii\"\n[[ram]]\nbank = 0\nchips = 1\n[[ram]]\nbank = 1\nchips = 1\n[[chain]]\nclock = \"rom0.0\"\ndata = \"rom0.1\"\nchips = 1\n[keys]\nchain = 0\nfirst = 0\nrows = 10\ncolumns = [\"rom1.0\", \"rom1.1\", \"rom1.2\", \"rom1.3\", \"rom2.0\", \"rom2.1\", \"rom2.2\", \"rom2.3\"]\n[[lamp]]\nline = \"chain0.0\"\n[[lamp]]\nline = \"chain0.1\"\n[[lamp]]\nline = \"ram0.0.3\"\n.\n";
+const WORKED_BOARD: &[u8] =
+    b"wire\n[[rom]]\nchip = 0\nport = \"0000\"\n[[rom]]\nchip = 1\nport = \"iiii\"\n[[rom]]\nchip = 2\nport = \"iiii\"\n[[ram]]\nbank = 0\nchips = 1\n[[ram]]\nbank = 1\nchips = 1\n[[chain]]\nclock = \"rom0.0\"\ndata = \"rom0.1\"\nchips = 1\n[keys]\nchain = 0\nfirst = 0\nrows = 10\ncolumns = [\"rom1.0\", \"rom1.1\", \"rom1.2\", \"rom1.3\", \"rom2.0\", \"rom2.1\", \"rom2.2\", \"rom2.3\"]\n[[lamp]]\nline = \"chain0.0\"\n[[lamp]]\nline = \"chain0.1\"\n[[lamp]]\nline = \"ram0.0.3\"\n.\n";
+
 /// Runs each script in a session of its own, behind some lines and their answers.
-fn run_all(rt: &HostRuntime, before: (&[u8], &[u8]), rows: &[(&[u8], &[u8])]) -> Result<(), Fail> {
-    let alloc = rt.alloc();
+fn run_all(
+    rt: &impl Abort,
+    alloc: Global,
+    before: (&[u8], &[u8]),
+    rows: &[(&[u8], &[u8])],
+) -> Result<(), Fail> {
     for (lines, answers) in rows {
         let mut script = Vec::new(alloc);
         script.extend_from_slice(before.0)?;
@@ -38,10 +46,7 @@ fn worked_instructions(rt: HostRuntime) -> Result<(), Fail> {
             b"asm\nORG 0x0FE\nJCN 1, 0x110\n.\ntest 0\npoke pc 0xFE\nrun 1\nregs\n",
             b"ok 2 bytes 2\nok 3\nok 4\nok 5 ran 1 end\nacc 0 cy 0 pc 110 owed 1 dcl 0 test 0 r 0000000000000000 ret 000 000 000\n",
         ),
-        (
-            b"asm\nORG 0x0FE\nJCN 1, 0x010\n.\n",
-            b"no 34 line 2\n",
-        ),
+        (b"asm\nORG 0x0FE\nJCN 1, 0x010\n.\n", b"no 34 line 2\n"),
         (
             b"asm\nORG 0x0FC\nJCN 1, 0x010\n.\ntest 0\npoke pc 0xFC\nrun 1\nregs\n",
             b"ok 2 bytes 2\nok 3\nok 4\nok 5 ran 1 end\nacc 0 cy 0 pc 010 owed 1 dcl 0 test 0 r 0000000000000000 ret 000 000 000\n",
@@ -75,7 +80,7 @@ fn worked_instructions(rt: HostRuntime) -> Result<(), Fail> {
             b"ok 2 bytes 11\nok 3\nok 4\nok 5 ran 10 end\nlamps **.\nacc 6 cy 0 pc 00A owed 0 dcl 0 test 1 r 1000000000000000 ret 000 000 000\nok 6 ran 1 end\nacc F cy 0 pc 00B owed 0 dcl 0 test 1 r 1000000000000000 ret 000 000 000\n",
         ),
     ];
-    run_all(&rt, (WORKED_BOARD, b"session 0\nok 1\n"), &rows)
+    run_all(&rt, rt.alloc(), (WORKED_BOARD, b"session 0\nok 1\n"), &rows)
 }
 
 #[test]
@@ -107,7 +112,7 @@ fn worked_commands(rt: HostRuntime) -> Result<(), Fail> {
             b"board\n[[rom]]\nchip = 0\nport = \"0000\"\n[[rom]]\nchip = 1\nport = \"iiii\"\n[[rom]]\nchip = 2\nport = \"iiii\"\n[[ram]]\nbank = 0\nchips = 1\n[[ram]]\nbank = 1\nchips = 1\n[[chain]]\nclock = \"rom0.0\"\ndata = \"rom0.1\"\nchips = 1\n[keys]\nchain = 0\nfirst = 0\nrows = 10\ncolumns = [\"rom1.0\", \"rom1.1\", \"rom1.2\", \"rom1.3\", \"rom2.0\", \"rom2.1\", \"rom2.2\", \"rom2.3\"]\n[[lamp]]\nline = \"chain0.0\"\n[[lamp]]\nline = \"chain0.1\"\n[[lamp]]\nline = \"ram0.0.3\"\n",
         ),
     ];
-    run_all(&rt, (WORKED_BOARD, b"session 0\nok 1\n"), &rows)
+    run_all(&rt, rt.alloc(), (WORKED_BOARD, b"session 0\nok 1\n"), &rows)
 }
 
 #[test]
@@ -123,21 +128,15 @@ fn worked_lines(rt: HostRuntime) -> Result<(), Fail> {
             b"ok 1\nok 2 bytes 6\nok 3\nok 4\nok 5 ran 6 end\nacc D cy 0 pc 006 owed 0 dcl 0 test 1 r 1000000000000000 ret 000 000 000\n",
         ),
     ];
-    run_all(&rt, (b"", b"session 0\n"), &rows)
+    run_all(&rt, rt.alloc(), (b"", b"session 0\n"), &rows)
 }
 
 #[test]
 fn worked_board_texts(rt: HostRuntime) -> Result<(), Fail> {
     // Texts of boards that are refused, each with its number.
     let rows: [(&[u8], &[u8]); 8] = [
-        (
-            b"wire\nsize = 1\n.\n",
-            b"no 21\n",
-        ),
-        (
-            b"wire\n[[rom]]\nchip = 0\n.\n",
-            b"no 22\n",
-        ),
+        (b"wire\nsize = 1\n.\n", b"no 21\n"),
+        (b"wire\n[[rom]]\nchip = 0\n.\n", b"no 22\n"),
         (
             b"wire\n[[rom]]\nchip = 16\nport = \"0000\"\n.\n",
             b"no 23\n",
@@ -158,12 +157,9 @@ fn worked_board_texts(rt: HostRuntime) -> Result<(), Fail> {
             b"wire\n[[rom]]\nchip = 0\nport = \"0000\"\n[[rom]]\nchip = 1\nport = \"iiii\"\n[[rom]]\nchip = 2\nport = \"iiii\"\n[[ram]]\nbank = 0\nchips = 1\n[[ram]]\nbank = 1\nchips = 1\n[[chain]]\nclock = \"rom0.0\"\ndata = \"rom0.1\"\nchips = 1\n[[chain]]\nclock = \"rom0.0\"\ndata = \"rom0.1\"\nchips = 1\n[[chain]]\nclock = \"rom0.0\"\ndata = \"rom0.1\"\nchips = 1\n[keys]\nchain = 0\nfirst = 0\nrows = 10\ncolumns = [\"rom1.0\", \"rom1.1\", \"rom1.2\", \"rom1.3\", \"rom2.0\", \"rom2.1\", \"rom2.2\", \"rom2.3\"]\n[[lamp]]\nline = \"chain0.0\"\n[[lamp]]\nline = \"chain0.1\"\n[[lamp]]\nline = \"ram0.0.3\"\n.\n",
             b"no 27\n",
         ),
-        (
-            b"wire\n[[rom\n.\n",
-            b"no 20\n",
-        ),
+        (b"wire\n[[rom\n.\n", b"no 20\n"),
     ];
-    run_all(&rt, (b"", b"session 0\n"), &rows)
+    run_all(&rt, rt.alloc(), (b"", b"session 0\n"), &rows)
 }
 /// Gives one byte at each read.
 #[derive(Drop)]
@@ -181,7 +177,8 @@ impl Read for ByteReader<'_> {
 }
 
 /// Texts of a board and of programs, one of them with lines that look like its end; the last line is not ended.
-const TEXTS: &[u8] = b"wire\n[[rom]]\nchip = 0\nport = \"0000\"\n[[rom]]\nchip = 1\nport = \"1i0i\"\n[[chain]]\nclock = \"rom0.0\"\ndata = \"rom0.1\"\nchips = 1\n[keys]\nchain = 0\nfirst = 0\nrows = 1\ncolumns = [\"rom1.0\", \"rom1.2\"]\n.\nasm\nLDM 3\n.\nasm\nLDM 3\n . \n..\n.\r\nseq";
+const TEXTS: &[u8] =
+    b"wire\n[[rom]]\nchip = 0\nport = \"0000\"\n[[rom]]\nchip = 1\nport = \"1i0i\"\n[[chain]]\nclock = \"rom0.0\"\ndata = \"rom0.1\"\nchips = 1\n[keys]\nchain = 0\nfirst = 0\nrows = 1\ncolumns = [\"rom1.0\", \"rom1.2\"]\n.\nasm\nLDM 3\n.\nasm\nLDM 3\n . \n..\n.\r\nseq";
 
 const TEXTS_ANSWERED: &[u8] = b"session 0\nok 1\nok 2 bytes 1\nno 30 line 2\nseq 2\n";
 
@@ -208,7 +205,12 @@ fn texts_byte_by_byte(rt: HostRuntime) -> Result<(), Fail> {
     let alloc = rt.alloc();
     let mut session = new_session(alloc)?;
     let mut writer = Vec::new(alloc);
-    let end = run_shell(alloc, &mut ByteReader { bytes: TEXTS }, &mut writer, &mut session);
+    let end = run_shell(
+        alloc,
+        &mut ByteReader { bytes: TEXTS },
+        &mut writer,
+        &mut session,
+    );
     assert_eq!(rt; end, ShellEnd::End);
     assert_eq!(rt; writer.as_slice(), TEXTS_ANSWERED);
     Ok(())
@@ -223,6 +225,8 @@ fn the_first_session_of_the_manual(rt: HostRuntime) -> Result<(), Fail> {
 }
 
 /// The first session of docs/MANUAL.md, which stands in examples/lamps.txt too.
-const FIRST_SESSION: &[u8] = b"wire\n[[rom]]\nchip = 0\nport = \"0000\"\n[[rom]]\nchip = 1\nport = \"iiii\"\n[[rom]]\nchip = 2\nport = \"iiii\"\n[[ram]]\nbank = 0\nchips = 1\n[[ram]]\nbank = 1\nchips = 1\n[[chain]]\nclock = \"rom0.0\"\ndata = \"rom0.1\"\nchips = 1\n[keys]\nchain = 0\nfirst = 0\nrows = 10\ncolumns = [\"rom1.0\", \"rom1.1\", \"rom1.2\", \"rom1.3\", \"rom2.0\", \"rom2.1\", \"rom2.2\", \"rom2.3\"]\n[[lamp]]\nline = \"chain0.0\"\n[[lamp]]\nline = \"chain0.1\"\n[[lamp]]\nline = \"ram0.0.3\"\n.\nasm\n; shift two ones into the chain, then read the keys of the first two rows\n    LDM 3\n    WRR             ; data and clock up: the chain takes in a one\n    LDM 2\n    WRR             ; clock down\n    LDM 3\n    WRR             ; and a second one\n    FIM P0, 0x10\n    SRC P0          ; ROM 1 from here on\n    RDR             ; its four input lines\n    KBP             ; which key: 15 where several are down\n.\nlist 0 4\npress 0 1\npress 1 2\nrun 10\nlamps\nregs\nrun 1\nregs\n";
+const FIRST_SESSION: &[u8] =
+    b"wire\n[[rom]]\nchip = 0\nport = \"0000\"\n[[rom]]\nchip = 1\nport = \"iiii\"\n[[rom]]\nchip = 2\nport = \"iiii\"\n[[ram]]\nbank = 0\nchips = 1\n[[ram]]\nbank = 1\nchips = 1\n[[chain]]\nclock = \"rom0.0\"\ndata = \"rom0.1\"\nchips = 1\n[keys]\nchain = 0\nfirst = 0\nrows = 10\ncolumns = [\"rom1.0\", \"rom1.1\", \"rom1.2\", \"rom1.3\", \"rom2.0\", \"rom2.1\", \"rom2.2\", \"rom2.3\"]\n[[lamp]]\nline = \"chain0.0\"\n[[lamp]]\nline = \"chain0.1\"\n[[lamp]]\nline = \"ram0.0.3\"\n.\nasm\n; shift two ones into the chain, then read the keys of the first two rows\n    LDM 3\n    WRR             ; data and clock up: the chain takes in a one\n    LDM 2\n    WRR             ; clock down\n    LDM 3\n    WRR             ; and a second one\n    FIM P0, 0x10\n    SRC P0          ; ROM 1 from here on\n    RDR             ; its four input lines\n    KBP             ; which key: 15 where several are down\n.\nlist 0 4\npress 0 1\npress 1 2\nrun 10\nlamps\nregs\nrun 1\nregs\n";
 
-const FIRST_ANSWERS: &[u8] = b"session 0\nok 1\nok 2 bytes 11\n000 D3    LDM 3\n001 E2    WRR\n002 D2    LDM 2\n003 E2    WRR\nok 3\nok 4\nok 5 ran 10 end\nlamps **.\nacc 6 cy 0 pc 00A owed 0 dcl 0 test 1 r 1000000000000000 ret 000 000 000\nok 6 ran 1 end\nacc F cy 0 pc 00B owed 0 dcl 0 test 1 r 1000000000000000 ret 000 000 000\n";
+const FIRST_ANSWERS: &[u8] =
+    b"session 0\nok 1\nok 2 bytes 11\n000 D3    LDM 3\n001 E2    WRR\n002 D2    LDM 2\n003 E2    WRR\nok 3\nok 4\nok 5 ran 10 end\nlamps **.\nacc 6 cy 0 pc 00A owed 0 dcl 0 test 1 r 1000000000000000 ret 000 000 000\nok 6 ran 1 end\nacc F cy 0 pc 00B owed 0 dcl 0 test 1 r 1000000000000000 ret 000 000 000\n";
