@@ -254,5 +254,5 @@ fn of_a_generator(rt: HostRuntime) {
         }
     }
     // the generator makes many of both kinds
-    assert!(rt; 400 < taken && taken < 1_600, "{taken}");
+    assert!(rt; 200 < taken && taken < 1_800, "{taken}");
 }

@@ -240,6 +240,6 @@ fn of_a_generator(rt: HostRuntime) {
         }
     }
     // the generator makes many of both kinds
-    assert!(rt; 100 < boards && boards < 900, "{boards}");
-    assert!(rt; 100 < programs && programs < 900, "{programs}");
+    assert!(rt; 50 < boards && boards < 950, "{boards}");
+    assert!(rt; 50 < programs && programs < 950, "{programs}");
 }
