@@ -64,17 +64,17 @@ impl Bench {
         match place {
             Place::Rom(at, _) => when(lacks_rom(board, at), BenchFault::NoRom),
             Place::Ram(bank, src, _) => {
-                unless(src / 64 < board.bank_chips(bank.get()), BenchFault::NoSuchPlace)
+                unless(
+                    src / 64 < board.bank_chips(bank.get()),
+                    BenchFault::NoSuchPlace,
+                )
             }
             Place::Status(bank, high, _, _) => unless(
                 high.get() / 4 < board.bank_chips(bank.get()),
                 BenchFault::NoSuchPlace,
             ),
-            Place::Acc(_)
-            | Place::Cy(_)
-            | Place::Pc(_)
-            | Place::Register(_, _)
-            | Place::Dcl(_) => None,
+            Place::Acc(_) | Place::Cy(_) | Place::Pc(_) | Place::Register(_, _) | Place::Dcl(_) =>
+                None,
         }
     }
 

@@ -113,7 +113,11 @@ fn fill_keys(rig: &mut BenchRig, keys: &[u8])
     rig.state_is_valid();
     let columns = columns_of(rig.board());
     for i in 0..keys.len() {
-        rig.set_key((i / columns) as u8, (i % columns) as u8, Bit::low_of(keys[i]));
+        rig.set_key(
+            (i / columns) as u8,
+            (i % columns) as u8,
+            Bit::low_of(keys[i]),
+        );
     }
 }
 

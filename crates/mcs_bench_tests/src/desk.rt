@@ -47,7 +47,10 @@ pub(crate) fn refused(rt: &impl Abort, bench: &Bench, command: &Command, why: Be
 
 /// Runs for some cycles, and looks at how many it did and why it stopped.
 pub(crate) fn runs(rt: &impl Abort, bench: &mut Bench, n: u32, cycles: u32, stop: Stop) {
-    assert_eq!(rt; done(rt, bench, &Command::Run(n)), Reply::Ran { cycles, stop });
+    assert_eq!(rt;
+        done(rt, bench, &Command::Run(n)),
+        Reply::Ran { cycles, stop }
+    );
 }
 
 /// The image of bytes, each at an address above the one before it.
@@ -77,7 +80,10 @@ pub(crate) fn load(alloc: Global, rt: &impl Abort, bench: &mut Bench, bytes: &[u
         assert!(rt; image.pairs().iter().all(|pair| pair.0 < place));
         image.push(place, bytes[at]).expect(rt, "memory");
     }
-    assert_eq!(rt; done(rt, bench, &Command::Load(image)), Reply::Loaded(bytes.len() as u16));
+    assert_eq!(rt;
+        done(rt, bench, &Command::Load(image)),
+        Reply::Loaded(bytes.len() as u16)
+    );
 }
 
 pub(crate) fn poke(rt: &impl Abort, bench: &mut Bench, place: Place) {

@@ -20,7 +20,11 @@ fn a_decimal_sum(rt: HostRuntime) {
     poke(&rt, &mut bench, Place::Register(register(2), nibble(8)));
     runs(&rt, &mut bench, 2, 2, Stop::Ended);
     stands(&rt, &bench, 0x002, 0, 7, 1);
-    holds(&rt, &bench, [0, 0, 8, 0, 0, 0, 0, 0, 0, 0, 0, 0, 0, 0, 0, 0]);
+    holds(
+        &rt,
+        &bench,
+        [0, 0, 8, 0, 0, 0, 0, 0, 0, 0, 0, 0, 0, 0, 0, 0],
+    );
 }
 
 /// JCN 1, 10 at 0FE jumps on the page of the next instruction; at 0FC on its own.
@@ -56,7 +60,11 @@ fn a_byte_fetched_at_the_end_of_a_page(rt: HostRuntime) {
     poke(&rt, &mut bench, Place::Pc(address(0x0FF)));
     runs(&rt, &mut bench, 2, 2, Stop::Ended);
     stands(&rt, &bench, 0x100, 0, 0, 0);
-    holds(&rt, &bench, [2, 0, 10, 11, 0, 0, 0, 0, 0, 0, 0, 0, 0, 0, 0, 0]);
+    holds(
+        &rt,
+        &bench,
+        [2, 0, 10, 11, 0, 0, 0, 0, 0, 0, 0, 0, 0, 0, 0, 0],
+    );
 }
 
 /// FIM P0 05, SRC P0, LDM 1, DCL, LDM 7, WRM: bank 1 was not designated at the SRC, and keeps an SRC byte of its own.
@@ -190,7 +198,12 @@ fn an_empty_board_refuses_what_it_lacks(rt: HostRuntime) {
     refused(&rt, &bench, &Command::Run(0), BenchFault::BadCount);
     refused(&rt, &bench, &Command::Run(100_001), BenchFault::BadCount);
     let character = Place::Ram(bank(&rt, 0), 0, nibble(1));
-    refused(&rt, &bench, &Command::Poke(character), BenchFault::NoSuchPlace);
+    refused(
+        &rt,
+        &bench,
+        &Command::Poke(character),
+        BenchFault::NoSuchPlace,
+    );
     let byte = Place::Rom(address(0), 1);
     refused(&rt, &bench, &Command::Poke(byte), BenchFault::NoRom);
     assert_eq!(rt; lamps(&bench), [None; 3]);
@@ -224,7 +237,11 @@ fn a_program_reads_the_keys(rt: HostRuntime) {
     runs(&rt, &mut bench, 10, 10, Stop::Ended);
     assert_eq!(rt; lamps(&bench), lit(1, 1, 0));
     stands(&rt, &bench, 0x00A, 0, 6, 0);
-    holds(&rt, &bench, [1, 0, 0, 0, 0, 0, 0, 0, 0, 0, 0, 0, 0, 0, 0, 0]);
+    holds(
+        &rt,
+        &bench,
+        [1, 0, 0, 0, 0, 0, 0, 0, 0, 0, 0, 0, 0, 0, 0, 0],
+    );
     runs(&rt, &mut bench, 1, 1, Stop::Ended);
     stands(&rt, &bench, 0x00B, 0, 15, 0);
 }
@@ -251,7 +268,12 @@ fn a_breakpoint_too_many_is_refused(rt: HostRuntime) {
     for at in 0..32 {
         did(&rt, &mut bench, &Command::Break(address(at)));
     }
-    refused(&rt, &bench, &Command::Break(address(32)), BenchFault::BreaksFull);
+    refused(
+        &rt,
+        &bench,
+        &Command::Break(address(32)),
+        BenchFault::BreaksFull,
+    );
     did(&rt, &mut bench, &Command::Break(address(5)));
     did(&rt, &mut bench, &Command::Unbreak(address(5)));
     did(&rt, &mut bench, &Command::Break(address(32)));

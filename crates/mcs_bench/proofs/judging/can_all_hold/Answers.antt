@@ -6,9 +6,11 @@ use Rattle.mcs_bench.proofs.HeldLemmas.{no-mask}
 use Rattle.mcs_bench.proofs.judging.can_all_hold.Goals as goal
 
 pub returns : goal.returns
-returns c = (λ _ chip.
+returns c = (
+  λ _ chip.
       elim (cases_lt chip 16) [
         | inl l ↦ c.loop-chip.invariant chip (omega arith)
         | inr g ↦ no-mask (masks_on c.args.board.now chip) (get_or c.args.ports.now chip 0) (get_or_past c.args.ports.now chip 0 (let r = c.requires.count_is in omega arith))
       ],
-    λ _. refl)
+  λ _. refl,
+)
