@@ -3,7 +3,9 @@
 
 ghost use Rattle.std.specs.Prelude.{Some, ◌≡◌};
 
+#[cfg(test)]
 mod texts;
+#[cfg(test)]
 mod worked;
 
 use mcs_disk::{Disk, FuseDisk, MemDisk};
