@@ -1,4 +1,6 @@
 //! The bytes of states.
+ghost use Rattle.std.specs.Prelude.{◌≡◌, length};
+
 use crate::boards::{largest, one_rom};
 use mcs_bench::Bench;
 use mcs_codec::{STATE_BYTES, bench_of, state_bytes};
@@ -32,10 +34,21 @@ fn is_read(rt: &impl Abort, alloc: Global, bytes: &[u8]) -> bool {
     bench_of(alloc, bytes).expect(rt, "memory").is_some()
 }
 
-fn buffer(rt: &impl Abort, alloc: Global) -> Vec<u8> {
+fn buffer(rt: &impl Abort, alloc: Global) -> Vec<u8>
+    ensures { length result.items ≡ STATE_BYTES }
+{
     let bytes = vec![in alloc; 0; STATE_BYTES].expect(rt, "memory");
     assert!(rt; bytes.len() == STATE_BYTES);
     bytes
+}
+
+/// The first bytes, so many.
+fn front<'a>(rt: &impl Abort, bytes: &'a [u8], count: usize) -> &'a [u8] {
+    bytes.get(..count).expect(rt, "so many bytes")
+}
+
+fn slice_of(state: &[u8; PLAIN_STATE]) -> &[u8] {
+    state
 }
 
 /// The state of a new bench: 64 dashes for the ROMs that are not there, TEST 1, and all else 0.
@@ -53,10 +66,10 @@ fn a_new_bench(rt: HostRuntime) {
     let mut bytes = buffer(&rt, alloc);
     let count = state_bytes(&bench, &mut bytes);
     assert_eq!(rt; count, PLAIN_STATE);
-    expect_bytes(&rt, &bytes[..PLAIN_STATE], &new_state());
-    assert!(rt; is_read(&rt, alloc, &bytes[..PLAIN_STATE]));
-    assert!(rt; !is_read(&rt, alloc, &bytes[..PLAIN_STATE - 1]));
-    assert!(rt; !is_read(&rt, alloc, &bytes[..PLAIN_STATE + 1]));
+    expect_bytes(&rt, front(&rt, &bytes, PLAIN_STATE), slice_of(&new_state()));
+    assert!(rt; is_read(&rt, alloc, front(&rt, &bytes, PLAIN_STATE)));
+    assert!(rt; !is_read(&rt, alloc, front(&rt, &bytes, PLAIN_STATE - 1)));
+    assert!(rt; !is_read(&rt, alloc, front(&rt, &bytes, PLAIN_STATE + 1)));
 }
 
 /// A byte of a new bench's state, changed: most of them spell nothing then.
@@ -135,14 +148,14 @@ fn an_owed_cycle_is_kept(rt: HostRuntime) {
     want[6_819] = 1;
     let mut bytes = buffer(&rt, alloc);
     let count = state_bytes(&bench, &mut bytes);
-    expect_bytes(&rt, &bytes[..count], &want);
-    match bench_of(alloc, &want).expect(&rt, "memory") {
+    expect_bytes(&rt, front(&rt, &bytes, count), slice_of(&want));
+    match bench_of(alloc, slice_of(&want)).expect(&rt, "memory") {
         Some(read) => {
             assert_eq!(rt; read.seq(), 4);
             assert!(rt; read.regs() == bench.regs());
             assert_eq!(rt; read.rom_byte(address(1)), 0x23);
             let again = state_bytes(&read, &mut bytes);
-            expect_bytes(&rt, &bytes[..again], &want);
+            expect_bytes(&rt, front(&rt, &bytes, again), slice_of(&want));
         }
         None => panic!(rt; "a state was not read"),
     }
@@ -158,12 +171,12 @@ fn breakpoints_rise(rt: HostRuntime) {
     let count = state_bytes(&bench, &mut bytes);
     assert_eq!(rt; count, PLAIN_STATE + 4);
     expect_bytes(&rt, &bytes[6_821..6_826], &[2, 0, 3, 1, 0x23]);
-    assert!(rt; is_read(&rt, alloc, &bytes[..6_826]));
+    assert!(rt; is_read(&rt, alloc, front(&rt, &bytes, 6_826)));
     bytes[6_824] = 0;
     bytes[6_825] = 3;
-    assert!(rt; !is_read(&rt, alloc, &bytes[..6_826]));
+    assert!(rt; !is_read(&rt, alloc, front(&rt, &bytes, 6_826)));
     bytes[6_825] = 2;
-    assert!(rt; !is_read(&rt, alloc, &bytes[..6_826]));
+    assert!(rt; !is_read(&rt, alloc, front(&rt, &bytes, 6_826)));
 }
 
 #[test]
@@ -178,7 +191,7 @@ fn the_longest_state(rt: HostRuntime) {
     let mut bytes = buffer(&rt, alloc);
     let count = state_bytes(&bench, &mut bytes);
     assert_eq!(rt; count, 7_356);
-    assert!(rt; is_read(&rt, alloc, &bytes[..7_356]));
-    assert!(rt; !is_read(&rt, alloc, &bytes[..7_355]));
-    assert!(rt; !is_read(&rt, alloc, &bytes[..7_357]));
+    assert!(rt; is_read(&rt, alloc, front(&rt, &bytes, 7_356)));
+    assert!(rt; !is_read(&rt, alloc, front(&rt, &bytes, 7_355)));
+    assert!(rt; !is_read(&rt, alloc, front(&rt, &bytes, 7_357)));
 }
