@@ -19,7 +19,7 @@ use std::alloc::{AllocError, Global};
 
 /// The most bits of a chain: half of the bytes that an address can tell apart, so that a chain of more would be
 /// larger than any memory.
-const MOST_BITS: usize = isize::MAX as usize / 2;
+const MOST_BITS: usize = isize::MAX as usize / 4;
 
 /// How many addresses the ROMs have.
 const ADDRESSES: usize = 4096;

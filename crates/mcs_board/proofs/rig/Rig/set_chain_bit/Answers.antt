@@ -1,4 +1,4 @@
-use Rattle.std.proofs.Common.{◌≡◌, ℕ, ◌*◌, ◌^◌, ◌<◌, ◌≤◌, ◌∙◌, [], sym, ap, arith, length, get_or, slice_set}
+use Rattle.std.proofs.Common.{◌≡◌, ◌*◌, ◌<◌, ◌∙◌, [], sym, ap, arith, length, get_or, slice_set}
 use Rattle.std.proofs.lemmas.List.{get_or_default, length-set}
 use Rattle.mcs_model.specs.declared.board.ChainPart.{ChainPart}
 use Rattle.mcs_model.specs.Boards.{chain_count, chain_bits}
@@ -47,9 +47,6 @@ returns g c =
     ∙ ap (λ d. record s { chains = slice_set s.chains n d }) new
     ∙ ap (λ k. with_chain_bit s k c.from-place.result c.args.bit) c.from-n.ensures
     ∙ ap (λ k. with_chain_bit s c.args.chain k c.args.bit) c.from-place.ensures
-
-small : (i n size : ℕ) → i < n → n * size < 2 ^ 63 → size < 2 ^ 63
-small i n size l all = let one : 1 * size ≤ n * size = mul-le-mul_right {m = 1} {n = n} size (omega arith) in omega (arith, one)
 
 pub set_bit-requires : goal.set_bit-requires
 set_bit-requires g c =
