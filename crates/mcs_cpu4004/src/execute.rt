@@ -304,7 +304,7 @@ macro_rules! effect {
 
 /// The effect of the instruction, by its row.
 macro_rules! effect_rows {
-    (($regs:ident, $bus:ident, $op:ident) $($codes:pat, $name:ident $kind:ident $words:literal $cycles:literal $text:literal;)*) => {
+    (($regs:ident, $bus:ident, $op:ident) $($codes:pat, $name:ident $kind:ident $words:literal $cycles:literal $group:ident $text:literal;)*) => {
         match $op {
             $(taken!(a b $name $kind) => effect!($name $regs $bus a b),)*
         }

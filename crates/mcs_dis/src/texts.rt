@@ -10,7 +10,7 @@ use std::alloc::AllocError;
 
 /// The name, by the row of the instruction.
 macro_rules! name_rows {
-    (($op:ident) $($codes:pat, $name:ident $kind:ident $words:literal $cycles:literal $text:literal;)*) => {
+    (($op:ident) $($codes:pat, $name:ident $kind:ident $words:literal $cycles:literal $group:ident $text:literal;)*) => {
         match *$op {
             $(taken!(_a _b $name $kind) => $text,)*
         }
@@ -86,7 +86,7 @@ macro_rules! pushed {
 
 /// The operands, by the row of the instruction.
 macro_rules! operand_rows {
-    (($out:ident, $at:ident, $op:ident) $($codes:pat, $name:ident $kind:ident $words:literal $cycles:literal $text:literal;)*) => {
+    (($out:ident, $at:ident, $op:ident) $($codes:pat, $name:ident $kind:ident $words:literal $cycles:literal $group:ident $text:literal;)*) => {
         match $op {
             $(taken!(a b $name $kind) => pushed!(($out $at) a b $name $kind),)*
         }

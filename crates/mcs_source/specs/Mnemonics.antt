@@ -15,9 +15,9 @@ named w (row ∷ rows) = if str_eq_ignore_ascii_case w row.0 then Some row.1 els
 unfoldable pub orders : List ℕ → Option Mnemonic
 orders w = named w ((codes "ORG", m.Org) ∷ (codes "DB", m.Db) ∷ (codes "JCN", m.Jcn) ∷ (codes "FIM", m.Fim) ∷ (codes "SRC", m.Src) ∷ (codes "FIN", m.Fin) ∷ (codes "JIN", m.Jin) ∷ (codes "JUN", m.Jun) ∷ (codes "JMS", m.Jms) ∷ [])
 
--- the instructions that name a register or a value, and `NOP`
+-- `NOP`, and the instructions that name a register or a value
 unfoldable pub on_registers : List ℕ → Option Mnemonic
-on_registers w = named w ((codes "INC", m.Inc) ∷ (codes "ISZ", m.Isz) ∷ (codes "ADD", m.Add) ∷ (codes "SUB", m.Sub) ∷ (codes "LD", m.Ld) ∷ (codes "XCH", m.Xch) ∷ (codes "BBL", m.Bbl) ∷ (codes "LDM", m.Ldm) ∷ (codes "NOP", m.Bare Nop) ∷ [])
+on_registers w = named w ((codes "NOP", m.Bare Nop) ∷ (codes "INC", m.Inc) ∷ (codes "ISZ", m.Isz) ∷ (codes "ADD", m.Add) ∷ (codes "SUB", m.Sub) ∷ (codes "LD", m.Ld) ∷ (codes "XCH", m.Xch) ∷ (codes "BBL", m.Bbl) ∷ (codes "LDM", m.Ldm) ∷ [])
 
 -- the instructions that write to RAM and to ports
 unfoldable pub on_ports : List ℕ → Option Mnemonic
