@@ -1,7 +1,8 @@
 //! The texts of instructions.
 ghost use Rattle.std.specs.Prelude.{◌≡◌, ◌++◌, ◌/◌, ◌%◌, codes, string_bytes, OnOk};
 ghost use Rattle.std.specs.Fmt.{decimal};
-ghost use Rattle.mcs_source.specs.Text.{hex_2, address, near_page, name, operands, text_of, piece_text, origin_text, address_digits, word_columns, columns};
+ghost use Rattle.mcs_source.specs.Names.{name};
+ghost use Rattle.mcs_source.specs.Text.{hex_2, address, near_page, operands, text_of, piece_text, origin_text, address_digits, word_columns, columns};
 ghost use Rattle.mcs_model.specs.QueryText.{as_line};
 
 use mcs_code::{Op, instructions, taken};
