@@ -222,6 +222,9 @@ impl KeyPad {
         let levels = bits.ten_from(usize::from(self.matrix.first));
         let mut driven: u8 = 0;
         for r in 0..usize::from(self.matrix.rows) {
+            if levels >> r == 0 {
+                return driven;
+            }
             if levels >> r & 1 == 1 {
                 driven |= self.rows[r];
             }

@@ -102,6 +102,7 @@ impl Chip {
     }
 
     /// Does a write to a bank that goes to this chip.
+    #[inline(always)]
     fn store(&mut self, write: BankWrite)
         requires { IsInBank write }
         ensures stored { cells_of self.new ≡ chip_after (cells_of self.old) write }
@@ -182,6 +183,7 @@ impl<const CHIPS: usize> Bank<CHIPS> {
     }
 
     /// Does a write; lost where its chip is absent.
+    #[inline(always)]
     pub fn store(&mut self, write: BankWrite)
         requires { IsInBank write }
         ensures stored { self.new ≡ after_write self.old write }
