@@ -220,14 +220,16 @@ impl KeyPad {
         ensures { IsByteOf result (length self.now.matrix.columns.items) (λ j. list_any (drives bits.now self.now.down self.now.matrix j) (range_with_len 0 self.now.matrix.rows)) }
     {
         let levels = bits.ten_from(usize::from(self.matrix.first));
+        let mut left = levels;
         let mut driven: u8 = 0;
         for r in 0..usize::from(self.matrix.rows) {
-            if levels >> r == 0 {
+            if left == 0 {
                 return driven;
             }
-            if levels >> r & 1 == 1 {
+            if left & 1 == 1 {
                 driven |= self.rows[r];
             }
+            left /= 2;
         }
         driven
     }
