@@ -6,6 +6,7 @@ use crate::rig::Rig;
 use mcs_cpu4004::{Cpu, Cycle};
 
 /// One instruction cycle of a processor over a rig, which is the cycle on their flat states.
+#[inline(always)]
 pub fn cycle(cpu: &mut Cpu, rig: &mut Rig<16, 8, 2, 40>) -> Cycle
     ensures outside { (result ≡ Cycle.Outside) ↔ IsNone (cycle_of cpu.old rig.old) }
     ensures idle { (result ≡ Cycle.Idle) ↔ (cpu.old.owed ≡ 1) }

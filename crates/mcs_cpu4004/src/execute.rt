@@ -312,6 +312,7 @@ macro_rules! effect_rows {
 }
 
 /// Does an instruction, where the counter already stands behind its words.
+#[inline(always)]
 pub fn execute<B: Bus>(regs: &mut Regs, bus: &mut B, op: Op)
     requires { regs.old.dcl < 8 }
     ensures regs { regs.new ≡ registers_after op regs.old (B.flat bus.old) }

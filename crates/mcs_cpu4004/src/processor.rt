@@ -1,5 +1,5 @@
 //! The processor and its instruction cycle.
-ghost use Rattle.std.specs.Prelude.{◌≡◌, ℕ, ◌<◌, ◌↔◌, IsNone, IsTrue, unwrap_or};
+ghost use Rattle.std.specs.Prelude.{◌≡◌, ◌≢◌, ℕ, ◌<◌, ◌↔◌, IsNone, IsTrue, unwrap_or};
 ghost use Rattle.mcs_model.specs.Flat.{new_regs};
 ghost use Rattle.mcs_model.specs.Registers.{with_register};
 ghost use Rattle.mcs_model.specs.Effect.{cycle_of, effect};
@@ -12,6 +12,7 @@ use mcs_nibble::{Addr, Bit, Nibble, RegNo};
 use std::marker::Model;
 
 /// The first cycle of an instruction, which does all its work.
+#[inline(always)]
 fn perform<B: Bus>(regs: &mut Regs, bus: &mut B, op: Op)
     requires { regs.old.dcl < 8 }
     ensures effect { (regs.new, B.flat bus.new) ≡ effect op regs.old (B.flat bus.old) }
@@ -61,7 +62,28 @@ impl Cpu {
         Cpu { regs: Regs::new() }
     }
 
+    /// The first cycle of the instruction at the counter, where none is owed.
+    #[inline(always)]
+    #[tactic(auto, unfolding(mcs_model::specs::Effect::cycle_of))]
+    fn begin<B: Bus>(&mut self, bus: &mut B) -> Cycle
+        requires { self.old.owed ≢ 1 }
+        ensures outside { (result ≡ Cycle.Outside) ↔ IsNone (cycle_of self.old (B.flat bus.old)) }
+        ensures works { result ≢ Cycle.Idle }
+        ensures state { (self.new, B.flat bus.new) ≡ unwrap_or (cycle_of self.old (B.flat bus.old)) (self.old, B.flat bus.old) }
+    {
+        let at = self.regs.pc;
+        let second = at.plus(1);
+        match mcs_code::decode(bus.fetch(at), bus.fetch(second)) {
+            None => Cycle::Outside,
+            Some(op) => {
+                perform(&mut self.regs, bus, op);
+                Cycle::Done
+            }
+        }
+    }
+
     /// One instruction cycle on a bus.
+    #[inline(always)]
     #[tactic(auto, unfolding(mcs_model::specs::Effect::cycle_of))]
     pub fn cycle<B: Bus>(&mut self, bus: &mut B) -> Cycle
         ensures outside { (result ≡ Cycle.Outside) ↔ IsNone (cycle_of self.old (B.flat bus.old)) }
@@ -72,15 +94,7 @@ impl Cpu {
             self.regs.owed = 0;
             return Cycle::Idle;
         }
-        let at = self.regs.pc;
-        let second = at.plus(1);
-        match mcs_code::decode(bus.fetch(at), bus.fetch(second)) {
-            None => Cycle::Outside,
-            Some(op) => {
-                perform(&mut self.regs, bus, op);
-                Cycle::Done
-            }
-        }
+        self.begin(bus)
     }
 
     /// Whether the next cycle on a bus would be `Outside`.

@@ -1,32 +1,100 @@
--- Which commands a bench accepts, and what they do.
-use Rattle.std.specs.Prelude.{◌+◌, ◌==◌, Option, Some, None, slice_set, if◌then◌else◌}
+-- Which commands a bench accepts, what they do, and what they answer.
+-- (Our own choice throughout: commands are what a user does at the bench.)
+use Rattle.std.specs.Prelude.{ℕ, Bool, ◌+◌, ◌/◌, ◌==◌, ◌&&◌, ◌||◌, length, Option, Some, None, is_none, nat_lt, nat_le, slice_set, if◌then◌else◌}
+use Rattle.std.specs.List.{list_any}
+use Rattle.mcs_model.specs.declared.board.BoardParts.{BoardParts}
 use Rattle.mcs_model.specs.declared.command.Command.{Command}
-use Rattle.mcs_model.specs.declared.command.Command.TheVariants.{Poke}
+use Rattle.mcs_model.specs.declared.command.Command.TheVariants.{Wire, Load, Press, Release, Run, Step, Poke, Test, Reset, Break, Unbreak}
 use Rattle.mcs_model.specs.declared.command.Place.{Place}
-use Rattle.mcs_model.specs.declared.command.Place.TheVariants.{Register}
+use Rattle.mcs_model.specs.declared.command.Place.TheVariants.{Acc, Cy, Pc, Register, Dcl, Rom, Ram, Status}
 use Rattle.mcs_model.specs.declared.command.Reply.{Reply}
-use Rattle.mcs_model.specs.declared.command.Reply.TheVariants.{Done}
+use Rattle.mcs_model.specs.declared.command.Reply.TheVariants.{Done, Loaded, Ran}
+use Rattle.mcs_model.specs.declared.limits.TheConstants.{ACCEPTED_COMMANDS, BREAKPOINTS, RUN_CYCLES}
 use Rattle.mcs_model.specs.declared.refusals.BenchFault.{BenchFault}
-use Rattle.mcs_model.specs.declared.refusals.BenchFault.TheVariants.{Worn}
-use Rattle.mcs_model.specs.declared.limits.TheConstants.{ACCEPTED_COMMANDS}
-use Rattle.mcs_model.specs.Flat.{Flat}
+use Rattle.mcs_model.specs.declared.refusals.BenchFault.TheVariants.{NoKey, NoRom, NoSuchPlace, BadCount, BreaksFull, Worn}
+use Rattle.mcs_model.specs.declared.regs.Regs.{Regs}
+use Rattle.mcs_model.specs.Boards.{has_key, masks_on}
+use Rattle.mcs_model.specs.Breakpoints.{is_breakpoint, with_breakpoint, without_breakpoint}
+use Rattle.mcs_model.specs.Bus.{BusState, has_chip, wired_of}
+use Rattle.mcs_model.specs.Flat.{Flat, new_regs}
+use Rattle.mcs_model.specs.Places.{with_rom_byte, with_rom_bytes, with_ram, with_status, with_key, after_reset, after_wire}
+use Rattle.mcs_model.specs.Running.{Machine, run_length, after_run, run_stop, step_length, after_step, step_stop}
 
--- Why a state refuses a command, if it does: a worn session refuses each of them (our own choice).
+-- ---- which commands are accepted
+
+-- whether the board lacks the ROM of an address
+abbrev pub lacks_rom : BoardParts → ℕ → Bool
+lacks_rom b at = is_none (masks_on b (at / 256))
+
+-- why a value cannot be put into a place, if so
+abbrev pub place_refusal : BusState → Place → Option BenchFault
+place_refusal s (Rom at byte) = if lacks_rom s.board at then Some NoRom else None
+place_refusal s (Ram bank src n) = if has_chip s bank src then None else Some NoSuchPlace
+place_refusal s (Status bank high k n) = if nat_lt (high / 4) (wired_of s bank) then None else Some NoSuchPlace
+place_refusal s _ = None
+
+-- why a state refuses a command for the command's own sake, if it does
+abbrev pub own_refusal : Flat → Command → Option BenchFault
+own_refusal s (Load image) = if list_any (λ p. lacks_rom s.bus.board p.0) image then Some NoRom else None
+own_refusal s (Press row column) = if has_key s.bus.board row column then None else Some NoKey
+own_refusal s (Release row column) = if has_key s.bus.board row column then None else Some NoKey
+own_refusal s (Run n) = if nat_le 1 n && nat_le n RUN_CYCLES then None else Some BadCount
+own_refusal s (Poke place) = place_refusal s.bus place
+own_refusal s (Break at) = if is_breakpoint s.breakpoints at || nat_lt (length s.breakpoints) BREAKPOINTS then None else Some BreaksFull
+own_refusal s _ = None
+
+-- why a state refuses a command, if it does: a worn session refuses each of them
 abbrev pub refusal : Flat → Command → Option BenchFault
-refusal s c = if s.seq == ACCEPTED_COMMANDS then Some Worn else None
+refusal s c = if s.seq == ACCEPTED_COMMANDS then Some Worn else own_refusal s c
+
+-- ---- what they do
+
+abbrev pub machine_of : Flat → Machine
+machine_of s = (s.processor, s.bus)
+
+abbrev pub with_machine : Flat → Machine → Flat
+with_machine s m = record s { processor = m.0; bus = m.1 }
+
+abbrev pub with_processor : Flat → Regs → Flat
+with_processor s p = record s { processor = p }
+
+abbrev pub with_bus : Flat → BusState → Flat
+with_bus s b = record s { bus = b }
 
 -- the state with a value put into a place
 abbrev pub with_place : Flat → Place → Flat
-with_place s (Register r n) = record s { processor = record s.processor { r = slice_set s.processor.r r n } }
+with_place s (Acc n) = with_processor s (record s.processor { acc = n })
+with_place s (Cy bit) = with_processor s (record s.processor { cy = bit })
+with_place s (Pc at) = with_processor s (record s.processor { pc = at })
+with_place s (Register r n) = with_processor s (record s.processor { r = slice_set s.processor.r r n })
+with_place s (Dcl bank) = with_processor s (record s.processor { dcl = bank })
+with_place s (Rom at byte) = with_bus s (with_rom_byte s.bus at byte)
+with_place s (Ram bank src n) = with_bus s (with_ram s.bus bank src n)
+with_place s (Status bank high k n) = with_bus s (with_status s.bus bank high k n)
 
 -- what a command does, but for the count of commands
 abbrev pub changed : Flat → Command → Flat
+changed s (Wire board) = with_machine s (new_regs, after_wire s.bus board)
+changed s (Load image) = with_bus s (with_rom_bytes s.bus image)
+changed s (Press row column) = with_bus s (with_key s.bus row column 1)
+changed s (Release row column) = with_bus s (with_key s.bus row column 0)
+changed s (Run n) = with_machine s (after_run s.breakpoints n (machine_of s))
+changed s Step = with_machine s (after_step (machine_of s))
 changed s (Poke place) = with_place s place
+changed s (Test bit) = with_bus s (record s.bus { test = bit })
+changed s Reset = with_machine s (new_regs, after_reset s.bus)
+changed s (Break at) = record s { breakpoints = with_breakpoint s.breakpoints at }
+changed s (Unbreak at) = record s { breakpoints = without_breakpoint s.breakpoints at }
 
--- the state after an accepted command: each raises the count by one (our own choice)
+-- the state after an accepted command: each raises the count by one, also where nothing else changes
 abbrev pub after : Flat → Command → Flat
 after s c = record (changed s c) { seq = s.seq + 1 }
 
+-- ---- what they answer
+
 -- what an accepted command answers
 abbrev pub reply : Flat → Command → Reply
-reply s (Poke _) = Done
+reply s (Load image) = Loaded (length image)
+reply s (Run n) = Ran (run_length s.breakpoints n (machine_of s)) (run_stop s.breakpoints n (machine_of s))
+reply s Step = Ran (step_length (machine_of s)) (step_stop (machine_of s))
+reply s _ = Done

@@ -8,10 +8,11 @@ pub mod Places
 pub mod Flat
 pub mod Validity
 pub mod Refusal
-pub mod Command
-pub mod Fold
-pub mod QueryText
 pub mod Table
 pub mod Registers
 pub mod Effect
 pub mod Running
+pub mod Breakpoints
+pub mod Command
+pub mod Fold
+pub mod QueryText

@@ -1,7 +1,7 @@
 -- What a board's chips hold, changed at one place, by a reset, and by a new board.
 -- (Our own choice: that writes to absent chips are lost, that latch bits of input lines stay 0, and what a reset and a new
 -- board clear.)
-use Rattle.std.specs.Prelude.{ℕ, ◌+◌, ◌*◌, ◌/◌, List, [], Some, None, is_some, map, replicate, slice_index, slice_index_or, slice_set, if◌then◌else◌, nat_lt}
+use Rattle.std.specs.Prelude.{ℕ, ◌+◌, ◌*◌, ◌/◌, List, [], ◌∷◌, Some, None, is_some, map, replicate, slice_index, slice_index_or, slice_set, if◌then◌else◌, nat_lt}
 use Rattle.mcs_nibble.specs.Tabled.{tabled}
 use Rattle.mcs_nibble.specs.Ports.{latch_value}
 use Rattle.mcs_model.specs.declared.board.BoardParts.{BoardParts}
@@ -13,6 +13,11 @@ use Rattle.mcs_model.specs.Levels.{with_rom_latch, with_ram_latch}
 -- the ROM byte at an address; lost where the ROM is absent
 unfoldable pub with_rom_byte : BusState → ℕ → ℕ → BusState
 with_rom_byte s at byte = if is_some (masks_on s.board (at / 256)) then record s { rom = slice_set s.rom at byte } else s
+
+-- the ROM bytes of an image, each at its address
+abbrev pub with_rom_bytes : BusState → List (ℕ × ℕ) → BusState
+with_rom_bytes s [] = s
+with_rom_bytes s (p ∷ image) = with_rom_bytes (with_rom_byte s p.0 p.1) image
 
 -- the RAM character of a bank and an SRC byte; lost where the chip is absent
 unfoldable pub with_ram : BusState → ℕ → ℕ → ℕ → BusState

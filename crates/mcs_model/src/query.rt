@@ -1,10 +1,18 @@
 //! Questions about a bench.
 
-/// What a bench is asked. Asking changes nothing.
+use mcs_nibble::BankNo;
+
+/// What a bench is asked of its state. Asking changes nothing.
 #[derive(Clone, Copy, Debug, PartialEq, Eq)]
 pub enum Query {
+    /// The lamps of the board, in order.
+    Lamps,
     /// The registers of the processor, and the TEST pin.
     Regs,
+    /// The RAM of a bank.
+    Ram(BankNo),
+    /// The breakpoints.
+    Breaks,
     /// How many commands were accepted.
     Seq,
 }

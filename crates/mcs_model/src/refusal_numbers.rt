@@ -90,9 +90,6 @@ pub const NOT_A_SESSION: u8 = 50;
 /// A session file that stands for no state.
 pub const DAMAGED: u8 = 51;
 
-/// The log has no room for a record.
-pub const FULL: u8 = 52;
-
 /// A call of the device failed.
 pub const DEVICE: u8 = 53;
 

@@ -1,5 +1,5 @@
-//! The bounded numbers of the MCS-4: bits, nibbles, addresses, the numbers of registers and of
-//! register pairs, and what a port line of a ROM is.
+//! The bounded numbers of the MCS-4: bits, nibbles, addresses, the numbers of registers, of register
+//! pairs, of RAM banks and of status characters, and what a port line of a ROM is.
 //!
 //! Each type holds a number that cannot leave its range, and contracts see it as that number.
 //! Sums and differences are those of the 4004: modulo 16, with the carry as a bit of its own.
@@ -8,6 +8,7 @@
 #![tactic(auto)]
 
 mod addresses;
+mod banks;
 mod bits;
 mod lines;
 mod nibbles;
@@ -15,6 +16,7 @@ mod pairs;
 mod registers;
 
 pub use addresses::Addr;
+pub use banks::{BankNo, StatusNo};
 pub use bits::Bit;
 pub use lines::LineMask;
 pub use nibbles::Nibble;

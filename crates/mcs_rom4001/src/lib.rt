@@ -53,9 +53,9 @@ fn read_line(mask: &[LineMask; 4], inputs: Nibble, k: u8) -> Bit
     }
 }
 
-/// What the latch holds once `n` is written.
+/// What the latch of a port with these masks holds once `n` is written: 0 on input lines, `n` on output lines.
 #[tactic(auto, unfolding(mcs_nibble::specs::Ports::latch_value))]
-fn held_port(mask: &[LineMask; 4], n: Nibble) -> Nibble
+pub fn held_port(mask: &[LineMask; 4], n: Nibble) -> Nibble
     ensures { result ≡ latch_value mask.now n }
 {
     Nibble::of_bits(

@@ -1,16 +1,15 @@
 -- What a power cut leaves of two runs, one after the other.
-use Rattle.std.proofs.Common.{◌≡◌, inl, inr, ◌+◌, ◌≤◌, ⊎_elim, ℕ, IsTrue, List, [], ◌∷◌, ◌++◌, length, sym, ap, ◌∙◌, refl, subst, arith, length-append}
+use Rattle.std.proofs.Common.{◌≡◌, ◌⊎◌, inl, inr, ◌+◌, ◌≤◌, ⊎_elim, ℕ, IsTrue, List, [], ◌∷◌, ◌++◌, length, sym, ap, ◌∙◌, refl, subst, arith, length-append}
 use Rattle.std.proofs.lemmas.Bool.{cases_lt}
 use Rattle.mcs_disk.specs.Disk.{DiskState, IsLawful}
-use Rattle.mcs_disk.specs.Moments.{LeavesOnly, Either, GoesOn, Stays}
+use Rattle.mcs_disk.specs.Moments.{LeavesOnly, GoesOn, Stays}
 use Rattle.mcs_disk.proofs.Composing.{leaves_then}
 use Rattle.mcs_model.specs.declared.command.Command.{Command}
 use Rattle.mcs_model.specs.Flat.{Flat}
 use Rattle.mcs_model.specs.Command.{after}
 use Rattle.mcs_model.specs.Fold.{fold}
 use Rattle.mcs_session.specs.Stands.{StandsFor, IsAt}
-use Rattle.mcs_session.specs.Answers.{Acknowledges}
-use Rattle.mcs_session.specs.Log.{Log, Open, Shut, is_open_log, logged, with_record}
+use Rattle.mcs_session.specs.Answers.{Acknowledges, MayLeave, Ticks}
 use Rattle.mcs_session.specs.Standing.{SessionState, Standing}
 use Rattle.mcs_session.specs.Kept.{Carries, IsSettled, IsSettledAt, IsSpaced, Kept, KeptWhole, StandsForPrefix, acknowledged_by, last_moment}
 use Rattle.mcs_session.proofs.Folds.{standing_after-further}
@@ -106,15 +105,10 @@ whole_nothing d s h = stays_keeps d d s (stays d) h h.lawful
 
 -- ---- sessions
 
-pub open_after : (log : Log) (cs : List Command) → IsTrue (is_open_log log) → IsTrue (is_open_log (logged log cs))
-open_after log [] h = h
-open_after Shut (c ∷ cs) h = absurd (cc h)
-open_after (Open used) (c ∷ cs) h = open_after (with_record (Open used) c) cs h
-
 -- the premise of the next stretch
 pub settled_on : (a b : SessionState) (cs : List Command) → Carries IsSettled a b cs → IsSettled a → IsSettled b
 settled_on a b cs x given = record {
-  honest = (subst (λ (m : Standing). IsTrue (is_open_log m.log)) (sym x.standing) (open_after a.standing.log cs given.honest.0), x.honest.1 given.honest.1);
+  honest = (subst (λ (m : Standing). IsTrue m.live) (sym x.standing) given.honest.0, x.honest.1 given.honest.1);
   settled = settled_after a.disk b.disk a.standing.state b.standing.state cs (ap (λ (m : Standing). m.state) x.standing) (x.kept given);
 }
 
@@ -136,16 +130,19 @@ carries_more a b c cs ds x y = record {
 goes_on : (d e : DiskState) (P : List ℕ → Type 0) → LeavesOnly d e P → GoesOn d e
 goes_on d e P a = record { later = a.later; each = λ image now. tt; before = a.before; keeps = a.keeps }
 
-pub acknowledged_keeps : (d e : DiskState) (s : Flat) (c : Command) → Acknowledges d e s (after s c) → IsLawful e → KeptWhole d e s (c ∷ [])
+-- four or eight steps
+spaced_by : (d e : DiskState) (c : Command) → Ticks d e c → (e.clock ≡ d.clock + 4) ⊎ (e.clock ≡ d.clock + 8)
+spaced_by d e c ticks = elim ticks [ inl room ↦ inl room.1 | inr none ↦ inr none.1 ]
+
+pub acknowledged_keeps : (d e : DiskState) (s : Flat) (c : Command) → Acknowledges d e s c → IsLawful e → KeptWhole d e s (c ∷ [])
 acknowledged_keeps d e s c a lawful = record {
   kept = record {
     moments = e.clock ∷ [];
     count = refl;
-    spaced = (inl a.ticks, tt);
+    spaced = (spaced_by d e c a.ticks, tt);
     within = omega arith;
     each = λ u image le now. elim (cases_lt u e.clock) [
       | inl early ↦
-          let ticks = a.ticks in
           let none : acknowledged_by u (e.clock ∷ []) ≡ 0 = acknowledged_before u e.clock early in
           ⊎_elim
           (λ (old : StandsFor image s). rw none (prefix_none s (c ∷ []) image old))
@@ -159,7 +156,7 @@ acknowledged_keeps d e s c a lawful = record {
   now = refl;
 }
 
-pub failed_keeps : (d e : DiskState) (s : Flat) (c : Command) → LeavesOnly d e (Either (λ f. StandsFor f s) (λ f. StandsFor f (after s c))) → IsLawful e → Kept d e s [] (c ∷ [])
+pub failed_keeps : (d e : DiskState) (s : Flat) (c : Command) → MayLeave d e s (after s c) → IsLawful e → Kept d e s [] (c ∷ [])
 failed_keeps d e s c a lawful = record {
   moments = [];
   count = refl;

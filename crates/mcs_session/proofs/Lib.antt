@@ -1,7 +1,7 @@
-pub mod NewText
 pub mod Folds
 pub mod Prefixes
 pub mod Keeping
-pub mod Replaying
-pub mod Recording
+pub mod Records
+pub mod Files
+pub mod Room
 pub mod Reopening

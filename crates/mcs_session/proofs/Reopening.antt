@@ -11,7 +11,7 @@ use Rattle.mcs_session.specs.Answers.{RefusesSession}
 use Rattle.mcs_session.specs.Kept.{IsAfterPrefix, IsReopened, Kept, StandsForPrefix, acknowledged_by}
 use Rattle.mcs_session.specs.Stands.{StandsFor}
 use Rattle.mcs_session.proofs.Prefixes.{acknowledged_all, acknowledged_at, prefix_all, prefix_fewer, spaced_le}
-use Rattle.mcs_session.proofs.Recording.{is_session, one_state}
+use Rattle.mcs_session.proofs.Files.{is_session, one_state}
 
 pub reopened : (t : ℕ) (old new found opened : DiskState) (s u : Flat) (done reached : List Command) (kept : Kept old new s done reached) → old.clock ≤ t
     → IsReopened t new found opened u → IsAfterPrefix s reached (acknowledged_by t kept.moments) u

@@ -1,5 +1,5 @@
 -- What the calls of a session answer, and what they do to the disk.
-use Rattle.std.specs.Prelude.{◌≡◌, ◌+◌, min, true, false, ℕ, None, Some, Result, Ok, Err}
+use Rattle.std.specs.Prelude.{◌≡◌, ◌⊎◌, ◌+◌, min, Bool, true, false, ℕ, None, Some, Result, Ok, Err}
 use Rattle.mcs_disk.specs.Disk.{DiskState, most_faults}
 use Rattle.mcs_disk.specs.Moments.{Either, GoesOn, LeavesOnly, Rests, Stays}
 use Rattle.mcs_journal.specs.Answers.{IsNoSession}
@@ -11,9 +11,8 @@ use Rattle.mcs_model.specs.declared.command.Reply.{Reply}
 use Rattle.mcs_model.specs.Flat.{Flat, new_flat}
 use Rattle.mcs_model.specs.Command.{refusal, after, reply}
 use Rattle.mcs_session.specs.declared.fault.SessionFault.{SessionFault}
-use Rattle.mcs_session.specs.declared.fault.SessionFault.TheVariants.{Refused, Full, Device, Closed}
-use Rattle.mcs_session.specs.Log.{Log, Open, Shut, fits, with_record}
-use Rattle.mcs_session.specs.Stands.{StandsFor, IsAt}
+use Rattle.mcs_session.specs.declared.fault.SessionFault.TheVariants.{Refused, Device, Closed}
+use Rattle.mcs_session.specs.Stands.{HasRoomFor, IsAt, StandsFor}
 
 -- ---- `create` and `open` on an honest disk
 
@@ -44,30 +43,36 @@ RefusesSession open_fault.NoMemory disk = Unit {0}
 
 -- ---- `apply`
 
--- from this log and state the command leads to that answer and that state
-abbrev pub Applied : Log → Flat → Command → Result Reply SessionFault → Flat → Type 0
-Applied (Open used) s c (Ok r) t = (refusal s c ≡ None) × (fits used c ≡ true) × (r ≡ reply s c) × (t ≡ after s c)
-Applied (Open used) s c (Err (Refused f)) t = (refusal s c ≡ Some f) × (t ≡ s)
-Applied (Open used) s c (Err Full) t = (refusal s c ≡ None) × (fits used c ≡ false) × (t ≡ s)
-Applied (Open used) s c (Err Device) t = (refusal s c ≡ None) × (fits used c ≡ true) × (t ≡ s)
-Applied Shut s c (Err Closed) t = t ≡ s
-Applied log s c result t = ⊥
+-- from this state the command leads to that answer and that state, on a session that is open or is not
+abbrev pub Applied : Bool → Flat → Command → Result Reply SessionFault → Flat → Type 0
+Applied true s c (Ok r) t = (refusal s c ≡ None) × (r ≡ reply s c) × (t ≡ after s c)
+Applied true s c (Err (Refused f)) t = (refusal s c ≡ Some f) × (t ≡ s)
+Applied true s c (Err Device) t = (refusal s c ≡ None) × (t ≡ s)
+Applied false s c (Err Closed) t = t ≡ s
+Applied live s c result t = ⊥
 
--- The session is closed where the device failed, and the count of faults rose there alone; else the log has grown by
--- the record of an acknowledged command.
-abbrev pub Closes : Log → ℕ → Command → Result Reply SessionFault → Log → ℕ → Type 0
-Closes log faults c (Ok r) new_log new_faults = (new_log ≡ with_record log c) × (new_faults ≡ faults)
-Closes log faults c (Err Device) new_log new_faults = (new_log ≡ Shut) × (new_faults ≡ min (faults + 1) most_faults)
-Closes log faults c (Err fault) new_log new_faults = (new_log ≡ log) × (new_faults ≡ faults)
+-- the session is closed where the device failed, and the count of faults rose there alone
+abbrev pub Closes : Bool → ℕ → Result Reply SessionFault → Bool → ℕ → Type 0
+Closes live faults (Ok r) new_live new_faults = (new_live ≡ live) × (new_faults ≡ faults)
+Closes live faults (Err Device) new_live new_faults = (new_live ≡ false) × (new_faults ≡ min (faults + 1) most_faults)
+Closes live faults (Err fault) new_live new_faults = (new_live ≡ live) × (new_faults ≡ faults)
 
--- Until it is acknowledged, a power cut leaves the state before or after, and from then on the state after.
-pub record Acknowledges (old new : DiskState) (s t : Flat) : Type 0 where
-  pub moments : LeavesOnly old new (Either (λ c. StandsFor c s) (λ c. StandsFor c t))
-  pub ticks : new.clock ≡ old.clock + 4
-  pub now : IsAt new t
+-- at every moment of this stretch a power cut leaves the one state or the other
+abbrev pub MayLeave : DiskState → DiskState → Flat → Flat → Type 0
+MayLeave old new s t = LeavesOnly old new (Either (λ file. StandsFor file s) (λ file. StandsFor file t))
+
+-- an acknowledged command takes four steps of the clock where there was room for its record, and eight where there was none
+abbrev pub Ticks : DiskState → DiskState → Command → Type 0
+Ticks old new c = (HasRoomFor old.bytes c × (new.clock ≡ old.clock + 4)) ⊎ (¬ (HasRoomFor old.bytes c) × (new.clock ≡ old.clock + 8))
+
+-- Until the command is acknowledged, a power cut leaves the state before or after, and from then on the state after.
+pub record Acknowledges (old new : DiskState) (s : Flat) (c : Command) : Type 0 where
+  pub moments : MayLeave old new s (after s c)
+  pub ticks : Ticks old new c
+  pub now : IsAt new (after s c)
 
 -- what the command does to an honest disk
 abbrev pub Recorded : Result Reply SessionFault → DiskState → DiskState → Flat → Command → Type 0
-Recorded (Ok r) old new s c = Acknowledges old new s (after s c)
-Recorded (Err Device) old new s c = LeavesOnly old new (Either (λ f. StandsFor f s) (λ f. StandsFor f (after s c)))
+Recorded (Ok r) old new s c = Acknowledges old new s c
+Recorded (Err Device) old new s c = MayLeave old new s (after s c)
 Recorded (Err fault) old new s c = Stays old new

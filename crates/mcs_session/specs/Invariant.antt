@@ -1,19 +1,36 @@
--- What the fields of a session keep.
-use Rattle.std.specs.Prelude.{◌≡◌, ℕ, List, Bool, IsTrue, length}
+-- What the fields of a session keep, and what its steps do.
+use Rattle.std.specs.Prelude.{◌≡◌, ◌⊎◌, ◌+◌, ◌≤◌, ℕ, List, Bool, IsTrue, length}
 use Rattle.mcs_disk.specs.Disk.{DiskState}
 use Rattle.mcs_disk.specs.Moments.{IsDurable}
-use Rattle.mcs_journal.specs.declared.format.TheConstants.{MOST_RECORD}
+use Rattle.mcs_journal.specs.declared.format.TheConstants.{MOST_RECORD, MOST_SNAP}
+use Rattle.mcs_model.specs.declared.limits.TheConstants.{REPLAY_CYCLES}
 use Rattle.mcs_model.specs.Flat.{Flat}
-use Rattle.mcs_session.specs.Log.{HasUsed}
-use Rattle.mcs_session.specs.Stands.{StandsFor}
+use Rattle.mcs_session.specs.Stands.{HasSpace, RecordsStandFor, StandsFor, log_cycles}
 
--- an honest disk of an open session: whatever a power cut leaves stands for the state of the bench
-pub record IsRecorded (disk : DiskState) (used : ℕ) (s : Flat) : Type 0 where
+-- an honest disk of an open session: whatever a power cut leaves stands for the state of the bench, by a log of so many cycles
+pub record IsRecorded (disk : DiskState) (cycles : ℕ) (s : Flat) : Type 0 where
   pub durable : IsDurable disk
   pub stands : StandsFor disk.bytes s
-  pub log : HasUsed disk.bytes used
+  pub count : cycles ≡ log_cycles stands.stand.commands
 
--- the buffer has room for a record, and what an open session did is recorded on an honest disk
-pub record IsSession (disk : DiskState) (live : Bool) (used : ℕ) (s : Flat) (buffer : List ℕ) : Type 0 where
-  pub lent : length buffer ≡ MOST_RECORD
-  pub recorded : IsTrue live → disk.honest → IsRecorded disk used s
+-- there is room for the bytes of a command and for a snapshot, and the cycles of the log are within their limit
+pub record IsReady (cycles : ℕ) (text snapshot : List ℕ) : Type 0 where
+  pub text_lent : length text ≡ MOST_RECORD
+  pub snapshot_lent : length snapshot ≡ MOST_SNAP
+  pub within : cycles ≤ REPLAY_CYCLES
+
+-- what an open session did is recorded on an honest disk
+pub record IsSession (disk : DiskState) (live : Bool) (cycles : ℕ) (s : Flat) (text snapshot : List ℕ) : Type 0 where
+  pub ready : IsReady cycles text snapshot
+  pub recorded : IsTrue live → disk.honest → IsRecorded disk cycles s
+
+-- a snapshot and records stand for this state, by commands of so many cycles
+pub record IsReplayed (snap : List ℕ) (records : List (List ℕ)) (cycles : ℕ) (s : Flat) : Type 0 where
+  pub stand : RecordsStandFor snap records s
+  pub count : cycles ≡ log_cycles stand.commands
+
+-- Room was made for a record of so many bytes and so many cycles, in no step where there was room and else in four. The disk stands
+-- for the same state still, by a log of so many cycles.
+pub record HasMadeRoom (old new : DiskState) (bytes more cycles : ℕ) (s : Flat) : Type 0 where
+  pub ticks : (HasSpace old.bytes bytes more × (new.clock ≡ old.clock)) ⊎ (¬ (HasSpace old.bytes bytes more) × (new.clock ≡ old.clock + 4))
+  pub recorded : IsRecorded new cycles s

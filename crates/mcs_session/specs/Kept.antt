@@ -7,7 +7,6 @@ use Rattle.mcs_model.specs.declared.command.Command.{Command}
 use Rattle.mcs_model.specs.Flat.{Flat}
 use Rattle.mcs_model.specs.Fold.{fold}
 use Rattle.mcs_session.specs.Answers.{OpensSession}
-use Rattle.mcs_session.specs.Log.{is_open_log}
 use Rattle.mcs_session.specs.Standing.{SessionState, standing_after}
 use Rattle.mcs_session.specs.Stands.{StandsFor, IsAt}
 
@@ -62,7 +61,7 @@ pub record KeptWhole (old new : DiskState) (s : Flat) (cs : List Command) : Type
 
 -- the premise of what is kept: an open session on an honest disk
 abbrev pub IsHonest : SessionState → Type 0
-IsHonest a = IsTrue (is_open_log a.standing.log) × a.disk.honest
+IsHonest a = IsTrue a.standing.live × a.disk.honest
 
 -- whatever a power cut now leaves stands for this state
 pub record IsSettledAt (disk : DiskState) (s : Flat) : Type 0 where

@@ -1,6 +1,4 @@
-pub mod Codec
 pub mod Stands
-pub mod Log
 pub mod Standing
 pub mod Answers
 pub mod Invariant

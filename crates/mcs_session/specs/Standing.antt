@@ -1,24 +1,24 @@
--- How a session stands: its log, the state of its bench, and its disk.
-use Rattle.std.specs.Prelude.{List}
+-- How a session stands: whether it is open, the state of its bench, and its disk.
+use Rattle.std.specs.Prelude.{Bool, List}
 use Rattle.mcs_disk.specs.Disk.{DiskState}
 use Rattle.mcs_model.specs.declared.command.Command.{Command}
 use Rattle.mcs_model.specs.Flat.{Flat}
 use Rattle.mcs_model.specs.Fold.{fold}
-use Rattle.mcs_session.specs.Log.{Log, logged}
 
--- the log of a session and the state of its bench
+-- whether a session is open, and the state of its bench
 pub record Standing : Type 0 where
-  pub log : Log
+  -- no command was answered with a device fault
+  pub live : Bool
   pub state : Flat
 
 -- how a session stands once these commands were accepted and recorded
 abbrev pub standing_after : Standing → List Command → Standing
-standing_after m cs = record { log = logged m.log cs; state = fold m.state cs }
+standing_after m cs = record { live = m.live; state = fold m.state cs }
 
 -- what contracts see of a session: its disk too, as a value of the disk's type
 pub record SessionView (D : Type 0) : Type 0 where
   pub disk : D
-  pub log : Log
+  pub live : Bool
   pub state : Flat
 
 -- the same with what contracts see of the disk
@@ -27,4 +27,4 @@ pub record SessionState : Type 1 where
   pub disk : DiskState
 
 abbrev pub session_state : {D : Type 0} → DiskState → SessionView D → SessionState
-session_state disk s = record { standing = record { log = s.log; state = s.state }; disk = disk }
+session_state disk s = record { standing = record { live = s.live; state = s.state }; disk = disk }

@@ -8,9 +8,6 @@ pub enum SessionFault {
     /// The bench refuses the command.
     #[error("refused by the bench")]
     Refused(BenchFault),
-    /// The log has no room for the record of the command.
-    #[error("the session is full")]
-    Full,
     /// A call of the disk failed. The session is closed from then on.
     #[error("the device failed")]
     Device,

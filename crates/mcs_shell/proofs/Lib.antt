@@ -1,10 +1,12 @@
 pub mod Cutting
-pub mod LineWords
 pub mod LineFeeds
+pub mod ShortLines
+pub mod TextLaws
+pub mod PlainText
+pub mod ByAddress
 pub mod Served
 pub mod GrowingBytes
 pub mod Steps
 pub mod Doing
 pub mod Looping
-pub mod DecimalDigits
 pub mod Surviving

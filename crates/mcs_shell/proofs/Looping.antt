@@ -1,5 +1,5 @@
 -- The loop over chunks.
-use Rattle.std.proofs.Common.{◌≡◌, ℕ, ◌+◌, ◌<◌, ◌≤◌, List, [], ◌∷◌, ◌++◌, Bool, true, false, length, Option, map, inr, ap, sym, append_assoc, length-append, ◌∙◌, refl, subst, arith, if◌then◌else◌, nat_lt}
+use Rattle.std.proofs.Common.{◌≡◌, ℕ, ◌+◌, ◌<◌, ◌≤◌, List, [], ◌∷◌, ◌++◌, Bool, true, false, length, Option, map, inr, ap, sym, append_assoc, length-append, ◌∙◌, refl, subst, arith}
 use Rattle.std.specs.Io.KnownBytes.{Appends, Consumes, Keeps}
 use Rattle.std.proofs.lemmas.Grind.{common_steps}
 use Rattle.mcs_model.specs.declared.command.Command.{Command}
@@ -10,58 +10,66 @@ use Rattle.mcs_shell.specs.declared.outcome.Halt.TheVariants as halt
 use Rattle.mcs_shell.specs.declared.ends.ShellEnd.{ShellEnd}
 use Rattle.mcs_shell.specs.declared.ends.ShellEnd.TheVariants.{End, ReadFault, WriteFault, DeviceFault, InputLimit, NoMemory}
 use Rattle.mcs_model.specs.declared.limits.TheConstants.{INPUT_BYTES}
-use Rattle.mcs_shell.specs.Inputs.{Input, HasNoFeed, input_of, inputs}
+use Rattle.mcs_shell.specs.Lines.{HasNoFeed}
+use Rattle.mcs_shell.specs.Inputs.{Input, BadText, Commands, InText, Pending, fresh, inputs, inputs_after}
+use Rattle.mcs_shell.specs.declared.texts.TextKind.{TextKind}
+use Rattle.mcs_shell.specs.declared.texts.TextFault.TheVariants.{NoEnd}
 use Rattle.mcs_session.specs.Standing.{SessionState, Standing, standing_after}
 use Rattle.mcs_shell.specs.Stage.{Stage}
-use Rattle.mcs_shell.specs.Transcript.{Went, all_commands, session_text, transcript}
+use Rattle.mcs_shell.specs.Transcript.{Went, all_commands, transcript}
+use Rattle.mcs_answers.specs.AnswerTexts.{session_text}
 use Rattle.mcs_session.specs.Kept.{Carries, IsHonest, IsSettled}
-use Rattle.mcs_shell.specs.Serving.{CutShort, Failed, LastBy, LastStep, Stopped, StoppedAt, WentFurther, WentOn}
+use Rattle.mcs_shell.specs.Serving.{CutShort, Failed, LastStep, StopsAt, Stopped, StoppedAt, WentFurther, WentOn}
 use Rattle.mcs_shell.specs.Shell.{Began, EndsBy, InputEnded, LoopRan, RanGiven, ReadSome, ServedAll, ServedSome, Untouched, WasRead, end_of_halt}
 use Rattle.mcs_shell.specs.Finishing.{FinishedBy}
-use Rattle.mcs_shell.proofs.Cutting.{nil_right}
+use Rattle.mcs_lines.proofs.Cutting.{nil_right}
 use Rattle.mcs_shell.proofs.GrowingBytes.{appends_more, appends_nothing, consumes_kept, consumes_more, consumes_nothing}
 use Rattle.mcs_session.proofs.Keeping.{carries_more}
-use Rattle.mcs_shell.proofs.LineFeeds.{inputs-cut, inputs-ended, nat_lt-true}
+use Rattle.mcs_shell.proofs.LineFeeds.{after-commands, after-cut, after-no_end, after-whole}
 use Rattle.mcs_session.proofs.Folds.{standing_after-further}
 use Rattle.mcs_shell.proofs.Served.{Went-append, Went-alone, Went-nothing, all_commands-alone, all_commands-further, all_commands-nothing, alone, map-append, transcript-alone, transcript-append, transcript-nothing}
-use Rattle.mcs_shell.proofs.Steps.{MovesBack, carries_none, cut_after, failed_after, went_stay, went_twice}
+use Rattle.mcs_shell.proofs.Steps.{MovesBack, carries_none, cut_after, failed_after, stopped_after, went_stay, went_twice}
 
 -- how far the loop has come
-pub record SoFar (r r' : Option (List ℕ)) (a b : Stage) (line : List ℕ) (total : ℕ) : Type 0 where
+pub record SoFar (r r' : Option (List ℕ)) (a b : Stage) (line : Pending) (total : ℕ) : Type 0 where
   pub bytes : List ℕ
   pub count : length bytes ≡ total
   pub consumed : Consumes r r' bytes
-  pub went : WentFurther a b [] line bytes
+  pub went : WentFurther a b fresh line bytes
 
-pub so_far_nothing : (r : Option (List ℕ)) (a : Stage) (line : List ℕ) → line ≡ [] → SoFar r r a a line 0
-so_far_nothing r a line e = let P : List ℕ → Type 0 = λ l. SoFar r r a a l 0 in subst P (sym e) (record {
+pub so_far_nothing : (r : Option (List ℕ)) (a : Stage) (line : Pending) → line ≡ fresh → SoFar r r a a line 0
+so_far_nothing r a line e = let P : Pending → Type 0 = λ l. SoFar r r a a l 0 in subst P (sym e) (record {
   bytes = [];
   count = refl;
   consumed = consumes_nothing r;
-  went = went_stay a [] tt;
+  went = went_stay a fresh tt;
 })
 
-pub so_far_more : (r r' r'' : Option (List ℕ)) (a b c : Stage) (line new_line chunk : List ℕ) (total n most : ℕ)
+pub so_far_more : (r r' r'' : Option (List ℕ)) (a b c : Stage) (line new_line : Pending) (chunk : List ℕ) (total n most : ℕ)
     → SoFar r r' a b line total → ReadSome n most r' r'' chunk → WentFurther b c line new_line chunk → SoFar r r'' a c new_line (total + n)
 so_far_more r r' r'' a b c line new_line chunk total n most x y z = record {
   bytes = x.bytes ++ chunk;
   count = length-append x.bytes chunk ∙ let e : length x.bytes + length chunk ≡ total + n = omega (arith, x.count, y.count) in e;
   consumed = consumes_more r r' r'' x.bytes chunk x.consumed y.consumed;
-  went = went_twice a b c [] line new_line x.bytes chunk x.went z;
+  went = went_twice a b c fresh line new_line x.bytes chunk x.went z;
 }
 
+from_fresh : (bytes : List ℕ) (whole : Bool) → inputs bytes whole ≡ inputs_after fresh (bytes ++ []) whole
+unfolding inputs
+from_fresh bytes whole = ap (λ v. inputs_after fresh v whole) (sym (nil_right bytes))
+
 -- what was served of bytes that were cut
-pub served_cut : (a b : Stage) (line bytes : List ℕ) → WentFurther a b [] line bytes → ServedAll IsSettled false bytes a b
+pub served_cut : (a b : Stage) (line : Pending) (bytes : List ℕ) → WentFurther a b fresh line bytes → ServedAll IsSettled (inputs bytes false) a b
 served_cut a b line bytes x = record {
   served = x.progress.served;
-  spelled = ap (λ y. inputs y false) (sym (nil_right bytes)) ∙ x.progress.spelled [] false
-      ∙ ap (λ y. map (λ z. z.0) x.progress.served ++ y) (ap (λ y. inputs y false) (nil_right line) ∙ inputs-cut line x.progress.no_feed) ∙ nil_right (map (λ z. z.0) x.progress.served);
+  spelled = from_fresh bytes false ∙ x.progress.spelled [] false
+      ∙ ap (λ y. map (λ z. z.0) x.progress.served ++ y) (after-cut line x.progress.no_feed) ∙ nil_right (map (λ z. z.0) x.progress.served);
   went = x.progress.went;
   written = x.progress.written;
   carries = x.carries;
 }
 
-pub ran_read_fault : (r r' r'' : Option (List ℕ)) (a b : Stage) (line : List ℕ) (total : ℕ)
+pub ran_read_fault : (r r' r'' : Option (List ℕ)) (a b : Stage) (line : Pending) (total : ℕ)
     → SoFar r r' a b line total → total < INPUT_BYTES → Keeps r' r'' → LoopRan IsSettled ReadFault r r'' a b
 ran_read_fault r r' r'' a b line total x small keeps = record {
   bytes = x.bytes;
@@ -69,7 +77,7 @@ ran_read_fault r r' r'' a b line total x small keeps = record {
   ends = (subst (λ (y : ℕ). y < INPUT_BYTES) (sym x.count) small, served_cut a b line x.bytes x.went);
 }
 
-pub ran_limit : (r r' : Option (List ℕ)) (a b : Stage) (line : List ℕ) (total : ℕ)
+pub ran_limit : (r r' : Option (List ℕ)) (a b : Stage) (line : Pending) (total : ℕ)
     → SoFar r r' a b line total → total ≡ INPUT_BYTES → LoopRan IsSettled InputLimit r r' a b
 ran_limit r r' a b line total x e = record {
   bytes = x.bytes;
@@ -77,9 +85,9 @@ ran_limit r r' a b line total x e = record {
   ends = (x.count ∙ e, served_cut a b line x.bytes x.went);
 }
 
--- the bytes were served up to the unfinished line, and then that line
-then_all : (whole : Bool) (a b c : Stage) (line bytes : List ℕ) → WentFurther a b [] line bytes → ServedAll IsSettled whole line b c → ServedAll IsSettled whole bytes a c
-then_all whole a b c line bytes x y =
+-- the bytes were served, and then what was unfinished
+then_all : (whole : Bool) (a b c : Stage) (l k : Pending) (bytes : List ℕ) → WentFurther a b l k bytes → ServedAll IsSettled (inputs_after k [] whole) b c → ServedAll IsSettled (inputs_after l (bytes ++ []) whole) a c
+then_all whole a b c l k bytes x y =
     let s = a.session.standing.state in
     let t = b.session.standing.state in
     let is = x.carries.standing in
@@ -89,9 +97,7 @@ then_all whole a b c line bytes x y =
     let P : List ℕ → Type 0 = λ v. Appends a.out c.out v in
     record {
       served = x.progress.served ++ y.served;
-      spelled = ap (λ v. inputs v whole) (sym (nil_right bytes)) ∙ x.progress.spelled [] whole
-          ∙ ap (λ v. map (λ z. z.0) x.progress.served ++ v) (ap (λ v. inputs v whole) (nil_right line) ∙ y.spelled)
-          ∙ sym (map-append (λ z. z.0) x.progress.served y.served);
+      spelled = x.progress.spelled [] whole ∙ ap (λ v. map (λ z. z.0) x.progress.served ++ v) y.spelled ∙ sym (map-append (λ z. z.0) x.progress.served y.served);
       went = Went-append a.session.standing x.progress.served y.served x.progress.went went;
       written = subst P (sym (transcript-append s x.progress.served y.served)) (appends_more a.out b.out c.out (transcript s x.progress.served) (transcript (fold s (all_commands s x.progress.served)) y.served) x.progress.written written);
       carries = subst (λ (cs : List Command). Carries IsSettled a.session c.session cs) (all_commands-further s t x.progress.served y.served state)
@@ -101,9 +107,8 @@ then_all whole a b c line bytes x y =
 -- ---- where one input was answered in part
 
 module _ (Last : LastStep) (back : MovesBack Last) where
-  -- the bytes were served up to the unfinished line, and then that line and more
-  pub then_some : (whole : Bool) (a b c : Stage) (line bytes more : List ℕ) → WentFurther a b [] line bytes → ServedSome IsSettled Last whole (line ++ more) b c → ServedSome IsSettled Last whole (bytes ++ more) a c
-  then_some whole a b c line bytes more x y =
+  pub then_some : (whole : Bool) (a b c : Stage) (l k : Pending) (bytes : List ℕ) → WentFurther a b l k bytes → ServedSome IsSettled Last (inputs_after k [] whole) b c → ServedSome IsSettled Last (inputs_after l (bytes ++ []) whole) a c
+  then_some whole a b c l k bytes x y =
       let s = a.session.standing.state in
       let t = b.session.standing.state in
       let is = x.carries.standing in
@@ -118,7 +123,7 @@ module _ (Last : LastStep) (back : MovesBack Last) where
         served = x.progress.served ++ y.served;
         last = y.last;
         rest = y.rest;
-        spelled = x.progress.spelled more whole
+        spelled = x.progress.spelled [] whole
             ∙ ap (λ v. map (λ z. z.0) x.progress.served ++ v) y.spelled
             ∙ sym (append_assoc (map (λ z. z.0) x.progress.served) (map (λ z. z.0) y.served) (y.last ∷ y.rest))
             ∙ ap (λ v. v ++ y.last ∷ y.rest) (sym (map-append (λ z. z.0) x.progress.served y.served));
@@ -131,52 +136,73 @@ module _ (Last : LastStep) (back : MovesBack Last) where
             (subst Q cs (back a.session b.session (all_commands s x.progress.served) (all_commands t y.served) (standing_after b.session.standing (all_commands t y.served)) y.last y.middle c x.carries y.ended));
       }
 
-  pub some_of_stopped : (a c : Stage) (line chunk : List ℕ) → StoppedAt Last a c line chunk → ServedSome IsSettled Last false (line ++ chunk) a c
-  some_of_stopped a c line chunk x = let e = x.spelled [] false in record {
+  pub some_of_stopped : (whole : Bool) (a c : Stage) (p : Pending) (bytes : List ℕ) → StoppedAt Last a c p bytes → ServedSome IsSettled Last (inputs_after p (bytes ++ []) whole) a c
+  some_of_stopped whole a c p bytes x = let e = x.spelled [] whole in record {
     served = x.served;
     last = x.last;
     rest = e.0;
-    spelled = ap (λ y. inputs (line ++ y) false) (sym (nil_right chunk)) ∙ e.1;
+    spelled = e.1;
     went = x.went;
     middle = x.middle;
     written = x.written;
     ended = x.ended;
   }
 
-  -- an unfinished line that input ended
-  pub some_of_line : (a c : Stage) (line : List ℕ) → HasNoFeed line → 0 < length line → Last IsSettled a.session [] a.session.standing (input_of line) a.out c → ServedSome IsSettled Last true line a c
-  some_of_line a c line free some last = let P : List ℕ → Type 0 = λ y. Appends a.out a.out y in record {
+  -- one input is left
+  some_of_one : (a c : Stage) (given : List Input) (i : Input) → given ≡ i ∷ [] → Last IsSettled a.session [] a.session.standing i a.out c → ServedSome IsSettled Last given a c
+  some_of_one a c given i e last = let P : List ℕ → Type 0 = λ y. Appends a.out a.out y in record {
     served = [];
-    last = input_of line;
+    last = i;
     rest = [];
-    spelled = inputs-ended line free ∙ (let e : nat_lt 0 (length line) ≡ true = nat_lt-true 0 (length line) some in ap (λ y. if y then input_of line ∷ [] else []) e);
+    spelled = e;
     went = Went-nothing a.session.standing;
     middle = a.out;
     written = subst P (sym (transcript-nothing a.session.standing.state)) (appends_nothing a.out);
-    ended = let Q : List Command → Type 0 = λ es. Last IsSettled a.session es (standing_after a.session.standing es) (input_of line) a.out c in subst Q (sym (all_commands-nothing a.session.standing.state)) last;
+    ended = let Q : List Command → Type 0 = λ es. Last IsSettled a.session es (standing_after a.session.standing es) i a.out c in subst Q (sym (all_commands-nothing a.session.standing.state)) last;
   }
 
-pub finished_empty : (a : Stage) (line : List ℕ) → HasNoFeed line → length line ≡ 0 → ServedAll IsSettled true line a a
-finished_empty a line free none = let P : List ℕ → Type 0 = λ y. Appends a.out a.out y in record {
+-- ---- where input ended
+
+pub finished_empty : (a : Stage) (p : Pending) → length p.line ≡ 0 → p.mode ≡ Commands → FinishedBy End p a a
+finished_empty a p none is = let P : List ℕ → Type 0 = λ y. Appends a.out a.out y in record {
   served = [];
-  spelled = inputs-ended line free ∙ ap (λ y. if nat_lt 0 y then input_of line ∷ [] else []) none;
+  spelled = after-commands p none is;
   went = Went-nothing a.session.standing;
   written = subst P (sym (transcript-nothing a.session.standing.state)) (appends_nothing a.out);
   carries = carries_none a.session;
 }
 
-pub finished_line : (a b : Stage) (line : List ℕ) → HasNoFeed line → 0 < length line → WentOn a (input_of line) b → ServedAll IsSettled true line a b
-finished_line a b line free some h = let P : List ℕ → Type 0 = λ y. Appends a.out b.out y in record {
-  served = alone (input_of line) h.outcome;
-  spelled = inputs-ended line free ∙ (let e : nat_lt 0 (length line) ≡ true = nat_lt-true 0 (length line) some in ap (λ y. if y then input_of line ∷ [] else []) e);
-  went = Went-alone a.session.standing (input_of line) h.outcome h.may;
-  written = subst P (sym (transcript-alone a.session.standing.state (input_of line) h.outcome)) h.written;
-  carries = subst (λ (cs : List Command). Carries IsSettled a.session b.session cs) (sym (all_commands-alone a.session.standing.state (input_of line) h.outcome)) h.carries;
+pub finished_text : (a b : Stage) (p : Pending) (kind : TextKind) (text : List ℕ) → length p.line ≡ 0 → p.mode ≡ InText kind text → WentOn a (BadText NoEnd) b → FinishedBy End p a b
+finished_text a b p kind text none is h = let P : List ℕ → Type 0 = λ y. Appends a.out b.out y in record {
+  served = alone (BadText NoEnd) h.outcome;
+  spelled = after-no_end p kind text none is;
+  went = Went-alone a.session.standing (BadText NoEnd) h.outcome h.may;
+  written = subst P (sym (transcript-alone a.session.standing.state (BadText NoEnd) h.outcome)) h.written;
+  carries = subst (λ (cs : List Command). Carries IsSettled a.session b.session cs) (sym (all_commands-alone a.session.standing.state (BadText NoEnd) h.outcome)) h.carries;
 }
 
-pub finished_stop : (halt : Halt) (a c : Stage) (line : List ℕ) → HasNoFeed line → 0 < length line → LastBy halt IsSettled a.session [] a.session.standing (input_of line) a.out c → FinishedBy (end_of_halt halt) line a c
-finished_stop halt.Write = some_of_line CutShort cut_after
-finished_stop halt.Device = some_of_line Failed failed_after
+pub finished_text_stop : (halt : Halt) (a c : Stage) (p : Pending) (kind : TextKind) (text : List ℕ) → length p.line ≡ 0 → p.mode ≡ InText kind text → StopsAt halt a (BadText NoEnd) c → FinishedBy (end_of_halt halt) p a c
+finished_text_stop halt.Write a c p kind text none is h = some_of_one CutShort cut_after a c (inputs_after p [] true) (BadText NoEnd) (after-no_end p kind text none is) h
+finished_text_stop halt.Device a c p kind text none is h = some_of_one Failed failed_after a c (inputs_after p [] true) (BadText NoEnd) (after-no_end p kind text none is) h
+
+all_of_same : (xs ys : List Input) (a b : Stage) → xs ≡ ys → ServedAll IsSettled ys a b → ServedAll IsSettled xs a b
+all_of_same xs ys a b e h = let P : List Input → Type 0 = λ v. ServedAll IsSettled v a b in subst P (sym e) h
+
+some_of_same : (Last : LastStep) (xs ys : List Input) (a b : Stage) → xs ≡ ys → ServedSome IsSettled Last ys a b → ServedSome IsSettled Last xs a b
+some_of_same Last xs ys a b e h = let P : List Input → Type 0 = λ v. ServedSome IsSettled Last v a b in subst P (sym e) h
+
+-- as if a line feed had come
+pub finished_line : (end : ShellEnd) (a b c : Stage) (p q : Pending) → HasNoFeed p.line → 0 < length p.line → WentFurther a b p q (10 ∷ []) → FinishedBy end q b c → FinishedBy end p a c
+finished_line End a b c p q f some x y = all_of_same (inputs_after p [] true) (inputs_after p (10 ∷ []) true) a c (after-whole p f some) (then_all true a b c p q (10 ∷ []) x y)
+finished_line WriteFault a b c p q f some x y = some_of_same CutShort (inputs_after p [] true) (inputs_after p (10 ∷ []) true) a c (after-whole p f some) (then_some CutShort cut_after true a b c p q (10 ∷ []) x y)
+finished_line DeviceFault a b c p q f some x y = some_of_same Failed (inputs_after p [] true) (inputs_after p (10 ∷ []) true) a c (after-whole p f some) (then_some Failed failed_after true a b c p q (10 ∷ []) x y)
+finished_line ReadFault a b c p q f some x y = absurd y
+finished_line InputLimit a b c p q f some x y = absurd y
+finished_line NoMemory a b c p q f some x y = absurd y
+
+pub finished_stop : (halt : Halt) (a c : Stage) (p : Pending) → HasNoFeed p.line → 0 < length p.line → Stopped halt a c p (10 ∷ []) → FinishedBy (end_of_halt halt) p a c
+finished_stop halt.Write a c p f some x = some_of_same CutShort (inputs_after p [] true) (inputs_after p (10 ∷ []) true) a c (after-whole p f some) (some_of_stopped CutShort cut_after true a c p (10 ∷ []) x)
+finished_stop halt.Device a c p f some x = some_of_same Failed (inputs_after p [] true) (inputs_after p (10 ∷ []) true) a c (after-whole p f some) (some_of_stopped Failed failed_after true a c p (10 ∷ []) x)
 
 -- ---- the ends
 
@@ -196,12 +222,15 @@ was_read_whole bytes left h = record { within_limit = omega (arith, h.below_limi
 was_read_in_part : (bytes : List ℕ) (left : Option (List ℕ)) → length bytes ≤ INPUT_BYTES → WasRead false bytes left
 was_read_in_part bytes left h = record { within_limit = h; ended = λ e. absurd (cc e) }
 
-pub ran_finish : (end : ShellEnd) (r r' r'' : Option (List ℕ)) (a b c : Stage) (line chunk : List ℕ) (total most : ℕ)
+pub ran_finish : (end : ShellEnd) (r r' r'' : Option (List ℕ)) (a b c : Stage) (line : Pending) (chunk : List ℕ) (total most : ℕ)
     → SoFar r r' a b line total → total < INPUT_BYTES → ReadSome 0 most r' r'' chunk → FinishedBy end line b c → LoopRan IsSettled end r r'' a c
 ran_finish End r r' r'' a b c line chunk total most x small y z = record {
   bytes = x.bytes;
   consumed = last_read r r' r'' most x.bytes chunk x.consumed y;
-  ends = (input_ended r' r'' x.bytes chunk total most x.count small y, then_all true a b c line x.bytes x.went z);
+  ends = (
+    input_ended r' r'' x.bytes chunk total most x.count small y,
+    all_of_same (inputs x.bytes true) (inputs_after fresh (x.bytes ++ []) true) a c (from_fresh x.bytes true) (then_all true a b c fresh line x.bytes x.went z),
+  );
 }
 ran_finish WriteFault r r' r'' a b c line chunk total most x small y z = record {
   bytes = x.bytes;
@@ -209,9 +238,7 @@ ran_finish WriteFault r r' r'' a b c line chunk total most x small y z = record 
   ends = (
     true,
     was_read_whole x.bytes r'' (input_ended r' r'' x.bytes chunk total most x.count small y),
-    let P : List ℕ → Type 0 = λ v. ServedSome IsSettled CutShort true v a c in
-        let Q : List ℕ → Type 0 = λ v. ServedSome IsSettled CutShort true v b c in
-        subst P (nil_right x.bytes) (then_some CutShort cut_after true a b c line x.bytes [] x.went (subst Q (sym (nil_right line)) z)),
+    some_of_same CutShort (inputs x.bytes true) (inputs_after fresh (x.bytes ++ []) true) a c (from_fresh x.bytes true) (then_some CutShort cut_after true a b c fresh line x.bytes x.went z),
   );
 }
 ran_finish DeviceFault r r' r'' a b c line chunk total most x small y z = record {
@@ -220,16 +247,20 @@ ran_finish DeviceFault r r' r'' a b c line chunk total most x small y z = record
   ends = (
     true,
     was_read_whole x.bytes r'' (input_ended r' r'' x.bytes chunk total most x.count small y),
-    let P : List ℕ → Type 0 = λ v. ServedSome IsSettled Failed true v a c in
-        let Q : List ℕ → Type 0 = λ v. ServedSome IsSettled Failed true v b c in
-        subst P (nil_right x.bytes) (then_some Failed failed_after true a b c line x.bytes [] x.went (subst Q (sym (nil_right line)) z)),
+    some_of_same Failed (inputs x.bytes true) (inputs_after fresh (x.bytes ++ []) true) a c (from_fresh x.bytes true) (then_some Failed failed_after true a b c fresh line x.bytes x.went z),
   );
 }
 ran_finish ReadFault r r' r'' a b c line chunk total most x small y z = absurd z
 ran_finish InputLimit r r' r'' a b c line chunk total most x small y z = absurd z
 ran_finish NoMemory r r' r'' a b c line chunk total most x small y z = absurd z
 
-pub ran_stop : (halt : Halt) (r r' r'' : Option (List ℕ)) (a b c : Stage) (line chunk : List ℕ) (total n most : ℕ)
+-- the bytes before the chunk were served, and serving stopped within it
+module _ (Last : LastStep) (back : MovesBack Last) where
+  some_of_run : (a b c : Stage) (line : Pending) (bytes chunk : List ℕ) → WentFurther a b fresh line bytes → StoppedAt Last b c line chunk → ServedSome IsSettled Last (inputs (bytes ++ chunk) false) a c
+  some_of_run a b c line bytes chunk x y = some_of_same Last (inputs (bytes ++ chunk) false) (inputs_after fresh ((bytes ++ chunk) ++ []) false) a c (from_fresh (bytes ++ chunk) false)
+      (some_of_stopped Last back false a c fresh (bytes ++ chunk) (stopped_after Last back a b c fresh line bytes chunk x y))
+
+pub ran_stop : (halt : Halt) (r r' r'' : Option (List ℕ)) (a b c : Stage) (line : Pending) (chunk : List ℕ) (total n most : ℕ)
     → SoFar r r' a b line total → total + most ≤ INPUT_BYTES → ReadSome n most r' r'' chunk → Stopped halt b c line chunk → LoopRan IsSettled (end_of_halt halt) r r'' a c
 ran_stop halt.Write r r' r'' a b c line chunk total n most x small y z = record {
   bytes = x.bytes ++ chunk;
@@ -237,7 +268,7 @@ ran_stop halt.Write r r' r'' a b c line chunk total n most x small y z = record 
   ends = (
     false,
     was_read_in_part (x.bytes ++ chunk) r'' (let e : length (x.bytes ++ chunk) ≤ INPUT_BYTES = rw (length-append x.bytes chunk) (omega (arith, x.count, y.count, y.within, small)) in e),
-    then_some CutShort cut_after false a b c line x.bytes chunk x.went (some_of_stopped CutShort cut_after b c line chunk z),
+    some_of_run CutShort cut_after a b c line x.bytes chunk x.went z,
   );
 }
 ran_stop halt.Device r r' r'' a b c line chunk total n most x small y z = record {
@@ -246,7 +277,7 @@ ran_stop halt.Device r r' r'' a b c line chunk total n most x small y z = record
   ends = (
     false,
     was_read_in_part (x.bytes ++ chunk) r'' (let e : length (x.bytes ++ chunk) ≤ INPUT_BYTES = rw (length-append x.bytes chunk) (omega (arith, x.count, y.count, y.within, small)) in e),
-    then_some Failed failed_after false a b c line x.bytes chunk x.went (some_of_stopped Failed failed_after b c line chunk z),
+    some_of_run Failed failed_after a b c line x.bytes chunk x.went z,
   );
 }
 
@@ -272,8 +303,8 @@ failed_under a cs m i p c settle x = record {
   written = x.written;
 }
 
-all_under : (whole : Bool) (bytes : List ℕ) (a b : Stage) → (IsHonest a.session → IsSettled a.session) → ServedAll IsSettled whole bytes a b → ServedAll IsHonest whole bytes a b
-all_under whole bytes a b settle x = record {
+all_under : (given : List Input) (a b : Stage) → (IsHonest a.session → IsSettled a.session) → ServedAll IsSettled given a b → ServedAll IsHonest given a b
+all_under given a b settle x = record {
   served = x.served;
   spelled = x.spelled;
   went = x.went;
@@ -282,8 +313,8 @@ all_under whole bytes a b settle x = record {
 }
 
 module _ (Last : LastStep) (under : MovesUnder Last) where
-  some_under : (whole : Bool) (bytes : List ℕ) (a b : Stage) → (IsHonest a.session → IsSettled a.session) → ServedSome IsSettled Last whole bytes a b → ServedSome IsHonest Last whole bytes a b
-  some_under whole bytes a b settle x =
+  some_under : (given : List Input) (a b : Stage) → (IsHonest a.session → IsSettled a.session) → ServedSome IsSettled Last given a b → ServedSome IsHonest Last given a b
+  some_under given a b settle x =
       let cs : List Command = all_commands a.session.standing.state x.served in
       record {
         served = x.served;
@@ -297,11 +328,11 @@ module _ (Last : LastStep) (under : MovesUnder Last) where
       }
 
 ends_under : (end : ShellEnd) (bytes : List ℕ) (left : Option (List ℕ)) (a b : Stage) → (IsHonest a.session → IsSettled a.session) → EndsBy IsSettled end bytes left a b → EndsBy IsHonest end bytes left a b
-ends_under End bytes left a b settle x = (x.0, all_under true bytes a b settle x.1)
-ends_under ReadFault bytes left a b settle x = (x.0, all_under false bytes a b settle x.1)
-ends_under InputLimit bytes left a b settle x = (x.0, all_under false bytes a b settle x.1)
-ends_under WriteFault bytes left a b settle x = (x.0, x.1, some_under CutShort cut_under (x.0) bytes a b settle x.2)
-ends_under DeviceFault bytes left a b settle x = (x.0, x.1, some_under Failed failed_under (x.0) bytes a b settle x.2)
+ends_under End bytes left a b settle x = (x.0, all_under (inputs bytes true) a b settle x.1)
+ends_under ReadFault bytes left a b settle x = (x.0, all_under (inputs bytes false) a b settle x.1)
+ends_under InputLimit bytes left a b settle x = (x.0, all_under (inputs bytes false) a b settle x.1)
+ends_under WriteFault bytes left a b settle x = (x.0, x.1, some_under CutShort cut_under (inputs bytes (x.0)) a b settle x.2)
+ends_under DeviceFault bytes left a b settle x = (x.0, x.1, some_under Failed failed_under (inputs bytes (x.0)) a b settle x.2)
 ends_under NoMemory bytes left a b settle x = absurd x
 
 -- ---- the whole run

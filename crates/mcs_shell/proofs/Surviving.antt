@@ -17,7 +17,7 @@ use Rattle.mcs_shell.specs.Inputs.{Input}
 use Rattle.mcs_shell.specs.Shell.{EndsBy, Ran}
 use Rattle.mcs_shell.specs.Stage.{Stage}
 use Rattle.mcs_shell.specs.Transcript.{Served, Went, all_commands, all_reached, commands, reached}
-use Rattle.mcs_shell.proofs.Cutting.{nil_right}
+use Rattle.mcs_lines.proofs.Cutting.{nil_right}
 use Rattle.mcs_shell.proofs.Doing.{reached_same}
 use Rattle.mcs_shell.proofs.Served.{all_commands-append, all_commands-alone, alone, state_after}
 

@@ -1,58 +1,97 @@
--- The inputs that bytes spell. (Our own choice.)
-use Rattle.std.specs.Prelude.{◌≡◌, ◌==◌, ◌&&◌, ◌||◌, Bool, false, ℕ, List, [], ◌∷◌, length, map, nat_lt, if◌then◌else◌}
+-- The inputs that bytes spell: lines first, and then lines in groups. (Our own choice.)
+use Rattle.std.specs.Prelude.{◌==◌, ◌||◌, Bool, ℕ, List, [], ◌∷◌, ◌++◌, length, codes, nat_lt, nat_le, if◌then◌else◌, Option, Some, None}
 use Rattle.std.specs.List.{list_all}
-use Rattle.std.specs.Io.BufRead.{strip_last}
-use Rattle.mcs_model.specs.declared.limits.TheConstants.{LINE_BYTES}
+use Rattle.std.specs.Str.{bytes_eq}
+use Rattle.mcs_model.specs.declared.limits.TheConstants.{LINE_BYTES, TEXT_BYTES}
+use Rattle.mcs_shell.specs.declared.texts.TextKind.{TextKind}
+use Rattle.mcs_shell.specs.declared.texts.TextKind.TheVariants.{Wire, Asm}
+use Rattle.mcs_shell.specs.declared.texts.TextFault.{TextFault}
+use Rattle.mcs_shell.specs.declared.texts.TextFault.TheVariants.{NoEnd, TextTooLong, HasLongLine, HasBadByte}
+use Rattle.mcs_lines.specs.Cutting.{cut_at}
+use Rattle.mcs_lines.specs.Words.{is_blank_byte}
+use Rattle.mcs_shell.specs.Lines.{is_line_feed, lines}
+use Rattle.mcs_lines.specs.Words.{is_plain_byte, words_of}
 
--- ---- lines
-
--- this byte before the first of the pieces
-abbrev pub onto_first : ℕ → List (List ℕ) → List (List ℕ)
-onto_first b [] = (b ∷ []) ∷ []
-onto_first b (p ∷ ps) = (b ∷ p) ∷ ps
-
--- what stands between the bytes that cut; the last piece is what follows the last of them
-unfoldable pub cut_at : (ℕ → Bool) → List ℕ → List (List ℕ)
-cut_at cuts [] = [] ∷ []
-cut_at cuts (b ∷ bs) = if cuts b then [] ∷ cut_at cuts bs else onto_first b (cut_at cuts bs)
-
-abbrev pub is_line_feed : ℕ → Bool
-is_line_feed b = b == 10
-
--- each piece but the last, and the last too where input ended there and it has bytes
-abbrev pub lines_of : Bool → List (List ℕ) → List (List ℕ)
-lines_of whole [] = []
-lines_of whole (p ∷ []) = if whole && nat_lt 0 (length p) then p ∷ [] else []
-lines_of whole (p ∷ q ∷ ps) = p ∷ lines_of whole (q ∷ ps)
-
--- ---- inputs
-
--- a line without words, a line of too many bytes, or a command line
+-- a line without words, a line of too many bytes, a command line, a text, or a text that is refused whatever its lines say
 pub data Input : Type 0 where
   Blank : Input
   TooLong : Input
   Line : List ℕ → Input
+  Text : TextKind → List ℕ → Input
+  BadText : TextFault → Input
 
--- spaces and tabs separate words
-abbrev pub is_blank_byte : ℕ → Bool
-is_blank_byte b = (b == 32) || (b == 9)
+-- ---- a line outside a text
 
--- a line without its carriage return, which is too long where it has more bytes than a line may have
-abbrev pub line_input : List ℕ → Input
-line_input line = if nat_lt LINE_BYTES (length line) then TooLong else (if list_all is_blank_byte line then Blank else Line line)
+-- too long where it has more bytes than a line may have, whatever its words
+abbrev pub judged : List ℕ → Input
+judged line = if nat_lt LINE_BYTES (length line) then TooLong else (if list_all is_blank_byte line then Blank else Line line)
 
--- a line as it came, but for its line feed: one carriage return that ends it is dropped
-unfoldable pub input_of : List ℕ → Input
-input_of line = line_input (strip_last 13 line)
+-- `wire` or `asm` alone
+abbrev pub opener : List (List ℕ) → Option TextKind
+opener (w ∷ []) = if bytes_eq w (codes "wire") then Some Wire else (if bytes_eq w (codes "asm") then Some Asm else None)
+opener ws = None
+
+-- the text that begins behind a line, if any
+unfoldable pub opened : List ℕ → Option TextKind
+opened line = if nat_lt LINE_BYTES (length line) then None else opener (words_of line)
+
+-- ---- a text
+
+-- the line that ends a text
+abbrev pub is_dot : List ℕ → Bool
+is_dot line = bytes_eq line (codes ".")
+
+-- a line, or a byte, that a text may have
+abbrev pub is_short : List ℕ → Bool
+is_short line = nat_le (length line) LINE_BYTES
+
+abbrev pub is_text_byte : ℕ → Bool
+is_text_byte b = (b == 10) || is_plain_byte b
+
+-- why a text that has an end is refused whatever its lines say, if it is: the first of these
+unfoldable pub fault_of : List ℕ → Option TextFault
+fault_of text =
+    if nat_lt TEXT_BYTES (length text) then Some TextTooLong
+    else if list_all is_short (cut_at is_line_feed text) then (if list_all is_text_byte text then None else Some HasBadByte)
+    else Some HasLongLine
+
+abbrev pub text_or_fault : TextKind → List ℕ → Option TextFault → Input
+text_or_fault kind text None = Text kind text
+text_or_fault kind text (Some fault) = BadText fault
+
+abbrev pub judged_text : TextKind → List ℕ → Input
+judged_text kind text = text_or_fault kind text (fault_of text)
+
+-- ---- groups of lines
+
+-- where a line stands: outside a text, or in one, behind these bytes of it
+pub data Mode : Type 0 where
+  Commands : Mode
+  InText : TextKind → List ℕ → Mode
+
+-- A text is the lines behind the one that opened it, up to one that is a dot, each followed by a line feed. It has no end
+-- where input ended before that.
+unfoldable pub group : Bool → Mode → List (List ℕ) → List Input
+group whole Commands [] = []
+group whole (InText kind text) [] = if whole then BadText NoEnd ∷ [] else []
+group whole Commands (l ∷ ls) = elim (opened l) [ None ↦ judged l ∷ group whole Commands ls | Some kind ↦ group whole (InText kind []) ls ]
+group whole (InText kind text) (l ∷ ls) =
+    if is_dot l then judged_text kind text ∷ group whole Commands ls else group whole (InText kind (text ++ (l ++ 10 ∷ []))) ls
 
 -- the inputs that the bytes spell; `whole` says that input ended there, else it was cut
 unfoldable pub inputs : List ℕ → Bool → List Input
-inputs bytes whole = map input_of (lines_of whole (cut_at is_line_feed bytes))
+inputs bytes whole = group whole Commands (lines bytes whole)
 
--- none of these bytes cuts
-abbrev pub HasNone : (ℕ → Bool) → List ℕ → Type 0
-HasNone cuts [] = Unit {0}
-HasNone cuts (b ∷ bs) = (cuts b ≡ false) × HasNone cuts bs
+-- ---- what a reader of pieces has not finished
 
-abbrev pub HasNoFeed : List ℕ → Type 0
-HasNoFeed bytes = HasNone is_line_feed bytes
+-- the mode, and the line so far
+pub record Pending : Type 0 where
+  pub mode : Mode
+  pub line : List ℕ
+
+abbrev pub fresh : Pending
+fresh = record { mode = Commands; line = [] }
+
+-- the inputs that what is unfinished and these bytes spell
+abbrev pub inputs_after : Pending → List ℕ → Bool → List Input
+inputs_after p bytes whole = group whole p.mode (lines (p.line ++ bytes) whole)

@@ -1,6 +1,8 @@
+pub mod Lines
 pub mod Inputs
-pub mod Words
-pub mod Requests
+pub mod TextLaws
+pub mod Reading
+pub mod Spelling
 pub mod RefusalNumbers
 pub mod Stage
 pub mod Transcript

@@ -7,23 +7,22 @@ use Rattle.mcs_journal.specs.declared.fault.CreateFault.TheVariants as create_fa
 use Rattle.mcs_journal.specs.declared.fault.OpenFault.{OpenFault}
 use Rattle.mcs_journal.specs.declared.fault.OpenFault.TheVariants as open_fault
 use Rattle.mcs_model.specs.Refusal.{bench_refusal_number}
-use Rattle.mcs_model.specs.declared.refusal_numbers.TheConstants.{BAD_NUMBER, CLOSED, DAMAGED, DEVICE, FULL, LINE_TOO_LONG, NOT_ASCII, NOT_A_COMMAND, NOT_A_SESSION, NOT_BLANK, NO_MEMORY}
+use Rattle.mcs_model.specs.declared.refusal_numbers.TheConstants.{CLOSED, DAMAGED, DEVICE, LINE_TOO_LONG, NOT_ASCII, NOT_A_SESSION, NOT_BLANK, NO_END, NO_MEMORY, TEXT_TOO_LONG}
 use Rattle.mcs_session.specs.declared.fault.SessionFault.{SessionFault}
 use Rattle.mcs_session.specs.declared.fault.SessionFault.TheVariants as session_fault
-use Rattle.mcs_shell.specs.declared.requests.LineFault.{LineFault}
-use Rattle.mcs_shell.specs.declared.requests.LineFault.TheVariants as line_fault
+use Rattle.mcs_shell.specs.declared.texts.TextFault.{TextFault}
+use Rattle.mcs_shell.specs.declared.texts.TextFault.TheVariants as text_fault
 
--- the numbers that refused lines are told by
-abbrev pub line_fault_number : LineFault → ℕ
-line_fault_number line_fault.NotACommand = NOT_A_COMMAND
-line_fault_number line_fault.BadNumber = BAD_NUMBER
-line_fault_number line_fault.LineTooLong = LINE_TOO_LONG
-line_fault_number line_fault.NotAscii = NOT_ASCII
+-- the numbers that texts are told by that are refused whatever their lines say
+abbrev pub text_fault_number : TextFault → ℕ
+text_fault_number text_fault.NoEnd = NO_END
+text_fault_number text_fault.TextTooLong = TEXT_TOO_LONG
+text_fault_number text_fault.HasLongLine = LINE_TOO_LONG
+text_fault_number text_fault.HasBadByte = NOT_ASCII
 
 -- the numbers that refusals to record a command are told by
 abbrev pub session_fault_number : SessionFault → ℕ
 session_fault_number (session_fault.Refused f) = bench_refusal_number f
-session_fault_number session_fault.Full = FULL
 session_fault_number session_fault.Device = DEVICE
 session_fault_number session_fault.Closed = CLOSED
 

@@ -1,5 +1,5 @@
--- How serving one line, or a stretch of bytes, ends.
-use Rattle.std.specs.Prelude.{◌≡◌, ◌↔◌, ◌<◌, ◌+◌, min, Bool, ℕ, List, [], ◌∷◌, ◌++◌, length, map, take, Option, Result, Ok, Err}
+-- How serving one input, or a stretch of bytes, ends.
+use Rattle.std.specs.Prelude.{◌≡◌, ◌≢◌, ◌↔◌, ◌<◌, ◌+◌, min, Bool, false, ℕ, List, [], ◌∷◌, ◌++◌, length, map, take, Option, Result, Ok, Err}
 use Rattle.std.specs.Io.KnownBytes.{Appends}
 use Rattle.mcs_disk.specs.Disk.{DiskState, most_faults}
 use Rattle.mcs_model.specs.declared.command.Command.{Command}
@@ -9,13 +9,12 @@ use Rattle.mcs_shell.specs.declared.outcome.Outcome.{Outcome}
 use Rattle.mcs_shell.specs.declared.outcome.Outcome.TheVariants.{Device}
 use Rattle.mcs_shell.specs.declared.outcome.Halt.{Halt}
 use Rattle.mcs_shell.specs.declared.outcome.Halt.TheVariants as halt
-use Rattle.mcs_shell.specs.declared.requests.Request.{Request}
-use Rattle.mcs_shell.specs.declared.requests.Request.TheVariants.{Change}
-use Rattle.mcs_shell.specs.Inputs.{Input, inputs, HasNoFeed}
-use Rattle.mcs_session.specs.Log.{Log, Shut, logged}
+use Rattle.mcs_lines.specs.declared.requests.Request.{Request}
+use Rattle.mcs_shell.specs.Lines.{HasNoFeed}
+use Rattle.mcs_shell.specs.Inputs.{Input, Pending, inputs_after}
 use Rattle.mcs_session.specs.Standing.{Standing, SessionState, standing_after}
 use Rattle.mcs_shell.specs.Stage.{Stage}
-use Rattle.mcs_shell.specs.Transcript.{ChangeMayEnd, RequestMayEnd, MayEnd, MayGo, Served, answer, commands, reached, reached_by_request, change_text, commands_of_request, request_text, Went, transcript, all_commands}
+use Rattle.mcs_shell.specs.Transcript.{ChangeMayEnd, RequestMayEnd, MayEnd, MayGo, Served, answer, commands, reached, reached_by_change, reached_by_request, change_text, commands_of_change, commands_of_request, request_text, Went, transcript, all_commands}
 use Rattle.mcs_session.specs.Kept.{Carries, IsSettled, Kept, KeptWhole}
 
 -- the writer has got some of the first bytes, and not all
@@ -26,10 +25,10 @@ pub record GotSome (old new : Option (List ℕ)) (bytes : List ℕ) : Type 0 whe
 
 -- ---- one input
 
--- the session was closed where the device failed, and there alone; `log` is what it is else
-abbrev pub ClosesAt : Outcome → Log → ℕ → Log → ℕ → Type 0
-ClosesAt Device log faults new_log new_faults = (new_log ≡ Shut) × (new_faults ≡ min (faults + 1) most_faults)
-ClosesAt o log faults new_log new_faults = (new_log ≡ log) × (new_faults ≡ faults)
+-- the session was closed where the device failed, and there alone
+abbrev pub ClosesAt : Outcome → Bool → ℕ → Bool → ℕ → Type 0
+ClosesAt Device live faults new_live new_faults = (new_live ≡ false) × (new_faults ≡ min (faults + 1) most_faults)
+ClosesAt o live faults new_live new_faults = (new_live ≡ live) × (new_faults ≡ faults)
 
 -- what the disk keeps of a command that met this outcome
 abbrev pub KeptBy : Outcome → DiskState → DiskState → Flat → List Command → List Command → Type 0
@@ -39,16 +38,16 @@ KeptBy o old new s done reached_too = KeptWhole old new s done
 -- an outcome's effects on the session and its disk, beside its answer
 pub record Leaves (a : SessionState) (o : Outcome) (done reached_too : List Command) (b : SessionState) : Type 0 where
   pub state : b.standing.state ≡ fold a.standing.state done
-  pub closes : ClosesAt o (logged a.standing.log done) a.disk.faults b.standing.log b.disk.faults
+  pub closes : ClosesAt o a.standing.live a.disk.faults b.standing.live b.disk.faults
   pub size : b.disk.size ≡ a.disk.size
   pub honest : b.disk.honest ↔ a.disk.honest
   pub kept : IsSettled a → KeptBy o a.disk b.disk a.standing.state done reached_too
 
 -- a command was tried: its answer is this
 pub record Changed (a : SessionState) (c : Command) (o : Outcome) (told : List ℕ) (b : SessionState) : Type 0 where
-  pub may : ChangeMayEnd a.standing.log a.standing.state c o
+  pub may : ChangeMayEnd a.standing.live a.standing.state c o
   pub told_is : told ≡ change_text a.standing.state c o
-  pub leaves : Leaves a o (commands_of_request a.standing.state (Change c) o) (reached_by_request a.standing.state (Change c) o) b
+  pub leaves : Leaves a o (commands_of_change a.standing.state c o) (reached_by_change a.standing.state c o) b
 
 -- a request was done: its answer is this
 pub record RequestDone (a : SessionState) (r : Request) (o : Outcome) (told : List ℕ) (b : SessionState) : Type 0 where
@@ -56,13 +55,13 @@ pub record RequestDone (a : SessionState) (r : Request) (o : Outcome) (told : Li
   pub told_is : told ≡ request_text a.standing.state r o
   pub leaves : Leaves a o (commands_of_request a.standing.state r o) (reached_by_request a.standing.state r o) b
 
--- a line was judged and its request done: its answer is this
+-- an input was judged and done: its answer is this
 pub record Answered (a : SessionState) (i : Input) (o : Outcome) (told : List ℕ) (b : SessionState) : Type 0 where
   pub may : MayEnd a.standing i o
   pub told_is : told ≡ answer a.standing.state i o
   pub leaves : Leaves a o (commands a.standing.state i o) (reached a.standing.state i o) b
 
--- the line was served, and the shell goes on
+-- the input was served, and the shell goes on
 pub record WentOn (a : Stage) (i : Input) (b : Stage) : Type 0 where
   pub outcome : Outcome
   pub may : MayGo a.session.standing i outcome
@@ -74,7 +73,7 @@ pub record WentOn (a : Stage) (i : Input) (b : Stage) : Type 0 where
 pub record Fares (Given : SessionState → Type 0) (a : SessionState) (cs : List Command) (m : Standing) (i : Input) (o : Outcome) (b : SessionState) : Type 0 where
   pub may : MayEnd m i o
   pub state : b.standing.state ≡ fold m.state (commands m.state i o)
-  pub closes : ClosesAt o (logged m.log (commands m.state i o)) a.disk.faults b.standing.log b.disk.faults
+  pub closes : ClosesAt o m.live a.disk.faults b.standing.live b.disk.faults
   pub size : b.disk.size ≡ a.disk.size
   pub honest : b.disk.honest ↔ a.disk.honest
   pub kept : Given a → Kept a.disk b.disk a.standing.state (cs ++ commands m.state i o) (cs ++ reached m.state i o)
@@ -97,7 +96,7 @@ abbrev pub LastBy : Halt → LastStep
 LastBy halt.Write = CutShort
 LastBy halt.Device = Failed
 
--- the line was the last that was served
+-- the input was the last that was served
 abbrev pub StopsAt : Halt → Stage → Input → Stage → Type 0
 StopsAt halt a i b = LastBy halt IsSettled a.session [] a.session.standing i a.out b
 
@@ -105,26 +104,42 @@ abbrev pub ServedLine : {T : Type 0} → Result T Halt → Stage → Input → S
 ServedLine (Ok _) = WentOn
 ServedLine (Err halt) = StopsAt halt
 
+-- what was answered went out whole, and the device did not fail; or not
+pub record SentOk (o : Outcome) (told : List ℕ) (out new_out : Option (List ℕ)) : Type 0 where
+  pub no_fault : o ≢ Device
+  pub sent : Appends out new_out told
+
+pub record SentFault (o : Outcome) (told : List ℕ) (out new_out : Option (List ℕ)) : Type 0 where
+  pub fault : o ≡ Device
+  pub sent : Appends out new_out told
+
+pub record SentSome (o : Outcome) (told : List ℕ) (out new_out : Option (List ℕ)) : Type 0 where
+  pub some : GotSome out new_out told
+
+abbrev pub Sent : {T : Type 0} → Result T Halt → Outcome → List ℕ → Option (List ℕ) → Option (List ℕ) → Type 0
+Sent (Ok _) = SentOk
+Sent (Err halt.Write) = SentSome
+Sent (Err halt.Device) = SentFault
+
 -- ---- a stretch of bytes
 
--- From the unfinished line `line0` on, these bytes were served, and the unfinished line is now `line`.
-pub record Progress (m : Standing) (out0 out : Option (List ℕ)) (line0 line bytes : List ℕ) : Type 0 where
+-- From what was unfinished in `p` on, these bytes were served, and what is unfinished is now `q`.
+pub record Progress (m : Standing) (out0 out : Option (List ℕ)) (p q : Pending) (bytes : List ℕ) : Type 0 where
   pub served : Served
   pub went : Went m served
   pub written : Appends out0 out (transcript m.state served)
   -- however the bytes go on
-  pub spelled : (more : List ℕ) (whole : Bool) → inputs (line0 ++ (bytes ++ more)) whole
-      ≡ map (λ p. p.0) served ++ inputs (line ++ more) whole
-  pub no_feed : HasNoFeed line
+  pub spelled : (more : List ℕ) (whole : Bool) → inputs_after p (bytes ++ more) whole ≡ map (λ s. s.0) served ++ inputs_after q more whole
+  pub no_feed : HasNoFeed q.line
 
 -- a stretch of bytes was served, and the shell goes on
-pub record WentFurther (a b : Stage) (line new_line bytes : List ℕ) : Type 0 where
-  pub progress : Progress a.session.standing a.out b.out line new_line bytes
+pub record WentFurther (a b : Stage) (p q : Pending) (bytes : List ℕ) : Type 0 where
+  pub progress : Progress a.session.standing a.out b.out p q bytes
   pub carries : Carries IsSettled a.session b.session (all_commands a.session.standing.state progress.served)
 
 -- Serving stopped within these bytes: the inputs before were served, and then one was answered in part, or met a
 -- fault of the device.
-pub record StoppedAt (Last : LastStep) (a b : Stage) (line bytes : List ℕ) : Type 0 where
+pub record StoppedAt (Last : LastStep) (a b : Stage) (p : Pending) (bytes : List ℕ) : Type 0 where
   pub served : Served
   pub last : Input
   pub went : Went a.session.standing served
@@ -132,8 +147,7 @@ pub record StoppedAt (Last : LastStep) (a b : Stage) (line bytes : List ℕ) : T
   pub written : Appends a.out middle (transcript a.session.standing.state served)
   pub ended : Last IsSettled a.session (all_commands a.session.standing.state served) (standing_after a.session.standing (all_commands a.session.standing.state served)) last middle b
   -- whatever comes after these bytes
-  pub spelled : (more : List ℕ) (whole : Bool) → (rest : List Input) × (inputs (line ++ (bytes ++ more)) whole
-      ≡ map (λ p. p.0) served ++ last ∷ rest)
+  pub spelled : (more : List ℕ) (whole : Bool) → (rest : List Input) × (inputs_after p (bytes ++ more) whole ≡ map (λ s. s.0) served ++ last ∷ rest)
 
-abbrev pub Stopped : Halt → Stage → Stage → List ℕ → List ℕ → Type 0
+abbrev pub Stopped : Halt → Stage → Stage → Pending → List ℕ → Type 0
 Stopped halt = StoppedAt (LastBy halt)

@@ -9,24 +9,25 @@ use Rattle.mcs_model.specs.declared.limits.TheConstants.{INPUT_BYTES}
 use Rattle.mcs_shell.specs.Inputs.{Input, inputs}
 use Rattle.mcs_session.specs.Standing.{SessionState, standing_after}
 use Rattle.mcs_shell.specs.Stage.{Stage}
-use Rattle.mcs_shell.specs.Transcript.{Served, Went, all_commands, session_text, transcript}
+use Rattle.mcs_shell.specs.Transcript.{Served, Went, all_commands, transcript}
+use Rattle.mcs_answers.specs.AnswerTexts.{session_text}
 use Rattle.mcs_session.specs.Kept.{Carries, IsHonest, IsSettled}
 use Rattle.mcs_shell.specs.Serving.{CutShort, Failed, GotSome, LastStep}
 
--- every input of the bytes was served
-pub record ServedAll (Given : SessionState → Type 0) (whole : Bool) (bytes : List ℕ) (a b : Stage) : Type 0 where
+-- every one of these inputs was served
+pub record ServedAll (Given : SessionState → Type 0) (given : List Input) (a b : Stage) : Type 0 where
   pub served : Served
-  pub spelled : inputs bytes whole ≡ map (λ p. p.0) served
+  pub spelled : given ≡ map (λ p. p.0) served
   pub went : Went a.session.standing served
   pub written : Appends a.out b.out (transcript a.session.standing.state served)
   pub carries : Carries Given a.session b.session (all_commands a.session.standing.state served)
 
--- some first inputs of the bytes were served, and then one was answered in part, or met a fault of the device
-pub record ServedSome (Given : SessionState → Type 0) (Last : LastStep) (whole : Bool) (bytes : List ℕ) (a b : Stage) : Type 0 where
+-- some first ones of these inputs were served, and then one was answered in part, or met a fault of the device
+pub record ServedSome (Given : SessionState → Type 0) (Last : LastStep) (given : List Input) (a b : Stage) : Type 0 where
   pub served : Served
   pub last : Input
   pub rest : List Input
-  pub spelled : inputs bytes whole ≡ map (λ p. p.0) served ++ last ∷ rest
+  pub spelled : given ≡ map (λ p. p.0) served ++ last ∷ rest
   pub went : Went a.session.standing served
   pub middle : Option (List ℕ)
   pub written : Appends a.out middle (transcript a.session.standing.state served)
@@ -44,11 +45,11 @@ pub record WasRead (whole : Bool) (bytes : List ℕ) (left : Option (List ℕ)) 
 
 -- what was done after the first line of the transcript, by the end and the bytes read; `left` is what the reader has left
 abbrev pub EndsBy : (SessionState → Type 0) → ShellEnd → List ℕ → Option (List ℕ) → Stage → Stage → Type 0
-EndsBy Given End bytes left a b = InputEnded bytes left × ServedAll Given true bytes a b
-EndsBy Given ReadFault bytes left a b = (length bytes < INPUT_BYTES) × ServedAll Given false bytes a b
-EndsBy Given InputLimit bytes left a b = (length bytes ≡ INPUT_BYTES) × ServedAll Given false bytes a b
-EndsBy Given WriteFault bytes left a b = (whole : Bool) × WasRead whole bytes left × ServedSome Given CutShort whole bytes a b
-EndsBy Given DeviceFault bytes left a b = (whole : Bool) × WasRead whole bytes left × ServedSome Given Failed whole bytes a b
+EndsBy Given End bytes left a b = InputEnded bytes left × ServedAll Given (inputs bytes true) a b
+EndsBy Given ReadFault bytes left a b = (length bytes < INPUT_BYTES) × ServedAll Given (inputs bytes false) a b
+EndsBy Given InputLimit bytes left a b = (length bytes ≡ INPUT_BYTES) × ServedAll Given (inputs bytes false) a b
+EndsBy Given WriteFault bytes left a b = (whole : Bool) × WasRead whole bytes left × ServedSome Given CutShort (inputs bytes whole) a b
+EndsBy Given DeviceFault bytes left a b = (whole : Bool) × WasRead whole bytes left × ServedSome Given Failed (inputs bytes whole) a b
 EndsBy Given NoMemory bytes left a b = ⊥
 
 pub record LoopRan (Given : SessionState → Type 0) (end : ShellEnd) (reader reader' : Option (List ℕ)) (a b : Stage) : Type 0 where

@@ -1,42 +1,24 @@
 -- What is answered to inputs, and what they do.
-use Rattle.std.specs.Prelude.{◌≡◌, ◌≢◌, true, false, ℕ, List, [], ◌∷◌, ◌++◌, codes, Option, Some, None}
-use Rattle.std.specs.Fmt.{decimal}
+use Rattle.std.specs.Prelude.{◌≡◌, ◌≢◌, Bool, true, false, ℕ, List, [], ◌∷◌, ◌++◌, Option, Some, None, Result, Ok, Err}
 use Rattle.mcs_model.specs.declared.command.Command.{Command}
-use Rattle.mcs_model.specs.declared.command.Reply.{Reply}
-use Rattle.mcs_model.specs.declared.command.Reply.TheVariants.{Done}
 use Rattle.mcs_model.specs.declared.refusals.BenchFault.{BenchFault}
 use Rattle.mcs_model.specs.Flat.{Flat}
 use Rattle.mcs_model.specs.Command.{refusal, after, reply}
 use Rattle.mcs_model.specs.Fold.{fold}
 use Rattle.mcs_model.specs.Refusal.{bench_refusal_number}
-use Rattle.mcs_model.specs.declared.refusal_numbers.TheConstants.{CLOSED, DEVICE, FULL, LINE_TOO_LONG}
-use Rattle.mcs_model.specs.QueryText.{text}
-use Rattle.mcs_shell.specs.declared.requests.Request.{Request}
-use Rattle.mcs_shell.specs.declared.requests.Request.TheVariants.{Refused, Ask, Change}
+use Rattle.mcs_model.specs.declared.refusal_numbers.TheConstants.{CLOSED, DEVICE, LINE_TOO_LONG, NO_MEMORY}
+use Rattle.mcs_lines.specs.declared.requests.Request.{Request}
+use Rattle.mcs_lines.specs.declared.requests.Request.TheVariants.{Refused, Ask, Change}
 use Rattle.mcs_shell.specs.declared.outcome.Outcome.{Outcome}
-use Rattle.mcs_shell.specs.declared.outcome.Outcome.TheVariants.{Plain, Full, Device, Closed}
-use Rattle.mcs_shell.specs.Inputs.{Input, Blank, TooLong, Line}
-use Rattle.mcs_shell.specs.RefusalNumbers.{line_fault_number}
-use Rattle.mcs_shell.specs.Requests.{request_of}
-use Rattle.mcs_session.specs.Log.{Log, Open, Shut, fits}
+use Rattle.mcs_shell.specs.declared.outcome.Outcome.TheVariants.{Plain, Device, Closed, NoMemory}
+use Rattle.mcs_shell.specs.declared.spelling.TextRefusal.{TextRefusal}
+use Rattle.mcs_answers.specs.AnswerTexts.{answer_text, no_text, ok_text, takes_memory}
+use Rattle.mcs_shell.specs.Inputs.{Input, Blank, TooLong, Line, Text, BadText}
+use Rattle.mcs_lines.specs.RefusalNumbers.{line_fault_number}
+use Rattle.mcs_shell.specs.RefusalNumbers.{text_fault_number}
+use Rattle.mcs_lines.specs.Requests.{request_of}
+use Rattle.mcs_shell.specs.Spelling.{command_of_text, text_refusal}
 use Rattle.mcs_session.specs.Standing.{Standing, standing_after}
-
--- ---- texts
-
-abbrev pub line_feed : List ℕ
-line_feed = 10 ∷ []
-
--- the first line of a transcript
-abbrev pub session_text : Flat → List ℕ
-session_text s = codes "session " ++ (decimal s.seq ++ line_feed)
-
--- the answer to an accepted command, from its reply and the state after it
-abbrev pub ok_text : Reply → Flat → List ℕ
-ok_text Done s = codes "ok " ++ (decimal s.seq ++ line_feed)
-
--- the answer to what is refused
-abbrev pub no_text : ℕ → List ℕ
-no_text number = codes "no " ++ (decimal number ++ line_feed)
 
 -- ---- one input
 
@@ -48,20 +30,30 @@ plain_text (Some f) s c = no_text (bench_refusal_number f)
 -- the answer to a command
 abbrev pub change_text : Flat → Command → Outcome → List ℕ
 change_text s c Plain = plain_text (refusal s c) s c
-change_text s c Full = no_text FULL
 change_text s c Device = no_text DEVICE
 change_text s c Closed = no_text CLOSED
+change_text s c NoMemory = no_text NO_MEMORY
 
+-- the answer to what a line asks for
 abbrev pub request_text : Flat → Request → Outcome → List ℕ
+request_text s r NoMemory = no_text NO_MEMORY
 request_text s (Refused f) o = no_text (line_fault_number f)
-request_text s (Ask q) o = text q s ++ line_feed
+request_text s (Ask q) o = answer_text q s
 request_text s (Change c) o = change_text s c o
+
+-- the answer to a text, by the command that it spells or why it spells none
+abbrev pub spelled_text : Flat → Result Command TextRefusal → Outcome → List ℕ
+spelled_text s r NoMemory = no_text NO_MEMORY
+spelled_text s (Ok c) o = change_text s c o
+spelled_text s (Err f) o = text_refusal f
 
 -- the answer to an input
 unfoldable pub answer : Flat → Input → Outcome → List ℕ
 answer s Blank o = []
 answer s TooLong o = no_text LINE_TOO_LONG
 answer s (Line line) o = request_text s (request_of line) o
+answer s (Text kind text) o = spelled_text s (command_of_text kind text) o
+answer s (BadText f) o = no_text (text_fault_number f)
 
 -- a command that the state does not refuse
 abbrev pub unless_refused : Option BenchFault → Command → List Command
@@ -71,41 +63,67 @@ unless_refused (Some f) c = []
 abbrev pub if_accepted : Flat → Command → List Command
 if_accepted s c = unless_refused (refusal s c) c
 
+abbrev pub commands_of_change : Flat → Command → Outcome → List Command
+commands_of_change s c Plain = if_accepted s c
+commands_of_change s c o = []
+
 abbrev pub commands_of_request : Flat → Request → Outcome → List Command
-commands_of_request s (Change c) Plain = if_accepted s c
+commands_of_request s (Change c) o = commands_of_change s c o
 commands_of_request s r o = []
+
+abbrev pub commands_of_spelled : Flat → Result Command TextRefusal → Outcome → List Command
+commands_of_spelled s (Ok c) o = commands_of_change s c o
+commands_of_spelled s (Err f) o = []
 
 -- the command that was answered `ok`, if any
 unfoldable pub commands : Flat → Input → Outcome → List Command
 commands s (Line line) o = commands_of_request s (request_of line) o
+commands s (Text kind text) o = commands_of_spelled s (command_of_text kind text) o
 commands s i o = []
 
+abbrev pub reached_by_change : Flat → Command → Outcome → List Command
+reached_by_change s c Plain = if_accepted s c
+reached_by_change s c Device = c ∷ []
+reached_by_change s c o = []
+
 abbrev pub reached_by_request : Flat → Request → Outcome → List Command
-reached_by_request s (Change c) Plain = if_accepted s c
-reached_by_request s (Change c) Device = c ∷ []
+reached_by_request s (Change c) o = reached_by_change s c o
 reached_by_request s r o = []
+
+abbrev pub reached_by_spelled : Flat → Result Command TextRefusal → Outcome → List Command
+reached_by_spelled s (Ok c) o = reached_by_change s c o
+reached_by_spelled s (Err f) o = []
 
 -- the command that may have reached the disk, if any: it was answered `ok` or `no 53`
 unfoldable pub reached : Flat → Input → Outcome → List Command
 reached s (Line line) o = reached_by_request s (request_of line) o
+reached s (Text kind text) o = reached_by_spelled s (command_of_text kind text) o
 reached s i o = []
 
--- What may come of a command. On an open session it is refused as the state refuses it; else it is done where its record
--- has room and the device does not fail. On a closed session nothing is done.
-abbrev pub ChangeMayEnd : Log → Flat → Command → Outcome → Type 0
-ChangeMayEnd (Open used) s c Plain = refusal s c ≡ None → fits used c ≡ true
-ChangeMayEnd (Open used) s c Full = (refusal s c ≡ None) × (fits used c ≡ false)
-ChangeMayEnd (Open used) s c Device = (refusal s c ≡ None) × (fits used c ≡ true)
-ChangeMayEnd Shut s c Closed = Unit {0}
-ChangeMayEnd log s c o = ⊥
+-- What may come of a command. On an open session it is refused as the state refuses it; else it is done where the device
+-- does not fail. On a closed session nothing is done.
+abbrev pub ChangeMayEnd : Bool → Flat → Command → Outcome → Type 0
+ChangeMayEnd true s c Plain = Unit {0}
+ChangeMayEnd true s c Device = refusal s c ≡ None
+ChangeMayEnd false s c Closed = Unit {0}
+ChangeMayEnd live s c o = ⊥
 
+-- a question may want memory for its answer
 abbrev pub RequestMayEnd : Standing → Request → Outcome → Type 0
-RequestMayEnd m (Change c) o = ChangeMayEnd m.log m.state c o
+RequestMayEnd m (Change c) o = ChangeMayEnd m.live m.state c o
+RequestMayEnd m (Ask q) NoMemory = takes_memory q ≡ true
 RequestMayEnd m r o = o ≡ Plain
+
+-- a text takes memory before all else
+abbrev pub SpelledMayEnd : Standing → Result Command TextRefusal → Outcome → Type 0
+SpelledMayEnd m r NoMemory = Unit {0}
+SpelledMayEnd m (Ok c) o = ChangeMayEnd m.live m.state c o
+SpelledMayEnd m (Err f) o = o ≡ Plain
 
 -- what may come of the last input
 unfoldable pub MayEnd : Standing → Input → Outcome → Type 0
 MayEnd m (Line line) o = RequestMayEnd m (request_of line) o
+MayEnd m (Text kind text) o = SpelledMayEnd m (command_of_text kind text) o
 MayEnd m i o = o ≡ Plain
 
 -- what may come of an input that others follow: the shell ends where the device fails

@@ -1,96 +1,120 @@
-//! What is done and answered for a line.
+//! What is done and answered for an input.
 ghost use Rattle.std.specs.Prelude.{◌≡◌, []};
-ghost use Rattle.mcs_shell.specs.Inputs.{input_of};
 ghost use Rattle.mcs_session.specs.Standing.{session_state};
+ghost use Rattle.mcs_shell.specs.Inputs.{judged, judged_text};
 ghost use Rattle.mcs_shell.specs.Serving.{Answered, Changed, RequestDone};
 
+use crate::answer::Answer;
 use crate::faults::session_number;
-use crate::lines::{is_blank, without_return};
 use crate::outcome::Outcome;
-use crate::requests::{LineFault, Request, read_request};
-use crate::telling::{Answer, put_number, put_refusal, put_registers};
+use crate::spelling::read_text;
+use crate::texts::{TextKind, as_text, text_fault};
 use mcs_disk::Disk;
-use mcs_model::command::{Command, Reply};
+use mcs_lines::requests::{LineFault, Request, read_request};
+use mcs_lines::words::is_blank;
+use mcs_model::command::Command;
 use mcs_model::limits::LINE_BYTES;
-use mcs_model::query::Query;
+use mcs_model::refusal_numbers;
 use mcs_session::fault::SessionFault;
 use mcs_session::session::Session;
+use std::alloc::{AllocError, Global};
 
-/// Does a command, and tells of it in an empty answer.
+/// Does a command, and tells of it.
 fn answer_change<D: Disk + Drop>(
     command: &Command,
     session: &mut Session<D>,
     answer: &mut Answer,
 ) -> Outcome
-    requires { answer.old.items ≡ [] }
-    ensures { Changed (session_state (D.state session.old.disk) session.old) command.now result answer.new.items (session_state (D.state session.new.disk) session.new) }
+    ensures { Changed (session_state (D.state session.old.disk) session.old) command.now result answer.new (session_state (D.state session.new.disk) session.new) }
 {
     match session.apply(command) {
-        Ok(Reply::Done) => {
-            put_number(answer, b"ok ", session.bench().seq());
+        Ok(reply) => {
+            answer.tell_reply(&reply, session.bench());
             Outcome::Plain
         }
         Err(SessionFault::Refused(fault)) => {
-            put_refusal(answer, session_number(SessionFault::Refused(fault)));
+            answer.tell_refusal(session_number(SessionFault::Refused(fault)));
             Outcome::Plain
         }
-        Err(SessionFault::Full) => {
-            put_refusal(answer, session_number(SessionFault::Full));
-            Outcome::Full
-        }
         Err(SessionFault::Device) => {
-            put_refusal(answer, session_number(SessionFault::Device));
+            answer.tell_refusal(session_number(SessionFault::Device));
             Outcome::Device
         }
         Err(SessionFault::Closed) => {
-            put_refusal(answer, session_number(SessionFault::Closed));
+            answer.tell_refusal(session_number(SessionFault::Closed));
             Outcome::Closed
         }
     }
 }
 
-/// Does what a line asks for, and tells of it in an empty answer.
+/// Does what a line asks for, and tells of it.
 fn answer_request<D: Disk + Drop>(
+    alloc: Global,
     request: &Request,
     session: &mut Session<D>,
     answer: &mut Answer,
 ) -> Outcome
-    requires { answer.old.items ≡ [] }
-    ensures { RequestDone (session_state (D.state session.old.disk) session.old) request.now result answer.new.items (session_state (D.state session.new.disk) session.new) }
+    ensures { RequestDone (session_state (D.state session.old.disk) session.old) request.now result answer.new (session_state (D.state session.new.disk) session.new) }
 {
     match request {
         Request::Refused(fault) => {
-            put_refusal(answer, fault.number());
+            answer.tell_refusal(fault.number());
             Outcome::Plain
         }
-        Request::Ask(Query::Seq) => {
-            put_number(answer, b"seq ", session.bench().seq());
-            Outcome::Plain
-        }
-        Request::Ask(Query::Regs) => {
-            put_registers(answer, session.bench());
-            Outcome::Plain
-        }
+        Request::Ask(question) => match answer.tell_answer(alloc, question, session.bench()) {
+            Ok(()) => Outcome::Plain,
+            Err(_) => {
+                answer.tell_refusal(refusal_numbers::NO_MEMORY);
+                Outcome::NoMemory
+            }
+        },
         Request::Change(command) => answer_change(command, session, answer),
     }
 }
 
-/// Judges a line without its line feed, does what it asks for, and tells of it in an empty answer.
+/// Judges a line outside a text, without its end, does what it asks for, and tells of it in an empty answer.
 pub(crate) fn answer_line<D: Disk + Drop>(
+    alloc: Global,
     line: &[u8],
     session: &mut Session<D>,
     answer: &mut Answer,
 ) -> Outcome
-    requires { answer.old.items ≡ [] }
-    ensures { Answered (session_state (D.state session.old.disk) session.old) (input_of line.now) result answer.new.items (session_state (D.state session.new.disk) session.new) }
+    requires { answer.old ≡ [] }
+    ensures { Answered (session_state (D.state session.old.disk) session.old) (judged line.now) result answer.new (session_state (D.state session.new.disk) session.new) }
 {
-    let line = without_return(line);
     if line.len() > LINE_BYTES {
-        put_refusal(answer, LineFault::LineTooLong.number());
+        answer.tell_refusal(LineFault::LineTooLong.number());
         Outcome::Plain
     } else if is_blank(line) {
         Outcome::Plain
     } else {
-        answer_request(&read_request(line), session, answer)
+        answer_request(alloc, &read_request(line), session, answer)
+    }
+}
+
+/// Judges a text that has an end, does what it spells, and tells of it.
+pub(crate) fn answer_text<D: Disk + Drop>(
+    alloc: Global,
+    kind: TextKind,
+    text: &[u8],
+    session: &mut Session<D>,
+    answer: &mut Answer,
+) -> Outcome
+    ensures { Answered (session_state (D.state session.old.disk) session.old) (judged_text kind text.now) result answer.new (session_state (D.state session.new.disk) session.new) }
+{
+    if let Some(fault) = text_fault(text) {
+        answer.tell_refusal(fault.number());
+        return Outcome::Plain;
+    }
+    match read_text(alloc, kind, as_text(text)) {
+        Ok(Ok(command)) => answer_change(&command, session, answer),
+        Ok(Err(refusal)) => {
+            answer.tell_text_refusal(refusal);
+            Outcome::Plain
+        }
+        Err(AllocError) => {
+            answer.tell_refusal(refusal_numbers::NO_MEMORY);
+            Outcome::NoMemory
+        }
     }
 }

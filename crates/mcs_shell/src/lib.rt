@@ -1,17 +1,20 @@
 //! The shell of the bench, and the program over it: lines in, answers out, each command recorded before it is answered.
 #![tactic(auto)]
 
+mod answer;
 mod answering;
 pub mod ends;
 pub mod faults;
 pub mod headline;
+pub mod laws;
 pub mod lines;
 pub mod outcome;
 pub mod program;
-pub mod requests;
 pub mod sending;
 mod serving;
 pub mod shell;
-mod telling;
+pub mod spelling;
+pub mod texts;
+mod unfinished;
 
 pub use mcs_host::{Choice, FileDisk, FileFault, FileName, WordsFault, choice};

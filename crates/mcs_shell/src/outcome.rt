@@ -5,12 +5,12 @@
 pub enum Outcome {
     /// It was answered by the state of the bench.
     Plain,
-    /// Its record has no room in the log.
-    Full,
     /// The device failed while it was recorded.
     Device,
     /// The session is closed.
     Closed,
+    /// Memory for it was refused, and nothing was done.
+    NoMemory,
 }
 
 /// What halts a shell before its input ends.

@@ -65,7 +65,7 @@ pub fn session_on<D: Disk + Drop>(
     choice: &Choice,
     opened: Result<D, FileFault>,
 ) -> Result<Session<D>, u8>
-    ensures begun { IfOk opened (λ disk. IfOk result (λ session. Begins choice.now (D.state disk) (D.state session.disk) session.log session.state)) }
+    ensures begun { IfOk opened (λ disk. IfOk result (λ session. Begins choice.now (D.state disk) (D.state session.disk) session.live session.state)) }
     ensures refused { IfOk opened (λ disk. IfErr result (λ number. (left : D) × IsRefusedBy choice.now (D.state disk) (D.state left) number)) }
     ensures unopened { IfErr opened (λ fault. result ≡ Err (file_fault_number fault)) }
 {
@@ -88,7 +88,7 @@ pub fn session_on<D: Disk + Drop>(
 /// Makes or opens the session in a file, or answers the number of the refusal.
 pub fn session_in(rt: &HostRuntime, choice: &Choice) -> Result<Session<FileDisk>, u8>
     ensures begun { IfOk result (λ session. (disk : FileDisk) × IsOpened (⟦<FileDisk as Disk>⟧.state disk)
-        × Begins choice.now (⟦<FileDisk as Disk>⟧.state disk) (⟦<FileDisk as Disk>⟧.state session.disk) session.log session.state) }
+        × Begins choice.now (⟦<FileDisk as Disk>⟧.state disk) (⟦<FileDisk as Disk>⟧.state session.disk) session.live session.state) }
     ensures refused { IfErr result (λ number. ((fault : FileFault) × (number ≡ file_fault_number fault))
         ⊎ ((disk : FileDisk) × (left : FileDisk) × IsOpened (⟦<FileDisk as Disk>⟧.state disk)
         × IsRefusedBy choice.now (⟦<FileDisk as Disk>⟧.state disk) (⟦<FileDisk as Disk>⟧.state left) number)) }

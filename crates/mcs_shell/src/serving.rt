@@ -1,34 +1,28 @@
-//! Lines as they come, byte by byte.
-ghost use Rattle.std.specs.Prelude.{◌≡◌, ◌∷◌, [], OnOk, OnErr, IfErr};
-ghost use Rattle.mcs_shell.specs.Inputs.{HasNoFeed, input_of};
+//! Lines as they come, in pieces.
+ghost use Rattle.std.specs.Prelude.{◌≡◌, ◌∷◌, ◌++◌, [], MatchOption, OnOk, IfErr, length};
+ghost use Rattle.mcs_shell.specs.declared.texts.TextFault.TheVariants.{NoEnd};
+ghost use Rattle.mcs_shell.specs.Lines.{HasNoFeed};
+ghost use Rattle.mcs_shell.specs.Inputs.{BadText, judged, judged_text};
 ghost use Rattle.mcs_shell.specs.Stage.{staged};
-ghost use Rattle.mcs_shell.specs.Serving.{ServedLine, Stopped, StopsAt, WentFurther};
+ghost use Rattle.mcs_shell.specs.Serving.{Sent, ServedLine, Stopped, WentFurther};
 
-use crate::answering::answer_line;
+use crate::answer::Answer;
+use crate::answering::{answer_line, answer_text};
+use crate::lines::without_return;
 use crate::outcome::{Halt, Outcome};
-use crate::sending::{WriteStopped, send};
-use crate::telling::Answer;
-use arrayvec::ArrayVec;
+use crate::sending::WriteStopped;
+use crate::texts::{TextFault, TextKind, ends_text, opens};
+use crate::unfinished::Unfinished;
 use mcs_disk::Disk;
 use mcs_session::session::Session;
+use std::alloc::Global;
 use std::io::Write;
 
-/// The bytes of an unfinished line. A line has 255 bytes at most, one carriage return may end it, and one more byte tells
-/// that it is too long whatever follows; what comes behind that is not kept.
-pub type UnfinishedLine = ArrayVec<u8, 257>;
-
-/// Serves a line: what it asks for is done, and then the answer is written.
-pub(crate) fn serve_line<W: Write, D: Disk + Drop>(
-    line: &[u8],
-    writer: &mut W,
-    session: &mut Session<D>,
-) -> Result<(), Halt>
-    ensures { ServedLine result (staged (D.state session.old.disk) session.old (W.contents writer.old)) (input_of line.now)
-        (staged (D.state session.new.disk) session.new (W.contents writer.new)) }
+/// Writes the answer to an input that met this outcome.
+fn deliver<W: Write>(outcome: Outcome, answer: &Answer, writer: &mut W) -> Result<(), Halt>
+    ensures { Sent result outcome answer.now (W.contents writer.old) (W.contents writer.new) }
 {
-    let mut answer = Answer::new();
-    let outcome = answer_line(line, session, &mut answer);
-    match send(writer, answer.as_slice()) {
+    match answer.send(writer) {
         Err(WriteStopped) => Err(Halt::Write),
         Ok(()) => match outcome {
             Outcome::Device => Err(Halt::Device),
@@ -37,50 +31,131 @@ pub(crate) fn serve_line<W: Write, D: Disk + Drop>(
     }
 }
 
-/// Serves a byte, after those of an unfinished line.
-fn serve_byte<W: Write, D: Disk + Drop>(
-    byte: u8,
-    line: &mut ArrayVec<u8, 257>,
+/// Serves a line outside a text, without its end: what it asks for is done, and then the answer is written.
+fn serve_line<W: Write, D: Disk + Drop>(
+    alloc: Global,
+    line: &[u8],
     writer: &mut W,
     session: &mut Session<D>,
 ) -> Result<(), Halt>
-    requires { HasNoFeed line.old.items }
-    ensures ok { OnOk result (WentFurther (staged (D.state session.old.disk) session.old (W.contents writer.old))
-        (staged (D.state session.new.disk) session.new (W.contents writer.new)) line.old.items line.new.items (byte ∷ [])) }
-    ensures feed { OnErr result (byte ≡ 10) }
-    ensures err { IfErr result (λ halt. StopsAt halt (staged (D.state session.old.disk) session.old (W.contents writer.old)) (input_of line.old.items)
-        (staged (D.state session.new.disk) session.new (W.contents writer.new))) }
+    ensures { ServedLine result (staged (D.state session.old.disk) session.old (W.contents writer.old)) (judged line.now)
+        (staged (D.state session.new.disk) session.new (W.contents writer.new)) }
 {
-    if byte == b'\n' {
-        serve_line(line.as_slice(), writer, session)?;
-        line.clear();
-        Ok(())
-    } else if line.is_full() {
-        Ok(())
-    } else {
-        line.push(byte);
-        Ok(())
+    let mut answer = Answer::new();
+    let outcome = answer_line(alloc, line, session, &mut answer);
+    deliver(outcome, &answer, writer)
+}
+
+/// Serves a text that has an end.
+fn serve_text<W: Write, D: Disk + Drop>(
+    alloc: Global,
+    kind: TextKind,
+    text: &[u8],
+    writer: &mut W,
+    session: &mut Session<D>,
+) -> Result<(), Halt>
+    ensures { ServedLine result (staged (D.state session.old.disk) session.old (W.contents writer.old)) (judged_text kind text.now)
+        (staged (D.state session.new.disk) session.new (W.contents writer.new)) }
+{
+    let mut answer = Answer::new();
+    let outcome = answer_text(alloc, kind, text, session, &mut answer);
+    deliver(outcome, &answer, writer)
+}
+
+/// Refuses a text inside which input ended.
+pub(crate) fn serve_no_end<W: Write, D: Disk + Drop>(
+    writer: &mut W,
+    session: &mut Session<D>,
+) -> Result<(), Halt>
+    ensures { ServedLine result (staged (D.state session.old.disk) session.old (W.contents writer.old)) (BadText NoEnd)
+        (staged (D.state session.new.disk) session.new (W.contents writer.new)) }
+{
+    let mut answer = Answer::new();
+    answer.tell_refusal(TextFault::NoEnd.number());
+    deliver(Outcome::Plain, &answer, writer)
+}
+
+/// Ends the unfinished line, as a line feed behind it does.
+pub(crate) fn end_line<W: Write, D: Disk + Drop>(
+    alloc: Global,
+    unfinished: &mut Unfinished,
+    writer: &mut W,
+    session: &mut Session<D>,
+) -> Result<(), Halt>
+    requires { HasNoFeed unfinished.old.line }
+    ensures ok { OnOk result (WentFurther (staged (D.state session.old.disk) session.old (W.contents writer.old))
+        (staged (D.state session.new.disk) session.new (W.contents writer.new)) unfinished.old unfinished.new (10 ∷ [])) }
+    ensures empty { OnOk result (length unfinished.new.line ≡ 0) }
+    ensures err { IfErr result (λ halt. Stopped halt (staged (D.state session.old.disk) session.old (W.contents writer.old))
+        (staged (D.state session.new.disk) session.new (W.contents writer.new)) unfinished.old (10 ∷ [])) }
+{
+    let line = without_return(unfinished.line());
+    match unfinished.text() {
+        None => match opens(line) {
+            Some(kind) => {
+                unfinished.open(kind);
+                Ok(())
+            }
+            None => match serve_line(alloc, line, writer, session) {
+                Ok(()) => {
+                    unfinished.clear();
+                    Ok(())
+                }
+                Err(halt) => Err(halt),
+            },
+        },
+        Some((kind, text)) => {
+            if ends_text(line) {
+                match serve_text(alloc, kind, text, writer, session) {
+                    Ok(()) => {
+                        unfinished.clear();
+                        Ok(())
+                    }
+                    Err(halt) => Err(halt),
+                }
+            } else {
+                unfinished.end_line();
+                Ok(())
+            }
+        }
     }
 }
 
-/// Serves the bytes of a chunk, after those of an unfinished line.
+/// The bytes before the first line feed, and those behind it; or none, where there is no line feed.
+fn split_line(bytes: &[u8]) -> Option<(&[u8], &[u8])>
+    ensures { MatchOption result (HasNoFeed bytes.now) (λ p. HasNoFeed p.0.now × (bytes.now ≡ p.0.now ++ 10 ∷ p.1.now)) }
+{
+    for (at, byte) in bytes.iter().enumerate() {
+        if *byte == b'\n' {
+            return Some((&bytes[..at], &bytes[at + 1..]));
+        }
+    }
+    None
+}
+
+/// Serves the bytes of a chunk, after what is unfinished.
 pub(crate) fn serve_chunk<W: Write, D: Disk + Drop>(
+    alloc: Global,
     chunk: &[u8],
-    line: &mut ArrayVec<u8, 257>,
+    unfinished: &mut Unfinished,
     writer: &mut W,
     session: &mut Session<D>,
 ) -> Result<(), Halt>
-    requires { HasNoFeed line.old.items }
+    requires { HasNoFeed unfinished.old.line }
     ensures ok { OnOk result (WentFurther (staged (D.state session.old.disk) session.old (W.contents writer.old))
-        (staged (D.state session.new.disk) session.new (W.contents writer.new)) line.old.items line.new.items chunk.now) }
+        (staged (D.state session.new.disk) session.new (W.contents writer.new)) unfinished.old unfinished.new chunk.now) }
     ensures err { IfErr result (λ halt. Stopped halt (staged (D.state session.old.disk) session.old (W.contents writer.old))
-        (staged (D.state session.new.disk) session.new (W.contents writer.new)) line.old.items chunk.now) }
+        (staged (D.state session.new.disk) session.new (W.contents writer.new)) unfinished.old chunk.now) }
 {
-    for byte in chunk {
-        match serve_byte(*byte, line, writer, session) {
+    let mut rest = chunk;
+    while let Some((front, back)) = split_line(rest) {
+        unfinished.keep(front);
+        match end_line(alloc, unfinished, writer, session) {
             Ok(()) => {}
             Err(halt) => return Err(halt),
         }
+        rest = back;
     }
+    unfinished.keep(rest);
     Ok(())
 }

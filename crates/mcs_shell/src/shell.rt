@@ -1,16 +1,17 @@
 //! The shell: it reads lines, does what they ask for, and writes the answers.
 ghost use Rattle.std.specs.Prelude.{◌≡◌, ◌<◌, ◌≤◌, take, length, IfOk, OnErr};
 ghost use Rattle.std.specs.Io.KnownBytes.{Keeps};
-ghost use Rattle.mcs_shell.specs.Inputs.{HasNoFeed};
+ghost use Rattle.mcs_shell.specs.Lines.{HasNoFeed};
 ghost use Rattle.mcs_shell.specs.Stage.{staged};
 ghost use Rattle.mcs_shell.specs.Shell.{LoopSettled, Ran, ReadSome, end_of_halt};
 ghost use Rattle.mcs_shell.specs.Finishing.{FinishedBy};
 
+use crate::answer::Answer;
 use crate::ends::ShellEnd;
 use crate::outcome::Halt;
-use crate::sending::{WriteStopped, send};
-use crate::serving::{UnfinishedLine, serve_chunk, serve_line};
-use crate::telling::{Answer, put_number};
+use crate::sending::WriteStopped;
+use crate::serving::{end_line, serve_chunk, serve_no_end};
+use crate::unfinished::Unfinished;
 use mcs_disk::Disk;
 use mcs_model::limits::INPUT_BYTES;
 use mcs_session::session::Session;
@@ -46,27 +47,48 @@ fn end_of(halt: Halt) -> ShellEnd
     }
 }
 
-/// Serves the unfinished line where input has ended.
-fn finish<W: Write, D: Disk + Drop>(
-    line: &[u8],
+/// Refuses the text that is open where input has ended behind a whole line.
+fn finish_text<W: Write, D: Disk + Drop>(
+    unfinished: &Unfinished,
     writer: &mut W,
     session: &mut Session<D>,
 ) -> ShellEnd
-    requires { HasNoFeed line.now }
-    ensures { FinishedBy result line.now (staged (D.state session.old.disk) session.old (W.contents writer.old))
+    requires { length unfinished.now.line ≡ 0 }
+    ensures { FinishedBy result unfinished.now (staged (D.state session.old.disk) session.old (W.contents writer.old))
         (staged (D.state session.new.disk) session.new (W.contents writer.new)) }
 {
-    if line.is_empty() {
-        return ShellEnd::End;
+    match unfinished.text() {
+        None => ShellEnd::End,
+        Some(_) => match serve_no_end(writer, session) {
+            Ok(()) => ShellEnd::End,
+            Err(halt) => end_of(halt),
+        },
     }
-    match serve_line(line, writer, session) {
-        Ok(()) => ShellEnd::End,
+}
+
+/// Serves what is unfinished where input has ended.
+fn finish<W: Write, D: Disk + Drop>(
+    alloc: Global,
+    unfinished: &mut Unfinished,
+    writer: &mut W,
+    session: &mut Session<D>,
+) -> ShellEnd
+    requires { HasNoFeed unfinished.old.line }
+    ensures { FinishedBy result unfinished.old (staged (D.state session.old.disk) session.old (W.contents writer.old))
+        (staged (D.state session.new.disk) session.new (W.contents writer.new)) }
+{
+    if unfinished.line().is_empty() {
+        return finish_text(unfinished, writer, session);
+    }
+    match end_line(alloc, unfinished, writer, session) {
+        Ok(()) => finish_text(unfinished, writer, session),
         Err(halt) => end_of(halt),
     }
 }
 
 /// Reads and serves until an end.
 fn run_loop<R: Read, W: Write, D: Disk + Drop>(
+    alloc: Global,
     buffer: &mut [u8],
     reader: &mut R,
     writer: &mut W,
@@ -76,14 +98,20 @@ fn run_loop<R: Read, W: Write, D: Disk + Drop>(
     ensures { LoopSettled result (R.remaining reader.old) (R.remaining reader.new)
         (staged (D.state session.old.disk) session.old (W.contents writer.old)) (staged (D.state session.new.disk) session.new (W.contents writer.new)) }
 {
-    let mut line = UnfinishedLine::new();
+    let mut unfinished = Unfinished::new();
     let mut total = 0;
     while total < INPUT_BYTES {
         let most = buffer.len().min(INPUT_BYTES - total);
         match read_some(reader, buffer, most) {
             Err(ReadFailed) => return ShellEnd::ReadFault,
-            Ok(0) => return finish(line.as_slice(), writer, session),
-            Ok(count) => match serve_chunk(&buffer[..count], &mut line, writer, session) {
+            Ok(0) => return finish(alloc, &mut unfinished, writer, session),
+            Ok(count) => match serve_chunk(
+                alloc,
+                &buffer[..count],
+                &mut unfinished,
+                writer,
+                session,
+            ) {
                 Ok(()) => total += count,
                 Err(halt) => return end_of(halt),
             },
@@ -110,9 +138,9 @@ pub fn run_shell<R: Read, W: Write, D: Disk + Drop>(
         return ShellEnd::NoMemory;
     };
     let mut first = Answer::new();
-    put_number(&mut first, b"session ", seq);
-    match send(writer, first.as_slice()) {
+    first.tell_number(b"session ", seq);
+    match first.send(writer) {
         Err(WriteStopped) => ShellEnd::WriteFault,
-        Ok(()) => run_loop(buffer.as_mut_slice(), reader, writer, session),
+        Ok(()) => run_loop(alloc, buffer.as_mut_slice(), reader, writer, session),
     }
 }

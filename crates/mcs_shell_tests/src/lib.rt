@@ -3,6 +3,9 @@
 
 ghost use Rattle.std.specs.Prelude.{Some, ◌≡◌};
 
+mod texts;
+mod worked;
+
 use mcs_disk::{Disk, FuseDisk, MemDisk};
 use mcs_journal::{CreateFault, FILE_SIZE, OpenFault};
 use mcs_model::command::{Command, Place, Reply};
@@ -184,7 +187,7 @@ fn each_line_has_its_answer(rt: HostRuntime) -> Result<(), Fail> {
         (b"POKE r1 2", b"no 10\n"),
         (b"regs 1", b"no 10\n"),
         (b"poke r99999999999999999999 1", b"no 11\n"),
-        (b"poke acc 1", b"no 10\n"),
+        (b"poke acc 1", b"ok 1\n"),
         (b"poke r1 0x", b"no 11\n"),
         (b" \t ", b""),
         (b"", b""),
@@ -221,14 +224,14 @@ fn each_line_has_its_answer(rt: HostRuntime) -> Result<(), Fail> {
 }
 
 #[test]
-fn the_log_is_full_at_last(rt: HostRuntime) -> Result<(), Fail> {
+fn a_full_log_makes_room(rt: HostRuntime) -> Result<(), Fail> {
     let alloc = rt.alloc();
     let mut session = new_session(alloc)?;
     let poke = Command::Poke(Place::Register(RegNo::ZERO, Nibble::ONE));
+    // the records of so many have room in the first log
     for _ in 0..9_362 {
         assert_eq!(rt; session.apply(&poke), Ok(Reply::Done));
     }
-    assert_eq!(rt; session.apply(&poke), Err(SessionFault::Full));
     let mut writer = Vec::new(alloc);
     let _ = run_shell(
         alloc,
@@ -238,12 +241,19 @@ fn the_log_is_full_at_last(rt: HostRuntime) -> Result<(), Fail> {
     );
     assert_eq!(rt;
         writer.as_slice(),
-        b"session 9362\nno 52\nseq 9362\n".as_slice()
+        b"session 9362\nok 9363\nseq 9363\n".as_slice()
     );
-    let Ok(again) = Session::open(alloc, session.into_disk()) else {
+    let mut disk = session.into_disk();
+    let bytes = bytes_of(alloc, &mut disk)?;
+    assert_eq!(rt; bytes.get(8), Some(&1));
+    assert_eq!(rt;
+        bytes.get(98_320..98_329),
+        Some([1, 0, 4, 7, 3, 0, 1, 0, 0].as_slice())
+    );
+    let Ok(again) = Session::open(alloc, disk) else {
         return Err("not opened".into());
     };
-    assert_eq!(rt; again.bench().seq(), 9_362);
+    assert_eq!(rt; again.bench().seq(), 9_363);
     Ok(())
 }
 

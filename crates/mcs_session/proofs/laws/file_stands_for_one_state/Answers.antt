@@ -1,4 +1,4 @@
-use Rattle.mcs_session.proofs.Recording.{one_state}
+use Rattle.mcs_session.proofs.Files.{one_state}
 use Rattle.mcs_session.proofs.laws.file_stands_for_one_state.Goals as goal
 
 pub returns : goal.returns

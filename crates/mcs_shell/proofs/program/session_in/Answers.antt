@@ -14,9 +14,9 @@ state_of disk = file_state disk.faults disk.bytes.items disk.history
 
 begun_on : (choice : Choice) (opened : Result FileDisk FileFault) (result : Result (SessionView FileDisk) ℕ)
     → IfOk opened (λ disk. IsOpened (state_of disk))
-    → IfOk opened (λ disk. IfOk result (λ s. Begins choice (state_of disk) (state_of s.disk) s.log s.state))
+    → IfOk opened (λ disk. IfOk result (λ s. Begins choice (state_of disk) (state_of s.disk) s.live s.state))
     → IfErr opened (λ fault. result ≡ Err (file_fault_number fault))
-    → IfOk result (λ s. (disk : FileDisk) × IsOpened (state_of disk) × Begins choice (state_of disk) (state_of s.disk) s.log s.state)
+    → IfOk result (λ s. (disk : FileDisk) × IsOpened (state_of disk) × Begins choice (state_of disk) (state_of s.disk) s.live s.state)
 begun_on choice (Ok disk) (Ok s) is begun none = (disk, is, begun)
 begun_on choice (Ok disk) (Err number) is begun none = tt
 begun_on choice (Err fault) (Ok s) is begun none = absurd (cc none)

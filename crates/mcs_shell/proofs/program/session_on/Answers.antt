@@ -2,7 +2,7 @@ use Rattle.mcs_shell.proofs.program.session_on.Goals as goal
 
 pub returns-in-Ok-create-clause-begun : goal.returns-in-Ok-create-clause-begun
 returns-in-Ok-create-clause-begun g c = rw (c.in-Ok.is, c.in-New.is) (record {
-  log_is = c.in-Ok-create.ensures.open;
+  is_open = c.in-Ok-create.ensures.open;
   state_is = c.in-Ok-create.ensures.new;
   counts = c.in-Ok-create.ensures.counts;
   creates = c.in-Ok-create.ensures.created;

@@ -1,21 +1,25 @@
-use Rattle.std.proofs.Common.{arith, ◌≡◌, take}
-use Rattle.std.proofs.lemmas.Grind.{common_steps}
-use Rattle.mcs_shell.proofs.Steps.{all_of_chunk, stopped_by, went_byte, went_stay}
+use Rattle.std.proofs.Common.{◌≡◌, ◌++◌, ◌∷◌}
+use Rattle.mcs_shell.specs.Lines.{HasNoFeed}
+use Rattle.mcs_shell.proofs.Steps.{kept_feed, served_rest, served_to_line, served_to_nothing, stopped_line}
 use Rattle.mcs_shell.proofs.serving.serve_chunk.Goals as goal
 
-pub loop-byte-init : goal.loop-byte-init
-loop-byte-init g c = went_stay _ _ c.requires
-
-pub serve_byte-requires : goal.serve_byte-requires
-serve_byte-requires g c = c.loop-byte.invariant.progress.no_feed
+pub loop-front-init : goal.loop-front-init
+loop-front-init g c = served_to_nothing _ _ _ c.requires
 
 pub returns-in-Err-clause-err : goal.returns-in-Err-clause-err
-returns-in-Err-clause-err g c = stopped_by c.in-Err.halt _ _ _ _ _ _ c.loop-byte.byte-index c.loop-byte-test.true c.in-Err.ensures.feed c.loop-byte.invariant c.in-Err.ensures.err
+returns-in-Err-clause-err g c =
+    let cut : HasNoFeed c.in-Some.front.now × (c.loop-front.rest.now ≡ c.in-Some.front.now ++ 10 ∷ c.in-Some.back.now) = c.in-Some.ensures in
+    stopped_line c.in-Err.halt _ _ _ _ _ _ _ _ _ _ c.loop-front.invariant cut c.keep.ensures c.in-Err.ensures.err
 
-pub loop-byte-preserved : goal.loop-byte-preserved
-loop-byte-preserved g c = went_byte _ _ _ _ _ _ c.args.chunk.now c.loop-byte.byte-index c.loop-byte-test.true c.loop-byte.invariant c.in-Ok.ensures.ok
+pub loop-front-preserved : goal.loop-front-preserved
+loop-front-preserved g c =
+    let cut : HasNoFeed c.in-Some.front.now × (c.loop-front.rest.now ≡ c.in-Some.front.now ++ 10 ∷ c.in-Some.back.now) = c.in-Some.ensures in
+    served_to_line _ _ _ _ _ _ _ _ _ _ _ c.loop-front.invariant cut c.keep.ensures c.in-Ok.ensures.ok
+
+pub end_line-requires : goal.end_line-requires
+end_line-requires g c =
+    let cut : HasNoFeed c.in-Some.front.now × (c.loop-front.rest.now ≡ c.in-Some.front.now ++ 10 ∷ c.in-Some.back.now) = c.in-Some.ensures in
+    kept_feed _ _ _ c.loop-front.invariant.went.progress.no_feed cut.0 c.keep.ensures
 
 pub returns-clause-ok : goal.returns-clause-ok
-returns-clause-ok g c =
-    let all : take c.loop-byte.byte-index c.args.chunk.now ≡ c.args.chunk.now = grind (arith, common_steps) in
-    all_of_chunk _ _ _ _ _ c.loop-byte.byte-index all c.loop-byte.invariant
+returns-clause-ok g c = served_rest _ _ _ _ _ _ _ c.loop-front.invariant c.in_default.ensures c.keep-2.ensures

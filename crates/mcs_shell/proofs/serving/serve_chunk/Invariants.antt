@@ -1,10 +1,13 @@
-use Rattle.std.proofs.Common.{take}
+use Rattle.std.proofs.Common.{length}
 use Rattle.mcs_shell.specs.Stage.{staged}
-use Rattle.mcs_shell.specs.Serving.{WentFurther}
+use Rattle.mcs_shell.proofs.Steps.{ServedTo}
 use Rattle.mcs_shell.proofs.serving.serve_chunk.Given as goal
 
-abbrev pub invariant-loop-byte : goal.invariant-loop-byte
-invariant-loop-byte g l = WentFurther
+abbrev pub invariant-loop-front : goal.invariant-loop-front
+invariant-loop-front g l = ServedTo
     (staged (g.D.Disk.state l.fn.session.disk) l.fn.session (g.W.Write.contents l.fn.writer))
     (staged (g.D.Disk.state l.session.disk) l.session (g.W.Write.contents l.writer))
-    l.fn.line.items l.line.items (take l.byte-index l.chunk)
+    l.fn.unfinished l.unfinished l.rest l.chunk
+
+abbrev pub decreases-loop-front : goal.decreases-loop-front
+decreases-loop-front g l = length l.rest

@@ -4,14 +4,14 @@ use Rattle.mcs_shell.proofs.Looping.{ran_finish, ran_limit, ran_read_fault, ran_
 use Rattle.mcs_shell.proofs.shell.run_loop.Goals as goal
 
 pub loop-total-init : goal.loop-total-init
-loop-total-init g c = record { small = omega arith; room = c.requires; so_far = so_far_nothing _ _ _ c.new-line.ensures }
+loop-total-init g c = record { small = omega arith; room = c.requires; so_far = so_far_nothing _ _ _ c.new-unfinished.ensures }
 
 pub returns-in-Err : goal.returns-in-Err
 returns-in-Err g c = ran_read_fault _ _ _ _ _ _ _ c.loop-total.invariant.so_far c.loop-total-test.true c.in-Err.ensures.err
 
 pub returns-in-Ok-eq0 : goal.returns-in-Ok-eq0
 returns-in-Ok-eq0 g c = ran_finish _ _ _ _ _ _ _ _ _ _ _ c.loop-total.invariant.so_far c.loop-total-test.true
-    (let e : c.in-Ok-eq0.field-0 ≡ 0 = search rules in rw e at c.in-Ok-eq0.ensures.ok) (rw c.as_slice.ensures.value at c.finish.ensures)
+    (let e : c.in-Ok-eq0.field-0 ≡ 0 = search rules in rw e at c.in-Ok-eq0.ensures.ok) c.finish.ensures
 
 pub loop-total-preserved : goal.loop-total-preserved
 loop-total-preserved g c = record {

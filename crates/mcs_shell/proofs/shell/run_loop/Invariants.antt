@@ -11,7 +11,7 @@ invariant-loop-total g l = record {
   so_far : SoFar (g.R.Read.remaining l.fn.reader) (g.R.Read.remaining l.reader)
       (staged (g.D.Disk.state l.fn.session.disk) l.fn.session (g.W.Write.contents l.fn.writer))
       (staged (g.D.Disk.state l.session.disk) l.session (g.W.Write.contents l.writer))
-      l.line.items l.total;
+      l.unfinished l.total;
 }
 
 abbrev pub decreases-loop-total : goal.decreases-loop-total

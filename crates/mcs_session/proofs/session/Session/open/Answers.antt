@@ -1,17 +1,17 @@
 use Rattle.std.proofs.Common.{rules}
-use Rattle.mcs_session.proofs.Recording.{opened_session, recorded_opened, refuses_pair, refuses_store}
+use Rattle.mcs_session.proofs.Files.{opened_session, recorded_opened, refuses_pair, refuses_store}
 use Rattle.mcs_session.proofs.session.Session.open.Goals as goal
 
 pub invariant_of-result : goal.invariant_of-result
 invariant_of-result g c = record {
-  lent = search rules;
+  ready = search rules;
   recorded = λ alive honest.
       let was = c.in-Ok-open.ensures.counts.honest.0 honest in
-      recorded_opened _ _ _ _ _ _ (c.in-Ok-open.ensures.opened was) (c.in-Ok-open.ensures.used was) (rw (c.bytes.ensures, c.in-Ok-Some.field-0-is) at c.in-Ok-Some.ensures.some);
+      recorded_opened _ _ _ _ _ _ (c.in-Ok-open.ensures.opened was) (rw (c.bytes.ensures, c.in-Ok-Some.field-0-is) at c.in-Ok-Some.ensures.some);
 }
 
 pub returns-in-Ok-Some-clause-opened : goal.returns-in-Ok-Some-clause-opened
-returns-in-Ok-Some-clause-opened g c = λ honest. opened_session _ _ _ _ _ (c.in-Ok-open.ensures.opened honest) (rw (c.bytes.ensures, c.in-Ok-Some.field-0-is) at c.in-Ok-Some.ensures.some)
+returns-in-Ok-Some-clause-opened g c = λ honest. opened_session _ _ _ _ _ _ (c.in-Ok-open.ensures.opened honest) (rw (c.bytes.ensures, c.in-Ok-Some.field-0-is) at c.in-Ok-Some.ensures.some)
 
 pub returns-in-Ok-None-clause-refusal_counts : goal.returns-in-Ok-None-clause-refusal_counts
 returns-in-Ok-None-clause-refusal_counts g c = rw c.into_disk.ensures (record {

@@ -1,0 +1,60 @@
+-- Texts that grow by a piece.
+use Rattle.std.proofs.Common.{◌≡◌, ℕ, ◌+◌, ◌<◌, List, [], ◌∷◌, ◌++◌, length, map, take, drop, get_or, ap, sym, ◌∙◌, refl, append_assoc, append-nil, arith}
+use Rattle.std.proofs.lemmas.Grind.{common_steps}
+use Rattle.std.proofs.lemmas.List.{map-append, take_more}
+use Rattle.std.specs.List.{flat_map, join_with_byte, range_with_len}
+use Rattle.mcs_wiring.proofs.PartTexts.{one_more}
+use Rattle.mcs_model.specs.QueryText.{as_line, or_dash, stretch}
+
+-- a piece behind what was written already
+pub behind : (a p b x c : List ℕ) → b ≡ a ++ p → c ≡ b ++ x → c ≡ a ++ (p ++ x)
+behind a p b x c so_far here = here ∙ ap (λ v. v ++ x) so_far ∙ append_assoc a p x
+
+-- two pieces behind it
+pub behind_two : (a p b x y c : List ℕ) → b ≡ a ++ p → c ≡ b ++ x ++ y → c ≡ a ++ (p ++ x ++ y)
+behind_two a p b x y c so_far here = here ∙ ap (λ v. v ++ x ++ y) so_far ∙ ap (λ v. v ++ y) (append_assoc a p x) ∙ append_assoc a (p ++ x) y
+
+-- one element more of a list that is written element by element
+pub mapped : {X : Type 0} (f : X → ℕ) (xs : List X) (i : ℕ) (d : X) (a b c : List ℕ) → i < length xs
+    → b ≡ a ++ map f (take i xs)
+    → c ≡ b ++ f (get_or xs i d) ∷ []
+    → c ≡ a ++ map f (take (i + 1) xs)
+mapped f xs i d a b c inside so_far here =
+    here
+    ∙ ap (λ v. v ++ f (get_or xs i d) ∷ []) so_far
+    ∙ append_assoc a (map f (take i xs)) (f (get_or xs i d) ∷ [])
+    ∙ ap (λ v. a ++ v) (sym (ap (map f) (take_more xs i d inside) ∙ map-append f (take i xs) (get_or xs i d ∷ [])))
+
+-- one number more of a stretch that is written number by number
+pub stretched : (f : ℕ → ℕ) (xs : List ℕ) (from k : ℕ) (a b c : List ℕ) → from + k < length xs
+    → b ≡ a ++ map f (stretch xs from k)
+    → c ≡ b ++ f (get_or xs (from + k) 0) ∷ []
+    → c ≡ a ++ map f (stretch xs from (k + 1))
+stretched f xs from k a b c inside so_far here =
+    let there : get_or (drop from xs) k 0 ≡ get_or xs (from + k) 0 = grind (arith, common_steps) in
+    let within : k < length (drop from xs) = grind (arith, common_steps) in
+    mapped f (drop from xs) k 0 a b c within so_far (here ∙ ap (λ v. b ++ f v ∷ []) (sym there))
+
+-- one piece more of pieces that are numbered
+pub pieced : (f : ℕ → List ℕ) (n : ℕ) (a b c : List ℕ)
+    → b ≡ a ++ flat_map f (range_with_len 0 n)
+    → c ≡ b ++ f n
+    → c ≡ a ++ flat_map f (range_with_len 0 (n + 1))
+pieced f n a b c so_far here =
+    here
+    ∙ ap (λ v. v ++ f n) so_far
+    ∙ append_assoc a (flat_map f (range_with_len 0 n)) (f n)
+    ∙ ap (λ v. a ++ v) (sym (one_more f n))
+
+-- lines joined by LF, with one more at the end, are lines that LF ends
+pub joined_lines : (x : List ℕ) (xs : List (List ℕ)) → join_with_byte 10 (x ∷ xs) ++ 10 ∷ [] ≡ flat_map as_line (x ∷ xs)
+joined_lines x [] = sym (append-nil (as_line x))
+joined_lines x (y ∷ ys) =
+    let more = flat_map as_line (y ∷ ys) in
+    append_assoc x (10 ∷ join_with_byte 10 (y ∷ ys)) (10 ∷ [])
+    ∙ (ap (λ t. x ++ 10 ∷ t) (joined_lines y ys) ∙ sym (append_assoc x (10 ∷ []) more))
+
+-- a list of something is told as it is
+pub some_or_dash : (xs : List ℕ) → 0 < length xs → or_dash xs ≡ xs
+some_or_dash [] h = absurd (omega arith)
+some_or_dash (x ∷ xs) h = refl

@@ -1,0 +1,3 @@
+pub mod DecimalDigits
+pub mod Growing
+pub mod RamTexts

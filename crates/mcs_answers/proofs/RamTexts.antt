@@ -1,0 +1,68 @@
+-- The text of a bank of RAM, chip by chip, and how many chips a bank has.
+use Rattle.std.proofs.Common.{◌≡◌, ℕ, zero, suc, ◌≤◌, Bool, true, false, ◌||◌, List, [], ◌∷◌, ◌++◌, codes, Some, None, map, get_or, cond, Option, ap, sym, ◌∙◌, refl, append_assoc, append-nil, arith, nat_lt}
+use Rattle.std.proofs.lemmas.Bool.Decides.{nat_tests}
+use Rattle.std.proofs.lemmas.Grind.{flat_map-append}
+use Rattle.std.proofs.lemmas.List.Folds.{flat_map-map}
+use Rattle.std.specs.List.{flat_map, join_with_byte, list_any, range_with_len}
+use Rattle.mcs_model.specs.declared.board.BoardParts.{BoardParts}
+use Rattle.mcs_model.specs.declared.board.BoardFault.{BoardFault}
+use Rattle.mcs_model.specs.declared.board.BoardFault.TheVariants.{BadValue}
+use Rattle.mcs_model.specs.Boards.{fault_of, has_bad_value}
+use Rattle.mcs_model.specs.Bus.{BusState, wired_of}
+use Rattle.mcs_model.specs.QueryText.{as_line, chip_lines, digit_text, port_line, ram_lines, register_line}
+use Rattle.mcs_wiring.proofs.PartTexts.{text_of-flat_map}
+use Rattle.mcs_answers.proofs.Growing.{joined_lines}
+
+-- the lines of a chip: those of its registers, and then that of its port
+pub chip_is : (s : BusState) (bank chip : ℕ) (a b c : List ℕ)
+    → b ≡ a ++ flat_map (λ r. as_line (register_line s bank chip r)) (range_with_len 0 4)
+    → c ≡ b ++ as_line (port_line s bank chip)
+    → c ≡ a ++ flat_map as_line (chip_lines s bank chip)
+chip_is s bank chip a b c registers port =
+    let lines = flat_map (λ r. as_line (register_line s bank chip r)) (range_with_len 0 4) in
+    let last = as_line (port_line s bank chip) in
+    let written : flat_map as_line (chip_lines s bank chip) ≡ lines ++ last =
+    flat_map-append as_line (map (register_line s bank chip) (range_with_len 0 4)) (port_line s bank chip ∷ [])
+    ∙ ap (λ v. v ++ (last ++ [])) (flat_map-map as_line (register_line s bank chip) (range_with_len 0 4))
+    ∙ ap (λ v. lines ++ v) (append-nil last) in
+    port
+    ∙ ap (λ v. v ++ last) registers
+    ∙ append_assoc a lines last
+    ∙ ap (λ v. a ++ v) (sym written)
+
+-- the lines of a bank: how many chips it has, and then those of its chips
+pub ram_is : (s : BusState) (bank : ℕ) (a b : List ℕ)
+    → a ≡ as_line (codes "ram " ++ digit_text bank ++ codes " chips " ++ digit_text (wired_of s bank))
+    → b ≡ a ++ flat_map (λ chip. flat_map as_line (chip_lines s bank chip)) (range_with_len 0 (wired_of s bank))
+    → b ≡ join_with_byte 10 (ram_lines s bank) ++ 10 ∷ []
+ram_is s bank a b head chips =
+    let first = codes "ram " ++ digit_text bank ++ codes " chips " ++ digit_text (wired_of s bank) in
+    let others = flat_map (chip_lines s bank) (range_with_len 0 (wired_of s bank)) in
+    chips
+    ∙ ap (λ v. v ++ flat_map (λ chip. flat_map as_line (chip_lines s bank chip)) (range_with_len 0 (wired_of s bank))) head
+    ∙ ap (λ v. as_line first ++ v) (sym (text_of-flat_map (chip_lines s bank) (range_with_len 0 (wired_of s bank))))
+    ∙ sym (joined_lines first others)
+
+or_left : (a b : Bool) → (a || b) ≡ false → a ≡ false
+or_left false b e = refl
+or_left true b e = absurd (cc)
+
+or_right : (a b : Bool) → (a || b) ≡ false → b ≡ false
+or_right false b e = e
+or_right true b e = absurd (cc)
+
+-- where no number of a list is above 4
+none_above : (xs : List ℕ) (i : ℕ) → list_any (λ n. nat_lt 4 n) xs ≡ false → get_or xs i 0 ≤ 4
+none_above [] i e = omega arith
+none_above (x ∷ xs) zero e = let small : nat_lt 4 x ≡ false = or_left (nat_lt 4 x) (list_any (λ n. nat_lt 4 n) xs) e in grind (arith, nat_tests)
+none_above (x ∷ xs) (suc i) e = none_above xs i (or_right (nat_lt 4 x) (list_any (λ n. nat_lt 4 n) xs) e)
+
+no_bad_value : (a : Bool) (x : Option BoardFault) → cond a (Some BadValue) x ≡ None → a ≡ false
+no_bad_value true x e = absurd (cc)
+no_bad_value false x e = refl
+
+-- a bank of a valid board has at most four chips
+pub few_chips : (b : BoardParts) (bank : ℕ) → fault_of b ≡ None → get_or b.banks bank 0 ≤ 4
+few_chips b bank e =
+    let fine = no_bad_value (has_bad_value b) _ e in
+    none_above b.banks bank (or_left _ _ (or_left _ _ (or_left _ _ fine)))

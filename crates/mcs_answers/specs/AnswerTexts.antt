@@ -1,0 +1,56 @@
+-- The texts of answers, each line with its line feed. (Our own choice.)
+use Rattle.std.specs.Prelude.{ℕ, Bool, true, false, List, [], ◌∷◌, ◌++◌, codes}
+use Rattle.std.specs.Fmt.{decimal}
+use Rattle.mcs_model.specs.declared.command.Reply.{Reply}
+use Rattle.mcs_model.specs.declared.command.Reply.TheVariants.{Done, Loaded, Ran}
+use Rattle.mcs_model.specs.declared.stop.Stop.{Stop}
+use Rattle.mcs_model.specs.declared.stop.Stop.TheVariants.{Outside, Breakpoint, Ended}
+use Rattle.mcs_model.specs.Flat.{Flat}
+use Rattle.mcs_model.specs.QueryText.{text}
+use Rattle.mcs_source.specs.Text.{listing_text}
+use Rattle.mcs_wiring.specs.BoardText.{query_lines, text_of}
+use Rattle.mcs_lines.specs.declared.requests.Question.{Question}
+use Rattle.mcs_lines.specs.declared.requests.Question.TheVariants.{State, Listing, Board}
+
+abbrev pub line_feed : List ℕ
+line_feed = 10 ∷ []
+
+-- the first line of a transcript
+abbrev pub session_text : Flat → List ℕ
+session_text s = codes "session " ++ (decimal s.seq ++ line_feed)
+
+-- why a run or a step stopped
+abbrev pub stop_name : Stop → List ℕ
+stop_name Outside = codes "code"
+stop_name Breakpoint = codes "break"
+stop_name Ended = codes "end"
+
+-- what a reply tells behind the count of commands: how many bytes were loaded, or how many cycles were run and why no more
+abbrev pub reply_text : Reply → List ℕ
+reply_text Done = []
+reply_text (Loaded bytes) = codes " bytes " ++ decimal bytes
+reply_text (Ran cycles stop) = codes " ran " ++ (decimal cycles ++ (codes " " ++ stop_name stop))
+
+-- the answer to an accepted command, from its reply and the state after it
+abbrev pub ok_text : Reply → Flat → List ℕ
+ok_text r s = codes "ok " ++ (decimal s.seq ++ (reply_text r ++ line_feed))
+
+-- the answer to what is refused
+abbrev pub no_text : ℕ → List ℕ
+no_text number = codes "no " ++ (decimal number ++ line_feed)
+
+-- the answer to a text that is refused for what one of its lines says; its lines are counted from 1
+abbrev pub no_line_text : ℕ → ℕ → List ℕ
+no_line_text number line = codes "no " ++ (decimal number ++ (codes " line " ++ (decimal line ++ line_feed)))
+
+-- the answer to a question
+abbrev pub answer_text : Question → Flat → List ℕ
+answer_text (State q) s = text q s ++ line_feed
+answer_text (Listing at lines) s = listing_text s.bus.rom at lines
+answer_text Board s = text_of (query_lines s.bus.board)
+
+-- whether an answer takes memory, which may be refused
+abbrev pub takes_memory : Question → Bool
+takes_memory (State q) = false
+takes_memory (Listing at lines) = true
+takes_memory Board = true

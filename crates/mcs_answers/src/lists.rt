@@ -1,0 +1,72 @@
+//! The answers to `lamps` and `breaks`.
+ghost use Rattle.std.specs.Prelude.{◌≡◌, ◌+◌, ◌*◌, ◌++◌, ◌≤◌, [], codes, length, map};
+ghost use Rattle.std.specs.List.{flat_map};
+ghost use Rattle.arrayvec.specs.ArrayVec.{array_vec_len};
+ghost use Rattle.mcs_model.specs.Levels.{level};
+ghost use Rattle.mcs_model.specs.QueryText.{address_text, breaks_text, lamp_mark, lamps_text};
+ghost use Rattle.mcs_answers.specs.AnswerTexts.{line_feed};
+
+use crate::digits::{put, put_address};
+use arrayvec::ArrayVec;
+use mcs_bench::Bench;
+use mcs_nibble::{Addr, Bit};
+
+/// The mark of a lamp.
+fn lamp_mark(level: Bit) -> u8
+    ensures { result ≡ lamp_mark level }
+{
+    if level == Bit::ONE { b'*' } else { b'.' }
+}
+
+/// Adds a mark for each lamp of the board, in order.
+fn put_marks(answer: &mut ArrayVec<u8, 512>, bench: &Bench)
+    requires { array_vec_len answer.old ≤ 100 }
+    ensures text { answer.new.items ≡ answer.old.items ++ map (λ line. lamp_mark (level bench.now.bus line)) bench.now.bus.board.lamps.items }
+    ensures count { length answer.new.items ≤ length answer.old.items + 64 }
+{
+    let lamps = bench.board().parts().lamps.len();
+    for i in 0..lamps {
+        let level = bench.lamp(i).unwrap_or(Bit::ZERO);
+        answer.push(lamp_mark(level));
+    }
+}
+
+/// Tells the levels of the lamps, in an empty answer.
+pub fn put_lamps(answer: &mut ArrayVec<u8, 512>, bench: &Bench)
+    requires { answer.old.items ≡ [] }
+    ensures { answer.new.items ≡ lamps_text bench.now ++ line_feed }
+{
+    put(answer, b"lamps ");
+    if bench.board().parts().lamps.is_empty() {
+        put(answer, b"-");
+    } else {
+        put_marks(answer, bench);
+    }
+    put(answer, b"\n");
+}
+
+/// Adds addresses, each behind a space.
+fn put_addresses(answer: &mut ArrayVec<u8, 512>, list: &[Addr])
+    requires room { array_vec_len answer.old + 4 * length list.now ≤ 512 }
+    ensures text { answer.new.items ≡ answer.old.items ++ flat_map (λ at. codes " " ++ address_text at) list.now }
+    ensures count { length answer.new.items ≡ length answer.old.items + 4 * length list.now }
+{
+    for at in list {
+        put_address(answer, b" ", *at);
+    }
+}
+
+/// Tells the breakpoints, in an empty answer.
+pub fn put_breaks(answer: &mut ArrayVec<u8, 512>, bench: &Bench)
+    requires { answer.old.items ≡ [] }
+    ensures { answer.new.items ≡ breaks_text bench.now ++ line_feed }
+{
+    match bench.breaks() {
+        [] => put(answer, b"breaks -\n"),
+        [first, others @ ..] => {
+            put_address(answer, b"breaks ", *first);
+            put_addresses(answer, others);
+            put(answer, b"\n");
+        }
+    }
+}

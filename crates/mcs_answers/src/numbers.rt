@@ -1,0 +1,80 @@
+//! Answers that tell a number.
+ghost use Rattle.std.specs.Prelude.{◌≡◌, ◌+◌, ◌++◌, ◌≤◌, [], length};
+ghost use Rattle.std.specs.Fmt.{decimal};
+ghost use Rattle.arrayvec.specs.ArrayVec.{array_vec_len};
+ghost use Rattle.mcs_answers.specs.AnswerTexts.{line_feed, no_line_text, ok_text, reply_text, stop_name};
+
+use crate::digits::{put, put_decimal};
+use arrayvec::ArrayVec;
+use mcs_bench::Bench;
+use mcs_model::command::Reply;
+use mcs_model::stop::Stop;
+
+/// Adds a word and a number in decimal digits.
+fn put_counted(answer: &mut ArrayVec<u8, 512>, word: &[u8], n: u64)
+    requires { array_vec_len answer.old + length word.now + 20 ≤ 512 }
+    ensures text { answer.new.items ≡ answer.old.items ++ (word.now ++ decimal n) }
+    ensures count { length answer.new.items ≤ length answer.old.items + length word.now + 20 }
+{
+    put(answer, word);
+    put_decimal(answer, n);
+}
+
+/// Puts a word, a number and a line feed into an empty answer.
+pub fn put_number(answer: &mut ArrayVec<u8, 512>, word: &[u8], n: u64)
+    requires empty { answer.old.items ≡ [] }
+    requires short { length word.now ≤ 20 }
+    ensures { answer.new.items ≡ word.now ++ (decimal n ++ line_feed) }
+{
+    put_counted(answer, word, n);
+    put(answer, b"\n");
+}
+
+/// Tells the refusal of a text by its number and the line that it is for, counted from 1, in an empty answer.
+pub fn put_refusal_at(answer: &mut ArrayVec<u8, 512>, number: u8, line: u64)
+    requires { answer.old.items ≡ [] }
+    ensures { answer.new.items ≡ no_line_text number line }
+{
+    put_counted(answer, b"no ", u64::from(number));
+    put_counted(answer, b" line ", line);
+    put(answer, b"\n");
+}
+
+/// The name of a reason to stop.
+fn stop_name(stop: Stop) -> &'static [u8]
+    ensures name { result.now ≡ stop_name stop }
+    ensures short { length result.now ≤ 5 }
+{
+    match stop {
+        Stop::Outside => b"code",
+        Stop::Breakpoint => b"break",
+        Stop::Ended => b"end",
+    }
+}
+
+/// Adds what a reply tells behind the count of commands.
+fn put_told(answer: &mut ArrayVec<u8, 512>, reply: &Reply)
+    requires { array_vec_len answer.old ≤ 100 }
+    ensures text { answer.new.items ≡ answer.old.items ++ reply_text reply.now }
+    ensures count { length answer.new.items ≤ length answer.old.items + 50 }
+{
+    match *reply {
+        Reply::Done => {}
+        Reply::Loaded(bytes) => put_counted(answer, b" bytes ", u64::from(bytes)),
+        Reply::Ran { cycles, stop } => {
+            put_counted(answer, b" ran ", u64::from(cycles));
+            put(answer, b" ");
+            put(answer, stop_name(stop));
+        }
+    }
+}
+
+/// Tells of an accepted command, in an empty answer, from its reply and the bench after it.
+pub fn put_reply(answer: &mut ArrayVec<u8, 512>, reply: &Reply, bench: &Bench)
+    requires { answer.old.items ≡ [] }
+    ensures { answer.new.items ≡ ok_text reply.now bench.now }
+{
+    put_counted(answer, b"ok ", u64::from(bench.seq()));
+    put_told(answer, reply);
+    put(answer, b"\n");
+}

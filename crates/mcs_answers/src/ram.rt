@@ -1,0 +1,126 @@
+//! The answer to `ram`.
+ghost use Rattle.std.specs.Prelude.{◌≡◌, ℕ, ◌+◌, ◌*◌, ◌++◌, ◌<◌, ◌≤◌, [], length, map};
+ghost use Rattle.std.specs.List.{flat_map, join_with_byte};
+ghost use Rattle.arrayvec.specs.ArrayVec.{array_vec_len};
+ghost use Rattle.mcs_model.specs.Bus.{wired_of};
+ghost use Rattle.mcs_model.specs.QueryText.{as_line, chip_lines, hex_digit, port_line, ram_lines, register_line, stretch};
+ghost use Rattle.mcs_answers.specs.AnswerTexts.{line_feed};
+
+use crate::digits::{hex_digit, put, put_digit};
+use arrayvec::ArrayVec;
+use mcs_bench::Bench;
+use mcs_nibble::Nibble;
+
+/// A law: a bench has all places of RAM, and no bank has more than four chips.
+fn are_whole(bench: &Bench)
+    ensures ram { length bench.now.bus.ram ≡ 2048 }
+    ensures status { length bench.now.bus.status ≡ 512 }
+    ensures chips { (bank : ℕ) → wired_of bench.now.bus bank ≤ 4 }
+{
+    bench.state_is_valid();
+}
+
+/// Adds the 16 main characters of register `r` of a RAM chip.
+fn put_main(answer: &mut ArrayVec<u8, 512>, bench: &Bench, bank: u8, chip: u8, r: u8)
+    requires bank { bank < 8 }
+    requires chip { chip < 4 }
+    requires r { r < 4 }
+    requires room { array_vec_len answer.old + 16 ≤ 512 }
+    ensures text { answer.new.items ≡ answer.old.items ++ map hex_digit (stretch bench.now.bus.ram (bank * 256 + chip * 64 + r * 16) 16) }
+    ensures count { length answer.new.items ≡ length answer.old.items + 16 }
+{
+    are_whole(bench);
+    for k in 0..16 {
+        let character = bench.ram(bank, chip * 64 + r * 16 + k);
+        answer.push(hex_digit(character.get()));
+    }
+}
+
+/// Adds the 4 status characters of register `r` of a RAM chip.
+fn put_status(answer: &mut ArrayVec<u8, 512>, bench: &Bench, bank: u8, chip: u8, r: u8)
+    requires bank { bank < 8 }
+    requires chip { chip < 4 }
+    requires r { r < 4 }
+    requires room { array_vec_len answer.old + 4 ≤ 512 }
+    ensures text { answer.new.items ≡ answer.old.items ++ map hex_digit (stretch bench.now.bus.status (bank * 64 + chip * 16 + r * 4) 4) }
+    ensures count { length answer.new.items ≡ length answer.old.items + 4 }
+{
+    are_whole(bench);
+    let high = Nibble::low_of(chip * 4 + r);
+    for k in 0..4 {
+        let character = bench.status(bank, high, k);
+        answer.push(hex_digit(character.get()));
+    }
+}
+
+/// Adds the line of register `r` of a RAM chip.
+fn put_register(answer: &mut ArrayVec<u8, 512>, bench: &Bench, bank: u8, chip: u8, r: u8)
+    requires bank { bank < 8 }
+    requires chip { chip < 4 }
+    requires r { r < 4 }
+    requires room { array_vec_len answer.old + 28 ≤ 512 }
+    ensures text { answer.new.items ≡ answer.old.items ++ as_line (register_line bench.now.bus bank chip r) }
+    ensures count { length answer.new.items ≡ length answer.old.items + 28 }
+{
+    put_digit(answer, b"", bank);
+    put_digit(answer, b".", chip);
+    put_digit(answer, b".", r);
+    put(answer, b" ");
+    put_main(answer, bench, bank, chip, r);
+    put(answer, b" ");
+    put_status(answer, bench, bank, chip, r);
+    put(answer, b"\n");
+}
+
+/// Adds the line of the output port of a RAM chip.
+fn put_port(answer: &mut ArrayVec<u8, 512>, bench: &Bench, bank: u8, chip: u8)
+    requires bank { bank < 8 }
+    requires chip { chip < 4 }
+    requires room { array_vec_len answer.old + 10 ≤ 512 }
+    ensures text { answer.new.items ≡ answer.old.items ++ as_line (port_line bench.now.bus bank chip) }
+    ensures count { length answer.new.items ≡ length answer.old.items + 10 }
+{
+    put_digit(answer, b"", bank);
+    put_digit(answer, b".", chip);
+    put_digit(answer, b" out ", bench.ram_port(bank, chip).get());
+    put(answer, b"\n");
+}
+
+/// Adds the lines of a RAM chip.
+fn put_chip(answer: &mut ArrayVec<u8, 512>, bench: &Bench, bank: u8, chip: u8)
+    requires bank { bank < 8 }
+    requires chip { chip < 4 }
+    requires room { array_vec_len answer.old + 122 ≤ 512 }
+    ensures text { answer.new.items ≡ answer.old.items ++ flat_map as_line (chip_lines bench.now.bus bank chip) }
+    ensures count { length answer.new.items ≡ length answer.old.items + 122 }
+{
+    for r in 0..4 {
+        put_register(answer, bench, bank, chip, r);
+    }
+    put_port(answer, bench, bank, chip);
+}
+
+/// How many chips a bank has: 4 at most.
+fn chips_of(bench: &Bench, bank: u8) -> u8
+    requires { bank < 8 }
+    ensures chips { result ≡ wired_of bench.now.bus bank }
+    ensures few { result ≤ 4 }
+{
+    are_whole(bench);
+    bench.board().bank_chips(bank)
+}
+
+/// Tells how many chips a bank has and what they hold, in an empty answer.
+pub fn put_ram(answer: &mut ArrayVec<u8, 512>, bench: &Bench, bank: u8)
+    requires bank { bank < 8 }
+    requires empty { answer.old.items ≡ [] }
+    ensures { answer.new.items ≡ join_with_byte 10 (ram_lines bench.now.bus bank) ++ line_feed }
+{
+    let chips = chips_of(bench, bank);
+    put_digit(answer, b"ram ", bank);
+    put_digit(answer, b" chips ", chips);
+    put(answer, b"\n");
+    for chip in 0..chips {
+        put_chip(answer, bench, bank, chip);
+    }
+}

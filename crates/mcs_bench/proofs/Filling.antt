@@ -1,0 +1,41 @@
+-- Lists that are filled number by number.
+use Rattle.std.proofs.Common.{◌≡◌, ◌≢◌, ℕ, ◌+◌, ◌<◌, ◌≤◌, Bool, true, false, inl, inr, List, length, get_or, slice_set, refl, sym, ap, ◌∙◌, arith, cond, get_or-set_other}
+use Rattle.std.proofs.lemmas.Grind.{get_or-set_at, same_number_lists}
+use Rattle.std.proofs.lemmas.Bool.{cases_eq}
+use Rattle.std.proofs.lemmas.List.{length-set}
+
+-- the list `now` was `old`, and its first i numbers are those of `goal`
+pub record IsFilled (old goal : List ℕ) (i : ℕ) (now : List ℕ) : Type 0 where
+  pub len : length now ≡ length goal
+  pub done : (k : ℕ) → k < i → get_or now k 0 ≡ get_or goal k 0
+  pub rest : (k : ℕ) → i ≤ k → get_or now k 0 ≡ get_or old k 0
+
+pub filled-none : (old goal : List ℕ) → length old ≡ length goal → IsFilled old goal 0 old
+filled-none old goal l = record { len = l; done = λ k h. absurd (omega arith); rest = λ k h. refl }
+
+-- one number more
+pub filled-set : (old goal now : List ℕ) (i place n : ℕ) → i < length goal → place ≡ i → n ≡ get_or goal i 0 → IsFilled old goal i now → IsFilled old goal (i + 1) (slice_set now place n)
+filled-set old goal now i place n l at is f = rw (at, is) (record {
+  len = length-set now i (get_or goal i 0) ∙ f.len;
+  done = λ k h.
+      elim (cases_eq k i) [
+        | inl e ↦ get_or-set_at now i k (get_or goal i 0) 0 e (let len = f.len in omega arith) ∙ ap (λ j. get_or goal j 0) (sym e)
+        | inr ne ↦ get_or-set_other now i k (get_or goal i 0) 0 ne ∙ f.done k (omega arith)
+      ];
+  rest = λ k h. let ne : k ≢ i = omega arith in get_or-set_other now i k (get_or goal i 0) 0 ne ∙ f.rest k (omega arith);
+})
+
+-- one number more that was there
+pub filled-kept : (old goal now : List ℕ) (i : ℕ) → get_or old i 0 ≡ get_or goal i 0 → IsFilled old goal i now → IsFilled old goal (i + 1) now
+filled-kept old goal now i same f = record {
+  len = f.len;
+  done = λ k h.
+      elim (cases_eq k i) [
+        | inl e ↦ ap (λ j. get_or now j 0) e ∙ f.rest i (omega arith) ∙ same ∙ ap (λ j. get_or goal j 0) (sym e)
+        | inr ne ↦ f.done k (omega arith)
+      ];
+  rest = λ k h. f.rest k (omega arith);
+}
+
+pub filled-all : (old goal now : List ℕ) (i : ℕ) → length goal ≤ i → IsFilled old goal i now → now ≡ goal
+filled-all old goal now i l f = same_number_lists now goal f.len (λ k h. f.done k (let len = f.len in omega arith))

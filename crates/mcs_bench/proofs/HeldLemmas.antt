@@ -1,0 +1,228 @@
+-- The lists that the chips hold, place by place.
+use Rattle.std.proofs.Common.{◌≡◌, ℕ, ◌+◌, ◌*◌, ◌/◌, ◌%◌, ◌<◌, ◌≤◌, Bool, true, false, inl, inr, cond, List, length, get_or, slice_index, slice_set, Option, Some, None, is_some, is_none, nat_lt, nat_le, refl, sym, ap, subst, ◌∙◌, arith, if◌then◌else◌}
+use Rattle.std.specs.Prelude.{MatchOption, All}
+use Rattle.std.proofs.lemmas.Bool.{cases_lt, lt-ltb, le-ltb}
+use Rattle.std.proofs.lemmas.Bool.Decides.{nat_tests}
+use Rattle.mcs_nibble.specs.declared.lines.LineMask.{LineMask}
+use Rattle.mcs_model.specs.Boards.{masks_on}
+use Rattle.mcs_model.specs.Bus.{BusState, wired_of}
+use Rattle.mcs_model.specs.declared.board.BoardParts.{BoardParts}
+use Rattle.mcs_model.specs.Levels.{with_rom_latch}
+use Rattle.mcs_nibble.specs.Ports.{latch_value}
+use Rattle.mcs_nibble.proofs.PortLemmas.{latch_value-zero}
+use Rattle.std.proofs.lemmas.List.{get_or_past}
+use Rattle.mcs_model.specs.Places.{with_rom_port, with_rom_byte, with_ram, with_status, with_ram_port, with_ram_src}
+use Rattle.mcs_model.specs.Validity.{AreBelow, IsInRange, IsAbsentZero}
+use Rattle.mcs_bench.specs.declared.held.Held.{Held}
+use Rattle.mcs_bench.specs.declared.held.Held.TheVariants.{RomBytes, Characters, StatusCharacters, RamPorts, BankSrcs}
+use Rattle.mcs_bench.specs.Held.{list_of, with_list, count_of, limit_of, is_absent, with_number, IsZeroWhereAbsent}
+use Rattle.mcs_bench.proofs.Filling.{IsFilled, filled-none, filled-set, filled-kept, filled-all}
+
+-- ---- a number set
+
+turned : {A : Type 0} (a b : ℕ) (x y : A) → cond (nat_lt a b) x y ≡ cond (nat_le b a) y x
+turned a b x y =
+    elim (cases_lt a b) [
+      | inl l ↦ (let lt : nat_lt a b ≡ true = grind (arith, nat_tests) in let le : nat_le b a ≡ false = grind (arith, nat_tests) in rw (lt, le) refl)
+      | inr g ↦ (let lt : nat_lt a b ≡ false = grind (arith, nat_tests) in let le : nat_le b a ≡ true = grind (arith, nat_tests) in rw (lt, le) refl)
+    ]
+
+missing : {X A : Type 0} (o : Option X) (x y : A) → cond (is_some o) x y ≡ cond (is_none o) y x
+missing (Some _) x y = refl
+missing None x y = refl
+
+pub set-rom : (s : BusState) (i at n : ℕ) → at ≡ i → with_rom_byte s at n ≡ with_number s RomBytes i n
+unfolding with_rom_byte
+set-rom s i at n e = rw e (missing (masks_on s.board (i / 256)) (record s { rom = slice_set s.rom i n }) s)
+
+pub set-ram : (s : BusState) (i bank src m n : ℕ) → bank ≡ i / 256 → src ≡ i % 256 → m ≡ n → with_ram s bank src m ≡ with_number s Characters i n
+unfolding with_ram
+set-ram s i bank src m n b c e =
+    let place : i / 256 * 256 + i % 256 ≡ i = omega arith in
+    rw (b, c, e, place) (turned (i % 256 / 64) (slice_index s.board.banks (i / 256)) (record s { ram = slice_set s.ram i n }) s)
+
+pub set-status : (s : BusState) (i bank high k m n : ℕ) → bank ≡ i / 64 → high ≡ i % 64 / 4 → k ≡ i % 4 → m ≡ n → with_status s bank high k m ≡ with_number s StatusCharacters i n
+unfolding with_status
+set-status s i bank high k m n b h c e =
+    let place : i / 64 * 64 + (i % 64 / 4 * 4 + i % 4) ≡ i = omega arith in
+    let chip : i % 64 / 4 / 4 ≡ i % 64 / 16 = omega arith in
+    rw (b, h, c, e, place, chip) (turned (i % 64 / 16) (slice_index s.board.banks (i / 64)) (record s { status = slice_set s.status i n }) s)
+
+pub set-port : (s : BusState) (i bank chip m n : ℕ) → bank ≡ i / 4 → chip ≡ i % 4 → m ≡ n → with_ram_port s bank chip m ≡ with_number s RamPorts i n
+unfolding with_ram_port
+set-port s i bank chip m n b c e =
+    let place : i / 4 * 4 + i % 4 ≡ i = omega arith in
+    rw (b, c, e, place) (turned (i % 4) (slice_index s.board.banks (i / 4)) (record s { ram_ports = slice_set s.ram_ports i n }) s)
+
+pub set-src : (s : BusState) (i bank n : ℕ) → bank ≡ i → with_ram_src s bank n ≡ with_number s BankSrcs i n
+unfolding with_ram_src
+set-src s i bank n b = rw b (turned 0 (slice_index s.board.banks i) (record s { ram_src = slice_set s.ram_src i n }) s)
+
+-- ---- lists in the place of others
+
+pub list-of : (s : BusState) (h : Held) (xs : List ℕ) → list_of (with_list s h xs) h ≡ xs
+list-of s RomBytes xs = refl
+list-of s Characters xs = refl
+list-of s StatusCharacters xs = refl
+list-of s RamPorts xs = refl
+list-of s BankSrcs xs = refl
+
+pub list-again : (s : BusState) (h : Held) (xs ys : List ℕ) → with_list (with_list s h xs) h ys ≡ with_list s h ys
+list-again s RomBytes xs ys = refl
+list-again s Characters xs ys = refl
+list-again s StatusCharacters xs ys = refl
+list-again s RamPorts xs ys = refl
+list-again s BankSrcs xs ys = refl
+
+pub list-same : (s : BusState) (h : Held) → with_list s h (list_of s h) ≡ s
+list-same s RomBytes = refl
+list-same s Characters = refl
+list-same s StatusCharacters = refl
+list-same s RamPorts = refl
+list-same s BankSrcs = refl
+
+pub list-board : (s : BusState) (h : Held) (xs : List ℕ) → (with_list s h xs).board ≡ s.board
+list-board s RomBytes xs = refl
+list-board s Characters xs = refl
+list-board s StatusCharacters xs = refl
+list-board s RamPorts xs = refl
+list-board s BankSrcs xs = refl
+
+-- ---- what is valid
+
+pub count-of : (s : BusState) → IsInRange s → (h : Held) → length (list_of s h) ≡ count_of h
+count-of s v RomBytes = v.rom.count_is
+count-of s v Characters = v.ram.count_is
+count-of s v StatusCharacters = v.status.count_is
+count-of s v RamPorts = v.ram_ports.count_is
+count-of s v BankSrcs = v.ram_src.count_is
+
+le-from : (a b : ℕ) → nat_le a b ≡ true → a ≤ b
+le-from a b e = grind (arith, nat_tests)
+
+to-le : (a b : ℕ) → a ≤ b → nat_le a b ≡ true
+to-le a b l = grind (arith, nat_tests)
+
+none-from : {X : Type 0} (o : Option X) → is_none o ≡ true → o ≡ None
+none-from (Some _) e = absurd (cc)
+none-from None e = refl
+
+-- the numbers of absent chips are 0
+pub absent-of : (s : BusState) → IsAbsentZero s → (h : Held) → IsZeroWhereAbsent s h
+absent-of s v RomBytes i l e = v.rom i (none-from (masks_on s.board (i / 256)) e)
+absent-of s v Characters i l e =
+    let place : i / 256 * 256 + i % 256 ≡ i = omega arith in
+    rw place at (v.ram (i / 256) (i % 256) (omega arith) (le-from _ _ e))
+absent-of s v StatusCharacters i below e =
+    let place : (i / 64 * 16 + i % 64 / 4) * 4 + i % 4 ≡ i = omega arith in
+    let chip : i % 64 / 4 / 4 ≡ i % 64 / 16 = omega arith in
+    rw place at (v.status (i / 64) (i % 64 / 4) (i % 4) (omega arith) (omega arith) (let l = le-from _ _ e in omega arith))
+absent-of s v RamPorts i l e =
+    let place : i / 4 * 4 + i % 4 ≡ i = omega arith in
+    rw place at (v.ram_ports (i / 4) (i % 4) (omega arith) (le-from _ _ e))
+absent-of s v BankSrcs i below e = v.ram_src i (let l = le-from _ _ e in omega arith)
+
+past : (xs : List ℕ) (i : ℕ) → length xs ≤ i → slice_index xs i ≡ 0
+past xs i l = get_or_past xs i 0 l
+
+pub absent-from : (s : BusState) → IsInRange s → ((h : Held) → IsZeroWhereAbsent s h) → ((chip : ℕ) → MatchOption (masks_on s.board chip) (slice_index s.rom_ports chip ≡ 0) (λ mask. latch_value mask (slice_index s.rom_ports chip) ≡ slice_index s.rom_ports chip)) → IsAbsentZero s
+absent-from s v zero ports = record {
+  rom = λ at none.
+      elim (cases_lt at 4096) [
+        | inl l ↦ zero RomBytes at l (ap is_none none)
+        | inr g ↦ past s.rom at (let e = v.rom.count_is in omega arith)
+      ];
+  ram = λ bank src l gone.
+      elim (cases_lt (bank * 256 + src) 2048) [
+        | inl h ↦ zero Characters (bank * 256 + src) h (let b : (bank * 256 + src) / 256 ≡ bank = omega arith in let c : (bank * 256 + src) % 256 ≡ src = omega arith in rw (b, c) (to-le (slice_index s.board.banks bank) (src / 64) gone))
+        | inr g ↦ past s.ram (bank * 256 + src) (let e = v.ram.count_is in omega arith)
+      ];
+  status = λ bank high k h16 k4 gone.
+      elim (cases_lt ((bank * 16 + high) * 4 + k) 512) [
+        | inl h ↦ zero StatusCharacters ((bank * 16 + high) * 4 + k) h (let b : ((bank * 16 + high) * 4 + k) / 64 ≡ bank = omega arith in let c : ((bank * 16 + high) * 4 + k) % 64 / 16 ≡ high / 4 = omega arith in rw (b, c) (to-le (slice_index s.board.banks bank) (high / 4) gone))
+        | inr g ↦ past s.status ((bank * 16 + high) * 4 + k) (let e = v.status.count_is in omega arith)
+      ];
+  ram_ports = λ bank chip l gone.
+      elim (cases_lt (bank * 4 + chip) 32) [
+        | inl h ↦ zero RamPorts (bank * 4 + chip) h (let b : (bank * 4 + chip) / 4 ≡ bank = omega arith in let c : (bank * 4 + chip) % 4 ≡ chip = omega arith in rw (b, c) (to-le (slice_index s.board.banks bank) chip gone))
+        | inr g ↦ past s.ram_ports (bank * 4 + chip) (let e = v.ram_ports.count_is in omega arith)
+      ];
+  rom_ports = ports;
+  ram_src = λ bank none.
+      elim (cases_lt bank 8) [
+        | inl h ↦ zero BankSrcs bank h (to-le (slice_index s.board.banks bank) 0 (omega arith))
+        | inr g ↦ past s.ram_src bank (let e = v.ram_src.count_is in omega arith)
+      ];
+}
+
+-- all five lists
+pub each-held : (s : BusState) → IsZeroWhereAbsent s RomBytes → IsZeroWhereAbsent s Characters → IsZeroWhereAbsent s StatusCharacters → IsZeroWhereAbsent s RamPorts → IsZeroWhereAbsent s BankSrcs → (h : Held) → IsZeroWhereAbsent s h
+each-held s a b c d e RomBytes = a
+each-held s a b c d e Characters = b
+each-held s a b c d e StatusCharacters = c
+each-held s a b c d e RamPorts = d
+each-held s a b c d e BankSrcs = e
+
+-- ---- a list filled
+
+-- of `start`, all is as it was but for one list, whose first i numbers are those of `goal`
+pub record Fills (start s : BusState) (h : Held) (goal : List ℕ) (i : ℕ) : Type 0 where
+  pub others : s ≡ with_list start h (list_of s h)
+  pub filled : IsFilled (list_of start h) goal i (list_of s h)
+
+pub fills-none : (start : BusState) (h : Held) (goal : List ℕ) → length (list_of start h) ≡ length goal → Fills start start h goal 0
+fills-none start h goal l = record { others = sym (list-same start h); filled = filled-none (list_of start h) goal l }
+
+set-next : (start s t : BusState) (h : Held) (goal : List ℕ) (i n : ℕ) → i < length goal → n ≡ get_or goal i 0 → Fills start s h goal i → t ≡ with_list s h (slice_set (list_of s h) i n) → Fills start t h goal (i + 1)
+set-next start s t h goal i n l is f to =
+    let ys = slice_set (list_of s h) i n in
+    let now : list_of t h ≡ ys = ap (λ (u : BusState). list_of u h) to ∙ list-of s h ys in
+    record {
+      others = to ∙ ap (λ (u : BusState). with_list u h ys) f.others ∙ list-again start h (list_of s h) ys ∙ ap (with_list start h) (sym now);
+      filled = subst (IsFilled (list_of start h) goal (i + 1)) (sym now) (filled-set (list_of start h) goal (list_of s h) i i n l refl is f.filled);
+    }
+
+kept-next : (start s t : BusState) (h : Held) (goal : List ℕ) (i : ℕ) → get_or (list_of start h) i 0 ≡ get_or goal i 0 → Fills start s h goal i → t ≡ s → Fills start t h goal (i + 1)
+kept-next start s t h goal i same f to = subst (λ (u : BusState). Fills start u h goal (i + 1)) (sym to) (record { others = f.others; filled = filled-kept (list_of start h) goal (list_of s h) i same f.filled })
+
+pub fills-next : (start s t : BusState) (h : Held) (goal : List ℕ) (i n : ℕ) → i < length goal → n ≡ get_or goal i 0 → (is_absent start.board h i ≡ true → get_or (list_of start h) i 0 ≡ get_or goal i 0) → Fills start s h goal i → t ≡ with_number s h i n → Fills start t h goal (i + 1)
+fills-next start s t h goal i n l is gone f to =
+    let board : s.board ≡ start.board = ap (λ (u : BusState). u.board) f.others ∙ list-board start h (list_of s h) in
+    elim (is_absent s.board h i) as (λ v. is_absent s.board h i ≡ v → t ≡ cond v s (with_list s h (slice_set (list_of s h) i n)) → Fills start t h goal (i + 1)) [
+      | true ↦ λ e to. kept-next start s t h goal i (gone (subst (λ (b : BoardParts). is_absent b h i ≡ true) board e)) f to
+      | false ↦ λ e to. set-next start s t h goal i n l is f to
+    ] refl to
+
+pub fills-all : (start s : BusState) (h : Held) (goal : List ℕ) (i : ℕ) → length goal ≤ i → Fills start s h goal i → s ≡ with_list start h goal
+fills-all start s h goal i l f = f.others ∙ ap (with_list start h) (filled-all (list_of start h) goal (list_of s h) i l f.filled)
+
+-- ---- the latches of the ROMs filled
+
+pub record FillsPorts (start s : BusState) (goal : List ℕ) (i : ℕ) : Type 0 where
+  pub others : s ≡ record start { rom_ports = s.rom_ports }
+  pub filled : IsFilled start.rom_ports goal i s.rom_ports
+
+-- whether a latch can hold a number
+abbrev pub can_hold : Option (List LineMask) → ℕ → Type 0
+can_hold masks n = MatchOption masks (n ≡ 0) (λ mask. latch_value mask n ≡ n)
+
+port-next : (masks : Option (List LineMask)) (start s t : BusState) (goal : List ℕ) (i n : ℕ) → i < length goal → n ≡ get_or goal i 0 → can_hold masks (get_or goal i 0) → can_hold masks (get_or start.rom_ports i 0) → FillsPorts start s goal i → t ≡ elim masks [ Some mask ↦ with_rom_latch s i (latch_value mask n) | None ↦ s ] → FillsPorts start t goal (i + 1)
+port-next (Some mask) start s t goal i n l is new old f to =
+    let now : t.rom_ports ≡ slice_set s.rom_ports i (latch_value mask n) = ap (λ (u : BusState). u.rom_ports) to in
+    record {
+      others = to ∙ ap (λ (u : BusState). record u { rom_ports = slice_set s.rom_ports i (latch_value mask n) }) f.others ∙ ap (λ xs. record start { rom_ports = xs }) (sym now);
+      filled = subst (IsFilled start.rom_ports goal (i + 1)) (sym now) (filled-set start.rom_ports goal s.rom_ports i i (latch_value mask n) l refl (ap (latch_value mask) is ∙ new) f.filled);
+    }
+port-next None start s t goal i n l is new old f to =
+    subst (λ (u : BusState). FillsPorts start u goal (i + 1)) (sym to) (record { others = f.others; filled = filled-kept start.rom_ports goal s.rom_ports i (old ∙ sym new) f.filled })
+
+pub ports-next : (start s t : BusState) (goal : List ℕ) (i n : ℕ) → i < length goal → n ≡ get_or goal i 0 → can_hold (masks_on start.board i) (get_or goal i 0) → can_hold (masks_on start.board i) (get_or start.rom_ports i 0) → FillsPorts start s goal i → t ≡ with_rom_port s i n → FillsPorts start t goal (i + 1)
+unfolding with_rom_port
+ports-next start s t goal i n l is new old f to =
+    let board : start.board ≡ s.board = sym (ap (λ (u : BusState). u.board) f.others) in
+    let hold = λ (x : ℕ) (h : can_hold (masks_on start.board i) x). subst (λ (b : BoardParts). can_hold (masks_on b i) x) board h in
+    port-next (masks_on s.board i) start s t goal i n l is (hold (get_or goal i 0) new) (hold (get_or start.rom_ports i 0) old) f to
+
+pub no-mask : (masks : Option (List LineMask)) (n : ℕ) → n ≡ 0 → can_hold masks n
+no-mask (Some mask) n e = ap (latch_value mask) e ∙ latch_value-zero mask ∙ sym e
+no-mask None n e = e

@@ -1,0 +1,30 @@
+use Rattle.std.proofs.Common.{◌≡◌, ◌∙◌, ◌<◌, ℕ, List, [], sym, subst, arith, get_or, length}
+use Rattle.arrayvec.specs.ArrayVec.{ArrayVec}
+use Rattle.mcs_model.specs.Boards.{chain_count, chain_bits, key_count}
+use Rattle.mcs_model.specs.Validity.{AreBelow}
+use Rattle.mcs_bench.specs.States.{rows_of}
+use Rattle.mcs_bench.proofs.Rows.{rows-count}
+use Rattle.mcs_bench.proofs.Judged.{judged}
+use Rattle.mcs_bench.proofs.flat.Flat.is_in_range.Goals as goal
+
+pub returns : goal.returns
+returns c =
+    let f = c.args.self.now in
+    let cells = c.has_valid_cells.ensures.0 c.if-not-has_valid_cells.false in
+    let chains = c.are_chains.ensures.0 c.if-not-are_chains.false in
+    let keys = c.as_slice-2.ensures.value in
+    judged c.are_below.result c.are_below.ensures
+    (λ p. record {
+      rom = cells.0;
+      ram = cells.1;
+      status = cells.2;
+      ram_ports = cells.3;
+      rom_ports = cells.4;
+      rom_src = omega arith;
+      ram_src = c.are_eight.ensures;
+      chains = rows-count f.chains.items ∙ subst (λ (rows : List (ArrayVec ℕ)). length rows ≡ chain_count f.board) c.as_slice.ensures.value chains.0;
+      chain_bits = subst (λ (rows : List (ArrayVec ℕ)). (i : ℕ) → i < chain_count f.board → AreBelow (chain_bits f.board i) 2 (get_or (rows_of rows) i [])) c.as_slice.ensures.value chains.1;
+      keys = subst (λ n. AreBelow n 2 f.keys.items) c.key_count.ensures (subst (λ (xs : List ℕ). AreBelow c.key_count.result 2 xs) keys p);
+      test = omega arith;
+    })
+    (λ v. subst (λ n. AreBelow n 2 c.as_slice-2.result.now) (sym c.key_count.ensures) (subst (λ (xs : List ℕ). AreBelow (key_count f.board) 2 xs) (sym keys) v.keys))

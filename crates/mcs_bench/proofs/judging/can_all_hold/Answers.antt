@@ -1,0 +1,16 @@
+use Rattle.std.proofs.Common.{◌<◌, inl, inr, get_or, arith, refl}
+use Rattle.std.proofs.lemmas.Bool.{cases_lt}
+use Rattle.std.proofs.lemmas.List.{get_or_past}
+use Rattle.mcs_model.specs.Boards.{masks_on}
+use Rattle.mcs_bench.proofs.HeldLemmas.{no-mask}
+use Rattle.mcs_bench.proofs.judging.can_all_hold.Goals as goal
+
+pub returns : goal.returns
+returns c = (
+  λ _ chip.
+      elim (cases_lt chip 16) [
+        | inl l ↦ c.loop-chip.invariant chip (omega arith)
+        | inr g ↦ no-mask (masks_on c.args.board.now chip) (get_or c.args.ports.now chip 0) (get_or_past c.args.ports.now chip 0 (let r = c.requires.count_is in omega arith))
+      ],
+  λ _. refl,
+)

@@ -1,0 +1,10 @@
+-- What a bench keeps beside its breakpoints, so that a run asks for one in constant time. (Our own choice.)
+use Rattle.std.specs.Prelude.{◌≡◌, ℕ, ◌<◌, Bool, false, List, length, slice_index_or}
+use Rattle.std.specs.List.Sorted.{IsStrictlyIncreasing}
+use Rattle.mcs_model.specs.Breakpoints.{is_breakpoint}
+
+-- rising, with a mark for each address, true at the breakpoints
+pub record IsMarked (marks : List Bool) (breakpoints : List ℕ) : Type 0 where
+  pub rising : IsStrictlyIncreasing breakpoints
+  pub whole : length marks ≡ 4096
+  pub at : (a : ℕ) → a < 4096 → slice_index_or marks a false ≡ is_breakpoint breakpoints a

@@ -1,0 +1,4 @@
+pub mod Breaks
+pub mod Held
+pub mod Runs
+pub mod States

@@ -1,0 +1,29 @@
+-- A state as plain numbers, as the flat state that it stands for. (Our own choice.)
+use Rattle.std.specs.Prelude.{ℕ, List, map}
+use Rattle.arrayvec.specs.ArrayVec.{ArrayVec}
+use Rattle.mcs_model.specs.Flat.{Flat as State}
+use Rattle.mcs_bench.specs.declared.flat.Flat.{Flat}
+
+-- the bits of each chain
+abbrev pub rows_of : List (ArrayVec ℕ) → List (List ℕ)
+rows_of rows = map (λ row. row.items) rows
+
+abbrev pub state_of : Flat → State
+state_of f = record {
+  processor = record { acc = f.acc; cy = f.cy; r = f.r; pc = f.pc; ret = f.ret; dcl = f.dcl; owed = f.owed };
+  bus = record {
+    board = f.board;
+    rom = f.rom;
+    ram = f.ram;
+    status = f.status;
+    ram_ports = f.ram_ports;
+    rom_ports = f.rom_ports;
+    rom_src = f.rom_src;
+    ram_src = f.ram_src;
+    chains = rows_of f.chains.items;
+    keys = f.keys.items;
+    test = f.test;
+  };
+  breakpoints = f.breakpoints.items;
+  seq = f.seq;
+}

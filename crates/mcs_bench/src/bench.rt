@@ -1,0 +1,44 @@
+//! What a bench holds.
+ghost use Rattle.std.specs.Prelude.{◌≡◌, IfOk};
+ghost use Rattle.mcs_model.specs.Flat.{new_flat};
+
+use crate::breaks::Breaks;
+use crate::running::BenchRig;
+use mcs_cpu4004::Cpu;
+use std::alloc::{AllocError, Global};
+use std::marker::Model;
+
+/// A processor on a rig, with breakpoints and a count of accepted commands. Contracts see it as the flat state.
+#[derive(Drop)]
+pub struct Bench {
+    pub(crate) rig: BenchRig,
+    pub(crate) cpu: Cpu,
+    pub(crate) breaks: Breaks,
+    pub(crate) seq: u32,
+}
+
+impl Model for Bench {
+    ghost use Rattle.mcs_model.specs.Flat.{Flat};
+
+    ghost Value = { Flat };
+
+    ghost view = { λ b. record { processor = b.cpu; bus = b.rig; breakpoints = b.breaks; seq = b.seq } };
+}
+
+impl Bench {
+    /// A bench on which no command was done: the empty board, all 0, and TEST 1.
+    ///
+    /// # Errors
+    ///
+    /// Where memory is refused. No command on a bench takes memory.
+    pub fn new(alloc: Global) -> Result<Bench, AllocError>
+        ensures { IfOk result (λ bench. bench ≡ new_flat) }
+    {
+        Ok(Bench {
+            rig: BenchRig::new(alloc)?,
+            cpu: Cpu::new(),
+            breaks: Breaks::new(),
+            seq: 0,
+        })
+    }
+}

@@ -1,0 +1,118 @@
+//! Breakpoints.
+ghost use Rattle.std.specs.Prelude.{◌≡◌, ◌<◌, ◌≤◌, ◌||◌, true, [], length, nat_lt};
+ghost use Rattle.std.specs.List.{insert};
+ghost use Rattle.std.specs.List.Sorted.{IsStrictlyIncreasing};
+ghost use Rattle.mcs_model.specs.Validity.{AreBreakpoints};
+ghost use Rattle.mcs_model.specs.Breakpoints.{is_breakpoint, inserted, with_breakpoint, without_breakpoint};
+
+use crate::laws::are_addresses;
+use arrayvec::ArrayVec;
+use mcs_model::limits::BREAKPOINTS;
+use mcs_nibble::Addr;
+use std::marker::Model;
+
+/// The breakpoints by rising address, with a mark for each address, so that a run asks for one in constant time.
+#[derive(Drop)]
+pub(crate) struct Breaks {
+    list: ArrayVec<Addr, BREAKPOINTS>,
+    marks: [bool; 4096],
+}
+
+impl Model for Breaks {
+    ghost use Rattle.std.specs.Prelude.{List, ℕ};
+    ghost use Rattle.mcs_bench.specs.Breaks.{IsMarked};
+
+    ghost Value = { List ℕ };
+
+    ghost view = { λ b. b.list.items };
+
+    ghost invariant = { λ b. IsMarked b.marks b.list.items };
+}
+
+/// Where the first address above another one stands; behind the last one where there is none.
+fn place_of(list: &[Addr], at: Addr) -> usize
+    ensures place { insert list.now result at ≡ inserted list.now at }
+    ensures within { result ≤ length list.now }
+{
+    for i in 0..list.len() {
+        if at < list[i] {
+            return i;
+        }
+    }
+    list.len()
+}
+
+/// The other addresses.
+fn others(list: &ArrayVec<Addr, BREAKPOINTS>, at: Addr) -> ArrayVec<Addr, BREAKPOINTS>
+    ensures { result.items ≡ without_breakpoint list.now.items at }
+{
+    let mut kept = ArrayVec::new();
+    for address in list.as_slice() {
+        if *address != at {
+            kept.push(*address);
+        }
+    }
+    kept
+}
+
+impl Breaks {
+    /// No breakpoints.
+    pub(crate) fn new() -> Breaks
+        ensures { result ≡ [] }
+    {
+        Breaks {
+            list: ArrayVec::new(),
+            marks: [false; 4096],
+        }
+    }
+
+    /// The breakpoints, rising.
+    pub(crate) fn list(&self) -> &[Addr]
+        ensures same { result.now ≡ self.now }
+        ensures few { length result.now ≤ BREAKPOINTS }
+        ensures rising { IsStrictlyIncreasing result.now }
+    {
+        self.list.as_slice()
+    }
+
+    /// Whether an address is one.
+    pub(crate) fn contains(&self, at: Addr) -> bool
+        ensures { result ≡ is_breakpoint self.now at }
+    {
+        self.marks[usize::from(at.get())]
+    }
+
+    /// Whether an address is one, or can be made one.
+    pub(crate) fn has_room_for(&self, at: Addr) -> bool
+        ensures { result ≡ (is_breakpoint self.now at || nat_lt (length self.now) BREAKPOINTS) }
+    {
+        self.contains(at) || self.list.len() < BREAKPOINTS
+    }
+
+    /// Makes an address one; nothing where it was.
+    pub(crate) fn set(&mut self, at: Addr)
+        requires { (is_breakpoint self.old at || nat_lt (length self.old) BREAKPOINTS) ≡ true }
+        ensures { self.new ≡ with_breakpoint self.old at }
+    {
+        if !self.contains(at) {
+            let place = place_of(self.list.as_slice(), at);
+            self.list.insert(place, at);
+            self.marks[usize::from(at.get())] = true;
+        }
+    }
+
+    /// Makes an address none; nothing where it was none.
+    pub(crate) fn clear(&mut self, at: Addr)
+        ensures { self.new ≡ without_breakpoint self.old at }
+    {
+        self.list = others(&self.list, at);
+        self.marks[usize::from(at.get())] = false;
+    }
+
+    /// A law: they are at most so many, each an address, rising.
+    pub(crate) fn state_is_valid(&self)
+        ensures { AreBreakpoints self.now }
+    {
+        are_addresses(self.list());
+    }
+}

@@ -1,0 +1,214 @@
+//! Which commands a bench accepts, and what it does at them.
+ghost use Rattle.std.specs.Prelude.{◌≡◌, ◌&&◌, ◌||◌, ◌<◌, Some, Ok, Err, None, IsOk, MatchOption, length, nat_lt, nat_le, if◌then◌else◌};
+ghost use Rattle.std.specs.List.{list_any};
+ghost use Rattle.mcs_model.specs.Breakpoints.{is_breakpoint};
+ghost use Rattle.mcs_model.specs.Places.{with_rom_bytes};
+ghost use Rattle.mcs_model.specs.Command.{refusal, own_refusal, place_refusal, lacks_rom, after, changed, reply, with_place};
+
+use crate::bench::Bench;
+use crate::running::{BenchRig, run, step};
+use mcs_board::every_board_fits_the_bench;
+use mcs_cpu4004::Cpu;
+use mcs_model::board::Board;
+use mcs_model::command::{Command, Place, Reply};
+use mcs_model::image::Image;
+use mcs_model::limits::{ACCEPTED_COMMANDS, BREAKPOINTS, RUN_CYCLES};
+use mcs_model::refusals::BenchFault;
+use mcs_nibble::{Addr, BankNo};
+
+/// A fault, but where all is well.
+fn unless(well: bool, fault: BenchFault) -> Option<BenchFault>
+    ensures { result ≡ (if well then None else Some fault) }
+{
+    if well { None } else { Some(fault) }
+}
+
+/// A fault, where there is one.
+fn when(ill: bool, fault: BenchFault) -> Option<BenchFault>
+    ensures { result ≡ (if ill then Some fault else None) }
+{
+    if ill { Some(fault) } else { None }
+}
+
+/// Whether the board lacks the ROM of an address.
+fn lacks_rom(board: &Board, at: Addr) -> bool
+    ensures { result ≡ lacks_rom board.now at }
+{
+    board.mask(at.page().get()).is_none()
+}
+
+/// Whether the board lacks the ROM of some byte of an image.
+fn lacks_a_rom(board: &Board, image: &Image) -> bool
+    ensures { result ≡ list_any (λ p. lacks_rom board.now p.0) image.now }
+{
+    image.pairs().iter().any(|pair| lacks_rom(board, pair.0))
+}
+
+/// Puts the bytes of an image into ROM, and answers how many there are.
+fn load(rig: &mut BenchRig, image: &Image) -> Reply
+    ensures bytes { rig.new ≡ with_rom_bytes rig.old image.now }
+    ensures count { result ≡ Reply.Loaded (length image.now) }
+{
+    for pair in image.pairs() {
+        rig.set_rom_byte(pair.0, pair.1);
+    }
+    Reply::Loaded(image.pairs().len() as u16)
+}
+
+impl Bench {
+    /// Why a value cannot be put into a place, if so.
+    fn place_fault(&self, place: Place) -> Option<BenchFault>
+        ensures { result ≡ place_refusal self.now.bus place }
+    {
+        let board = self.rig.board();
+        match place {
+            Place::Rom(at, _) => when(lacks_rom(board, at), BenchFault::NoRom),
+            Place::Ram(bank, src, _) => {
+                unless(
+                    src / 64 < board.bank_chips(bank.get()),
+                    BenchFault::NoSuchPlace,
+                )
+            }
+            Place::Status(bank, high, _, _) => unless(
+                high.get() / 4 < board.bank_chips(bank.get()),
+                BenchFault::NoSuchPlace,
+            ),
+            Place::Acc(_) | Place::Cy(_) | Place::Pc(_) | Place::Register(_, _) | Place::Dcl(_) =>
+                None,
+        }
+    }
+
+    /// Why the bench refuses a command for the command's own sake, if so.
+    fn own_fault(&self, command: &Command) -> Option<BenchFault>
+        ensures { result ≡ own_refusal self.now command.now }
+    {
+        let board = self.rig.board();
+        match command {
+            Command::Load(image) => when(lacks_a_rom(board, image), BenchFault::NoRom),
+            Command::Press(row, column) | Command::Release(row, column) => {
+                unless(board.has_key(*row, *column), BenchFault::NoKey)
+            }
+            Command::Run(n) => unless(1 <= *n && *n <= RUN_CYCLES, BenchFault::BadCount),
+            Command::Poke(place) => self.place_fault(*place),
+            Command::Break(at) => unless(self.breaks.has_room_for(*at), BenchFault::BreaksFull),
+            Command::Wire(_)
+            | Command::Step
+            | Command::Test(_)
+            | Command::Reset
+            | Command::Unbreak(_) => None,
+        }
+    }
+
+    /// Whether a command is accepted, or why not. Nothing changes.
+    ///
+    /// # Errors
+    ///
+    /// `Worn` where as many commands were accepted as can be counted; else `NoKey` for a key that the board lacks,
+    /// `NoRom` for an address in a ROM that it lacks, `NoSuchPlace` for a RAM chip that it lacks, `BadCount` for a run of
+    /// no cycle or of more than 100,000, `BreaksFull` for one breakpoint more than 32.
+    pub fn check(&self, command: &Command) -> Result<(), BenchFault>
+        ensures { MatchOption (refusal self.now command.now) (IsOk result) (λ fault. result ≡ Err fault) }
+    {
+        if self.seq == ACCEPTED_COMMANDS {
+            return Err(BenchFault::Worn);
+        }
+        match self.own_fault(command) {
+            Some(fault) => Err(fault),
+            None => Ok(()),
+        }
+    }
+
+    /// Puts the processor and the rig on another board.
+    fn wire(&mut self, board: &Board)
+        ensures { self.new ≡ changed self.old (Command.Wire board.now) }
+    {
+        every_board_fits_the_bench(board);
+        self.rig.wire(board);
+        self.cpu = Cpu::new();
+    }
+
+    /// Sets the command register.
+    fn set_dcl(&mut self, bank: BankNo)
+        ensures { self.new ≡ with_place self.old (Place.Dcl bank) }
+    {
+        self.cpu.set_dcl(bank.get());
+    }
+
+    /// Puts a value into a place; lost where the place is absent.
+    fn put(&mut self, place: Place)
+        ensures { self.new ≡ with_place self.old place }
+    {
+        match place {
+            Place::Acc(n) => self.cpu.set_acc(n),
+            Place::Cy(bit) => self.cpu.set_cy(bit),
+            Place::Pc(at) => self.cpu.set_pc(at),
+            Place::Register(r, n) => self.cpu.set_register(r, n),
+            Place::Dcl(bank) => self.set_dcl(bank),
+            Place::Rom(at, byte) => self.rig.set_rom_byte(at, byte),
+            Place::Ram(bank, src, n) => self.rig.set_ram(bank.get(), src, n),
+            Place::Status(bank, high, k, n) => {
+                self.rig.set_status(bank.get(), high, k.get(), n);
+            }
+        }
+    }
+
+    /// Power off and on.
+    fn reset(&mut self)
+        ensures { self.new ≡ changed self.old Command.Reset }
+    {
+        self.cpu = Cpu::new();
+        self.rig.reset();
+    }
+
+    /// Runs up to `n` cycles.
+    fn run(&mut self, n: u32) -> Reply
+        ensures state { self.new ≡ changed self.old (Command.Run n) }
+        ensures reply { result ≡ reply self.old (Command.Run n) }
+    {
+        let (cycles, stop) = run(&mut self.cpu, &mut self.rig, &self.breaks, n);
+        Reply::Ran { cycles, stop }
+    }
+
+    /// Does one instruction, or the idle cycle of one.
+    fn step(&mut self) -> Reply
+        ensures state { self.new ≡ changed self.old Command.Step }
+        ensures reply { result ≡ reply self.old Command.Step }
+    {
+        let (cycles, stop) = step(&mut self.cpu, &mut self.rig);
+        Reply::Ran { cycles, stop }
+    }
+
+    /// Does what a command does, but for the count of commands.
+    fn change(&mut self, command: &Command) -> Reply
+        requires { own_refusal self.old command.now ≡ None }
+        ensures state { self.new ≡ changed self.old command.now }
+        ensures reply { result ≡ reply self.old command.now }
+    {
+        match command {
+            Command::Wire(board) => self.wire(board),
+            Command::Load(image) => return load(&mut self.rig, image),
+            Command::Press(row, column) => self.rig.press(*row, *column),
+            Command::Release(row, column) => self.rig.release(*row, *column),
+            Command::Run(n) => return self.run(*n),
+            Command::Step => return self.step(),
+            Command::Poke(place) => self.put(*place),
+            Command::Test(bit) => self.rig.set_test(*bit),
+            Command::Reset => self.reset(),
+            Command::Break(at) => self.breaks.set(*at),
+            Command::Unbreak(at) => self.breaks.clear(*at),
+        }
+        Reply::Done
+    }
+
+    /// Does an accepted command, and answers what there is to tell. It takes no memory.
+    pub fn apply(&mut self, command: &Command) -> Reply
+        requires accepted { refusal self.old command.now ≡ None }
+        ensures state { self.new ≡ after self.old command.now }
+        ensures reply { result ≡ reply self.old command.now }
+    {
+        let accepted = self.seq + 1;
+        let reply = self.change(command);
+        self.seq = accepted;
+        reply
+    }
+}

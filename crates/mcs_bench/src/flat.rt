@@ -1,0 +1,144 @@
+//! The state of a bench as plain numbers.
+ghost use Rattle.std.specs.Prelude.{◌≡◌, ◌<◌, ◌↔◌, ℕ, IfOk, IsTrue, length, replicate, slice_index, slice_set};
+ghost use Rattle.mcs_model.specs.Flat.{new_flat};
+ghost use Rattle.mcs_bench.specs.States.{state_of};
+
+use arrayvec::ArrayVec;
+use mcs_model::board::Board;
+use mcs_model::limits::{BREAKPOINTS, CHAINS};
+use std::alloc::{AllocError, Global};
+use std::marker::Model;
+
+/// So many bytes. Contracts see them as their list.
+#[derive(Drop)]
+pub struct Cells {
+    bytes: Vec<u8>,
+}
+
+impl Model for Cells {
+    ghost use Rattle.std.specs.Prelude.{List, ℕ};
+
+    ghost Value = { List ℕ };
+
+    ghost view = { λ c. c.bytes.items };
+}
+
+impl Cells {
+    /// So many bytes, all 0.
+    fn zeros(alloc: Global, count: usize) -> Result<Cells, AllocError>
+        ensures { IfOk result (λ cells. cells ≡ replicate count 0) }
+    {
+        Ok(Cells {
+            bytes: vec![in alloc; 0; count]?,
+        })
+    }
+
+    /// How many there are.
+    pub fn len(&self) -> usize
+        ensures { result ≡ length self.now }
+    {
+        self.bytes.len()
+    }
+
+    /// All of them.
+    pub(crate) fn bytes(&self) -> &[u8]
+        ensures { result.now ≡ self.now }
+    {
+        &self.bytes
+    }
+
+    /// Byte `i`, counted from 0.
+    pub fn get(&self, i: usize) -> u8
+        requires { i < length self.now }
+        ensures { result ≡ slice_index self.now i }
+    {
+        self.bytes[i]
+    }
+
+    /// Sets byte `i`, counted from 0.
+    pub fn set(&mut self, i: usize, byte: u8)
+        requires { i < length self.old }
+        ensures { self.new ≡ slice_set self.old i byte }
+    {
+        self.bytes[i] = byte;
+    }
+}
+
+/// The state of a bench as plain numbers. They may be any: `check` tells whether a bench can be in that state.
+#[derive(Drop)]
+pub struct Flat {
+    /// How many commands were accepted.
+    pub seq: u32,
+    /// The board.
+    pub board: Board,
+    /// The bytes of the ROMs, by address: 4,096, those of absent ROMs 0.
+    pub rom: Cells,
+    /// The RAM characters, at bank * 256 + SRC byte: 2,048 nibbles, absent ones 0.
+    pub ram: Cells,
+    /// The status characters, at (bank * 16 + upper nibble of SRC) * 4 + k: 512 nibbles, absent ones 0.
+    pub status: Cells,
+    /// The port latches of the RAM chips, at bank * 4 + chip: 32 nibbles, absent ones 0.
+    pub ram_ports: Cells,
+    /// The port latches of the ROMs: 16 nibbles, absent ones and the bits of input lines 0.
+    pub rom_ports: Cells,
+    /// The accumulator, a nibble.
+    pub acc: u8,
+    /// The carry, a bit.
+    pub cy: u8,
+    /// The index registers, nibbles.
+    pub r: [u8; 16],
+    /// The program counter, an address.
+    pub pc: u16,
+    /// The return addresses, the one that BBL takes first.
+    pub ret: [u16; 3],
+    /// The command register, 0 to 7.
+    pub dcl: u8,
+    /// The SRC byte that the ROMs keep.
+    pub rom_src: u8,
+    /// The SRC byte that each bank keeps, 0 in a bank without chips.
+    pub ram_src: [u8; 8],
+    /// How many idle cycles are owed, 0 or 1.
+    pub owed: u8,
+    /// The bits of each chain of the board, bit 0 first.
+    pub chains: ArrayVec<ArrayVec<u8, 40>, CHAINS>,
+    /// The keys of the board, row by row: 1 where one is down.
+    pub keys: ArrayVec<u8, 80>,
+    /// The level of the TEST pin, a bit.
+    pub test: u8,
+    /// The breakpoints, addresses, rising.
+    pub breakpoints: ArrayVec<u16, BREAKPOINTS>,
+}
+
+impl Flat {
+    /// The state of a new bench: the empty board, all 0, and TEST 1.
+    ///
+    /// # Errors
+    ///
+    /// Where memory is refused.
+    pub fn new(alloc: Global) -> Result<Flat, AllocError>
+        ensures { IfOk result (λ flat. state_of flat ≡ new_flat) }
+    {
+        Ok(Flat {
+            seq: 0,
+            board: Board::empty(),
+            rom: Cells::zeros(alloc, 4096)?,
+            ram: Cells::zeros(alloc, 2048)?,
+            status: Cells::zeros(alloc, 512)?,
+            ram_ports: Cells::zeros(alloc, 32)?,
+            rom_ports: Cells::zeros(alloc, 16)?,
+            acc: 0,
+            cy: 0,
+            r: [0; 16],
+            pc: 0,
+            ret: [0; 3],
+            dcl: 0,
+            rom_src: 0,
+            ram_src: [0; 8],
+            owed: 0,
+            chains: ArrayVec::new(),
+            keys: ArrayVec::new(),
+            test: 1,
+            breakpoints: ArrayVec::new(),
+        })
+    }
+}

@@ -1,0 +1,247 @@
+//! Whether a bench can be in a state.
+ghost use Rattle.std.specs.Prelude.{◌≡◌, ◌<◌, ◌≤◌, ◌↔◌, ℕ, All, IsTrue, MatchOption, None, length, slice_index, slice_index_or, []};
+ghost use Rattle.std.specs.List.Sorted.{IsStrictlyIncreasing};
+ghost use Rattle.mcs_nibble.specs.Ports.{latch_value};
+ghost use Rattle.mcs_model.specs.Boards.{masks_on, chain_count, chain_bits, key_count};
+ghost use Rattle.mcs_model.specs.Validity.{AreBelow, AreBreakpoints, IsAbsentZero, IsInRange, IsValid, IsValidBus, IsValidRegs};
+ghost use Rattle.mcs_bench.specs.Held.{IsZeroWhereAbsent};
+ghost use Rattle.mcs_bench.specs.States.{state_of, rows_of};
+
+use crate::flat::Flat;
+use crate::held::{Held, is_absent_zero};
+use arrayvec::ArrayVec;
+use mcs_model::board::Board;
+use mcs_nibble::Nibble;
+use mcs_rom4001::held_port;
+
+/// Whether there are so many numbers, each below a limit.
+fn are_below(numbers: &[u8], count: usize, limit: u8) -> bool
+    ensures { IsTrue result ↔ AreBelow count limit numbers.now }
+{
+    if numbers.len() != count {
+        return false;
+    }
+    for n in numbers {
+        if *n >= limit {
+            return false;
+        }
+    }
+    true
+}
+
+/// Whether there are so many bytes.
+fn are_bytes(numbers: &[u8], count: usize) -> bool
+    ensures { IsTrue result ↔ AreBelow count 256 numbers.now }
+{
+    numbers.len() == count
+}
+
+/// Eight bytes are eight, each below 256: their type says so, and proofs learn it here.
+fn are_eight(numbers: &[u8; 8])
+    ensures { AreBelow 8 256 numbers.now }
+{
+    let _numbers = numbers.as_slice();
+}
+
+/// Whether all are addresses.
+fn are_addresses(numbers: &[u16]) -> bool
+    ensures { IsTrue result ↔ All (λ a. a < 4096) numbers.now }
+{
+    for n in numbers {
+        if *n >= 4096 {
+            return false;
+        }
+    }
+    true
+}
+
+/// Whether each number is above the one before it.
+fn is_rising(numbers: &[u16]) -> bool
+    requires { length numbers.now ≤ 32 }
+    ensures { IsTrue result ↔ IsStrictlyIncreasing numbers.now }
+{
+    for i in 1..numbers.len() {
+        if numbers[i - 1] >= numbers[i] {
+            return false;
+        }
+    }
+    true
+}
+
+/// How many keys a board has.
+fn key_count(board: &Board) -> usize
+    ensures { result ≡ key_count board.now }
+{
+    match &board.parts().keys {
+        Some(matrix) => usize::from(matrix.rows) * matrix.columns.len(),
+        None => 0,
+    }
+}
+
+/// Whether there are so many bits for each chain of a board.
+fn are_chains(board: &Board, rows: &[ArrayVec<u8, 40>]) -> bool
+    ensures { IsTrue result ↔ ((length rows.now ≡ chain_count board.now) × ((i : ℕ) → i < chain_count board.now → AreBelow (chain_bits board.now i) 2 (slice_index_or (rows_of rows.now) i []))) }
+{
+    if rows.len() != board.chain_count() {
+        return false;
+    }
+    for i in 0..rows.len() {
+        if !are_below(rows[i].as_slice(), usize::from(board.chain(i).bits()), 2) {
+            return false;
+        }
+    }
+    true
+}
+
+/// Whether the port latch of a ROM, 0 to 15, can hold a nibble.
+fn can_hold(board: &Board, chip: u8, n: u8) -> bool
+    requires { n < 16 }
+    ensures { IsTrue result ↔ MatchOption (masks_on board.now chip) (n ≡ 0) (λ mask. latch_value mask n ≡ n) }
+{
+    match board.mask(chip) {
+        Some(mask) => held_port(&mask, Nibble::low_of(n)).get() == n,
+        None => n == 0,
+    }
+}
+
+/// Whether the port latches of the ROMs can hold these nibbles.
+fn can_all_hold(board: &Board, ports: &[u8]) -> bool
+    requires { AreBelow 16 16 ports.now }
+    ensures { IsTrue result ↔ ((chip : ℕ) → MatchOption (masks_on board.now chip) (slice_index ports.now chip ≡ 0) (λ mask. latch_value mask (slice_index ports.now chip) ≡ slice_index ports.now chip)) }
+{
+    for chip in 0..16u8 {
+        if !can_hold(board, chip, ports[usize::from(chip)]) {
+            return false;
+        }
+    }
+    true
+}
+
+impl Flat {
+    /// Whether each register holds a number of its kind.
+    fn has_valid_registers(&self) -> bool
+        ensures { IsTrue result ↔ IsValidRegs (state_of self.now).processor }
+    {
+        if self.acc >= 16 || self.cy >= 2 || self.pc >= 4096 {
+            return false;
+        }
+        if self.dcl >= 8 || self.owed >= 2 {
+            return false;
+        }
+        if !are_below(&self.r, 16, 16) {
+            return false;
+        }
+        are_addresses(&self.ret)
+    }
+
+    /// Whether the lists of the chips have their lengths, and numbers of their kinds.
+    fn has_valid_cells(&self) -> bool
+        ensures { IsTrue result ↔ (AreBelow 4096 256 self.now.rom × AreBelow 2048 16 self.now.ram × AreBelow 512 16 self.now.status × AreBelow 32 16 self.now.ram_ports × AreBelow 16 16 self.now.rom_ports) }
+    {
+        if !are_bytes(self.rom.bytes(), 4096) {
+            return false;
+        }
+        if !are_below(self.ram.bytes(), 2048, 16) {
+            return false;
+        }
+        if !are_below(self.status.bytes(), 512, 16) {
+            return false;
+        }
+        if !are_below(self.ram_ports.bytes(), 32, 16) {
+            return false;
+        }
+        are_below(self.rom_ports.bytes(), 16, 16)
+    }
+
+    /// Whether each place of the chips holds a number of its kind, and there are as many places as the board gives.
+    fn is_in_range(&self) -> bool
+        ensures { IsTrue result ↔ IsInRange (state_of self.now).bus }
+    {
+        are_eight(&self.ram_src);
+        let _src = self.rom_src;
+        if self.test >= 2 {
+            return false;
+        }
+        if !self.has_valid_cells() {
+            return false;
+        }
+        if !are_chains(&self.board, self.chains.as_slice()) {
+            return false;
+        }
+        are_below(self.keys.as_slice(), key_count(&self.board), 2)
+    }
+
+    /// Whether the numbers of absent chips in a list are 0.
+    fn is_zero_where_absent(&self, held: Held) -> bool
+        requires { IsInRange (state_of self.now).bus }
+        ensures { IsTrue result ↔ IsZeroWhereAbsent (state_of self.now).bus held }
+    {
+        let board = &self.board;
+        match held {
+            Held::RomBytes => is_absent_zero(board, held, self.rom.bytes()),
+            Held::Characters => is_absent_zero(board, held, self.ram.bytes()),
+            Held::StatusCharacters => is_absent_zero(board, held, self.status.bytes()),
+            Held::RamPorts => is_absent_zero(board, held, self.ram_ports.bytes()),
+            Held::BankSrcs => is_absent_zero(board, held, &self.ram_src),
+        }
+    }
+
+    /// Whether what is absent holds 0.
+    fn is_absent_zero(&self) -> bool
+        requires { IsInRange (state_of self.now).bus }
+        ensures { IsTrue result ↔ IsAbsentZero (state_of self.now).bus }
+    {
+        if !self.is_zero_where_absent(Held::RomBytes) {
+            return false;
+        }
+        if !self.is_zero_where_absent(Held::Characters) {
+            return false;
+        }
+        if !self.is_zero_where_absent(Held::StatusCharacters) {
+            return false;
+        }
+        if !self.is_zero_where_absent(Held::RamPorts) {
+            return false;
+        }
+        if !self.is_zero_where_absent(Held::BankSrcs) {
+            return false;
+        }
+        can_all_hold(&self.board, self.rom_ports.bytes())
+    }
+
+    /// Whether the board and what its chips hold are valid.
+    fn has_valid_bus(&self) -> bool
+        ensures { IsTrue result ↔ IsValidBus (state_of self.now).bus }
+    {
+        let _parts = self.board.parts();
+        if !self.is_in_range() {
+            return false;
+        }
+        self.is_absent_zero()
+    }
+
+    /// Whether the breakpoints are addresses, rising.
+    fn has_valid_breakpoints(&self) -> bool
+        ensures { IsTrue result ↔ AreBreakpoints self.now.breakpoints.items }
+    {
+        let breakpoints = self.breakpoints.as_slice();
+        if !are_addresses(breakpoints) {
+            return false;
+        }
+        is_rising(breakpoints)
+    }
+
+    /// Whether a bench can be in this state.
+    pub fn check(&self) -> bool
+        ensures { IsTrue result ↔ IsValid (state_of self.now) }
+    {
+        let _seq = self.seq;
+        if !self.has_valid_registers() {
+            return false;
+        }
+        if !self.has_valid_bus() {
+            return false;
+        }
+        self.has_valid_breakpoints()
+    }
+}

@@ -1,0 +1,57 @@
+//! Laws of a bench, each proved as the contract of a function that changes nothing.
+ghost use Rattle.std.specs.Prelude.{◌≡◌, ◌<◌, All};
+ghost use Rattle.mcs_model.specs.Validity.{IsValid, IsValidRegs};
+ghost use Rattle.mcs_bench.specs.Runs.{RunsAddUp};
+
+use crate::bench::Bench;
+use mcs_model::regs::Regs;
+use mcs_nibble::{Addr, Nibble};
+
+/// Where no breakpoint is set, two runs come to the state that one run of all their cycles comes to, the count of
+/// commands aside.
+pub fn runs_add_up()
+    ensures { RunsAddUp }
+{
+    mcs_model::laws::runs_compose();
+}
+
+/// A law: each number of a list of nibbles is below 16.
+fn are_nibbles(list: &[Nibble])
+    ensures { All (λ n. n < 16) list.now }
+{
+    for i in 0..list.len() {
+        let _n = list[i].get();
+    }
+}
+
+/// A law: each number of a list of addresses is below 4096.
+pub(crate) fn are_addresses(list: &[Addr])
+    ensures { All (λ a. a < 4096) list.now }
+{
+    for i in 0..list.len() {
+        let _a = list[i].get();
+    }
+}
+
+/// A law: each register holds a number of its kind.
+fn registers_are_valid(regs: Regs)
+    requires dcl { regs.dcl < 8 }
+    requires owed { regs.owed < 2 }
+    ensures { IsValidRegs regs }
+{
+    let _flags = (regs.acc.get(), regs.cy.get(), regs.pc.get());
+    are_nibbles(&regs.r);
+    are_addresses(&regs.ret);
+}
+
+impl Bench {
+    /// A law: the state of a bench is valid.
+    pub fn state_is_valid(&self)
+        ensures { IsValid self.now }
+    {
+        let _seq = self.seq;
+        registers_are_valid(self.cpu.regs());
+        self.rig.state_is_valid();
+        self.breaks.state_is_valid();
+    }
+}

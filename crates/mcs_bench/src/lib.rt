@@ -1,0 +1,20 @@
+//! The bench: a processor on a rig, with breakpoints and a count of the commands that it accepted.
+//!
+//! `Bench` does commands; contracts see it as the flat state of `mcs_model`. `Flat` is such a state as plain numbers,
+//! which may be any: `Flat::check` tells whether a bench can be in it, and `Bench::restore` makes that bench.
+#![tactic(auto)]
+
+mod bench;
+mod breaks;
+mod commands;
+mod flat;
+mod held;
+mod judging;
+mod laws;
+mod reading;
+mod restoring;
+mod running;
+
+pub use bench::Bench;
+pub use flat::{Cells, Flat};
+pub use laws::runs_add_up;

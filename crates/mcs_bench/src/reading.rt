@@ -1,0 +1,152 @@
+//! What a bench tells of its state.
+ghost use Rattle.std.specs.Prelude.{◌≡◌, ◌+◌, ◌*◌, ◌<◌, ◌≤◌, true, IfOk, length, option_map, slice_get, slice_index};
+ghost use Rattle.std.specs.List.Sorted.{IsStrictlyIncreasing};
+ghost use Rattle.mcs_model.specs.Boards.{has_key, key_place};
+ghost use Rattle.mcs_model.specs.Levels.{chain_bit, level};
+ghost use Rattle.mcs_model.specs.Places.{status_at};
+
+use crate::bench::Bench;
+use mcs_model::board::Board;
+use mcs_model::limits::BREAKPOINTS;
+use mcs_model::regs::Regs;
+use mcs_nibble::{Addr, Bit, Nibble};
+use std::alloc::{AllocError, Global};
+
+impl Bench {
+    /// How many commands were accepted.
+    pub fn seq(&self) -> u32
+        ensures { result ≡ self.now.seq }
+    {
+        self.seq
+    }
+
+    /// The board.
+    pub fn board(&self) -> &Board
+        ensures { result.now ≡ self.now.bus.board }
+    {
+        self.rig.board()
+    }
+
+    /// The registers of the processor.
+    pub fn regs(&self) -> Regs
+        ensures same { result ≡ self.now.processor }
+        ensures registers { length result.r ≡ 16 }
+        ensures return_addresses { length result.ret ≡ 3 }
+        ensures dcl { result.dcl < 8 }
+        ensures owed { result.owed < 2 }
+    {
+        self.cpu.regs()
+    }
+
+    /// The ROM byte at an address; 0 where the ROM is absent.
+    pub fn rom_byte(&self, at: Addr) -> u8
+        ensures { result ≡ slice_index self.now.bus.rom at }
+    {
+        self.rig.rom_byte(at)
+    }
+
+    /// The 4,096 bytes of the ROMs, by address, those of absent ROMs 0.
+    ///
+    /// # Errors
+    ///
+    /// Where memory is refused.
+    pub fn rom(&self, alloc: Global) -> Result<Vec<u8>, AllocError>
+        ensures bytes { IfOk result (λ rom. rom.items ≡ self.now.bus.rom) }
+        ensures whole { IfOk result (λ rom. length rom.items ≡ 4096) }
+    {
+        self.rig.state_is_valid();
+        let mut rom = Vec::with_capacity(alloc, 4096)?;
+        for at in 0..4096 {
+            rom.push(self.rig.rom_byte(Addr::ZERO.plus(at)))?;
+        }
+        Ok(rom)
+    }
+
+    /// The RAM character of a bank, 0 to 7, and an SRC byte; 0 where the chip is absent.
+    pub fn ram(&self, bank: u8, src: u8) -> Nibble
+        requires { bank < 8 }
+        ensures { result ≡ slice_index self.now.bus.ram (bank * 256 + src) }
+    {
+        self.rig.ram(bank, src)
+    }
+
+    /// Status character `k`, 0 to 3, of the register that the high nibble of an SRC byte selects in a bank, 0 to 7;
+    /// 0 where the chip is absent.
+    pub fn status(&self, bank: u8, high: Nibble, k: u8) -> Nibble
+        requires bank { bank < 8 }
+        requires k { k < 4 }
+        ensures { result ≡ slice_index self.now.bus.status (status_at bank high k) }
+    {
+        self.rig.status(bank, high, k)
+    }
+
+    /// What the port latch of a RAM chip holds, of bank 0 to 7 and chip 0 to 3; 0 where the chip is absent.
+    pub fn ram_port(&self, bank: u8, chip: u8) -> Nibble
+        requires bank { bank < 8 }
+        requires chip { chip < 4 }
+        ensures { result ≡ slice_index self.now.bus.ram_ports (bank * 4 + chip) }
+    {
+        self.rig.ram_latch(bank, chip)
+    }
+
+    /// What the port latch of a ROM, 0 to 15, holds; 0 on input lines, and where the ROM is absent.
+    pub fn rom_port(&self, chip: u8) -> Nibble
+        requires { chip < 16 }
+        ensures { result ≡ slice_index self.now.bus.rom_ports chip }
+    {
+        self.rig.rom_latch(chip)
+    }
+
+    /// The SRC byte that the ROMs keep.
+    pub fn rom_src(&self) -> u8
+        ensures { result ≡ self.now.bus.rom_src }
+    {
+        self.rig.rom_src()
+    }
+
+    /// The SRC byte that a bank, 0 to 7, keeps; 0 in a bank without chips.
+    pub fn ram_src(&self, bank: u8) -> u8
+        requires { bank < 8 }
+        ensures { result ≡ slice_index self.now.bus.ram_src bank }
+    {
+        self.rig.ram_src(bank)
+    }
+
+    /// Bit `i` of a chain, both counted from 0; 0 where the board has no such bit.
+    pub fn chain_bit(&self, chain: u8, i: u8) -> Bit
+        ensures { result ≡ chain_bit self.now.bus chain i }
+    {
+        self.rig.chain_bit(chain, i)
+    }
+
+    /// The key of a row and a column of the board: 1 where it is down.
+    pub fn key(&self, row: u8, column: u8) -> Bit
+        requires { has_key self.now.bus.board row column ≡ true }
+        ensures { result ≡ slice_index self.now.bus.keys (key_place self.now.bus.board row column) }
+    {
+        self.rig.key(row, column)
+    }
+
+    /// The level of the TEST pin.
+    pub fn test(&self) -> Bit
+        ensures { result ≡ self.now.bus.test }
+    {
+        self.rig.test_level()
+    }
+
+    /// The level of the line that lamp `i`, counted from 0, is at; none beyond the board's lamps.
+    pub fn lamp(&self, i: usize) -> Option<Bit>
+        ensures { result ≡ option_map (level self.now.bus) (slice_get self.now.bus.board.lamps.items i) }
+    {
+        self.rig.lamp(i)
+    }
+
+    /// The breakpoints, by rising address.
+    pub fn breaks(&self) -> &[Addr]
+        ensures same { result.now ≡ self.now.breakpoints }
+        ensures few { length result.now ≤ BREAKPOINTS }
+        ensures rising { IsStrictlyIncreasing result.now }
+    {
+        self.breaks.list()
+    }
+}

@@ -1,0 +1,172 @@
+//! A bench made from a state.
+ghost use Rattle.std.specs.Prelude.{◌≡◌, ◌<◌, ◌≤◌, ℕ, All, IfOk, MatchOption, length, slice_index, slice_index_or, slice_set, []};
+ghost use Rattle.mcs_nibble.specs.Ports.{latch_value};
+ghost use Rattle.mcs_model.specs.Boards.{masks_on, chain_count, chain_bits, key_count};
+ghost use Rattle.mcs_model.specs.Validity.{AreBelow, AreBreakpoints, IsValid, IsValidBus, IsValidRegs};
+ghost use Rattle.mcs_bench.specs.Held.{IsKeyAt};
+ghost use Rattle.mcs_bench.specs.States.{state_of, rows_of};
+
+use crate::bench::Bench;
+use crate::breaks::Breaks;
+use crate::flat::Flat;
+use crate::held::{Held, fill};
+use crate::running::BenchRig;
+use arrayvec::ArrayVec;
+use mcs_board::every_board_fits_the_bench;
+use mcs_cpu4004::Cpu;
+use mcs_model::board::Board;
+use mcs_nibble::{Addr, Bit, Nibble};
+use std::alloc::{AllocError, Global};
+
+/// The nibbles of these numbers.
+fn nibbles(numbers: &[u8; 16]) -> [Nibble; 16]
+    requires { All (λ n. n < 16) numbers.now }
+    ensures { result ≡ numbers.now }
+{
+    let mut nibbles = [Nibble::ZERO; 16];
+    for i in 0..16 {
+        nibbles[i] = Nibble::low_of(numbers[i]);
+    }
+    nibbles
+}
+
+/// The addresses of these numbers.
+fn addresses(numbers: &[u16; 3]) -> [Addr; 3]
+    requires { All (λ a. a < 4096) numbers.now }
+    ensures { result ≡ numbers.now }
+{
+    [
+        Addr::ZERO.plus(numbers[0]),
+        Addr::ZERO.plus(numbers[1]),
+        Addr::ZERO.plus(numbers[2]),
+    ]
+}
+
+/// The processor with these registers.
+fn processor(flat: &Flat) -> Cpu
+    requires { IsValidRegs (state_of flat.now).processor }
+    ensures { result ≡ (state_of flat.now).processor }
+{
+    let mut cpu = Cpu::new();
+    cpu.set_acc(Nibble::low_of(flat.acc));
+    cpu.set_cy(Bit::low_of(flat.cy));
+    cpu.set_r(nibbles(&flat.r));
+    cpu.set_pc(Addr::ZERO.plus(flat.pc));
+    cpu.set_ret(addresses(&flat.ret));
+    cpu.set_dcl(flat.dcl);
+    cpu.set_owed(flat.owed);
+    cpu
+}
+
+/// Sets the port latches of all ROMs.
+fn fill_rom_ports(rig: &mut BenchRig, ports: &[u8])
+    requires fit { AreBelow 16 16 ports.now }
+    requires kept { (chip : ℕ) → MatchOption (masks_on rig.old.board chip) (slice_index ports.now chip ≡ 0) (λ mask. latch_value mask (slice_index ports.now chip) ≡ slice_index ports.now chip) }
+    ensures { rig.new ≡ record rig.old { rom_ports = ports.now } }
+{
+    rig.state_is_valid();
+    for chip in 0..16u8 {
+        rig.set_rom_latch(chip, Nibble::low_of(ports[usize::from(chip)]));
+    }
+}
+
+/// Sets all bits of a chain.
+fn fill_chain(rig: &mut BenchRig, chain: u8, bits: &[u8])
+    requires there { chain < chain_count rig.old.board }
+    requires fit { AreBelow (chain_bits rig.old.board chain) 2 bits.now }
+    ensures { rig.new ≡ record rig.old { chains = slice_set rig.old.chains chain bits.now } }
+{
+    rig.state_is_valid();
+    for i in 0..bits.len() {
+        rig.set_chain_bit(chain, i as u8, Bit::low_of(bits[i]));
+    }
+}
+
+/// Sets all bits of all chains.
+fn fill_chains(rig: &mut BenchRig, rows: &[ArrayVec<u8, 40>])
+    requires count { length rows.now ≡ chain_count rig.old.board }
+    requires fit { (i : ℕ) → i < chain_count rig.old.board → AreBelow (chain_bits rig.old.board i) 2 (slice_index_or (rows_of rows.now) i []) }
+    ensures { rig.new ≡ record rig.old { chains = rows_of rows.now } }
+{
+    rig.state_is_valid();
+    for i in 0..rows.len() {
+        fill_chain(rig, i as u8, rows[i].as_slice());
+    }
+}
+
+/// How many columns the keys of a board have, by which the row and the column of each key are told.
+fn columns_of(board: &Board) -> usize
+    ensures { (i : ℕ) → i < key_count board.now → IsKeyAt board.now result i }
+{
+    match &board.parts().keys {
+        Some(matrix) => matrix.columns.len(),
+        None => 1,
+    }
+}
+
+/// Sets all keys.
+fn fill_keys(rig: &mut BenchRig, keys: &[u8])
+    requires few { length keys.now ≤ 80 }
+    requires fit { AreBelow (key_count rig.old.board) 2 keys.now }
+    ensures { rig.new ≡ record rig.old { keys = keys.now } }
+{
+    rig.state_is_valid();
+    let columns = columns_of(rig.board());
+    for i in 0..keys.len() {
+        rig.set_key(
+            (i / columns) as u8,
+            (i % columns) as u8,
+            Bit::low_of(keys[i]),
+        );
+    }
+}
+
+/// The breakpoints of a list.
+fn breakpoints(list: &[u16]) -> Breaks
+    requires { AreBreakpoints list.now }
+    ensures { result ≡ list.now }
+{
+    let mut breaks = Breaks::new();
+    for at in list {
+        breaks.set(Addr::ZERO.plus(*at));
+    }
+    breaks
+}
+
+/// Puts a rig on the board of a state, and sets all that its chips hold.
+fn restore_rig(rig: &mut BenchRig, flat: &Flat)
+    requires { IsValidBus (state_of flat.now).bus }
+    ensures { rig.new ≡ (state_of flat.now).bus }
+{
+    every_board_fits_the_bench(&flat.board);
+    rig.wire(&flat.board);
+    fill(rig, Held::RomBytes, flat.rom.bytes());
+    fill(rig, Held::Characters, flat.ram.bytes());
+    fill(rig, Held::StatusCharacters, flat.status.bytes());
+    fill(rig, Held::RamPorts, flat.ram_ports.bytes());
+    fill(rig, Held::BankSrcs, &flat.ram_src);
+    fill_rom_ports(rig, flat.rom_ports.bytes());
+    rig.set_rom_src(flat.rom_src);
+    fill_chains(rig, flat.chains.as_slice());
+    fill_keys(rig, flat.keys.as_slice());
+    rig.set_test(Bit::low_of(flat.test));
+}
+
+impl Bench {
+    /// The bench that is in a state.
+    ///
+    /// # Errors
+    ///
+    /// Where memory is refused.
+    pub fn restore(alloc: Global, flat: &Flat) -> Result<Bench, AllocError>
+        requires { IsValid (state_of flat.now) }
+        ensures { IfOk result (λ bench. bench ≡ state_of flat.now) }
+    {
+        let mut bench = Bench::new(alloc)?;
+        restore_rig(&mut bench.rig, flat);
+        bench.cpu = processor(flat);
+        bench.breaks = breakpoints(flat.breakpoints.as_slice());
+        bench.seq = flat.seq;
+        Ok(bench)
+    }
+}

@@ -1,0 +1,111 @@
+-- The laws of places and commands: a line for each in `takes` and in `again`.
+use Rattle.std.proofs.Common.{◌≡◌, ℕ, ◌<◌, List, [], ◌∷◌, ◌++◌, Option, Some, None, refl, sym, ap, ◌∙◌, arith}
+use Rattle.std.specs.Prelude.{IfSome, IfNone, IfOk, Result, Ok, Err}
+use Rattle.mcs_model.specs.declared.command.Place.{Place}
+use Rattle.mcs_model.specs.declared.command.Place.TheVariants.{Acc, Cy, Pc, Register, Dcl, Rom, Ram, Status}
+use Rattle.mcs_model.specs.declared.command.Command.{Command}
+use Rattle.mcs_model.specs.declared.command.Command.TheVariants.{Wire, Load, Press, Release, Run, Step, Poke, Test, Reset, Break, Unbreak}
+use Rattle.mcs_codec.specs.Reading.{giving, small_at, whole}
+use Rattle.mcs_codec.specs.CommandText.{place_text, command_text, IsPlace, IsCommand}
+use Rattle.mcs_codec.specs.CommandReading.{place_at, command_at, all_behind}
+use Rattle.mcs_codec.specs.Codec.{Spells}
+use Rattle.mcs_codec.proofs.Codecs.{IsCodec, IsBytes, IsBytes-rest, byte_codec, long_codec, address_codec, small_codec, both_codec, done_codec, row, whole_takes, whole_again, same_value}
+use Rattle.mcs_codec.proofs.BoardCodec.{board_codec}
+use Rattle.mcs_codec.proofs.ImageCodec.{image_codec}
+
+nibble_codec : IsCodec (λ n. n ∷ []) (λ n. n < 16) (small_at 16)
+nibble_codec = small_codec 16 (omega arith)
+
+bit_codec : IsCodec (λ n. n ∷ []) (λ n. n < 2) (small_at 2)
+bit_codec = small_codec 2 (omega arith)
+
+bank_codec : IsCodec (λ n. n ∷ []) (λ n. n < 8) (small_at 8)
+bank_codec = small_codec 8 (omega arith)
+
+status_codec : IsCodec (λ n. n ∷ []) (λ n. n < 4) (small_at 4)
+status_codec = small_codec 4 (omega arith)
+
+place_takes : (bytes : List ℕ) (x : Place × List ℕ) → IsBytes bytes → place_at bytes ≡ Some x → (bytes ≡ place_text x.0 ++ x.1) × IsPlace x.0
+unfolding place_at
+place_takes [] x all e = absurd cc
+place_takes (tag ∷ bytes) x all e =
+    let rest = IsBytes-rest tag bytes all in
+    row place_text IsPlace 0 Acc rest nibble_codec (λ a h. (refl, h))
+    (row place_text IsPlace 1 Cy rest bit_codec (λ a h. (refl, h))
+    (row place_text IsPlace 2 Pc rest address_codec (λ a h. (refl, h))
+    (row place_text IsPlace 3 (λ p. Register p.0 p.1) rest (both_codec nibble_codec nibble_codec) (λ a h. (refl, h))
+    (row place_text IsPlace 4 Dcl rest bank_codec (λ a h. (refl, h))
+    (row place_text IsPlace 5 (λ p. Rom p.0 p.1) rest (both_codec address_codec byte_codec) (λ a h. (refl, h))
+    (row place_text IsPlace 6 (λ p. Ram p.0 p.1.0 p.1.1) rest (both_codec bank_codec (both_codec byte_codec nibble_codec)) (λ a h. (refl, h))
+    (row place_text IsPlace 7 (λ p. Status p.0 p.1.0 p.1.1.0 p.1.1.1) rest (both_codec bank_codec (both_codec nibble_codec (both_codec status_codec nibble_codec))) (λ a h. (refl, h))
+    (λ none. absurd cc)))))))) e
+
+place_again : (p : Place) (rest : List ℕ) → IsPlace p → place_at (place_text p ++ rest) ≡ Some (p, rest)
+unfolding place_at
+place_again (Acc n) rest h = ap (giving Acc) (nibble_codec.again n rest h)
+place_again (Cy b) rest h = ap (giving Cy) (bit_codec.again b rest h)
+place_again (Pc at) rest h = ap (giving Pc) (address_codec.again at rest h)
+place_again (Register r n) rest h = ap (giving (λ p. Register p.0 p.1)) ((both_codec nibble_codec nibble_codec).again (r, n) rest h)
+place_again (Dcl bank) rest h = ap (giving Dcl) (bank_codec.again bank rest h)
+place_again (Rom at byte) rest h = ap (giving (λ p. Rom p.0 p.1)) ((both_codec address_codec byte_codec).again (at, byte) rest h)
+place_again (Ram bank src n) rest h = ap (giving (λ p. Ram p.0 p.1.0 p.1.1)) ((both_codec bank_codec (both_codec byte_codec nibble_codec)).again (bank, (src, n)) rest h)
+place_again (Status bank high k n) rest h = ap (giving (λ p. Status p.0 p.1.0 p.1.1.0 p.1.1.1)) ((both_codec bank_codec (both_codec nibble_codec (both_codec status_codec nibble_codec))).again (bank, (high, (k, n))) rest h)
+
+pub place_codec : IsCodec place_text IsPlace place_at
+place_codec = record { takes = place_takes; again = place_again }
+
+command_takes : (bytes : List ℕ) (x : Command × List ℕ) → IsBytes bytes → command_at bytes ≡ Some x → (bytes ≡ command_text x.0 ++ x.1) × IsCommand x.0
+unfolding command_at all_behind
+command_takes [] x all e = absurd cc
+command_takes (tag ∷ bytes) x all e =
+    let rest = IsBytes-rest tag bytes all in
+    row command_text IsCommand 2 Load rest image_codec (λ a h. (refl, h))
+    (row command_text IsCommand 1 Wire rest board_codec (λ a h. (refl, h))
+    (row command_text IsCommand 3 (λ p. Press p.0 p.1) rest (both_codec byte_codec byte_codec) (λ a h. (refl, h))
+    (row command_text IsCommand 4 (λ p. Release p.0 p.1) rest (both_codec byte_codec byte_codec) (λ a h. (refl, h))
+    (row command_text IsCommand 5 Run rest long_codec (λ a h. (refl, h))
+    (row command_text IsCommand 6 (λ _. Step) rest done_codec (λ a h. (refl, h))
+    (row command_text IsCommand 7 Poke rest place_codec (λ a h. (refl, h))
+    (row command_text IsCommand 8 Test rest bit_codec (λ a h. (refl, h))
+    (row command_text IsCommand 9 (λ _. Reset) rest done_codec (λ a h. (refl, h))
+    (row command_text IsCommand 10 Break rest address_codec (λ a h. (refl, h))
+    (row command_text IsCommand 11 Unbreak rest address_codec (λ a h. (refl, h))
+    (λ none. absurd cc))))))))))) e
+
+command_again : (c : Command) (rest : List ℕ) → IsCommand c → command_at (command_text c ++ rest) ≡ Some (c, rest)
+unfolding command_at all_behind
+command_again (Wire board) rest h = ap (giving Wire) (board_codec.again board rest h)
+command_again (Load image) rest h = ap (giving Load) (image_codec.again image rest h)
+command_again (Press r k) rest h = refl
+command_again (Release r k) rest h = refl
+command_again (Run n) rest h = ap (giving Run) (long_codec.again n rest h)
+command_again Step rest h = refl
+command_again (Poke p) rest h = ap (giving Poke) (place_codec.again p rest h)
+command_again (Test b) rest h = ap (giving Test) (bit_codec.again b rest h)
+command_again Reset rest h = refl
+command_again (Break at) rest h = ap (giving Break) (address_codec.again at rest h)
+command_again (Unbreak at) rest h = ap (giving Unbreak) (address_codec.again at rest h)
+
+pub command_codec : IsCodec command_text IsCommand command_at
+command_codec = record { takes = command_takes; again = command_again }
+
+-- ---- what the public calls promise
+
+pub command_found : (bytes : List ℕ) (r : Option Command) → IsBytes bytes → r ≡ whole command_at bytes → IfSome r (λ c. Spells bytes c)
+command_found bytes (Some c) all e = let t = whole_takes command_codec bytes c all (sym e) in record { is = t.0; in_range = t.1 }
+command_found bytes None all e = tt
+
+pub command_none : (bytes : List ℕ) (r : Option Command) → r ≡ whole command_at bytes → IfNone r ((c : Command) → Spells bytes c → ⊥)
+command_none bytes (Some c) e = tt
+command_none bytes None e = λ c h. let back : Some c ≡ None = sym (whole_again command_codec c h.in_range) ∙ ap (whole command_at) (sym h.is) ∙ sym e in cc
+
+pub same_command : (bytes : List ℕ) (c d : Command) → Spells bytes c → Spells bytes d → c ≡ d
+same_command bytes c d h k = same_value command_codec c d h.in_range k.in_range (sym h.is ∙ k.is)
+
+pub read_found : {E : Type 0} (bytes : List ℕ) (r : Result (Option Command) E) → IsBytes bytes → IfOk r (λ found. found ≡ whole command_at bytes) → IfOk r (λ found. IfSome found (λ c. Spells bytes c))
+read_found bytes (Ok found) all e = command_found bytes found all e
+read_found bytes (Err x) all e = tt
+
+pub read_none : {E : Type 0} (bytes : List ℕ) (r : Result (Option Command) E) → IfOk r (λ found. found ≡ whole command_at bytes) → IfOk r (λ found. IfNone found ((c : Command) → Spells bytes c → ⊥))
+read_none bytes (Ok found) e = command_none bytes found e
+read_none bytes (Err x) e = tt

@@ -1,0 +1,267 @@
+-- The law of an image: a map of its addresses, and its bytes.
+use Rattle.std.proofs.Common.{◌≡◌, ℕ, zero, suc, ◌+◌, ◌*◌, ◌/◌, ◌%◌, ◌^◌, ◌<◌, ◌≤◌, Bool, true, false, cond, eqb, List, [], ◌∷◌, ◌++◌, length, get_or, slice_set, take, get_or-set_other, map, Some, refl, sym, ap, subst, ◌∙◌, arith, inl, inr, ◌⊎◌}
+use Rattle.std.specs.Prelude.{◌||◌, ◌≢◌}
+use Rattle.std.specs.List.{list_any, All}
+use Rattle.std.proofs.lemmas.List.{length-append, length-map, take_more}
+use Rattle.std.proofs.lemmas.List.Kept.{AllPairs-cons}
+use Rattle.std.proofs.lemmas.List.Folds.{list_any-append}
+use Rattle.std.proofs.lemmas.Bool.{cases_lt, cases_eq}
+use Rattle.std.proofs.lemmas.Grind.{get_or-set_at}
+use Rattle.std.proofs.lemmas.List.Elements.{All-from_recursion, recursion_from_All}
+use Rattle.std.proofs.lemmas.Bool.Decides.{nat_tests}
+use Rattle.mcs_nibble.specs.Bits.{bit_of}
+use Rattle.mcs_nibble.specs.Tabled.{tabled}
+use Rattle.mcs_nibble.proofs.TabledLemmas.{tabled_from, get_or-tabled, length-tabled}
+use Rattle.mcs_codec.specs.Reading.{giving, byte_at}
+use Rattle.mcs_model.specs.Pairs.{IsImage}
+use Rattle.mcs_codec.specs.CommandText.{mark, byte_of, map_text, image_text, values}
+use Rattle.mcs_codec.specs.CommandReading.{mark_at, pairs_at, image_at}
+use Rattle.mcs_codec.proofs.Codecs.{AreCells, IsCodec, IsBytes, IsBytes-rest, bind_some, giving_some, byte_codec, bytes_codec, depending_codec, giving_codec, refit_codec}
+
+-- by rising address from one on, below a limit
+abbrev pub AreFrom : ℕ → ℕ → List (ℕ × ℕ) → Type 0
+AreFrom low limit [] = Unit {0}
+AreFrom low limit (p ∷ image) = (low ≤ p.0) × (p.0 < limit) × (p.1 < 256) × AreFrom (p.0 + 1) limit image
+
+-- the map has exactly the addresses of the image, from one on, so many
+abbrev pub IsMarked : List ℕ → ℕ → ℕ → List (ℕ × ℕ) → Type 0
+IsMarked marks at limit image = (x : ℕ) → at ≤ x → x < limit → mark image x ≡ mark_at marks x
+
+unequal : (a x : ℕ) → a < x → eqb a x ≡ false
+unequal a x lt = grind (arith, nat_tests)
+
+-- no address below the first
+no_mark : (image : List (ℕ × ℕ)) (low limit x : ℕ) → AreFrom low limit image → x < low → mark image x ≡ 0
+no_mark [] low limit x h lt = refl
+no_mark (p ∷ image) low limit x h lt =
+    let other : eqb p.0 x ≡ false = let l : x < p.0 = omega arith in grind (arith, nat_tests) in
+    rw other (no_mark image (p.0 + 1) limit x h.3 (omega arith))
+
+own_mark : (p : ℕ × ℕ) (image : List (ℕ × ℕ)) (x : ℕ) → p.0 ≡ x → mark (p ∷ image) x ≡ 1
+own_mark p image x is = let e : eqb p.0 x ≡ true = grind (arith, nat_tests) in rw e refl
+
+later_mark : (p : ℕ × ℕ) (image : List (ℕ × ℕ)) (x : ℕ) → p.0 < x → mark (p ∷ image) x ≡ mark image x
+later_mark p image x lt = rw (unequal p.0 x lt) refl
+
+from_lower : (image : List (ℕ × ℕ)) (low limit : ℕ) → AreFrom (low + 1) limit image → AreFrom low limit image
+from_lower [] low limit h = tt
+from_lower (p ∷ image) low limit h = (omega (arith, h.0), h.1, h.2, h.3)
+
+bit_cases : (marks : List ℕ) (at : ℕ) → (mark_at marks at ≡ 1) ⊎ (mark_at marks at ≡ 0)
+unfolding mark_at
+bit_cases marks at =
+    let n = get_or marks (at / 8) 0 / 2 ^ (at % 8) in
+    let lt : n % 2 < 2 = omega arith in
+    grind arith
+
+above : (at v : ℕ) → at ≤ v → (at < v) ⊎ (v ≡ at)
+above at v le = elim (cases_lt at v) [ inl lt ↦ inl lt | inr ge ↦ inr (omega arith) ]
+
+pairs_takes : (marks : List ℕ) (n at limit : ℕ) (bytes : List ℕ) (x : List (ℕ × ℕ) × List ℕ) → at + n ≡ limit → IsBytes bytes → pairs_at marks n at bytes ≡ Some x
+    → (bytes ≡ values x.0 ++ x.1) × (AreFrom at limit x.0 × IsMarked marks at limit x.0)
+unfolding pairs_at
+pairs_takes marks zero at limit bytes x k all e =
+    let same : ([], bytes) ≡ x = cc in
+    subst (λ (y : List (ℕ × ℕ) × List ℕ). (bytes ≡ values y.0 ++ y.1) × (AreFrom at limit y.0 × IsMarked marks at limit y.0)) same (refl, (tt, λ v le lt. absurd (omega arith)))
+pairs_takes marks (suc n) at limit bytes x k all e =
+    elim (bit_cases marks at) [
+      | inl h ↦
+          let e' = rw h at e in
+          let a = bind_some (byte_at bytes) (λ (b : ℕ × List ℕ). giving (λ rest. (at, b.0) ∷ rest) (pairs_at marks n (at + 1) b.1)) x e' in
+          let b = giving_some (λ rest. (at, a.0.0) ∷ rest) (pairs_at marks n (at + 1) a.0.1) x a.2 in
+          let one = byte_codec.takes bytes a.0 all a.1 in
+          let two = pairs_takes marks n (at + 1) limit a.0.1 b.0 (omega arith) (IsBytes-rest a.0.0 a.0.1 (subst IsBytes one.0 all)) b.1 in
+          let marked : IsMarked marks at limit ((at, a.0.0) ∷ b.0.0) = λ v le lt. elim (above at v le) [
+            | inl more ↦ later_mark (at, a.0.0) b.0.0 v more ∙ two.1.1 v (omega arith) lt
+            | inr is ↦ own_mark (at, a.0.0) b.0.0 v (sym is) ∙ sym h ∙ ap (mark_at marks) (sym is)
+          ] in
+          subst (λ (y : List (ℕ × ℕ) × List ℕ). (bytes ≡ values y.0 ++ y.1) × (AreFrom at limit y.0 × IsMarked marks at limit y.0)) b.2
+          (one.0 ∙ ap (λ (l : List ℕ). a.0.0 ∷ l) two.0, ((omega arith, omega arith, one.1, two.1.0), marked))
+      | inr h ↦
+          let e' = rw h at e in
+          let two = pairs_takes marks n (at + 1) limit bytes x (omega arith) all e' in
+          let marked : IsMarked marks at limit x.0 = λ v le lt. elim (above at v le) [
+            | inl more ↦ two.1.1 v (omega arith) lt
+            | inr is ↦ rw is (no_mark x.0 (at + 1) limit at two.1.0 (omega arith) ∙ sym h)
+          ] in
+          (two.0, (from_lower x.0 at limit two.1.0, marked))
+    ]
+
+zero_one : (n : ℕ) → n ≡ 0 → n ≡ 1 → ⊥
+zero_one n h k = omega arith
+
+pairs_again : (marks : List ℕ) (n at limit : ℕ) (image : List (ℕ × ℕ)) (rest : List ℕ) → at + n ≡ limit → AreFrom at limit image → IsMarked marks at limit image → pairs_at marks n at (values image ++ rest) ≡ Some (image, rest)
+unfolding pairs_at
+pairs_again marks zero at limit [] rest k h m = refl
+pairs_again marks zero at limit (p ∷ image) rest k h m = absurd (omega (arith, h.0, h.1))
+pairs_again marks (suc n) at limit [] rest k h m =
+    let none : mark_at marks at ≡ 0 = sym (m at (omega arith) (omega arith)) in
+    rw none (pairs_again marks n (at + 1) limit [] rest (omega arith) tt (λ v le lt. m v (omega arith) lt))
+pairs_again marks (suc n) at limit (p ∷ image) rest k h m =
+    elim (above at p.0 h.0) [
+      | inl more ↦
+          let same : mark (p ∷ image) at ≡ 0 = no_mark (p ∷ image) p.0 limit at (omega arith, h.1, h.2, h.3) more in
+          let none : mark_at marks at ≡ 0 = sym (m at (omega arith) (omega arith)) ∙ same in
+          rw none (pairs_again marks n (at + 1) limit (p ∷ image) rest (omega arith) (omega arith, h.1, h.2, h.3) (λ v le lt. m v (omega arith) lt))
+      | inr is ↦
+          let same : mark (p ∷ image) at ≡ 1 = own_mark p image at is in
+          let some : mark_at marks at ≡ 1 = sym (m at (omega arith) (omega arith)) ∙ same in
+          let tail : AreFrom (at + 1) limit image = rw is at h.3 in
+          let back = pairs_again marks n (at + 1) limit image rest (omega arith) tail (λ v le lt. sym (later_mark p image v (omega arith)) ∙ m v (omega arith) lt) in
+          rw (some, back) (rw (← is) refl)
+    ]
+
+pairs_codec : (marks : List ℕ) → IsCodec values (λ image. AreFrom 0 4096 image × IsMarked marks 0 4096 image) (pairs_at marks 4096 0)
+pairs_codec marks = record {
+  takes = λ bytes x all e. pairs_takes marks 4096 0 4096 bytes x refl all e;
+  again = λ image rest h. pairs_again marks 4096 0 4096 image rest refl h.0 h.1;
+}
+
+-- ---- bits of bytes
+
+byte_bits : (n : ℕ) → n < 256 → byte_of (bit_of n) ≡ n
+byte_bits n lt = omega arith
+
+bit_of_byte : (f : ℕ → ℕ) (k : ℕ) → ((i : ℕ) → f i < 2) → k < 8 → bit_of (byte_of f) k ≡ f k
+bit_of_byte f zero small lt = omega (arith, small 0, small 1, small 2, small 3, small 4, small 5, small 6, small 7)
+bit_of_byte f (suc zero) small lt = omega (arith, small 0, small 1, small 2, small 3, small 4, small 5, small 6, small 7)
+bit_of_byte f (suc (suc zero)) small lt = omega (arith, small 0, small 1, small 2, small 3, small 4, small 5, small 6, small 7)
+bit_of_byte f (suc (suc (suc zero))) small lt = omega (arith, small 0, small 1, small 2, small 3, small 4, small 5, small 6, small 7)
+bit_of_byte f (suc (suc (suc (suc zero)))) small lt = omega (arith, small 0, small 1, small 2, small 3, small 4, small 5, small 6, small 7)
+bit_of_byte f (suc (suc (suc (suc (suc zero))))) small lt = omega (arith, small 0, small 1, small 2, small 3, small 4, small 5, small 6, small 7)
+bit_of_byte f (suc (suc (suc (suc (suc (suc zero)))))) small lt = omega (arith, small 0, small 1, small 2, small 3, small 4, small 5, small 6, small 7)
+bit_of_byte f (suc (suc (suc (suc (suc (suc (suc zero))))))) small lt = omega (arith, small 0, small 1, small 2, small 3, small 4, small 5, small 6, small 7)
+bit_of_byte f (suc (suc (suc (suc (suc (suc (suc (suc k)))))))) small lt = absurd (omega arith)
+
+mark_small : (image : List (ℕ × ℕ)) (x : ℕ) → mark image x < 2
+mark_small image x = elim (list_any (λ p. eqb p.0 x) image) as (λ b. cond b 1 0 < 2) [ true ↦ omega arith | false ↦ omega arith ]
+
+-- ---- the map of an image
+
+same_bit : (marks : List ℕ) (image : List (ℕ × ℕ)) (i k : ℕ) → IsMarked marks 0 4096 image → i < 512 → k < 8 → mark image (8 * i + k) ≡ bit_of (get_or marks i 0) k
+unfolding mark_at
+same_bit marks image i k m lt small =
+    let here : mark image (8 * i + k) ≡ bit_of (get_or marks ((8 * i + k) / 8) 0) ((8 * i + k) % 8) = m (8 * i + k) (omega arith) (omega arith) in
+    let q : (8 * i + k) / 8 ≡ i = omega arith in
+    let r : (8 * i + k) % 8 ≡ k = omega arith in
+    here ∙ ap (λ j. bit_of (get_or marks j 0) ((8 * i + k) % 8)) q ∙ ap (bit_of (get_or marks i 0)) r
+
+same_map : (marks : List ℕ) (image : List (ℕ × ℕ)) → AreCells 512 256 marks → IsMarked marks 0 4096 image → map_text image ≡ marks
+unfolding map_text
+same_map marks image c m = sym (tabled_from 512 (λ i. byte_of (λ k. mark image (8 * i + k))) marks 0 c.len (λ i lt.
+    let b = λ (k : ℕ) (small : k < 8). same_bit marks image i k m lt small in
+    let n = get_or marks i 0 in
+    let fits : n < 256 = All-from_recursion (λ v. v < 256) marks c.small i 0 (omega (arith, c.len)) in
+    let bits : byte_of (λ k. mark image (8 * i + k)) ≡ byte_of (bit_of n) = rw (b 0 (omega arith), b 1 (omega arith), b 2 (omega arith), b 3 (omega arith), b 4 (omega arith), b 5 (omega arith), b 6 (omega arith), b 7 (omega arith)) refl in
+    sym (bits ∙ byte_bits n fits)))
+
+map_marks : (image : List (ℕ × ℕ)) → IsMarked (map_text image) 0 4096 image
+unfolding map_text mark_at
+map_marks image x le lt =
+    let f = λ (i : ℕ). byte_of (λ k. mark image (8 * i + k)) in
+    let byte : get_or (tabled 512 f) (x / 8) 0 ≡ f (x / 8) = get_or-tabled 512 f (x / 8) 0 (omega arith) in
+    let bit : bit_of (f (x / 8)) (x % 8) ≡ mark image (8 * (x / 8) + x % 8) = bit_of_byte (λ k. mark image (8 * (x / 8) + k)) (x % 8) (λ i. mark_small image (8 * (x / 8) + i)) (omega arith) in
+    let whole : 8 * (x / 8) + x % 8 ≡ x = omega arith in
+    sym (ap (λ b. bit_of b (x % 8)) byte ∙ bit ∙ ap (mark image) whole)
+
+map_cells : (image : List (ℕ × ℕ)) → AreCells 512 256 (map_text image)
+unfolding map_text
+map_cells image =
+    let f = λ (i : ℕ). byte_of (λ k. mark image (8 * i + k)) in
+    record {
+      len = length-tabled 512 f;
+      small = recursion_from_All (λ v. v < 256) (tabled 512 f) (λ i d lt.
+          let s = λ (k : ℕ). mark_small image (8 * i + k) in
+          let in_list : i < 512 = omega (arith, length-tabled 512 f) in
+          let byte : f i < 256 = omega (arith, s 0, s 1, s 2, s 3, s 4, s 5, s 6, s 7) in
+          rw (get_or-tabled 512 f i d in_list) byte);
+    }
+
+rising_codec : IsCodec image_text (AreFrom 0 4096) image_at
+unfolding image_at
+rising_codec = giving_codec (λ (p : List ℕ × List (ℕ × ℕ)). p.1) (λ image. (map_text image, image)) image_text (AreFrom 0 4096)
+    (depending_codec (bytes_codec 512) (λ marks _. pairs_codec marks))
+    (λ p h. (ap (λ (l : List ℕ). l ++ values p.1) (same_map p.0 p.1 h.0 h.1.1), h.1.0))
+    (λ image h. (refl, (map_cells image, (h, map_marks image))))
+
+-- ---- by element, and by pairs of elements
+
+from_image : (image : List (ℕ × ℕ)) (low : ℕ) → IsImage image → All (λ p. low ≤ p.0) image → AreFrom low 4096 image
+from_image [] low h above = tt
+from_image (p ∷ image) low h above =
+    let here = h.in_range 0 p (omega arith) in
+    let rest : IsImage image = record { rising = λ i j d lt in_list. h.rising (suc i) (suc j) d (omega arith) (omega arith); in_range = λ i d lt. h.in_range (suc i) d (omega arith) } in
+    let later : All (λ q. p.0 + 1 ≤ q.0) image = λ i d lt. let x : p.0 < (get_or image i d).0 = h.rising 0 (suc i) d (omega arith) (omega arith) in omega arith in
+    (above 0 p (omega arith), here.0, here.1, from_image image (p.0 + 1) rest later)
+
+all_cons : (P : ℕ × ℕ → Type 0) (p : ℕ × ℕ) (image : List (ℕ × ℕ)) → P p → All P image → All P (p ∷ image)
+all_cons P p image h rest zero d lt = h
+all_cons P p image h rest (suc i) d lt = rest i d (omega arith)
+
+image_from : (image : List (ℕ × ℕ)) (low : ℕ) → AreFrom low 4096 image → IsImage image × All (λ p. low ≤ p.0) image
+image_from [] low h = (record { rising = λ i j d lt in_list. absurd (omega arith); in_range = λ i d lt. absurd (omega arith) }, λ i d lt. absurd (omega arith))
+image_from (p ∷ image) low h =
+    let rest = image_from image (p.0 + 1) h.3 in
+    let later : All (λ q. p.0 < q.0) image = λ i d lt. let x = rest.1 i d lt in omega arith in
+    let above : All (λ q. low ≤ q.0) image = λ i d lt. let x = rest.1 i d lt in omega (arith, h.0) in (
+      record { rising = AllPairs-cons (λ x y. x.0 < y.0) p image later rest.0.rising; in_range = all_cons (λ q. (q.0 < 4096) × (q.1 < 256)) p image (h.1, h.2) rest.0.in_range },
+      all_cons (λ q. low ≤ q.0) p image h.0 above,
+    )
+
+pub image_codec : IsCodec image_text IsImage image_at
+image_codec = refit_codec IsImage (λ image h. (image_from image 0 h).0) (λ image h. from_image image 0 h (λ i d lt. omega arith)) rising_codec
+
+-- ---- how many bytes
+
+-- each address leaves one place less
+few_pairs : (image : List (ℕ × ℕ)) (low limit : ℕ) → low ≤ limit → AreFrom low limit image → length image + low ≤ limit
+few_pairs [] low limit le h = omega arith
+few_pairs (p ∷ image) low limit le h =
+    let rest = few_pairs image (p.0 + 1) limit (omega (arith, h.1)) h.3 in
+    omega (arith, h.0, rest)
+
+pub length-image : (image : List (ℕ × ℕ)) → IsImage image → length (image_text image) ≤ 4608
+length-image image h =
+    let few = few_pairs image 0 4096 (omega arith) (from_image image 0 h (λ i d lt. omega arith)) in
+    omega (arith, few, (map_cells image).len, length-append (map_text image) (values image), length-map image (λ p. p.1))
+
+-- ---- one pair more
+
+mark_both : (a b : Bool) → cond {A = ℕ} (a || (b || false)) 1 0 ≡ cond {A = ℕ} b 1 (cond {A = ℕ} a 1 0)
+mark_both true true = refl
+mark_both true false = refl
+mark_both false true = refl
+mark_both false false = refl
+
+-- the marks of one pair more: its own address has one
+pub mark_more : (image : List (ℕ × ℕ)) (p : ℕ × ℕ) (at : ℕ) → mark (image ++ p ∷ []) at ≡ cond (eqb p.0 at) 1 (mark image at)
+mark_more image p at = rw (list_any-append (λ q. eqb q.0 at) image (p ∷ [])) (mark_both (list_any (λ q. eqb q.0 at) image) (eqb p.0 at))
+
+pub marks_go_on : (pairs : List (ℕ × ℕ)) (marks : List ℕ) (i : ℕ) (p : ℕ × ℕ) (a : ℕ) → i < length pairs → p ≡ get_or pairs i p → a ≡ p.0 → a < length marks → ((at : ℕ) → at < 4096 → get_or marks at 0 ≡ mark (take i pairs) at)
+    → (at : ℕ) → at < 4096 → get_or (slice_set marks a 1) at 0 ≡ mark (take (i + 1) pairs) at
+marks_go_on pairs marks i p a lt is same inside so_far at fits =
+    let more : take (i + 1) pairs ≡ take i pairs ++ p ∷ [] = take_more pairs i p lt ∙ ap (λ (q : ℕ × ℕ). take i pairs ++ q ∷ []) (sym is) in
+    let one : mark (take (i + 1) pairs) at ≡ cond (eqb p.0 at) 1 (mark (take i pairs) at) = ap (λ l. mark l at) more ∙ mark_more (take i pairs) p at in
+    elim (cases_eq at a) [
+      | inl e ↦ let own : eqb p.0 at ≡ true = let k : p.0 ≡ at = omega arith in grind (arith, nat_tests) in get_or-set_at marks a at 1 0 e inside ∙ sym (one ∙ rw own refl)
+      | inr ne ↦ let other : eqb p.0 at ≡ false = let k : p.0 ≢ at = λ h. ne (sym (same ∙ h)) in grind (arith, nat_tests) in get_or-set_other marks a at 1 0 ne ∙ so_far at fits ∙ sym (one ∙ rw other refl)
+    ]
+
+-- ---- the map, byte by byte
+
+pub same_byte : (f g : ℕ → ℕ) → ((k : ℕ) → k < 8 → f k ≡ g k) → byte_of f ≡ byte_of g
+same_byte f g h = rw (h 0 (omega arith), h 1 (omega arith), h 2 (omega arith), h 3 (omega arith), h 4 (omega arith), h 5 (omega arith), h 6 (omega arith), h 7 (omega arith)) refl
+
+pub map_goes_on : (pairs : List (ℕ × ℕ)) (marks map : List ℕ) (i byte : ℕ) → i < 512 → length map ≡ 512 → ((at : ℕ) → at < 4096 → get_or marks at 0 ≡ mark pairs at) → byte ≡ byte_of (λ k. get_or marks (8 * i + k) 0)
+    → ((j : ℕ) → j < i → get_or map j 0 ≡ byte_of (λ k. mark pairs (8 * j + k))) → (j : ℕ) → j < i + 1 → get_or (slice_set map i byte) j 0 ≡ byte_of (λ k. mark pairs (8 * j + k))
+map_goes_on pairs marks map i byte lt len marked is so_far j below =
+    elim (cases_eq j i) [
+      | inl e ↦
+          let here : byte ≡ byte_of (λ k. mark pairs (8 * i + k)) = is ∙ same_byte (λ k. get_or marks (8 * i + k) 0) (λ k. mark pairs (8 * i + k)) (λ k small. marked (8 * i + k) (omega arith)) in
+          get_or-set_at map i j byte 0 e (omega arith) ∙ here ∙ ap (λ n. byte_of (λ k. mark pairs (8 * n + k))) (sym e)
+      | inr ne ↦ get_or-set_other map i j byte 0 ne ∙ so_far j (omega arith)
+    ]
+
+pub map_done : (pairs : List (ℕ × ℕ)) (map : List ℕ) (i : ℕ) → 512 ≤ i → length map ≡ 512 → ((j : ℕ) → j < i → get_or map j 0 ≡ byte_of (λ k. mark pairs (8 * j + k))) → map ≡ map_text pairs
+unfolding map_text
+map_done pairs map i le len so_far = tabled_from 512 (λ j. byte_of (λ k. mark pairs (8 * j + k))) map 0 len (λ j lt. so_far j (omega arith))

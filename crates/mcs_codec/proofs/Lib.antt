@@ -1,0 +1,11 @@
+pub mod Loops
+pub mod Codecs
+pub mod BoardLengths
+pub mod BoardCodec
+pub mod ImageCodec
+pub mod ImageLoops
+pub mod CommandCodec
+pub mod StateCodec
+pub mod StateLoops
+pub mod StateParts
+pub mod Sizes

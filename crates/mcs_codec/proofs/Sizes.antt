@@ -1,0 +1,170 @@
+-- How many bytes a command and a state take at most.
+use Rattle.std.proofs.Common.{◌≡◌, ℕ, ◌+◌, ◌*◌, ◌≤◌, List, [], ◌∷◌, ◌++◌, length, Option, Some, None, refl, ◌∙◌, arith}
+use Rattle.std.specs.List.{flat_map, AllByRecursion}
+use Rattle.std.proofs.Math.Nat.{suc-mul}
+use Rattle.std.proofs.lemmas.List.{length-append, length-map}
+use Rattle.mcs_model.specs.declared.board.BoardParts.{BoardParts}
+use Rattle.mcs_model.specs.declared.board.ChainPart.{ChainPart}
+use Rattle.mcs_model.specs.declared.board.KeyMatrix.{KeyMatrix}
+use Rattle.mcs_model.specs.declared.board.Line.{Line}
+use Rattle.mcs_model.specs.declared.board.Line.TheVariants.{Rom as RomLine, Ram as RamLine, Chain as ChainLine}
+use Rattle.mcs_nibble.specs.declared.lines.LineMask.{LineMask}
+use Rattle.mcs_model.specs.declared.command.Command.{Command}
+use Rattle.mcs_model.specs.declared.command.Command.TheVariants.{Wire, Load, Press, Release, Run, Step, Poke, Test, Reset, Break, Unbreak}
+use Rattle.mcs_model.specs.declared.command.Place.{Place}
+use Rattle.mcs_model.specs.declared.command.Place.TheVariants.{Acc, Cy, Pc, Register, Dcl, Rom, Ram, Status}
+use Rattle.mcs_model.specs.Boards.{fault_of}
+use Rattle.mcs_model.specs.Bus.{BusState}
+use Rattle.mcs_model.specs.Flat.{Flat}
+use Rattle.mcs_model.specs.Validity.{IsValid}
+use Rattle.mcs_codec.specs.BoardText.{mask_byte, rom_text, line_text, chain_text, counted, keys_text, board_text}
+use Rattle.mcs_codec.specs.CommandText.{address, place_text, command_text, IsCommand}
+use Rattle.mcs_codec.specs.StateText.{memory_text, registers_text, sources_text, wiring_text, groups_text, state_text}
+use Rattle.mcs_codec.proofs.BoardLengths.{IsMask, IsKeys, HasLengths, lengths_of, chips_of, keys_of}
+use Rattle.mcs_codec.proofs.ImageCodec.{length-image}
+use Rattle.mcs_codec.proofs.StateCodec.{AreRows, HasMemory, HasRegisters, HasWiring, shape_of}
+
+pub each_is : {A : Type 0} (s : A → List ℕ) (f : A → Type 0) (k : ℕ) → ((a : A) → f a → length (s a) ≡ k) → (l : List A) → AllByRecursion f l → length (flat_map s l) ≡ length l * k
+each_is s f k one [] h = omega arith
+each_is s f k one (a ∷ l) h =
+    let rest : length (flat_map s l) ≡ length l * k = each_is s f k one l h.1 in
+    let here : length (s a) ≡ k = one a h.0 in
+    omega (arith, length-append (s a) (flat_map s l), suc-mul (length l) k)
+
+units : {A : Type 0} (l : List A) → AllByRecursion (λ _. Unit {0}) l
+units [] = tt
+units (a ∷ l) = (tt, units l)
+
+pub length-line : (l : Line) → length (line_text l) ≡ 4
+length-line (RomLine a b) = refl
+length-line (RamLine a b c) = refl
+length-line (ChainLine a b) = refl
+
+length-rom : (r : Option (List LineMask)) → IsMask r → length (rom_text r) ≡ 4
+length-rom None h = refl
+length-rom (Some mask) h = length-map mask mask_byte ∙ h
+
+length-chain : (c : ChainPart) → length (chain_text c) ≡ 9
+length-chain c =
+    let a = length-line c.clock in
+    let b = length-line c.data_in in
+    omega (arith, length-append (line_text c.clock) (line_text c.data_in ++ c.chips ∷ []), length-append (line_text c.data_in) (c.chips ∷ []))
+
+length-lines : (l : List Line) → length (counted line_text l) ≡ 1 + length l * 4
+length-lines l = let e = each_is line_text (λ _. Unit {0}) 4 (λ a h. length-line a) l (units l) in omega (arith, e)
+
+length-keys : (k : Option KeyMatrix) → IsKeys k → length (keys_text k) ≤ 37
+length-keys None h = omega arith
+length-keys (Some m) h = let e : length (counted line_text m.columns.items) ≡ 1 + length m.columns.items * 4 = length-lines m.columns.items in omega (arith, h, e)
+
+pub length-board : (b : BoardParts) → HasLengths b → length (board_text b) ≤ 385
+length-board b h =
+    let roms : length (flat_map rom_text b.roms) ≡ length b.roms * 4 = each_is rom_text IsMask 4 length-rom b.roms h.masks in
+    let chains : length (flat_map chain_text b.chains.items) ≡ length b.chains.items * 9 = each_is chain_text (λ _. Unit {0}) 9 (λ c u. length-chain c) b.chains.items (units b.chains.items) in
+    let keys = length-keys b.keys h.keys in
+    let lamps : length (counted line_text b.lamps.items) ≡ 1 + length b.lamps.items * 4 = length-lines b.lamps.items in
+    let last = counted line_text b.lamps.items in
+    let four = keys_text b.keys ++ last in
+    let three = counted chain_text b.chains.items ++ four in
+    let two = b.banks ++ three in
+    omega (arith, h.roms, h.banks.0, h.chains, h.lamps, length-append (flat_map rom_text b.roms) two, length-append b.banks three, length-append (counted chain_text b.chains.items) four, length-append (keys_text b.keys) last)
+
+-- ---- a state
+
+length-rows : (chains : List ChainPart) (rows : List (List ℕ)) → AreRows chains rows → AllByRecursion (λ c. c.chips ≤ 4) chains → length (flat_map (λ row. row) rows) ≤ length chains * 40
+length-rows [] [] h few = omega arith
+length-rows [] (row ∷ rows) h few = absurd h
+length-rows (c ∷ chains) [] h few = absurd h
+length-rows (c ∷ chains) (row ∷ rows) h few =
+    let rest : length (flat_map (λ row. row) rows) ≤ length chains * 40 = length-rows chains rows h.1 few.1 in
+    omega (arith, h.0.len, few.0, length-append row (flat_map (λ row. row) rows))
+
+length-memory : (b : BusState) → HasMemory b → length (memory_text b) ≡ 6704
+length-memory b h =
+    let four = b.ram_ports ++ b.rom_ports in
+    let three = b.status ++ four in
+    let two = b.ram ++ three in
+    omega (
+      arith,
+      h.rom.len,
+      h.ram.len,
+      h.status.len,
+      h.ram_ports.len,
+      h.rom_ports.len,
+      length-append b.rom two,
+      length-append b.ram three,
+      length-append b.status four,
+      length-append b.ram_ports b.rom_ports,
+    )
+
+addresses : (l : List ℕ) → length (flat_map address l) ≡ length l * 2
+addresses l = each_is address (λ _. Unit {0}) 2 (λ a h. refl) l (units l)
+
+length-registers : (s : Flat) → HasRegisters s → length (registers_text s.processor) ≡ 26
+length-registers s h =
+    let p = s.processor in
+    omega (arith, h.r.len, h.ret.0, addresses p.ret, length-append p.r (address p.pc ++ flat_map address p.ret), length-append (address p.pc) (flat_map address p.ret))
+
+length-sources : (s : Flat) → HasRegisters s → length (sources_text s.processor.dcl s.bus.rom_src s.bus.ram_src s.processor.owed) ≡ 11
+length-sources s h = omega (arith, h.ram_src.len, length-append s.bus.ram_src (s.processor.owed ∷ []))
+
+length-wiring : (s : Flat) → HasLengths s.bus.board → fault_of s.bus.board ≡ None → HasWiring s → length (wiring_text s.bus.chains s.bus.keys s.bus.test s.breakpoints) ≤ 226
+length-wiring s b sound h =
+    let rows = length-rows s.bus.board.chains.items s.bus.chains h.chains (chips_of s.bus.board sound) in
+    let keys = keys_of s.bus.board b.keys sound in
+    let last = s.bus.test ∷ counted address s.breakpoints in
+    omega (arith, rows, keys, b.chains, h.keys.len, h.breakpoints.0, addresses s.breakpoints, length-append (flat_map (λ row. row) s.bus.chains) (s.bus.keys ++ last), length-append s.bus.keys last)
+
+pub length-state : (s : Flat) → IsValid s → length (state_text s) ≤ 7356
+length-state s valid =
+    let h = shape_of s valid in
+    let lengths = lengths_of s.bus.board h.board in
+    let m = length-memory s.bus h.memory in
+    let r = length-registers s h.registers in
+    let x = length-sources s h.registers in
+    let w = length-wiring s lengths h.board.valid h.wiring in
+    let b = length-board s.bus.board lengths in
+    let wiring = wiring_text s.bus.chains s.bus.keys s.bus.test s.breakpoints in
+    let sources = sources_text s.processor.dcl s.bus.rom_src s.bus.ram_src s.processor.owed in
+    let three = sources ++ wiring in
+    let two = registers_text s.processor ++ three in
+    omega (arith, m, r, x, w, b, length-append (memory_text s.bus) two, length-append (registers_text s.processor) three, length-append sources wiring, length-append (board_text s.bus.board) (groups_text s))
+
+-- ---- a command
+
+length-place : (p : Place) → length (place_text p) ≤ 5
+length-place (Acc n) = omega arith
+length-place (Cy b) = omega arith
+length-place (Pc at) = omega arith
+length-place (Register r n) = omega arith
+length-place (Dcl bank) = omega arith
+length-place (Rom at byte) = omega arith
+length-place (Ram bank src n) = omega arith
+length-place (Status bank high k n) = omega arith
+
+pub length-command : (c : Command) → IsCommand c → length (command_text c) ≤ 4609
+length-command (Wire board) h = omega (arith, length-board board (lengths_of board h))
+length-command (Load image) h = omega (arith, length-image image h)
+length-command (Press row column) h = omega arith
+length-command (Release row column) h = omega arith
+length-command (Run cycles) h = omega arith
+length-command Step h = omega arith
+length-command (Poke place) h = omega (arith, length-place place)
+length-command (Test bit) h = omega arith
+length-command Reset h = omega arith
+length-command (Break at) h = omega arith
+length-command (Unbreak at) h = omega arith
+
+-- each command takes a tag
+pub some-command : (c : Command) → 1 ≤ length (command_text c)
+some-command (Wire board) = omega arith
+some-command (Load image) = omega arith
+some-command (Press row column) = omega arith
+some-command (Release row column) = omega arith
+some-command (Run cycles) = omega arith
+some-command Step = omega arith
+some-command (Poke place) = omega arith
+some-command (Test bit) = omega arith
+some-command Reset = omega arith
+some-command (Break at) = omega arith
+some-command (Unbreak at) = omega arith

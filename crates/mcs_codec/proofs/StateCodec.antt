@@ -1,0 +1,249 @@
+-- The law of a state, group by group: its fields in their widths, whether or not they make a valid state.
+use Rattle.std.proofs.Common.{◌≡◌, ℕ, suc, ◌*◌, ◌<◌, ◌≤◌, ◌^◌, List, [], ◌∷◌, ◌++◌, length, get_or, Some, None, refl, sym, ap, subst, ◌∙◌, append_assoc, arith}
+use Rattle.std.specs.List.{flat_map, All, AllByRecursion}
+use Rattle.std.proofs.lemmas.List.Elements.{recursion_from_All}
+use Rattle.mcs_model.specs.declared.board.BoardParts.{BoardParts}
+use Rattle.mcs_model.specs.declared.board.ChainPart.{ChainPart}
+use Rattle.mcs_model.specs.Boards.{key_count}
+use Rattle.mcs_model.specs.Flat.{Flat}
+use Rattle.mcs_model.specs.Boards.{no_chain}
+use Rattle.mcs_model.specs.Bus.{BusState}
+use Rattle.mcs_model.specs.Validity.{AreBelow, IsValid, IsValidBoard}
+use Rattle.mcs_codec.specs.Reading.{giving, bytes_at, whole}
+use Rattle.mcs_codec.specs.BoardText.{counted}
+use Rattle.mcs_codec.specs.CommandText.{address}
+use Rattle.mcs_codec.specs.StateText.{state_text}
+use Rattle.mcs_codec.specs.StateReading.{memory_at, registers_at, sources_at, rows_at, breakpoints_at, wiring_at, state_at}
+use Rattle.mcs_codec.specs.Codec.{SpellsState}
+use Rattle.mcs_codec.proofs.Codecs.{AreCells, IsCodec, IsBytes, IsBytes-behind, bind_some, giving_some, byte_codec, bytes_codec, word_codec, long_codec, both_codec, depending_codec, many_codec, counted_codec, giving_codec, whole_takes, whole_again}
+use Rattle.mcs_codec.proofs.BoardCodec.{board_codec}
+
+-- ---- widths and lengths
+
+abbrev pub AreWords : List ℕ → Type 0
+AreWords l = AllByRecursion (λ n. n < 2 ^ 16) l
+
+-- a row of bytes for each chain, ten for each of its chips
+abbrev pub AreRows : List ChainPart → List (List ℕ) → Type 0
+AreRows [] [] = Unit {0}
+AreRows (c ∷ chains) (row ∷ rows) = AreCells (10 * c.chips) 256 row × AreRows chains rows
+AreRows _ _ = ⊥
+
+pub record HasMemory (b : BusState) : Type 0 where
+  pub rom : AreCells 4096 256 b.rom
+  pub ram : AreCells 2048 256 b.ram
+  pub status : AreCells 512 256 b.status
+  pub ram_ports : AreCells 32 256 b.ram_ports
+  pub rom_ports : AreCells 16 256 b.rom_ports
+
+pub record HasRegisters (s : Flat) : Type 0 where
+  pub acc : s.processor.acc < 256
+  pub cy : s.processor.cy < 256
+  pub r : AreCells 16 256 s.processor.r
+  pub pc : s.processor.pc < 2 ^ 16
+  pub ret : (length s.processor.ret ≡ 3) × AreWords s.processor.ret
+  pub dcl : s.processor.dcl < 256
+  pub rom_src : s.bus.rom_src < 256
+  pub ram_src : AreCells 8 256 s.bus.ram_src
+  pub owed : s.processor.owed < 256
+
+pub record HasWiring (s : Flat) : Type 0 where
+  pub chains : AreRows s.bus.board.chains.items s.bus.chains
+  pub keys : AreCells (key_count s.bus.board) 256 s.bus.keys
+  pub test : s.bus.test < 256
+  pub breakpoints : (length s.breakpoints ≤ 32) × AreWords s.breakpoints
+
+pub record HasShape (s : Flat) : Type 0 where
+  pub seq : s.seq < 2 ^ 32
+  pub board : IsValidBoard s.bus.board
+  pub memory : HasMemory s.bus
+  pub registers : HasRegisters s
+  pub wiring : HasWiring s
+
+-- ---- groups
+
+abbrev Memory : Type 0
+Memory = List ℕ × (List ℕ × (List ℕ × (List ℕ × List ℕ)))
+
+memory_codec : IsCodec (λ (m : Memory). m.0 ++ (m.1.0 ++ (m.1.1.0 ++ (m.1.1.1.0 ++ m.1.1.1.1)))) (λ m. AreCells 4096 256 m.0 × (AreCells 2048 256 m.1.0 × (AreCells 512 256 m.1.1.0 × (AreCells 32 256 m.1.1.1.0 × AreCells 16 256 m.1.1.1.1)))) memory_at
+unfolding memory_at
+memory_codec = both_codec (bytes_codec 4096) (both_codec (bytes_codec 2048) (both_codec (bytes_codec 512) (both_codec (bytes_codec 32) (bytes_codec 16))))
+
+abbrev Registers : Type 0
+Registers = ℕ × (ℕ × (List ℕ × (ℕ × List ℕ)))
+
+registers_codec : IsCodec (λ (r : Registers). r.0 ∷ r.1.0 ∷ (r.1.1.0 ++ (address r.1.1.1.0 ++ flat_map address r.1.1.1.1))) (λ r. (r.0 < 256) × ((r.1.0 < 256) × (AreCells 16 256 r.1.1.0 × ((r.1.1.1.0 < 2 ^ 16) × ((length r.1.1.1.1 ≡ 3) × AreWords r.1.1.1.1))))) registers_at
+unfolding registers_at
+registers_codec = both_codec byte_codec (both_codec byte_codec (both_codec (bytes_codec 16) (both_codec word_codec (many_codec 3 word_codec))))
+
+abbrev Sources : Type 0
+Sources = ℕ × (ℕ × (List ℕ × ℕ))
+
+sources_codec : IsCodec (λ (x : Sources). x.0 ∷ x.1.0 ∷ (x.1.1.0 ++ x.1.1.1 ∷ [])) (λ x. (x.0 < 256) × ((x.1.0 < 256) × (AreCells 8 256 x.1.1.0 × (x.1.1.1 < 256)))) sources_at
+unfolding sources_at
+sources_codec = both_codec byte_codec (both_codec byte_codec (both_codec (bytes_codec 8) byte_codec))
+
+-- ---- the rows of the chains
+
+rows_takes : (chains : List ChainPart) (bytes : List ℕ) (x : List (List ℕ) × List ℕ) → IsBytes bytes → rows_at chains bytes ≡ Some x → (bytes ≡ flat_map (λ row. row) x.0 ++ x.1) × AreRows chains x.0
+unfolding rows_at
+rows_takes [] bytes x all e =
+    let same : ([], bytes) ≡ x = cc in
+    subst (λ (y : List (List ℕ) × List ℕ). (bytes ≡ flat_map (λ row. row) y.0 ++ y.1) × AreRows [] y.0) same (refl, tt)
+rows_takes (c ∷ chains) bytes x all e =
+    let a = bind_some (bytes_at (10 * c.chips) bytes) (λ (a : List ℕ × List ℕ). giving (λ rows. a.0 ∷ rows) (rows_at chains a.1)) x e in
+    let b = giving_some (λ rows. a.0.0 ∷ rows) (rows_at chains a.0.1) x a.2 in
+    let one = (bytes_codec (10 * c.chips)).takes bytes a.0 all a.1 in
+    let two = rows_takes chains a.0.1 b.0 (IsBytes-behind a.0.0 a.0.1 (subst IsBytes one.0 all)) b.1 in
+    let parts : bytes ≡ (a.0.0 ++ flat_map (λ row. row) b.0.0) ++ b.0.1 = one.0 ∙ ap (λ (l : List ℕ). a.0.0 ++ l) two.0 ∙ sym (append_assoc a.0.0 (flat_map (λ row. row) b.0.0) b.0.1) in
+    subst (λ (y : List (List ℕ) × List ℕ). (bytes ≡ flat_map (λ row. row) y.0 ++ y.1) × AreRows (c ∷ chains) y.0) b.2 (parts, (one.1, two.1))
+
+rows_again : (chains : List ChainPart) (rows : List (List ℕ)) (rest : List ℕ) → AreRows chains rows → rows_at chains (flat_map (λ row. row) rows ++ rest) ≡ Some (rows, rest)
+unfolding rows_at
+rows_again [] [] rest h = refl
+rows_again [] (row ∷ rows) rest h = absurd h
+rows_again (c ∷ chains) [] rest h = absurd h
+rows_again (c ∷ chains) (row ∷ rows) rest h =
+    ap (rows_at (c ∷ chains)) (append_assoc row (flat_map (λ row. row) rows) rest) ∙ rw ((bytes_codec (10 * c.chips)).again row (flat_map (λ row. row) rows ++ rest) h.0) (rw (rows_again chains rows rest h.1) refl)
+
+rows_codec : (chains : List ChainPart) → IsCodec (flat_map (λ row. row)) (AreRows chains) (rows_at chains)
+rows_codec chains = record { takes = rows_takes chains; again = rows_again chains }
+
+-- ---- the rest
+
+breakpoints_codec : IsCodec (counted address) (λ l. (length l ≤ 32) × AreWords l) breakpoints_at
+unfolding breakpoints_at
+breakpoints_codec = counted_codec 32 (omega arith) word_codec
+
+abbrev Wiring : Type 0
+Wiring = List (List ℕ) × (List ℕ × (ℕ × List ℕ))
+
+wiring_codec : (board : BoardParts) → IsCodec (λ (w : Wiring). flat_map (λ row. row) w.0 ++ (w.1.0 ++ (w.1.1.0 ∷ counted address w.1.1.1))) (λ w. AreRows board.chains.items w.0 × (AreCells (key_count board) 256 w.1.0 × ((w.1.1.0 < 256) × ((length w.1.1.1 ≤ 32) × AreWords w.1.1.1)))) (wiring_at board)
+unfolding wiring_at
+wiring_codec board = both_codec (rows_codec board.chains.items) (both_codec (bytes_codec (key_count board)) (both_codec byte_codec breakpoints_codec))
+
+abbrev Parts : Type 0
+Parts = ℕ × (BoardParts × (Memory × (Registers × (Sources × Wiring))))
+
+abbrev parts_of : Flat → Parts
+parts_of s = (
+  s.seq,
+  (
+    s.bus.board,
+    (
+      (s.bus.rom, (s.bus.ram, (s.bus.status, (s.bus.ram_ports, s.bus.rom_ports)))),
+      (
+        (s.processor.acc, (s.processor.cy, (s.processor.r, (s.processor.pc, s.processor.ret)))),
+        (
+          (s.processor.dcl, (s.bus.rom_src, (s.bus.ram_src, s.processor.owed))),
+          (s.bus.chains, (s.bus.keys, (s.bus.test, s.breakpoints))),
+        ),
+      ),
+    ),
+  ),
+)
+
+pub state_codec : IsCodec state_text HasShape state_at
+unfolding state_at
+state_codec = giving_codec _ parts_of state_text HasShape
+    (both_codec long_codec (depending_codec board_codec (λ board _. both_codec memory_codec (both_codec registers_codec (both_codec sources_codec (wiring_codec board))))))
+    (λ p h. (
+      refl,
+      let m = h.1.1.0 in let r = h.1.1.1.0 in let x = h.1.1.1.1.0 in let w = h.1.1.1.1.1 in record {
+        seq = h.0;
+        board = h.1.0;
+        memory = record { rom = m.0; ram = m.1.0; status = m.1.1.0; ram_ports = m.1.1.1.0; rom_ports = m.1.1.1.1 };
+        registers = record { acc = r.0; cy = r.1.0; r = r.1.1.0; pc = r.1.1.1.0; ret = r.1.1.1.1; dcl = x.0; rom_src = x.1.0; ram_src = x.1.1.0; owed = x.1.1.1 };
+        wiring = record { chains = w.0; keys = w.1.0; test = w.1.1.0; breakpoints = w.1.1.1 };
+      },
+    ))
+    (λ s h. let m = h.memory in let c = h.registers in let w = h.wiring in (
+      refl,
+      (
+        h.seq,
+        (
+          h.board,
+          (
+            (m.rom, (m.ram, (m.status, (m.ram_ports, m.rom_ports)))),
+            (
+              (c.acc, (c.cy, (c.r, (c.pc, c.ret)))),
+              (
+                (c.dcl, (c.rom_src, (c.ram_src, c.owed))),
+                (w.chains, (w.keys, (w.test, w.breakpoints))),
+              ),
+            ),
+          ),
+        ),
+      ),
+    ))
+
+-- ---- a valid state has these widths
+
+cells_of : (count limit : ℕ) (items : List ℕ) → limit ≤ 256 → AreBelow count limit items → AreCells count 256 items
+cells_of count limit items le h = record { len = h.count_is; small = recursion_from_All (λ n. n < 256) items (λ i d lt. let x = h.below i d lt in omega arith) }
+
+words_of : (items : List ℕ) → All (λ n. n < 4096) items → AreWords items
+words_of items h = recursion_from_All (λ n. n < 2 ^ 16) items (λ i d lt. let x = h i d lt in omega arith)
+
+rows_of : (chains : List ChainPart) (rows : List (List ℕ)) → length rows ≡ length chains → ((i : ℕ) → i < length chains → AreBelow (10 * (get_or chains i no_chain).chips) 2 (get_or rows i [])) → AreRows chains rows
+rows_of [] [] l h = tt
+rows_of [] (row ∷ rows) l h = absurd cc
+rows_of (c ∷ chains) [] l h = absurd cc
+rows_of (c ∷ chains) (row ∷ rows) l h = (cells_of (10 * c.chips) 2 row (omega arith) (h 0 (omega arith)), rows_of chains rows (omega arith) (λ i lt. h (suc i) (omega arith)))
+
+pub shape_of : (s : Flat) → IsValid s → HasShape s
+shape_of s h =
+    let r = h.bus.in_range in
+    let p = h.processor in
+    record {
+      seq = omega (arith, h.seq);
+      board = h.bus.board;
+      memory = record {
+        rom = cells_of 4096 256 s.bus.rom (omega arith) r.rom;
+        ram = cells_of 2048 16 s.bus.ram (omega arith) r.ram;
+        status = cells_of 512 16 s.bus.status (omega arith) r.status;
+        ram_ports = cells_of 32 16 s.bus.ram_ports (omega arith) r.ram_ports;
+        rom_ports = cells_of 16 16 s.bus.rom_ports (omega arith) r.rom_ports;
+      };
+      registers = record {
+        acc = omega (arith, p.acc);
+        cy = omega (arith, p.cy);
+        r = cells_of 16 16 s.processor.r (omega arith) p.r;
+        pc = omega (arith, p.pc);
+        ret = (p.ret.count_is, words_of s.processor.ret p.ret.below);
+        dcl = omega (arith, p.dcl);
+        rom_src = r.rom_src;
+        ram_src = cells_of 8 256 s.bus.ram_src (omega arith) r.ram_src;
+        owed = omega (arith, p.owed);
+      };
+      wiring = record {
+        chains = rows_of s.bus.board.chains.items s.bus.chains r.chains r.chain_bits;
+        keys = cells_of (key_count s.bus.board) 2 s.bus.keys (omega arith) r.keys;
+        test = omega (arith, r.test);
+        breakpoints = (h.breakpoints.few, words_of s.breakpoints h.breakpoints.addresses);
+      };
+    }
+
+-- ---- what the public calls promise
+
+-- what all of the bytes are read as, where it is valid, is what they spell
+pub state_read : (bytes : List ℕ) (s : Flat) → IsBytes bytes → Some s ≡ whole state_at bytes → IsValid s → SpellsState bytes s
+state_read bytes s all e valid = record { is = (whole_takes state_codec bytes s all (sym e)).0; valid = valid }
+
+-- what the bytes spell is what they are read as
+pub state_again : (bytes : List ℕ) (s : Flat) → SpellsState bytes s → whole state_at bytes ≡ Some s
+state_again bytes s h = ap (whole state_at) h.is ∙ whole_again state_codec s (shape_of s h.valid)
+
+pub state_none : (bytes : List ℕ) → None ≡ whole state_at bytes → (s : Flat) → SpellsState bytes s → ⊥
+state_none bytes e s h = let back : Some s ≡ None = sym (state_again bytes s h) ∙ sym e in cc
+
+pub state_invalid : (bytes : List ℕ) (t : Flat) → Some t ≡ whole state_at bytes → (IsValid t → ⊥) → (s : Flat) → SpellsState bytes s → ⊥
+state_invalid bytes t e wrong s h =
+    let same : Some t ≡ Some s = e ∙ state_again bytes s h in
+    let is : s ≡ t = cc in
+    wrong (subst IsValid is h.valid)
+
+pub same_state : (bytes : List ℕ) (s t : Flat) → SpellsState bytes s → SpellsState bytes t → s ≡ t
+same_state bytes s t h k =
+    let one : Some s ≡ Some t = sym (state_again bytes s h) ∙ state_again bytes t k in
+    cc

@@ -1,0 +1,7 @@
+use Rattle.std.proofs.Common.{◌≡◌, ℕ, ◌<◌, get_or, take}
+use Rattle.mcs_codec.specs.CommandText.{mark}
+use Rattle.mcs_codec.proofs.images.marks_of.Given as goal
+
+-- the marks are those of the pairs so far
+abbrev pub invariant-loop-pair : goal.invariant-loop-pair
+invariant-loop-pair l = (at : ℕ) → at < 4096 → get_or l.marks at 0 ≡ mark (take l.pair-index l.pairs) at

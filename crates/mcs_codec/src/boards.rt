@@ -1,0 +1,238 @@
+//! The bytes of a board.
+ghost use Rattle.std.specs.Prelude.{◌≡◌, ℕ, ◌+◌, ◌≤◌, ◌<◌, ◌∷◌, ◌++◌, List, [], length, map, take, option_map, Option, Some, None, if◌then◌else◌};
+ghost use Rattle.mcs_codec.specs.BoardText.{mask_byte, rom_text, line_text, chain_text, keys_text, board_text};
+ghost use Rattle.mcs_codec.specs.BoardReading.{mask_of, rom_at, line_at, chain_at, keys_at, matrix_at, parts_at, board_at};
+
+use crate::field::{Field, Spelled, counted, fill, put, put_all, put_counted};
+use crate::reader::Reader;
+use mcs_model::board::{Board, BoardParts, ChainPart, KeyMatrix, Line};
+use mcs_model::limits::{BANKS, ROMS};
+use mcs_nibble::LineMask;
+
+/// The byte of a port line of a ROM.
+fn mask_byte(mask: LineMask) -> u8
+    ensures { result ≡ mask_byte mask }
+{
+    match mask {
+        LineMask::Input => b'i',
+        LineMask::Zero => b'0',
+        LineMask::One => b'1',
+    }
+}
+
+/// The bytes of the port lines of a ROM.
+fn mask_text(mask: [LineMask; 4]) -> [u8; 4]
+    ensures { result ≡ map mask_byte mask }
+{
+    let [a, b, c, d] = mask;
+    [mask_byte(a), mask_byte(b), mask_byte(c), mask_byte(d)]
+}
+
+/// The port line that a byte stands for.
+fn mask_of(byte: u8) -> Option<LineMask>
+    ensures { result ≡ mask_of byte }
+{
+    match byte {
+        b'i' => Some(LineMask::Input),
+        b'0' => Some(LineMask::Zero),
+        b'1' => Some(LineMask::One),
+        _ => None,
+    }
+}
+
+impl Spelled for Option<[LineMask; 4]> {
+    ghost use Rattle.mcs_codec.specs.BoardText.{rom_text};
+
+    ghost spelling = { rom_text };
+
+    fn put(&self, out: &mut [u8], at: usize) -> usize {
+        match self {
+            Some(mask) => put(out, at, &mask_text(*mask)),
+            None => put(out, at, b"----"),
+        }
+    }
+}
+
+impl Field for Option<[LineMask; 4]> {
+    ghost use Rattle.mcs_codec.specs.BoardReading.{rom_at};
+
+    ghost reading = { rom_at };
+
+    #[tactic(auto, unfolding(crate::specs::BoardReading::rom_at))]
+    fn read(reader: &mut Reader<'_>) -> Option<Option<[LineMask; 4]>> {
+        let first = reader.byte()?;
+        let second = reader.byte()?;
+        let third = reader.byte()?;
+        let fourth = reader.byte()?;
+        if first == b'-' && second == b'-' && third == b'-' && fourth == b'-' {
+            return Some(None);
+        }
+        Some(Some([
+            mask_of(first)?,
+            mask_of(second)?,
+            mask_of(third)?,
+            mask_of(fourth)?,
+        ]))
+    }
+}
+
+impl Spelled for Line {
+    ghost use Rattle.mcs_codec.specs.BoardText.{line_text};
+
+    ghost spelling = { line_text };
+
+    fn put(&self, out: &mut [u8], at: usize) -> usize {
+        let text = match *self {
+            Line::Rom(chip, k) => [0, chip, k, 0],
+            Line::Ram(bank, chip, k) => [1, bank, chip, k],
+            Line::Chain(n, i) => [2, n, i, 0],
+        };
+        put(out, at, &text)
+    }
+}
+
+impl Field for Line {
+    ghost use Rattle.mcs_codec.specs.BoardReading.{line_at};
+
+    ghost reading = { line_at };
+
+    #[tactic(auto, unfolding(crate::specs::BoardReading::line_at))]
+    fn read(reader: &mut Reader<'_>) -> Option<Line> {
+        let kind = reader.byte()?;
+        let first = reader.byte()?;
+        let second = reader.byte()?;
+        let third = reader.byte()?;
+        if kind == 0 && third == 0 {
+            Some(Line::Rom(first, second))
+        } else if kind == 1 {
+            Some(Line::Ram(first, second, third))
+        } else if kind == 2 && third == 0 {
+            Some(Line::Chain(first, second))
+        } else {
+            None
+        }
+    }
+}
+
+impl Spelled for ChainPart {
+    ghost use Rattle.mcs_codec.specs.BoardText.{chain_text};
+
+    ghost spelling = { chain_text };
+
+    fn put(&self, out: &mut [u8], at: usize) -> usize {
+        let at = self.clock.put(out, at);
+        let at = self.data_in.put(out, at);
+        put(out, at, &[self.chips])
+    }
+}
+
+impl Field for ChainPart {
+    ghost use Rattle.mcs_codec.specs.BoardReading.{chain_at};
+
+    ghost reading = { chain_at };
+
+    #[tactic(auto, unfolding(crate::specs::BoardReading::chain_at))]
+    fn read(reader: &mut Reader<'_>) -> Option<ChainPart> {
+        let clock = Line::read(reader)?;
+        let data_in = Line::read(reader)?;
+        let chips = reader.byte()?;
+        Some(ChainPart {
+            clock,
+            data_in,
+            chips,
+        })
+    }
+}
+
+/// Reads a key matrix.
+#[tactic(auto, unfolding(crate::specs::BoardReading::matrix_at))]
+fn read_matrix(reader: &mut Reader<'_>) -> Option<KeyMatrix>
+    ensures { option_map (λ x. (x, reader.new)) result ≡ matrix_at reader.old }
+{
+    let chain = reader.byte()?;
+    let first = reader.byte()?;
+    let rows = reader.byte()?;
+    let columns = counted(reader)?;
+    Some(KeyMatrix {
+        chain,
+        first,
+        rows,
+        columns,
+    })
+}
+
+/// Reads the keys: whether there are any, and their matrix.
+#[tactic(auto, unfolding(crate::specs::BoardReading::keys_at))]
+fn read_keys(reader: &mut Reader<'_>) -> Option<Option<KeyMatrix>>
+    ensures { option_map (λ x. (x, reader.new)) result ≡ keys_at reader.old }
+{
+    match reader.byte()? {
+        0 => Some(None),
+        1 => {
+            let matrix = read_matrix(reader)?;
+            Some(Some(matrix))
+        }
+        _ => None,
+    }
+}
+
+/// Puts the keys: whether there are any, and their matrix.
+fn put_keys(keys: &Option<KeyMatrix>, out: &mut [u8], at: usize) -> usize
+    requires { at + length (keys_text keys.now) ≤ length out.old }
+    ensures end { result ≡ at + length (keys_text keys.now) }
+    ensures front { take result out.new ≡ take at out.old ++ keys_text keys.now }
+{
+    match keys {
+        None => put(out, at, &[0]),
+        Some(matrix) => {
+            let at = put(out, at, &[1, matrix.chain, matrix.first, matrix.rows]);
+            put_counted(matrix.columns.as_slice(), out, at)
+        }
+    }
+}
+
+/// Reads the parts of a board, whatever is wrong with them.
+#[tactic(auto, unfolding(crate::specs::BoardReading::parts_at))]
+fn read_parts(reader: &mut Reader<'_>) -> Option<BoardParts>
+    ensures { option_map (λ x. (x, reader.new)) result ≡ parts_at reader.old }
+{
+    let mut roms = [None; ROMS];
+    fill(reader, &mut roms)?;
+    let mut banks = [0; BANKS];
+    reader.fill(&mut banks)?;
+    let chains = counted(reader)?;
+    let keys = read_keys(reader)?;
+    let lamps = counted(reader)?;
+    Some(BoardParts {
+        roms,
+        banks,
+        chains,
+        keys,
+        lamps,
+    })
+}
+
+/// Reads a board at the front of some bytes.
+#[tactic(auto, unfolding(crate::specs::BoardReading::board_at))]
+pub fn read_board(reader: &mut Reader<'_>) -> Option<Board>
+    ensures { option_map (λ x. (x, reader.new)) result ≡ board_at reader.old }
+{
+    let parts = read_parts(reader)?;
+    match Board::of(parts) {
+        Ok(board) => Some(board),
+        Err(_) => None,
+    }
+}
+
+/// Puts the parts of a board at a place of the buffer, and answers the place after them.
+pub fn put_board(parts: &BoardParts, out: &mut [u8], at: usize) -> usize
+    requires { at + length (board_text parts.now) ≤ length out.old }
+    ensures end { result ≡ at + length (board_text parts.now) }
+    ensures front { take result out.new ≡ take at out.old ++ board_text parts.now }
+{
+    let at = put_all(&parts.roms, out, at);
+    let at = put(out, at, &parts.banks);
+    let at = put_counted(parts.chains.as_slice(), out, at);
+    let at = put_keys(&parts.keys, out, at);
+    put_counted(parts.lamps.as_slice(), out, at)
+}

@@ -1,0 +1,176 @@
+//! The bytes of a command.
+ghost use Rattle.std.specs.Prelude.{◌≡◌, ℕ, ◌+◌, ◌≤◌, ◌<◌, ◌∷◌, ◌++◌, List, [], length, take, option_map, Option, Some, None, IfOk, IfSome, IfNone, if◌then◌else◌};
+ghost use Rattle.mcs_model.specs.declared.command.Command.{Command};
+ghost use Rattle.mcs_codec.specs.Reading.{whole};
+ghost use Rattle.mcs_codec.specs.CommandText.{command_text, IsCommand};
+ghost use Rattle.mcs_codec.specs.CommandReading.{command_behind, all_behind, command_at};
+ghost use Rattle.mcs_codec.specs.Codec.{Spells};
+
+use crate::boards::{put_board, read_board};
+use crate::field::{Field, Spelled, put};
+use crate::images::{put_image, read_image};
+use crate::places::place_is_in_range;
+use crate::reader::Reader;
+use mcs_model::command::{Command, Place};
+use mcs_nibble::{Addr, Bit};
+use std::alloc::{AllocError, Global};
+
+/// Bytes that are lent to write a command into. No command takes more.
+pub const COMMAND_BYTES: usize = 8_192;
+
+/// A law: each part of a command is in its range.
+fn command_is_in_range(command: &Command)
+    ensures { IsCommand command.now }
+{
+    match command {
+        Command::Wire(board) => {
+            board.parts();
+        }
+        Command::Load(image) => {
+            image.pairs();
+        }
+        Command::Press(row, column) | Command::Release(row, column) => {
+            let _key = (*row, *column);
+        }
+        Command::Run(cycles) => {
+            let _cycles = *cycles;
+        }
+        Command::Poke(place) => place_is_in_range(*place),
+        Command::Test(bit) => {
+            bit.get();
+        }
+        Command::Break(address) | Command::Unbreak(address) => {
+            address.get();
+        }
+        Command::Step | Command::Reset => {}
+    }
+}
+
+/// Puts a command at a place of the buffer, and answers the place after it.
+fn put_command(command: &Command, out: &mut [u8], at: usize) -> usize
+    requires { at + length (command_text command.now) ≤ length out.old }
+    ensures end { result ≡ at + length (command_text command.now) }
+    ensures front { take result out.new ≡ take at out.old ++ command_text command.now }
+{
+    match command {
+        Command::Wire(board) => {
+            let at = put(out, at, &[1]);
+            put_board(board.parts(), out, at)
+        }
+        Command::Load(image) => {
+            let at = put(out, at, &[2]);
+            put_image(image, out, at)
+        }
+        Command::Press(row, column) => put(out, at, &[3, *row, *column]),
+        Command::Release(row, column) => put(out, at, &[4, *row, *column]),
+        Command::Run(cycles) => {
+            let at = put(out, at, &[5]);
+            put(out, at, &cycles.to_be_bytes())
+        }
+        Command::Step => put(out, at, &[6]),
+        Command::Poke(place) => {
+            let at = put(out, at, &[7]);
+            place.put(out, at)
+        }
+        Command::Test(bit) => put(out, at, &[8, bit.get()]),
+        Command::Reset => put(out, at, &[9]),
+        Command::Break(address) => {
+            let at = put(out, at, &[10]);
+            address.put(out, at)
+        }
+        Command::Unbreak(address) => {
+            let at = put(out, at, &[11]);
+            address.put(out, at)
+        }
+    }
+}
+
+/// Spells a command at the front of these bytes, and answers how many it took: 1 to 4,609.
+pub fn command_bytes(command: &Command, into: &mut [u8]) -> usize
+    requires lent { COMMAND_BYTES ≤ length into.old }
+    ensures spells { Spells (take result into.new) command.now }
+    ensures count { result ≡ length (command_text command.now) }
+    ensures some { 1 ≤ result }
+    ensures fits { result ≤ COMMAND_BYTES }
+{
+    command_is_in_range(command);
+    put_command(command, into, 0)
+}
+
+/// Reads what stands behind a tag, where reading it takes no memory.
+fn read_behind(tag: u8, reader: &mut Reader<'_>) -> Option<Command>
+    ensures { option_map (λ x. (x, reader.new)) result ≡ command_behind tag reader.old }
+{
+    match tag {
+        1 => Some(Command::Wire(read_board(reader)?)),
+        3 => {
+            let row = reader.byte()?;
+            Some(Command::Press(row, reader.byte()?))
+        }
+        4 => {
+            let row = reader.byte()?;
+            Some(Command::Release(row, reader.byte()?))
+        }
+        5 => Some(Command::Run(reader.long_number()?)),
+        6 => Some(Command::Step),
+        7 => Some(Command::Poke(Place::read(reader)?)),
+        8 => Some(Command::Test(Bit::read(reader)?)),
+        9 => Some(Command::Reset),
+        10 => Some(Command::Break(Addr::read(reader)?)),
+        11 => Some(Command::Unbreak(Addr::read(reader)?)),
+        _ => None,
+    }
+}
+
+/// Reads what stands behind a tag.
+#[tactic(auto, unfolding(crate::specs::CommandReading::all_behind))]
+fn read_any(alloc: Global, tag: u8, reader: &mut Reader<'_>) -> Result<Option<Command>, AllocError>
+    ensures { IfOk result (λ found. option_map (λ x. (x, reader.new)) found ≡ all_behind tag reader.old) }
+{
+    if tag == 2 {
+        match read_image(alloc, reader)? {
+            Some(image) => Ok(Some(Command::Load(image))),
+            None => Ok(None),
+        }
+    } else {
+        Ok(read_behind(tag, reader))
+    }
+}
+
+/// The command that all of these bytes are read as, or none.
+#[tactic(auto, unfolding(crate::specs::CommandReading::command_at))]
+fn read_command(alloc: Global, bytes: &[u8]) -> Result<Option<Command>, AllocError>
+    ensures { IfOk result (λ found. found ≡ whole command_at bytes.now) }
+{
+    let mut reader = Reader::new(bytes);
+    let Some(tag) = reader.byte() else {
+        return Ok(None);
+    };
+    match read_any(alloc, tag, &mut reader)? {
+        Some(command) => {
+            if reader.is_empty() {
+                Ok(Some(command))
+            } else {
+                Ok(None)
+            }
+        }
+        None => Ok(None),
+    }
+}
+
+/// The command that these bytes spell, or none where they spell no command.
+///
+/// # Errors
+///
+/// Where memory is refused. A load alone takes memory.
+pub fn command_of(alloc: Global, bytes: &[u8]) -> Result<Option<Command>, AllocError>
+    ensures some { IfOk result (λ found. IfSome found (λ c. Spells bytes.now c)) }
+    ensures none { IfOk result (λ found. IfNone found ((c : Command) → Spells bytes.now c → ⊥)) }
+{
+    read_command(alloc, bytes)
+}
+
+/// A law: no bytes spell two commands. (And each command has one spelling: the definition gives one.)
+pub fn one_command()
+    ensures { (bytes : List ℕ) (c d : Command) → Spells bytes c → Spells bytes d → c ≡ d }
+{}

@@ -1,0 +1,122 @@
+//! The bytes of an image: a map of its addresses, and its bytes.
+ghost use Rattle.std.specs.Prelude.{◌≡◌, ℕ, ◌+◌, ◌*◌, ◌≤◌, ◌<◌, ◌∷◌, ◌++◌, List, [], length, take, map, slice_index, option_map, IfOk};
+ghost use Rattle.mcs_nibble.specs.Tabled.{tabled};
+ghost use Rattle.mcs_codec.specs.CommandText.{mark, byte_of, map_text, values, image_text};
+ghost use Rattle.mcs_codec.specs.CommandReading.{mark_at, pairs_at, image_at};
+
+use crate::field::{Spelled, put, put_all};
+use crate::reader::Reader;
+use mcs_model::image::Image;
+use mcs_nibble::{Addr, Bit};
+use std::alloc::{AllocError, Global};
+
+/// Addresses of the ROMs.
+const ADDRESSES: usize = 4096;
+
+/// Bytes of a map, a bit for each address.
+const MAP_BYTES: usize = 512;
+
+/// For each address, 1 where some pair has it.
+fn marks_of(pairs: &[(Addr, u8)]) -> [Bit; ADDRESSES]
+    ensures { (at : ℕ) → at < 4096 → slice_index result at ≡ mark pairs.now at }
+{
+    let mut marks = [Bit::ZERO; ADDRESSES];
+    for pair in pairs {
+        marks[usize::from(pair.0.get())] = Bit::ONE;
+    }
+    marks
+}
+
+/// The byte of the marks of eight addresses from one on, the first the lowest bit.
+fn map_byte(marks: &[Bit], at: usize) -> u8
+    requires { at + 8 ≤ length marks.now }
+    ensures { result ≡ byte_of (λ k. slice_index marks.now (at + k)) }
+{
+    let low = marks[at].get() + 2 * marks[at + 1].get() + 4 * marks[at + 2].get();
+    let middle = 8 * marks[at + 3].get() + 16 * marks[at + 4].get();
+    let high = 32 * marks[at + 5].get() + 64 * marks[at + 6].get() + 128 * marks[at + 7].get();
+    low + middle + high
+}
+
+/// The map of the addresses of some pairs.
+fn map_of(pairs: &[(Addr, u8)]) -> [u8; MAP_BYTES]
+    ensures { result ≡ map_text pairs.now }
+{
+    let marks = marks_of(pairs);
+    let mut map = [0; MAP_BYTES];
+    for i in 0..MAP_BYTES {
+        map[i] = map_byte(&marks, 8 * i);
+    }
+    map
+}
+
+impl Spelled for (Addr, u8) {
+    ghost spelling = { λ pair. pair.1 ∷ [] };
+
+    fn put(&self, out: &mut [u8], at: usize) -> usize {
+        put(out, at, &[self.1])
+    }
+}
+
+/// Puts the bytes by rising address.
+fn put_values(pairs: &[(Addr, u8)], out: &mut [u8], at: usize) -> usize
+    requires { at + length (values pairs.now) ≤ length out.old }
+    ensures end { result ≡ at + length (values pairs.now) }
+    ensures front { take result out.new ≡ take at out.old ++ values pairs.now }
+{
+    put_all(pairs, out, at)
+}
+
+/// Puts an image at a place of the buffer, and answers the place after it.
+pub fn put_image(image: &Image, out: &mut [u8], at: usize) -> usize
+    requires { at + length (image_text image.now) ≤ length out.old }
+    ensures end { result ≡ at + length (image_text image.now) }
+    ensures front { take result out.new ≡ take at out.old ++ image_text image.now }
+{
+    let pairs = image.pairs();
+    let at = put(out, at, &map_of(pairs));
+    put_values(pairs, out, at)
+}
+
+/// The bit of an address in a map.
+#[tactic(auto, unfolding(crate::specs::CommandReading::mark_at))]
+fn mark_at(marks: &[u8], at: u16) -> u8
+    requires marks { length marks.now ≡ 512 }
+    requires at { at < 4096 }
+    ensures { result ≡ mark_at marks.now at }
+{
+    marks[usize::from(at / 8)] >> (at % 8) & 1
+}
+
+/// What was read of an image: nothing where its bytes are not there.
+fn read_pairs(
+    alloc: Global,
+    reader: &mut Reader<'_>,
+    marks: &[u8],
+) -> Result<Option<Image>, AllocError>
+    requires { length marks.now ≡ 512 }
+    ensures { IfOk result (λ found. option_map (λ x. (x, reader.new)) found ≡ pairs_at marks.now 4096 0 reader.old) }
+{
+    let mut image = Image::new(alloc)?;
+    for at in 0..4096 {
+        if mark_at(marks, at) != 1 {
+            continue;
+        }
+        let Some(byte) = reader.byte() else {
+            return Ok(None);
+        };
+        image.push(Addr::ZERO.plus(at), byte)?;
+    }
+    Ok(Some(image))
+}
+
+/// Reads an image: the map of its addresses, and its bytes.
+#[tactic(auto, unfolding(crate::specs::CommandReading::image_at))]
+pub fn read_image(alloc: Global, reader: &mut Reader<'_>) -> Result<Option<Image>, AllocError>
+    ensures { IfOk result (λ found. option_map (λ x. (x, reader.new)) found ≡ image_at reader.old) }
+{
+    match reader.bytes(MAP_BYTES) {
+        Some(marks) => read_pairs(alloc, reader, marks),
+        None => Ok(None),
+    }
+}

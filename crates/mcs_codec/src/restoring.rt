@@ -1,0 +1,278 @@
+//! A bench from the bytes of its state.
+ghost use Rattle.std.specs.Prelude.{◌≡◌, ℕ, ◌*◌, ◌≤◌, List, All, length, map, option_map, IfOk, IfSome, IfNone};
+ghost use Rattle.mcs_model.specs.Boards.{key_count};
+ghost use Rattle.mcs_model.specs.Flat.{Flat as State};
+ghost use Rattle.mcs_bench.specs.States.{state_of};
+ghost use Rattle.mcs_codec.specs.Reading.{bytes_at, whole};
+ghost use Rattle.mcs_codec.specs.StateReading.{memory_at, registers_at, sources_at, rows_at, breakpoints_at, wiring_at, state_at};
+ghost use Rattle.mcs_codec.specs.Codec.{SpellsState};
+
+use crate::boards::read_board;
+use crate::field::{Field, counted, fill};
+use crate::reader::Reader;
+use arrayvec::ArrayVec;
+use mcs_bench::{Bench, Cells, Flat};
+use mcs_model::board::{Board, ChainPart};
+use mcs_model::limits::{BANKS, BREAKPOINTS, CHAINS};
+use std::alloc::{AllocError, Global};
+
+/// The bits of a chain.
+type Row = ArrayVec<u8, 40>;
+
+/// What a 4004 keeps in registers and return addresses.
+type Registers = (u8, u8, [u8; 16], u16, [u16; 3]);
+
+/// What the chains and the keys of a board hold, TEST, and the breakpoints.
+type Wiring = (
+    ArrayVec<Row, CHAINS>,
+    ArrayVec<u8, 80>,
+    u8,
+    ArrayVec<u16, BREAKPOINTS>,
+);
+
+impl Field for u16 {
+    ghost use Rattle.std.specs.Int.{w16};
+    ghost use Rattle.mcs_codec.specs.Reading.{number_at};
+
+    ghost reading = { number_at w16 };
+
+    fn read(reader: &mut Reader<'_>) -> Option<u16> {
+        reader.number()
+    }
+}
+
+/// Reads a byte into each cell.
+fn read_cells(reader: &mut Reader<'_>, cells: &mut Cells) -> Option<()>
+    ensures { option_map (λ _. (cells.new, reader.new)) result ≡ bytes_at (length cells.old) reader.old }
+{
+    let bytes = reader.bytes(cells.len())?;
+    for i in 0..bytes.len() {
+        cells.set(i, bytes[i]);
+    }
+    Some(())
+}
+
+/// Reads so many bytes.
+fn read_bytes<const CAP: usize>(reader: &mut Reader<'_>, count: usize) -> Option<ArrayVec<u8, CAP>>
+    requires { count ≤ CAP }
+    ensures { option_map (λ v. (v.items, reader.new)) result ≡ bytes_at count reader.old }
+{
+    let bytes = reader.bytes(count)?;
+    let mut items = ArrayVec::new();
+    for byte in bytes {
+        items.push(*byte);
+    }
+    Some(items)
+}
+
+/// The lists whose lengths are the same in every state.
+#[derive(Drop)]
+struct Memory {
+    rom: Cells,
+    ram: Cells,
+    status: Cells,
+    ram_ports: Cells,
+    rom_ports: Cells,
+}
+
+impl Memory {
+    /// Room for the lists, all 0.
+    fn new(alloc: Global) -> Result<Memory, AllocError>
+        ensures rom { IfOk result (λ m. length m.rom ≡ 4096) }
+        ensures ram { IfOk result (λ m. length m.ram ≡ 2048) }
+        ensures status { IfOk result (λ m. length m.status ≡ 512) }
+        ensures ram_ports { IfOk result (λ m. length m.ram_ports ≡ 32) }
+        ensures rom_ports { IfOk result (λ m. length m.rom_ports ≡ 16) }
+    {
+        let flat = Flat::new(alloc)?;
+        Ok(Memory {
+            rom: flat.rom,
+            ram: flat.ram,
+            status: flat.status,
+            ram_ports: flat.ram_ports,
+            rom_ports: flat.rom_ports,
+        })
+    }
+
+    /// Reads a byte into each place of the lists.
+    #[tactic(auto, unfolding(crate::specs::StateReading::memory_at))]
+    fn read(mut self, reader: &mut Reader<'_>) -> Option<Memory>
+        requires rom { length self.rom ≡ 4096 }
+        requires ram { length self.ram ≡ 2048 }
+        requires status { length self.status ≡ 512 }
+        requires ram_ports { length self.ram_ports ≡ 32 }
+        requires rom_ports { length self.rom_ports ≡ 16 }
+        ensures { option_map (λ m. ((m.rom, (m.ram, (m.status, (m.ram_ports, m.rom_ports)))), reader.new)) result ≡ memory_at reader.old }
+    {
+        read_cells(reader, &mut self.rom)?;
+        read_cells(reader, &mut self.ram)?;
+        read_cells(reader, &mut self.status)?;
+        read_cells(reader, &mut self.ram_ports)?;
+        read_cells(reader, &mut self.rom_ports)?;
+        Some(self)
+    }
+}
+
+/// Reads the accumulator, the carry, the index registers, the counter and the return addresses.
+#[tactic(auto, unfolding(crate::specs::StateReading::registers_at))]
+fn read_registers(reader: &mut Reader<'_>) -> Option<Registers>
+    ensures { option_map (λ x. ((x.0, (x.1, (x.2, (x.3, x.4)))), reader.new)) result ≡ registers_at reader.old }
+{
+    let acc = reader.byte()?;
+    let cy = reader.byte()?;
+    let mut r = [0; 16];
+    reader.fill(&mut r)?;
+    let pc = reader.number()?;
+    let mut ret = [0; 3];
+    fill(reader, &mut ret)?;
+    Some((acc, cy, r, pc, ret))
+}
+
+/// Reads the command register, the SRC bytes of the ROMs and of the banks, and the owed cycles.
+#[tactic(auto, unfolding(crate::specs::StateReading::sources_at))]
+fn read_sources(reader: &mut Reader<'_>) -> Option<(u8, u8, [u8; BANKS], u8)>
+    ensures { option_map (λ x. ((x.0, (x.1, (x.2, x.3))), reader.new)) result ≡ sources_at reader.old }
+{
+    let dcl = reader.byte()?;
+    let rom_src = reader.byte()?;
+    let mut ram_src = [0; BANKS];
+    reader.fill(&mut ram_src)?;
+    let owed = reader.byte()?;
+    Some((dcl, rom_src, ram_src, owed))
+}
+
+/// Reads the bits of each chain.
+fn read_rows(reader: &mut Reader<'_>, chains: &[ChainPart]) -> Option<ArrayVec<Row, CHAINS>>
+    requires few { length chains.now ≤ 2 }
+    requires short { All (λ c. c.chips ≤ 4) chains.now }
+    ensures { option_map (λ rows. (map (λ row. row.items) rows.items, reader.new)) result ≡ rows_at chains.now reader.old }
+{
+    let mut rows = ArrayVec::new();
+    for chain in chains {
+        rows.push(read_bytes(reader, usize::from(chain.bits()))?);
+    }
+    Some(rows)
+}
+
+/// How many keys a board has.
+fn keys_on(board: &Board) -> usize
+    ensures count { result ≡ key_count board.now }
+    ensures few { result ≤ 80 }
+{
+    match &board.parts().keys {
+        Some(matrix) => usize::from(matrix.rows) * matrix.columns.len(),
+        None => 0,
+    }
+}
+
+/// Reads which keys of a board are down.
+fn read_keys_down(reader: &mut Reader<'_>, board: &Board) -> Option<ArrayVec<u8, 80>>
+    ensures { option_map (λ x. (x.items, reader.new)) result ≡ bytes_at (key_count board.now) reader.old }
+{
+    read_bytes(reader, keys_on(board))
+}
+
+/// Reads the breakpoints.
+#[tactic(auto, unfolding(crate::specs::StateReading::breakpoints_at))]
+fn read_breakpoints(reader: &mut Reader<'_>) -> Option<ArrayVec<u16, BREAKPOINTS>>
+    ensures { option_map (λ x. (x.items, reader.new)) result ≡ breakpoints_at reader.old }
+{
+    counted(reader)
+}
+
+/// Reads what the chains and the keys of a board hold, TEST, and the breakpoints.
+#[tactic(auto, unfolding(crate::specs::StateReading::wiring_at))]
+fn read_wiring(reader: &mut Reader<'_>, board: &Board) -> Option<Wiring>
+    ensures { option_map (λ x. ((map (λ row. row.items) x.0.items, (x.1.items, (x.2, x.3.items))), reader.new)) result ≡ wiring_at board.now reader.old }
+{
+    let chains = read_rows(reader, board.parts().chains.as_slice())?;
+    let keys = read_keys_down(reader, board)?;
+    let test = reader.byte()?;
+    let breakpoints = read_breakpoints(reader)?;
+    Some((chains, keys, test, breakpoints))
+}
+
+/// Reads the fields of a state, into these lists and others.
+#[tactic(auto, unfolding(crate::specs::StateReading::state_at))]
+fn read_state(reader: &mut Reader<'_>, memory: Memory) -> Option<Flat>
+    requires rom { length memory.rom ≡ 4096 }
+    requires ram { length memory.ram ≡ 2048 }
+    requires status { length memory.status ≡ 512 }
+    requires ram_ports { length memory.ram_ports ≡ 32 }
+    requires rom_ports { length memory.rom_ports ≡ 16 }
+    ensures { option_map (λ x. (state_of x, reader.new)) result ≡ state_at reader.old }
+{
+    let seq = reader.long_number()?;
+    let board = read_board(reader)?;
+    let Memory {
+        rom,
+        ram,
+        status,
+        ram_ports,
+        rom_ports,
+    } = memory.read(reader)?;
+    let (acc, cy, r, pc, ret) = read_registers(reader)?;
+    let (dcl, rom_src, ram_src, owed) = read_sources(reader)?;
+    let (chains, keys, test, breakpoints) = read_wiring(reader, &board)?;
+    Some(Flat {
+        seq,
+        board,
+        rom,
+        ram,
+        status,
+        ram_ports,
+        rom_ports,
+        acc,
+        cy,
+        r,
+        pc,
+        ret,
+        dcl,
+        rom_src,
+        ram_src,
+        owed,
+        chains,
+        keys,
+        test,
+        breakpoints,
+    })
+}
+
+/// What all of these bytes are read as, or none.
+fn read_whole(bytes: &[u8], memory: Memory) -> Option<Flat>
+    requires rom { length memory.rom ≡ 4096 }
+    requires ram { length memory.ram ≡ 2048 }
+    requires status { length memory.status ≡ 512 }
+    requires ram_ports { length memory.ram_ports ≡ 32 }
+    requires rom_ports { length memory.rom_ports ≡ 16 }
+    ensures { option_map state_of result ≡ whole state_at bytes.now }
+{
+    let mut reader = Reader::new(bytes);
+    let flat = read_state(&mut reader, memory)?;
+    if reader.is_empty() { Some(flat) } else { None }
+}
+
+/// The bench whose state these bytes spell, or none where they spell no state.
+///
+/// # Errors
+///
+/// Where memory is refused.
+pub fn bench_of(alloc: Global, bytes: &[u8]) -> Result<Option<Bench>, AllocError>
+    ensures some { IfOk result (λ found. IfSome found (λ s. SpellsState bytes.now s)) }
+    ensures none { IfOk result (λ found. IfNone found ((s : State) → SpellsState bytes.now s → ⊥)) }
+{
+    let memory = Memory::new(alloc)?;
+    let Some(flat) = read_whole(bytes, memory) else {
+        return Ok(None);
+    };
+    if !flat.check() {
+        return Ok(None);
+    }
+    let bench = Bench::restore(alloc, &flat)?;
+    Ok(Some(bench))
+}
+
+/// A law: no bytes spell two states. (And each state has one spelling: the definition gives one.)
+pub fn one_state()
+    ensures { (bytes : List ℕ) (s t : State) → SpellsState bytes s → SpellsState bytes t → s ≡ t }
+{}

@@ -1,0 +1,217 @@
+//! The bytes of a bench's state.
+ghost use Rattle.std.specs.Prelude.{◌≡◌, ℕ, ◌+◌, ◌*◌, ◌≤◌, ◌<◌, ◌++◌, List, [], length, take, slice_index, slice_index_or};
+ghost use Rattle.std.specs.List.{flat_map};
+ghost use Rattle.mcs_model.specs.Boards.{chain_bits, chain_count, key_count};
+ghost use Rattle.mcs_model.specs.Validity.{IsValid};
+ghost use Rattle.mcs_codec.specs.Parts.{list_of, count_of};
+ghost use Rattle.mcs_codec.specs.StateText.{memory_text, registers_text, sources_text, wiring_text, groups_text, state_text};
+ghost use Rattle.mcs_codec.specs.Codec.{SpellsState};
+
+use crate::boards::put_board;
+use crate::field::{Spelled, put, put_all, put_counted};
+use mcs_bench::Bench;
+use mcs_nibble::{Addr, Nibble};
+
+/// Bytes that are lent to write a state into. No state takes more.
+pub const STATE_BYTES: usize = 16_380;
+
+/// The lists of a bench that are written place by place.
+#[derive(Clone, Copy)]
+pub enum Part {
+    /// The bytes of the ROMs, by address.
+    RomBytes,
+    /// The RAM characters, by bank and SRC byte.
+    RamCharacters,
+    /// The status characters, by bank, upper nibble of the SRC byte, and number.
+    StatusCharacters,
+    /// The port latches of the RAM chips, by bank and chip.
+    RamPorts,
+    /// The port latches of the ROMs.
+    RomPorts,
+    /// The index registers of the processor.
+    IndexRegisters,
+    /// The SRC byte of each bank.
+    RamSources,
+    /// The bits of a chain, bit 0 first.
+    ChainBits(u8),
+    /// The keys, row by row.
+    Keys,
+}
+
+/// The key at a place, row by row.
+fn key_at(bench: &Bench, i: usize) -> u8
+    requires { i < key_count bench.now.bus.board }
+    ensures { result ≡ slice_index bench.now.bus.keys i }
+{
+    match &bench.board().parts().keys {
+        Some(matrix) => {
+            let columns = matrix.columns.len();
+            bench.key((i / columns) as u8, (i % columns) as u8).get()
+        }
+        None => 0,
+    }
+}
+
+impl Part {
+    /// How many places the list has.
+    fn count(self, bench: &Bench) -> usize
+        ensures { result ≡ count_of self bench.now }
+    {
+        match self {
+            Part::RomBytes => 4096,
+            Part::RamCharacters => 2048,
+            Part::StatusCharacters => 512,
+            Part::RamPorts => 32,
+            Part::RomPorts | Part::IndexRegisters => 16,
+            Part::RamSources => 8,
+            Part::ChainBits(n) => match bench.board().parts().chains.get(usize::from(n)) {
+                Some(chain) => usize::from(chain.bits()),
+                None => 0,
+            },
+            Part::Keys => match &bench.board().parts().keys {
+                Some(matrix) => usize::from(matrix.rows) * matrix.columns.len(),
+                None => 0,
+            },
+        }
+    }
+
+    /// The byte at a place of the list.
+    fn byte(self, bench: &Bench, i: usize) -> u8
+        requires valid { IsValid bench.now }
+        requires place { i < count_of self bench.now }
+        ensures { result ≡ slice_index (list_of self bench.now) i }
+    {
+        match self {
+            Part::RomBytes => bench.rom_byte(Addr::ZERO.plus(i as u16)),
+            Part::RamCharacters => bench.ram((i / 256) as u8, (i % 256) as u8).get(),
+            Part::StatusCharacters => {
+                let high = Nibble::low_of((i / 4 % 16) as u8);
+                bench.status((i / 64) as u8, high, (i % 4) as u8).get()
+            }
+            Part::RamPorts => bench.ram_port((i / 4) as u8, (i % 4) as u8).get(),
+            Part::RomPorts => bench.rom_port(i as u8).get(),
+            Part::IndexRegisters => bench.regs().r[i].get(),
+            Part::RamSources => bench.ram_src(i as u8),
+            Part::ChainBits(n) => bench.chain_bit(n, i as u8).get(),
+            Part::Keys => key_at(bench, i),
+        }
+    }
+
+    /// Puts the list at a place of the buffer, and answers the place after it.
+    fn put(self, bench: &Bench, out: &mut [u8], at: usize) -> usize
+        requires valid { IsValid bench.now }
+        requires room { at + length (list_of self bench.now) ≤ length out.old }
+        ensures end { result ≡ at + length (list_of self bench.now) }
+        ensures front { take result out.new ≡ take at out.old ++ list_of self bench.now }
+    {
+        let count = self.count(bench);
+        for i in 0..count {
+            out[at + i] = self.byte(bench, i);
+        }
+        at + count
+    }
+}
+
+/// Puts what the ROMs and the RAM chips hold, and their ports.
+fn put_memory(bench: &Bench, out: &mut [u8], at: usize) -> usize
+    requires valid { IsValid bench.now }
+    requires room { at + length (memory_text bench.now.bus) ≤ length out.old }
+    ensures end { result ≡ at + length (memory_text bench.now.bus) }
+    ensures front { take result out.new ≡ take at out.old ++ memory_text bench.now.bus }
+{
+    let at = Part::RomBytes.put(bench, out, at);
+    let at = Part::RamCharacters.put(bench, out, at);
+    let at = Part::StatusCharacters.put(bench, out, at);
+    let at = Part::RamPorts.put(bench, out, at);
+    Part::RomPorts.put(bench, out, at)
+}
+
+/// Puts the accumulator, the carry, the index registers, the counter and the return addresses.
+fn put_registers(bench: &Bench, out: &mut [u8], at: usize) -> usize
+    requires valid { IsValid bench.now }
+    requires room { at + length (registers_text bench.now.processor) ≤ length out.old }
+    ensures end { result ≡ at + length (registers_text bench.now.processor) }
+    ensures front { take result out.new ≡ take at out.old ++ registers_text bench.now.processor }
+{
+    let registers = bench.regs();
+    let at = put(out, at, &[registers.acc.get(), registers.cy.get()]);
+    let at = Part::IndexRegisters.put(bench, out, at);
+    let at = registers.pc.put(out, at);
+    put_all(&registers.ret, out, at)
+}
+
+/// Puts the command register, the SRC bytes of the ROMs and of the banks, and the owed cycles.
+fn put_sources(bench: &Bench, out: &mut [u8], at: usize) -> usize
+    requires valid { IsValid bench.now }
+    requires room { at + length (sources_text bench.now.processor.dcl bench.now.bus.rom_src bench.now.bus.ram_src bench.now.processor.owed) ≤ length out.old }
+    ensures end { result ≡ at + length (sources_text bench.now.processor.dcl bench.now.bus.rom_src bench.now.bus.ram_src bench.now.processor.owed) }
+    ensures front { take result out.new ≡ take at out.old ++ sources_text bench.now.processor.dcl bench.now.bus.rom_src bench.now.bus.ram_src bench.now.processor.owed }
+{
+    let registers = bench.regs();
+    let at = put(out, at, &[registers.dcl, bench.rom_src()]);
+    let at = Part::RamSources.put(bench, out, at);
+    put(out, at, &[registers.owed])
+}
+
+/// Puts the bits of each chain.
+fn put_rows(bench: &Bench, out: &mut [u8], at: usize) -> usize
+    requires valid { IsValid bench.now }
+    requires room { at + length (flat_map (λ row. row) bench.now.bus.chains) ≤ length out.old }
+    ensures end { result ≡ at + length (flat_map (λ row. row) bench.now.bus.chains) }
+    ensures front { take result out.new ≡ take at out.old ++ flat_map (λ row. row) bench.now.bus.chains }
+{
+    let mut end = at;
+    for n in 0..bench.board().chain_count() {
+        end = Part::ChainBits(n as u8).put(bench, out, end);
+    }
+    end
+}
+
+/// Puts what the chains and the keys hold, TEST, and the breakpoints.
+fn put_wiring(bench: &Bench, out: &mut [u8], at: usize) -> usize
+    requires valid { IsValid bench.now }
+    requires room { at + length (wiring_text bench.now.bus.chains bench.now.bus.keys bench.now.bus.test bench.now.breakpoints) ≤ length out.old }
+    ensures end { result ≡ at + length (wiring_text bench.now.bus.chains bench.now.bus.keys bench.now.bus.test bench.now.breakpoints) }
+    ensures front { take result out.new ≡ take at out.old ++ wiring_text bench.now.bus.chains bench.now.bus.keys bench.now.bus.test bench.now.breakpoints }
+{
+    let at = put_rows(bench, out, at);
+    let at = Part::Keys.put(bench, out, at);
+    let at = put(out, at, &[bench.test().get()]);
+    put_counted(bench.breaks(), out, at)
+}
+
+/// Puts the groups behind the board.
+fn put_groups(bench: &Bench, out: &mut [u8], at: usize) -> usize
+    requires valid { IsValid bench.now }
+    requires room { at + length (groups_text bench.now) ≤ length out.old }
+    ensures end { result ≡ at + length (groups_text bench.now) }
+    ensures front { take result out.new ≡ take at out.old ++ groups_text bench.now }
+{
+    let at = put_memory(bench, out, at);
+    let at = put_registers(bench, out, at);
+    let at = put_sources(bench, out, at);
+    put_wiring(bench, out, at)
+}
+
+/// Puts the state of a bench at the front of these bytes.
+fn put_state(bench: &Bench, into: &mut [u8]) -> usize
+    requires valid { IsValid bench.now }
+    requires room { length (state_text bench.now) ≤ length into.old }
+    ensures end { result ≡ length (state_text bench.now) }
+    ensures front { take result into.new ≡ state_text bench.now }
+{
+    let at = put(into, 0, &bench.seq().to_be_bytes());
+    let at = put_board(bench.board().parts(), into, at);
+    put_groups(bench, into, at)
+}
+
+/// Spells the state of a bench at the front of these bytes, and answers how many it took: at most 7,356.
+pub fn state_bytes(bench: &Bench, into: &mut [u8]) -> usize
+    requires lent { STATE_BYTES ≤ length into.old }
+    ensures spells { SpellsState (take result into.new) bench.now }
+    ensures count { result ≡ length (state_text bench.now) }
+    ensures fits { result ≤ STATE_BYTES }
+{
+    bench.state_is_valid();
+    put_state(bench, into)
+}

@@ -1,0 +1,86 @@
+//! The script of commands, with its answers, and what a session is asked.
+
+/// The commands, one after another: a board of three ROMs, two banks, a chain, keys and lamps; a program that drives two rows and
+/// reads four columns; a key; as many cycles as the program has before its last instruction; a register.
+pub(crate) const INPUTS: [&[u8]; 5] = [
+    b"wire
+[[rom]]
+chip = 0
+port = \"0000\"
+[[rom]]
+chip = 1
+port = \"iiii\"
+[[rom]]
+chip = 2
+port = \"iiii\"
+[[ram]]
+bank = 0
+chips = 1
+[[ram]]
+bank = 1
+chips = 1
+[[chain]]
+clock = \"rom0.0\"
+data = \"rom0.1\"
+chips = 1
+[keys]
+chain = 0
+first = 0
+rows = 10
+columns = [\"rom1.0\", \"rom1.1\", \"rom1.2\", \"rom1.3\", \"rom2.0\", \"rom2.1\", \"rom2.2\", \"rom2.3\"]
+[[lamp]]
+line = \"chain0.0\"
+[[lamp]]
+line = \"chain0.1\"
+[[lamp]]
+line = \"ram0.0.3\"
+.
+",
+    b"asm
+LDM 3
+WRR
+LDM 2
+WRR
+LDM 3
+WRR
+FIM P0, 0x10
+SRC P0
+RDR
+KBP
+.
+",
+    b"press 0 1\n",
+    b"run 10\n",
+    b"poke r5 9\n",
+];
+
+/// What each of them is answered.
+pub(crate) const ANSWERS: [&[u8]; 5] = [
+    b"ok 1\n",
+    b"ok 2 bytes 11\n",
+    b"ok 3\n",
+    b"ok 4 ran 10 end\n",
+    b"ok 5\n",
+];
+
+/// What tells one state from another.
+pub(crate) const QUESTIONS: &[u8] = b"board
+list 0 12
+ram 0
+ram 1
+breaks
+lamps
+regs
+";
+
+/// How the answers end behind all commands: two lamps are lit, and line 1 of the second ROM's port was read as 1.
+pub(crate) const LAST: &[u8] = b"
+lamps **.
+acc 2 cy 0 pc 00A owed 0 dcl 0 test 1 r 1000090000000000 ret 000 000 000
+";
+
+/// A command whose record is seven bytes.
+pub(crate) const POKE: &[u8] = b"poke r0 1\n";
+
+/// So many pokes leave no room for another, behind the commands: their records take 136, 527, 6, 8 and 7 of 65,535 bytes.
+pub(crate) const POKES: usize = 9_264;

@@ -1,0 +1,14 @@
+use Rattle.std.proofs.Common.{rules, ◌∷◌, ◌<◌, length, take, ◌∙◌, ap, sym}
+use Rattle.mcs_lines.specs.Words.{words_of}
+use Rattle.mcs_lines.proofs.LineWords.{no_words, tail_whole, words_of-front}
+use Rattle.mcs_lines.proofs.words.next_word.Goals as goal
+
+pub returns-then-is_empty : goal.returns-then-is_empty
+returns-then-is_empty c = sym c.without_blanks-line.ensures.words ∙ no_words c.without_blanks-line.result.now (search rules)
+
+pub returns : goal.returns
+returns c =
+    let some : 0 < length c.without_blanks-line.result.now = search rules in
+    sym c.without_blanks-line.ensures.words
+    ∙ words_of-front c.without_blanks-line.result.now c.word_at_front-end.result some c.without_blanks-line.ensures.begins c.word_at_front-end.ensures.word
+    ∙ ap (λ v. take c.word_at_front-end.result c.without_blanks-line.result.now ∷ words_of v) (sym (tail_whole c.word_at_front-end.result c.without_blanks-line.result.now))

@@ -1,0 +1,10 @@
+use Rattle.std.proofs.Common.{sym, subst, rules}
+use Rattle.std.proofs.lemmas.List.{take_more}
+use Rattle.mcs_lines.specs.Cutting.{HasNone}
+use Rattle.mcs_lines.specs.Words.{is_dot}
+use Rattle.mcs_lines.proofs.Cutting.{HasNone-snoc}
+use Rattle.mcs_lines.proofs.words.part_at_front.Goals as goal
+
+pub loop-at-preserved : goal.loop-at-preserved
+loop-at-preserved c = subst (HasNone is_dot) (sym (take_more c.args.word.now c.loop-at.at 0 c.loop-at-test.true))
+    (HasNone-snoc is_dot _ _ c.loop-at.invariant (search rules))

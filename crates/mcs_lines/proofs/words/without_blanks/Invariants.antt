@@ -1,0 +1,6 @@
+use Rattle.std.proofs.Common.{◌≡◌, drop}
+use Rattle.mcs_lines.specs.Words.{words_of}
+use Rattle.mcs_lines.proofs.words.without_blanks.Given as goal
+
+abbrev pub invariant-loop-at : goal.invariant-loop-at
+invariant-loop-at l = words_of (drop l.at l.line) ≡ words_of l.line

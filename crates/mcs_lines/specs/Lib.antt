@@ -1,0 +1,4 @@
+pub mod Cutting
+pub mod Words
+pub mod Requests
+pub mod RefusalNumbers

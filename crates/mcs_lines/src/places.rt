@@ -1,0 +1,128 @@
+//! What `poke` with a place and a value asks for.
+ghost use Rattle.std.specs.Prelude.{◌≡◌, ◌∷◌, [], Some};
+ghost use Rattle.mcs_model.specs.declared.command.Command.TheVariants.{Poke};
+ghost use Rattle.mcs_lines.specs.declared.requests.Request.TheVariants.{Change};
+ghost use Rattle.mcs_lines.specs.Requests.{or_bad_number, poke_numbered, poke_of, poke_parts, poke_plain, poke_ram, poke_register, poke_rom, poke_status};
+
+use crate::numbers::{address, bank, bit, byte, is_number, nibble, register, status};
+use crate::requests::{LineFault, Request, in_range};
+use crate::words::{is_word, next_part};
+use mcs_model::command::{Command, Place};
+
+/// Puts a value into a place.
+fn poke(place: Place) -> Option<Request>
+    ensures { result ≡ Some (Change (Poke place)) }
+{
+    Some(Request::Change(Command::Poke(place)))
+}
+
+/// What `poke rK` with a value asks for; none where one of them is no number, or out of its range.
+fn read_register(k: &[u8], value: &[u8]) -> Option<Request>
+    ensures { or_bad_number result ≡ poke_register k.now value.now }
+{
+    poke(Place::Register(register(k)?, nibble(value)?))
+}
+
+/// What `poke rom.A` with a value asks for; none where one of them is no number, or out of its range.
+fn read_rom(a: &[u8], value: &[u8]) -> Option<Request>
+    ensures { or_bad_number result ≡ poke_rom a.now value.now }
+{
+    poke(Place::Rom(address(a)?, byte(value)?))
+}
+
+/// What `poke ram.B.S` with a value asks for; none where one of them is no number, or out of its range.
+fn read_ram(b: &[u8], s: &[u8], value: &[u8]) -> Option<Request>
+    ensures { or_bad_number result ≡ poke_ram b.now s.now value.now }
+{
+    poke(Place::Ram(bank(b)?, byte(s)?, nibble(value)?))
+}
+
+/// What `poke st.B.H.K` with a value asks for; none where one of them is no number, or out of its range.
+fn read_status(b: &[u8], h: &[u8], k: &[u8], value: &[u8]) -> Option<Request>
+    ensures { or_bad_number result ≡ poke_status b.now h.now k.now value.now }
+{
+    poke(Place::Status(bank(b)?, nibble(h)?, status(k)?, nibble(value)?))
+}
+
+/// What `poke` with a place of one part asks for that is none of the plain names.
+fn read_numbered(name: &[u8], value: &[u8]) -> Request
+    ensures { result ≡ poke_numbered name.now value.now }
+{
+    match name {
+        [b'r', k @ ..] if is_number(k) => in_range(read_register(k, value)),
+        _ => Request::Refused(LineFault::NotACommand),
+    }
+}
+
+/// What `poke` with a place of one part asks for; none where its value is no number, or out of its range.
+fn read_plain(name: &[u8], value: &[u8]) -> Option<Request>
+    ensures { or_bad_number result ≡ poke_plain name.now value.now }
+{
+    if is_word(name, b"acc") {
+        poke(Place::Acc(nibble(value)?))
+    } else if is_word(name, b"cy") {
+        poke(Place::Cy(bit(value)?))
+    } else if is_word(name, b"pc") {
+        poke(Place::Pc(address(value)?))
+    } else if is_word(name, b"dcl") {
+        poke(Place::Dcl(bank(value)?))
+    } else {
+        Some(read_numbered(name, value))
+    }
+}
+
+/// What `poke` with a place of two parts asks for.
+fn read_two_parts(name: &[u8], a: &[u8], value: &[u8]) -> Request
+    ensures { result ≡ poke_parts (name.now ∷ a.now ∷ []) value.now }
+{
+    if is_word(name, b"rom") && is_number(a) {
+        in_range(read_rom(a, value))
+    } else {
+        Request::Refused(LineFault::NotACommand)
+    }
+}
+
+/// What `poke` with a place of three parts asks for.
+fn read_three_parts(name: &[u8], b: &[u8], s: &[u8], value: &[u8]) -> Request
+    ensures { result ≡ poke_parts (name.now ∷ b.now ∷ s.now ∷ []) value.now }
+{
+    if is_word(name, b"ram") && is_number(b) && is_number(s) {
+        in_range(read_ram(b, s, value))
+    } else {
+        Request::Refused(LineFault::NotACommand)
+    }
+}
+
+/// What `poke` with a place of four parts asks for.
+fn read_four_parts(name: &[u8], b: &[u8], h: &[u8], k: &[u8], value: &[u8]) -> Request
+    ensures { result ≡ poke_parts (name.now ∷ b.now ∷ h.now ∷ k.now ∷ []) value.now }
+{
+    if is_word(name, b"st") && is_number(b) && is_number(h) && is_number(k) {
+        in_range(read_status(b, h, k, value))
+    } else {
+        Request::Refused(LineFault::NotACommand)
+    }
+}
+
+/// What `poke` with a place and a value asks for.
+pub fn read_poke(place: &[u8], value: &[u8]) -> Request
+    ensures { result ≡ poke_of place.now value.now }
+{
+    let (name, behind) = next_part(place);
+    let Some(rest) = behind else {
+        return in_range(read_plain(name, value));
+    };
+    let (first, behind) = next_part(rest);
+    let Some(rest) = behind else {
+        return read_two_parts(name, first, value);
+    };
+    let (second, behind) = next_part(rest);
+    let Some(rest) = behind else {
+        return read_three_parts(name, first, second, value);
+    };
+    let (third, behind) = next_part(rest);
+    match behind {
+        None => read_four_parts(name, first, second, third, value),
+        Some(_) => Request::Refused(LineFault::NotACommand),
+    }
+}

@@ -1,0 +1,190 @@
+//! What a command line asks for.
+ghost use Rattle.std.specs.Prelude.{◌≡◌};
+ghost use Rattle.std.specs.List.{list_all};
+ghost use Rattle.mcs_lines.specs.RefusalNumbers.{line_fault_number};
+ghost use Rattle.mcs_lines.specs.Requests.{list_of, or_bad_number, request_alone, request_of, request_of_words, request_with_one, request_with_two};
+ghost use Rattle.mcs_lines.specs.Words.{is_plain_byte, words_of};
+
+use crate::numbers::{address, bank, bit, byte};
+use crate::places::read_poke;
+use crate::words::{is_plain_byte, is_word, next_word};
+use mcs_model::command::Command;
+use mcs_model::numeral::number_within;
+use mcs_model::query::Query;
+use mcs_model::refusal_numbers;
+use mcs_nibble::Addr;
+use thiserror::Error;
+
+/// Why a line is refused.
+#[derive(Clone, Copy, Debug, PartialEq, Eq, Error)]
+pub enum LineFault {
+    /// Its words are no command.
+    #[error("not a command")]
+    NotACommand,
+    /// A word is no number, or its number is out of range.
+    #[error("not a number in range")]
+    BadNumber,
+    /// It has too many bytes.
+    #[error("line too long")]
+    LineTooLong,
+    /// It has a byte that is neither a tab nor a printing character of ASCII.
+    #[error("not ASCII")]
+    NotAscii,
+}
+
+impl LineFault {
+    /// The number that the refusal is told by.
+    pub fn number(self) -> u8
+        ensures { result ≡ line_fault_number self }
+    {
+        match self {
+            LineFault::NotACommand => refusal_numbers::NOT_A_COMMAND,
+            LineFault::BadNumber => refusal_numbers::BAD_NUMBER,
+            LineFault::LineTooLong => refusal_numbers::LINE_TOO_LONG,
+            LineFault::NotAscii => refusal_numbers::NOT_ASCII,
+        }
+    }
+}
+
+/// What a line asks to be told. Asking changes nothing.
+#[derive(Clone, Copy, Debug, PartialEq, Eq)]
+pub enum Question {
+    /// What a bench tells of its state.
+    State(Query),
+    /// A listing of the ROM: from an address on, of 1 to 256 lines.
+    Listing(Addr, u16),
+    /// The wiring of the board.
+    Board,
+}
+
+/// What a command line asks for.
+#[derive(Debug, Drop)]
+pub enum Request {
+    /// Nothing: the line is refused.
+    Refused(LineFault),
+    /// To be told of the bench.
+    Ask(Question),
+    /// A command on the bench.
+    Change(Command),
+}
+
+/// What a line of one word asks for.
+fn read_alone(word: &[u8]) -> Request
+    ensures { result ≡ request_alone word.now }
+{
+    if is_word(word, b"step") {
+        Request::Change(Command::Step)
+    } else if is_word(word, b"reset") {
+        Request::Change(Command::Reset)
+    } else if is_word(word, b"lamps") {
+        Request::Ask(Question::State(Query::Lamps))
+    } else if is_word(word, b"regs") {
+        Request::Ask(Question::State(Query::Regs))
+    } else if is_word(word, b"breaks") {
+        Request::Ask(Question::State(Query::Breaks))
+    } else if is_word(word, b"seq") {
+        Request::Ask(Question::State(Query::Seq))
+    } else if is_word(word, b"board") {
+        Request::Ask(Question::Board)
+    } else {
+        Request::Refused(LineFault::NotACommand)
+    }
+}
+
+/// What was read, or the refusal of a number.
+pub(crate) fn in_range(request: Option<Request>) -> Request
+    ensures { result ≡ or_bad_number request }
+{
+    match request {
+        Some(request) => request,
+        None => Request::Refused(LineFault::BadNumber),
+    }
+}
+
+/// What a line of two words asks for; none where its number is none, or out of its range.
+fn read_with_one(word: &[u8], a: &[u8]) -> Option<Request>
+    ensures { or_bad_number result ≡ request_with_one word.now a.now }
+{
+    let request = if is_word(word, b"run") {
+        Request::Change(Command::Run(number_within(a, u32::MAX)?))
+    } else if is_word(word, b"test") {
+        Request::Change(Command::Test(bit(a)?))
+    } else if is_word(word, b"break") {
+        Request::Change(Command::Break(address(a)?))
+    } else if is_word(word, b"unbreak") {
+        Request::Change(Command::Unbreak(address(a)?))
+    } else if is_word(word, b"ram") {
+        Request::Ask(Question::State(Query::Ram(bank(a)?)))
+    } else {
+        Request::Refused(LineFault::NotACommand)
+    };
+    Some(request)
+}
+
+/// What `list` with an address and a number of lines asks for; none where one is no number, or out of its range.
+fn read_list(a: &[u8], n: &[u8]) -> Option<Request>
+    ensures { or_bad_number result ≡ list_of a.now n.now }
+{
+    let at = address(a)?;
+    let lines = number_within(n, 256)?;
+    if lines == 0 {
+        return None;
+    }
+    Some(Request::Ask(Question::Listing(at, lines as u16)))
+}
+
+/// What a line of three words asks for; none where a number is none, or out of its range.
+fn read_with_two(word: &[u8], a: &[u8], b: &[u8]) -> Option<Request>
+    ensures { or_bad_number result ≡ request_with_two word.now a.now b.now }
+{
+    let request = if is_word(word, b"poke") {
+        read_poke(a, b)
+    } else if is_word(word, b"press") {
+        Request::Change(Command::Press(byte(a)?, byte(b)?))
+    } else if is_word(word, b"release") {
+        Request::Change(Command::Release(byte(a)?, byte(b)?))
+    } else if is_word(word, b"list") {
+        in_range(read_list(a, b))
+    } else {
+        Request::Refused(LineFault::NotACommand)
+    };
+    Some(request)
+}
+
+/// What the words of a line ask for.
+fn read_words(line: &[u8]) -> Request
+    ensures { result ≡ request_of_words (words_of line.now) }
+{
+    let Some((word, rest)) = next_word(line) else {
+        return Request::Refused(LineFault::NotACommand);
+    };
+    let Some((first, rest)) = next_word(rest) else {
+        return read_alone(word);
+    };
+    let Some((second, rest)) = next_word(rest) else {
+        return in_range(read_with_one(word, first));
+    };
+    match next_word(rest) {
+        None => in_range(read_with_two(word, first, second)),
+        Some(_) => Request::Refused(LineFault::NotACommand),
+    }
+}
+
+/// Whether a line has no byte that a line may not have.
+fn is_plain(line: &[u8]) -> bool
+    ensures { result ≡ list_all is_plain_byte line.now }
+{
+    line.iter().all(|b| is_plain_byte(*b))
+}
+
+/// What a line asks for. It is to come without its end, and with at most 255 bytes.
+#[tactic(auto, unfolding(crate::specs::Requests::request_of))]
+pub fn read_request(line: &[u8]) -> Request
+    ensures { result ≡ request_of line.now }
+{
+    if is_plain(line) {
+        read_words(line)
+    } else {
+        Request::Refused(LineFault::NotAscii)
+    }
+}

@@ -1,0 +1,97 @@
+//! The words of a line, and the parts of a word.
+ghost use Rattle.std.specs.Prelude.{◌≡◌, ◌≤◌, ◌∷◌, [], MatchOption, length, take, drop};
+ghost use Rattle.std.specs.List.{list_all};
+ghost use Rattle.std.specs.Str.{bytes_eq};
+ghost use Rattle.mcs_lines.specs.Cutting.{HasNone, cut_at};
+ghost use Rattle.mcs_lines.specs.Words.{BeginsWord, EndsPart, EndsWord, is_blank_byte, is_dot, is_plain_byte, words_of};
+
+/// Whether a byte separates words.
+pub fn is_blank_byte(byte: u8) -> bool
+    ensures { result ≡ is_blank_byte byte }
+{
+    byte == b' ' || byte == b'\t'
+}
+
+/// Whether a byte is a tab, or a character of ASCII that prints.
+pub fn is_plain_byte(byte: u8) -> bool
+    ensures { result ≡ is_plain_byte byte }
+{
+    byte == b'\t' || (31 < byte && byte < 127)
+}
+
+/// Whether a line has no word.
+pub fn is_blank(line: &[u8]) -> bool
+    ensures { result ≡ list_all is_blank_byte line.now }
+{
+    line.iter().all(|b| is_blank_byte(*b))
+}
+
+/// Whether a word is this name.
+pub fn is_word(word: &[u8], name: &[u8]) -> bool
+    ensures { result ≡ bytes_eq word.now name.now }
+{
+    word == name
+}
+
+/// The line without the blanks that it begins with.
+fn without_blanks(line: &[u8]) -> &[u8]
+    ensures words { words_of result.now ≡ words_of line.now }
+    ensures begins { BeginsWord result.now }
+{
+    for (at, byte) in line.iter().enumerate() {
+        if !is_blank_byte(*byte) {
+            return &line[at..];
+        }
+    }
+    &[]
+}
+
+/// How many bytes the word has that a line begins with.
+fn word_at_front(line: &[u8]) -> usize
+    ensures within { result ≤ length line.now }
+    ensures word { EndsWord (take result line.now) (drop result line.now) }
+{
+    for (at, byte) in line.iter().enumerate() {
+        if is_blank_byte(*byte) {
+            return at;
+        }
+    }
+    line.len()
+}
+
+/// The first word of a line, and what follows it; or none, where the line is blank.
+pub fn next_word(line: &[u8]) -> Option<(&[u8], &[u8])>
+    ensures { MatchOption result (words_of line.now ≡ []) (λ found. words_of line.now ≡ found.0.now ∷ words_of found.1.now) }
+{
+    let line = without_blanks(line);
+    if line.is_empty() {
+        return None;
+    }
+    let end = word_at_front(line);
+    Some((&line[..end], &line[end..]))
+}
+
+/// How many bytes the part has that a word begins with.
+fn part_at_front(word: &[u8]) -> usize
+    ensures within { result ≤ length word.now }
+    ensures part { EndsPart (take result word.now) (drop result word.now) }
+{
+    for (at, byte) in word.iter().enumerate() {
+        if *byte == b'.' {
+            return at;
+        }
+    }
+    word.len()
+}
+
+/// The first part of a word, and what follows the dot behind it, if there is one.
+pub fn next_part(word: &[u8]) -> (&[u8], Option<&[u8]>)
+    ensures { MatchOption result.1 (cut_at is_dot word.now ≡ result.0.now ∷ []) (λ rest. cut_at is_dot word.now ≡ result.0.now ∷ cut_at is_dot rest.now) }
+{
+    let end = part_at_front(word);
+    if end < word.len() {
+        (&word[..end], Some(&word[end + 1..]))
+    } else {
+        (word, None)
+    }
+}

@@ -1,0 +1,5 @@
+//! Reads command lines: at the edges of their ranges, and refused ones.
+#![tactic(auto)]
+
+#[cfg(test)]
+mod lines;

@@ -1,0 +1,86 @@
+//! The numbers of RAM banks, and of status characters.
+ghost use Rattle.std.specs.Prelude.{◌≡◌, ℕ, ◌<◌, ◌↔◌, IsSome, IfSome};
+
+use std::marker::Model;
+
+/// The number of a RAM bank, 0 to 7: the code that DCL puts into the command register.
+#[derive(Clone, Copy, Debug, Default, PartialEq, Eq, PartialOrd, Ord, Hash)]
+pub struct BankNo {
+    value: u8,
+}
+
+impl Model for BankNo {
+    ghost Value = { ℕ };
+
+    ghost view = { λ n. n.value };
+
+    ghost invariant = { λ n. n.value < 8 };
+
+    ghost inverse = { λ v. record { value = v } };
+}
+
+impl BankNo {
+    /// Bank 0.
+    pub const ZERO: BankNo = BankNo { value: 0 };
+
+    /// The bank of a number, or none where it is above 7.
+    pub fn of(value: u8) -> Option<BankNo>
+        ensures in_range { IsSome result ↔ (value < 8) }
+        ensures value { IfSome result (λ n. n ≡ value) }
+    {
+        if value < 8 {
+            Some(BankNo { value })
+        } else {
+            None
+        }
+    }
+
+    /// The number, 0 to 7.
+    pub fn get(self) -> u8
+        ensures value { result ≡ self }
+        ensures in_range { result < 8 }
+    {
+        self.value
+    }
+}
+
+/// The number of a status character of a RAM register, 0 to 3.
+#[derive(Clone, Copy, Debug, Default, PartialEq, Eq, PartialOrd, Ord, Hash)]
+pub struct StatusNo {
+    value: u8,
+}
+
+impl Model for StatusNo {
+    ghost Value = { ℕ };
+
+    ghost view = { λ n. n.value };
+
+    ghost invariant = { λ n. n.value < 4 };
+
+    ghost inverse = { λ v. record { value = v } };
+}
+
+impl StatusNo {
+    /// Status character 0.
+    pub const ZERO: StatusNo = StatusNo { value: 0 };
+
+    /// The status character of a number, or none where it is above 3.
+    pub fn of(value: u8) -> Option<StatusNo>
+        ensures in_range { IsSome result ↔ (value < 4) }
+        ensures value { IfSome result (λ n. n ≡ value) }
+    {
+        if value < 4 {
+            Some(StatusNo { value })
+        } else {
+            None
+        }
+    }
+
+    /// The number, 0 to 3.
+    pub fn get(self) -> u8
+        ensures value { result ≡ self }
+        ensures in_range { result < 4 }
+    {
+        self.value
+    }
+}

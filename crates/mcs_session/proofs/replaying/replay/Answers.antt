@@ -1,0 +1,67 @@
+use Rattle.std.proofs.Common.{rules, arith, ◌≡◌, ◌+◌, ◌≤◌, ℕ, List, None, length, subst}
+use Rattle.std.proofs.lemmas.List.{take_all}
+use Rattle.mcs_model.specs.declared.command.Command.{Command}
+use Rattle.mcs_model.specs.Command.{refusal}
+use Rattle.mcs_model.specs.declared.limits.TheConstants.{REPLAY_CYCLES}
+use Rattle.mcs_codec.proofs.CommandCodec.{same_command}
+use Rattle.mcs_session.specs.Invariant.{IsReplayed}
+use Rattle.mcs_session.proofs.Records.{no_pair, one_more, replayed_more, replayed_none, too_long}
+use Rattle.mcs_session.proofs.replaying.replay.Goals as goal
+
+pub returns-in-Ok-None-command_of-clause-none : goal.returns-in-Ok-None-command_of-clause-none
+returns-in-Ok-None-command_of-clause-none c = λ s pair.
+    no_pair _ _ _ c.loop-at.at _ s c.get.ensures c.loop-at.invariant.so_far.stand (λ d spells accepted. (rw c.in-Ok-None-command_of.field-0-is at c.in-Ok-None-command_of.ensures.none) d spells) pair
+
+pub returns-then-is_err-clause-none : goal.returns-then-is_err-clause-none
+returns-then-is_err-clause-none c = λ s pair.
+    no_pair _ _ _ c.loop-at.at _ s c.get.ensures c.loop-at.invariant.so_far.stand
+    (λ d spells accepted.
+    let same = same_command _ d c.in-Ok-Some-command_of.command spells (rw c.in-Ok-Some-command_of.field-0-is at c.in-Ok-Some-command_of.ensures.some) in
+    let was : refusal c.loop-at.bench c.in-Ok-Some-command_of.command ≡ None = subst (λ (x : Command). refusal c.loop-at.bench x ≡ None) same accepted in
+    search rules)
+    pair
+
+pub returns-then-more-cycles-clause-none : goal.returns-then-more-cycles-clause-none
+returns-then-more-cycles-clause-none c = λ s pair.
+    let bounded = c.loop-at.invariant.bounded in
+    let over = c.if-more-cycles.true in
+    let more = c.replay_cycles-more.ensures in
+    too_long _ _ _ c.loop-at.at _ _ s _ c.get.ensures c.loop-at.invariant.so_far (rw c.in-Ok-Some-command_of.field-0-is at c.in-Ok-Some-command_of.ensures.some) (omega (arith, bounded, over, more)) pair
+
+pub loop-at-init : goal.loop-at-init
+loop-at-init c = record {
+  within = omega arith;
+  bounded = omega arith;
+  so_far = replayed_none _ _ (rw c.in-Ok-Some.field-0-is at c.in-Ok-Some.ensures.some);
+}
+
+pub loop-at-preserved : goal.loop-at-preserved
+loop-at-preserved c =
+    let bounded = c.loop-at.invariant.bounded in
+    let over = c.if-more-cycles.false in
+    let few : c.loop-at.cycles + c.replay_cycles-more.result ≤ REPLAY_CYCLES = omega (arith, bounded, over) in
+    let accepted : refusal c.loop-at.bench c.in-Ok-Some-command_of.command ≡ None = search rules in
+    record {
+      within = omega (arith, c.loop-at-test.true, c.len.ensures);
+      bounded = few;
+      so_far = rw (one_more _ _ c.loop-at.at c.get.ensures, c.apply-reply.ensures.state)
+          (replayed_more _ _ _ _ _ _ _ c.loop-at.invariant.so_far (rw c.in-Ok-Some-command_of.field-0-is at c.in-Ok-Some-command_of.ensures.some) accepted c.replay_cycles-more.ensures few);
+    }
+
+pub loop-at-preserved-else-more-cycles : goal.loop-at-preserved-else-more-cycles
+loop-at-preserved-else-more-cycles c =
+    let bounded = c.loop-at.invariant.bounded in
+    let over = c.if-more-cycles.false in
+    let few : c.loop-at.cycles + c.replay_cycles-more.result ≤ REPLAY_CYCLES = omega (arith, bounded, over) in
+    let accepted : refusal c.loop-at.bench c.in-Ok-Some-command_of.command ≡ None = search rules in
+    record {
+      within = omega (arith, c.loop-at-test.true, c.len.ensures);
+      bounded = few;
+      so_far = rw (one_more _ _ c.loop-at.at c.get.ensures, c.apply-reply.ensures.state)
+          (replayed_more _ _ _ _ _ _ _ c.loop-at.invariant.so_far (rw c.in-Ok-Some-command_of.field-0-is at c.in-Ok-Some-command_of.ensures.some) accepted c.replay_cycles-more.ensures few);
+    }
+
+pub returns-clause-some : goal.returns-clause-some
+returns-clause-some c =
+    let whole : length c.args.records.now ≤ c.loop-at.at = omega (arith, c.loop-at-test.false, c.len.ensures) in
+    subst (λ (rs : List (List ℕ)). IsReplayed c.args.snap.now rs c.loop-at.cycles c.loop-at.bench) (take_all c.loop-at.at c.args.records.now whole) c.loop-at.invariant.so_far

@@ -1,0 +1,113 @@
+//! The log of a session: the records of its commands, and a snapshot in their place where there is no room for one more.
+ghost use Rattle.std.specs.Prelude.{◌≡◌, ◌+◌, ◌≤◌, None, IsErr, IsTrue, OnOk, is_ok, length, take};
+ghost use Rattle.mcs_codec.specs.Codec.{Spells, SpellsState};
+ghost use Rattle.mcs_codec.specs.CommandText.{command_text};
+ghost use Rattle.mcs_disk.specs.Moments.{Counts, LeavesOnly};
+ghost use Rattle.mcs_journal.specs.File.{HasRoom};
+ghost use Rattle.mcs_model.specs.Command.{after, refusal};
+ghost use Rattle.mcs_session.specs.Answers.{Acknowledges, MayLeave};
+ghost use Rattle.mcs_session.specs.Invariant.{HasMadeRoom, IsReady, IsRecorded};
+ghost use Rattle.mcs_session.specs.Stands.{StandsFor};
+
+use crate::replaying::replay_cycles;
+use mcs_bench::Bench;
+use mcs_codec::{command_bytes, state_bytes};
+use mcs_disk::{Disk, DiskFault};
+use mcs_journal::{MOST_RECORD, MOST_SNAP, Store};
+use mcs_model::command::Command;
+use mcs_model::limits::REPLAY_CYCLES;
+
+/// A store whose records are those of commands, and what it takes to add one.
+#[derive(Drop)]
+pub struct CommandLog<D: Disk + Drop> {
+    pub store: Store<D>,
+    /// The instruction cycles that the commands of the log count.
+    pub cycles: u32,
+    /// Room for the bytes of a command.
+    pub text: Vec<u8>,
+    /// Room for a snapshot.
+    pub snapshot: Vec<u8>,
+}
+
+/// Spells a command at the front of a buffer, and answers how many bytes it took.
+fn spell_command(text: &mut Vec<u8>, command: &Command) -> usize
+    requires { length text.old.items ≡ MOST_RECORD }
+    ensures lent { length text.new.items ≡ MOST_RECORD }
+    ensures spells { Spells (take result text.new.items) command.now }
+    ensures count { result ≡ length (command_text command.now) }
+    ensures record { (1 ≤ result) × (result ≤ MOST_RECORD) }
+{
+    command_bytes(command, text.as_mut_slice())
+}
+
+/// Spells the state of a bench at the front of a buffer, and answers how many bytes it took.
+pub(crate) fn spell_state(snapshot: &mut Vec<u8>, bench: &Bench) -> usize
+    requires { length snapshot.old.items ≡ MOST_SNAP }
+    ensures lent { length snapshot.new.items ≡ MOST_SNAP }
+    ensures spells { SpellsState (take result snapshot.new.items) bench.now }
+    ensures short { result ≤ MOST_SNAP }
+{
+    state_bytes(bench, snapshot.as_mut_slice())
+}
+
+impl<D: Disk + Drop> CommandLog<D> {
+    /// Makes room for a record of `count` bytes and for `more` cycles: where there is none, a snapshot of the bench takes the
+    /// place of all that the store holds.
+    fn make_room(&mut self, bench: &Bench, count: usize, more: u32) -> Result<(), DiskFault>
+        requires live { IsTrue self.old.store.live }
+        requires count { count ≤ MOST_RECORD }
+        requires more { more ≤ REPLAY_CYCLES }
+        requires ready { IsReady self.old.cycles self.old.text.items self.old.snapshot.items }
+        ensures live { self.new.store.live ≡ is_ok result }
+        ensures counts { Counts (D.state self.old.store.disk) (D.state self.new.store.disk) (IsErr result) }
+        ensures text { self.new.text ≡ self.old.text }
+        ensures ready { IsReady self.new.cycles self.new.text.items self.new.snapshot.items }
+        ensures room { OnOk result
+            (HasRoom self.new.store.used count × (self.new.cycles + more ≤ REPLAY_CYCLES)) }
+        ensures moments { (D.state self.old.store.disk).honest
+            → IsRecorded (D.state self.old.store.disk) self.old.cycles bench.now
+            → LeavesOnly (D.state self.old.store.disk) (D.state self.new.store.disk)
+            (λ file. StandsFor file bench.now) }
+        ensures made { (D.state self.old.store.disk).honest
+            → IsRecorded (D.state self.old.store.disk) self.old.cycles bench.now
+            → OnOk result (HasMadeRoom (D.state self.old.store.disk) (D.state self.new.store.disk)
+            count more self.new.cycles bench.now) }
+    {
+        if self.store.has_room(count) && more <= REPLAY_CYCLES - self.cycles {
+            return Ok(());
+        }
+        let length = spell_state(&mut self.snapshot, bench);
+        self.store.replace(&self.snapshot.as_slice()[..length])?;
+        self.cycles = 0;
+        Ok(())
+    }
+
+    /// Records a command that the bench accepts. It is on the disk once this answers Ok.
+    pub(crate) fn record(&mut self, bench: &Bench, command: &Command) -> Result<(), DiskFault>
+        requires live { IsTrue self.old.store.live }
+        requires accepted { refusal bench.now command.now ≡ None }
+        requires ready { IsReady self.old.cycles self.old.text.items self.old.snapshot.items }
+        ensures live { self.new.store.live ≡ is_ok result }
+        ensures counts { Counts (D.state self.old.store.disk) (D.state self.new.store.disk) (IsErr result) }
+        ensures ready { IsReady self.new.cycles self.new.text.items self.new.snapshot.items }
+        ensures moments { (D.state self.old.store.disk).honest
+            → IsRecorded (D.state self.old.store.disk) self.old.cycles bench.now
+            → MayLeave (D.state self.old.store.disk) (D.state self.new.store.disk)
+            bench.now (after bench.now command.now) }
+        ensures acknowledges { (D.state self.old.store.disk).honest
+            → IsRecorded (D.state self.old.store.disk) self.old.cycles bench.now
+            → OnOk result (Acknowledges (D.state self.old.store.disk) (D.state self.new.store.disk)
+            bench.now command.now) }
+        ensures recorded { (D.state self.old.store.disk).honest
+            → IsRecorded (D.state self.old.store.disk) self.old.cycles bench.now
+            → OnOk result (IsRecorded (D.state self.new.store.disk) self.new.cycles
+            (after bench.now command.now)) }
+    {
+        let count = spell_command(&mut self.text, command);
+        let more = replay_cycles(command);
+        self.make_room(bench, count, more)?;
+        self.store.append(&self.text.as_slice()[..count])?;
+        self.cycles += more;
+        Ok(())
+    }
+}

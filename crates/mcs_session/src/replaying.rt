@@ -1,0 +1,68 @@
+//! What a snapshot and the records behind it stand for.
+ghost use Rattle.std.specs.Prelude.{◌≡◌, IfOk, IfSome, IfNone};
+ghost use Rattle.mcs_model.specs.Flat.{Flat};
+ghost use Rattle.mcs_session.specs.Invariant.{IsReplayed};
+ghost use Rattle.mcs_session.specs.Stands.{RecordsStandFor, replay_cycles};
+
+use mcs_bench::Bench;
+use mcs_codec::{bench_of, command_of};
+use mcs_journal::Records;
+use mcs_model::command::Command;
+use mcs_model::limits::REPLAY_CYCLES;
+use std::alloc::{AllocError, Global};
+
+/// A bench as the commands of a log left it, and the instruction cycles that the log counts.
+#[derive(Drop)]
+pub struct Replayed {
+    pub bench: Bench,
+    pub cycles: u32,
+}
+
+/// The instruction cycles that a command counts for in the log.
+pub(crate) fn replay_cycles(command: &Command) -> u32
+    ensures { result ≡ replay_cycles command.now }
+{
+    match command {
+        Command::Run(cycles) => *cycles,
+        Command::Step => 2,
+        _ => 0,
+    }
+}
+
+/// The bench that a snapshot and the records behind it stand for, or none.
+pub(crate) fn replay(
+    alloc: Global,
+    snap: &[u8],
+    records: &Records,
+) -> Result<Option<Replayed>, AllocError>
+    ensures some { IfOk result (λ found.
+        IfSome found (λ r. IsReplayed snap.now records.now r.cycles r.bench)) }
+    ensures none { IfOk result (λ found.
+        IfNone found ((s : Flat) → RecordsStandFor snap.now records.now s → ⊥)) }
+{
+    let mut bench = match bench_of(alloc, snap) {
+        Ok(Some(bench)) => bench,
+        Ok(None) => return Ok(None),
+        Err(refused) => return Err(refused),
+    };
+    let mut cycles = 0;
+    let mut at = 0;
+    while at < records.len() {
+        let command = match command_of(alloc, records.get(at)) {
+            Ok(Some(command)) => command,
+            Ok(None) => return Ok(None),
+            Err(refused) => return Err(refused),
+        };
+        if bench.check(&command).is_err() {
+            return Ok(None);
+        }
+        let more = replay_cycles(&command);
+        if more > REPLAY_CYCLES - cycles {
+            return Ok(None);
+        }
+        let _reply = bench.apply(&command);
+        cycles += more;
+        at += 1;
+    }
+    Ok(Some(Replayed { bench, cycles }))
+}

@@ -1,0 +1,9 @@
+//! Runs sessions over disks in memory: the bytes that they write, where they make a snapshot, and what is found after a stop.
+#![tactic(auto)]
+
+#[cfg(test)]
+mod boards;
+#[cfg(test)]
+mod desk;
+#[cfg(test)]
+mod tests;

@@ -1,0 +1,112 @@
+//! The answer to one input.
+ghost use Rattle.std.specs.Prelude.{◌≡◌, ◌≤◌, ◌++◌, [], length, true, IfErr, OnOk, OnErr};
+ghost use Rattle.std.specs.Io.KnownBytes.{Appends};
+ghost use Rattle.std.specs.Fmt.{decimal};
+ghost use Rattle.mcs_answers.specs.AnswerTexts.{answer_text, line_feed, no_text, ok_text, takes_memory};
+ghost use Rattle.mcs_shell.specs.Serving.{GotSome};
+ghost use Rattle.mcs_shell.specs.Spelling.{text_refusal};
+
+use crate::sending::{WriteStopped, send, send_two};
+use crate::spelling::TextRefusal;
+use arrayvec::ArrayVec;
+use mcs_answers::{put_answer, put_number, put_refusal_at, put_reply};
+use mcs_bench::Bench;
+use mcs_lines::requests::Question;
+use mcs_model::command::Reply;
+use std::alloc::{AllocError, Global};
+use std::io::Write;
+use std::marker::Model;
+
+/// The answer to one input: a short text, and where it takes memory a long one behind it.
+#[derive(Drop)]
+pub struct Answer {
+    short: ArrayVec<u8, 512>,
+    long: Option<Vec<u8>>,
+}
+
+impl Model for Answer {
+    ghost use Rattle.std.specs.Prelude.{ℕ, List, option_map};
+    ghost use Rattle.mcs_answers.specs.Told.{told};
+
+    ghost Value = { List ℕ };
+
+    ghost view = { λ a. told a.short.items (option_map (λ v. v.items) a.long) };
+}
+
+impl Answer {
+    /// Nothing is told.
+    pub fn new() -> Self
+        ensures { result ≡ [] }
+    {
+        Answer {
+            short: ArrayVec::new(),
+            long: None,
+        }
+    }
+
+    /// Tells a word, a number and a line feed.
+    pub(crate) fn tell_number(&mut self, word: &[u8], n: u32)
+        requires { length word.now ≤ 20 }
+        ensures { self.new ≡ word.now ++ (decimal n ++ line_feed) }
+    {
+        self.long = None;
+        self.short.clear();
+        put_number(&mut self.short, word, u64::from(n));
+    }
+
+    /// Tells a refusal by its number.
+    pub(crate) fn tell_refusal(&mut self, number: u8)
+        ensures { self.new ≡ no_text number }
+    {
+        self.tell_number(b"no ", u32::from(number));
+    }
+
+    /// Tells why a text spells nothing.
+    pub(crate) fn tell_text_refusal(&mut self, refusal: TextRefusal)
+        ensures { self.new ≡ text_refusal refusal }
+    {
+        match refusal {
+            TextRefusal::Wiring(fault) => self.tell_refusal(fault.number()),
+            TextRefusal::Program(line, fault) => {
+                self.long = None;
+                self.short.clear();
+                put_refusal_at(&mut self.short, fault.number(), line as u64);
+            }
+        }
+    }
+
+    /// Tells of an accepted command, by its reply and the bench after it.
+    pub(crate) fn tell_reply(&mut self, reply: &Reply, bench: &Bench)
+        ensures { self.new ≡ ok_text reply.now bench.now }
+    {
+        self.long = None;
+        self.short.clear();
+        put_reply(&mut self.short, reply, bench);
+    }
+
+    /// Tells what is asked for. It fails where memory is refused, and then nothing is said of what is told.
+    pub(crate) fn tell_answer(
+        &mut self,
+        alloc: Global,
+        question: &Question,
+        bench: &Bench,
+    ) -> Result<(), AllocError>
+        ensures told { OnOk result (self.new ≡ answer_text question.now bench.now) }
+        ensures memory { OnErr result (takes_memory question.now ≡ true) }
+    {
+        self.short.clear();
+        self.long = put_answer(alloc, &mut self.short, question, bench)?;
+        Ok(())
+    }
+
+    /// Writes all of it. On an `Err` the writer has got less, the first bytes.
+    pub(crate) fn send<W: Write>(&self, writer: &mut W) -> Result<(), WriteStopped>
+        ensures ok { OnOk result (Appends (W.contents writer.old) (W.contents writer.new) self.now) }
+        ensures err { OnErr result (GotSome (W.contents writer.old) (W.contents writer.new) self.now) }
+    {
+        match &self.long {
+            None => send(writer, self.short.as_slice()),
+            Some(long) => send_two(writer, self.short.as_slice(), long.as_slice()),
+        }
+    }
+}

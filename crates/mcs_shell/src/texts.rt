@@ -1,0 +1,131 @@
+//! Texts: where they begin and end, and which are refused whatever their lines say.
+ghost use Rattle.std.specs.Prelude.{◌≡◌, None};
+ghost use Rattle.std.specs.List.{list_all};
+ghost use Rattle.mcs_lines.specs.Cutting.{cut_at};
+ghost use Rattle.mcs_shell.specs.Lines.{is_line_feed};
+ghost use Rattle.mcs_shell.specs.Inputs.{fault_of, is_dot, is_short, is_text_byte, opened};
+ghost use Rattle.mcs_shell.specs.RefusalNumbers.{text_fault_number};
+
+use mcs_lines::words::{is_plain_byte, is_word, next_word};
+use mcs_model::limits::{LINE_BYTES, TEXT_BYTES};
+use mcs_model::refusal_numbers;
+use std::str;
+use thiserror::Error;
+
+/// What a text tells.
+#[derive(Clone, Copy, Debug, PartialEq, Eq)]
+pub enum TextKind {
+    /// A board.
+    Wire,
+    /// A program.
+    Asm,
+}
+
+/// Why a text is refused, whatever its lines say.
+#[derive(Clone, Copy, Debug, PartialEq, Eq, Error)]
+pub enum TextFault {
+    /// Input ended inside it.
+    #[error("no end of text")]
+    NoEnd,
+    /// It has too many bytes.
+    #[error("text too long")]
+    TextTooLong,
+    /// One of its lines has too many bytes.
+    #[error("line too long")]
+    HasLongLine,
+    /// It has a byte that is neither a tab nor a printing character of ASCII.
+    #[error("not ASCII")]
+    HasBadByte,
+}
+
+impl TextFault {
+    /// The number that the refusal is told by.
+    pub fn number(self) -> u8
+        ensures { result ≡ text_fault_number self }
+    {
+        match self {
+            TextFault::NoEnd => refusal_numbers::NO_END,
+            TextFault::TextTooLong => refusal_numbers::TEXT_TOO_LONG,
+            TextFault::HasLongLine => refusal_numbers::LINE_TOO_LONG,
+            TextFault::HasBadByte => refusal_numbers::NOT_ASCII,
+        }
+    }
+}
+
+/// The text that begins behind a line, if any.
+#[tactic(auto, unfolding(crate::specs::Inputs::opened))]
+pub fn opens(line: &[u8]) -> Option<TextKind>
+    ensures { result ≡ opened line.now }
+{
+    if line.len() > LINE_BYTES {
+        return None;
+    }
+    let Some((word, rest)) = next_word(line) else {
+        return None;
+    };
+    if next_word(rest).is_some() {
+        None
+    } else if is_word(word, b"wire") {
+        Some(TextKind::Wire)
+    } else if is_word(word, b"asm") {
+        Some(TextKind::Asm)
+    } else {
+        None
+    }
+}
+
+/// Whether a line ends a text.
+pub fn ends_text(line: &[u8]) -> bool
+    ensures { result ≡ is_dot line.now }
+{
+    is_word(line, b".")
+}
+
+fn has_short_lines(text: &[u8]) -> bool
+    ensures { result ≡ list_all is_short (cut_at is_line_feed text.now) }
+{
+    let mut count = 0;
+    for byte in text {
+        if *byte == b'\n' {
+            count = 0;
+        } else if count == LINE_BYTES {
+            return false;
+        } else {
+            count += 1;
+        }
+    }
+    true
+}
+
+fn has_text_bytes(text: &[u8]) -> bool
+    ensures { result ≡ list_all is_text_byte text.now }
+{
+    text.iter().all(|b| *b == b'\n' || is_plain_byte(*b))
+}
+
+/// Why a text that has an end is refused whatever its lines say, if it is.
+#[tactic(auto, unfolding(crate::specs::Inputs::fault_of))]
+pub fn text_fault(text: &[u8]) -> Option<TextFault>
+    ensures { result ≡ fault_of text.now }
+{
+    if text.len() > TEXT_BYTES {
+        Some(TextFault::TextTooLong)
+    } else if !has_short_lines(text) {
+        Some(TextFault::HasLongLine)
+    } else if !has_text_bytes(text) {
+        Some(TextFault::HasBadByte)
+    } else {
+        None
+    }
+}
+
+/// The bytes of a text that is not refused, as text.
+pub fn as_text(text: &[u8]) -> &str
+    requires { fault_of text.now ≡ None }
+    ensures { result.now ≡ text.now }
+{
+    match str::from_utf8(text) {
+        Ok(text) => text,
+        Err(_) => unreachable!(),
+    }
+}
