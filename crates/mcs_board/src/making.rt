@@ -17,9 +17,9 @@ use mcs_model::board::Board;
 use mcs_nibble::Bit;
 use std::alloc::{AllocError, Global};
 
-/// The most bits of a chain: half of the bytes that an address can tell apart, so that a chain of more would be
-/// larger than any memory.
-const MOST_BITS: usize = isize::MAX as usize / 2;
+/// The most bits of a chain: a chain has room for a word of two bytes for each, so that one of more would be larger
+/// than any memory.
+const MOST_BITS: usize = isize::MAX as usize / 4;
 
 /// How many addresses the ROMs have.
 const ADDRESSES: usize = 4096;

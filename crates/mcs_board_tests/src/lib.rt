@@ -7,4 +7,6 @@ mod boards;
 #[cfg(test)]
 mod chips;
 #[cfg(test)]
+mod seeded;
+#[cfg(test)]
 mod tests;

@@ -3,58 +3,59 @@
 /// Hands the rows of the code table to another macro, behind `$head`.
 ///
 /// A row is: the upper and the lower nibble of its codes as patterns, the instruction, the kind of
-/// its operands, the number of its words, the number of its instruction cycles, and its name as text.
+/// its operands, the number of its words, the number of its instruction cycles, the group in which its name is looked
+/// up, and its name as text.
 /// Where a row has many codes, the first pattern of the lower nibble is the lowest.
 #[macro_export]
 macro_rules! instructions {
     ($with:ident! $head:tt) => {
         $with! {
             $head
-            (0x0, 0x0), Nop none 1 1 "NOP";
-            (0x1, 0x0..=0xF), Jcn nibble_byte 2 2 "JCN";
-            (0x2, 0x0 | 0x2 | 0x4 | 0x6 | 0x8 | 0xA | 0xC | 0xE), Fim pair_byte 2 2 "FIM";
-            (0x2, 0x1 | 0x3 | 0x5 | 0x7 | 0x9 | 0xB | 0xD | 0xF), Src pair 1 1 "SRC";
-            (0x3, 0x0 | 0x2 | 0x4 | 0x6 | 0x8 | 0xA | 0xC | 0xE), Fin pair 1 2 "FIN";
-            (0x3, 0x1 | 0x3 | 0x5 | 0x7 | 0x9 | 0xB | 0xD | 0xF), Jin pair 1 1 "JIN";
-            (0x4, 0x0..=0xF), Jun nibble_byte 2 2 "JUN";
-            (0x5, 0x0..=0xF), Jms nibble_byte 2 2 "JMS";
-            (0x6, 0x0..=0xF), Inc register 1 1 "INC";
-            (0x7, 0x0..=0xF), Isz register_byte 2 2 "ISZ";
-            (0x8, 0x0..=0xF), Add register 1 1 "ADD";
-            (0x9, 0x0..=0xF), Sub register 1 1 "SUB";
-            (0xA, 0x0..=0xF), Ld register 1 1 "LD";
-            (0xB, 0x0..=0xF), Xch register 1 1 "XCH";
-            (0xC, 0x0..=0xF), Bbl nibble 1 1 "BBL";
-            (0xD, 0x0..=0xF), Ldm nibble 1 1 "LDM";
-            (0xE, 0x0), Wrm none 1 1 "WRM";
-            (0xE, 0x1), Wmp none 1 1 "WMP";
-            (0xE, 0x2), Wrr none 1 1 "WRR";
-            (0xE, 0x4), Wr0 none 1 1 "WR0";
-            (0xE, 0x5), Wr1 none 1 1 "WR1";
-            (0xE, 0x6), Wr2 none 1 1 "WR2";
-            (0xE, 0x7), Wr3 none 1 1 "WR3";
-            (0xE, 0x8), Sbm none 1 1 "SBM";
-            (0xE, 0x9), Rdm none 1 1 "RDM";
-            (0xE, 0xA), Rdr none 1 1 "RDR";
-            (0xE, 0xB), Adm none 1 1 "ADM";
-            (0xE, 0xC), Rd0 none 1 1 "RD0";
-            (0xE, 0xD), Rd1 none 1 1 "RD1";
-            (0xE, 0xE), Rd2 none 1 1 "RD2";
-            (0xE, 0xF), Rd3 none 1 1 "RD3";
-            (0xF, 0x0), Clb none 1 1 "CLB";
-            (0xF, 0x1), Clc none 1 1 "CLC";
-            (0xF, 0x2), Iac none 1 1 "IAC";
-            (0xF, 0x3), Cmc none 1 1 "CMC";
-            (0xF, 0x4), Cma none 1 1 "CMA";
-            (0xF, 0x5), Ral none 1 1 "RAL";
-            (0xF, 0x6), Rar none 1 1 "RAR";
-            (0xF, 0x7), Tcc none 1 1 "TCC";
-            (0xF, 0x8), Dac none 1 1 "DAC";
-            (0xF, 0x9), Tcs none 1 1 "TCS";
-            (0xF, 0xA), Stc none 1 1 "STC";
-            (0xF, 0xB), Daa none 1 1 "DAA";
-            (0xF, 0xC), Kbp none 1 1 "KBP";
-            (0xF, 0xD), Dcl none 1 1 "DCL";
+            (0x0, 0x0), Nop none 1 1 registers "NOP";
+            (0x1, 0x0..=0xF), Jcn nibble_byte 2 2 addressing "JCN";
+            (0x2, 0x0 | 0x2 | 0x4 | 0x6 | 0x8 | 0xA | 0xC | 0xE), Fim pair_byte 2 2 addressing "FIM";
+            (0x2, 0x1 | 0x3 | 0x5 | 0x7 | 0x9 | 0xB | 0xD | 0xF), Src pair 1 1 addressing "SRC";
+            (0x3, 0x0 | 0x2 | 0x4 | 0x6 | 0x8 | 0xA | 0xC | 0xE), Fin pair 1 2 addressing "FIN";
+            (0x3, 0x1 | 0x3 | 0x5 | 0x7 | 0x9 | 0xB | 0xD | 0xF), Jin pair 1 1 addressing "JIN";
+            (0x4, 0x0..=0xF), Jun nibble_byte 2 2 addressing "JUN";
+            (0x5, 0x0..=0xF), Jms nibble_byte 2 2 addressing "JMS";
+            (0x6, 0x0..=0xF), Inc register 1 1 registers "INC";
+            (0x7, 0x0..=0xF), Isz register_byte 2 2 registers "ISZ";
+            (0x8, 0x0..=0xF), Add register 1 1 registers "ADD";
+            (0x9, 0x0..=0xF), Sub register 1 1 registers "SUB";
+            (0xA, 0x0..=0xF), Ld register 1 1 registers "LD";
+            (0xB, 0x0..=0xF), Xch register 1 1 registers "XCH";
+            (0xC, 0x0..=0xF), Bbl nibble 1 1 registers "BBL";
+            (0xD, 0x0..=0xF), Ldm nibble 1 1 registers "LDM";
+            (0xE, 0x0), Wrm none 1 1 ports "WRM";
+            (0xE, 0x1), Wmp none 1 1 ports "WMP";
+            (0xE, 0x2), Wrr none 1 1 ports "WRR";
+            (0xE, 0x4), Wr0 none 1 1 ports "WR0";
+            (0xE, 0x5), Wr1 none 1 1 ports "WR1";
+            (0xE, 0x6), Wr2 none 1 1 ports "WR2";
+            (0xE, 0x7), Wr3 none 1 1 ports "WR3";
+            (0xE, 0x8), Sbm none 1 1 memory "SBM";
+            (0xE, 0x9), Rdm none 1 1 memory "RDM";
+            (0xE, 0xA), Rdr none 1 1 memory "RDR";
+            (0xE, 0xB), Adm none 1 1 memory "ADM";
+            (0xE, 0xC), Rd0 none 1 1 memory "RD0";
+            (0xE, 0xD), Rd1 none 1 1 memory "RD1";
+            (0xE, 0xE), Rd2 none 1 1 memory "RD2";
+            (0xE, 0xF), Rd3 none 1 1 memory "RD3";
+            (0xF, 0x0), Clb none 1 1 accumulator "CLB";
+            (0xF, 0x1), Clc none 1 1 accumulator "CLC";
+            (0xF, 0x2), Iac none 1 1 accumulator "IAC";
+            (0xF, 0x3), Cmc none 1 1 accumulator "CMC";
+            (0xF, 0x4), Cma none 1 1 accumulator "CMA";
+            (0xF, 0x5), Ral none 1 1 accumulator "RAL";
+            (0xF, 0x6), Rar none 1 1 accumulator "RAR";
+            (0xF, 0x7), Tcc none 1 1 carry "TCC";
+            (0xF, 0x8), Dac none 1 1 carry "DAC";
+            (0xF, 0x9), Tcs none 1 1 carry "TCS";
+            (0xF, 0xA), Stc none 1 1 carry "STC";
+            (0xF, 0xB), Daa none 1 1 carry "DAA";
+            (0xF, 0xC), Kbp none 1 1 carry "KBP";
+            (0xF, 0xD), Dcl none 1 1 carry "DCL";
         }
     };
 }
@@ -128,7 +129,7 @@ macro_rules! spelled {
 
 /// The row of the first word, with both words.
 macro_rules! decode_rows {
-    (($first:ident, $second:ident) $($codes:pat, $name:ident $kind:ident $words:literal $cycles:literal $text:literal;)*) => {
+    (($first:ident, $second:ident) $($codes:pat, $name:ident $kind:ident $words:literal $cycles:literal $group:ident $text:literal;)*) => {
         match ($first / 16, $first % 16) {
             $($codes => Some(built!($first $second $name $kind)),)*
             _ => None,
@@ -138,7 +139,7 @@ macro_rules! decode_rows {
 
 /// The words of the instruction, by its row.
 macro_rules! encode_rows {
-    (($op:ident) $(($upper:literal, $lower:literal $($more:tt)*), $name:ident $kind:ident $words:literal $cycles:literal $text:literal;)*) => {
+    (($op:ident) $(($upper:literal, $lower:literal $($more:tt)*), $name:ident $kind:ident $words:literal $cycles:literal $group:ident $text:literal;)*) => {
         match $op {
             $(taken!(a b $name $kind) => spelled!(a b $upper $lower $kind),)*
         }
@@ -147,7 +148,7 @@ macro_rules! encode_rows {
 
 /// The number of words, by the row of the code.
 macro_rules! words_rows {
-    (($code:ident) $($codes:pat, $name:ident $kind:ident $words:literal $cycles:literal $text:literal;)*) => {
+    (($code:ident) $($codes:pat, $name:ident $kind:ident $words:literal $cycles:literal $group:ident $text:literal;)*) => {
         match ($code / 16, $code % 16) {
             $($codes => $words,)*
             _ => 1,
@@ -157,7 +158,7 @@ macro_rules! words_rows {
 
 /// The number of words, by the row of the instruction.
 macro_rules! word_count_rows {
-    (($op:ident) $($codes:pat, $name:ident $kind:ident $words:literal $cycles:literal $text:literal;)*) => {
+    (($op:ident) $($codes:pat, $name:ident $kind:ident $words:literal $cycles:literal $group:ident $text:literal;)*) => {
         match $op {
             $(taken!(_a _b $name $kind) => $words,)*
         }
@@ -166,7 +167,7 @@ macro_rules! word_count_rows {
 
 /// The number of instruction cycles, by the row of the instruction.
 macro_rules! cycles_rows {
-    (($op:ident) $($codes:pat, $name:ident $kind:ident $words:literal $cycles:literal $text:literal;)*) => {
+    (($op:ident) $($codes:pat, $name:ident $kind:ident $words:literal $cycles:literal $group:ident $text:literal;)*) => {
         match $op {
             $(taken!(_a _b $name $kind) => $cycles,)*
         }

@@ -5,7 +5,7 @@ ghost use Rattle.mcs_model.specs.Registers.{pair_of, with_pair};
 ghost use Rattle.mcs_model.specs.Bus.{fetch_of};
 
 use crate::bus::Bus;
-use mcs_code::Op;
+use mcs_code::{Op, instructions, taken};
 use mcs_model::regs::Regs;
 use mcs_nibble::{Addr, Bit, Nibble, PairNo, RegNo};
 
@@ -147,6 +147,170 @@ fn adjust(regs: &mut Regs)
     }
 }
 
+/// What an instruction does to registers and bus, by the name of its row; its operands are `$a` and `$b`.
+macro_rules! effect {
+    (Nop $regs:ident $bus:ident $a:ident $b:ident) => {
+        ()
+    };
+    (Jcn $regs:ident $bus:ident $a:ident $b:ident) => {
+        jump_on_condition($regs, $a, $b, $bus.test())
+    };
+    (Fim $regs:ident $bus:ident $a:ident $b:ident) => {
+        $regs.set_pair($a, $b)
+    };
+    (Src $regs:ident $bus:ident $a:ident $b:ident) => {
+        $bus.src($regs.dcl, $regs.pair($a))
+    };
+    (Fin $regs:ident $bus:ident $a:ident $b:ident) => {
+        fetch_indirect($regs, $bus, $a)
+    };
+    (Jin $regs:ident $bus:ident $a:ident $b:ident) => {
+        jump_indirect($regs, $a)
+    };
+    (Jun $regs:ident $bus:ident $a:ident $b:ident) => {
+        $regs.pc = Addr::on_page($a, $b)
+    };
+    (Jms $regs:ident $bus:ident $a:ident $b:ident) => {
+        call($regs, Addr::on_page($a, $b))
+    };
+    (Inc $regs:ident $bus:ident $a:ident $b:ident) => {
+        {
+            let (sum, _) = $regs.register($a).add(Nibble::ONE, Bit::ZERO);
+            $regs.set_register($a, sum);
+        }
+    };
+    (Isz $regs:ident $bus:ident $a:ident $b:ident) => {
+        count_up($regs, $a, $b)
+    };
+    (Add $regs:ident $bus:ident $a:ident $b:ident) => {
+        add($regs, $regs.register($a))
+    };
+    (Sub $regs:ident $bus:ident $a:ident $b:ident) => {
+        subtract($regs, $regs.register($a))
+    };
+    (Ld $regs:ident $bus:ident $a:ident $b:ident) => {
+        $regs.acc = $regs.register($a)
+    };
+    (Xch $regs:ident $bus:ident $a:ident $b:ident) => {
+        {
+            let held = $regs.register($a);
+            $regs.set_register($a, $regs.acc);
+            $regs.acc = held;
+        }
+    };
+    (Bbl $regs:ident $bus:ident $a:ident $b:ident) => {
+        {
+            branch_back($regs);
+            $regs.acc = $a;
+        }
+    };
+    (Ldm $regs:ident $bus:ident $a:ident $b:ident) => {
+        $regs.acc = $a
+    };
+    (Wrm $regs:ident $bus:ident $a:ident $b:ident) => {
+        $bus.ram_write($regs.dcl, $regs.acc)
+    };
+    (Wmp $regs:ident $bus:ident $a:ident $b:ident) => {
+        $bus.ram_port($regs.dcl, $regs.acc)
+    };
+    (Wrr $regs:ident $bus:ident $a:ident $b:ident) => {
+        $bus.rom_port($regs.acc)
+    };
+    (Wr0 $regs:ident $bus:ident $a:ident $b:ident) => {
+        $bus.status_write($regs.dcl, 0, $regs.acc)
+    };
+    (Wr1 $regs:ident $bus:ident $a:ident $b:ident) => {
+        $bus.status_write($regs.dcl, 1, $regs.acc)
+    };
+    (Wr2 $regs:ident $bus:ident $a:ident $b:ident) => {
+        $bus.status_write($regs.dcl, 2, $regs.acc)
+    };
+    (Wr3 $regs:ident $bus:ident $a:ident $b:ident) => {
+        $bus.status_write($regs.dcl, 3, $regs.acc)
+    };
+    (Sbm $regs:ident $bus:ident $a:ident $b:ident) => {
+        subtract($regs, $bus.ram_read($regs.dcl))
+    };
+    (Rdm $regs:ident $bus:ident $a:ident $b:ident) => {
+        $regs.acc = $bus.ram_read($regs.dcl)
+    };
+    (Rdr $regs:ident $bus:ident $a:ident $b:ident) => {
+        $regs.acc = $bus.port_read()
+    };
+    (Adm $regs:ident $bus:ident $a:ident $b:ident) => {
+        add($regs, $bus.ram_read($regs.dcl))
+    };
+    (Rd0 $regs:ident $bus:ident $a:ident $b:ident) => {
+        $regs.acc = $bus.status_read($regs.dcl, 0)
+    };
+    (Rd1 $regs:ident $bus:ident $a:ident $b:ident) => {
+        $regs.acc = $bus.status_read($regs.dcl, 1)
+    };
+    (Rd2 $regs:ident $bus:ident $a:ident $b:ident) => {
+        $regs.acc = $bus.status_read($regs.dcl, 2)
+    };
+    (Rd3 $regs:ident $bus:ident $a:ident $b:ident) => {
+        $regs.acc = $bus.status_read($regs.dcl, 3)
+    };
+    (Clb $regs:ident $bus:ident $a:ident $b:ident) => {
+        {
+            $regs.acc = Nibble::ZERO;
+            $regs.cy = Bit::ZERO;
+        }
+    };
+    (Clc $regs:ident $bus:ident $a:ident $b:ident) => {
+        $regs.cy = Bit::ZERO
+    };
+    (Iac $regs:ident $bus:ident $a:ident $b:ident) => {
+        ($regs.acc, $regs.cy) = $regs.acc.add(Nibble::ONE, Bit::ZERO)
+    };
+    (Cmc $regs:ident $bus:ident $a:ident $b:ident) => {
+        $regs.cy = $regs.cy.complement()
+    };
+    (Cma $regs:ident $bus:ident $a:ident $b:ident) => {
+        $regs.acc = $regs.acc.complement()
+    };
+    (Ral $regs:ident $bus:ident $a:ident $b:ident) => {
+        ($regs.acc, $regs.cy) = $regs.acc.add($regs.acc, $regs.cy)
+    };
+    (Rar $regs:ident $bus:ident $a:ident $b:ident) => {
+        rotate_right($regs)
+    };
+    (Tcc $regs:ident $bus:ident $a:ident $b:ident) => {
+        {
+            $regs.acc = Nibble::low_of($regs.cy.get());
+            $regs.cy = Bit::ZERO;
+        }
+    };
+    (Dac $regs:ident $bus:ident $a:ident $b:ident) => {
+        ($regs.acc, $regs.cy) = $regs.acc.add(Nibble::MAX, Bit::ZERO)
+    };
+    (Tcs $regs:ident $bus:ident $a:ident $b:ident) => {
+        transfer_carry_subtract($regs)
+    };
+    (Stc $regs:ident $bus:ident $a:ident $b:ident) => {
+        $regs.cy = Bit::ONE
+    };
+    (Daa $regs:ident $bus:ident $a:ident $b:ident) => {
+        adjust($regs)
+    };
+    (Kbp $regs:ident $bus:ident $a:ident $b:ident) => {
+        $regs.acc = line_number($regs.acc)
+    };
+    (Dcl $regs:ident $bus:ident $a:ident $b:ident) => {
+        designate($regs)
+    };
+}
+
+/// The effect of the instruction, by its row.
+macro_rules! effect_rows {
+    (($regs:ident, $bus:ident, $op:ident) $($codes:pat, $name:ident $kind:ident $words:literal $cycles:literal $group:ident $text:literal;)*) => {
+        match $op {
+            $(taken!(a b $name $kind) => effect!($name $regs $bus a b),)*
+        }
+    };
+}
+
 /// Does an instruction, where the counter already stands behind its words.
 #[inline(always)]
 pub fn execute<B: Bus>(regs: &mut Regs, bus: &mut B, op: Op)
@@ -156,67 +320,5 @@ pub fn execute<B: Bus>(regs: &mut Regs, bus: &mut B, op: Op)
     ensures dcl { regs.new.dcl < 8 }
     ensures owed { regs.new.owed ≡ regs.old.owed }
 {
-    match op {
-        Op::Nop => {}
-        Op::Jcn(condition, word) => jump_on_condition(regs, condition, word, bus.test()),
-        Op::Fim(pair, byte) => regs.set_pair(pair, byte),
-        Op::Src(pair) => bus.src(regs.dcl, regs.pair(pair)),
-        Op::Fin(pair) => fetch_indirect(regs, bus, pair),
-        Op::Jin(pair) => jump_indirect(regs, pair),
-        Op::Jun(page, word) => regs.pc = Addr::on_page(page, word),
-        Op::Jms(page, word) => call(regs, Addr::on_page(page, word)),
-        Op::Inc(r) => {
-            let (sum, _) = regs.register(r).add(Nibble::ONE, Bit::ZERO);
-            regs.set_register(r, sum);
-        }
-        Op::Isz(r, word) => count_up(regs, r, word),
-        Op::Add(r) => add(regs, regs.register(r)),
-        Op::Sub(r) => subtract(regs, regs.register(r)),
-        Op::Ld(r) => regs.acc = regs.register(r),
-        Op::Xch(r) => {
-            let held = regs.register(r);
-            regs.set_register(r, regs.acc);
-            regs.acc = held;
-        }
-        Op::Bbl(n) => {
-            branch_back(regs);
-            regs.acc = n;
-        }
-        Op::Ldm(n) => regs.acc = n,
-        Op::Wrm => bus.ram_write(regs.dcl, regs.acc),
-        Op::Wmp => bus.ram_port(regs.dcl, regs.acc),
-        Op::Wrr => bus.rom_port(regs.acc),
-        Op::Wr0 => bus.status_write(regs.dcl, 0, regs.acc),
-        Op::Wr1 => bus.status_write(regs.dcl, 1, regs.acc),
-        Op::Wr2 => bus.status_write(regs.dcl, 2, regs.acc),
-        Op::Wr3 => bus.status_write(regs.dcl, 3, regs.acc),
-        Op::Sbm => subtract(regs, bus.ram_read(regs.dcl)),
-        Op::Rdm => regs.acc = bus.ram_read(regs.dcl),
-        Op::Rdr => regs.acc = bus.port_read(),
-        Op::Adm => add(regs, bus.ram_read(regs.dcl)),
-        Op::Rd0 => regs.acc = bus.status_read(regs.dcl, 0),
-        Op::Rd1 => regs.acc = bus.status_read(regs.dcl, 1),
-        Op::Rd2 => regs.acc = bus.status_read(regs.dcl, 2),
-        Op::Rd3 => regs.acc = bus.status_read(regs.dcl, 3),
-        Op::Clb => {
-            regs.acc = Nibble::ZERO;
-            regs.cy = Bit::ZERO;
-        }
-        Op::Clc => regs.cy = Bit::ZERO,
-        Op::Iac => (regs.acc, regs.cy) = regs.acc.add(Nibble::ONE, Bit::ZERO),
-        Op::Cmc => regs.cy = regs.cy.complement(),
-        Op::Cma => regs.acc = regs.acc.complement(),
-        Op::Ral => (regs.acc, regs.cy) = regs.acc.add(regs.acc, regs.cy),
-        Op::Rar => rotate_right(regs),
-        Op::Tcc => {
-            regs.acc = Nibble::low_of(regs.cy.get());
-            regs.cy = Bit::ZERO;
-        }
-        Op::Dac => (regs.acc, regs.cy) = regs.acc.add(Nibble::MAX, Bit::ZERO),
-        Op::Tcs => transfer_carry_subtract(regs),
-        Op::Stc => regs.cy = Bit::ONE,
-        Op::Daa => adjust(regs),
-        Op::Kbp => regs.acc = line_number(regs.acc),
-        Op::Dcl => designate(regs),
-    }
+    instructions!(effect_rows!(regs, bus, op))
 }

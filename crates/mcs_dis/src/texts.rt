@@ -1,7 +1,8 @@
 //! The texts of instructions.
 ghost use Rattle.std.specs.Prelude.{◌≡◌, ◌++◌, ◌/◌, ◌%◌, codes, string_bytes, OnOk};
 ghost use Rattle.std.specs.Fmt.{decimal};
-ghost use Rattle.mcs_source.specs.Text.{hex_2, address, near_page, name, operands, text_of, piece_text, origin_text, address_digits, word_columns, columns};
+ghost use Rattle.mcs_source.specs.Names.{name};
+ghost use Rattle.mcs_source.specs.Text.{hex_2, address, near_page, operands, text_of, piece_text, origin_text, address_digits, word_columns, columns};
 ghost use Rattle.mcs_model.specs.QueryText.{as_line};
 
 use mcs_code::{Op, instructions, taken};
@@ -10,7 +11,7 @@ use std::alloc::AllocError;
 
 /// The name, by the row of the instruction.
 macro_rules! name_rows {
-    (($op:ident) $($codes:pat, $name:ident $kind:ident $words:literal $cycles:literal $text:literal;)*) => {
+    (($op:ident) $($codes:pat, $name:ident $kind:ident $words:literal $cycles:literal $group:ident $text:literal;)*) => {
         match *$op {
             $(taken!(_a _b $name $kind) => $text,)*
         }
@@ -56,24 +57,48 @@ fn push_near(out: &mut String, front: &str, n: u8, at: Addr, word: u8) -> Result
     push_address(out, ", ", at.plus(2).page(), word)
 }
 
+/// Writes the operands of a row's instruction, which are `$a` and `$b`, by their kind.
+macro_rules! pushed {
+    (($out:ident $at:ident) $a:ident $b:ident $name:ident none) => {
+        Ok(())
+    };
+    (($out:ident $at:ident) $a:ident $b:ident $name:ident nibble) => {
+        push_number($out, " ", $a.get())
+    };
+    (($out:ident $at:ident) $a:ident $b:ident $name:ident pair) => {
+        push_number($out, " P", $a.get())
+    };
+    (($out:ident $at:ident) $a:ident $b:ident $name:ident pair_byte) => {
+        push_pair_and_byte($out, $a.get(), $b)
+    };
+    (($out:ident $at:ident) $a:ident $b:ident $name:ident register) => {
+        push_number($out, " R", $a.get())
+    };
+    (($out:ident $at:ident) $a:ident $b:ident $name:ident register_byte) => {
+        push_near($out, " R", $a.get(), $at, $b)
+    };
+    (($out:ident $at:ident) $a:ident $b:ident Jcn nibble_byte) => {
+        push_near($out, " ", $a.get(), $at, $b)
+    };
+    (($out:ident $at:ident) $a:ident $b:ident $name:ident nibble_byte) => {
+        push_address($out, " ", $a, $b)
+    };
+}
+
+/// The operands, by the row of the instruction.
+macro_rules! operand_rows {
+    (($out:ident, $at:ident, $op:ident) $($codes:pat, $name:ident $kind:ident $words:literal $cycles:literal $group:ident $text:literal;)*) => {
+        match $op {
+            $(taken!(a b $name $kind) => pushed!(($out $at) a b $name $kind),)*
+        }
+    };
+}
+
 /// Writes the operands of an instruction.
 fn push_operands(out: &mut String, at: Addr, op: Op) -> Result<(), AllocError>
     ensures { OnOk result (string_bytes out.new ≡ string_bytes out.old ++ operands at op) }
 {
-    match op {
-        Op::Jcn(condition, word) => push_near(out, " ", condition.get(), at, word),
-        Op::Isz(register, word) => push_near(out, " R", register.get(), at, word),
-        Op::Fim(pair, byte) => push_pair_and_byte(out, pair.get(), byte),
-        Op::Jun(page, word) | Op::Jms(page, word) => push_address(out, " ", page, word),
-        Op::Src(pair) | Op::Fin(pair) | Op::Jin(pair) => push_number(out, " P", pair.get()),
-        Op::Inc(register)
-        | Op::Add(register)
-        | Op::Sub(register)
-        | Op::Ld(register)
-        | Op::Xch(register) => push_number(out, " R", register.get()),
-        Op::Bbl(value) | Op::Ldm(value) => push_number(out, " ", value.get()),
-        _ => Ok(()),
-    }
+    instructions!(operand_rows!(out, at, op))
 }
 
 /// Writes the text of an instruction that stands at an address.

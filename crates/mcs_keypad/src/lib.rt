@@ -15,6 +15,7 @@ ghost use Rattle.mcs_keypad.specs.Keys.{KeyState, no_matrix, IsByteOf, is_down};
 use arrayvec::ArrayVec;
 use mcs_model::board::{KeyMatrix, Line};
 use mcs_nibble::{Bit, Nibble};
+use mcs_shift4003::Chain;
 use std::marker::Model;
 
 /// The keys of a matrix. A board without keys has a matrix of no rows and no columns. Contracts see the matrix and its
@@ -213,23 +214,28 @@ impl KeyPad {
         );
     }
 
-    /// The byte of the columns that some row drives, where `bits` are those of the chain that drives the rows.
-    fn driven(&self, bits: &[Bit]) -> u8
+    /// The byte of the columns that some row drives, where the rows are driven by a chain of these bits.
+    fn driven<const MAX: usize>(&self, bits: &Chain<MAX>) -> u8
         requires { self.now.matrix.first + self.now.matrix.rows ≤ length bits.now }
         ensures { IsByteOf result (length self.now.matrix.columns.items) (λ j. list_any (drives bits.now self.now.down self.now.matrix j) (range_with_len 0 self.now.matrix.rows)) }
     {
-        let first = usize::from(self.matrix.first);
+        let levels = bits.ten_from(usize::from(self.matrix.first));
+        let mut left = levels;
         let mut driven: u8 = 0;
         for r in 0..usize::from(self.matrix.rows) {
-            if bits[first + r].get() == 1 {
+            if left == 0 {
+                return driven;
+            }
+            if left & 1 == 1 {
                 driven |= self.rows[r];
             }
+            left /= 2;
         }
         driven
     }
 
-    /// The levels that keys pull the four lines of a ROM to, where `bits` are those of the chain that drives the rows.
-    pub fn pulls(&self, bits: &[Bit], chip: Nibble) -> Nibble
+    /// The levels that keys pull the four lines of a ROM to, where the rows are driven by a chain of these bits.
+    pub fn pulls<const MAX: usize>(&self, bits: &Chain<MAX>, chip: Nibble) -> Nibble
         requires { self.now.matrix.first + self.now.matrix.rows ≤ length bits.now }
         ensures { result ≡ nibble_of (λ k. bit_when (pulled bits.now self.now.down self.now.matrix chip k)) }
     {

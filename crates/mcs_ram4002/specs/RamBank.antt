@@ -1,8 +1,8 @@
 -- A bank of 4002s as flat lists.
 -- Source: MCS-4 Users Manual, 4002: four registers of 16 main and 4 status characters and an output port a chip; SRC
 -- selects chip, register and character. That an absent chip reads 0 is our own choice.
-use Rattle.std.specs.Prelude.{◌≡◌, ℕ, ◌+◌, ◌*◌, ◌/◌, ◌%◌, ◌<◌, ◌≤◌, List, [], All, replicate, slice_index, slice_set, length, take, if◌then◌else◌, nat_lt}
-use Rattle.mcs_nibble.specs.Tabled.{grid, column}
+use Rattle.std.specs.Prelude.{◌≡◌, ℕ, ◌+◌, ◌*◌, ◌/◌, ◌%◌, ◌^◌, ◌<◌, ◌≤◌, List, [], All, replicate, slice_index, slice_set, length, take, if◌then◌else◌, nat_lt}
+use Rattle.mcs_nibble.specs.Tabled.{tabled, grid, column}
 use Rattle.mcs_ram4002.specs.declared.BankWrite.{BankWrite}
 use Rattle.mcs_ram4002.specs.declared.BankWrite.TheVariants.{Character, Status, Port, Src}
 use Rattle.mcs_ram4002.specs.declared.Chip.{Chip}
@@ -79,12 +79,30 @@ pub record IsValidBank (b : BankState) : Type 0 where
 
 -- ---- how a bank holds its chips
 
+-- half k of a byte, the lower first
+abbrev pub half_of : ℕ → ℕ → ℕ
+half_of byte k = byte / 16 ^ k % 16
+
+-- the characters of bytes that hold two each
+unfoldable pub unpacked : List ℕ → List ℕ
+unpacked bytes = tabled (2 * length bytes) (λ k. half_of (slice_index bytes (k / 2)) (k % 2))
+
 -- the cells of a chip, each list by index: how a chip stores them is said here alone
 abbrev pub main_of : Chip → List ℕ
-main_of c = c.main
+main_of c = unpacked c.main
 
 abbrev pub status_of : Chip → List ℕ
-status_of c = c.status
+status_of c = unpacked c.status
+
+pub record ChipState : Type 0 where
+  -- register * 16 + character
+  pub main : List ℕ
+  -- register * 4 + character
+  pub status : List ℕ
+  pub port : ℕ
+
+abbrev pub cells_of : Chip → ChipState
+cells_of c = record { main = main_of c; status = status_of c; port = c.port }
 
 abbrev pub no_chip : Chip
 no_chip = record { main = []; status = []; port = 0 }
@@ -108,8 +126,8 @@ pub record IsValidChip (c : Chip) : Type 0 where
   pub status : All (λ n. n < 16) (status_of c)
   pub port : c.port < 16
 
--- a chip after a write to its bank that goes to it
-abbrev pub chip_after : Chip → BankWrite → Chip
+-- the cells of a chip after a write to its bank that goes to it
+abbrev pub chip_after : ChipState → BankWrite → ChipState
 chip_after c (Character src n) = record c { main = slice_set c.main (src % 64) n }
 chip_after c (Status high k n) = record c { status = slice_set c.status (high % 4 * 4 + k) n }
 chip_after c (Port chip n) = record c { port = n }

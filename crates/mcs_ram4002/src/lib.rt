@@ -1,8 +1,8 @@
-//! The 4002: RAM chips, and the banks that they form.
+//! The 4002: RAM chips, and the banks that they form. A chip keeps two characters a byte.
 #![tactic(auto)]
 
-ghost use Rattle.std.specs.Prelude.{◌≡◌, ℕ, ◌+◌, ◌*◌, ◌/◌, ◌<◌, ◌≤◌, All, slice_index};
-ghost use Rattle.mcs_ram4002.specs.RamBank.{BankState, main_of, status_of, status_place, chip_of, chip_written, src_after, chip_after, after_write, blank_bank, IsInBank, IsSizedChip, IsValidChip, IsWhole, IsValidBank};
+ghost use Rattle.std.specs.Prelude.{◌≡◌, ℕ, ◌+◌, ◌-◌, ◌*◌, ◌/◌, ◌%◌, ◌<◌, ◌≤◌, All, slice_index};
+ghost use Rattle.mcs_ram4002.specs.RamBank.{BankState, half_of, cells_of, main_of, status_of, status_place, chip_of, chip_written, src_after, chip_after, after_write, blank_bank, IsInBank, IsSizedChip, IsValidChip, IsWhole, IsValidBank};
 
 use mcs_nibble::Nibble;
 use std::marker::Model;
@@ -45,12 +45,36 @@ impl BankWrite {
     }
 }
 
+/// The half of a byte that holds character `at`: the lower for an even one, the upper for an odd one.
+fn half(byte: u8, at: u8) -> Nibble
+    ensures { result ≡ half_of byte (at % 2) }
+{
+    if at % 2 == 0 {
+        Nibble::low_of(byte)
+    } else {
+        Nibble::high_of(byte)
+    }
+}
+
+/// A byte whose half that holds character `at` is replaced.
+fn with_half(byte: u8, at: u8, n: Nibble) -> u8
+    ensures set { half_of result (at % 2) ≡ n }
+    ensures kept { half_of result (1 - at % 2) ≡ half_of byte (1 - at % 2) }
+{
+    if at % 2 == 0 {
+        byte / 16 * 16 + n.get()
+    } else {
+        n.get() * 16 + byte % 16
+    }
+}
+
 /// A 4002, by the MCS-4 Users Manual: four registers of 16 main and four status characters, and an output
 /// port of four lines. A bank holds its chips and speaks for them.
 #[derive(Clone, Copy, Debug, PartialEq, Eq)]
 pub struct Chip {
-    main: [Nibble; 64],
-    status: [Nibble; 16],
+    // Two characters a byte, the lower half first.
+    main: [u8; 32],
+    status: [u8; 8],
     port: Nibble,
 }
 
@@ -60,7 +84,7 @@ impl Chip {
         requires { at < 64 }
         ensures { result ≡ slice_index (main_of self.now) at }
     {
-        self.main[usize::from(at)]
+        half(self.main[usize::from(at / 2)], at)
     }
 
     /// Status character `at`, which is register * 4 + character.
@@ -68,7 +92,7 @@ impl Chip {
         requires { at < 16 }
         ensures { result ≡ slice_index (status_of self.now) at }
     {
-        self.status[usize::from(at)]
+        half(self.status[usize::from(at / 2)], at)
     }
 
     fn port(&self) -> Nibble
@@ -78,15 +102,22 @@ impl Chip {
     }
 
     /// Does a write to a bank that goes to this chip.
+    #[inline(always)]
     fn store(&mut self, write: BankWrite)
         requires { IsInBank write }
-        ensures stored { self.new ≡ chip_after self.old write }
+        ensures stored { cells_of self.new ≡ chip_after (cells_of self.old) write }
         ensures sized { IsSizedChip self.old }
     {
         match write {
-            BankWrite::Character(src, n) => self.main[usize::from(src % 64)] = n,
+            BankWrite::Character(src, n) => {
+                let at = src % 64;
+                let i = usize::from(at / 2);
+                self.main[i] = with_half(self.main[i], at, n);
+            }
             BankWrite::Status(high, k, n) => {
-                self.status[usize::from(high.get() % 4 * 4 + k)] = n;
+                let at = high.get() % 4 * 4 + k;
+                let i = usize::from(at / 2);
+                self.status[i] = with_half(self.status[i], at, n);
             }
             BankWrite::Port(_, n) => self.port = n,
             BankWrite::Src(_) => {}
@@ -97,18 +128,7 @@ impl Chip {
     fn state_is_valid(&self)
         ensures { IsValidChip self.now }
     {
-        are_nibbles(&self.main);
-        are_nibbles(&self.status);
         let _port = self.port.get();
-    }
-}
-
-/// A law: each number of a list of nibbles is below 16.
-fn are_nibbles(list: &[Nibble])
-    ensures { All (λ n. n < 16) list.now }
-{
-    for i in 0..list.len() {
-        let _n = list[i].get();
     }
 }
 
@@ -151,8 +171,8 @@ impl<const CHIPS: usize> Bank<CHIPS> {
         ensures { result ≡ blank_bank wired }
     {
         let blank = Chip {
-            main: [Nibble::ZERO; 64],
-            status: [Nibble::ZERO; 16],
+            main: [0; 32],
+            status: [0; 8],
             port: Nibble::ZERO,
         };
         Bank {
@@ -163,6 +183,7 @@ impl<const CHIPS: usize> Bank<CHIPS> {
     }
 
     /// Does a write; lost where its chip is absent.
+    #[inline(always)]
     pub fn store(&mut self, write: BankWrite)
         requires { IsInBank write }
         ensures stored { self.new ≡ after_write self.old write }

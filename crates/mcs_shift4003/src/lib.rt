@@ -1,28 +1,115 @@
 //! The 4003: a chain of 10-bit shift registers, as one row of bits.
+//!
+//! A chain keeps ten bits a word, as many as a chip has, so that it is shifted word by word.
 #![tactic(auto)]
 
-ghost use Rattle.std.specs.Prelude.{◌≡◌, ℕ, ◌<◌, ◌≤◌, All, length, replicate, slice_get, slice_set};
+ghost use Rattle.std.specs.Prelude.{◌≡◌, ◌≢◌, ℕ, ◌+◌, ◌*◌, ◌/◌, ◌%◌, ◌<◌, ◌≤◌, All, length, replicate, slice_index, slice_get, slice_set};
+ghost use Rattle.mcs_nibble.specs.Bits.{bit_of};
+ghost use Rattle.mcs_shift4003.specs.Packing.{packed_bit, bit_before, IsPacked};
 ghost use Rattle.mcs_shift4003.specs.Shifting.{shifted};
 
 use arrayvec::ArrayVec;
 use mcs_nibble::Bit;
 use std::marker::Model;
 
+/// How many bits a word has, which is as many as a chip has.
+const WORD_BITS: usize = 10;
+
 /// A chain of 4003s, by the MCS-4 Users Manual: a row of at most `MAX` bits, of which bit 0 is the one that
 /// was shifted in last. Its outputs are always enabled.
 #[derive(Drop)]
 pub struct Chain<const MAX: usize> {
-    cells: ArrayVec<Bit, MAX>,
+    bits: usize,
+    // Bit i is bit i % 10 of word i / 10; what lies past the end is 0.
+    words: ArrayVec<u16, MAX>,
 }
 
 impl<const MAX: usize> Model for Chain<MAX> {
-    ghost use Rattle.std.specs.Prelude.{List, ℕ, length, ◌≤◌};
+    ghost use Rattle.std.specs.Prelude.{List, ℕ, ◌≤◌};
+    ghost use Rattle.mcs_shift4003.specs.Packing.{row_of, IsPacked};
 
     ghost Value = { List ℕ };
 
-    ghost view = { λ c. c.cells.items };
+    ghost view = { λ c. row_of c.bits c.words.items };
 
-    ghost invariant = { λ c. length c.cells.items ≤ MAX };
+    ghost invariant = { λ c. record { fits : c.bits ≤ MAX; packed : IsPacked c.bits c.words.items } };
+}
+
+/// A word whose bit `j` is at a level.
+fn with_bit(word: u16, j: usize, level: Bit) -> u16
+    requires word { word < 1024 }
+    requires j { j < 10 }
+    ensures set { bit_of result j ≡ level }
+    ensures others { (k : ℕ) → k < 10 → k ≢ j → bit_of result k ≡ bit_of word k }
+    ensures ten { result < 1024 }
+{
+    if level.get() == 1 {
+        word | 1 << j
+    } else {
+        word & !(1 << j)
+    }
+}
+
+/// A word whose bits are moved one place up, where its bit 0 takes in a level, and the bit that it loses.
+fn moved(word: u16, level: u16) -> (u16, u16)
+    requires word { word < 1024 }
+    requires level { level < 2 }
+    ensures word { result.0 ≡ (2 * word + level) % 1024 }
+    ensures lost { result.1 ≡ word / 512 }
+{
+    ((2 * word + level) % 1024, word / 512)
+}
+
+/// Puts bit `i` of words of ten bits at a level.
+fn put(words: &mut [u16], i: usize, level: Bit)
+    requires there { i / 10 < length words.old }
+    requires ten { (k : ℕ) → slice_index words.old k < 1024 }
+    ensures len { length words.new ≡ length words.old }
+    ensures ten { (k : ℕ) → slice_index words.new k < 1024 }
+    ensures set { packed_bit words.new i ≡ level }
+    ensures others { (k : ℕ) → k ≢ i → packed_bit words.new k ≡ packed_bit words.old k }
+{
+    let at = i / WORD_BITS;
+    words[at] = with_bit(words[at], i % WORD_BITS, level);
+}
+
+/// Moves each bit of words of ten bits one place up, word by word, where bit 0 takes in a level and the last word's last
+/// bit is lost.
+fn shift_words(words: &mut [u16], level: Bit)
+    requires { (k : ℕ) → slice_index words.old k < 1024 }
+    ensures len { length words.new ≡ length words.old }
+    ensures ten { (k : ℕ) → slice_index words.new k < 1024 }
+    ensures bits { (i : ℕ) → i < 10 * length words.old → packed_bit words.new i ≡ bit_before level words.old i }
+{
+    let mut carry = u16::from(level.get());
+    for k in 0..words.len() {
+        let (word, lost) = moved(words[k], carry);
+        words[k] = word;
+        carry = lost;
+    }
+}
+
+/// Moves each of so many bits one place up, where bit 0 takes in a level and the last bit is lost.
+fn shift_bits(words: &mut [u16], bits: usize, level: Bit)
+    requires { IsPacked bits words.old }
+    ensures len { length words.new ≡ length words.old }
+    ensures packed { IsPacked bits words.new }
+    ensures bits { (i : ℕ) → i < bits → packed_bit words.new i ≡ bit_before level words.old i }
+{
+    shift_words(words, level);
+    if bits % WORD_BITS != 0 {
+        put(words, bits, Bit::ZERO);
+    }
+}
+
+/// Word `k`; 0 beyond the last one.
+fn word_at(words: &[u16], k: usize) -> u16
+    ensures { result ≡ slice_index words.now k }
+{
+    match words.get(k) {
+        Some(word) => *word,
+        None => 0,
+    }
 }
 
 impl<const MAX: usize> Chain<MAX> {
@@ -31,11 +118,11 @@ impl<const MAX: usize> Chain<MAX> {
         requires { bits ≤ MAX }
         ensures { result ≡ replicate bits 0 }
     {
-        let mut cells = ArrayVec::new();
-        for _ in 0..bits {
-            cells.push(Bit::ZERO);
+        let mut words = ArrayVec::new();
+        for _ in 0..bits.div_ceil(WORD_BITS) {
+            words.push(0);
         }
-        Chain { cells }
+        Chain { bits, words }
     }
 
     /// How many bits it has.
@@ -43,21 +130,31 @@ impl<const MAX: usize> Chain<MAX> {
         ensures bits { result ≡ length self.now }
         ensures fits { result ≤ MAX }
     {
-        self.cells.len()
-    }
-
-    /// The bits, bit 0 first.
-    pub fn row(&self) -> &[Bit]
-        ensures { result.now ≡ self.now }
-    {
-        self.cells.as_slice()
+        self.bits
     }
 
     /// Bit `i`, or none beyond the last one.
     pub fn bit(&self, i: usize) -> Option<Bit>
         ensures { result ≡ slice_get self.now i }
     {
-        self.cells.get(i).copied()
+        if i < self.bits {
+            let word = self.words[i / WORD_BITS];
+            Some(Bit::when(word >> (i % WORD_BITS) & 1 == 1))
+        } else {
+            None
+        }
+    }
+
+    /// The ten bits from bit `first` on as a number, whose bit j is bit `first` + j, or 0 beyond the last one.
+    pub fn ten_from(&self, first: usize) -> u16
+        ensures { (j : ℕ) → j < 10 → bit_of result j ≡ slice_index self.now (first + j) }
+    {
+        let at = first / WORD_BITS;
+        let words = self.words.as_slice();
+        let low = u32::from(word_at(words, at));
+        let high = u32::from(word_at(words, at + 1));
+        let from_first = (high * 1024 + low) >> (first % WORD_BITS);
+        (from_first % 1024) as u16
     }
 
     /// Sets bit `i`. Nothing is shifted.
@@ -65,7 +162,7 @@ impl<const MAX: usize> Chain<MAX> {
         requires { i < length self.old }
         ensures { self.new ≡ slice_set self.old i bit }
     {
-        self.cells[i] = bit;
+        put(&mut self.words, i, bit);
     }
 
     /// Takes in the level of the data line: each bit moves one place up, the level becomes bit 0, and the
@@ -73,27 +170,20 @@ impl<const MAX: usize> Chain<MAX> {
     pub fn shift(&mut self, level: Bit)
         ensures { self.new ≡ shifted level self.old }
     {
-        if self.cells.pop().is_some() {
-            self.cells.insert(0, level);
-        }
+        shift_bits(&mut self.words, self.bits, level);
     }
 
     /// Makes every bit 0.
     pub fn clear(&mut self)
         ensures { self.new ≡ replicate (length self.old) 0 }
     {
-        let bits = self.cells.len();
-        for i in 0..bits {
-            self.cells[i] = Bit::ZERO;
-        }
+        *self = Chain::new(self.bits);
     }
 
     /// A law: each bit is 0 or 1.
     pub fn state_is_valid(&self)
         ensures { All (λ bit. bit < 2) self.now }
     {
-        for i in 0..self.cells.len() {
-            let _level = self.cells[i].get();
-        }
+        let _bits = self.bits;
     }
 }

@@ -5,12 +5,13 @@ use Rattle.std.specs.Option.{option_to_list}
 use Rattle.std.specs.List.{flat_map}
 use Rattle.std.specs.Fmt.{decimal}
 use Rattle.mcs_model.specs.declared.op.Op.{Op}
-use Rattle.mcs_model.specs.declared.op.Op.TheVariants.{Nop, Jcn, Fim, Src, Fin, Jin, Jun, Jms, Inc, Isz, Add, Sub, Ld, Xch, Bbl, Ldm, Wrm, Wmp, Wrr, Wr0, Wr1, Wr2, Wr3, Sbm, Rdm, Rdr, Adm, Rd0, Rd1, Rd2, Rd3, Clb, Clc, Iac, Cmc, Cma, Ral, Rar, Tcc, Dac, Tcs, Stc, Daa, Kbp, Dcl}
+use Rattle.mcs_model.specs.declared.op.Op.TheVariants.{Jcn, Fim, Src, Fin, Jin, Jun, Jms, Inc, Isz, Add, Sub, Ld, Xch, Bbl, Ldm}
 use Rattle.mcs_model.specs.Numbers.{page_of}
 use Rattle.mcs_model.specs.QueryText.{as_line, hex_digit}
 use Rattle.mcs_model.specs.Table.{decoded, words_of}
 use Rattle.mcs_model.specs.Pairs.{from_address}
 use Rattle.mcs_source.specs.Assembly.{assembled}
+use Rattle.mcs_source.specs.Names.{name}
 
 -- two upper case hexadecimal digits
 abbrev pub hex_2 : ℕ → List ℕ
@@ -31,55 +32,7 @@ near_page at = page_of (at + 2)
 abbrev pub byte_text : ℕ → List ℕ
 byte_text b = codes "DB 0x" ++ hex_2 b
 
--- the name of an instruction
-abbrev pub name : Op → List ℕ
-name Nop = codes "NOP"
-name (Jcn _ _) = codes "JCN"
-name (Fim _ _) = codes "FIM"
-name (Src _) = codes "SRC"
-name (Fin _) = codes "FIN"
-name (Jin _) = codes "JIN"
-name (Jun _ _) = codes "JUN"
-name (Jms _ _) = codes "JMS"
-name (Inc _) = codes "INC"
-name (Isz _ _) = codes "ISZ"
-name (Add _) = codes "ADD"
-name (Sub _) = codes "SUB"
-name (Ld _) = codes "LD"
-name (Xch _) = codes "XCH"
-name (Bbl _) = codes "BBL"
-name (Ldm _) = codes "LDM"
-name Wrm = codes "WRM"
-name Wmp = codes "WMP"
-name Wrr = codes "WRR"
-name Wr0 = codes "WR0"
-name Wr1 = codes "WR1"
-name Wr2 = codes "WR2"
-name Wr3 = codes "WR3"
-name Sbm = codes "SBM"
-name Rdm = codes "RDM"
-name Rdr = codes "RDR"
-name Adm = codes "ADM"
-name Rd0 = codes "RD0"
-name Rd1 = codes "RD1"
-name Rd2 = codes "RD2"
-name Rd3 = codes "RD3"
-name Clb = codes "CLB"
-name Clc = codes "CLC"
-name Iac = codes "IAC"
-name Cmc = codes "CMC"
-name Cma = codes "CMA"
-name Ral = codes "RAL"
-name Rar = codes "RAR"
-name Tcc = codes "TCC"
-name Dac = codes "DAC"
-name Tcs = codes "TCS"
-name Stc = codes "STC"
-name Daa = codes "DAA"
-name Kbp = codes "KBP"
-name Dcl = codes "DCL"
-
--- its operands, as they follow the name: registers, pairs and small values in decimal, bytes and addresses in hexadecimal
+-- the operands of an instruction, as they follow the name: registers, pairs and small values in decimal, bytes and addresses in hexadecimal
 abbrev pub operands : ℕ → Op → List ℕ
 operands at (Jcn c b) = codes " " ++ (decimal c ++ (codes ", " ++ address (near_page at) b))
 operands at (Fim p b) = codes " P" ++ (decimal p ++ (codes ", 0x" ++ hex_2 b))

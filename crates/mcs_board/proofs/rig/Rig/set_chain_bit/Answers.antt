@@ -1,5 +1,4 @@
-use Rattle.std.proofs.Common.{◌≡◌, ℕ, ◌*◌, ◌^◌, ◌<◌, ◌≤◌, ◌∙◌, [], sym, ap, arith, length, get_or, slice_set}
-use Rattle.std.proofs.Math.Nat.{mul-le-mul_right}
+use Rattle.std.proofs.Common.{◌≡◌, ◌*◌, ◌<◌, ◌∙◌, [], sym, ap, arith, length, get_or, slice_set}
 use Rattle.std.proofs.lemmas.List.{get_or_default, length-set}
 use Rattle.mcs_model.specs.declared.board.ChainPart.{ChainPart}
 use Rattle.mcs_model.specs.Boards.{chain_count, chain_bits}
@@ -8,7 +7,7 @@ use Rattle.mcs_model.specs.Places.{with_chain_bit}
 use Rattle.mcs_board.specs.RigFields.{parts_of}
 use Rattle.mcs_board.proofs.ClockLemmas.{chain-read, chain-write}
 use Rattle.mcs_board.proofs.FittedLemmas.{fitted-chain}
-use Rattle.mcs_board.proofs.PlaceLemmas.{chains-length, bit-no_chain, bit-beyond}
+use Rattle.mcs_board.proofs.PlaceLemmas.{chains-length, bit-no_chain, bit-beyond, one-small}
 use Rattle.mcs_board.proofs.rig.Rig.set_chain_bit.Goals as goal
 
 pub returns-then-n-chain_count : goal.returns-then-n-chain_count
@@ -49,10 +48,6 @@ returns g c =
     ∙ ap (λ k. with_chain_bit s k c.from-place.result c.args.bit) c.from-n.ensures
     ∙ ap (λ k. with_chain_bit s c.args.chain k c.args.bit) c.from-place.ensures
 
--- one of several elements takes no more than all of them
-small : (i n size : ℕ) → i < n → n * size < 2 ^ 63 → size < 2 ^ 63
-small i n size l all = let one : 1 * size ≤ n * size = mul-le-mul_right {m = 1} {n = n} size (omega arith) in omega (arith, one)
-
 pub set_bit-requires : goal.set_bit-requires
 set_bit-requires g c =
     let i = c.self.inside in
@@ -62,4 +57,4 @@ set_bit-requires g c =
     let row : c.index_mut.result.now ≡ get_or i.chains.items n [] = c.index_mut.ensures.value ∙ get_or_default i.chains.items n c.index_mut.result.now [] there in
     let bits : c.from.result ≡ chain_bits i.board n = c.from.ensures ∙ c.bits.ensures ∙ ap (λ (p : ChainPart). 10 * p.chips) c.chain.ensures in
     let len : length c.index_mut.result.now ≡ chain_bits i.board n = ap length row ∙ c.self.invariant.bits n within in
-    (small n (length c.as_slice-chains.result.now) _ (let l = ap length c.as_slice-chains.ensures.value in omega arith) c.as_slice-chains.type_inv.1, omega arith)
+    (one-small n (length c.as_slice-chains.result.now) _ (let l = ap length c.as_slice-chains.ensures.value in omega arith) c.as_slice-chains.type_inv.1, omega arith)

@@ -1,0 +1,321 @@
+//! Packed chips: worked values, and banks and chains of several sizes beside plain lists, under calls that a seeded
+//! generator picks.
+ghost use Rattle.std.specs.Prelude.{◌<◌, ◌≤◌};
+
+use mcs_nibble::{Bit, Nibble};
+use mcs_ram4002::{Bank, BankWrite};
+use mcs_shift4003::Chain;
+use std::process::Abort;
+use std::test::Fail;
+
+/// A generator of numbers (Knuth's MMIX linear congruential generator).
+#[derive(Drop)]
+struct Numbers {
+    state: u64,
+}
+
+impl Numbers {
+    /// A number below `n`.
+    fn below(&mut self, n: u8) -> u8
+        requires { 0 < n }
+        ensures { result < n }
+    {
+        self.state = self
+            .state
+            .wrapping_mul(6_364_136_223_846_793_005)
+            .wrapping_add(1_442_695_040_888_963_407);
+        ((self.state >> 33) % u64::from(n)) as u8
+    }
+
+    fn byte(&mut self) -> u8 {
+        self.below(16) * 16 + self.below(16)
+    }
+
+    fn nibble(&mut self) -> Nibble {
+        Nibble::low_of(self.below(16))
+    }
+}
+
+/// The upper character of a byte beside the lower one, and two status characters of one byte.
+#[test]
+fn two_characters_of_a_byte(rt: HostRuntime) -> Result<(), Fail> {
+    let four = Nibble::of(4).ok_or("a nibble")?;
+    let mut bank = Bank::<1>::new(1);
+    bank.set_at(0, Nibble::MAX);
+    bank.set_at(1, four);
+    bank.set_status_at(four, 3, Nibble::MAX);
+    bank.set_status_at(four, 2, four);
+    assert_eq!(rt; bank.at(0).get(), 15);
+    assert_eq!(rt; bank.at(1).get(), 4);
+    bank.set_status_at(Nibble::ZERO, 2, four);
+    bank.set_status_at(Nibble::ZERO, 3, Nibble::MAX);
+    assert_eq!(rt; bank.status_at(Nibble::ZERO, 2).get(), 4);
+    assert_eq!(rt; bank.status_at(Nibble::ZERO, 3).get(), 15);
+    assert_eq!(rt;
+        bank.status_at(four, 3).get(),
+        0,
+        "of a chip that is not there"
+    );
+    Ok(())
+}
+
+/// A 1 that is shifted through 13 bits, from one word into the next and out of the last.
+#[test]
+fn thirteen_bits(rt: HostRuntime) {
+    let mut chain = Chain::<13>::new(13);
+    chain.shift(Bit::ONE);
+    for at in 1..=13 {
+        chain.shift(Bit::ZERO);
+        for i in 0..13 {
+            assert_eq!(rt; chain.bit(i), Some(Bit::when(i == at)), "bit {i}");
+        }
+        assert_eq!(rt; chain.bit(13), None);
+    }
+}
+
+/// A bank as plain lists.
+#[derive(Drop)]
+struct PlainBank {
+    wired: usize,
+    src: u8,
+    main: [u8; 256],
+    status: [u8; 64],
+    ports: [u8; 4],
+}
+
+impl PlainBank {
+    fn new(wired: usize) -> PlainBank {
+        PlainBank {
+            wired,
+            src: 0,
+            main: [0; 256],
+            status: [0; 64],
+            ports: [0; 4],
+        }
+    }
+
+    fn has(&self, chip: u8) -> bool {
+        usize::from(chip) < self.wired
+    }
+
+    fn set_src(&mut self, byte: u8) {
+        if self.has(0) {
+            self.src = byte;
+        }
+    }
+
+    fn set_at(&mut self, src: u8, n: Nibble) {
+        if self.has(src / 64) {
+            self.main[usize::from(src)] = n.get();
+        }
+    }
+
+    fn set_status(&mut self, high: Nibble, k: u8, n: Nibble)
+        requires { k < 4 }
+    {
+        let register = high.get();
+        if self.has(register / 4) {
+            self.status[usize::from(register * 4 + k)] = n.get();
+        }
+    }
+
+    fn set_port(&mut self, chip: u8, n: Nibble)
+        requires { chip < 4 }
+    {
+        if self.has(chip) {
+            self.ports[usize::from(chip)] = n.get();
+        }
+    }
+}
+
+/// Does one call that the numbers pick.
+fn call_bank<const CHIPS: usize>(
+    bank: &mut Bank<CHIPS>,
+    plain: &mut PlainBank,
+    numbers: &mut Numbers,
+) {
+    let byte = numbers.byte();
+    let n = numbers.nibble();
+    let k = numbers.below(4);
+    let src = plain.src;
+    match numbers.below(7) {
+        0 => {
+            bank.src(byte);
+            plain.set_src(byte);
+        }
+        1 => {
+            bank.set_at(byte, n);
+            plain.set_at(byte, n);
+        }
+        2 => {
+            bank.set_status_at(Nibble::low_of(byte), k, n);
+            plain.set_status(Nibble::low_of(byte), k, n);
+        }
+        3 => {
+            bank.store(BankWrite::Port(k, n));
+            plain.set_port(k, n);
+        }
+        4 => {
+            bank.write(n);
+            plain.set_at(src, n);
+        }
+        5 => {
+            bank.write_status(k, n);
+            plain.set_status(Nibble::high_of(src), k, n);
+        }
+        _ => {
+            bank.write_port(n);
+            plain.set_port(src / 64, n);
+        }
+    }
+}
+
+/// Compares all that can be read.
+fn compare_bank<const CHIPS: usize>(rt: &impl Abort, bank: &Bank<CHIPS>, plain: &PlainBank) {
+    for src in 0..=255u8 {
+        assert_eq!(rt;
+            bank.at(src).get(),
+            plain.main[usize::from(src)],
+            "at {src}"
+        );
+    }
+    for place in 0..64u8 {
+        let n = bank.status_at(Nibble::low_of(place / 4), place % 4);
+        assert_eq!(rt; n.get(), plain.status[usize::from(place)], "status {place}");
+    }
+    for chip in 0..4u8 {
+        assert_eq!(rt;
+            bank.port(chip).get(),
+            plain.ports[usize::from(chip)],
+            "port {chip}"
+        );
+    }
+    let src = plain.src;
+    assert_eq!(rt; bank.last_src(), src);
+    assert_eq!(rt; bank.read().get(), plain.main[usize::from(src)]);
+    for k in 0..4u8 {
+        assert_eq!(rt;
+            bank.read_status(k).get(),
+            plain.status[usize::from(src / 16 * 4 + k)]
+        );
+    }
+}
+
+/// Two rounds of 1,500 calls, a comparison after every thirty, and a clear behind each round.
+fn run_bank<const CHIPS: usize>(rt: &impl Abort, bank: &mut Bank<CHIPS>, wired: usize) {
+    let mut numbers = Numbers { state: 4002 };
+    for _ in 0..2 {
+        let mut plain = PlainBank::new(wired);
+        for _ in 0..50 {
+            for _ in 0..30 {
+                call_bank(bank, &mut plain, &mut numbers);
+            }
+            compare_bank(rt, bank, &plain);
+        }
+        bank.clear();
+        compare_bank(rt, bank, &PlainBank::new(wired));
+    }
+}
+
+#[test]
+fn banks_under_seeded_calls(rt: HostRuntime) {
+    run_bank(&rt, &mut Bank::<1>::new(1), 1);
+    run_bank(&rt, &mut Bank::<2>::new(2), 2);
+    run_bank(&rt, &mut Bank::<3>::new(3), 3);
+    run_bank(&rt, &mut Bank::<4>::new(4), 4);
+    run_bank(&rt, &mut Bank::<4>::new(2), 2);
+    run_bank(&rt, &mut Bank::<4>::new(0), 0);
+}
+
+/// A chain of at most 80 bits as a plain list, with room for what lies past its end, which is 0.
+#[derive(Drop)]
+struct PlainChain {
+    list: [u8; 96],
+}
+
+impl PlainChain {
+    /// The ten bits from a place on, as a number.
+    fn ten_from(&self, first: usize) -> u16
+        requires { first ≤ 80 }
+    {
+        let mut ten: u16 = 0;
+        for j in 0..10 {
+            if self.list[first + j] == 1 {
+                ten |= 1 << j;
+            }
+        }
+        ten
+    }
+
+    /// Each of so many bits one place up, where bit 0 takes in a level.
+    fn shift(&mut self, bits: usize, level: Bit)
+        requires { bits ≤ 80 }
+    {
+        for k in (1..96).rev() {
+            self.list[k] = self.list[k - 1];
+        }
+        self.list[0] = level.get();
+        self.list[bits] = 0;
+    }
+}
+
+/// Does one call that the numbers pick.
+fn call_chain<const MAX: usize>(
+    chain: &mut Chain<MAX>,
+    plain: &mut PlainChain,
+    numbers: &mut Numbers,
+) {
+    let bits = chain.bits();
+    let level = Bit::low_of(numbers.below(2));
+    let i = usize::from(numbers.below(80));
+    if bits > 80 {
+        return;
+    }
+    if numbers.below(4) > 0 {
+        chain.shift(level);
+        plain.shift(bits, level);
+    } else if i < bits {
+        chain.set_bit(i, level);
+        plain.list[i] = level.get();
+    }
+}
+
+/// Compares all that can be read.
+fn compare_chain<const MAX: usize>(rt: &impl Abort, chain: &Chain<MAX>, plain: &PlainChain) {
+    let bits = chain.bits();
+    if bits > 80 {
+        return;
+    }
+    for i in 0..bits {
+        assert_eq!(rt; chain.bit(i), Bit::of(plain.list[i]), "bit {i} of {bits}");
+        assert_eq!(rt; chain.ten_from(i), plain.ten_from(i), "from {i} of {bits}");
+    }
+    assert_eq!(rt; chain.bit(bits), None);
+    assert_eq!(rt; chain.ten_from(bits), 0);
+}
+
+/// 2,000 calls, a comparison after every five, and a clear before every hundred.
+fn run_chain<const MAX: usize>(rt: &impl Abort, chain: &mut Chain<MAX>) {
+    let mut numbers = Numbers { state: 4003 };
+    for _ in 0..20 {
+        let mut plain = PlainChain { list: [0; 96] };
+        chain.clear();
+        for _ in 0..20 {
+            for _ in 0..5 {
+                call_chain(chain, &mut plain, &mut numbers);
+            }
+            compare_chain(rt, chain, &plain);
+        }
+    }
+}
+
+#[test]
+fn chains_under_seeded_calls(rt: HostRuntime) {
+    run_chain(&rt, &mut Chain::<7>::new(7));
+    run_chain(&rt, &mut Chain::<10>::new(10));
+    run_chain(&rt, &mut Chain::<13>::new(13));
+    run_chain(&rt, &mut Chain::<40>::new(40));
+    run_chain(&rt, &mut Chain::<80>::new(80));
+    run_chain(&rt, &mut Chain::<80>::new(61));
+    run_chain(&rt, &mut Chain::<13>::new(0));
+}

@@ -1,0 +1,15 @@
+use Rattle.std.proofs.Common.{◌≡◌, ap, ◌∙◌, List, ℕ, length}
+use Rattle.mcs_shift4003.specs.Packing.{bit_before, row_of}
+use Rattle.mcs_shift4003.specs.Shifting.{shifted}
+use Rattle.mcs_shift4003.proofs.WordLemmas.{shifted-row, back}
+use Rattle.mcs_shift4003.proofs.Chain.shift.Goals as goal
+
+pub returns : goal.returns
+returns g c =
+    let i = c.self.inside in
+    let moved = c.shift_bits.ensures in
+    let words = c.deref_mut.ensures.value in
+    let len : length c.shift_bits.new.words ≡ length i.words.items = moved.len ∙ ap length words in
+    ap (row_of i.bits) (back i.words.items c.shift_bits.new.words len)
+    ∙ shifted-row i.bits c.args.level i.words.items c.shift_bits.new.words (λ k l. moved.bits k l ∙ ap (λ (ws : List ℕ). bit_before c.args.level ws k) words)
+    ∙ ap (shifted c.args.level) c.self.view_is

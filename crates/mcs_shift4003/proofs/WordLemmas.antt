@@ -1,0 +1,255 @@
+-- Words of ten bits: what a write and a shift do to their bits, and the row that they hold.
+use Rattle.std.proofs.Common.{◌≡◌, ◌≢◌, ℕ, zero, suc, ◌+◌, ◌-◌, ◌*◌, ◌/◌, ◌%◌, ◌^◌, ◌<◌, ◌≤◌, inl, inr, List, ◌∷◌, ◌++◌, drop, All, Some, None, length, get_or, slice_get, slice_index, slice_set, take, replicate, refl, sym, ap, ◌∙◌, arith, bit_or, bit_and, eqb, if◌then◌else◌, get_or-set_other, subst}
+use Rattle.std.proofs.lemmas.Bool.Decides.{nat_tests}
+use Rattle.std.proofs.Math.Pow.{pow-lt}
+use Rattle.std.proofs.lemmas.Bool.{cases_eq, cases_lt}
+use Rattle.std.proofs.lemmas.Grind.{get_or-set_at, common_steps}
+use Rattle.std.proofs.lemmas.List.{get_or_past, get_or-replicate, length-replicate, length-set, get_or-take}
+use Rattle.std.proofs.lemmas.List.Elements.{All-from_get_or}
+use Rattle.std.proofs.lemmas.Nat.{div-add-mod', or_lt, and_le_l, pow-add}
+use Rattle.std.proofs.Math.Nat.{div-div-eq-div-mul}
+use Rattle.std.proofs.Math.Seq.{take-append_seam}
+use Rattle.std.specs.List.{refill}
+use Rattle.std.proofs.lemmas.Nat.Bits.{bit_at_lowest, bit_at-suc, bit_at-zero, bit_at-lt, bit_at_cat_low, bit_at_cat_high, shr_and_one}
+use Rattle.std.proofs.lemmas.Option.{slice_get-get_or, slice_get_past}
+use Rattle.mcs_nibble.specs.Bits.{bit_of}
+use Rattle.mcs_nibble.proofs.TabledLemmas.{length-tabled, get_or-tabled, tabled_from, set-tabled}
+use Rattle.mcs_shift4003.specs.Packing.{packed_bit, bit_before, row_of, IsPacked}
+
+-- ---- one word
+
+-- 1 << j, of a word
+pub place : (j : ℕ) → j < 10 → 1 * 2 ^ j % 65536 < 1024
+place j h = let e : 2 ^ j < 2 ^ 10 = pow-lt h in omega arith
+
+pub set-small : (word j : ℕ) → word < 1024 → j < 10 → bit_or word (1 * 2 ^ j % 65536) < 1024
+set-small word j h l = or_lt 10 word (1 * 2 ^ j % 65536) h (place j l)
+
+pub clear-small : (word m : ℕ) → word < 1024 → bit_and word m < 1024
+clear-small word m h = let e = and_le_l word m in omega arith
+
+bit-mod : (n k i : ℕ) → i < k → bit_of (n % 2 ^ k) i ≡ bit_of n i
+bit-mod n k i h = sym (bit_at_cat_low (n / 2 ^ k) k (n % 2 ^ k) i h) ∙ ap (λ m. bit_of m i) (div-add-mod' n (2 ^ k))
+
+-- a word that took in a level
+moved-low : (word level : ℕ) → level < 2 → bit_of ((2 * word + level) % 1024) 0 ≡ level
+moved-low word level l = bit-mod (2 * word + level) 10 0 (omega arith) ∙ bit_at_lowest (2 * word + level) ∙ omega arith
+
+moved-high : (word level j : ℕ) → level < 2 → suc j < 10 → bit_of ((2 * word + level) % 1024) (suc j) ≡ bit_of word j
+moved-high word level j l h =
+    let half : (2 * word + level) / 2 ≡ word = omega arith in
+    bit-mod (2 * word + level) 10 (suc j) h ∙ bit_at-suc (2 * word + level) j ∙ ap (λ m. bit_of m j) half
+
+lost : (word : ℕ) → word < 1024 → word / 512 ≡ bit_of word 9
+lost word h = omega arith
+
+-- ---- words
+
+pub set-bit : (words : List ℕ) (i new level : ℕ) → i / 10 < length words → bit_of new (i % 10) ≡ level → packed_bit (slice_set words (i / 10) new) i ≡ level
+set-bit words i new level h is = ap (λ w. bit_of w (i % 10)) (get_or-set_at words (i / 10) (i / 10) new 0 refl h) ∙ is
+
+pub other-bits : (words : List ℕ) (i new k : ℕ) → i / 10 < length words → ((j : ℕ) → j < 10 → j ≢ i % 10 → bit_of new j ≡ bit_of (slice_index words (i / 10)) j) → k ≢ i → packed_bit (slice_set words (i / 10) new) k ≡ packed_bit words k
+other-bits words i new k h others ne =
+    elim (cases_eq (k / 10) (i / 10)) [
+      | inl e ↦
+          ap (λ w. bit_of w (k % 10)) (get_or-set_at words (i / 10) (k / 10) new 0 e h)
+          ∙ others (k % 10) (omega arith) (λ q. ne (omega arith))
+          ∙ ap (λ m. bit_of (slice_index words m) (k % 10)) (sym e)
+      | inr f ↦ ap (λ w. bit_of w (k % 10)) (get_or-set_other words (i / 10) (k / 10) new 0 f)
+    ]
+
+pub set-ten : (words : List ℕ) (at new : ℕ) → new < 1024 → ((k : ℕ) → slice_index words k < 1024) → (k : ℕ) → slice_index (slice_set words at new) k < 1024
+set-ten words at new h ten k =
+    elim (cases_eq k at) [
+      | inl e ↦
+          elim (cases_lt at (length words)) [
+            | inl l ↦ subst (λ m. m < 1024) (sym (get_or-set_at words at k new 0 e l)) h
+            | inr gone ↦ subst (λ m. m < 1024) (sym (get_or_past (slice_set words at new) k 0 (let e2 = length-set words at new in omega arith))) (omega arith)
+          ]
+      | inr ne ↦ subst (λ m. m < 1024) (sym (get_or-set_other words at k new 0 ne)) (ten k)
+    ]
+
+-- ---- a shift, word by word
+
+-- the words after k of them were moved
+pub record IsMoved (level : ℕ) (old new : List ℕ) (k level_next : ℕ) : Type 0 where
+  pub len : length new ≡ length old
+  pub ten : (m : ℕ) → slice_index new m < 1024
+  pub bits : (i : ℕ) → i < 10 * k → packed_bit new i ≡ bit_before level old i
+  pub rest : (m : ℕ) → k ≤ m → slice_index new m ≡ slice_index old m
+  pub carry : level_next ≡ bit_before level old (10 * k)
+  pub small : level_next < 2
+
+before-suc : (level : ℕ) (words : List ℕ) (i k : ℕ) → i ≡ k + 1 → bit_before level words i ≡ packed_bit words k
+before-suc level words zero k e = absurd (omega arith)
+before-suc level words (suc i) k e = ap (packed_bit words) (let q : i ≡ k = omega arith in q)
+
+moved-word : (level : ℕ) (old : List ℕ) (k carry i j word : ℕ) → carry ≡ bit_before level old (10 * k) → carry < 2 → word ≡ slice_index old k → i ≡ 10 * k + j → j < 10 → bit_of ((2 * word + carry) % 1024) j ≡ bit_before level old i
+moved-word level old k carry i zero word is small here at h = moved-low word carry small ∙ is ∙ ap (bit_before level old) (let e : 10 * k ≡ i = omega arith in e)
+moved-word level old k carry i (suc j) word is small here at h =
+    let p : (10 * k + j) / 10 ≡ k = omega arith in
+    let q : (10 * k + j) % 10 ≡ j = omega arith in
+    moved-high word carry j small h
+    ∙ ap (λ w. bit_of w j) here
+    ∙ sym (ap (λ m. bit_of (slice_index old m) ((10 * k + j) % 10)) p ∙ ap (bit_of (slice_index old k)) q)
+    ∙ sym (before-suc level old i (10 * k + j) (omega arith))
+
+pub one-more : (level : ℕ) (old new : List ℕ) (k carry word last : ℕ) → IsMoved level old new k carry → k < length old → word ≡ (2 * slice_index new k + carry) % 1024 → last ≡ slice_index new k / 512 → IsMoved level old (slice_set new k word) (k + 1) last
+one-more level old new k carry word last m there is lost-is =
+    let same : slice_index new k ≡ slice_index old k = m.rest k (omega arith) in
+    let within : k < length new = let e = m.len in omega arith in
+    let ten = m.ten k in
+    let at : slice_index (slice_set new k word) k ≡ word = get_or-set_at new k k word 0 refl within in
+    record {
+      len = length-set new k word ∙ m.len;
+      ten = set-ten new k word (omega arith) m.ten;
+      bits = λ i l.
+          elim (cases_lt i (10 * k)) [
+            | inl before ↦
+                let ne : i / 10 ≢ k = λ e. omega arith in
+                ap (λ w. bit_of w (i % 10)) (get_or-set_other new k (i / 10) word 0 ne) ∙ m.bits i before
+            | inr here ↦
+                let e : i / 10 ≡ k = omega arith in
+                ap (λ n. bit_of (slice_index (slice_set new k word) n) (i % 10)) e
+                ∙ ap (λ w. bit_of w (i % 10)) (at ∙ is)
+                ∙ moved-word level old k carry i (i % 10) (slice_index new k) m.carry m.small same (omega arith) (omega arith)
+          ];
+      rest = λ n l. get_or-set_other new k n word 0 (λ e. omega arith) ∙ m.rest n (omega arith);
+      carry =
+          let p : (10 * k + 9) / 10 ≡ k = omega arith in
+          let q : (10 * k + 9) % 10 ≡ 9 = omega arith in
+          lost-is ∙ lost (slice_index new k) ten ∙ ap (λ w. bit_of w 9) same
+          ∙ sym (ap (λ n. bit_of (slice_index old n) ((10 * k + 9) % 10)) p ∙ ap (bit_of (slice_index old k)) q)
+          ∙ sym (before-suc level old (10 * (k + 1)) (10 * k + 9) (omega arith));
+      small = omega arith;
+    }
+
+-- a word past the last one is 0
+no-word : (words : List ℕ) (i : ℕ) → 10 * length words ≤ i → packed_bit words i ≡ 0
+no-word words i gone = ap (λ w. bit_of w (i % 10)) (get_or_past words (i / 10) 0 (omega arith)) ∙ bit_at-zero (i % 10)
+
+past-end : (bits level : ℕ) (old new : List ℕ) (i : ℕ) → IsPacked bits old → length new ≡ length old → ((k : ℕ) → k < 10 * length old → packed_bit new k ≡ bit_before level old k) → bits < i → packed_bit new i ≡ 0
+past-end bits level old new zero p len moved h = absurd (omega arith)
+past-end bits level old new (suc i) p len moved h =
+    elim (cases_lt (suc i) (10 * length old)) [
+      | inl l ↦ moved (suc i) l ∙ p.past i (omega arith)
+      | inr gone ↦ no-word new (suc i) (omega arith)
+    ]
+
+-- where the last word is full there is nothing to trim
+pub full : (bits level : ℕ) (old new : List ℕ) → IsPacked bits old → bits % 10 ≡ 0 → length new ≡ length old → ((k : ℕ) → slice_index new k < 1024) → ((i : ℕ) → i < 10 * length old → packed_bit new i ≡ bit_before level old i) → IsPacked bits new
+full bits level old new p whole len ten moved = record {
+  used = len ∙ p.used;
+  ten = ten;
+  past = λ i h. no-word new i (let u = p.used in omega arith);
+}
+
+-- what bits past the end become
+pub trimmed : (bits level : ℕ) (old new last : List ℕ) → IsPacked bits old → length new ≡ length old → ((k : ℕ) → slice_index last k < 1024) → length last ≡ length new → ((i : ℕ) → i < 10 * length old → packed_bit new i ≡ bit_before level old i) → packed_bit last bits ≡ 0 → ((k : ℕ) → k ≢ bits → packed_bit last k ≡ packed_bit new k) → IsPacked bits last
+trimmed bits level old new last p len ten len2 moved zero-there others = record {
+  used = len2 ∙ len ∙ p.used;
+  ten = ten;
+  past = λ i h.
+      elim (cases_eq i bits) [
+        | inl e ↦ ap (packed_bit last) e ∙ zero-there
+        | inr ne ↦ others i ne ∙ past-end bits level old new i p len moved (omega arith)
+      ];
+}
+
+-- ---- the row
+
+pub length-row : (bits : ℕ) (words : List ℕ) → length (row_of bits words) ≡ bits
+unfolding row_of
+length-row bits words = length-tabled bits (packed_bit words)
+
+pub row-bit : (bits : ℕ) (words : List ℕ) (i d : ℕ) → i < bits → get_or (row_of bits words) i d ≡ packed_bit words i
+unfolding row_of
+row-bit bits words i d h = get_or-tabled bits (packed_bit words) i d h
+
+-- a bit of the row, or 0 beyond its end
+pub any-bit : (bits : ℕ) (words : List ℕ) (i : ℕ) → IsPacked bits words → slice_index (row_of bits words) i ≡ packed_bit words i
+any-bit bits words i p =
+    elim (cases_lt i bits) [
+      | inl h ↦ row-bit bits words i 0 h
+      | inr gone ↦ get_or_past (row_of bits words) i 0 (let e = length-row bits words in omega arith) ∙ sym (p.past i gone)
+    ]
+
+pub got : (bits : ℕ) (words : List ℕ) (i : ℕ) → i < bits → Some (packed_bit words i) ≡ slice_get (row_of bits words) i
+got bits words i h = ap Some (sym (row-bit bits words i 0 h)) ∙ sym (slice_get-get_or (row_of bits words) i 0 (let e = length-row bits words in omega arith))
+
+pub not-got : (bits : ℕ) (words : List ℕ) (i : ℕ) → bits ≤ i → None ≡ slice_get (row_of bits words) i
+not-got bits words i h = sym (slice_get_past (row_of bits words) i (let e = length-row bits words in omega arith))
+
+pub row-small : (bits : ℕ) (words : List ℕ) → All (λ bit. bit < 2) (row_of bits words)
+row-small bits words =
+    All-from_get_or (λ bit. bit < 2) (row_of bits words) 0 (λ i l.
+    subst (λ bit. bit < 2) (sym (row-bit bits words i 0 (let e = length-row bits words in omega arith))) (bit_at-lt (slice_index words (i / 10)) (i % 10)))
+
+-- a row of zeros
+zeros : (n i : ℕ) → packed_bit (replicate n 0) i ≡ 0
+zeros n i =
+    elim (cases_lt (i / 10) n) [
+      | inl l ↦ ap (λ w. bit_of w (i % 10)) (get_or-replicate n (i / 10) 0 0 l) ∙ bit_at-zero (i % 10)
+      | inr gone ↦ ap (λ w. bit_of w (i % 10)) (get_or_past (replicate n 0) (i / 10) 0 (let e = length-replicate {A = ℕ} n 0 in omega arith)) ∙ bit_at-zero (i % 10)
+    ]
+
+pub blank : (bits n : ℕ) → row_of bits (replicate n 0) ≡ replicate bits 0
+unfolding row_of
+blank bits n = sym (tabled_from bits (packed_bit (replicate n 0)) (replicate bits 0) 0 (length-replicate {A = ℕ} bits 0) (λ k l. get_or-replicate bits k 0 0 l ∙ sym (zeros n k)))
+
+-- a row with one bit replaced
+pub set-row : (bits : ℕ) (words new : List ℕ) (i level : ℕ) → i < bits → packed_bit new i ≡ level → ((k : ℕ) → k ≢ i → packed_bit new k ≡ packed_bit words k) → row_of bits new ≡ slice_set (row_of bits words) i level
+unfolding row_of
+set-row bits words new i level h at others = sym (set-tabled bits (packed_bit words) (packed_bit new) i level h at (λ k _ ne. others k ne))
+
+pub set-packed : (bits : ℕ) (words new : List ℕ) (i : ℕ) → IsPacked bits words → i < bits → length new ≡ length words → ((k : ℕ) → slice_index new k < 1024) → ((k : ℕ) → k ≢ i → packed_bit new k ≡ packed_bit words k) → IsPacked bits new
+set-packed bits words new i p h len ten others = record {
+  used = len ∙ p.used;
+  ten = ten;
+  past = λ k l. others k (λ e. omega arith) ∙ p.past k l;
+}
+
+-- a row that was moved
+row-before : (bits level : ℕ) (words : List ℕ) (k : ℕ) → k < bits → get_or (level ∷ row_of bits words) k 0 ≡ bit_before level words k
+row-before bits level words zero h = refl
+row-before bits level words (suc k) h = row-bit bits words k 0 (omega arith)
+
+pub shifted-row : (bits level : ℕ) (old new : List ℕ) → ((i : ℕ) → i < bits → packed_bit new i ≡ bit_before level old i) → row_of bits new ≡ take (length (row_of bits old)) (level ∷ row_of bits old)
+unfolding row_of
+shifted-row bits level old new moved =
+    let len = length-row bits old in
+    let taken : length (take (length (row_of bits old)) (level ∷ row_of bits old)) ≡ bits = grind (arith, common_steps) in
+    sym (tabled_from bits (packed_bit new) (take (length (row_of bits old)) (level ∷ row_of bits old)) 0 taken (λ k l.
+    get_or-take (length (row_of bits old)) (level ∷ row_of bits old) k 0 (omega arith) ∙ row-before bits level old k l ∙ sym (moved k l)))
+
+-- ---- ten bits from a place on
+
+bit-div : (n s j : ℕ) → bit_of (n / 2 ^ s) j ≡ bit_of n (s + j)
+bit-div n s j = ap (λ m. m % 2) (div-div-eq-div-mul n (2 ^ s) (2 ^ j) ∙ ap (λ m. n / m) (sym (pow-add 2 s j)))
+
+pub ten-bits : (words : List ℕ) (first low high j : ℕ) → low ≡ slice_index words (first / 10) → high ≡ slice_index words (first / 10 + 1) → low < 1024 → j < 10 → bit_of ((high * 1024 + low) / 2 ^ (first % 10) % 1024) j ≡ packed_bit words (first + j)
+ten-bits words first low high j is-low is-high small h =
+    let s = first % 10 in
+    bit-mod ((high * 1024 + low) / 2 ^ s) 10 j h
+    ∙ bit-div (high * 1024 + low) s j
+    ∙ elim (cases_lt (s + j) 10) [
+      | inl l ↦
+          let p : first / 10 ≡ (first + j) / 10 = omega arith in
+          let q : s + j ≡ (first + j) % 10 = omega arith in
+          bit_at_cat_low high 10 low (s + j) l ∙ ap (λ w. bit_of w (s + j)) (is-low ∙ ap (slice_index words) p) ∙ ap (bit_of (slice_index words ((first + j) / 10))) q
+      | inr l ↦
+          let p : first / 10 + 1 ≡ (first + j) / 10 = omega arith in
+          let q : s + j - 10 ≡ (first + j) % 10 = omega arith in
+          bit_at_cat_high high 10 low (s + j) small l ∙ ap (λ w. bit_of w (s + j - 10)) (is-high ∙ ap (slice_index words) p) ∙ ap (bit_of (slice_index words ((first + j) / 10))) q
+    ]
+
+-- a slice of words put back whole
+pub back : (old new : List ℕ) → length new ≡ length old → refill (length old) old new ≡ new
+back old new len = ap (λ n. take n (new ++ drop (length new) old)) (sym len) ∙ take-append_seam new (drop (length new) old)
+
+-- a level told by a test
+pub bit-when : (word j : ℕ) → (if eqb (bit_and (word / 2 ^ j) 1) 1 then 1 else 0) ≡ bit_of word j
+bit-when word j =
+    let e = shr_and_one word j in
+    let l = bit_at-lt word j in
+    grind (arith, nat_tests)
