@@ -1,16 +1,24 @@
 -- What a run and a step of a bench answer.
-use Rattle.std.specs.Prelude.{◌≡◌, ℕ, ◌+◌, List, []}
+use Rattle.std.specs.Prelude.{◌≡◌, ℕ, ◌+◌, ◌<◌, ◌≤◌, true, false, List, []}
 use Rattle.mcs_model.specs.declared.command.Command.TheVariants.{Run}
 use Rattle.mcs_model.specs.declared.stop.Stop.{Stop}
 use Rattle.mcs_model.specs.Command.{changed}
 use Rattle.mcs_model.specs.Flat.{Flat}
-use Rattle.mcs_model.specs.Running.{Machine, run_length, after_run, run_stop, step_length, after_step, step_stop}
+use Rattle.mcs_model.specs.Running.{Machine, is_outside, cycled, run_length, after_run, run_stop, step_length, after_step, step_stop}
 
 -- a run of at most n cycles from s: what it answers, and where it comes to
 pub record RanTo (breaks : List ℕ) (n : ℕ) (s t : Machine) (k : ℕ) (why : Stop) : Type 0 where
   pub cycles : k ≡ run_length breaks n s
   pub machine : t ≡ after_run breaks n s
   pub stop : why ≡ run_stop breaks n s
+
+-- the cycles of one instruction, k of them from s to t and at most so many as are left: none where none can follow
+pub record Turned (left : ℕ) (s t : Machine) (k : ℕ) : Type 0 where
+  pub within : k ≤ left
+  pub machine : t ≡ cycled k s
+  pub none : k ≡ 0 → is_outside s ≡ true
+  pub inside : (j : ℕ) → j < k → is_outside (cycled j s) ≡ false
+  pub between : (j : ℕ) → 0 < j → j < k → (cycled j s).0.owed ≡ 1
 
 -- a step from s
 pub record SteppedTo (s t : Machine) (k : ℕ) (why : Stop) : Type 0 where

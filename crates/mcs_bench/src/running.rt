@@ -1,9 +1,9 @@
 //! Runs and steps of a processor over a rig of the bench's size.
-ghost use Rattle.std.specs.Prelude.{◌≡◌, ◌&&◌, ◌==◌, not, unwrap_or};
+ghost use Rattle.std.specs.Prelude.{◌≡◌, ◌<◌, ◌&&◌, ◌==◌, not, unwrap_or};
 ghost use Rattle.mcs_model.specs.Effect.{cycle_of};
 ghost use Rattle.mcs_model.specs.Running.{is_outside};
 ghost use Rattle.mcs_model.specs.Breakpoints.{is_breakpoint};
-ghost use Rattle.mcs_bench.specs.Runs.{RanTo, SteppedTo};
+ghost use Rattle.mcs_bench.specs.Runs.{RanTo, SteppedTo, Turned};
 
 use crate::breaks::Breaks;
 use mcs_board::Rig;
@@ -41,19 +41,39 @@ fn is_at_break(cpu: &Cpu, breaks: &Breaks) -> bool
     regs.owed == 0 && breaks.contains(regs.pc)
 }
 
+/// The cycles of the instruction at hand, at most so many: how many it did; none where none can follow.
+#[inline(always)]
+fn turn(cpu: &mut Cpu, rig: &mut BenchRig, left: u32) -> u32
+    requires { 0 < left }
+    ensures { Turned left (cpu.old, rig.old) (cpu.new, rig.new) result }
+{
+    if !advance(cpu, rig) {
+        return 0;
+    }
+    // The second cycle asks for no code, and no run stops before it.
+    if left > 1 && cpu.regs().owed == 1 {
+        let _ = advance(cpu, rig);
+        return 2;
+    }
+    1
+}
+
 /// A run of at most `n` cycles: how many it did, and why it stopped.
 pub(crate) fn run(cpu: &mut Cpu, rig: &mut BenchRig, breaks: &Breaks, n: u32) -> (u32, Stop)
     ensures { RanTo breaks.now n (cpu.old, rig.old) (cpu.new, rig.new) result.0 result.1 }
 {
-    for k in 0..n {
-        if !advance(cpu, rig) {
+    let mut k = 0;
+    while k < n {
+        let cycles = turn(cpu, rig, n - k);
+        if cycles == 0 {
             return (k, Stop::Outside);
         }
+        k += cycles;
         if is_at_break(cpu, breaks) {
             if is_outside(cpu, rig) {
-                return (k + 1, Stop::Outside);
+                return (k, Stop::Outside);
             }
-            return (k + 1, Stop::Breakpoint);
+            return (k, Stop::Breakpoint);
         }
     }
     if is_outside(cpu, rig) {

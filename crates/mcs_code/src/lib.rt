@@ -18,6 +18,7 @@ mod rows;
 mod spelling;
 
 /// The instruction that two words spell, or none where the first is outside the table.
+#[inline(always)]
 #[tactic(auto, unfolding(mcs_model::specs::Table::decoded, mcs_model::specs::Table::row_of))]
 pub fn decode(first: u8, second: u8) -> Option<Op>
     ensures { result ≡ decoded first second }

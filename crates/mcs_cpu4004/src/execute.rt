@@ -1,6 +1,6 @@
 //! The effect of each instruction on registers and bus.
 ghost use Rattle.std.specs.Prelude.{◌≡◌, ℕ, ◌+◌, ◌-◌, ◌%◌, ◌<◌};
-ghost use Rattle.mcs_model.specs.Effect.{registers_after, bus_after, address_beside, with_sum, with_word, is_taken, after_jcn, after_isz, after_jms, after_bbl, after_rar, after_daa, key_of};
+ghost use Rattle.mcs_model.specs.Effect.{effect, address_beside, with_sum, with_word, is_taken, after_jcn, after_isz, after_jms, after_bbl, after_rar, after_daa, key_of};
 ghost use Rattle.mcs_model.specs.Registers.{pair_of, with_pair};
 ghost use Rattle.mcs_model.specs.Bus.{fetch_of};
 
@@ -302,23 +302,36 @@ macro_rules! effect {
     };
 }
 
-/// The effect of the instruction, by its row.
-macro_rules! effect_rows {
+/// The instruction's whole work, by its row: the counter and the cycles owed, then its effect.
+macro_rules! work_rows {
     (($regs:ident, $bus:ident, $op:ident) $($codes:pat, $name:ident $kind:ident $words:literal $cycles:literal $group:ident $text:literal;)*) => {
         match $op {
-            $(taken!(a b $name $kind) => effect!($name $regs $bus a b),)*
+            $(taken!(a b $name $kind) => {
+                pass_words($regs, $words, $cycles);
+                effect!($name $regs $bus a b)
+            })*
         }
     };
 }
 
-/// Does an instruction, where the counter already stands behind its words.
+/// Moves the counter behind an instruction's words, and notes the cycles that it still takes after this one.
+#[inline(always)]
+fn pass_words(regs: &mut Regs, words: u8, cycles: u8)
+    requires { 0 < cycles }
+    ensures { regs.new ≡ record regs.old { pc = (regs.old.pc + words) % 4096; owed = cycles - 1 } }
+{
+    regs.pc = regs.pc.plus(u16::from(words));
+    regs.owed = cycles - 1;
+}
+
+/// Does an instruction, in the first of its cycles. Each row does all of its work, so that a processor that has decoded
+/// the code at its counter takes one jump to it.
 #[inline(always)]
 pub fn execute<B: Bus>(regs: &mut Regs, bus: &mut B, op: Op)
     requires { regs.old.dcl < 8 }
-    ensures regs { regs.new ≡ registers_after op regs.old (B.flat bus.old) }
-    ensures bus { B.flat bus.new ≡ bus_after op regs.old (B.flat bus.old) }
+    ensures effect { (regs.new, B.flat bus.new) ≡ effect op regs.old (B.flat bus.old) }
     ensures dcl { regs.new.dcl < 8 }
-    ensures owed { regs.new.owed ≡ regs.old.owed }
+    ensures owed { regs.new.owed < 2 }
 {
-    instructions!(effect_rows!(regs, bus, op))
+    instructions!(work_rows!(regs, bus, op))
 }

@@ -2,29 +2,13 @@
 ghost use Rattle.std.specs.Prelude.{◌≡◌, ◌≢◌, ℕ, ◌<◌, ◌↔◌, IsNone, IsTrue, unwrap_or};
 ghost use Rattle.mcs_model.specs.Flat.{new_regs};
 ghost use Rattle.mcs_model.specs.Registers.{with_register};
-ghost use Rattle.mcs_model.specs.Effect.{cycle_of, effect};
+ghost use Rattle.mcs_model.specs.Effect.{cycle_of};
 
 use crate::bus::Bus;
 use crate::execute::execute;
-use mcs_code::Op;
 use mcs_model::regs::Regs;
 use mcs_nibble::{Addr, Bit, Nibble, RegNo};
 use std::marker::Model;
-
-/// The first cycle of an instruction, which does all its work.
-#[inline(always)]
-fn perform<B: Bus>(regs: &mut Regs, bus: &mut B, op: Op)
-    requires { regs.old.dcl < 8 }
-    ensures effect { (regs.new, B.flat bus.new) ≡ effect op regs.old (B.flat bus.old) }
-    ensures dcl { regs.new.dcl < 8 }
-    ensures owed { regs.new.owed < 2 }
-{
-    let (counted, timed) = (op, op);
-    let words = mcs_code::word_count(counted);
-    regs.pc = regs.pc.plus(u16::from(words));
-    regs.owed = mcs_code::cycles(timed) - 1;
-    execute(regs, bus, op);
-}
 
 /// What an instruction cycle did.
 #[derive(Clone, Copy, Debug, PartialEq, Eq)]
@@ -76,7 +60,7 @@ impl Cpu {
         match mcs_code::decode(bus.fetch(at), bus.fetch(second)) {
             None => Cycle::Outside,
             Some(op) => {
-                perform(&mut self.regs, bus, op);
+                execute(&mut self.regs, bus, op);
                 Cycle::Done
             }
         }
