@@ -3,7 +3,7 @@ ghost use Rattle.std.specs.Prelude.{◌≡◌, ◌<◌, ◌&&◌, ◌==◌, not,
 ghost use Rattle.mcs_model.specs.Effect.{cycle_of};
 ghost use Rattle.mcs_model.specs.Running.{is_outside};
 ghost use Rattle.mcs_model.specs.Breakpoints.{is_breakpoint};
-ghost use Rattle.mcs_bench.specs.Runs.{RanTo, SteppedTo, Turned};
+ghost use Rattle.mcs_bench.specs.Runs.{RanOn, RanTo, SteppedTo, Turned};
 
 use crate::breaks::Breaks;
 use mcs_board::Rig;
@@ -58,28 +58,40 @@ fn turn(cpu: &mut Cpu, rig: &mut BenchRig, left: u32) -> u32
     1
 }
 
-/// A run of at most `n` cycles: how many it did, and why it stopped.
-pub(crate) fn run(cpu: &mut Cpu, rig: &mut BenchRig, breaks: &Breaks, n: u32) -> (u32, Stop)
-    ensures { RanTo breaks.now n (cpu.old, rig.old) (cpu.new, rig.new) result.0 result.1 }
+/// Runs for at most `n` cycles, up to the first breakpoint: how many cycles it did, and whether it is at a breakpoint.
+#[inline(always)]
+fn run_on(cpu: &mut Cpu, rig: &mut BenchRig, breaks: &Breaks, n: u32) -> (u32, bool)
+    ensures { RanOn breaks.now n (cpu.old, rig.old) (cpu.new, rig.new) result.0 result.1 }
 {
     let mut k = 0;
     while k < n {
         let cycles = turn(cpu, rig, n - k);
         if cycles == 0 {
-            return (k, Stop::Outside);
+            return (k, false);
         }
         k += cycles;
         if is_at_break(cpu, breaks) {
-            if is_outside(cpu, rig) {
-                return (k, Stop::Outside);
-            }
-            return (k, Stop::Breakpoint);
+            return (k, true);
         }
     }
+    (k, false)
+}
+
+/// A run of at most `n` cycles: how many it did, and why it stopped.
+pub(crate) fn run(cpu: &mut Cpu, rig: &mut BenchRig, breaks: &Breaks, n: u32) -> (u32, Stop)
+    ensures { RanTo breaks.now n (cpu.old, rig.old) (cpu.new, rig.new) result.0 result.1 }
+{
+    // A copy that nothing else can reach: its registers need not go through memory at each cycle.
+    let mut running = *cpu;
+    let (cycles, at_break) = run_on(&mut running, rig, breaks, n);
+    *cpu = running;
     if is_outside(cpu, rig) {
-        return (n, Stop::Outside);
+        (cycles, Stop::Outside)
+    } else if at_break {
+        (cycles, Stop::Breakpoint)
+    } else {
+        (cycles, Stop::Ended)
     }
-    (n, Stop::Ended)
 }
 
 /// One cycle, if one can follow, and whether one could: called, and not in line as in a run.

@@ -10,6 +10,7 @@ use mcs_model::regs::Regs;
 use mcs_nibble::{Addr, Bit, Nibble, PairNo, RegNo};
 
 /// The address of a word on the page of another address.
+#[inline(always)]
 fn word_beside(at: Addr, word: u8) -> Addr
     ensures { result ≡ address_beside at word }
 {
@@ -17,6 +18,7 @@ fn word_beside(at: Addr, word: u8) -> Addr
 }
 
 /// Whether JCN jumps, at that level of TEST.
+#[inline(always)]
 fn takes_jump(condition: Nibble, regs: &Regs, test: Bit) -> bool
     ensures { result ≡ is_taken condition regs.now test }
 {
@@ -28,6 +30,7 @@ fn takes_jump(condition: Nibble, regs: &Regs, test: Bit) -> bool
 }
 
 /// JCN, at that level of TEST.
+#[inline(always)]
 fn jump_on_condition(regs: &mut Regs, condition: Nibble, word: u8, test: Bit)
     ensures { regs.new ≡ after_jcn condition word regs.old test }
 {
@@ -37,6 +40,7 @@ fn jump_on_condition(regs: &mut Regs, condition: Nibble, word: u8, test: Bit)
 }
 
 /// FIN.
+#[inline(always)]
 fn fetch_indirect<B: Bus>(regs: &mut Regs, bus: &B, pair: PairNo)
     ensures { regs.new ≡ with_pair regs.old pair (fetch_of (B.flat bus.now) (address_beside regs.old.pc (pair_of regs.old 0))) }
 {
@@ -45,6 +49,7 @@ fn fetch_indirect<B: Bus>(regs: &mut Regs, bus: &B, pair: PairNo)
 }
 
 /// JIN.
+#[inline(always)]
 fn jump_indirect(regs: &mut Regs, pair: PairNo)
     ensures { regs.new ≡ with_word regs.old (pair_of regs.old pair) }
 {
@@ -52,6 +57,7 @@ fn jump_indirect(regs: &mut Regs, pair: PairNo)
 }
 
 /// JMS.
+#[inline(always)]
 fn call(regs: &mut Regs, target: Addr)
     ensures { regs.new ≡ after_jms target regs.old }
 {
@@ -61,6 +67,7 @@ fn call(regs: &mut Regs, target: Addr)
 }
 
 /// BBL, but for the accumulator.
+#[inline(always)]
 fn branch_back(regs: &mut Regs)
     ensures { regs.new ≡ after_bbl regs.old }
 {
@@ -71,6 +78,7 @@ fn branch_back(regs: &mut Regs)
 }
 
 /// ISZ.
+#[inline(always)]
 fn count_up(regs: &mut Regs, r: RegNo, word: u8)
     ensures { regs.new ≡ after_isz r word regs.old }
 {
@@ -82,6 +90,7 @@ fn count_up(regs: &mut Regs, r: RegNo, word: u8)
 }
 
 /// ADD and ADM of a nibble.
+#[inline(always)]
 fn add(regs: &mut Regs, n: Nibble)
     ensures { regs.new ≡ with_sum regs.old (regs.old.acc + n + regs.old.cy) }
 {
@@ -89,6 +98,7 @@ fn add(regs: &mut Regs, n: Nibble)
 }
 
 /// SUB and SBM of a nibble.
+#[inline(always)]
 fn subtract(regs: &mut Regs, n: Nibble)
     ensures { regs.new ≡ with_sum regs.old (regs.old.acc + (15 - n) + (1 - regs.old.cy)) }
 {
@@ -96,6 +106,7 @@ fn subtract(regs: &mut Regs, n: Nibble)
 }
 
 /// RAR.
+#[inline(always)]
 fn rotate_right(regs: &mut Regs)
     ensures { regs.new ≡ after_rar regs.old }
 {
@@ -105,6 +116,7 @@ fn rotate_right(regs: &mut Regs)
 }
 
 /// TCS.
+#[inline(always)]
 fn transfer_carry_subtract(regs: &mut Regs)
     ensures { regs.new ≡ record regs.old { acc = 9 + regs.old.cy; cy = 0 } }
 {
@@ -113,6 +125,7 @@ fn transfer_carry_subtract(regs: &mut Regs)
 }
 
 /// DCL.
+#[inline(always)]
 fn designate(regs: &mut Regs)
     ensures bank { regs.new ≡ record regs.old { dcl = regs.old.acc % 8 } }
     ensures in_range { regs.new.dcl < 8 }
@@ -121,6 +134,7 @@ fn designate(regs: &mut Regs)
 }
 
 /// KBP: the number of the only line that is 1, counted from 1; 0 for none, 15 for several.
+#[inline(always)]
 fn line_number(lines: Nibble) -> Nibble
     ensures { result ≡ key_of lines }
 {
@@ -135,6 +149,7 @@ fn line_number(lines: Nibble) -> Nibble
 }
 
 /// DAA.
+#[inline(always)]
 fn adjust(regs: &mut Regs)
     ensures { regs.new ≡ after_daa regs.old }
 {

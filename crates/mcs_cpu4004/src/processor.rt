@@ -22,7 +22,7 @@ pub enum Cycle {
 }
 
 /// A 4004, as its registers.
-#[derive(Debug, Drop)]
+#[derive(Clone, Copy, Debug)]
 pub struct Cpu {
     regs: Regs,
 }
@@ -36,6 +36,8 @@ impl Model for Cpu {
     ghost view = { λ c. c.regs };
 
     ghost invariant = { λ c. (c.regs.dcl < 8) × (c.regs.owed < 2) };
+
+    ghost inverse = { λ v. record { regs = v } };
 }
 
 impl Cpu {
