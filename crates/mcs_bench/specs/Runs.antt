@@ -21,14 +21,6 @@ pub record RanTo (breaks : List ℕ) (n : ℕ) (s t : Machine) (k : ℕ) (why : 
   pub machine : t ≡ after_run breaks n s
   pub stop : why ≡ run_stop breaks n s
 
--- the cycles of one instruction, k of them from s to t and at most so many as are left: none where none can follow
-pub record Turned (left : ℕ) (s t : Machine) (k : ℕ) : Type 0 where
-  pub within : k ≤ left
-  pub machine : t ≡ cycled k s
-  pub none : k ≡ 0 → is_outside s ≡ true
-  pub inside : (j : ℕ) → j < k → is_outside (cycled j s) ≡ false
-  pub between : (j : ℕ) → 0 < j → j < k → (cycled j s).0.owed ≡ 1
-
 -- a step from s
 pub record SteppedTo (s t : Machine) (k : ℕ) (why : Stop) : Type 0 where
   pub cycles : k ≡ step_length s

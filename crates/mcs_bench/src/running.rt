@@ -1,14 +1,15 @@
 //! Runs and steps of a processor over a rig of the bench's size.
-ghost use Rattle.std.specs.Prelude.{◌≡◌, ◌<◌, ◌&&◌, ◌==◌, not, unwrap_or};
+ghost use Rattle.std.specs.Prelude.{◌≡◌, ◌&&◌, ◌==◌, not, unwrap_or};
 ghost use Rattle.mcs_model.specs.Effect.{cycle_of};
 ghost use Rattle.mcs_model.specs.Running.{is_outside};
 ghost use Rattle.mcs_model.specs.Breakpoints.{is_breakpoint};
-ghost use Rattle.mcs_bench.specs.Runs.{RanOn, RanTo, SteppedTo, Turned};
+ghost use Rattle.mcs_bench.specs.Runs.{RanOn, RanTo, SteppedTo};
 
 use crate::breaks::Breaks;
 use mcs_board::Rig;
 use mcs_cpu4004::{Cpu, Cycle};
 use mcs_model::stop::Stop;
+use mcs_nibble::Addr;
 
 /// A rig that every board fits.
 pub(crate) type BenchRig = Rig<16, 8, 2, 40>;
@@ -32,30 +33,34 @@ fn is_outside(cpu: &Cpu, rig: &BenchRig) -> bool
     cpu.is_outside(rig)
 }
 
-/// Whether the processor is between instructions at a breakpoint.
+/// Whether a processor whose counter is at an address is between instructions at a breakpoint.
 #[inline(always)]
-fn is_at_break(cpu: &Cpu, breaks: &Breaks) -> bool
-    ensures { result ≡ (cpu.now.owed == 0 && is_breakpoint breaks.now cpu.now.pc) }
+fn is_at_break(cpu: &Cpu, at: Addr, breaks: &Breaks) -> bool
+    ensures { result ≡ (cpu.now.owed == 0 && is_breakpoint breaks.now at) }
 {
-    let regs = cpu.regs();
-    regs.owed == 0 && breaks.contains(regs.pc)
+    breaks.contains(at) && cpu.regs().owed == 0
 }
 
-/// The cycles of the instruction at hand, at most so many: how many it did; none where none can follow.
+/// Runs for at most `n` cycles, up to the first breakpoint: how many cycles it did, the address that it came to, and
+/// whether that is a breakpoint. The counter itself stays as it is.
 #[inline(always)]
-fn turn(cpu: &mut Cpu, rig: &mut BenchRig, left: u32) -> u32
-    requires { 0 < left }
-    ensures { Turned left (cpu.old, rig.old) (cpu.new, rig.new) result }
+fn run_loop(cpu: &mut Cpu, rig: &mut BenchRig, breaks: &Breaks, n: u32) -> (u32, Addr, bool)
+    ensures { RanOn breaks.now n (cpu.old, rig.old) (record cpu.new { pc = result.1 }, rig.new) result.0 result.2 }
 {
-    if !advance(cpu, rig) {
-        return 0;
+    let mut at = cpu.regs().pc;
+    let mut k = 0;
+    while k < n {
+        let (next, cycles) = mcs_board::turn(cpu, rig, at, n - k);
+        if cycles == 0 {
+            return (k, next, false);
+        }
+        at = next;
+        k += cycles;
+        if is_at_break(cpu, at, breaks) {
+            return (k, at, true);
+        }
     }
-    // The second cycle asks for no code, and no run stops before it.
-    if left > 1 && cpu.regs().owed == 1 {
-        let _ = advance(cpu, rig);
-        return 2;
-    }
-    1
+    (k, at, false)
 }
 
 /// Runs for at most `n` cycles, up to the first breakpoint: how many cycles it did, and whether it is at a breakpoint.
@@ -63,28 +68,19 @@ fn turn(cpu: &mut Cpu, rig: &mut BenchRig, left: u32) -> u32
 fn run_on(cpu: &mut Cpu, rig: &mut BenchRig, breaks: &Breaks, n: u32) -> (u32, bool)
     ensures { RanOn breaks.now n (cpu.old, rig.old) (cpu.new, rig.new) result.0 result.1 }
 {
-    let mut k = 0;
-    while k < n {
-        let cycles = turn(cpu, rig, n - k);
-        if cycles == 0 {
-            return (k, false);
-        }
-        k += cycles;
-        if is_at_break(cpu, breaks) {
-            return (k, true);
-        }
-    }
-    (k, false)
+    // A copy that nothing else can reach: its registers need not go through memory at each cycle.
+    let mut running = *cpu;
+    let (cycles, at, at_break) = run_loop(&mut running, rig, breaks, n);
+    running.set_pc(at);
+    *cpu = running;
+    (cycles, at_break)
 }
 
 /// A run of at most `n` cycles: how many it did, and why it stopped.
 pub(crate) fn run(cpu: &mut Cpu, rig: &mut BenchRig, breaks: &Breaks, n: u32) -> (u32, Stop)
     ensures { RanTo breaks.now n (cpu.old, rig.old) (cpu.new, rig.new) result.0 result.1 }
 {
-    // A copy that nothing else can reach: its registers need not go through memory at each cycle.
-    let mut running = *cpu;
-    let (cycles, at_break) = run_on(&mut running, rig, breaks, n);
-    *cpu = running;
+    let (cycles, at_break) = run_on(cpu, rig, breaks, n);
     if is_outside(cpu, rig) {
         (cycles, Stop::Outside)
     } else if at_break {

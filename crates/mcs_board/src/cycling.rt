@@ -1,9 +1,11 @@
 //! The processor over a rig of the bench's size.
-ghost use Rattle.std.specs.Prelude.{◌≡◌, ◌↔◌, IsNone, unwrap_or};
+ghost use Rattle.std.specs.Prelude.{◌≡◌, ◌<◌, ◌↔◌, IsNone, unwrap_or};
 ghost use Rattle.mcs_model.specs.Effect.{cycle_of};
+ghost use Rattle.mcs_model.specs.Running.{Turned};
 
 use crate::rig::Rig;
 use mcs_cpu4004::{Cpu, Cycle};
+use mcs_nibble::Addr;
 
 /// One instruction cycle of a processor over a rig, which is the cycle on their flat states.
 #[inline(always)]
@@ -13,4 +15,15 @@ pub fn cycle(cpu: &mut Cpu, rig: &mut Rig<16, 8, 2, 40>) -> Cycle
     ensures state { (cpu.new, rig.new) ≡ unwrap_or (cycle_of cpu.old rig.old) (cpu.old, rig.old) }
 {
     cpu.cycle(rig)
+}
+
+/// The cycles of the instruction at an address, at most `left` of them, or the one that is owed, of a processor over a
+/// rig: the address where the processor goes on, and how many cycles it did; 0 where none can follow. The counter itself
+/// stays as it is.
+#[inline(always)]
+pub fn turn(cpu: &mut Cpu, rig: &mut Rig<16, 8, 2, 40>, at: Addr, left: u32) -> (Addr, u32)
+    requires { 0 < left }
+    ensures { Turned left (record cpu.old { pc = at }, rig.old) (record cpu.new { pc = result.0 }, rig.new) result.1 }
+{
+    cpu.turn(rig, at, left)
 }

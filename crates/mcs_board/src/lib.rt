@@ -16,6 +16,6 @@ mod making;
 mod places;
 mod rig;
 
-pub use cycling::cycle;
+pub use cycling::{cycle, turn};
 pub use making::every_board_fits_the_bench;
 pub use rig::Rig;

@@ -1,7 +1,8 @@
 //! The effect of each instruction on registers and bus.
-ghost use Rattle.std.specs.Prelude.{◌≡◌, ℕ, ◌+◌, ◌-◌, ◌%◌, ◌<◌};
-ghost use Rattle.mcs_model.specs.Effect.{effect, address_beside, with_sum, with_word, is_taken, after_jcn, after_isz, after_jms, after_bbl, after_rar, after_daa, key_of};
-ghost use Rattle.mcs_model.specs.Registers.{pair_of, with_pair};
+ghost use Rattle.std.specs.Prelude.{◌≡◌, ℕ, ◌+◌, ◌-◌, ◌%◌, ◌<◌, ◌==◌, if◌then◌else◌, [], ◌∷◌, slice_index};
+ghost use Rattle.mcs_model.specs.Effect.{effect, address_beside, with_sum, is_taken, after_jcn, after_rar, after_daa, key_of};
+ghost use Rattle.mcs_model.specs.Table.{cycles_of};
+ghost use Rattle.mcs_model.specs.Registers.{register_of, pair_of, with_register, with_pair};
 ghost use Rattle.mcs_model.specs.Bus.{fetch_of};
 
 use crate::bus::Bus;
@@ -29,63 +30,63 @@ fn takes_jump(condition: Nibble, regs: &Regs, test: Bit) -> bool
     if c / 8 % 2 == 1 { !holds } else { holds }
 }
 
-/// JCN, at that level of TEST.
+/// Where JCN goes on, at that level of TEST; `next` is the address behind its words.
 #[inline(always)]
-fn jump_on_condition(regs: &mut Regs, condition: Nibble, word: u8, test: Bit)
-    ensures { regs.new ≡ after_jcn condition word regs.old test }
+fn after_condition(regs: &Regs, condition: Nibble, word: u8, test: Bit, next: Addr) -> Addr
+    ensures { record regs.now { pc = result } ≡ after_jcn condition word (record regs.now { pc = next }) test }
 {
     if takes_jump(condition, regs, test) {
-        regs.pc = word_beside(regs.pc, word);
+        word_beside(next, word)
+    } else {
+        next
     }
 }
 
-/// FIN.
+/// FIN; `next` is the address behind its word.
 #[inline(always)]
-fn fetch_indirect<B: Bus>(regs: &mut Regs, bus: &B, pair: PairNo)
-    ensures { regs.new ≡ with_pair regs.old pair (fetch_of (B.flat bus.now) (address_beside regs.old.pc (pair_of regs.old 0))) }
+fn fetch_indirect<B: Bus>(regs: &mut Regs, bus: &B, pair: PairNo, next: Addr)
+    ensures { regs.new ≡ with_pair regs.old pair (fetch_of (B.flat bus.now) (address_beside next (pair_of regs.old 0))) }
 {
-    let from = word_beside(regs.pc, regs.pair(PairNo::ZERO));
+    let from = word_beside(next, regs.pair(PairNo::ZERO));
     regs.set_pair(pair, bus.fetch(from));
 }
 
-/// JIN.
+/// The list of return addresses after JMS; `next` is the address behind its words.
 #[inline(always)]
-fn jump_indirect(regs: &mut Regs, pair: PairNo)
-    ensures { regs.new ≡ with_word regs.old (pair_of regs.old pair) }
+fn push(regs: &mut Regs, next: Addr)
+    ensures { regs.new ≡ record regs.old { ret = next ∷ slice_index regs.old.ret 0 ∷ slice_index regs.old.ret 1 ∷ [] } }
 {
-    regs.pc = word_beside(regs.pc, regs.pair(pair));
-}
-
-/// JMS.
-#[inline(always)]
-fn call(regs: &mut Regs, target: Addr)
-    ensures { regs.new ≡ after_jms target regs.old }
-{
-    let ret = [regs.pc, regs.ret[0], regs.ret[1]];
+    let ret = [next, regs.ret[0], regs.ret[1]];
     regs.ret = ret;
-    regs.pc = target;
 }
 
-/// BBL, but for the accumulator.
+/// The list of return addresses after BBL; `next` is the address behind its word.
 #[inline(always)]
-fn branch_back(regs: &mut Regs)
-    ensures { regs.new ≡ after_bbl regs.old }
+fn pop(regs: &mut Regs, next: Addr)
+    ensures { regs.new ≡ record regs.old { ret = slice_index regs.old.ret 1 ∷ slice_index regs.old.ret 2 ∷ next ∷ [] } }
 {
-    let back = regs.ret[0];
-    let ret = [regs.ret[1], regs.ret[2], regs.pc];
+    let ret = [regs.ret[1], regs.ret[2], next];
     regs.ret = ret;
-    regs.pc = back;
 }
 
-/// ISZ.
+/// INC, and what ISZ counts.
 #[inline(always)]
-fn count_up(regs: &mut Regs, r: RegNo, word: u8)
-    ensures { regs.new ≡ after_isz r word regs.old }
+fn count_up(regs: &mut Regs, r: RegNo)
+    ensures { regs.new ≡ with_register regs.old r ((register_of regs.old r + 1) % 16) }
 {
     let (sum, _) = regs.register(r).add(Nibble::ONE, Bit::ZERO);
     regs.set_register(r, sum);
-    if sum != Nibble::ZERO {
-        regs.pc = word_beside(regs.pc, word);
+}
+
+/// Where ISZ goes on, before it counts; `next` is the address behind its words.
+#[inline(always)]
+fn after_count(regs: &Regs, r: RegNo, word: u8, next: Addr) -> Addr
+    ensures { result ≡ (if (register_of regs.now r + 1) % 16 == 0 then next else address_beside next word) }
+{
+    if regs.register(r) == Nibble::MAX {
+        next
+    } else {
+        word_beside(next, word)
     }
 }
 
@@ -162,191 +163,211 @@ fn adjust(regs: &mut Regs)
     }
 }
 
-/// What an instruction does to registers and bus, by the name of its row; its operands are `$a` and `$b`.
+/// Where the processor goes on after an instruction, told before its effect, by the name of its row: at `$next`, behind
+/// its words, but for the jumps. Its operands are `$a` and `$b`.
+macro_rules! goes_on {
+    (Jcn $regs:ident $bus:ident $next:ident $a:ident $b:ident) => {
+        after_condition($regs, $a, $b, $bus.test(), $next)
+    };
+    (Jin $regs:ident $bus:ident $next:ident $a:ident $b:ident) => {
+        word_beside($next, $regs.pair($a))
+    };
+    (Jun $regs:ident $bus:ident $next:ident $a:ident $b:ident) => {
+        Addr::on_page($a, $b)
+    };
+    (Jms $regs:ident $bus:ident $next:ident $a:ident $b:ident) => {
+        Addr::on_page($a, $b)
+    };
+    (Isz $regs:ident $bus:ident $next:ident $a:ident $b:ident) => {
+        after_count($regs, $a, $b, $next)
+    };
+    (Bbl $regs:ident $bus:ident $next:ident $a:ident $b:ident) => {
+        $regs.ret[0]
+    };
+    ($name:ident $regs:ident $bus:ident $next:ident $a:ident $b:ident) => {
+        $next
+    };
+}
+
+/// What an instruction does to the bus and to the registers but for the counter, by the name of its row; its operands
+/// are `$a` and `$b`, and `$next` is the address behind its words.
 macro_rules! effect {
-    (Nop $regs:ident $bus:ident $a:ident $b:ident) => {
+    (Nop $regs:ident $bus:ident $next:ident $a:ident $b:ident) => {
         ()
     };
-    (Jcn $regs:ident $bus:ident $a:ident $b:ident) => {
-        jump_on_condition($regs, $a, $b, $bus.test())
+    (Jcn $regs:ident $bus:ident $next:ident $a:ident $b:ident) => {
+        ()
     };
-    (Fim $regs:ident $bus:ident $a:ident $b:ident) => {
+    (Fim $regs:ident $bus:ident $next:ident $a:ident $b:ident) => {
         $regs.set_pair($a, $b)
     };
-    (Src $regs:ident $bus:ident $a:ident $b:ident) => {
+    (Src $regs:ident $bus:ident $next:ident $a:ident $b:ident) => {
         $bus.src($regs.dcl, $regs.pair($a))
     };
-    (Fin $regs:ident $bus:ident $a:ident $b:ident) => {
-        fetch_indirect($regs, $bus, $a)
+    (Fin $regs:ident $bus:ident $next:ident $a:ident $b:ident) => {
+        fetch_indirect($regs, $bus, $a, $next)
     };
-    (Jin $regs:ident $bus:ident $a:ident $b:ident) => {
-        jump_indirect($regs, $a)
+    (Jin $regs:ident $bus:ident $next:ident $a:ident $b:ident) => {
+        ()
     };
-    (Jun $regs:ident $bus:ident $a:ident $b:ident) => {
-        $regs.pc = Addr::on_page($a, $b)
+    (Jun $regs:ident $bus:ident $next:ident $a:ident $b:ident) => {
+        ()
     };
-    (Jms $regs:ident $bus:ident $a:ident $b:ident) => {
-        call($regs, Addr::on_page($a, $b))
+    (Jms $regs:ident $bus:ident $next:ident $a:ident $b:ident) => {
+        push($regs, $next)
     };
-    (Inc $regs:ident $bus:ident $a:ident $b:ident) => {
-        {
-            let (sum, _) = $regs.register($a).add(Nibble::ONE, Bit::ZERO);
-            $regs.set_register($a, sum);
-        }
+    (Inc $regs:ident $bus:ident $next:ident $a:ident $b:ident) => {
+        count_up($regs, $a)
     };
-    (Isz $regs:ident $bus:ident $a:ident $b:ident) => {
-        count_up($regs, $a, $b)
+    (Isz $regs:ident $bus:ident $next:ident $a:ident $b:ident) => {
+        count_up($regs, $a)
     };
-    (Add $regs:ident $bus:ident $a:ident $b:ident) => {
+    (Add $regs:ident $bus:ident $next:ident $a:ident $b:ident) => {
         add($regs, $regs.register($a))
     };
-    (Sub $regs:ident $bus:ident $a:ident $b:ident) => {
+    (Sub $regs:ident $bus:ident $next:ident $a:ident $b:ident) => {
         subtract($regs, $regs.register($a))
     };
-    (Ld $regs:ident $bus:ident $a:ident $b:ident) => {
+    (Ld $regs:ident $bus:ident $next:ident $a:ident $b:ident) => {
         $regs.acc = $regs.register($a)
     };
-    (Xch $regs:ident $bus:ident $a:ident $b:ident) => {
+    (Xch $regs:ident $bus:ident $next:ident $a:ident $b:ident) => {
         {
             let held = $regs.register($a);
             $regs.set_register($a, $regs.acc);
             $regs.acc = held;
         }
     };
-    (Bbl $regs:ident $bus:ident $a:ident $b:ident) => {
+    (Bbl $regs:ident $bus:ident $next:ident $a:ident $b:ident) => {
         {
-            branch_back($regs);
+            pop($regs, $next);
             $regs.acc = $a;
         }
     };
-    (Ldm $regs:ident $bus:ident $a:ident $b:ident) => {
+    (Ldm $regs:ident $bus:ident $next:ident $a:ident $b:ident) => {
         $regs.acc = $a
     };
-    (Wrm $regs:ident $bus:ident $a:ident $b:ident) => {
+    (Wrm $regs:ident $bus:ident $next:ident $a:ident $b:ident) => {
         $bus.ram_write($regs.dcl, $regs.acc)
     };
-    (Wmp $regs:ident $bus:ident $a:ident $b:ident) => {
+    (Wmp $regs:ident $bus:ident $next:ident $a:ident $b:ident) => {
         $bus.ram_port($regs.dcl, $regs.acc)
     };
-    (Wrr $regs:ident $bus:ident $a:ident $b:ident) => {
+    (Wrr $regs:ident $bus:ident $next:ident $a:ident $b:ident) => {
         $bus.rom_port($regs.acc)
     };
-    (Wr0 $regs:ident $bus:ident $a:ident $b:ident) => {
+    (Wr0 $regs:ident $bus:ident $next:ident $a:ident $b:ident) => {
         $bus.status_write($regs.dcl, 0, $regs.acc)
     };
-    (Wr1 $regs:ident $bus:ident $a:ident $b:ident) => {
+    (Wr1 $regs:ident $bus:ident $next:ident $a:ident $b:ident) => {
         $bus.status_write($regs.dcl, 1, $regs.acc)
     };
-    (Wr2 $regs:ident $bus:ident $a:ident $b:ident) => {
+    (Wr2 $regs:ident $bus:ident $next:ident $a:ident $b:ident) => {
         $bus.status_write($regs.dcl, 2, $regs.acc)
     };
-    (Wr3 $regs:ident $bus:ident $a:ident $b:ident) => {
+    (Wr3 $regs:ident $bus:ident $next:ident $a:ident $b:ident) => {
         $bus.status_write($regs.dcl, 3, $regs.acc)
     };
-    (Sbm $regs:ident $bus:ident $a:ident $b:ident) => {
+    (Sbm $regs:ident $bus:ident $next:ident $a:ident $b:ident) => {
         subtract($regs, $bus.ram_read($regs.dcl))
     };
-    (Rdm $regs:ident $bus:ident $a:ident $b:ident) => {
+    (Rdm $regs:ident $bus:ident $next:ident $a:ident $b:ident) => {
         $regs.acc = $bus.ram_read($regs.dcl)
     };
-    (Rdr $regs:ident $bus:ident $a:ident $b:ident) => {
+    (Rdr $regs:ident $bus:ident $next:ident $a:ident $b:ident) => {
         $regs.acc = $bus.port_read()
     };
-    (Adm $regs:ident $bus:ident $a:ident $b:ident) => {
+    (Adm $regs:ident $bus:ident $next:ident $a:ident $b:ident) => {
         add($regs, $bus.ram_read($regs.dcl))
     };
-    (Rd0 $regs:ident $bus:ident $a:ident $b:ident) => {
+    (Rd0 $regs:ident $bus:ident $next:ident $a:ident $b:ident) => {
         $regs.acc = $bus.status_read($regs.dcl, 0)
     };
-    (Rd1 $regs:ident $bus:ident $a:ident $b:ident) => {
+    (Rd1 $regs:ident $bus:ident $next:ident $a:ident $b:ident) => {
         $regs.acc = $bus.status_read($regs.dcl, 1)
     };
-    (Rd2 $regs:ident $bus:ident $a:ident $b:ident) => {
+    (Rd2 $regs:ident $bus:ident $next:ident $a:ident $b:ident) => {
         $regs.acc = $bus.status_read($regs.dcl, 2)
     };
-    (Rd3 $regs:ident $bus:ident $a:ident $b:ident) => {
+    (Rd3 $regs:ident $bus:ident $next:ident $a:ident $b:ident) => {
         $regs.acc = $bus.status_read($regs.dcl, 3)
     };
-    (Clb $regs:ident $bus:ident $a:ident $b:ident) => {
+    (Clb $regs:ident $bus:ident $next:ident $a:ident $b:ident) => {
         {
             $regs.acc = Nibble::ZERO;
             $regs.cy = Bit::ZERO;
         }
     };
-    (Clc $regs:ident $bus:ident $a:ident $b:ident) => {
+    (Clc $regs:ident $bus:ident $next:ident $a:ident $b:ident) => {
         $regs.cy = Bit::ZERO
     };
-    (Iac $regs:ident $bus:ident $a:ident $b:ident) => {
+    (Iac $regs:ident $bus:ident $next:ident $a:ident $b:ident) => {
         ($regs.acc, $regs.cy) = $regs.acc.add(Nibble::ONE, Bit::ZERO)
     };
-    (Cmc $regs:ident $bus:ident $a:ident $b:ident) => {
+    (Cmc $regs:ident $bus:ident $next:ident $a:ident $b:ident) => {
         $regs.cy = $regs.cy.complement()
     };
-    (Cma $regs:ident $bus:ident $a:ident $b:ident) => {
+    (Cma $regs:ident $bus:ident $next:ident $a:ident $b:ident) => {
         $regs.acc = $regs.acc.complement()
     };
-    (Ral $regs:ident $bus:ident $a:ident $b:ident) => {
+    (Ral $regs:ident $bus:ident $next:ident $a:ident $b:ident) => {
         ($regs.acc, $regs.cy) = $regs.acc.add($regs.acc, $regs.cy)
     };
-    (Rar $regs:ident $bus:ident $a:ident $b:ident) => {
+    (Rar $regs:ident $bus:ident $next:ident $a:ident $b:ident) => {
         rotate_right($regs)
     };
-    (Tcc $regs:ident $bus:ident $a:ident $b:ident) => {
+    (Tcc $regs:ident $bus:ident $next:ident $a:ident $b:ident) => {
         {
             $regs.acc = Nibble::low_of($regs.cy.get());
             $regs.cy = Bit::ZERO;
         }
     };
-    (Dac $regs:ident $bus:ident $a:ident $b:ident) => {
+    (Dac $regs:ident $bus:ident $next:ident $a:ident $b:ident) => {
         ($regs.acc, $regs.cy) = $regs.acc.add(Nibble::MAX, Bit::ZERO)
     };
-    (Tcs $regs:ident $bus:ident $a:ident $b:ident) => {
+    (Tcs $regs:ident $bus:ident $next:ident $a:ident $b:ident) => {
         transfer_carry_subtract($regs)
     };
-    (Stc $regs:ident $bus:ident $a:ident $b:ident) => {
+    (Stc $regs:ident $bus:ident $next:ident $a:ident $b:ident) => {
         $regs.cy = Bit::ONE
     };
-    (Daa $regs:ident $bus:ident $a:ident $b:ident) => {
+    (Daa $regs:ident $bus:ident $next:ident $a:ident $b:ident) => {
         adjust($regs)
     };
-    (Kbp $regs:ident $bus:ident $a:ident $b:ident) => {
+    (Kbp $regs:ident $bus:ident $next:ident $a:ident $b:ident) => {
         $regs.acc = line_number($regs.acc)
     };
-    (Dcl $regs:ident $bus:ident $a:ident $b:ident) => {
+    (Dcl $regs:ident $bus:ident $next:ident $a:ident $b:ident) => {
         designate($regs)
     };
 }
 
-/// The instruction's whole work, by its row: the counter and the cycles owed, then its effect.
+/// The instruction's whole work, by its row.
 macro_rules! work_rows {
-    (($regs:ident, $bus:ident, $op:ident) $($codes:pat, $name:ident $kind:ident $words:literal $cycles:literal $group:ident $text:literal;)*) => {
+    (($regs:ident, $bus:ident, $op:ident, $at:ident) $($codes:pat, $name:ident $kind:ident $words:literal $cycles:literal $group:ident $text:literal;)*) => {
         match $op {
             $(taken!(a b $name $kind) => {
-                pass_words($regs, $words, $cycles);
-                effect!($name $regs $bus a b)
+                let next = $at.plus($words);
+                let on = goes_on!($name $regs $bus next a b);
+                effect!($name $regs $bus next a b);
+                (on, $cycles)
             })*
         }
     };
 }
 
-/// Moves the counter behind an instruction's words, and notes the cycles that it still takes after this one.
+/// Does the instruction at an address, but for the counter and the cycles owed: the address where the processor goes on,
+/// and how many cycles it takes. Each row does all of its work, and the counter passes by value, so that a processor
+/// that has decoded a code takes one jump to it.
 #[inline(always)]
-fn pass_words(regs: &mut Regs, words: u8, cycles: u8)
-    requires { 0 < cycles }
-    ensures { regs.new ≡ record regs.old { pc = (regs.old.pc + words) % 4096; owed = cycles - 1 } }
-{
-    regs.pc = regs.pc.plus(u16::from(words));
-    regs.owed = cycles - 1;
-}
-
-/// Does an instruction, in the first of its cycles. Each row does all of its work, so that a processor that has decoded
-/// the code at its counter takes one jump to it.
-#[inline(always)]
-pub fn execute<B: Bus>(regs: &mut Regs, bus: &mut B, op: Op)
+pub fn execute<B: Bus>(regs: &mut Regs, bus: &mut B, op: Op, at: Addr) -> (Addr, u8)
     requires { regs.old.dcl < 8 }
-    ensures effect { (regs.new, B.flat bus.new) ≡ effect op regs.old (B.flat bus.old) }
+    ensures effect { (record regs.new { pc = result.0; owed = result.1 - 1 }, B.flat bus.new) ≡ effect op (record regs.old { pc = at }) (B.flat bus.old) }
+    ensures cycles { result.1 ≡ cycles_of op }
+    ensures some { 0 < result.1 }
+    ensures few { result.1 < 3 }
+    ensures owed { regs.new.owed ≡ regs.old.owed }
     ensures dcl { regs.new.dcl < 8 }
-    ensures owed { regs.new.owed < 2 }
 {
-    instructions!(work_rows!(regs, bus, op))
+    instructions!(work_rows!(regs, bus, op, at))
 }

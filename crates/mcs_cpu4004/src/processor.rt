@@ -3,6 +3,7 @@ ghost use Rattle.std.specs.Prelude.{◌≡◌, ◌≢◌, ℕ, ◌<◌, ◌↔�
 ghost use Rattle.mcs_model.specs.Flat.{new_regs};
 ghost use Rattle.mcs_model.specs.Registers.{with_register};
 ghost use Rattle.mcs_model.specs.Effect.{cycle_of};
+ghost use Rattle.mcs_model.specs.Running.{Turned};
 
 use crate::bus::Bus;
 use crate::execute::execute;
@@ -62,7 +63,9 @@ impl Cpu {
         match mcs_code::decode(bus.fetch(at), bus.fetch(second)) {
             None => Cycle::Outside,
             Some(op) => {
-                execute(&mut self.regs, bus, op);
+                let (next, cycles) = execute(&mut self.regs, bus, op, at);
+                self.regs.pc = next;
+                self.regs.owed = cycles - 1;
                 Cycle::Done
             }
         }
@@ -81,6 +84,33 @@ impl Cpu {
             return Cycle::Idle;
         }
         self.begin(bus)
+    }
+
+    /// The cycles of the instruction at an address, at most `left` of them, or the one that is owed: the address where
+    /// the processor goes on, and how many cycles it did; 0 where none can follow, and then nothing changed. The counter
+    /// itself stays as it is: a run keeps it at hand, and sets it at its end.
+    #[inline(always)]
+    #[tactic(auto, unfolding(mcs_model::specs::Effect::cycle_of))]
+    pub fn turn<B: Bus>(&mut self, bus: &mut B, at: Addr, left: u32) -> (Addr, u32)
+        requires { 0 < left }
+        ensures { Turned left (record self.old { pc = at }, B.flat bus.old) (record self.new { pc = result.0 }, B.flat bus.new) result.1 }
+    {
+        if self.regs.owed == 1 {
+            self.regs.owed = 0;
+            return (at, 1);
+        }
+        let second = at.plus(1);
+        match mcs_code::decode(bus.fetch(at), bus.fetch(second)) {
+            None => (at, 0),
+            Some(op) => {
+                let (next, cycles) = execute(&mut self.regs, bus, op, at);
+                if left == 1 {
+                    self.regs.owed = cycles - 1;
+                    return (next, 1);
+                }
+                (next, u32::from(cycles))
+            }
+        }
     }
 
     /// Whether the next cycle on a bus would be `Outside`.

@@ -1,5 +1,5 @@
 -- A run and a step: the cycle repeated up to the first reason to stop. (Our own choice.)
-use Rattle.std.specs.Prelude.{◌≡◌, ℕ, ◌+◌, zero, suc, Bool, ◌&&◌, List, [], Option, Some, None, is_none, is_some, if◌then◌else◌, nat_lt, ◌==◌, unwrap_or, find}
+use Rattle.std.specs.Prelude.{◌≡◌, ℕ, ◌+◌, ◌<◌, ◌≤◌, zero, suc, Bool, true, false, ◌&&◌, List, [], Option, Some, None, is_none, is_some, if◌then◌else◌, nat_lt, ◌==◌, unwrap_or, find}
 use Rattle.std.specs.List.{range_with_len, list_any}
 use Rattle.mcs_model.specs.declared.regs.Regs.{Regs}
 use Rattle.mcs_model.specs.declared.stop.Stop.{Stop}
@@ -19,6 +19,14 @@ is_outside s = is_none (cycle_of s.0 s.1)
 abbrev pub cycled : ℕ → Machine → Machine
 cycled zero s = s
 cycled (suc k) s = unwrap_or (cycle_of (cycled k s).0 (cycled k s).1) (cycled k s)
+
+-- the cycles of one instruction, k of them from s to t, of at most so many as are left: none where no cycle can follow
+pub record Turned (left : ℕ) (s t : Machine) (k : ℕ) : Type 0 where
+  pub within : k ≤ left
+  pub machine : t ≡ cycled k s
+  pub none : k ≡ 0 → is_outside s ≡ true
+  pub inside : (j : ℕ) → j < k → is_outside (cycled j s) ≡ false
+  pub between : (j : ℕ) → 0 < j → j < k → (cycled j s).0.owed ≡ 1
 
 -- whether a run is at a breakpoint after k cycles: none at its start counts, and none between the two
 -- cycles of an instruction
