@@ -48,19 +48,28 @@ fn run_loop(cpu: &mut Cpu, rig: &mut BenchRig, breaks: &Breaks, n: u32) -> (u32,
     ensures { RanOn breaks.now n (cpu.old, rig.old) (record cpu.new { pc = result.1 }, rig.new) result.0 result.2 }
 {
     let mut at = cpu.regs().pc;
-    let mut k = 0;
-    while k < n {
-        let (next, cycles) = mcs_board::turn(cpu, rig, at, n - k);
-        if cycles == 0 {
-            return (k, next, false);
-        }
-        at = next;
-        k += cycles;
+    let mut left = n;
+    // The second cycle of an instruction that was begun touches nothing but what is owed. From then on, none is owed
+    // before the last cycle.
+    if n > 0 && cpu.regs().owed == 1 {
+        cpu.set_owed(0);
+        left = n - 1;
         if is_at_break(cpu, at, breaks) {
-            return (k, at, true);
+            return (1, at, true);
         }
     }
-    (k, at, false)
+    while left > 0 {
+        let (next, cycles) = mcs_board::turn(cpu, rig, at, left);
+        if cycles == 0 {
+            return (n - left, next, false);
+        }
+        at = next;
+        left -= cycles;
+        if is_at_break(cpu, at, breaks) {
+            return (n - left, at, true);
+        }
+    }
+    (n, at, false)
 }
 
 /// Runs for at most `n` cycles, up to the first breakpoint: how many cycles it did, and whether it is at a breakpoint.

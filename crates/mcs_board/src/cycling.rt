@@ -1,5 +1,5 @@
 //! The processor over a rig of the bench's size.
-ghost use Rattle.std.specs.Prelude.{◌≡◌, ◌<◌, ◌↔◌, IsNone, unwrap_or};
+ghost use Rattle.std.specs.Prelude.{◌≡◌, ◌≢◌, ◌<◌, ◌↔◌, IsNone, unwrap_or};
 ghost use Rattle.mcs_model.specs.Effect.{cycle_of};
 ghost use Rattle.mcs_model.specs.Running.{Turned};
 
@@ -17,13 +17,15 @@ pub fn cycle(cpu: &mut Cpu, rig: &mut Rig<16, 8, 2, 40>) -> Cycle
     cpu.cycle(rig)
 }
 
-/// The cycles of the instruction at an address, at most `left` of them, or the one that is owed, of a processor over a
-/// rig: the address where the processor goes on, and how many cycles it did; 0 where none can follow. The counter itself
+/// The cycles of the instruction at an address, at most `left` of them, of a processor over a rig, where none is owed:
+/// the address where the processor goes on, and how many cycles it did; 0 where none can follow. The counter itself
 /// stays as it is.
 #[inline(always)]
 pub fn turn(cpu: &mut Cpu, rig: &mut Rig<16, 8, 2, 40>, at: Addr, left: u32) -> (Addr, u32)
-    requires { 0 < left }
-    ensures { Turned left (record cpu.old { pc = at }, rig.old) (record cpu.new { pc = result.0 }, rig.new) result.1 }
+    requires free { cpu.old.owed ≢ 1 }
+    requires some { 0 < left }
+    ensures turned { Turned left (record cpu.old { pc = at }, rig.old) (record cpu.new { pc = result.0 }, rig.new) result.1 }
+    ensures owes { cpu.new.owed ≡ 1 → result.1 ≡ left }
 {
     cpu.turn(rig, at, left)
 }

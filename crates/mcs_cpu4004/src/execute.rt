@@ -1,6 +1,6 @@
 //! The effect of each instruction on registers and bus.
 ghost use Rattle.std.specs.Prelude.{◌≡◌, ℕ, ◌+◌, ◌-◌, ◌%◌, ◌<◌, ◌==◌, if◌then◌else◌, [], ◌∷◌, slice_index};
-ghost use Rattle.mcs_model.specs.Effect.{effect, address_beside, with_sum, is_taken, after_jcn, after_rar, after_daa, key_of};
+ghost use Rattle.mcs_model.specs.Effect.{effect, address_beside, with_sum, is_taken, after_jcn, after_isz, after_rar, after_daa, key_of};
 ghost use Rattle.mcs_model.specs.Table.{cycles_of};
 ghost use Rattle.mcs_model.specs.Registers.{register_of, pair_of, with_register, with_pair};
 ghost use Rattle.mcs_model.specs.Bus.{fetch_of};
@@ -69,7 +69,7 @@ fn pop(regs: &mut Regs, next: Addr)
     regs.ret = ret;
 }
 
-/// INC, and what ISZ counts.
+/// INC.
 #[inline(always)]
 fn count_up(regs: &mut Regs, r: RegNo)
     ensures { regs.new ≡ with_register regs.old r ((register_of regs.old r + 1) % 16) }
@@ -78,16 +78,28 @@ fn count_up(regs: &mut Regs, r: RegNo)
     regs.set_register(r, sum);
 }
 
-/// Where ISZ goes on, before it counts; `next` is the address behind its words.
+/// Makes a register 0. It is called where ISZ goes on without its jump, which is rare, so that the jump is a branch that
+/// the machine can foresee, and waits for no register.
+#[cold]
+#[inline(never)]
+fn clear_register(regs: &mut Regs, r: RegNo)
+    ensures { regs.new ≡ with_register regs.old r 0 }
+{
+    regs.set_register(r, Nibble::ZERO);
+}
+
+/// ISZ, but for the counter: where the processor goes on; `next` is the address behind its words.
 #[inline(always)]
-fn after_count(regs: &Regs, r: RegNo, word: u8, next: Addr) -> Addr
-    ensures { result ≡ (if (register_of regs.now r + 1) % 16 == 0 then next else address_beside next word) }
+fn count_to_zero(regs: &mut Regs, r: RegNo, word: u8, next: Addr) -> Addr
+    ensures counted { record regs.new { pc = result } ≡ after_isz r word (record regs.old { pc = next }) }
+    ensures pc { regs.new.pc ≡ regs.old.pc }
 {
     if regs.register(r) == Nibble::MAX {
-        next
-    } else {
-        word_beside(next, word)
+        clear_register(regs, r);
+        return next;
     }
+    count_up(regs, r);
+    word_beside(next, word)
 }
 
 /// ADD and ADM of a nibble.
@@ -179,7 +191,7 @@ macro_rules! goes_on {
         Addr::on_page($a, $b)
     };
     (Isz $regs:ident $bus:ident $next:ident $a:ident $b:ident) => {
-        after_count($regs, $a, $b, $next)
+        count_to_zero($regs, $a, $b, $next)
     };
     (Bbl $regs:ident $bus:ident $next:ident $a:ident $b:ident) => {
         $regs.ret[0]
@@ -220,7 +232,7 @@ macro_rules! effect {
         count_up($regs, $a)
     };
     (Isz $regs:ident $bus:ident $next:ident $a:ident $b:ident) => {
-        count_up($regs, $a)
+        ()
     };
     (Add $regs:ident $bus:ident $next:ident $a:ident $b:ident) => {
         add($regs, $regs.register($a))

@@ -86,29 +86,28 @@ impl Cpu {
         self.begin(bus)
     }
 
-    /// The cycles of the instruction at an address, at most `left` of them, or the one that is owed: the address where
-    /// the processor goes on, and how many cycles it did; 0 where none can follow, and then nothing changed. The counter
+    /// The cycles of the instruction at an address, at most `left` of them, where none is owed: the address where the
+    /// processor goes on, and how many cycles it did; 0 where none can follow, and then nothing changed. The counter
     /// itself stays as it is: a run keeps it at hand, and sets it at its end.
     #[inline(always)]
     #[tactic(auto, unfolding(mcs_model::specs::Effect::cycle_of))]
     pub fn turn<B: Bus>(&mut self, bus: &mut B, at: Addr, left: u32) -> (Addr, u32)
-        requires { 0 < left }
-        ensures { Turned left (record self.old { pc = at }, B.flat bus.old) (record self.new { pc = result.0 }, B.flat bus.new) result.1 }
+        requires free { self.old.owed ≢ 1 }
+        requires some { 0 < left }
+        ensures turned { Turned left (record self.old { pc = at }, B.flat bus.old) (record self.new { pc = result.0 }, B.flat bus.new) result.1 }
+        ensures owes { self.new.owed ≡ 1 → result.1 ≡ left }
     {
-        if self.regs.owed == 1 {
-            self.regs.owed = 0;
-            return (at, 1);
-        }
         let second = at.plus(1);
         match mcs_code::decode(bus.fetch(at), bus.fetch(second)) {
             None => (at, 0),
             Some(op) => {
                 let (next, cycles) = execute(&mut self.regs, bus, op, at);
-                if left == 1 {
-                    self.regs.owed = cycles - 1;
+                let whole = u32::from(cycles);
+                if whole > left {
+                    self.regs.owed = 1;
                     return (next, 1);
                 }
-                (next, u32::from(cycles))
+                (next, whole)
             }
         }
     }

@@ -114,8 +114,15 @@ cycle-idles : (s : Regs) (m : BusState) → cycle_of (record s { owed = 1 }) m �
 unfolding cycle_of
 cycle-idles s m = refl
 
+-- the idle cycle of an instruction that was begun
+pub turned-idle : (left : ℕ) (s : Regs) (m : BusState) (counter : ℕ) → 0 < left → s.owed ≡ 1 → counter ≡ s.pc → Turned left (s, m) (record s { pc = counter; owed = 0 }, m) 1
+turned-idle left s m counter l owed same =
+    let begun : s ≡ record s { owed = 1 } = ap (λ o. record s { owed = o }) owed in
+    let there : (record s { owed = 0 }, m) ≡ (record s { pc = counter; owed = 0 }, m) = ap (λ p. (record s { pc = p; owed = 0 }, m)) (sym same) in
+    turned-one left (s, m) (record s { pc = counter; owed = 0 }, m) l (ap (λ (r : Regs). cycle_of r m) begun ∙ cycle-idles s m ∙ ap Some there)
+
 -- an instruction done whole: its registers and its bus, but for the counter, and with no cycle owed any more
-pub turned-whole : (left : ℕ) (op : Op) (s : Machine) (regs : Regs) (m : BusState) (counter cycles : ℕ) → 1 < left → s.0.owed ≢ 1 → instruction_at s.0 s.1 ≡ Some op → (record regs { pc = counter; owed = cycles - 1 }, m) ≡ effect op s.0 s.1 → 0 < cycles → cycles < 3 → regs.owed ≡ 0 → Turned left s (record regs { pc = counter }, m) cycles
+pub turned-whole : (left : ℕ) (op : Op) (s : Machine) (regs : Regs) (m : BusState) (counter cycles : ℕ) → cycles ≤ left → s.0.owed ≢ 1 → instruction_at s.0 s.1 ≡ Some op → (record regs { pc = counter; owed = cycles - 1 }, m) ≡ effect op s.0 s.1 → 0 < cycles → cycles < 3 → regs.owed ≡ 0 → Turned left s (record regs { pc = counter }, m) cycles
 turned-whole left op s regs m counter cycles l free at done some few none =
     let t : Machine = (record regs { pc = counter; owed = cycles - 1 }, m) in
     let u : Machine = (record regs { pc = counter }, m) in
@@ -128,5 +135,5 @@ turned-whole left op s regs m counter cycles l free at done some few none =
         let two : cycles ≡ 2 = omega arith in
         let owing : t ≡ (record regs { pc = counter; owed = 1 }, m) = ap (λ o. (record regs { pc = counter; owed = o }, m)) (let e : cycles - 1 ≡ 1 = omega arith in e) in
         let same : (record regs { pc = counter; owed = 0 }, m) ≡ u = ap (λ o. (record regs { pc = counter; owed = o }, m)) (sym none) in
-        subst (Turned left s u) (sym two) (turned-two left s (record regs { pc = counter; owed = 1 }, m) u l (step ∙ ap Some owing) refl (cycle-idles (record regs { pc = counter }) m ∙ ap Some same)))
+        subst (Turned left s u) (sym two) (turned-two left s (record regs { pc = counter; owed = 1 }, m) u (omega arith) (step ∙ ap Some owing) refl (cycle-idles (record regs { pc = counter }) m ∙ ap Some same)))
     ]
