@@ -1,21 +1,21 @@
 -- The lists that the chips hold, place by place.
-use Rattle.std.proofs.Common.{◌≡◌, ℕ, ◌+◌, ◌*◌, ◌/◌, ◌%◌, ◌<◌, ◌≤◌, Bool, true, false, inl, inr, cond, List, length, get_or, slice_index, slice_set, Option, Some, None, is_some, is_none, nat_lt, nat_le, refl, sym, ap, subst, ◌∙◌, arith, if◌then◌else◌}
-use Rattle.std.specs.Prelude.{MatchOption, All}
-use Rattle.std.proofs.lemmas.Bool.{cases_lt, lt-ltb, le-ltb}
+use Rattle.std.proofs.Common.{◌≡◌, ℕ, ◌+◌, ◌*◌, ◌/◌, ◌%◌, ◌<◌, ◌≤◌, true, false, inl, inr, cond, List, length, get_or, slice_index, slice_set, Option, Some, None, is_some, is_none, nat_lt, nat_le, refl, sym, ap, subst, ◌∙◌, arith}
+use Rattle.std.specs.Prelude.{MatchOption}
+use Rattle.std.proofs.lemmas.Bool.{cases_lt}
 use Rattle.std.proofs.lemmas.Bool.Decides.{nat_tests}
 use Rattle.mcs_nibble.specs.declared.lines.LineMask.{LineMask}
 use Rattle.mcs_model.specs.Boards.{masks_on}
-use Rattle.mcs_model.specs.Bus.{BusState, wired_of}
+use Rattle.mcs_model.specs.Bus.{BusState}
 use Rattle.mcs_model.specs.declared.board.BoardParts.{BoardParts}
 use Rattle.mcs_model.specs.Levels.{with_rom_latch}
 use Rattle.mcs_nibble.specs.Ports.{latch_value}
 use Rattle.mcs_nibble.proofs.PortLemmas.{latch_value-zero}
 use Rattle.std.proofs.lemmas.List.{get_or_past}
 use Rattle.mcs_model.specs.Places.{with_rom_port, with_rom_byte, with_ram, with_status, with_ram_port, with_ram_src}
-use Rattle.mcs_model.specs.Validity.{AreBelow, IsInRange, IsAbsentZero}
+use Rattle.mcs_model.specs.Validity.{IsInRange, IsAbsentZero}
 use Rattle.mcs_bench.specs.declared.held.Held.{Held}
 use Rattle.mcs_bench.specs.declared.held.Held.TheVariants.{RomBytes, Characters, StatusCharacters, RamPorts, BankSrcs}
-use Rattle.mcs_bench.specs.Held.{list_of, with_list, count_of, limit_of, is_absent, with_number, IsZeroWhereAbsent}
+use Rattle.mcs_bench.specs.Held.{list_of, with_list, count_of, is_absent, with_number, IsZeroWhereAbsent}
 use Rattle.mcs_bench.proofs.Filling.{IsFilled, filled-none, filled-set, filled-kept, filled-all}
 
 -- ---- a number set

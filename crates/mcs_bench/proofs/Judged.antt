@@ -1,5 +1,5 @@
 -- Tests of several parts: a part that fails, and the last one.
-use Rattle.std.proofs.Common.{◌≡◌, ◌∙◌, Bool, true, false, sym, ◌↔◌}
+use Rattle.std.proofs.Common.{◌≡◌, ◌∙◌, Bool, false, sym, ◌↔◌}
 use Rattle.std.specs.Prelude.{IsTrue}
 use Rattle.std.proofs.lemmas.Bool.{false≢true}
 

@@ -1,5 +1,5 @@
 -- What a run and a step of a bench answer.
-use Rattle.std.specs.Prelude.{◌≡◌, ℕ, ◌+◌, ◌<◌, ◌≤◌, true, false, Bool, Option, None, List, []}
+use Rattle.std.specs.Prelude.{◌≡◌, ℕ, ◌+◌, ◌<◌, ◌≤◌, false, Bool, None, List, []}
 use Rattle.mcs_model.specs.declared.command.Command.TheVariants.{Run}
 use Rattle.mcs_model.specs.declared.stop.Stop.{Stop}
 use Rattle.mcs_model.specs.Command.{changed}

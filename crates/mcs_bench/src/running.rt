@@ -14,18 +14,6 @@ use mcs_nibble::Addr;
 /// A rig that every board fits.
 pub(crate) type BenchRig = Rig<16, 8, 2, 40>;
 
-/// One cycle, if one can follow, and whether one could.
-#[inline(always)]
-fn advance(cpu: &mut Cpu, rig: &mut BenchRig) -> bool
-    ensures went { result ≡ not (is_outside (cpu.old, rig.old)) }
-    ensures machine { (cpu.new, rig.new) ≡ unwrap_or (cycle_of cpu.old rig.old) (cpu.old, rig.old) }
-{
-    match mcs_board::cycle(cpu, rig) {
-        Cycle::Outside => false,
-        Cycle::Done | Cycle::Idle => true,
-    }
-}
-
 /// Whether no cycle can follow.
 fn is_outside(cpu: &Cpu, rig: &BenchRig) -> bool
     ensures { result ≡ is_outside (cpu.now, rig.now) }
@@ -99,25 +87,28 @@ pub(crate) fn run(cpu: &mut Cpu, rig: &mut BenchRig, breaks: &Breaks, n: u32) ->
     }
 }
 
-/// One cycle, if one can follow, and whether one could: called, and not in line as in a run.
+/// One cycle, if one can follow, and whether one could.
 #[inline(never)]
-fn advance_once(cpu: &mut Cpu, rig: &mut BenchRig) -> bool
+fn advance(cpu: &mut Cpu, rig: &mut BenchRig) -> bool
     ensures went { result ≡ not (is_outside (cpu.old, rig.old)) }
     ensures machine { (cpu.new, rig.new) ≡ unwrap_or (cycle_of cpu.old rig.old) (cpu.old, rig.old) }
 {
-    advance(cpu, rig)
+    match mcs_board::cycle(cpu, rig) {
+        Cycle::Outside => false,
+        Cycle::Done | Cycle::Idle => true,
+    }
 }
 
 /// One instruction, or its idle cycle: how many cycles it did, and why it stopped.
 pub(crate) fn step(cpu: &mut Cpu, rig: &mut BenchRig) -> (u32, Stop)
     ensures { SteppedTo (cpu.old, rig.old) (cpu.new, rig.new) result.0 result.1 }
 {
-    if !advance_once(cpu, rig) {
+    if !advance(cpu, rig) {
         return (0, Stop::Outside);
     }
     if cpu.regs().owed == 0 {
         return (1, Stop::Ended);
     }
-    let _ = advance_once(cpu, rig);
+    let _ = advance(cpu, rig);
     (2, Stop::Ended)
 }

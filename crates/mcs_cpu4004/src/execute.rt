@@ -175,8 +175,9 @@ fn adjust(regs: &mut Regs)
     }
 }
 
-/// Where the processor goes on after an instruction, told before its effect, by the name of its row: at `$next`, behind
-/// its words, but for the jumps. Its operands are `$a` and `$b`.
+/// Where the processor goes on after an instruction, by the name of its row: at `$next`, behind its words, but for the
+/// jumps. It is told before the effect; ISZ counts here, since what it counts to tells where it goes on. The operands are
+/// `$a` and `$b`.
 macro_rules! goes_on {
     (Jcn $regs:ident $bus:ident $next:ident $a:ident $b:ident) => {
         after_condition($regs, $a, $b, $bus.test(), $next)

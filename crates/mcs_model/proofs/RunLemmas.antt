@@ -129,11 +129,11 @@ turned-whole left op s regs m counter cycles l free at done some few none =
     let step : cycle_of s.0 s.1 ≡ Some t = cycle-does op s free at ∙ ap Some (sym done) in
     elim (cases_eq cycles 1) [
       | inl one ↦ (
-        let same : t ≡ u = ap (λ o. (record regs { pc = counter; owed = o }, m)) (let e : cycles - 1 ≡ regs.owed = omega arith in e) in
-        subst (Turned left s u) (sym one) (turned-one left s u (omega arith) (step ∙ ap Some same)))
+          let same : t ≡ u = ap (λ o. (record regs { pc = counter; owed = o }, m)) (let e : cycles - 1 ≡ regs.owed = omega arith in e) in
+          subst (Turned left s u) (sym one) (turned-one left s u (omega arith) (step ∙ ap Some same)))
       | inr more ↦ (
-        let two : cycles ≡ 2 = omega arith in
-        let owing : t ≡ (record regs { pc = counter; owed = 1 }, m) = ap (λ o. (record regs { pc = counter; owed = o }, m)) (let e : cycles - 1 ≡ 1 = omega arith in e) in
-        let same : (record regs { pc = counter; owed = 0 }, m) ≡ u = ap (λ o. (record regs { pc = counter; owed = o }, m)) (sym none) in
-        subst (Turned left s u) (sym two) (turned-two left s (record regs { pc = counter; owed = 1 }, m) u (omega arith) (step ∙ ap Some owing) refl (cycle-idles (record regs { pc = counter }) m ∙ ap Some same)))
+          let two : cycles ≡ 2 = omega arith in
+          let owing : t ≡ (record regs { pc = counter; owed = 1 }, m) = ap (λ o. (record regs { pc = counter; owed = o }, m)) (let e : cycles - 1 ≡ 1 = omega arith in e) in
+          let same : (record regs { pc = counter; owed = 0 }, m) ≡ u = ap (λ o. (record regs { pc = counter; owed = o }, m)) (sym none) in
+          subst (Turned left s u) (sym two) (turned-two left s (record regs { pc = counter; owed = 1 }, m) u (omega arith) (step ∙ ap Some owing) refl (cycle-idles (record regs { pc = counter }) m ∙ ap Some same)))
     ]

@@ -1,4 +1,4 @@
-use Rattle.std.proofs.Common.{◌≡◌, ◌∙◌, sym, refl, arith}
+use Rattle.std.proofs.Common.{◌∙◌, sym, refl, arith}
 use Rattle.mcs_bench.proofs.HeldLemmas.{count-of, absent-of, fills-none, fills-next, fills-all}
 use Rattle.mcs_bench.proofs.held.fill.Goals as goal
 

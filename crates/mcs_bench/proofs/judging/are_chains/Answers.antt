@@ -1,4 +1,4 @@
-use Rattle.std.proofs.Common.{◌≡◌, ◌∙◌, ◌*◌, List, ℕ, [], sym, ap, subst, below_more, get_or}
+use Rattle.std.proofs.Common.{◌∙◌, ◌*◌, List, ℕ, [], sym, ap, subst, below_more, get_or}
 use Rattle.mcs_model.specs.declared.board.ChainPart.{ChainPart}
 use Rattle.mcs_model.specs.Boards.{chain_bits}
 use Rattle.mcs_model.specs.Validity.{AreBelow}

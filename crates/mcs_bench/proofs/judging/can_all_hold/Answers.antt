@@ -1,4 +1,4 @@
-use Rattle.std.proofs.Common.{◌<◌, inl, inr, get_or, arith, refl}
+use Rattle.std.proofs.Common.{inl, inr, get_or, arith, refl}
 use Rattle.std.proofs.lemmas.Bool.{cases_lt}
 use Rattle.std.proofs.lemmas.List.{get_or_past}
 use Rattle.mcs_model.specs.Boards.{masks_on}

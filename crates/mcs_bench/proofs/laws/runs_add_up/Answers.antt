@@ -1,4 +1,4 @@
-use Rattle.std.proofs.Common.{◌≡◌, ◌∙◌, ◌+◌, ℕ, List, [], sym, ap}
+use Rattle.std.proofs.Common.{◌∙◌, ◌+◌, ℕ, List, sym, ap}
 use Rattle.mcs_model.specs.Command.{machine_of, with_machine}
 use Rattle.mcs_model.specs.Running.{after_run}
 use Rattle.mcs_bench.proofs.laws.runs_add_up.Goals as goal

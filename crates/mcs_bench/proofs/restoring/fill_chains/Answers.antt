@@ -1,4 +1,4 @@
-use Rattle.std.proofs.Common.{◌≡◌, ◌∙◌, ◌<◌, List, ℕ, [], sym, ap, arith, length}
+use Rattle.std.proofs.Common.{◌∙◌, List, ℕ, [], sym, ap, arith}
 use Rattle.std.proofs.lemmas.List.{ext_get_or}
 use Rattle.mcs_bench.specs.States.{rows_of}
 use Rattle.mcs_bench.proofs.Rows.{rows-count}

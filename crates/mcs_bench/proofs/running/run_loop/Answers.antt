@@ -1,4 +1,4 @@
-use Rattle.std.proofs.Common.{◌≡◌, ◌≢◌, ℕ, ◌<◌, ◌≤◌, ◌+◌, ◌-◌, ◌∙◌, ◌&&◌, true, false, sym, ap, subst, arith, eqb}
+use Rattle.std.proofs.Common.{◌≡◌, ◌≢◌, ℕ, ◌<◌, ◌-◌, ◌∙◌, ◌&&◌, true, false, sym, ap, subst, arith, eqb}
 use Rattle.mcs_model.specs.Breakpoints.{is_breakpoint}
 use Rattle.mcs_bench.specs.Runs.{RanOn}
 use Rattle.mcs_model.specs.declared.regs.Regs.{Regs}
@@ -24,18 +24,18 @@ loop-left-init c =
     let there : counter ≡ c.args.cpu.now.pc = ap (λ (r : Regs). r.pc) c.regs-at.ensures.same in
     elim c.if-n-gt0.branch [
       | then-n-gt0+then-regs-eq1+else-is_at_break w ↦ (
-        let owed : c.args.cpu.now.owed ≡ 1 = sym (ap (λ (r : Regs). r.owed) w.regs.ensures.same) ∙ w.if-regs-eq1.true in
-        let off = sym w.is_at_break.ensures ∙ w.if-is_at_break.false in
-        let first = starts-begun c.args.breaks.now c.args.n s counter w.if-n-gt0.true owed there (subst (λ (r : Regs). (eqb r.owed 0 && is_breakpoint c.args.breaks.now counter) ≡ false) w.set_owed.ensures off) in
-        subst (λ l. Keeps c.args.breaks.now c.args.n l s (record c.if-n-gt0.cpu { pc = counter }, c.args.rig.now)) (sym w.left-is)
-        (subst (λ (r : Regs). Keeps c.args.breaks.now c.args.n (c.args.n - 1) s (record r { pc = counter }, c.args.rig.now)) (sym (w.cpu-is ∙ w.set_owed.ensures)) first))
+          let owed : c.args.cpu.now.owed ≡ 1 = sym (ap (λ (r : Regs). r.owed) w.regs.ensures.same) ∙ w.if-regs-eq1.true in
+          let off = sym w.is_at_break.ensures ∙ w.if-is_at_break.false in
+          let first = starts-begun c.args.breaks.now c.args.n s counter w.if-n-gt0.true owed there (subst (λ (r : Regs). (eqb r.owed 0 && is_breakpoint c.args.breaks.now counter) ≡ false) w.set_owed.ensures off) in
+          subst (λ l. Keeps c.args.breaks.now c.args.n l s (record c.if-n-gt0.cpu { pc = counter }, c.args.rig.now)) (sym w.left-is)
+          (subst (λ (r : Regs). Keeps c.args.breaks.now c.args.n (c.args.n - 1) s (record r { pc = counter }, c.args.rig.now)) (sym (w.cpu-is ∙ w.set_owed.ensures)) first))
       | else-n-gt0 w ↦ (
-        let free : 0 < c.args.n → c.args.cpu.now.owed ≢ 1 = λ some owed. elim w.else-n-gt0.branch [
-          | else-n-gt0-via-then-n-gt0+else-regs-eq1 v ↦ v.if-regs-eq1.false (ap (λ (r : Regs). r.owed) v.regs.ensures.same ∙ owed)
-          | else-n-gt0-via-else-n-gt0 v ↦ absurd (let none = v.if-n-gt0.false in omega arith)
-        ] in
-        subst (λ l. Keeps c.args.breaks.now c.args.n l s (record c.if-n-gt0.cpu { pc = counter }, c.args.rig.now)) (sym w.left-is)
-        (subst (λ (r : Regs). Keeps c.args.breaks.now c.args.n c.args.n s (record r { pc = counter }, c.args.rig.now)) (sym w.cpu-is) (starts c.args.breaks.now c.args.n s counter free there)))
+          let free : 0 < c.args.n → c.args.cpu.now.owed ≢ 1 = λ some owed. elim w.else-n-gt0.branch [
+            | else-n-gt0-via-then-n-gt0+else-regs-eq1 v ↦ v.if-regs-eq1.false (ap (λ (r : Regs). r.owed) v.regs.ensures.same ∙ owed)
+            | else-n-gt0-via-else-n-gt0 v ↦ absurd (let none = v.if-n-gt0.false in omega arith)
+          ] in
+          subst (λ l. Keeps c.args.breaks.now c.args.n l s (record c.if-n-gt0.cpu { pc = counter }, c.args.rig.now)) (sym w.left-is)
+          (subst (λ (r : Regs). Keeps c.args.breaks.now c.args.n c.args.n s (record r { pc = counter }, c.args.rig.now)) (sym w.cpu-is) (starts c.args.breaks.now c.args.n s counter free there)))
     ]
 
 pub returns-then-is_at_break-2 : goal.returns-then-is_at_break-2

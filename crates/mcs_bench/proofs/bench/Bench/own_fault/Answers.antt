@@ -1,4 +1,4 @@
-use Rattle.std.proofs.Common.{◌≡◌, ◌∙◌, Bool, Some, None, sym, ap, if◌then◌else◌}
+use Rattle.std.proofs.Common.{◌∙◌, Bool, Some, None, sym, ap, if◌then◌else◌}
 use Rattle.std.specs.List.{list_any}
 use Rattle.mcs_model.specs.declared.board.BoardParts.{BoardParts}
 use Rattle.mcs_model.specs.declared.refusals.BenchFault.TheVariants.{NoRom}
