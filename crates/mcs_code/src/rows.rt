@@ -60,7 +60,7 @@ macro_rules! instructions {
     };
 }
 
-/// The pattern of a row's instruction that binds its operands to `$a` and `$b`.
+/// The pattern of a row's instruction that binds its operands to `$a` and `$b`. `Op` has to be in scope where it is used.
 #[macro_export]
 macro_rules! taken {
     ($a:ident $b:ident $name:ident none) => {

@@ -57,7 +57,8 @@ fn push_near(out: &mut String, front: &str, n: u8, at: Addr, word: u8) -> Result
     push_address(out, ", ", at.plus(2).page(), word)
 }
 
-/// Writes the operands of a row's instruction, which are `$a` and `$b`, by their kind.
+/// Writes the operands of a row's instruction, which are `$a` and `$b`, by their kind. Of one
+/// kind are JUN and JMS, whose nibble is a page, and JCN, whose nibble is a condition.
 macro_rules! pushed {
     (($out:ident $at:ident) $a:ident $b:ident $name:ident none) => {
         Ok(())

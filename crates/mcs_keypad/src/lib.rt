@@ -223,6 +223,7 @@ impl KeyPad {
         let mut left = levels;
         let mut driven: u8 = 0;
         for r in 0..usize::from(self.matrix.rows) {
+            // No row from here on is driven.
             if left == 0 {
                 return driven;
             }

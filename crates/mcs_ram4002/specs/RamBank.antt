@@ -94,6 +94,7 @@ main_of c = unpacked c.main
 abbrev pub status_of : Chip → List ℕ
 status_of c = unpacked c.status
 
+-- the cells of a chip and its port, each list by index
 pub record ChipState : Type 0 where
   -- register * 16 + character
   pub main : List ℕ
@@ -101,6 +102,7 @@ pub record ChipState : Type 0 where
   pub status : List ℕ
   pub port : ℕ
 
+-- those of a chip as it stores them
 abbrev pub cells_of : Chip → ChipState
 cells_of c = record { main = main_of c; status = status_of c; port = c.port }
 

@@ -45,19 +45,6 @@ lost word h = omega arith
 
 -- ---- words
 
-pub set-bit : (words : List ℕ) (i new level : ℕ) → i / 10 < length words → bit_of new (i % 10) ≡ level → packed_bit (slice_set words (i / 10) new) i ≡ level
-set-bit words i new level h is = ap (λ w. bit_of w (i % 10)) (get_or-set_at words (i / 10) (i / 10) new 0 refl h) ∙ is
-
-pub other-bits : (words : List ℕ) (i new k : ℕ) → i / 10 < length words → ((j : ℕ) → j < 10 → j ≢ i % 10 → bit_of new j ≡ bit_of (slice_index words (i / 10)) j) → k ≢ i → packed_bit (slice_set words (i / 10) new) k ≡ packed_bit words k
-other-bits words i new k h others ne =
-    elim (cases_eq (k / 10) (i / 10)) [
-      | inl e ↦
-          ap (λ w. bit_of w (k % 10)) (get_or-set_at words (i / 10) (k / 10) new 0 e h)
-          ∙ others (k % 10) (omega arith) (λ q. ne (omega arith))
-          ∙ ap (λ m. bit_of (slice_index words m) (k % 10)) (sym e)
-      | inr f ↦ ap (λ w. bit_of w (k % 10)) (get_or-set_other words (i / 10) (k / 10) new 0 f)
-    ]
-
 pub set-ten : (words : List ℕ) (at new : ℕ) → new < 1024 → ((k : ℕ) → slice_index words k < 1024) → (k : ℕ) → slice_index (slice_set words at new) k < 1024
 set-ten words at new h ten k =
     elim (cases_eq k at) [
@@ -135,14 +122,6 @@ past-end bits level old new (suc i) p len moved h =
       | inl l ↦ moved (suc i) l ∙ p.past i (omega arith)
       | inr gone ↦ no-word new (suc i) (omega arith)
     ]
-
--- where the last word is full there is nothing to trim
-pub full : (bits level : ℕ) (old new : List ℕ) → IsPacked bits old → bits % 10 ≡ 0 → length new ≡ length old → ((k : ℕ) → slice_index new k < 1024) → ((i : ℕ) → i < 10 * length old → packed_bit new i ≡ bit_before level old i) → IsPacked bits new
-full bits level old new p whole len ten moved = record {
-  used = len ∙ p.used;
-  ten = ten;
-  past = λ i h. no-word new i (let u = p.used in omega arith);
-}
 
 -- what bits past the end become
 pub trimmed : (bits level : ℕ) (old new last : List ℕ) → IsPacked bits old → length new ≡ length old → ((k : ℕ) → slice_index last k < 1024) → length last ≡ length new → ((i : ℕ) → i < 10 * length old → packed_bit new i ≡ bit_before level old i) → packed_bit last bits ≡ 0 → ((k : ℕ) → k ≢ bits → packed_bit last k ≡ packed_bit new k) → IsPacked bits last

@@ -147,7 +147,8 @@ impl<const MAX: usize> Chain<MAX> {
 
     /// The ten bits from bit `first` on as a number, whose bit j is bit `first` + j, or 0 beyond the last one.
     pub fn ten_from(&self, first: usize) -> u16
-        ensures { (j : ℕ) → j < 10 → bit_of result j ≡ slice_index self.now (first + j) }
+        ensures bits { (j : ℕ) → j < 10 → bit_of result j ≡ slice_index self.now (first + j) }
+        ensures ten { result < 1024 }
     {
         let at = first / WORD_BITS;
         let words = self.words.as_slice();

@@ -2,8 +2,8 @@ use Rattle.std.proofs.Common.{◌≡◌, ap, ◌∙◌, ◌+◌, ◌/◌, ◌<�
 use Rattle.mcs_shift4003.proofs.WordLemmas.{any-bit, ten-bits}
 use Rattle.mcs_shift4003.proofs.Chain.ten_from.Goals as goal
 
-pub returns : goal.returns
-returns g c = λ j h.
+pub returns-clause-bits : goal.returns-clause-bits
+returns-clause-bits g c = λ j h.
     let i = c.self.inside in
     let at = c.args.first / 10 in
     let low : c.from-low.result ≡ slice_index i.words.items at = c.from-low.ensures ∙ c.word_at.ensures ∙ ap (λ (ws : List ℕ). slice_index ws at) c.as_slice-words.ensures.value in
