@@ -1,10 +1,10 @@
 //! The bytes of a command.
-ghost use Rattle.std.specs.Prelude.{◌≡◌, ℕ, ◌+◌, ◌≤◌, ◌<◌, ◌∷◌, ◌++◌, List, [], length, take, option_map, Option, Some, None, IfOk, IfSome, IfNone, if◌then◌else◌};
+ghost use Rattle.std.specs.Prelude.{◌≡◌, ℕ, ◌+◌, ◌≤◌, ◌<◌, ◌∷◌, ◌++◌, List, [], length, take, option_map, Option, Some, None, IfOk, OnErr, IfSome, IfNone, if◌then◌else◌};
 ghost use Rattle.mcs_model.specs.declared.command.Command.{Command};
 ghost use Rattle.mcs_codec.specs.Reading.{whole};
 ghost use Rattle.mcs_codec.specs.CommandText.{command_text, IsCommand};
 ghost use Rattle.mcs_codec.specs.CommandReading.{command_behind, all_behind, command_at};
-ghost use Rattle.mcs_codec.specs.Codec.{Spells};
+ghost use Rattle.mcs_codec.specs.Codec.{BeginsAsLoad, Spells};
 
 use crate::boards::{put_board, read_board};
 use crate::field::{Field, Spelled, put};
@@ -85,7 +85,7 @@ fn put_command(command: &Command, out: &mut [u8], at: usize) -> usize
     }
 }
 
-/// Spells a command at the front of these bytes, and answers how many it took: 1 to 4,609.
+/// Spells a command at the front of these bytes, and answers how many it took: 1 to 4,609. Nothing is said of those behind.
 pub fn command_bytes(command: &Command, into: &mut [u8]) -> usize
     requires lent { COMMAND_BYTES ≤ length into.old }
     ensures spells { Spells (take result into.new) command.now }
@@ -125,7 +125,8 @@ fn read_behind(tag: u8, reader: &mut Reader<'_>) -> Option<Command>
 /// Reads what stands behind a tag.
 #[tactic(auto, unfolding(crate::specs::CommandReading::all_behind))]
 fn read_any(alloc: Global, tag: u8, reader: &mut Reader<'_>) -> Result<Option<Command>, AllocError>
-    ensures { IfOk result (λ found. option_map (λ x. (x, reader.new)) found ≡ all_behind tag reader.old) }
+    ensures read { IfOk result (λ found. option_map (λ x. (x, reader.new)) found ≡ all_behind tag reader.old) }
+    ensures memory { OnErr result (tag ≡ 2) }
 {
     if tag == 2 {
         match read_image(alloc, reader)? {
@@ -140,7 +141,8 @@ fn read_any(alloc: Global, tag: u8, reader: &mut Reader<'_>) -> Result<Option<Co
 /// The command that all of these bytes are read as, or none.
 #[tactic(auto, unfolding(crate::specs::CommandReading::command_at))]
 fn read_command(alloc: Global, bytes: &[u8]) -> Result<Option<Command>, AllocError>
-    ensures { IfOk result (λ found. found ≡ whole command_at bytes.now) }
+    ensures read { IfOk result (λ found. found ≡ whole command_at bytes.now) }
+    ensures memory { OnErr result (BeginsAsLoad bytes.now) }
 {
     let mut reader = Reader::new(bytes);
     let Some(tag) = reader.byte() else {
@@ -166,6 +168,7 @@ fn read_command(alloc: Global, bytes: &[u8]) -> Result<Option<Command>, AllocErr
 pub fn command_of(alloc: Global, bytes: &[u8]) -> Result<Option<Command>, AllocError>
     ensures some { IfOk result (λ found. IfSome found (λ c. Spells bytes.now c)) }
     ensures none { IfOk result (λ found. IfNone found ((c : Command) → Spells bytes.now c → ⊥)) }
+    ensures memory { OnErr result (BeginsAsLoad bytes.now) }
 {
     read_command(alloc, bytes)
 }

@@ -205,7 +205,8 @@ fn put_state(bench: &Bench, into: &mut [u8]) -> usize
     put_groups(bench, into, at)
 }
 
-/// Spells the state of a bench at the front of these bytes, and answers how many it took: at most 7,356.
+/// Spells the state of a bench at the front of these bytes, and answers how many it took: at most 7,356. Nothing is said of
+/// those behind.
 pub fn state_bytes(bench: &Bench, into: &mut [u8]) -> usize
     requires lent { STATE_BYTES ≤ length into.old }
     ensures spells { SpellsState (take result into.new) bench.now }

@@ -16,11 +16,12 @@ use Rattle.mcs_shell.specs.declared.texts.TextKind.{TextKind}
 use Rattle.mcs_shell.specs.declared.texts.TextFault.TheVariants.{NoEnd}
 use Rattle.mcs_session.specs.Standing.{SessionState, Standing, standing_after}
 use Rattle.mcs_shell.specs.Stage.{Stage}
-use Rattle.mcs_shell.specs.Transcript.{Went, all_commands, transcript}
+use Rattle.mcs_shell.specs.Transcript.{Served, Went, all_commands, transcript}
 use Rattle.mcs_answers.specs.AnswerTexts.{session_text}
 use Rattle.mcs_session.specs.Kept.{Carries, IsHonest, IsSettled}
 use Rattle.mcs_shell.specs.Serving.{CutShort, Failed, LastStep, StopsAt, Stopped, StoppedAt, WentFurther, WentOn}
-use Rattle.mcs_shell.specs.Shell.{Began, EndsBy, InputEnded, LoopRan, RanGiven, ReadSome, ServedAll, ServedSome, Untouched, WasRead, end_of_halt}
+use Rattle.mcs_shell.specs.Shell.{Began, EndsBy, InputEnded, IsNear, LoopRan, RanGiven, ReadSome, ServedAll, ServedSome, StoppedNear, Untouched, WasRead, end_of_halt}
+use Rattle.mcs_shell.specs.declared.shell.TheConstants.{CHUNK_BYTES}
 use Rattle.mcs_shell.specs.Finishing.{FinishedBy}
 use Rattle.mcs_lines.proofs.Cutting.{nil_right}
 use Rattle.mcs_shell.proofs.GrowingBytes.{appends_more, appends_nothing, consumes_kept, consumes_more, consumes_nothing}
@@ -59,11 +60,14 @@ unfolding inputs
 from_fresh bytes whole = ap (λ v. inputs_after fresh v whole) (sym (nil_right bytes))
 
 -- what was served of bytes that were cut
+spelled_cut : (a b : Stage) (line : Pending) (bytes : List ℕ) (x : WentFurther a b fresh line bytes) → inputs bytes false ≡ map (λ z. z.0) x.progress.served
+spelled_cut a b line bytes x = from_fresh bytes false ∙ x.progress.spelled [] false
+    ∙ ap (λ y. map (λ z. z.0) x.progress.served ++ y) (after-cut line x.progress.no_feed) ∙ nil_right (map (λ z. z.0) x.progress.served)
+
 pub served_cut : (a b : Stage) (line : Pending) (bytes : List ℕ) → WentFurther a b fresh line bytes → ServedAll IsSettled (inputs bytes false) a b
 served_cut a b line bytes x = record {
   served = x.progress.served;
-  spelled = from_fresh bytes false ∙ x.progress.spelled [] false
-      ∙ ap (λ y. map (λ z. z.0) x.progress.served ++ y) (after-cut line x.progress.no_feed) ∙ nil_right (map (λ z. z.0) x.progress.served);
+  spelled = spelled_cut a b line bytes x;
   went = x.progress.went;
   written = x.progress.written;
   carries = x.carries;
@@ -107,7 +111,7 @@ then_all whole a b c l k bytes x y =
 -- ---- where one input was answered in part
 
 module _ (Last : LastStep) (back : MovesBack Last) where
-  pub then_some : (whole : Bool) (a b c : Stage) (l k : Pending) (bytes : List ℕ) → WentFurther a b l k bytes → ServedSome IsSettled Last (inputs_after k [] whole) b c → ServedSome IsSettled Last (inputs_after l (bytes ++ []) whole) a c
+  abbrev pub then_some : (whole : Bool) (a b c : Stage) (l k : Pending) (bytes : List ℕ) → WentFurther a b l k bytes → ServedSome IsSettled Last (inputs_after k [] whole) b c → ServedSome IsSettled Last (inputs_after l (bytes ++ []) whole) a c
   then_some whole a b c l k bytes x y =
       let s = a.session.standing.state in
       let t = b.session.standing.state in
@@ -136,7 +140,7 @@ module _ (Last : LastStep) (back : MovesBack Last) where
             (subst Q cs (back a.session b.session (all_commands s x.progress.served) (all_commands t y.served) (standing_after b.session.standing (all_commands t y.served)) y.last y.middle c x.carries y.ended));
       }
 
-  pub some_of_stopped : (whole : Bool) (a c : Stage) (p : Pending) (bytes : List ℕ) → StoppedAt Last a c p bytes → ServedSome IsSettled Last (inputs_after p (bytes ++ []) whole) a c
+  abbrev pub some_of_stopped : (whole : Bool) (a c : Stage) (p : Pending) (bytes : List ℕ) → StoppedAt Last a c p bytes → ServedSome IsSettled Last (inputs_after p (bytes ++ []) whole) a c
   some_of_stopped whole a c p bytes x = let e = x.spelled [] whole in record {
     served = x.served;
     last = x.last;
@@ -188,8 +192,17 @@ finished_text_stop halt.Device a c p kind text none is h = some_of_one Failed fa
 all_of_same : (xs ys : List Input) (a b : Stage) → xs ≡ ys → ServedAll IsSettled ys a b → ServedAll IsSettled xs a b
 all_of_same xs ys a b e h = let P : List Input → Type 0 = λ v. ServedAll IsSettled v a b in subst P (sym e) h
 
-some_of_same : (Last : LastStep) (xs ys : List Input) (a b : Stage) → xs ≡ ys → ServedSome IsSettled Last ys a b → ServedSome IsSettled Last xs a b
-some_of_same Last xs ys a b e h = let P : List Input → Type 0 = λ v. ServedSome IsSettled Last v a b in subst P (sym e) h
+abbrev pub some_of_same : (Last : LastStep) (xs ys : List Input) (a b : Stage) → xs ≡ ys → ServedSome IsSettled Last ys a b → ServedSome IsSettled Last xs a b
+some_of_same Last xs ys a b e h = record {
+  served = h.served;
+  last = h.last;
+  rest = h.rest;
+  spelled = e ∙ h.spelled;
+  went = h.went;
+  middle = h.middle;
+  written = h.written;
+  ended = h.ended;
+}
 
 -- as if a line feed had come
 pub finished_line : (end : ShellEnd) (a b c : Stage) (p q : Pending) → HasNoFeed p.line → 0 < length p.line → WentFurther a b p q (10 ∷ []) → FinishedBy end q b c → FinishedBy end p a c
@@ -222,6 +235,23 @@ was_read_whole bytes left h = record { within_limit = omega (arith, h.below_limi
 was_read_in_part : (bytes : List ℕ) (left : Option (List ℕ)) → length bytes ≤ INPUT_BYTES → WasRead false bytes left
 was_read_in_part bytes left h = record { within_limit = h; ended = λ e. absurd (cc e) }
 
+-- what was answered begins with what the bytes before those read ahead spell
+near_behind : (a b : Stage) (line : Pending) (bytes ahead : List ℕ) (x : WentFurther a b fresh line bytes) (served : Served) → length ahead ≤ CHUNK_BYTES
+    → IsNear (bytes ++ ahead) (map (λ p. p.0) (x.progress.served ++ served))
+near_behind a b line bytes ahead x served few = record {
+  before = bytes;
+  ahead = ahead;
+  parts = refl;
+  few = few;
+  more = map (λ p. p.0) served;
+  answered_are = map-append (λ z. z.0) x.progress.served served ∙ ap (λ v. v ++ map (λ p. p.0) served) (sym (spelled_cut a b line bytes x));
+}
+
+near_whole : (a b : Stage) (line : Pending) (bytes : List ℕ) (x : WentFurther a b fresh line bytes) (served : Served) → IsNear bytes (map (λ p. p.0) (x.progress.served ++ served))
+near_whole a b line bytes x served =
+    let P : List ℕ → Type 0 = λ v. IsNear v (map (λ p. p.0) (x.progress.served ++ served)) in
+    subst P (nil_right bytes) (near_behind a b line bytes [] x served (omega arith))
+
 pub ran_finish : (end : ShellEnd) (r r' r'' : Option (List ℕ)) (a b c : Stage) (line : Pending) (chunk : List ℕ) (total most : ℕ)
     → SoFar r r' a b line total → total < INPUT_BYTES → ReadSome 0 most r' r'' chunk → FinishedBy end line b c → LoopRan IsSettled end r r'' a c
 ran_finish End r r' r'' a b c line chunk total most x small y z = record {
@@ -238,7 +268,10 @@ ran_finish WriteFault r r' r'' a b c line chunk total most x small y z = record 
   ends = (
     true,
     was_read_whole x.bytes r'' (input_ended r' r'' x.bytes chunk total most x.count small y),
-    some_of_same CutShort (inputs x.bytes true) (inputs_after fresh (x.bytes ++ []) true) a c (from_fresh x.bytes true) (then_some CutShort cut_after true a b c fresh line x.bytes x.went z),
+    record {
+      some = some_of_same CutShort (inputs x.bytes true) (inputs_after fresh (x.bytes ++ []) true) a c (from_fresh x.bytes true) (then_some CutShort cut_after true a b c fresh line x.bytes x.went z);
+      near = near_whole a b line x.bytes x.went z.served;
+    },
   );
 }
 ran_finish DeviceFault r r' r'' a b c line chunk total most x small y z = record {
@@ -247,7 +280,10 @@ ran_finish DeviceFault r r' r'' a b c line chunk total most x small y z = record
   ends = (
     true,
     was_read_whole x.bytes r'' (input_ended r' r'' x.bytes chunk total most x.count small y),
-    some_of_same Failed (inputs x.bytes true) (inputs_after fresh (x.bytes ++ []) true) a c (from_fresh x.bytes true) (then_some Failed failed_after true a b c fresh line x.bytes x.went z),
+    record {
+      some = some_of_same Failed (inputs x.bytes true) (inputs_after fresh (x.bytes ++ []) true) a c (from_fresh x.bytes true) (then_some Failed failed_after true a b c fresh line x.bytes x.went z);
+      near = near_whole a b line x.bytes x.went z.served;
+    },
   );
 }
 ran_finish ReadFault r r' r'' a b c line chunk total most x small y z = absurd z
@@ -256,28 +292,32 @@ ran_finish NoMemory r r' r'' a b c line chunk total most x small y z = absurd z
 
 -- the bytes before the chunk were served, and serving stopped within it
 module _ (Last : LastStep) (back : MovesBack Last) where
-  some_of_run : (a b c : Stage) (line : Pending) (bytes chunk : List ℕ) → WentFurther a b fresh line bytes → StoppedAt Last b c line chunk → ServedSome IsSettled Last (inputs (bytes ++ chunk) false) a c
-  some_of_run a b c line bytes chunk x y = some_of_same Last (inputs (bytes ++ chunk) false) (inputs_after fresh ((bytes ++ chunk) ++ []) false) a c (from_fresh (bytes ++ chunk) false)
-      (some_of_stopped Last back false a c fresh (bytes ++ chunk) (stopped_after Last back a b c fresh line bytes chunk x y))
+  some_of_run : (a b c : Stage) (line : Pending) (bytes chunk : List ℕ) → WentFurther a b fresh line bytes → StoppedAt Last b c line chunk → length chunk ≤ CHUNK_BYTES
+      → StoppedNear IsSettled Last (bytes ++ chunk) false a c
+  some_of_run a b c line bytes chunk x y few = record {
+    some = some_of_same Last (inputs (bytes ++ chunk) false) (inputs_after fresh ((bytes ++ chunk) ++ []) false) a c (from_fresh (bytes ++ chunk) false)
+        (some_of_stopped Last back false a c fresh (bytes ++ chunk) (stopped_after Last back a b c fresh line bytes chunk x y));
+    near = near_behind a b line bytes chunk x y.served few;
+  }
 
 pub ran_stop : (halt : Halt) (r r' r'' : Option (List ℕ)) (a b c : Stage) (line : Pending) (chunk : List ℕ) (total n most : ℕ)
-    → SoFar r r' a b line total → total + most ≤ INPUT_BYTES → ReadSome n most r' r'' chunk → Stopped halt b c line chunk → LoopRan IsSettled (end_of_halt halt) r r'' a c
-ran_stop halt.Write r r' r'' a b c line chunk total n most x small y z = record {
+    → SoFar r r' a b line total → total + most ≤ INPUT_BYTES → most ≤ CHUNK_BYTES → ReadSome n most r' r'' chunk → Stopped halt b c line chunk → LoopRan IsSettled (end_of_halt halt) r r'' a c
+ran_stop halt.Write r r' r'' a b c line chunk total n most x small little y z = record {
   bytes = x.bytes ++ chunk;
   consumed = consumes_more r r' r'' x.bytes chunk x.consumed y.consumed;
   ends = (
     false,
     was_read_in_part (x.bytes ++ chunk) r'' (let e : length (x.bytes ++ chunk) ≤ INPUT_BYTES = rw (length-append x.bytes chunk) (omega (arith, x.count, y.count, y.within, small)) in e),
-    some_of_run CutShort cut_after a b c line x.bytes chunk x.went z,
+    some_of_run CutShort cut_after a b c line x.bytes chunk x.went z (omega (arith, y.count, y.within, little)),
   );
 }
-ran_stop halt.Device r r' r'' a b c line chunk total n most x small y z = record {
+ran_stop halt.Device r r' r'' a b c line chunk total n most x small little y z = record {
   bytes = x.bytes ++ chunk;
   consumed = consumes_more r r' r'' x.bytes chunk x.consumed y.consumed;
   ends = (
     false,
     was_read_in_part (x.bytes ++ chunk) r'' (let e : length (x.bytes ++ chunk) ≤ INPUT_BYTES = rw (length-append x.bytes chunk) (omega (arith, x.count, y.count, y.within, small)) in e),
-    some_of_run Failed failed_after a b c line x.bytes chunk x.went z,
+    some_of_run Failed failed_after a b c line x.bytes chunk x.went z (omega (arith, y.count, y.within, little)),
   );
 }
 
@@ -313,7 +353,7 @@ all_under given a b settle x = record {
 }
 
 module _ (Last : LastStep) (under : MovesUnder Last) where
-  some_under : (given : List Input) (a b : Stage) → (IsHonest a.session → IsSettled a.session) → ServedSome IsSettled Last given a b → ServedSome IsHonest Last given a b
+  abbrev some_under : (given : List Input) (a b : Stage) → (IsHonest a.session → IsSettled a.session) → ServedSome IsSettled Last given a b → ServedSome IsHonest Last given a b
   some_under given a b settle x =
       let cs : List Command = all_commands a.session.standing.state x.served in
       record {
@@ -331,8 +371,8 @@ ends_under : (end : ShellEnd) (bytes : List ℕ) (left : Option (List ℕ)) (a b
 ends_under End bytes left a b settle x = (x.0, all_under (inputs bytes true) a b settle x.1)
 ends_under ReadFault bytes left a b settle x = (x.0, all_under (inputs bytes false) a b settle x.1)
 ends_under InputLimit bytes left a b settle x = (x.0, all_under (inputs bytes false) a b settle x.1)
-ends_under WriteFault bytes left a b settle x = (x.0, x.1, some_under CutShort cut_under (inputs bytes (x.0)) a b settle x.2)
-ends_under DeviceFault bytes left a b settle x = (x.0, x.1, some_under Failed failed_under (inputs bytes (x.0)) a b settle x.2)
+ends_under WriteFault bytes left a b settle x = (x.0, x.1, record { some = some_under CutShort cut_under (inputs bytes (x.0)) a b settle x.2.some; near = x.2.near })
+ends_under DeviceFault bytes left a b settle x = (x.0, x.1, record { some = some_under Failed failed_under (inputs bytes (x.0)) a b settle x.2.some; near = x.2.near })
 ends_under NoMemory bytes left a b settle x = absurd x
 
 -- ---- the whole run

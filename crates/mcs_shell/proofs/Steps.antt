@@ -182,7 +182,7 @@ module _ (Last : LastStep) (back : MovesBack Last) where
   }
 
   -- behind bytes that were served
-  pub stopped_after : (a b c : Stage) (l k : Pending) (bytes more_bytes : List ℕ) → WentFurther a b l k bytes → StoppedAt Last b c k more_bytes → StoppedAt Last a c l (bytes ++ more_bytes)
+  abbrev pub stopped_after : (a b c : Stage) (l k : Pending) (bytes more_bytes : List ℕ) → WentFurther a b l k bytes → StoppedAt Last b c k more_bytes → StoppedAt Last a c l (bytes ++ more_bytes)
   stopped_after a b c l k bytes more_bytes x y =
       let s = a.session.standing.state in
       let t = b.session.standing.state in

@@ -78,8 +78,8 @@ kept_by_end : (end : ShellEnd) (bytes : List ℕ) (left : Option (List ℕ)) (a 
 kept_by_end End bytes left a b given h = kept_all a.session.disk b.session.disk a.session.standing h.1.served h.1.went (h.1.carries.kept given).kept
 kept_by_end ReadFault bytes left a b given h = kept_all a.session.disk b.session.disk a.session.standing h.1.served h.1.went (h.1.carries.kept given).kept
 kept_by_end InputLimit bytes left a b given h = kept_all a.session.disk b.session.disk a.session.standing h.1.served h.1.went (h.1.carries.kept given).kept
-kept_by_end WriteFault bytes left a b given h = kept_last a.session.disk b.session.disk a.session.standing h.2.served h.2.last h.2.ended.outcome h.2.went (h.2.ended.fares.kept given)
-kept_by_end DeviceFault bytes left a b given h = kept_last a.session.disk b.session.disk a.session.standing h.2.served h.2.last Device h.2.went (h.2.ended.fares.kept given)
+kept_by_end WriteFault bytes left a b given h = kept_last a.session.disk b.session.disk a.session.standing h.2.some.served h.2.some.last h.2.some.ended.outcome h.2.some.went (h.2.some.ended.fares.kept given)
+kept_by_end DeviceFault bytes left a b given h = kept_last a.session.disk b.session.disk a.session.standing h.2.some.served h.2.some.last Device h.2.some.went (h.2.some.ended.fares.kept given)
 kept_by_end NoMemory bytes left a b given h = absurd h
 
 abbrev started_at : Stage → Option (List ℕ) → Stage

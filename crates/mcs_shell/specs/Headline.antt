@@ -21,8 +21,8 @@ abbrev pub met_by_end : (end : ShellEnd) (bytes : List ℕ) (left : Option (List
 met_by_end End bytes left a b h = h.1.served
 met_by_end ReadFault bytes left a b h = h.1.served
 met_by_end InputLimit bytes left a b h = h.1.served
-met_by_end WriteFault bytes left a b h = h.2.served ++ (h.2.last, h.2.ended.outcome) ∷ []
-met_by_end DeviceFault bytes left a b h = h.2.served ++ (h.2.last, Device) ∷ []
+met_by_end WriteFault bytes left a b h = h.2.some.served ++ (h.2.some.last, h.2.some.ended.outcome) ∷ []
+met_by_end DeviceFault bytes left a b h = h.2.some.served ++ (h.2.some.last, Device) ∷ []
 met_by_end NoMemory bytes left a b h = []
 
 abbrev pub met_in_loop : (end : ShellEnd) (reader reader' : Option (List ℕ)) (a b : Stage) → LoopRan IsHonest end reader reader' a b → Served

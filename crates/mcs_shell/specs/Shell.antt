@@ -7,6 +7,7 @@ use Rattle.mcs_shell.specs.declared.outcome.Halt.{Halt}
 use Rattle.mcs_shell.specs.declared.outcome.Halt.TheVariants as halt
 use Rattle.mcs_model.specs.declared.limits.TheConstants.{INPUT_BYTES}
 use Rattle.mcs_shell.specs.Inputs.{Input, inputs}
+use Rattle.mcs_shell.specs.declared.shell.TheConstants.{CHUNK_BYTES}
 use Rattle.mcs_session.specs.Standing.{SessionState, standing_after}
 use Rattle.mcs_shell.specs.Stage.{Stage}
 use Rattle.mcs_shell.specs.Transcript.{Served, Went, all_commands, transcript}
@@ -43,13 +44,27 @@ pub record WasRead (whole : Bool) (bytes : List ℕ) (left : Option (List ℕ)) 
   pub within_limit : length bytes ≤ INPUT_BYTES
   pub ended : whole ≡ true → InputEnded bytes left
 
+-- no more than so many bytes were read ahead of what was answered: these inputs are those of the bytes before, and maybe more
+pub record IsNear (bytes : List ℕ) (answered : List Input) : Type 0 where
+  pub before : List ℕ
+  pub ahead : List ℕ
+  pub parts : bytes ≡ before ++ ahead
+  pub few : length ahead ≤ CHUNK_BYTES
+  pub more : List Input
+  pub answered_are : answered ≡ inputs before false ++ more
+
+-- serving stopped at an input of these bytes, and few bytes were read ahead
+pub record StoppedNear (Given : SessionState → Type 0) (Last : LastStep) (bytes : List ℕ) (whole : Bool) (a b : Stage) : Type 0 where
+  pub some : ServedSome Given Last (inputs bytes whole) a b
+  pub near : IsNear bytes (map (λ p. p.0) some.served)
+
 -- what was done after the first line of the transcript, by the end and the bytes read; `left` is what the reader has left
 abbrev pub EndsBy : (SessionState → Type 0) → ShellEnd → List ℕ → Option (List ℕ) → Stage → Stage → Type 0
 EndsBy Given End bytes left a b = InputEnded bytes left × ServedAll Given (inputs bytes true) a b
 EndsBy Given ReadFault bytes left a b = (length bytes < INPUT_BYTES) × ServedAll Given (inputs bytes false) a b
 EndsBy Given InputLimit bytes left a b = (length bytes ≡ INPUT_BYTES) × ServedAll Given (inputs bytes false) a b
-EndsBy Given WriteFault bytes left a b = (whole : Bool) × WasRead whole bytes left × ServedSome Given CutShort (inputs bytes whole) a b
-EndsBy Given DeviceFault bytes left a b = (whole : Bool) × WasRead whole bytes left × ServedSome Given Failed (inputs bytes whole) a b
+EndsBy Given WriteFault bytes left a b = (whole : Bool) × WasRead whole bytes left × StoppedNear Given CutShort bytes whole a b
+EndsBy Given DeviceFault bytes left a b = (whole : Bool) × WasRead whole bytes left × StoppedNear Given Failed bytes whole a b
 EndsBy Given NoMemory bytes left a b = ⊥
 
 pub record LoopRan (Given : SessionState → Type 0) (end : ShellEnd) (reader reader' : Option (List ℕ)) (a b : Stage) : Type 0 where

@@ -1,11 +1,12 @@
 //! The program: its words, its file, its session, its shell, its exit status.
-ghost use Rattle.std.specs.Prelude.{◌≡◌, ◌⊎◌, IfOk, IfErr, None, true, map};
+ghost use Rattle.std.specs.Prelude.{◌≡◌, ◌⊎◌, IfOk, IfErr, OnErr, None, true, map};
 ghost use Rattle.std.specs.Process.{exit_status};
 ghost use Rattle.mcs_host.specs.CommandLine.{chosen, is_taken};
 ghost use Rattle.mcs_host.specs.FileDisk.{IsOpened};
 ghost use Rattle.mcs_host.specs.declared.file_disk.FileDisk.{FileDisk};
 ghost use Rattle.mcs_host.specs.declared.file_disk.FileFault.{FileFault};
-ghost use Rattle.mcs_shell.specs.Program.{Begins, IsRefusedBy, RanToStatus};
+ghost use Rattle.mcs_shell.specs.Program.{Begins, IsRefusedBy, RanToStatus, ServedAsChosen};
+ghost use Rattle.mcs_shell.specs.Shell.{Ran};
 ghost use Rattle.mcs_shell.specs.RefusalNumbers.{file_fault_number};
 ghost use Rattle.mcs_shell.specs.Stage.{staged};
 
@@ -102,14 +103,17 @@ pub fn session_in(rt: &HostRuntime, choice: &Choice) -> Result<Session<FileDisk>
     session_on(alloc, choice, opened)
 }
 
-/// Serves a session over a reader and a writer, and gives the exit status of the shell's end.
+/// Serves a session over a reader and a writer, and gives the exit status of the shell's end. An `Err` comes only where memory
+/// for the shell was refused and that could not be told; then nothing was read or done.
 pub fn serve<R: Read, W: Write, D: Disk + Drop>(
     rt: &HostRuntime,
     reader: &mut R,
     writer: &mut W,
     session: &mut Session<D>,
 ) -> io::Result<ExitCode>
-    ensures { IfOk result (λ code. RanToStatus (exit_status code) (R.remaining reader.old) (R.remaining reader.new)
+    ensures ran { IfOk result (λ code. RanToStatus (exit_status code) (R.remaining reader.old) (R.remaining reader.new)
+        (staged (D.state session.old.disk) session.old (W.contents writer.old)) (staged (D.state session.new.disk) session.new (W.contents writer.new))) }
+    ensures untold { OnErr result (Ran ShellEnd.NoMemory (R.remaining reader.old) (R.remaining reader.new)
         (staged (D.state session.old.disk) session.old (W.contents writer.old)) (staged (D.state session.new.disk) session.new (W.contents writer.new))) }
 {
     match run_shell(rt.alloc(), reader, writer, session) {
@@ -120,7 +124,9 @@ pub fn serve<R: Read, W: Write, D: Disk + Drop>(
 
 /// Runs the bench by these words, the program's name first: session, shell, exit status.
 pub fn run_words<S: AsStr>(rt: &HostRuntime, words: &[S]) -> io::Result<ExitCode>
-    ensures { IfOk result (λ code. exit_status code ≡ WRONG_WORDS → is_taken (map S.text words.entry.now) ≡ true → chosen (map S.text words.entry.now) ≡ None) }
+    ensures usage { IfOk result (λ code. exit_status code ≡ WRONG_WORDS → is_taken (map S.text words.entry.now) ≡ true → chosen (map S.text words.entry.now) ≡ None) }
+    ensures status { IfOk result (λ code. (exit_status code ≡ WRONG_WORDS) ⊎ ((exit_status code ≡ REFUSED)
+        ⊎ ServedAsChosen ⟦<FileDisk as Disk>⟧.state (chosen (map S.text words.entry.now)) (exit_status code))) }
 {
     let choice = match choice(rt.alloc(), words) {
         Ok(choice) => choice,

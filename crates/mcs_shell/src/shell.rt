@@ -94,7 +94,8 @@ fn run_loop<R: Read, W: Write, D: Disk + Drop>(
     writer: &mut W,
     session: &mut Session<D>,
 ) -> ShellEnd
-    requires { 0 < length buffer.old }
+    requires some { 0 < length buffer.old }
+    requires chunk { length buffer.old ≤ CHUNK_BYTES }
     ensures { LoopSettled result (R.remaining reader.old) (R.remaining reader.new)
         (staged (D.state session.old.disk) session.old (W.contents writer.old)) (staged (D.state session.new.disk) session.new (W.contents writer.new)) }
 {

@@ -3,7 +3,7 @@ use Rattle.mcs_codec.proofs.CommandCodec.{read_found, read_none}
 use Rattle.mcs_codec.proofs.commands.command_of.Goals as goal
 
 pub returns-clause-some : goal.returns-clause-some
-returns-clause-some c = read_found c.args.bytes.now c.read_command.result (λ i. omega (arith, c.type_inv.bytes i)) c.read_command.ensures
+returns-clause-some c = read_found c.args.bytes.now c.read_command.result (λ i. omega (arith, c.type_inv.bytes i)) c.read_command.ensures.read
 
 pub returns-clause-none : goal.returns-clause-none
-returns-clause-none c = read_none c.args.bytes.now c.read_command.result c.read_command.ensures
+returns-clause-none c = read_none c.args.bytes.now c.read_command.result c.read_command.ensures.read

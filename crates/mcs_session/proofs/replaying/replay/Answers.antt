@@ -1,4 +1,4 @@
-use Rattle.std.proofs.Common.{rules, arith, ◌≡◌, ◌+◌, ◌≤◌, ℕ, List, None, length, subst}
+use Rattle.std.proofs.Common.{rules, arith, ◌≡◌, ◌+◌, ◌≤◌, ℕ, List, None, length, subst, take}
 use Rattle.std.proofs.lemmas.List.{take_all}
 use Rattle.mcs_model.specs.declared.command.Command.{Command}
 use Rattle.mcs_model.specs.Command.{refusal}
@@ -7,6 +7,7 @@ use Rattle.mcs_codec.proofs.CommandCodec.{same_command}
 use Rattle.mcs_session.specs.Invariant.{IsReplayed}
 use Rattle.mcs_session.proofs.Records.{no_pair, one_more, replayed_more, replayed_none, too_long}
 use Rattle.mcs_session.proofs.replaying.replay.Goals as goal
+use Rattle.mcs_session.proofs.replaying.replay.Goals.{After-apply-reply}
 
 pub returns-in-Ok-None-command_of-clause-none : goal.returns-in-Ok-None-command_of-clause-none
 returns-in-Ok-None-command_of-clause-none c = λ s pair.
@@ -35,31 +36,26 @@ loop-at-init c = record {
   so_far = replayed_none _ _ (rw c.in-Ok-Some.field-0-is at c.in-Ok-Some.ensures.some);
 }
 
-pub loop-at-preserved : goal.loop-at-preserved
-loop-at-preserved c =
+-- one more record replayed, at both ends of the loop's body
+preserved : (c : After-apply-reply) → (c.loop-at.cycles + c.replay_cycles-more.result ≤ REPLAY_CYCLES)
+    × IsReplayed c.args.snap.now (take (c.loop-at.at + 1) c.args.records.now) (c.loop-at.cycles + c.replay_cycles-more.result) c.apply-reply.new.self
+preserved c =
     let bounded = c.loop-at.invariant.bounded in
     let over = c.if-more-cycles.false in
     let few : c.loop-at.cycles + c.replay_cycles-more.result ≤ REPLAY_CYCLES = omega (arith, bounded, over) in
     let accepted : refusal c.loop-at.bench c.in-Ok-Some-command_of.command ≡ None = search rules in
-    record {
-      within = omega (arith, c.loop-at-test.true, c.len.ensures);
-      bounded = few;
-      so_far = rw (one_more _ _ c.loop-at.at c.get.ensures, c.apply-reply.ensures.state)
-          (replayed_more _ _ _ _ _ _ _ c.loop-at.invariant.so_far (rw c.in-Ok-Some-command_of.field-0-is at c.in-Ok-Some-command_of.ensures.some) accepted c.replay_cycles-more.ensures few);
-    }
+    (few, rw (one_more _ _ c.loop-at.at c.get.ensures, c.apply-reply.ensures.state)
+        (replayed_more _ _ _ _ _ _ _ c.loop-at.invariant.so_far (rw c.in-Ok-Some-command_of.field-0-is at c.in-Ok-Some-command_of.ensures.some) accepted c.replay_cycles-more.ensures few))
+
+pub loop-at-preserved : goal.loop-at-preserved
+loop-at-preserved c =
+    let more = preserved (goal.at.loop-at-preserved c).After-apply-reply in
+    record { within = omega (arith, c.loop-at-test.true, c.len.ensures); bounded = more.0; so_far = more.1 }
 
 pub loop-at-preserved-else-more-cycles : goal.loop-at-preserved-else-more-cycles
 loop-at-preserved-else-more-cycles c =
-    let bounded = c.loop-at.invariant.bounded in
-    let over = c.if-more-cycles.false in
-    let few : c.loop-at.cycles + c.replay_cycles-more.result ≤ REPLAY_CYCLES = omega (arith, bounded, over) in
-    let accepted : refusal c.loop-at.bench c.in-Ok-Some-command_of.command ≡ None = search rules in
-    record {
-      within = omega (arith, c.loop-at-test.true, c.len.ensures);
-      bounded = few;
-      so_far = rw (one_more _ _ c.loop-at.at c.get.ensures, c.apply-reply.ensures.state)
-          (replayed_more _ _ _ _ _ _ _ c.loop-at.invariant.so_far (rw c.in-Ok-Some-command_of.field-0-is at c.in-Ok-Some-command_of.ensures.some) accepted c.replay_cycles-more.ensures few);
-    }
+    let more = preserved (goal.at.loop-at-preserved-else-more-cycles c).After-apply-reply in
+    record { within = omega (arith, c.loop-at-test.true, c.len.ensures); bounded = more.0; so_far = more.1 }
 
 pub returns-clause-some : goal.returns-clause-some
 returns-clause-some c =

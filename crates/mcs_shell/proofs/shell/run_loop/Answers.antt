@@ -4,7 +4,7 @@ use Rattle.mcs_shell.proofs.Looping.{ran_finish, ran_limit, ran_read_fault, ran_
 use Rattle.mcs_shell.proofs.shell.run_loop.Goals as goal
 
 pub loop-total-init : goal.loop-total-init
-loop-total-init g c = record { small = omega arith; room = c.requires; so_far = so_far_nothing _ _ _ c.new-unfinished.ensures }
+loop-total-init g c = record { small = omega arith; room = c.requires.some; chunk = c.requires.chunk; so_far = so_far_nothing _ _ _ c.new-unfinished.ensures }
 
 pub returns-in-Err : goal.returns-in-Err
 returns-in-Err g c = ran_read_fault _ _ _ _ _ _ _ c.loop-total.invariant.so_far c.loop-total-test.true c.in-Err.ensures.err
@@ -17,11 +17,12 @@ pub loop-total-preserved : goal.loop-total-preserved
 loop-total-preserved g c = record {
   small = let m : c.loop-total.total + c.min-most.result ≤ INPUT_BYTES = omega (arith, c.min-most.ensures) in omega (arith, m, c.in-Ok.ensures.ok.within);
   room = search rules;
+  chunk = search rules;
   so_far = so_far_more _ _ _ _ _ _ _ _ _ _ _ _ c.loop-total.invariant.so_far c.in-Ok.ensures.ok c.in-Ok-serve_chunk.ensures.ok;
 }
 
 pub returns-in-Err-serve_chunk : goal.returns-in-Err-serve_chunk
-returns-in-Err-serve_chunk g c = rw c.end_of.ensures (ran_stop c.in-Err-serve_chunk.halt _ _ _ _ _ _ _ _ _ _ _ c.loop-total.invariant.so_far (omega (arith, c.min-most.ensures)) c.in-Ok.ensures.ok c.in-Err-serve_chunk.ensures.err)
+returns-in-Err-serve_chunk g c = rw c.end_of.ensures (ran_stop c.in-Err-serve_chunk.halt _ _ _ _ _ _ _ _ _ _ _ c.loop-total.invariant.so_far (omega (arith, c.min-most.ensures)) (omega (arith, c.min-most.ensures, c.loop-total.invariant.chunk)) c.in-Ok.ensures.ok c.in-Err-serve_chunk.ensures.err)
 
 pub returns : goal.returns
 returns g c = ran_limit _ _ _ _ _ _ c.loop-total.invariant.so_far (omega (arith, c.loop-total-test.false, c.loop-total.invariant.small))

@@ -1,6 +1,7 @@
 use Rattle.std.proofs.Common.{◌≤◌, ◌<◌, ◌-◌, length}
 use Rattle.mcs_model.specs.declared.limits.TheConstants.{INPUT_BYTES}
 use Rattle.mcs_shell.specs.Stage.{staged}
+use Rattle.mcs_shell.specs.declared.shell.TheConstants.{CHUNK_BYTES}
 use Rattle.mcs_shell.proofs.Looping.{SoFar}
 use Rattle.mcs_shell.proofs.shell.run_loop.Given as goal
 
@@ -8,6 +9,7 @@ abbrev pub invariant-loop-total : goal.invariant-loop-total
 invariant-loop-total g l = record {
   small : l.total ≤ INPUT_BYTES;
   room : 0 < length l.buffer;
+  chunk : length l.buffer ≤ CHUNK_BYTES;
   so_far : SoFar (g.R.Read.remaining l.fn.reader) (g.R.Read.remaining l.reader)
       (staged (g.D.Disk.state l.fn.session.disk) l.fn.session (g.W.Write.contents l.fn.writer))
       (staged (g.D.Disk.state l.session.disk) l.session (g.W.Write.contents l.writer))
