@@ -43,9 +43,11 @@ preserved c =
     let bounded = c.loop-at.invariant.bounded in
     let over = c.if-more-cycles.false in
     let few : c.loop-at.cycles + c.replay_cycles-more.result ≤ REPLAY_CYCLES = omega (arith, bounded, over) in
-    let accepted : refusal c.loop-at.bench c.in-Ok-Some-command_of.command ≡ None = search rules in
-    (few, rw (one_more _ _ c.loop-at.at c.get.ensures, c.apply-reply.ensures.state)
-        (replayed_more _ _ _ _ _ _ _ c.loop-at.invariant.so_far (rw c.in-Ok-Some-command_of.field-0-is at c.in-Ok-Some-command_of.ensures.some) accepted c.replay_cycles-more.ensures few))
+    let accepted : refusal c.loop-at.bench c.in-Ok-Some-command_of.command ≡ None = search rules in (
+      few,
+      rw (one_more _ _ c.loop-at.at c.get.ensures, c.apply-reply.ensures.state)
+          (replayed_more _ _ _ _ _ _ _ c.loop-at.invariant.so_far (rw c.in-Ok-Some-command_of.field-0-is at c.in-Ok-Some-command_of.ensures.some) accepted c.replay_cycles-more.ensures few),
+    )
 
 pub loop-at-preserved : goal.loop-at-preserved
 loop-at-preserved c =
