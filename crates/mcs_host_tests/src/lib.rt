@@ -1,5 +1,7 @@
-//! Runs the host's part of the program: a session file as a disk, and the words of the command line.
+//! Runs the host's part of the program: a session file as a disk, the words of the command line, and a session over both.
 #![tactic(auto)]
 
+#[cfg(test)]
+mod sessions;
 #[cfg(test)]
 mod tests;

@@ -107,18 +107,27 @@ fn is_told(output: &[u8], answers: &[&[u8]], is_device: bool) -> bool {
     rest.is_empty() && !is_device
 }
 
-/// The output is one of those that one refusal allows.
-fn is_allowed(output: &[u8], is_device: bool) -> bool {
-    for answers in ANSWERS {
-        if is_told(output, &answers, is_device) {
-            return true;
+/// What the one refusal of a run left out, by the row of `ANSWERS` that was told.
+const LEFT_OUT: [&str; 5] = [
+    "nothing",
+    "the board",
+    "the program",
+    "the listing",
+    "the question for the board",
+];
+
+/// What was left out of the output, where it is one of those that one refusal allows.
+fn left_out(output: &[u8], is_device: bool) -> Option<&'static str> {
+    for (answers, what) in ANSWERS.iter().zip(LEFT_OUT.iter()) {
+        if is_told(output, answers, is_device) {
+            return Some(*what);
         }
     }
-    false
+    None
 }
 
-/// The script, and then the file opened again.
-fn run(alloc: Global, rt: &impl Abort, mut session: Session<MemDisk>) {
+/// Serves the script. It answers what was refused, if anything was.
+fn serve(alloc: Global, rt: &impl Abort, session: &mut Session<MemDisk>) -> &'static str {
     let mut script: ArrayVec<u8, 1_024> = ArrayVec::new();
     for part in [INPUTS[0], QUESTIONS] {
         for byte in part {
@@ -129,42 +138,61 @@ fn run(alloc: Global, rt: &impl Abort, mut session: Session<MemDisk>) {
     let mut writer = FixedWriter {
         held: ArrayVec::new(),
     };
-    let end = run_shell(alloc, &mut reader, &mut writer, &mut session);
-    let seq = session.bench().seq();
+    let end = run_shell(alloc, &mut reader, &mut writer, session);
     let output = writer.held.as_slice();
-    let is_device = end == ShellEnd::DeviceFault;
     match end {
-        ShellEnd::NoMemory => assert!(rt; output.is_empty() && seq == 0),
-        ShellEnd::End | ShellEnd::DeviceFault => {
-            assert!(rt; is_allowed(output, is_device));
+        ShellEnd::NoMemory => {
+            assert!(rt; output.is_empty() && session.bench().seq() == 0);
+            "the shell"
+        }
+        ShellEnd::End => left_out(output, false).expect(rt, "other answers"),
+        ShellEnd::DeviceFault => {
+            assert!(rt; left_out(output, true).is_some());
+            "a record of a command"
         }
         _ => panic!(rt; "another end"),
     }
-    let again = match Session::open(alloc, session.into_disk()) {
-        Ok(again) => again,
-        Err((fault, disk)) => {
-            assert!(rt; matches!(fault, OpenFault::NoMemory | OpenFault::Device));
-            opened(alloc, rt, disk)
-        }
-    };
-    let kept = again.bench().seq();
-    assert!(rt; kept == seq || (is_device && kept == seq.saturating_add(1)));
 }
 
-#[test]
-fn one_allocation(rt: HostRuntime) {
-    let alloc = rt.alloc();
+/// Serves the script, and then opens the file again. It answers what was refused.
+fn run(alloc: Global, rt: &impl Abort, mut session: Session<MemDisk>) -> &'static str {
+    let served = serve(alloc, rt, &mut session);
+    let seq = session.bench().seq();
+    let is_closed = !session.is_open();
+    let (again, refused) = match Session::open(alloc, session.into_disk()) {
+        Ok(again) => (again, served),
+        Err((OpenFault::NoMemory, disk)) => (opened(alloc, rt, disk), "the session opened"),
+        Err((OpenFault::Device, disk)) => (opened(alloc, rt, disk), "a record at opening"),
+        Err(_) => panic!(rt; "the session was not opened"),
+    };
+    let kept = again.bench().seq();
+    assert!(rt; kept == seq || (is_closed && kept == seq.saturating_add(1)));
+    refused
+}
+
+/// Makes the session, and again where it found no memory. It answers what was refused.
+fn make_and_run(alloc: Global, rt: &impl Abort) -> &'static str {
     let Ok(disk) = MemDisk::new(alloc, FILE_SIZE) else {
-        return;
+        return "the disk";
     };
     match Session::create(alloc, disk) {
-        Ok(session) => run(alloc, &rt, session),
+        Ok(session) => run(alloc, rt, session),
         Err((CreateFault::NoMemory, disk)) => match Session::create(alloc, disk) {
-            Ok(session) => run(alloc, &rt, session),
+            Ok(session) => {
+                let _ = run(alloc, rt, session);
+                "the session made"
+            }
             Err(_) => panic!(rt; "the disk was not handed back as it was"),
         },
         Err((fault, disk)) => {
             assert!(rt; fault == CreateFault::Device && disk.size() == FILE_SIZE);
+            "a record at making"
         }
     }
+}
+
+#[test]
+fn one_allocation(rt: HostRuntime) {
+    let refused = make_and_run(rt.alloc(), &rt);
+    let _ = println!(rt; "refused: {refused}");
 }

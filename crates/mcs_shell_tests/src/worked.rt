@@ -1,9 +1,8 @@
 //! Worked sessions: what is typed, and what is answered.
 ghost use Rattle.std.specs.Prelude.{Some};
 
-use crate::{CutReader, new_session, run};
+use crate::sessions::{CutReader, expect_answers, run};
 use mcs_shell::ends::ShellEnd;
-use mcs_shell::shell::run_shell;
 use std::alloc::Global;
 use std::io::{self, Read};
 use std::process::Abort;
@@ -21,15 +20,7 @@ fn run_all(
     rows: &[(&[u8], &[u8])],
 ) -> Result<(), Fail> {
     for (lines, answers) in rows {
-        let mut script = Vec::new(alloc);
-        script.extend_from_slice(before.0)?;
-        script.extend_from_slice(lines)?;
-        let mut wanted = Vec::new(alloc);
-        wanted.extend_from_slice(before.1)?;
-        wanted.extend_from_slice(answers)?;
-        let (end, told) = run(alloc, script.as_slice())?;
-        assert_eq!(rt; end, ShellEnd::End);
-        assert_eq!(rt; told.as_slice(), wanted.as_slice());
+        expect_answers(rt, alloc, &[before.0, lines], &[before.1, answers])?;
     }
     Ok(())
 }
@@ -161,6 +152,7 @@ fn worked_board_texts(rt: HostRuntime) -> Result<(), Fail> {
     ];
     run_all(&rt, rt.alloc(), (b"", b"session 0\n"), &rows)
 }
+
 /// Gives one byte at each read.
 #[derive(Drop)]
 struct ByteReader<'a> {
@@ -186,42 +178,29 @@ const TEXTS_ANSWERED: &[u8] = b"session 0\nok 1\nok 2 bytes 1\nno 30 line 2\nseq
 fn texts_in_two_pieces(rt: HostRuntime) -> Result<(), Fail> {
     let alloc = rt.alloc();
     for left in 0..TEXTS.len() {
-        let mut session = new_session(alloc)?;
-        let mut reader = CutReader {
+        let reader = CutReader {
             bytes: TEXTS,
             left,
             failures: 0,
         };
-        let mut writer = Vec::new(alloc);
-        let end = run_shell(alloc, &mut reader, &mut writer, &mut session);
+        let (end, told) = run(alloc, reader)?;
         assert_eq!(rt; end, ShellEnd::End);
-        assert_eq!(rt; writer.as_slice(), TEXTS_ANSWERED);
+        assert_eq!(rt; told.as_slice(), TEXTS_ANSWERED);
     }
     Ok(())
 }
 
 #[test]
 fn texts_byte_by_byte(rt: HostRuntime) -> Result<(), Fail> {
-    let alloc = rt.alloc();
-    let mut session = new_session(alloc)?;
-    let mut writer = Vec::new(alloc);
-    let end = run_shell(
-        alloc,
-        &mut ByteReader { bytes: TEXTS },
-        &mut writer,
-        &mut session,
-    );
+    let (end, told) = run(rt.alloc(), ByteReader { bytes: TEXTS })?;
     assert_eq!(rt; end, ShellEnd::End);
-    assert_eq!(rt; writer.as_slice(), TEXTS_ANSWERED);
+    assert_eq!(rt; told.as_slice(), TEXTS_ANSWERED);
     Ok(())
 }
 
 #[test]
 fn the_first_session_of_the_manual(rt: HostRuntime) -> Result<(), Fail> {
-    let (end, told) = run(rt.alloc(), FIRST_SESSION)?;
-    assert_eq!(rt; end, ShellEnd::End);
-    assert_eq!(rt; told.as_slice(), FIRST_ANSWERS);
-    Ok(())
+    expect_answers(&rt, rt.alloc(), &[FIRST_SESSION], &[FIRST_ANSWERS])
 }
 
 /// The first session of docs/MANUAL.md, which stands in examples/lamps.txt too.

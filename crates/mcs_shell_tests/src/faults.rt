@@ -1,0 +1,157 @@
+//! Readers, writers and disks that fail, and input without end.
+ghost use Rattle.std.specs.Prelude.{Some};
+
+use crate::sessions::{ANSWERS, CutReader, SCRIPT, new_session, run, serve};
+use mcs_disk::{FuseDisk, MemDisk};
+use mcs_journal::{CreateFault, FILE_SIZE};
+use mcs_model::command::{Command, Place};
+use mcs_nibble::{Nibble, RegNo};
+use mcs_session::fault::SessionFault;
+use mcs_session::session::Session;
+use mcs_shell::ends::{ShellEnd, status};
+use mcs_shell::shell::run_shell;
+use std::alloc::Global;
+use std::io::{self, Read, Write};
+use std::test::Fail;
+
+/// Takes all bytes, but for so many writes that fail behind the first of them.
+#[derive(Drop)]
+struct CutWriter {
+    held: Vec<u8>,
+    left: usize,
+    failures: usize,
+}
+
+impl Write for CutWriter {
+    ghost contents = { λ w. Some w.held.items };
+
+    fn write(&mut self, buf: &[u8]) -> io::Result<usize> {
+        if self.left == 0 && 0 < self.failures {
+            self.failures -= 1;
+            return Err(io::ErrorKind::Other.into());
+        }
+        let count = if self.left == 0 {
+            buf.len()
+        } else {
+            self.left.min(buf.len())
+        };
+        self.held.extend_from_slice(&buf[..count])?;
+        self.left = self.left.saturating_sub(count);
+        Ok(count)
+    }
+
+    fn flush(&mut self) -> io::Result<()> {
+        Ok(())
+    }
+}
+
+/// Gives line feeds without end.
+#[derive(Drop)]
+struct EndlessReader;
+
+impl Read for EndlessReader {
+    fn read(&mut self, buf: &mut [u8]) -> io::Result<usize> {
+        buf.fill(b'\n');
+        Ok(buf.len())
+    }
+}
+
+/// How often a reader or a writer fails: a second try would find the first one well again.
+const FAILURES: [usize; 2] = [1, usize::MAX];
+
+#[test]
+fn the_reader_fails_after_each_count_of_bytes(rt: HostRuntime) -> Result<(), Fail> {
+    let alloc = rt.alloc();
+    for failures in FAILURES {
+        for left in 0..SCRIPT.len() + 1 {
+            let reader = CutReader {
+                bytes: SCRIPT,
+                left,
+                failures,
+            };
+            let (end, written) = run(alloc, reader)?;
+            assert_eq!(rt; end, ShellEnd::ReadFault);
+            assert_eq!(rt; status(end), 1);
+            // the lines end behind 10, 14 and 19 bytes, and their answers behind 15, 21 and all
+            let told = match left {
+                0..10 => 10,
+                10..14 => 15,
+                14..19 => 21,
+                _ => ANSWERS.len(),
+            };
+            assert_eq!(rt; Some(written.as_slice()), ANSWERS.get(..told));
+        }
+    }
+    Ok(())
+}
+
+#[test]
+fn the_writer_fails_after_each_count_of_bytes(rt: HostRuntime) -> Result<(), Fail> {
+    let alloc = rt.alloc();
+    for failures in FAILURES {
+        for left in 0..ANSWERS.len() {
+            let mut session = new_session(alloc)?;
+            let mut writer = CutWriter {
+                held: Vec::new(alloc),
+                left,
+                failures,
+            };
+            let mut reader = SCRIPT;
+            let end = run_shell(alloc, &mut reader, &mut writer, &mut session);
+            assert_eq!(rt; end, ShellEnd::WriteFault);
+            assert_eq!(rt; status(end), 1);
+            assert_eq!(rt; Some(writer.held.as_slice()), ANSWERS.get(..left));
+            let Ok(again) = Session::open(alloc, session.into_disk()) else {
+                return Err("not opened".into());
+            };
+            assert_eq!(rt; again.bench().seq() == 1, 10 <= left);
+        }
+    }
+    Ok(())
+}
+
+#[test]
+fn input_is_limited(rt: HostRuntime) -> Result<(), Fail> {
+    let alloc = rt.alloc();
+    let (end, written) = run(alloc, EndlessReader)?;
+    assert_eq!(rt; end, ShellEnd::InputLimit);
+    assert_eq!(rt; written.as_slice(), b"session 0\n".as_slice());
+    Ok(())
+}
+
+#[test]
+fn a_stop_at_each_call_of_the_disk(rt: HostRuntime) -> Result<(), Fail> {
+    let alloc = rt.alloc();
+    for calls in 0..14usize {
+        let disk = FuseDisk::after(MemDisk::new(alloc, FILE_SIZE)?, calls);
+        let mut session = match Session::create(alloc, disk) {
+            Ok(session) => session,
+            Err((fault, _)) => {
+                assert_eq!(rt; fault, CreateFault::Device);
+                assert_eq!(rt; calls < 5, true);
+                continue;
+            }
+        };
+        let mut reader = b"poke r5 9\npoke r5 9\n".as_slice();
+        let (end, _) = serve(alloc, &mut reader, &mut session);
+        assert_eq!(rt; end == ShellEnd::DeviceFault, calls < 13);
+        let poke = Command::Poke(Place::Register(RegNo::ZERO, Nibble::ONE));
+        assert_eq!(rt;
+            session.apply(&poke) == Err(SessionFault::Closed),
+            calls < 13
+        );
+        let mut disk = session.into_disk();
+        disk.mend();
+        let Ok(again) = Session::open(alloc, disk) else {
+            return Err("not opened".into());
+        };
+        // five calls made the session, and each command takes four, of which the last acknowledges it
+        let kept = match calls {
+            0..8 => 0,
+            8..12 => 1,
+            _ => 2,
+        };
+        assert_eq!(rt; again.bench().seq(), kept);
+    }
+    Ok(())
+}

@@ -1,0 +1,105 @@
+//! Sessions on disks in memory, and what they answer.
+ghost use Rattle.std.specs.Prelude.{Some};
+
+use mcs_disk::{Disk, MemDisk};
+use mcs_journal::FILE_SIZE;
+use mcs_session::session::Session;
+use mcs_shell::ends::ShellEnd;
+use mcs_shell::shell::run_shell;
+use std::alloc::{AllocError, Global};
+use std::io::{self, Read};
+use std::process::Abort;
+use std::test::Fail;
+
+/// Gives these bytes, but for so many reads that fail behind the first of them.
+#[derive(Drop)]
+pub(crate) struct CutReader<'a> {
+    pub(crate) bytes: &'a [u8],
+    pub(crate) left: usize,
+    pub(crate) failures: usize,
+}
+
+impl Read for CutReader<'_> {
+    ghost remaining = { λ r. Some r.bytes.now };
+
+    fn read(&mut self, buf: &mut [u8]) -> io::Result<usize> {
+        if self.left == 0 && 0 < self.failures {
+            self.failures -= 1;
+            return Err(io::ErrorKind::Other.into());
+        }
+        let most = if self.left == 0 {
+            buf.len()
+        } else {
+            self.left.min(buf.len())
+        };
+        let count = self.bytes.read(&mut buf[..most])?;
+        self.left = self.left.saturating_sub(count);
+        Ok(count)
+    }
+}
+
+pub(crate) const SCRIPT: &[u8] = b"poke r5 9\nseq\nregs\n";
+
+pub(crate) const ANSWERS: &[u8] =
+    b"session 0\nok 1\nseq 1\nacc 0 cy 0 pc 000 owed 0 dcl 0 test 1 r 0000090000000000 ret 000 000 000\n";
+
+/// A new session on a disk in memory.
+pub(crate) fn new_session(alloc: Global) -> Result<Session<MemDisk>, Fail> {
+    match Session::create(alloc, MemDisk::new(alloc, FILE_SIZE)?) {
+        Ok(session) => Ok(session),
+        Err(_) => Err("not made".into()),
+    }
+}
+
+/// What a session answers to what a reader gives, and how its shell ends.
+pub(crate) fn serve<R: Read, D: Disk + Drop>(
+    alloc: Global,
+    reader: &mut R,
+    session: &mut Session<D>,
+) -> (ShellEnd, Vec<u8>) {
+    let mut writer = Vec::new(alloc);
+    let end = run_shell(alloc, reader, &mut writer, session);
+    (end, writer)
+}
+
+/// What a new session answers to what a reader gives, and how its shell ends.
+pub(crate) fn run<R: Read + Drop>(
+    alloc: Global,
+    mut reader: R,
+) -> Result<(ShellEnd, Vec<u8>), Fail> {
+    let mut session = new_session(alloc)?;
+    Ok(serve(alloc, &mut reader, &mut session))
+}
+
+/// The pieces, one behind the other.
+fn joined(alloc: Global, pieces: &[&[u8]]) -> Result<Vec<u8>, AllocError> {
+    let mut bytes = Vec::new(alloc);
+    for piece in pieces {
+        bytes.extend_from_slice(piece)?;
+    }
+    Ok(bytes)
+}
+
+/// A new session answers the pieces of a script with these, and its shell comes to the end of input.
+pub(crate) fn expect_answers(
+    rt: &impl Abort,
+    alloc: Global,
+    script: &[&[u8]],
+    answers: &[&[u8]],
+) -> Result<(), Fail> {
+    let script = joined(alloc, script)?;
+    let wanted = joined(alloc, answers)?;
+    let (end, told) = run(alloc, script.as_slice())?;
+    assert_eq!(rt; end, ShellEnd::End);
+    assert_eq!(rt; told.as_slice(), wanted.as_slice());
+    Ok(())
+}
+
+/// All bytes of a disk.
+pub(crate) fn bytes_of<D: Disk>(alloc: Global, disk: &mut D) -> Result<Vec<u8>, Fail> {
+    let mut bytes = vec![in alloc; 0u8; disk.size()]?;
+    match disk.read(0, bytes.as_mut_slice()) {
+        Ok(()) => Ok(bytes),
+        Err(_) => Err("not read".into()),
+    }
+}
