@@ -26,6 +26,7 @@ pub fn turn(cpu: &mut Cpu, rig: &mut Rig<16, 8, 2, 40>, at: Addr, left: u32) -> 
     requires some { 0 < left }
     ensures turned { Turned left (record cpu.old { pc = at }, rig.old) (record cpu.new { pc = result.0 }, rig.new) result.1 }
     ensures owes { cpu.new.owed ≡ 1 → result.1 ≡ left }
+    ensures counter { cpu.new.pc ≡ cpu.old.pc }
 {
     cpu.turn(rig, at, left)
 }

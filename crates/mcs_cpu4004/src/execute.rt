@@ -380,6 +380,7 @@ pub fn execute<B: Bus>(regs: &mut Regs, bus: &mut B, op: Op, at: Addr) -> (Addr,
     ensures some { 0 < result.1 }
     ensures few { result.1 < 3 }
     ensures owed { regs.new.owed ≡ regs.old.owed }
+    ensures counter { regs.new.pc ≡ regs.old.pc }
     ensures dcl { regs.new.dcl < 8 }
 {
     instructions!(work_rows!(regs, bus, op, at))

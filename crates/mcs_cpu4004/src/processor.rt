@@ -96,6 +96,7 @@ impl Cpu {
         requires some { 0 < left }
         ensures turned { Turned left (record self.old { pc = at }, B.flat bus.old) (record self.new { pc = result.0 }, B.flat bus.new) result.1 }
         ensures owes { self.new.owed ≡ 1 → result.1 ≡ left }
+        ensures counter { self.new.pc ≡ self.old.pc }
     {
         let second = at.plus(1);
         match mcs_code::decode(bus.fetch(at), bus.fetch(second)) {
