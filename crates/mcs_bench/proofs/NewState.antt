@@ -7,12 +7,13 @@ use Rattle.mcs_model.specs.Bus.{zero_bus}
 use Rattle.mcs_model.specs.Flat.{new_flat, new_regs}
 use Rattle.mcs_bench.specs.States.{rows_of}
 
-pub new-state : (b : BoardParts) (rom ram status ram_ports rom_ports : List ℕ) (chains : ArrayVec (ArrayVec ℕ)) (keys breakpoints : ArrayVec ℕ) → b ≡ empty_parts → rom ≡ replicate 4096 0 → ram ≡ replicate 2048 0 → status ≡ replicate 512 0 → ram_ports ≡ replicate 32 0 → rom_ports ≡ replicate 16 0 → chains.items ≡ [] → keys.items ≡ [] → breakpoints.items ≡ []
+pub new-state : (b : BoardParts) (rom ram status ram_ports rom_ports : List ℕ) (chains : ArrayVec (ArrayVec ℕ)) (keys breakpoints watches : ArrayVec ℕ) → b ≡ empty_parts → rom ≡ replicate 4096 0 → ram ≡ replicate 2048 0 → status ≡ replicate 512 0 → ram_ports ≡ replicate 32 0 → rom_ports ≡ replicate 16 0 → chains.items ≡ [] → keys.items ≡ [] → breakpoints.items ≡ [] → watches.items ≡ []
     → record {
       processor = new_regs;
       bus = record { board = b; rom = rom; ram = ram; status = status; ram_ports = ram_ports; rom_ports = rom_ports; rom_src = 0; ram_src = replicate 8 0; chains = rows_of chains.items; keys = keys.items; test = 1 };
       breakpoints = breakpoints.items;
+      watches = watches.items;
       seq = 0;
     } ≡ new_flat
 unfolding zero_bus
-new-state b rom ram status ram_ports rom_ports chains keys breakpoints e0 e1 e2 e3 e4 e5 e6 e7 e8 = rw (e0, e1, e2, e3, e4, e5, e6, e7, e8) refl
+new-state b rom ram status ram_ports rom_ports chains keys breakpoints watches e0 e1 e2 e3 e4 e5 e6 e7 e8 e9 = rw (e0, e1, e2, e3, e4, e5, e6, e7, e8, e9) refl

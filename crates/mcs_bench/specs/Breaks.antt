@@ -1,5 +1,6 @@
 -- What a bench keeps beside its breakpoints, so that a run asks for one in constant time. (Our own choice.)
-use Rattle.std.specs.Prelude.{◌≡◌, ℕ, ◌<◌, Bool, false, List, length, slice_index_or}
+use Rattle.mcs_model.specs.declared.limits.TheConstants.{WATCHES}
+use Rattle.std.specs.Prelude.{◌≡◌, ℕ, ◌<◌, ◌≤◌, All, Bool, false, List, length, slice_index_or}
 use Rattle.std.specs.List.Sorted.{IsStrictlyIncreasing}
 use Rattle.mcs_model.specs.Breakpoints.{is_breakpoint}
 
@@ -8,3 +9,8 @@ pub record IsMarked (marks : List Bool) (breakpoints : List ℕ) : Type 0 where
   pub rising : IsStrictlyIncreasing breakpoints
   pub whole : length marks ≡ 4096
   pub at : (a : ℕ) → a < 4096 → slice_index_or marks a false ≡ is_breakpoint breakpoints a
+
+-- at most 8 places of RAM characters
+pub record AreFew (places : List ℕ) : Type 0 where
+  pub few : length places ≤ WATCHES
+  pub within : All (λ a. a < 2048) places

@@ -1,25 +1,54 @@
 -- What a run and a step of a bench answer.
-use Rattle.std.specs.Prelude.{◌≡◌, ℕ, ◌+◌, ◌<◌, ◌≤◌, false, Bool, None, List, []}
+use Rattle.std.specs.Prelude.{◌≡◌, ◌≢◌, ◌⊎◌, ℕ, ◌+◌, ◌-◌, ◌*◌, slice_index, ◌&&◌, ◌==◌, not, ◌<◌, ◌≤◌, true, false, Bool, Option, None, Some, List, [], if◌then◌else◌}
 use Rattle.mcs_model.specs.declared.command.Command.TheVariants.{Run}
+use Rattle.mcs_model.specs.declared.op.Op.{Op}
+use Rattle.mcs_model.specs.declared.op.Op.TheVariants.{Wrm}
 use Rattle.mcs_model.specs.declared.stop.Stop.{Stop}
+use Rattle.mcs_model.specs.declared.stop.Stop.TheVariants.{Breakpoint, Watched}
 use Rattle.mcs_model.specs.Command.{changed}
 use Rattle.mcs_model.specs.Flat.{Flat}
-use Rattle.mcs_model.specs.Running.{Machine, is_outside, cycled, at_break, stop_at, run_length, after_run, run_stop, step_length, after_step, step_stop}
+use Rattle.mcs_model.specs.Breakpoints.{is_breakpoint}
+use Rattle.mcs_model.specs.Bus.{src_of, after_ram}
+use Rattle.mcs_model.specs.Effect.{instruction_at}
+use Rattle.mcs_model.specs.Running.{Machine, Stops, is_outside, cycled, at_break, has_changed, stop_after, run_length, after_run, run_stop, step_length, after_step, step_stop}
+
+-- why a run stops behind a cycle, but for a code outside and its end
+abbrev pub mark_of : Bool → Bool → Option Stop
+mark_of broken changed = if broken then Some Breakpoint else if changed then Some Watched else None
+
+-- the same of the machine t after k cycles, the last one from s
+abbrev pub mark_at : Stops → ℕ → Machine → Machine → Option Stop
+mark_at stops k s t = mark_of (at_break stops.breaks k t) (has_changed stops.watches s t)
 
 -- a run of at most n cycles from s, which did k of them and came to t: no reason to stop was passed, and it stopped at a
--- breakpoint, at its end, or where no cycle can follow
-pub record RanOn (breaks : List ℕ) (n : ℕ) (s t : Machine) (k : ℕ) (marked : Bool) : Type 0 where
+-- breakpoint, behind a change of a watched character, at its end, or where no cycle can follow
+pub record RanOn (stops : Stops) (n : ℕ) (s t : Machine) (k : ℕ) (mark : Option Stop) : Type 0 where
   pub machine : t ≡ cycled k s
   pub within : k ≤ n
-  pub passed : (j : ℕ) → j < k → stop_at breaks n j (cycled j s) ≡ None
-  pub mark : at_break breaks k t ≡ marked
-  pub unmarked : marked ≡ false → is_outside t ≡ false → k ≡ n
+  pub passed : (j : ℕ) → j < k → stop_after stops n s j ≡ None
+  pub found : mark_at stops k (cycled (k - 1) s) t ≡ mark
+  pub unmarked : mark ≡ None → is_outside t ≡ false → k ≡ n
+
+-- the place of the selected character
+abbrev pub selected : Machine → ℕ
+selected t = t.0.dcl * 256 + src_of t.1 t.0.dcl
+
+-- whether the instruction at the counter gives the selected character another value, where that is watched
+abbrev pub WillChange : List ℕ → Machine → Bool → Type 0
+WillChange watches t b =
+    ((instruction_at t.0 t.1 ≢ Some Wrm) × (b ≡ false))
+    ⊎ ((instruction_at t.0 t.1 ≡ Some Wrm) × (b ≡ (is_breakpoint watches (selected t) && not (slice_index t.1.ram (selected t) == slice_index (after_ram t.1 t.0.dcl t.0.acc).ram (selected t)))))
+
+-- whether a watched character changed in the last of the d cycles of an instruction from t on; none did before
+pub record Seen (watches : List ℕ) (t : Machine) (d : ℕ) (changed : Bool) : Type 0 where
+  pub before : (j : ℕ) → 0 < j → j < d → has_changed watches (cycled (j - 1) t) (cycled j t) ≡ false
+  pub last : 0 < d → has_changed watches (cycled (d - 1) t) (cycled d t) ≡ changed
 
 -- a run of at most n cycles from s: what it answers, and where it comes to
-pub record RanTo (breaks : List ℕ) (n : ℕ) (s t : Machine) (k : ℕ) (why : Stop) : Type 0 where
-  pub cycles : k ≡ run_length breaks n s
-  pub machine : t ≡ after_run breaks n s
-  pub stop : why ≡ run_stop breaks n s
+pub record RanTo (stops : Stops) (n : ℕ) (s t : Machine) (k : ℕ) (why : Stop) : Type 0 where
+  pub cycles : k ≡ run_length stops n s
+  pub machine : t ≡ after_run stops n s
+  pub stop : why ≡ run_stop stops n s
 
 -- a step from s
 pub record SteppedTo (s t : Machine) (k : ℕ) (why : Stop) : Type 0 where
@@ -27,6 +56,6 @@ pub record SteppedTo (s t : Machine) (k : ℕ) (why : Stop) : Type 0 where
   pub machine : t ≡ after_step s
   pub stop : why ≡ step_stop s
 
--- where no breakpoint is set, two runs come to the state that one run of all their cycles comes to
+-- where no breakpoint is set and nothing is watched, two runs come to the state that one run of all their cycles comes to
 abbrev pub RunsAddUp : Type 0
-RunsAddUp = (s : Flat) (a b : ℕ) → s.breakpoints ≡ [] → changed (changed s (Run a)) (Run b) ≡ changed s (Run (a + b))
+RunsAddUp = (s : Flat) (a b : ℕ) → s.breakpoints ≡ [] → s.watches ≡ [] → changed (changed s (Run a)) (Run b) ≡ changed s (Run (a + b))

@@ -25,5 +25,6 @@ state_of f = record {
     test = f.test;
   };
   breakpoints = f.breakpoints.items;
+  watches = f.watches.items;
   seq = f.seq;
 }

@@ -3,7 +3,8 @@ ghost use Rattle.std.specs.Prelude.{◌≡◌, IfOk};
 ghost use Rattle.mcs_model.specs.Flat.{new_flat};
 
 use crate::breaks::Breaks;
-use crate::running::BenchRig;
+use crate::watches::Watches;
+use mcs_board::BenchRig;
 use mcs_cpu4004::Cpu;
 use std::alloc::{AllocError, Global};
 use std::marker::Model;
@@ -14,6 +15,7 @@ pub struct Bench {
     pub(crate) rig: BenchRig,
     pub(crate) cpu: Cpu,
     pub(crate) breaks: Breaks,
+    pub(crate) watches: Watches,
     pub(crate) seq: u32,
 }
 
@@ -22,7 +24,7 @@ impl Model for Bench {
 
     ghost Value = { Flat };
 
-    ghost view = { λ b. record { processor = b.cpu; bus = b.rig; breakpoints = b.breaks; seq = b.seq } };
+    ghost view = { λ b. record { processor = b.cpu; bus = b.rig; breakpoints = b.breaks; watches = b.watches; seq = b.seq } };
 }
 
 impl Bench {
@@ -38,6 +40,7 @@ impl Bench {
             rig: BenchRig::new(alloc)?,
             cpu: Cpu::new(),
             breaks: Breaks::new(),
+            watches: Watches::new(),
             seq: 0,
         })
     }

@@ -6,8 +6,8 @@ ghost use Rattle.mcs_model.specs.Places.{with_rom_bytes};
 ghost use Rattle.mcs_model.specs.Command.{refusal, own_refusal, place_refusal, lacks_rom, after, changed, reply, with_place};
 
 use crate::bench::Bench;
-use crate::running::{BenchRig, run, step};
-use mcs_board::every_board_fits_the_bench;
+use crate::running::{run, step};
+use mcs_board::{BenchRig, every_board_fits_the_bench};
 use mcs_cpu4004::Cpu;
 use mcs_model::board::Board;
 use mcs_model::command::{Command, Place, Reply};
@@ -91,11 +91,15 @@ impl Bench {
             Command::Run(n) => unless(1 <= *n && *n <= RUN_CYCLES, BenchFault::BadCount),
             Command::Poke(place) => self.place_fault(*place),
             Command::Break(at) => unless(self.breaks.has_room_for(*at), BenchFault::BreaksFull),
+            Command::Watch(bank, src) => {
+                unless(self.watches.has_room_for(bank.get(), *src), BenchFault::WatchesFull)
+            }
             Command::Wire(_)
             | Command::Step
             | Command::Test(_)
             | Command::Reset
-            | Command::Unbreak(_) => None,
+            | Command::Unbreak(_)
+            | Command::Unwatch(_, _) => None,
         }
     }
 
@@ -165,7 +169,7 @@ impl Bench {
         ensures state { self.new ≡ changed self.old (Command.Run n) }
         ensures reply { result ≡ reply self.old (Command.Run n) }
     {
-        let (cycles, stop) = run(&mut self.cpu, &mut self.rig, &self.breaks, n);
+        let (cycles, stop) = run(&mut self.cpu, &mut self.rig, &self.breaks, &self.watches, n);
         Reply::Ran { cycles, stop }
     }
 
@@ -196,6 +200,8 @@ impl Bench {
             Command::Reset => self.reset(),
             Command::Break(at) => self.breaks.set(*at),
             Command::Unbreak(at) => self.breaks.clear(*at),
+            Command::Watch(bank, src) => self.watches.set(bank.get(), *src),
+            Command::Unwatch(bank, src) => self.watches.clear(bank.get(), *src),
         }
         Reply::Done
     }

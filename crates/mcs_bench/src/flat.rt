@@ -5,7 +5,7 @@ ghost use Rattle.mcs_bench.specs.States.{state_of};
 
 use arrayvec::ArrayVec;
 use mcs_model::board::Board;
-use mcs_model::limits::{BREAKPOINTS, CHAINS};
+use mcs_model::limits::{BREAKPOINTS, CHAIN_PLACES, CHAINS, KEYS, WATCHES};
 use std::alloc::{AllocError, Global};
 use std::marker::Model;
 
@@ -100,13 +100,15 @@ pub struct Flat {
     /// How many idle cycles are owed, 0 or 1.
     pub owed: u8,
     /// The bits of each chain of the board, bit 0 first.
-    pub chains: ArrayVec<ArrayVec<u8, 40>, CHAINS>,
+    pub chains: ArrayVec<ArrayVec<u8, CHAIN_PLACES>, CHAINS>,
     /// The keys of the board, row by row: 1 where one is down.
-    pub keys: ArrayVec<u8, 80>,
+    pub keys: ArrayVec<u8, KEYS>,
     /// The level of the TEST pin, a bit.
     pub test: u8,
     /// The breakpoints, addresses, rising.
     pub breakpoints: ArrayVec<u16, BREAKPOINTS>,
+    /// The watched RAM characters, each as bank * 256 + SRC byte, rising.
+    pub watches: ArrayVec<u16, WATCHES>,
 }
 
 impl Flat {
@@ -139,6 +141,7 @@ impl Flat {
             keys: ArrayVec::new(),
             test: 1,
             breakpoints: ArrayVec::new(),
+            watches: ArrayVec::new(),
         })
     }
 }

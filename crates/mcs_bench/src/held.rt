@@ -3,7 +3,7 @@ ghost use Rattle.std.specs.Prelude.{◌≡◌, ℕ, ◌<◌, ◌↔◌, true, Is
 ghost use Rattle.mcs_model.specs.Validity.{AreBelow};
 ghost use Rattle.mcs_bench.specs.Held.{count_of, limit_of, is_absent, with_list, with_number};
 
-use crate::running::BenchRig;
+use mcs_board::BenchRig;
 use mcs_model::board::Board;
 use mcs_nibble::{Addr, Nibble};
 

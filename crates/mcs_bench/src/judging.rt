@@ -3,7 +3,7 @@ ghost use Rattle.std.specs.Prelude.{◌≡◌, ◌<◌, ◌≤◌, ◌↔◌, �
 ghost use Rattle.std.specs.List.Sorted.{IsStrictlyIncreasing};
 ghost use Rattle.mcs_nibble.specs.Ports.{latch_value};
 ghost use Rattle.mcs_model.specs.Boards.{masks_on, chain_count, chain_bits, key_count};
-ghost use Rattle.mcs_model.specs.Validity.{AreBelow, AreBreakpoints, IsAbsentZero, IsInRange, IsValid, IsValidBus, IsValidRegs};
+ghost use Rattle.mcs_model.specs.Validity.{AreBelow, AreBreakpoints, AreWatches, IsAbsentZero, IsInRange, IsValid, IsValidBus, IsValidRegs};
 ghost use Rattle.mcs_bench.specs.Held.{IsZeroWhereAbsent};
 ghost use Rattle.mcs_bench.specs.States.{state_of, rows_of};
 
@@ -11,6 +11,7 @@ use crate::flat::Flat;
 use crate::held::{Held, is_absent_zero};
 use arrayvec::ArrayVec;
 use mcs_model::board::Board;
+use mcs_model::limits::CHAIN_PLACES;
 use mcs_nibble::Nibble;
 use mcs_rom4001::held_port;
 
@@ -43,12 +44,12 @@ fn are_eight(numbers: &[u8; 8])
     let _numbers = numbers.as_slice();
 }
 
-/// Whether all are addresses.
-fn are_addresses(numbers: &[u16]) -> bool
-    ensures { IsTrue result ↔ All (λ a. a < 4096) numbers.now }
+/// Whether all are below a limit.
+fn are_numbers_below(numbers: &[u16], limit: u16) -> bool
+    ensures { IsTrue result ↔ All (λ a. a < limit) numbers.now }
 {
     for n in numbers {
-        if *n >= 4096 {
+        if *n >= limit {
             return false;
         }
     }
@@ -79,7 +80,7 @@ fn key_count(board: &Board) -> usize
 }
 
 /// Whether there are so many bits for each chain of a board.
-fn are_chains(board: &Board, rows: &[ArrayVec<u8, 40>]) -> bool
+fn are_chains(board: &Board, rows: &[ArrayVec<u8, CHAIN_PLACES>]) -> bool
     ensures { IsTrue result ↔ ((length rows.now ≡ chain_count board.now) × ((i : ℕ) → i < chain_count board.now → AreBelow (chain_bits board.now i) 2 (slice_index_or (rows_of rows.now) i []))) }
 {
     if rows.len() != board.chain_count() {
@@ -131,7 +132,7 @@ impl Flat {
         if !are_below(&self.r, 16, 16) {
             return false;
         }
-        are_addresses(&self.ret)
+        are_numbers_below(&self.ret, 4096)
     }
 
     /// Whether the lists of the chips have their lengths, and numbers of their kinds.
@@ -225,10 +226,21 @@ impl Flat {
         ensures { IsTrue result ↔ AreBreakpoints self.now.breakpoints.items }
     {
         let breakpoints = self.breakpoints.as_slice();
-        if !are_addresses(breakpoints) {
+        if !are_numbers_below(breakpoints, 4096) {
             return false;
         }
         is_rising(breakpoints)
+    }
+
+    /// Whether the watches are places of RAM characters, rising.
+    fn has_valid_watches(&self) -> bool
+        ensures { IsTrue result ↔ AreWatches self.now.watches.items }
+    {
+        let watches = self.watches.as_slice();
+        if !are_numbers_below(watches, 2048) {
+            return false;
+        }
+        is_rising(watches)
     }
 
     /// Whether a bench can be in this state.
@@ -242,6 +254,9 @@ impl Flat {
         if !self.has_valid_bus() {
             return false;
         }
-        self.has_valid_breakpoints()
+        if !self.has_valid_breakpoints() {
+            return false;
+        }
+        self.has_valid_watches()
     }
 }

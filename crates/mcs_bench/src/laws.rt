@@ -53,5 +53,6 @@ impl Bench {
         registers_are_valid(self.cpu.regs());
         self.rig.state_is_valid();
         self.breaks.state_is_valid();
+        self.watches.state_is_valid();
     }
 }

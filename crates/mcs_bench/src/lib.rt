@@ -14,6 +14,7 @@ mod laws;
 mod reading;
 mod restoring;
 mod running;
+mod watches;
 
 pub use bench::Bench;
 pub use flat::{Cells, Flat};

@@ -2,8 +2,9 @@
 ghost use Rattle.std.specs.Prelude.{◌≡◌, ◌+◌, ◌*◌, ◌<◌, ◌≤◌, true, IfOk, length, option_map, slice_get, slice_index};
 ghost use Rattle.std.specs.List.Sorted.{IsStrictlyIncreasing};
 ghost use Rattle.mcs_model.specs.Boards.{has_key, key_place};
-ghost use Rattle.mcs_model.specs.Levels.{chain_bit, level};
+ghost use Rattle.mcs_model.specs.Levels.{chain_bit, level, port_at};
 ghost use Rattle.mcs_model.specs.Places.{status_at};
+ghost use Rattle.mcs_model.specs.Validity.{AreWatches};
 
 use crate::bench::Bench;
 use mcs_model::board::Board;
@@ -97,6 +98,13 @@ impl Bench {
         self.rig.rom_latch(chip)
     }
 
+    /// What is read at the port of a ROM now; 0 where it is absent.
+    pub fn read_port(&self, chip: Nibble) -> Nibble
+        ensures { result ≡ port_at self.now.bus chip }
+    {
+        self.rig.read_port(chip)
+    }
+
     /// The SRC byte that the ROMs keep.
     pub fn rom_src(&self) -> u8
         ensures { result ≡ self.now.bus.rom_src }
@@ -148,5 +156,13 @@ impl Bench {
         ensures rising { IsStrictlyIncreasing result.now }
     {
         self.breaks.list()
+    }
+
+    /// The watched RAM characters, each as bank * 256 + SRC byte, rising.
+    pub fn watches(&self) -> &[Addr]
+        ensures same { result.now ≡ self.now.watches }
+        ensures valid { AreWatches result.now }
+    {
+        self.watches.list()
     }
 }

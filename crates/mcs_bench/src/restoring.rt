@@ -2,7 +2,7 @@
 ghost use Rattle.std.specs.Prelude.{◌≡◌, ◌<◌, ◌≤◌, ℕ, All, IfOk, MatchOption, length, slice_index, slice_index_or, slice_set, []};
 ghost use Rattle.mcs_nibble.specs.Ports.{latch_value};
 ghost use Rattle.mcs_model.specs.Boards.{masks_on, chain_count, chain_bits, key_count};
-ghost use Rattle.mcs_model.specs.Validity.{AreBelow, AreBreakpoints, IsValid, IsValidBus, IsValidRegs};
+ghost use Rattle.mcs_model.specs.Validity.{AreBelow, AreBreakpoints, AreWatches, IsValid, IsValidBus, IsValidRegs};
 ghost use Rattle.mcs_bench.specs.Held.{IsKeyAt};
 ghost use Rattle.mcs_bench.specs.States.{state_of, rows_of};
 
@@ -10,11 +10,12 @@ use crate::bench::Bench;
 use crate::breaks::Breaks;
 use crate::flat::Flat;
 use crate::held::{Held, fill};
-use crate::running::BenchRig;
+use crate::watches::Watches;
 use arrayvec::ArrayVec;
-use mcs_board::every_board_fits_the_bench;
+use mcs_board::{BenchRig, every_board_fits_the_bench};
 use mcs_cpu4004::Cpu;
 use mcs_model::board::Board;
+use mcs_model::limits::{CHAIN_PLACES, KEYS};
 use mcs_nibble::{Addr, Bit, Nibble};
 use std::alloc::{AllocError, Global};
 
@@ -83,7 +84,7 @@ fn fill_chain(rig: &mut BenchRig, chain: u8, bits: &[u8])
 }
 
 /// Sets all bits of all chains.
-fn fill_chains(rig: &mut BenchRig, rows: &[ArrayVec<u8, 40>])
+fn fill_chains(rig: &mut BenchRig, rows: &[ArrayVec<u8, CHAIN_PLACES>])
     requires count { length rows.now ≡ chain_count rig.old.board }
     requires fit { (i : ℕ) → i < chain_count rig.old.board → AreBelow (chain_bits rig.old.board i) 2 (slice_index_or (rows_of rows.now) i []) }
     ensures { rig.new ≡ record rig.old { chains = rows_of rows.now } }
@@ -106,7 +107,7 @@ fn columns_of(board: &Board) -> usize
 
 /// Sets all keys.
 fn fill_keys(rig: &mut BenchRig, keys: &[u8])
-    requires few { length keys.now ≤ 80 }
+    requires few { length keys.now ≤ KEYS }
     requires fit { AreBelow (key_count rig.old.board) 2 keys.now }
     ensures { rig.new ≡ record rig.old { keys = keys.now } }
 {
@@ -131,6 +132,18 @@ fn breakpoints(list: &[u16]) -> Breaks
         breaks.set(Addr::ZERO.plus(*at));
     }
     breaks
+}
+
+/// The watches of a list.
+fn watches(list: &[u16]) -> Watches
+    requires { AreWatches list.now }
+    ensures { result ≡ list.now }
+{
+    let mut watches = Watches::new();
+    for at in list {
+        watches.set((*at / 256) as u8, (*at % 256) as u8);
+    }
+    watches
 }
 
 /// Puts a rig on the board of a state, and sets all that its chips hold.
@@ -166,6 +179,7 @@ impl Bench {
         restore_rig(&mut bench.rig, flat);
         bench.cpu = processor(flat);
         bench.breaks = breakpoints(flat.breakpoints.as_slice());
+        bench.watches = watches(flat.watches.as_slice());
         bench.seq = flat.seq;
         Ok(bench)
     }

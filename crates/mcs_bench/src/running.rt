@@ -1,18 +1,17 @@
 //! Runs and steps of a processor over a rig of the bench's size.
-ghost use Rattle.std.specs.Prelude.{◌≡◌, ◌&&◌, ◌==◌, not, unwrap_or};
-ghost use Rattle.mcs_model.specs.Effect.{cycle_of};
-ghost use Rattle.mcs_model.specs.Running.{is_outside};
+ghost use Rattle.std.specs.Prelude.{◌≡◌, ◌≢◌, ◌<◌, ◌*◌, ◌+◌, ◌&&◌, ◌==◌, not, unwrap_or, true, false, [], Some, MatchOption, slice_index};
+ghost use Rattle.mcs_model.specs.Bus.{src_of};
+ghost use Rattle.mcs_model.specs.Effect.{cycle_of, instruction_at};
+ghost use Rattle.mcs_model.specs.Running.{Turned, is_outside};
 ghost use Rattle.mcs_model.specs.Breakpoints.{is_breakpoint};
-ghost use Rattle.mcs_bench.specs.Runs.{RanOn, RanTo, SteppedTo};
+ghost use Rattle.mcs_bench.specs.Runs.{RanOn, RanTo, Seen, SteppedTo, WillChange, mark_of};
 
 use crate::breaks::Breaks;
-use mcs_board::Rig;
+use crate::watches::Watches;
+use mcs_board::BenchRig;
 use mcs_cpu4004::{Cpu, Cycle};
 use mcs_model::stop::Stop;
 use mcs_nibble::Addr;
-
-/// A rig that every board fits.
-pub(crate) type BenchRig = Rig<16, 8, 2, 40>;
 
 /// Whether no cycle can follow.
 fn is_outside(cpu: &Cpu, rig: &BenchRig) -> bool
@@ -21,19 +20,81 @@ fn is_outside(cpu: &Cpu, rig: &BenchRig) -> bool
     cpu.is_outside(rig)
 }
 
-/// Whether a processor whose counter is at an address is between instructions at a breakpoint.
+/// Why a run stops behind a cycle, where the processor's counter is at an address, but for a code outside and its end.
 #[inline(always)]
-fn is_at_break(cpu: &Cpu, at: Addr, breaks: &Breaks) -> bool
-    ensures { result ≡ (cpu.now.owed == 0 && is_breakpoint breaks.now at) }
+fn mark_at(cpu: &Cpu, at: Addr, breaks: &Breaks, changed: bool) -> Option<Stop>
+    ensures { result ≡ mark_of (cpu.now.owed == 0 && is_breakpoint breaks.now at) changed }
 {
-    breaks.contains(at) && cpu.regs().owed == 0
+    if breaks.contains(at) && cpu.regs().owed == 0 {
+        Some(Stop::Breakpoint)
+    } else if changed {
+        Some(Stop::Watched)
+    } else {
+        None
+    }
 }
 
-/// Runs for at most `n` cycles, up to the first breakpoint: how many cycles it did, the address that it came to, and
-/// whether that is a breakpoint. The counter itself stays as it is.
+/// The code of WRM, the one instruction that writes a RAM character.
+const WRM: u8 = 0xE0;
+
+/// Whether the instruction at an address will give a watched character another value.
 #[inline(always)]
-fn run_loop(cpu: &mut Cpu, rig: &mut BenchRig, breaks: &Breaks, n: u32) -> (u32, Addr, bool)
-    ensures { RanOn breaks.now n (cpu.old, rig.old) (record cpu.new { pc = result.1 }, rig.new) result.0 result.2 }
+fn will_change(cpu: &Cpu, rig: &BenchRig, watches: &Watches, at: Addr) -> bool
+    ensures { WillChange watches.now (record cpu.now { pc = at }, rig.now) result }
+{
+    rig.state_is_valid();
+    if rig.rom_byte(at) != WRM {
+        return false;
+    }
+    let regs = cpu.regs();
+    let bank = regs.dcl;
+    let src = rig.ram_src(bank);
+    if !watches.contains(bank, src) {
+        return false;
+    }
+    if rig.ram(bank, src) == regs.acc {
+        return false;
+    }
+    src / 64 < rig.board().bank_chips(bank)
+}
+
+/// The cycles of the instruction at an address, at most `left` of them, and whether a watched character has changed.
+#[inline(always)]
+fn turn<const WATCHED: bool>(
+    cpu: &mut Cpu,
+    rig: &mut BenchRig,
+    watches: &Watches,
+    at: Addr,
+    left: u32,
+) -> (Addr, u32, bool)
+    requires free { cpu.old.owed ≢ 1 }
+    requires some { 0 < left }
+    requires watched { WATCHED ≡ false → watches.now ≡ [] }
+    ensures turned { Turned left (record cpu.old { pc = at }, rig.old) (record cpu.new { pc = result.0 }, rig.new) result.1 }
+    ensures owes { cpu.new.owed ≡ 1 → result.1 ≡ left }
+    ensures seen { Seen watches.now (record cpu.old { pc = at }, rig.old) result.1 result.2 }
+{
+    if !WATCHED {
+        let (next, cycles) = mcs_board::turn(cpu, rig, at, left);
+        return (next, cycles, false);
+    }
+    let changed = will_change(cpu, rig, watches, at);
+    let (next, cycles) = mcs_board::turn(cpu, rig, at, left);
+    (next, cycles, changed)
+}
+
+/// Runs for at most `n` cycles, up to the first breakpoint or change of a watched character: how many cycles it did, the
+/// address that it came to, and which of these stopped it. The counter itself stays as it is.
+#[inline(always)]
+fn run_loop<const WATCHED: bool>(
+    cpu: &mut Cpu,
+    rig: &mut BenchRig,
+    breaks: &Breaks,
+    watches: &Watches,
+    n: u32,
+) -> (u32, Addr, Option<Stop>)
+    requires { WATCHED ≡ false → watches.now ≡ [] }
+    ensures { RanOn (record { breaks = breaks.now; watches = watches.now }) n (cpu.old, rig.old) (record cpu.new { pc = result.1 }, rig.new) result.0 result.2 }
 {
     let mut at = cpu.regs().pc;
     let mut left = n;
@@ -42,48 +103,79 @@ fn run_loop(cpu: &mut Cpu, rig: &mut BenchRig, breaks: &Breaks, n: u32) -> (u32,
     if n > 0 && cpu.regs().owed == 1 {
         cpu.set_owed(0);
         left = n - 1;
-        if is_at_break(cpu, at, breaks) {
-            return (1, at, true);
+        if let Some(why) = mark_at(cpu, at, breaks, false) {
+            return (1, at, Some(why));
         }
     }
     while left > 0 {
-        let (next, cycles) = mcs_board::turn(cpu, rig, at, left);
+        let (next, cycles, changed) = turn::<WATCHED>(cpu, rig, watches, at, left);
         if cycles == 0 {
-            return (n - left, next, false);
+            return (n - left, next, None);
         }
         at = next;
         left -= cycles;
-        if is_at_break(cpu, at, breaks) {
-            return (n - left, at, true);
+        if let Some(why) = mark_at(cpu, at, breaks, changed) {
+            return (n - left, at, Some(why));
         }
     }
-    (n, at, false)
+    (n, at, None)
 }
 
-/// Runs for at most `n` cycles, up to the first breakpoint: how many cycles it did, and whether it is at a breakpoint.
+/// Runs for at most `n` cycles, up to the first breakpoint or change of a watched character: how many cycles it did, and
+/// which of these stopped it.
 #[inline(always)]
-fn run_on(cpu: &mut Cpu, rig: &mut BenchRig, breaks: &Breaks, n: u32) -> (u32, bool)
-    ensures { RanOn breaks.now n (cpu.old, rig.old) (cpu.new, rig.new) result.0 result.1 }
+fn run_on<const WATCHED: bool>(
+    cpu: &mut Cpu,
+    rig: &mut BenchRig,
+    breaks: &Breaks,
+    watches: &Watches,
+    n: u32,
+) -> (u32, Option<Stop>)
+    requires { WATCHED ≡ false → watches.now ≡ [] }
+    ensures { RanOn (record { breaks = breaks.now; watches = watches.now }) n (cpu.old, rig.old) (cpu.new, rig.new) result.0 result.1 }
 {
     // A copy that nothing else can reach: its registers need not go through memory at each cycle.
     let mut running = *cpu;
-    let (cycles, at, at_break) = run_loop(&mut running, rig, breaks, n);
+    let (cycles, at, mark) = run_loop::<WATCHED>(&mut running, rig, breaks, watches, n);
     running.set_pc(at);
     *cpu = running;
-    (cycles, at_break)
+    (cycles, mark)
+}
+
+/// The same, by the loop that looks at no character where none is watched.
+fn run_by(
+    cpu: &mut Cpu,
+    rig: &mut BenchRig,
+    breaks: &Breaks,
+    watches: &Watches,
+    n: u32,
+) -> (u32, Option<Stop>)
+    ensures { RanOn (record { breaks = breaks.now; watches = watches.now }) n (cpu.old, rig.old) (cpu.new, rig.new) result.0 result.1 }
+{
+    if watches.is_empty() {
+        run_on::<false>(cpu, rig, breaks, watches, n)
+    } else {
+        run_on::<true>(cpu, rig, breaks, watches, n)
+    }
 }
 
 /// A run of at most `n` cycles: how many it did, and why it stopped.
-pub(crate) fn run(cpu: &mut Cpu, rig: &mut BenchRig, breaks: &Breaks, n: u32) -> (u32, Stop)
-    ensures { RanTo breaks.now n (cpu.old, rig.old) (cpu.new, rig.new) result.0 result.1 }
+pub(crate) fn run(
+    cpu: &mut Cpu,
+    rig: &mut BenchRig,
+    breaks: &Breaks,
+    watches: &Watches,
+    n: u32,
+) -> (u32, Stop)
+    ensures { RanTo (record { breaks = breaks.now; watches = watches.now }) n (cpu.old, rig.old) (cpu.new, rig.new) result.0 result.1 }
 {
-    let (cycles, at_break) = run_on(cpu, rig, breaks, n);
+    let (cycles, mark) = run_by(cpu, rig, breaks, watches, n);
     if is_outside(cpu, rig) {
-        (cycles, Stop::Outside)
-    } else if at_break {
-        (cycles, Stop::Breakpoint)
-    } else {
-        (cycles, Stop::Ended)
+        return (cycles, Stop::Outside);
+    }
+    match mark {
+        Some(why) => (cycles, why),
+        None => (cycles, Stop::Ended),
     }
 }
 

@@ -9,7 +9,7 @@ use Rattle.mcs_model.specs.declared.board.BoardParts.{BoardParts}
 use Rattle.mcs_model.specs.declared.board.KeyMatrix.{KeyMatrix}
 use Rattle.mcs_model.specs.Boards.{fault_of, masks_on, chain_count, chain_bits}
 use Rattle.mcs_model.specs.Bus.{BusState}
-use Rattle.mcs_model.specs.Levels.{keyed, pulled, bit_when, port_of}
+use Rattle.mcs_model.specs.Levels.{keyed, pulled, bit_when, port_at}
 use Rattle.mcs_board.specs.RigState.{RigParts, rig_of, matrix_on}
 use Rattle.mcs_board.proofs.BoardLemmas.{keys-chain, keys-rows}
 use Rattle.mcs_board.proofs.ClockLemmas.{chain-read}
@@ -92,10 +92,10 @@ read-inputs f mask h =
       picked (mask_at mask 3) (bit_of (nibble_of f) 3) (f 3) (bit-nibble f 3 (omega arith) h),
     ) refl
 
-pub port-some : (s : BusState) (mask : List LineMask) → masks_on s.board (s.rom_src / 16) ≡ Some mask → read_lines (λ k. bit_when (keyed s (s.rom_src / 16) k)) mask ≡ port_of s
-unfolding port_of
-port-some s mask is = rw (is, port_of) refl
+pub port-some : (s : BusState) (chip : ℕ) (mask : List LineMask) → masks_on s.board chip ≡ Some mask → read_lines (λ k. bit_when (keyed s chip k)) mask ≡ port_at s chip
+unfolding port_at
+port-some s chip mask is = rw (is, port_at) refl
 
-pub port-none : (s : BusState) → masks_on s.board (s.rom_src / 16) ≡ None → 0 ≡ port_of s
-unfolding port_of
-port-none s is = rw (is, port_of) refl
+pub port-none : (s : BusState) (chip : ℕ) → masks_on s.board chip ≡ None → 0 ≡ port_at s chip
+unfolding port_at
+port-none s chip is = rw (is, port_at) refl

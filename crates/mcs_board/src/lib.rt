@@ -5,10 +5,10 @@
 //! Source: Intel MCS-4 Users Manual, the chips; what it leaves open is said beside the definitions in `mcs_model`.
 #![tactic(auto)]
 
+mod bench_rig;
 mod bus;
 mod chips;
 mod clocks;
-mod cycling;
 mod fields;
 mod keys;
 mod lamps;
@@ -16,6 +16,5 @@ mod making;
 mod places;
 mod rig;
 
-pub use cycling::{cycle, turn};
-pub use making::every_board_fits_the_bench;
+pub use bench_rig::{BenchRig, cycle, every_board_fits_the_bench, turn};
 pub use rig::Rig;

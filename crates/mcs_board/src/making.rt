@@ -24,13 +24,6 @@ const MOST_BITS: usize = isize::MAX as usize / 4;
 /// How many addresses the ROMs have.
 const ADDRESSES: usize = 4096;
 
-/// A law: every board fits 16 ROMs, 8 banks, and 2 chains of 40 bits.
-pub fn every_board_fits_the_bench(board: &Board)
-    ensures { FitsCounts board.now 16 8 2 40 }
-{
-    let _parts = board.parts();
-}
-
 impl<const ROMS: usize, const BANKS: usize, const CHAINS: usize, const MAX: usize> Rig<
     ROMS,
     BANKS,

@@ -8,6 +8,7 @@ use Rattle.mcs_model.specs.declared.board.KeyMatrix.{KeyMatrix}
 use Rattle.mcs_model.specs.declared.board.Line.{Line}
 use Rattle.mcs_model.specs.declared.board.Line.TheVariants.{Rom, Ram, Chain}
 use Rattle.mcs_model.specs.declared.board.BoardFault.{BoardFault}
+use Rattle.mcs_model.specs.declared.limits.TheConstants.{CHAINS}
 use Rattle.mcs_model.specs.Boards.{fault_of}
 use Rattle.mcs_codec.specs.Reading.{giving, four_at}
 use Rattle.mcs_model.specs.Validity.{IsValidBoard}
@@ -122,7 +123,7 @@ rom_made (a, (b, (c, d))) r h e =
           let mb = bind_some (mask_of b) _ r ma.2 in
           let mc = bind_some (mask_of c) _ r mb.2 in
           let md = bind_some (mask_of d) _ r mc.2 in
-          let some : Option (List LineMask) = Some (ma.0 ∷ mb.0 ∷ mc.0 ∷ md.0 ∷ []) in
+          let some : Option (List LineMask) = Some (md.0 ∷ mc.0 ∷ mb.0 ∷ ma.0 ∷ []) in
           let same : some ≡ r = let i = md.2 in cc in
           subst (λ (v : Option (List LineMask)). (rom_text v ≡ a ∷ b ∷ c ∷ d ∷ []) × IsMask v) same
           (rw (mask_is a ma.0 ma.1, mask_is b mb.0 mb.1, mask_is c mc.0 mc.1, mask_is d md.0 md.1) refl, refl)
@@ -135,7 +136,7 @@ rom_unmade (Some (a ∷ [])) h = absurd cc
 rom_unmade (Some (a ∷ b ∷ [])) h = absurd cc
 rom_unmade (Some (a ∷ b ∷ c ∷ [])) h = absurd cc
 rom_unmade (Some (a ∷ b ∷ c ∷ d ∷ [])) h =
-    ((mask_byte a, (mask_byte b, (mask_byte c, mask_byte d))), refl, are_four, rw (no_dash a, mask_again a, mask_again b, mask_again c, mask_again d) refl)
+    ((mask_byte d, (mask_byte c, (mask_byte b, mask_byte a))), refl, are_four, rw (no_dash d, mask_again d, mask_again c, mask_again b, mask_again a) refl)
 rom_unmade (Some (a ∷ b ∷ c ∷ d ∷ e ∷ l)) h = absurd cc
 
 pub rom_codec : IsCodec rom_text IsMask rom_at
@@ -177,7 +178,7 @@ keys_codec = record { takes = keys_takes; again = keys_again }
 pub parts_codec : IsCodec board_text HasLengths parts_at
 unfolding parts_at
 parts_codec = giving_codec _ (λ b. (b.roms, (b.banks, (b.chains.items, (b.keys, b.lamps.items))))) board_text HasLengths
-    (both_codec (many_codec 16 rom_codec) (both_codec (bytes_codec 8) (both_codec (any_counted_codec 2 (omega arith) chain_codec) (both_codec keys_codec (any_counted_codec 64 (omega arith) line_codec)))))
+    (both_codec (many_codec 16 rom_codec) (both_codec (bytes_codec 8) (both_codec (any_counted_codec CHAINS (omega arith) chain_codec) (both_codec keys_codec (any_counted_codec 64 (omega arith) line_codec)))))
     (λ p h. (refl, record { roms = h.0.0; masks = h.0.1; banks = (h.1.0.len, h.1.0.small); chains = h.1.1.0; keys = h.1.1.1.0; lamps = h.1.1.1.1 }))
     (λ b h. (refl, ((h.roms, h.masks), (record { len = h.banks.0; small = h.banks.1 }, (h.chains, (h.keys, h.lamps))))))
 

@@ -10,6 +10,7 @@ use Rattle.mcs_model.specs.declared.board.BoardParts.{BoardParts}
 use Rattle.mcs_model.specs.declared.board.ChainPart.{ChainPart}
 use Rattle.mcs_model.specs.declared.board.KeyMatrix.{KeyMatrix}
 use Rattle.mcs_model.specs.Boards.{fault_of, has_bad_value, has_bad_matrix, lacks_line, no_chain, chain_bits, has_wrong_direction, any_line, in_range, is_chain_size, is_matrix_size, key_count}
+use Rattle.mcs_model.specs.declared.limits.TheConstants.{CHAINS, CHAIN_CHIPS, CHAIN_BITS, KEY_ROWS, KEYS}
 use Rattle.mcs_model.specs.Validity.{IsValidBoard}
 
 abbrev pub IsMask : Option (List LineMask) → Type 0
@@ -25,7 +26,7 @@ pub record HasLengths (b : BoardParts) : Type 0 where
   pub roms : length b.roms ≡ 16
   pub masks : AllByRecursion IsMask b.roms
   pub banks : (length b.banks ≡ 8) × AllByRecursion (λ n. n < 256) b.banks
-  pub chains : length b.chains.items ≤ 2
+  pub chains : length b.chains.items ≤ CHAINS
   pub keys : IsKeys b.keys
   pub lamps : length b.lamps.items ≤ 64
 
@@ -71,33 +72,33 @@ few_banks (n ∷ banks) h =
     let few : n ≤ 4 = ltb-false _ _ first.0 in
     (omega arith, few_banks banks first.1)
 
-few_chips : (chains : List ChainPart) → list_any (λ c. not (is_chain_size c)) chains ≡ false → AllByRecursion (λ c. c.chips ≤ 4) chains
+few_chips : (chains : List ChainPart) → list_any (λ c. not (is_chain_size c)) chains ≡ false → AllByRecursion (λ c. c.chips ≤ CHAIN_CHIPS) chains
 few_chips [] h = tt
 few_chips (c ∷ chains) h =
     let first = neither (not (is_chain_size c)) (list_any (λ x. not (is_chain_size x)) chains) h in
-    let sized = both_true (nat_lt 0 c.chips) (nat_le c.chips 4) (not_false (is_chain_size c) first.0) in
+    let sized = both_true (nat_lt 0 c.chips) (nat_le c.chips CHAIN_CHIPS) (not_false (is_chain_size c) first.0) in
     (leb-true _ _ sized.1, few_chips chains first.1)
 
-few_keys : (k : Option KeyMatrix) → IsKeys k → elim k [ Some m ↦ not (is_matrix_size m) | None ↦ false ] ≡ false → elim k [ Some m ↦ m.rows * length m.columns.items | None ↦ 0 ] ≤ 80
+few_keys : (k : Option KeyMatrix) → IsKeys k → elim k [ Some m ↦ not (is_matrix_size m) | None ↦ false ] ≡ false → elim k [ Some m ↦ m.rows * length m.columns.items | None ↦ 0 ] ≤ KEYS
 few_keys None h e = omega arith
 few_keys (Some m) h e =
     let all = not_false (is_matrix_size m) e in
-    let rows = (both_true (nat_lt m.chain 2 && nat_lt m.first 40 && nat_lt 0 m.rows) (nat_le m.rows 10) (both_true (nat_lt m.chain 2 && nat_lt m.first 40 && nat_lt 0 m.rows && nat_le m.rows 10) (nat_lt 0 (length m.columns.items)) all).0).1 in
+    let rows = (both_true (nat_lt m.chain CHAINS && nat_lt m.first CHAIN_BITS && nat_lt 0 m.rows) (nat_le m.rows KEY_ROWS) (both_true (nat_lt m.chain CHAINS && nat_lt m.first CHAIN_BITS && nat_lt 0 m.rows && nat_le m.rows KEY_ROWS) (nat_lt 0 (length m.columns.items)) all).0).1 in
     mul-le m.rows (length m.columns.items) 10 8 (leb-true _ _ rows) h
 
-pub chips_of : (b : BoardParts) → fault_of b ≡ None → AllByRecursion (λ c. c.chips ≤ 4) b.chains.items
+pub chips_of : (b : BoardParts) → fault_of b ≡ None → AllByRecursion (λ c. c.chips ≤ CHAIN_CHIPS) b.chains.items
 chips_of b h = few_chips b.chains.items (good_values b h).chains
 
-chips_at : (chains : List ChainPart) (i : ℕ) → AllByRecursion (λ c. c.chips ≤ 4) chains → (get_or chains i no_chain).chips ≤ 4
+chips_at : (chains : List ChainPart) (i : ℕ) → AllByRecursion (λ c. c.chips ≤ CHAIN_CHIPS) chains → (get_or chains i no_chain).chips ≤ CHAIN_CHIPS
 chips_at [] i h = omega arith
 chips_at (c ∷ chains) zero h = h.0
 chips_at (c ∷ chains) (suc i) h = chips_at chains i h.1
 
 -- no chain has more bits
-pub few_bits : (b : BoardParts) (i : ℕ) → fault_of b ≡ None → chain_bits b i ≤ 40
+pub few_bits : (b : BoardParts) (i : ℕ) → fault_of b ≡ None → chain_bits b i ≤ CHAIN_BITS
 few_bits b i h = omega (arith, chips_at b.chains.items i (chips_of b h))
 
-pub keys_of : (b : BoardParts) → IsKeys b.keys → fault_of b ≡ None → key_count b ≤ 80
+pub keys_of : (b : BoardParts) → IsKeys b.keys → fault_of b ≡ None → key_count b ≤ KEYS
 keys_of b k h = few_keys b.keys k (good_values b h).matrix
 
 -- ---- lengths by place, and by element

@@ -4,7 +4,7 @@ use Rattle.std.specs.Prelude.{IfSome, IfNone, IfOk, Result, Ok, Err}
 use Rattle.mcs_model.specs.declared.command.Place.{Place}
 use Rattle.mcs_model.specs.declared.command.Place.TheVariants.{Acc, Cy, Pc, Register, Dcl, Rom, Ram, Status}
 use Rattle.mcs_model.specs.declared.command.Command.{Command}
-use Rattle.mcs_model.specs.declared.command.Command.TheVariants.{Wire, Load, Press, Release, Run, Step, Poke, Test, Reset, Break, Unbreak}
+use Rattle.mcs_model.specs.declared.command.Command.TheVariants.{Wire, Load, Press, Release, Run, Step, Poke, Test, Reset, Break, Unbreak, Watch, Unwatch}
 use Rattle.mcs_codec.specs.Reading.{giving, small_at, whole}
 use Rattle.mcs_codec.specs.CommandText.{place_text, command_text, IsPlace, IsCommand}
 use Rattle.mcs_codec.specs.CommandReading.{place_at, command_at, all_behind}
@@ -70,7 +70,9 @@ command_takes (tag ∷ bytes) x all e =
     (row command_text IsCommand 9 (λ _. Reset) rest done_codec (λ a h. (refl, h))
     (row command_text IsCommand 10 Break rest address_codec (λ a h. (refl, h))
     (row command_text IsCommand 11 Unbreak rest address_codec (λ a h. (refl, h))
-    (λ none. absurd cc))))))))))) e
+    (row command_text IsCommand 12 (λ p. Watch p.0 p.1) rest (both_codec bank_codec byte_codec) (λ a h. (refl, h))
+    (row command_text IsCommand 13 (λ p. Unwatch p.0 p.1) rest (both_codec bank_codec byte_codec) (λ a h. (refl, h))
+    (λ none. absurd cc))))))))))))) e
 
 command_again : (c : Command) (rest : List ℕ) → IsCommand c → command_at (command_text c ++ rest) ≡ Some (c, rest)
 unfolding command_at all_behind
@@ -85,6 +87,8 @@ command_again (Test b) rest h = ap (giving Test) (bit_codec.again b rest h)
 command_again Reset rest h = refl
 command_again (Break at) rest h = ap (giving Break) (address_codec.again at rest h)
 command_again (Unbreak at) rest h = ap (giving Unbreak) (address_codec.again at rest h)
+command_again (Watch bank src) rest h = ap (giving (λ p. Watch p.0 p.1)) ((both_codec bank_codec byte_codec).again (bank, src) rest h)
+command_again (Unwatch bank src) rest h = ap (giving (λ p. Unwatch p.0 p.1)) ((both_codec bank_codec byte_codec).again (bank, src) rest h)
 
 pub command_codec : IsCodec command_text IsCommand command_at
 command_codec = record { takes = command_takes; again = command_again }

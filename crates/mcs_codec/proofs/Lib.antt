@@ -5,6 +5,7 @@ pub mod BoardCodec
 pub mod ImageCodec
 pub mod ImageLoops
 pub mod CommandCodec
+pub mod MarkedCodec
 pub mod StateCodec
 pub mod StateLoops
 pub mod StateParts

@@ -10,9 +10,10 @@ use Rattle.mcs_model.specs.declared.board.Line.{Line}
 use Rattle.mcs_model.specs.declared.board.Line.TheVariants.{Rom as RomLine, Ram as RamLine, Chain as ChainLine}
 use Rattle.mcs_nibble.specs.declared.lines.LineMask.{LineMask}
 use Rattle.mcs_model.specs.declared.command.Command.{Command}
-use Rattle.mcs_model.specs.declared.command.Command.TheVariants.{Wire, Load, Press, Release, Run, Step, Poke, Test, Reset, Break, Unbreak}
+use Rattle.mcs_model.specs.declared.command.Command.TheVariants.{Wire, Load, Press, Release, Run, Step, Poke, Test, Reset, Break, Unbreak, Watch, Unwatch}
 use Rattle.mcs_model.specs.declared.command.Place.{Place}
 use Rattle.mcs_model.specs.declared.command.Place.TheVariants.{Acc, Cy, Pc, Register, Dcl, Rom, Ram, Status}
+use Rattle.mcs_model.specs.declared.limits.TheConstants.{CHAIN_CHIPS, CHAIN_BITS}
 use Rattle.mcs_model.specs.Boards.{fault_of}
 use Rattle.mcs_model.specs.Bus.{BusState}
 use Rattle.mcs_model.specs.Flat.{Flat}
@@ -42,7 +43,7 @@ length-line (ChainLine a b) = refl
 
 length-rom : (r : Option (List LineMask)) → IsMask r → length (rom_text r) ≡ 4
 length-rom None h = refl
-length-rom (Some mask) h = length-map mask mask_byte ∙ h
+length-rom (Some mask) h = refl
 
 length-chain : (c : ChainPart) → length (chain_text c) ≡ 9
 length-chain c =
@@ -57,7 +58,7 @@ length-keys : (k : Option KeyMatrix) → IsKeys k → length (keys_text k) ≤ 3
 length-keys None h = omega arith
 length-keys (Some m) h = let e : length (counted line_text m.columns.items) ≡ 1 + length m.columns.items * 4 = length-lines m.columns.items in omega (arith, h, e)
 
-pub length-board : (b : BoardParts) → HasLengths b → length (board_text b) ≤ 385
+pub length-board : (b : BoardParts) → HasLengths b → length (board_text b) ≤ 403
 length-board b h =
     let roms : length (flat_map rom_text b.roms) ≡ length b.roms * 4 = each_is rom_text IsMask 4 length-rom b.roms h.masks in
     let chains : length (flat_map chain_text b.chains.items) ≡ length b.chains.items * 9 = each_is chain_text (λ _. Unit {0}) 9 (λ c u. length-chain c) b.chains.items (units b.chains.items) in
@@ -71,12 +72,12 @@ length-board b h =
 
 -- ---- a state
 
-length-rows : (chains : List ChainPart) (rows : List (List ℕ)) → AreRows chains rows → AllByRecursion (λ c. c.chips ≤ 4) chains → length (flat_map (λ row. row) rows) ≤ length chains * 40
+length-rows : (chains : List ChainPart) (rows : List (List ℕ)) → AreRows chains rows → AllByRecursion (λ c. c.chips ≤ CHAIN_CHIPS) chains → length (flat_map (λ row. row) rows) ≤ length chains * CHAIN_BITS
 length-rows [] [] h few = omega arith
 length-rows [] (row ∷ rows) h few = absurd h
 length-rows (c ∷ chains) [] h few = absurd h
 length-rows (c ∷ chains) (row ∷ rows) h few =
-    let rest : length (flat_map (λ row. row) rows) ≤ length chains * 40 = length-rows chains rows h.1 few.1 in
+    let rest : length (flat_map (λ row. row) rows) ≤ length chains * CHAIN_BITS = length-rows chains rows h.1 few.1 in
     omega (arith, h.0.len, few.0, length-append row (flat_map (λ row. row) rows))
 
 length-memory : (b : BusState) → HasMemory b → length (memory_text b) ≡ 6704
@@ -108,14 +109,14 @@ length-registers s h =
 length-sources : (s : Flat) → HasRegisters s → length (sources_text s.processor.dcl s.bus.rom_src s.bus.ram_src s.processor.owed) ≡ 11
 length-sources s h = omega (arith, h.ram_src.len, length-append s.bus.ram_src (s.processor.owed ∷ []))
 
-length-wiring : (s : Flat) → HasLengths s.bus.board → fault_of s.bus.board ≡ None → HasWiring s → length (wiring_text s.bus.chains s.bus.keys s.bus.test s.breakpoints) ≤ 226
+length-wiring : (s : Flat) → HasLengths s.bus.board → fault_of s.bus.board ≡ None → HasWiring s → length (wiring_text s.bus.chains s.bus.keys s.bus.test s.breakpoints) ≤ 466
 length-wiring s b sound h =
     let rows = length-rows s.bus.board.chains.items s.bus.chains h.chains (chips_of s.bus.board sound) in
     let keys = keys_of s.bus.board b.keys sound in
     let last = s.bus.test ∷ counted address s.breakpoints in
     omega (arith, rows, keys, b.chains, h.keys.len, h.breakpoints.0, addresses s.breakpoints, length-append (flat_map (λ row. row) s.bus.chains) (s.bus.keys ++ last), length-append s.bus.keys last)
 
-pub length-state : (s : Flat) → IsValid s → length (state_text s) ≤ 7356
+pub length-state : (s : Flat) → IsValid s → length (state_text s) ≤ 7632
 length-state s valid =
     let h = shape_of s valid in
     let lengths = lengths_of s.bus.board h.board in
@@ -126,9 +127,24 @@ length-state s valid =
     let b = length-board s.bus.board lengths in
     let wiring = wiring_text s.bus.chains s.bus.keys s.bus.test s.breakpoints in
     let sources = sources_text s.processor.dcl s.bus.rom_src s.bus.ram_src s.processor.owed in
-    let three = sources ++ wiring in
+    let watches = counted address s.watches in
+    let three = sources ++ (wiring ++ watches) in
     let two = registers_text s.processor ++ three in
-    omega (arith, m, r, x, w, b, length-append (memory_text s.bus) two, length-append (registers_text s.processor) three, length-append sources wiring, length-append (board_text s.bus.board) (groups_text s))
+    omega (
+      arith,
+      m,
+      r,
+      x,
+      w,
+      b,
+      h.watches.0,
+      addresses s.watches,
+      length-append (memory_text s.bus) two,
+      length-append (registers_text s.processor) three,
+      length-append sources (wiring ++ watches),
+      length-append wiring watches,
+      length-append (board_text s.bus.board) (groups_text s.processor s.bus s.breakpoints watches),
+    )
 
 -- ---- a command
 
@@ -154,6 +170,8 @@ length-command (Test bit) h = omega arith
 length-command Reset h = omega arith
 length-command (Break at) h = omega arith
 length-command (Unbreak at) h = omega arith
+length-command (Watch bank src) h = omega arith
+length-command (Unwatch bank src) h = omega arith
 
 -- each command takes a tag
 pub some-command : (c : Command) → 1 ≤ length (command_text c)
@@ -168,3 +186,5 @@ some-command (Test bit) = omega arith
 some-command Reset = omega arith
 some-command (Break at) = omega arith
 some-command (Unbreak at) = omega arith
+some-command (Watch bank src) = omega arith
+some-command (Unwatch bank src) = omega arith

@@ -1,5 +1,5 @@
 -- The law of a state, group by group: its fields in their widths, whether or not they make a valid state.
-use Rattle.std.proofs.Common.{◌≡◌, ℕ, suc, ◌*◌, ◌<◌, ◌≤◌, ◌^◌, List, [], ◌∷◌, ◌++◌, length, get_or, Some, None, refl, sym, ap, subst, ◌∙◌, append_assoc, arith}
+use Rattle.std.proofs.Common.{◌≡◌, ℕ, suc, Bool, true, false, cond, ◌*◌, ◌<◌, ◌≤◌, ◌^◌, List, [], ◌∷◌, ◌++◌, length, get_or, Some, None, refl, sym, ap, subst, ◌∙◌, append_assoc, arith}
 use Rattle.std.specs.List.{flat_map, All, AllByRecursion}
 use Rattle.std.proofs.lemmas.List.Elements.{recursion_from_All}
 use Rattle.mcs_model.specs.declared.board.BoardParts.{BoardParts}
@@ -12,11 +12,15 @@ use Rattle.mcs_model.specs.Validity.{AreBelow, IsValid, IsValidBoard}
 use Rattle.mcs_codec.specs.Reading.{giving, bytes_at, whole}
 use Rattle.mcs_codec.specs.BoardText.{counted}
 use Rattle.mcs_codec.specs.CommandText.{address}
-use Rattle.mcs_codec.specs.StateText.{state_text}
+use Rattle.mcs_version1.specs.Boards.{is_small}
+use Rattle.mcs_version1.specs.Flat.{Flat1}
+use Rattle.mcs_version1.specs.Lift.{lift}
+use Rattle.mcs_version1.specs.Validity.{IsValid1}
+use Rattle.mcs_codec.specs.StateText.{text_by}
 use Rattle.mcs_codec.specs.StateReading.{memory_at, registers_at, sources_at, rows_at, breakpoints_at, wiring_at, state_at}
-use Rattle.mcs_codec.specs.Codec.{SpellsState}
+use Rattle.mcs_codec.specs.Codec.{SpellsState, SpellsState1, SpellsLifted, SpellsStateBy, version_of, is_first}
 use Rattle.mcs_codec.proofs.Codecs.{AreCells, IsCodec, IsBytes, IsBytes-behind, bind_some, giving_some, byte_codec, bytes_codec, word_codec, long_codec, both_codec, depending_codec, many_codec, counted_codec, giving_codec, whole_takes, whole_again}
-use Rattle.mcs_codec.proofs.BoardCodec.{board_codec}
+use Rattle.mcs_codec.proofs.MarkedCodec.{FitsWatches, marked_codec, watches_codec, board-begins}
 
 -- ---- widths and lengths
 
@@ -53,12 +57,14 @@ pub record HasWiring (s : Flat) : Type 0 where
   pub test : s.bus.test < 256
   pub breakpoints : (length s.breakpoints ≤ 32) × AreWords s.breakpoints
 
-pub record HasShape (s : Flat) : Type 0 where
+pub record HasShape (first : Bool) (s : Flat) : Type 0 where
   pub seq : s.seq < 2 ^ 32
   pub board : IsValidBoard s.bus.board
+  pub small : first ≡ true → is_small s.bus.board ≡ true
   pub memory : HasMemory s.bus
   pub registers : HasRegisters s
   pub wiring : HasWiring s
+  pub watches : FitsWatches first s.watches
 
 -- ---- groups
 
@@ -123,38 +129,40 @@ unfolding wiring_at
 wiring_codec board = both_codec (rows_codec board.chains.items) (both_codec (bytes_codec (key_count board)) (both_codec byte_codec breakpoints_codec))
 
 abbrev Parts : Type 0
-Parts = ℕ × (BoardParts × (Memory × (Registers × (Sources × Wiring))))
+Parts = ℕ × ((Bool × BoardParts) × (Memory × (Registers × (Sources × (Wiring × List ℕ)))))
 
-abbrev parts_of : Flat → Parts
-parts_of s = (
+abbrev parts_of : Bool × Flat → Parts
+parts_of x = let s = x.1 in (
   s.seq,
   (
-    s.bus.board,
+    (x.0, s.bus.board),
     (
       (s.bus.rom, (s.bus.ram, (s.bus.status, (s.bus.ram_ports, s.bus.rom_ports)))),
       (
         (s.processor.acc, (s.processor.cy, (s.processor.r, (s.processor.pc, s.processor.ret)))),
         (
           (s.processor.dcl, (s.bus.rom_src, (s.bus.ram_src, s.processor.owed))),
-          (s.bus.chains, (s.bus.keys, (s.bus.test, s.breakpoints))),
+          ((s.bus.chains, (s.bus.keys, (s.bus.test, s.breakpoints))), s.watches),
         ),
       ),
     ),
   ),
 )
 
-pub state_codec : IsCodec state_text HasShape state_at
+pub state_codec : IsCodec text_by (λ x. HasShape x.0 x.1) state_at
 unfolding state_at
-state_codec = giving_codec _ parts_of state_text HasShape
-    (both_codec long_codec (depending_codec board_codec (λ board _. both_codec memory_codec (both_codec registers_codec (both_codec sources_codec (wiring_codec board))))))
+state_codec = giving_codec _ parts_of text_by (λ x. HasShape x.0 x.1)
+    (both_codec long_codec (depending_codec marked_codec (λ x _. both_codec memory_codec (both_codec registers_codec (both_codec sources_codec (both_codec (wiring_codec x.1) (watches_codec x.0)))))))
     (λ p h. (
       refl,
-      let m = h.1.1.0 in let r = h.1.1.1.0 in let x = h.1.1.1.1.0 in let w = h.1.1.1.1.1 in record {
+      let m = h.1.1.0 in let r = h.1.1.1.0 in let x = h.1.1.1.1.0 in let w = h.1.1.1.1.1.0 in record {
         seq = h.0;
-        board = h.1.0;
+        board = h.1.0.0;
+        small = h.1.0.1;
         memory = record { rom = m.0; ram = m.1.0; status = m.1.1.0; ram_ports = m.1.1.1.0; rom_ports = m.1.1.1.1 };
         registers = record { acc = r.0; cy = r.1.0; r = r.1.1.0; pc = r.1.1.1.0; ret = r.1.1.1.1; dcl = x.0; rom_src = x.1.0; ram_src = x.1.1.0; owed = x.1.1.1 };
         wiring = record { chains = w.0; keys = w.1.0; test = w.1.1.0; breakpoints = w.1.1.1 };
+        watches = h.1.1.1.1.1.1;
       },
     ))
     (λ s h. let m = h.memory in let c = h.registers in let w = h.wiring in (
@@ -162,14 +170,14 @@ state_codec = giving_codec _ parts_of state_text HasShape
       (
         h.seq,
         (
-          h.board,
+          (h.board, h.small),
           (
             (m.rom, (m.ram, (m.status, (m.ram_ports, m.rom_ports)))),
             (
               (c.acc, (c.cy, (c.r, (c.pc, c.ret)))),
               (
                 (c.dcl, (c.rom_src, (c.ram_src, c.owed))),
-                (w.chains, (w.keys, (w.test, w.breakpoints))),
+                ((w.chains, (w.keys, (w.test, w.breakpoints))), h.watches),
               ),
             ),
           ),
@@ -191,13 +199,14 @@ rows_of [] (row ∷ rows) l h = absurd cc
 rows_of (c ∷ chains) [] l h = absurd cc
 rows_of (c ∷ chains) (row ∷ rows) l h = (cells_of (10 * c.chips) 2 row (omega arith) (h 0 (omega arith)), rows_of chains rows (omega arith) (λ i lt. h (suc i) (omega arith)))
 
-pub shape_of : (s : Flat) → IsValid s → HasShape s
-shape_of s h =
+shape_by : (first : Bool) (s : Flat) → IsValid s → (first ≡ true → is_small s.bus.board ≡ true) → FitsWatches first s.watches → HasShape first s
+shape_by first s h small watches =
     let r = h.bus.in_range in
     let p = h.processor in
     record {
       seq = omega (arith, h.seq);
       board = h.bus.board;
+      small = small;
       memory = record {
         rom = cells_of 4096 256 s.bus.rom (omega arith) r.rom;
         ram = cells_of 2048 16 s.bus.ram (omega arith) r.ram;
@@ -222,28 +231,77 @@ shape_of s h =
         test = omega (arith, r.test);
         breakpoints = (h.breakpoints.few, words_of s.breakpoints h.breakpoints.addresses);
       };
+      watches = watches;
     }
+
+places_of : (items : List ℕ) → All (λ n. n < 2048) items → AreWords items
+places_of items h = recursion_from_All (λ n. n < 2 ^ 16) items (λ i d lt. let x = h i d lt in omega arith)
+
+pub shape_of : (s : Flat) → IsValid s → HasShape false s
+shape_of s h = shape_by false s h (λ no. absurd cc) (h.watches.few, places_of s.watches h.watches.places)
+
+pub lift-valid : (s : Flat1) → IsValid1 s → IsValid (lift s)
+lift-valid s h = record {
+  processor = h.processor;
+  bus = h.bus;
+  breakpoints = h.breakpoints;
+  watches = record { few = omega arith; places = λ i d lt. absurd (omega arith); rising = λ i l. absurd (omega arith) };
+  seq = h.seq;
+}
+
+shape_of_1 : (s : Flat1) → IsValid1 s → HasShape true (lift s)
+shape_of_1 s h = shape_by true (lift s) (lift-valid s h) (λ _. h.small) refl
 
 -- ---- what the public calls promise
 
 -- what all of the bytes are read as, where it is valid, is what they spell
-pub state_read : (bytes : List ℕ) (s : Flat) → IsBytes bytes → Some s ≡ whole state_at bytes → IsValid s → SpellsState bytes s
-state_read bytes s all e valid = record { is = (whole_takes state_codec bytes s all (sym e)).0; valid = valid }
+pub state_read : (bytes : List ℕ) (first : Bool) (s : Flat) → IsBytes bytes → Some (first, s) ≡ whole state_at bytes → IsValid s → SpellsStateBy first bytes s
+state_read bytes false s all e valid = record { is = (whole_takes state_codec bytes (false, s) all (sym e)).0; valid = valid }
+state_read bytes true s all e valid =
+    let t = whole_takes state_codec bytes (true, s) all (sym e) in
+    record {
+      first = record { processor = s.processor; bus = s.bus; breakpoints = s.breakpoints; seq = s.seq };
+      spells = record { is = t.0; valid = record { processor = valid.processor; bus = valid.bus; small = t.1.small refl; breakpoints = valid.breakpoints; seq = valid.seq } };
+      lifted = ap (λ (l : List ℕ). record s { watches = l }) t.1.watches;
+    }
 
 -- what the bytes spell is what they are read as
-pub state_again : (bytes : List ℕ) (s : Flat) → SpellsState bytes s → whole state_at bytes ≡ Some s
-state_again bytes s h = ap (whole state_at) h.is ∙ whole_again state_codec s (shape_of s h.valid)
+pub state_again : (first : Bool) (bytes : List ℕ) (s : Flat) → SpellsStateBy first bytes s → whole state_at bytes ≡ Some (first, s)
+state_again false bytes s h = ap (whole state_at) h.is ∙ whole_again state_codec (false, s) (shape_of s h.valid)
+state_again true bytes s h =
+    ap (whole state_at) h.spells.is ∙ whole_again state_codec (true, lift h.first) (shape_of_1 h.first h.spells.valid) ∙ ap (λ (t : Flat). Some (true, t)) (sym h.lifted)
 
-pub state_none : (bytes : List ℕ) → None ≡ whole state_at bytes → (s : Flat) → SpellsState bytes s → ⊥
-state_none bytes e s h = let back : Some s ≡ None = sym (state_again bytes s h) ∙ sym e in cc
+pub spelled_valid : (first : Bool) (bytes : List ℕ) (s : Flat) → SpellsStateBy first bytes s → IsValid s
+spelled_valid false bytes s h = h.valid
+spelled_valid true bytes s h = subst IsValid (sym h.lifted) (lift-valid h.first h.spells.valid)
 
-pub state_invalid : (bytes : List ℕ) (t : Flat) → Some t ≡ whole state_at bytes → (IsValid t → ⊥) → (s : Flat) → SpellsState bytes s → ⊥
-state_invalid bytes t e wrong s h =
-    let same : Some t ≡ Some s = e ∙ state_again bytes s h in
-    let is : s ≡ t = cc in
-    wrong (subst IsValid is h.valid)
-
-pub same_state : (bytes : List ℕ) (s t : Flat) → SpellsState bytes s → SpellsState bytes t → s ≡ t
-same_state bytes s t h k =
-    let one : Some s ≡ Some t = sym (state_again bytes s h) ∙ state_again bytes t k in
+pub state_none : (bytes : List ℕ) → None ≡ whole state_at bytes → (first : Bool) (s : Flat) → SpellsStateBy first bytes s → ⊥
+state_none bytes e first s h =
+    let x : Bool × Flat = (first, s) in
+    let back : Some x ≡ None = sym (state_again first bytes s h) ∙ sym e in
     cc
+
+pub state_invalid : (bytes : List ℕ) (v : Bool) (t : Flat) → Some (v, t) ≡ whole state_at bytes → (IsValid t → ⊥) → (first : Bool) (s : Flat) → SpellsStateBy first bytes s → ⊥
+state_invalid bytes v t e wrong first s h =
+    let x : Bool × Flat = (first, s) in
+    let y : Bool × Flat = (v, t) in
+    let same : Some y ≡ Some x = e ∙ state_again first bytes s h in
+    let pairs : x ≡ y = cc in
+    wrong (subst IsValid (ap (λ (z : Bool × Flat). z.1) pairs) (spelled_valid first bytes s h))
+
+pub same_state : (bytes : List ℕ) (v w : Bool) (s t : Flat) → SpellsStateBy v bytes s → SpellsStateBy w bytes t → (v ≡ w) × (s ≡ t)
+same_state bytes v w s t h k =
+    let x : Bool × Flat = (v, s) in
+    let y : Bool × Flat = (w, t) in
+    let one : Some x ≡ Some y = sym (state_again v bytes s h) ∙ state_again w bytes t k in
+    let pairs : x ≡ y = cc in
+    (ap (λ (z : Bool × Flat). z.0) pairs, ap (λ (z : Bool × Flat). z.1) pairs)
+
+-- the version that the fifth byte tells is that of the state which the bytes spell
+pub state_told : (first : Bool) (bytes : List ℕ) (s : Flat) → SpellsStateBy first bytes s → version_of bytes ≡ Some (cond first 1 2)
+state_told false bytes s h = ap version_of h.is
+state_told true bytes s h = ap version_of h.spells.is ∙ (board-begins h.first.bus.board _ h.spells.valid.bus.board).told
+
+pub first_told : (first : Bool) (bytes : List ℕ) (s : Flat) → SpellsStateBy first bytes s → is_first bytes ≡ first
+first_told false bytes s h = rw (state_told false bytes s h) refl
+first_told true bytes s h = rw (state_told true bytes s h) refl

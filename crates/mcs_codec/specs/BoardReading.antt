@@ -7,6 +7,7 @@ use Rattle.mcs_model.specs.declared.board.ChainPart.{ChainPart}
 use Rattle.mcs_model.specs.declared.board.KeyMatrix.{KeyMatrix}
 use Rattle.mcs_model.specs.declared.board.Line.{Line}
 use Rattle.mcs_model.specs.declared.board.Line.TheVariants.{Rom, Ram, Chain}
+use Rattle.mcs_model.specs.declared.limits.TheConstants.{CHAINS}
 use Rattle.mcs_model.specs.Boards.{fault_of}
 use Rattle.mcs_codec.specs.Reading.{◌>>=◌, giving, byte_at, only, both, many, bytes_at, decoding, four_at, done_at, counted_at}
 
@@ -16,7 +17,7 @@ mask_of b = if b == 105 then Some Input else if b == 48 then Some Zero else if b
 abbrev pub rom_of : ℕ × (ℕ × (ℕ × ℕ)) → Option (Option (List LineMask))
 rom_of x =
     if x.0 == 45 && x.1.0 == 45 && x.1.1.0 == 45 && x.1.1.1 == 45 then Some None
-    else (mask_of x.0 >>= λ a. mask_of x.1.0 >>= λ b. mask_of x.1.1.0 >>= λ c. mask_of x.1.1.1 >>= λ d. Some (Some (a ∷ b ∷ c ∷ d ∷ [])))
+    else (mask_of x.0 >>= λ a. mask_of x.1.0 >>= λ b. mask_of x.1.1.0 >>= λ c. mask_of x.1.1.1 >>= λ d. Some (Some (d ∷ c ∷ b ∷ a ∷ [])))
 
 unfoldable pub rom_at : List ℕ → Option (Option (List LineMask) × List ℕ)
 rom_at = decoding rom_of four_at
@@ -53,7 +54,7 @@ parts_at bytes = giving (λ p. record {
   chains = record { items = p.1.1.0 };
   keys = p.1.1.1.0;
   lamps = record { items = p.1.1.1.1 };
-}) (both (many 16 rom_at) (both (bytes_at 8) (both (counted_at 2 chain_at) (both keys_at (counted_at 64 line_at)))) bytes)
+}) (both (many 16 rom_at) (both (bytes_at 8) (both (counted_at CHAINS chain_at) (both keys_at (counted_at 64 line_at)))) bytes)
 
 -- the parts with which nothing is wrong
 unfoldable pub board_at : List ℕ → Option (BoardParts × List ℕ)

@@ -1,7 +1,8 @@
 -- The bytes that spell a board. (Our own choice.)
-use Rattle.std.specs.Prelude.{ℕ, List, [], ◌∷◌, ◌++◌, length, map, Option, Some, None}
+use Rattle.std.specs.Prelude.{ℕ, List, [], ◌∷◌, ◌++◌, length, Option, Some, None}
 use Rattle.std.specs.List.{flat_map}
 use Rattle.mcs_nibble.specs.declared.lines.LineMask.{LineMask}
+use Rattle.mcs_nibble.specs.Ports.{mask_at}
 use Rattle.mcs_nibble.specs.declared.lines.LineMask.TheVariants.{Input, Zero, One}
 use Rattle.mcs_model.specs.declared.board.BoardParts.{BoardParts}
 use Rattle.mcs_model.specs.declared.board.ChainPart.{ChainPart}
@@ -15,9 +16,9 @@ mask_byte Input = 105
 mask_byte Zero = 48
 mask_byte One = 49
 
--- the four port lines of a ROM, line 0 first, or `----` where it is absent
+-- the four port lines of a ROM, lines 3, 2, 1, 0 in this order, or `----` where it is absent
 abbrev pub rom_text : Option (List LineMask) → List ℕ
-rom_text (Some mask) = map mask_byte mask
+rom_text (Some mask) = mask_byte (mask_at mask 3) ∷ mask_byte (mask_at mask 2) ∷ mask_byte (mask_at mask 1) ∷ mask_byte (mask_at mask 0) ∷ []
 rom_text None = 45 ∷ 45 ∷ 45 ∷ 45 ∷ []
 
 -- four bytes: the kind of line, and its numbers

@@ -1,15 +1,25 @@
--- Which bytes spell a command, and which spell a state. (Our own choice.)
-use Rattle.std.specs.Prelude.{◌≡◌, ℕ, List, [], ◌∷◌, take}
+-- Which bytes spell a command, and which spell a state, in version 2 and in version 1. (Our own choice.) Where a definition
+-- takes a Boolean, that is true of version 1.
+use Rattle.std.specs.Prelude.{◌≡◌, ℕ, Bool, true, false, ◌==◌, ◌||◌, List, [], ◌∷◌, take, drop, Option, Some, None, unwrap_or, if◌then◌else◌}
 use Rattle.mcs_model.specs.Flat.{Flat}
 use Rattle.mcs_model.specs.Validity.{IsValid}
 use Rattle.mcs_model.specs.declared.command.Command.{Command}
+use Rattle.mcs_version1.specs.Command.{in_version_1}
+use Rattle.mcs_version1.specs.Flat.{Flat1}
+use Rattle.mcs_version1.specs.Lift.{lift}
+use Rattle.mcs_version1.specs.Validity.{IsValid1}
 use Rattle.mcs_codec.specs.CommandText.{command_text, IsCommand}
-use Rattle.mcs_codec.specs.StateText.{state_text}
+use Rattle.mcs_codec.specs.StateText.{state_text, state_text_1}
 
 -- these bytes spell this command
 pub record Spells (bytes : List ℕ) (c : Command) : Type 0 where
   pub is : bytes ≡ command_text c
   pub in_range : IsCommand c
+
+-- these bytes spell this command in a session of version 1, or of version 2: version 1 has fewer commands
+abbrev pub SpellsBy : Bool → List ℕ → Command → Type 0
+SpellsBy false bytes c = Spells bytes c
+SpellsBy true bytes c = Spells bytes c × (in_version_1 c ≡ true)
 
 -- these bytes begin as those of a load do
 abbrev pub BeginsAsLoad : List ℕ → Type 0
@@ -19,3 +29,32 @@ BeginsAsLoad bytes = take 1 bytes ≡ 2 ∷ []
 pub record SpellsState (bytes : List ℕ) (s : Flat) : Type 0 where
   pub is : bytes ≡ state_text s
   pub valid : IsValid s
+
+-- these bytes spell this state of version 1
+pub record SpellsState1 (bytes : List ℕ) (s : Flat1) : Type 0 where
+  pub is : bytes ≡ state_text_1 s
+  pub valid : IsValid1 s
+
+-- these bytes spell a state of version 1 that is carried over as this state
+pub record SpellsLifted (bytes : List ℕ) (s : Flat) : Type 0 where
+  pub first : Flat1
+  pub spells : SpellsState1 bytes first
+  pub lifted : s ≡ lift first
+
+-- these bytes spell this state in version 1, carried over, or in version 2
+abbrev pub SpellsStateBy : Bool → List ℕ → Flat → Type 0
+SpellsStateBy false bytes s = SpellsState bytes s
+SpellsStateBy true bytes s = SpellsLifted bytes s
+
+-- the version that the byte behind the count of commands tells: a port character (`i`, `0`, `1` or `-`) stands there in
+-- version 1, and 02 in version 2
+abbrev pub version_told : List ℕ → Option ℕ
+version_told [] = None
+version_told (b ∷ bytes) = if b == 105 || b == 48 || b == 49 || b == 45 then Some 1 else if b == 2 then Some 2 else None
+
+abbrev pub version_of : List ℕ → Option ℕ
+version_of bytes = version_told (drop 4 bytes)
+
+-- whether that is version 1
+abbrev pub is_first : List ℕ → Bool
+is_first bytes = unwrap_or (version_of bytes) 2 == 1

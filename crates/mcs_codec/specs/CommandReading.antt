@@ -5,7 +5,7 @@ use Rattle.mcs_nibble.specs.Bits.{bit_of}
 use Rattle.mcs_model.specs.declared.command.Place.{Place}
 use Rattle.mcs_model.specs.declared.command.Place.TheVariants.{Acc, Cy, Pc, Register, Dcl, Rom, Ram, Status}
 use Rattle.mcs_model.specs.declared.command.Command.{Command}
-use Rattle.mcs_model.specs.declared.command.Command.TheVariants.{Wire, Load, Press, Release, Run, Step, Poke, Test, Reset, Break, Unbreak}
+use Rattle.mcs_model.specs.declared.command.Command.TheVariants.{Wire, Load, Press, Release, Run, Step, Poke, Test, Reset, Break, Unbreak, Watch, Unwatch}
 use Rattle.mcs_codec.specs.Reading.{◌>>=◌, giving, byte_at, number_at, address_at, bytes_at, small_at, both, depending, done_at}
 use Rattle.mcs_codec.specs.BoardReading.{board_at}
 
@@ -50,7 +50,9 @@ command_behind tag bytes =
     if tag == 8 then giving Test (small_at 2 bytes) else
     if tag == 9 then giving (λ _. Reset) (done_at bytes) else
     if tag == 10 then giving Break (address_at bytes) else
-    if tag == 11 then giving Unbreak (address_at bytes) else None
+    if tag == 11 then giving Unbreak (address_at bytes) else
+    if tag == 12 then giving (λ p. Watch p.0 p.1) (both (small_at 8) byte_at bytes) else
+    if tag == 13 then giving (λ p. Unwatch p.0 p.1) (both (small_at 8) byte_at bytes) else None
 
 -- behind any tag, the one whose reading takes memory among them
 unfoldable pub all_behind : ℕ → List ℕ → Option (Command × List ℕ)

@@ -8,7 +8,7 @@ use Rattle.mcs_model.specs.Validity.{IsValidBoard}
 use Rattle.mcs_model.specs.declared.command.Place.{Place}
 use Rattle.mcs_model.specs.declared.command.Place.TheVariants.{Acc, Cy, Pc, Register, Dcl, Rom, Ram, Status}
 use Rattle.mcs_model.specs.declared.command.Command.{Command}
-use Rattle.mcs_model.specs.declared.command.Command.TheVariants.{Wire, Load, Press, Release, Run, Step, Poke, Test, Reset, Break, Unbreak}
+use Rattle.mcs_model.specs.declared.command.Command.TheVariants.{Wire, Load, Press, Release, Run, Step, Poke, Test, Reset, Break, Unbreak, Watch, Unwatch}
 use Rattle.mcs_codec.specs.BoardText.{board_text}
 
 -- ---- spelling
@@ -59,6 +59,8 @@ command_text (Test bit) = 8 ∷ bit ∷ []
 command_text Reset = 9 ∷ []
 command_text (Break at) = 10 ∷ address at
 command_text (Unbreak at) = 11 ∷ address at
+command_text (Watch bank src) = 12 ∷ bank ∷ src ∷ []
+command_text (Unwatch bank src) = 13 ∷ bank ∷ src ∷ []
 
 -- ---- range
 
@@ -86,3 +88,5 @@ IsCommand (Test bit) = bit < 2
 IsCommand Reset = Unit {0}
 IsCommand (Break at) = at < 4096
 IsCommand (Unbreak at) = at < 4096
+IsCommand (Watch bank src) = (bank < 8) × (src < 256)
+IsCommand (Unwatch bank src) = (bank < 8) × (src < 256)

@@ -3,6 +3,7 @@ pub mod BoardText
 pub mod BoardReading
 pub mod CommandText
 pub mod CommandReading
+pub mod Marked
 pub mod StateText
 pub mod StateReading
 pub mod Codec

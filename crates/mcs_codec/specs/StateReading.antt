@@ -1,12 +1,12 @@
 -- How the fields of a state are read. Whether they make a valid state is asked of all of them afterwards.
-use Rattle.std.specs.Prelude.{ℕ, ◌*◌, List, [], ◌∷◌, Option, Some}
+use Rattle.std.specs.Prelude.{ℕ, ◌*◌, Bool, List, [], ◌∷◌, Option, Some}
 use Rattle.std.specs.Int.{w16, w32}
 use Rattle.mcs_model.specs.declared.board.BoardParts.{BoardParts}
 use Rattle.mcs_model.specs.declared.board.ChainPart.{ChainPart}
 use Rattle.mcs_model.specs.Boards.{key_count}
 use Rattle.mcs_model.specs.Flat.{Flat}
 use Rattle.mcs_codec.specs.Reading.{◌>>=◌, giving, byte_at, number_at, bytes_at, depending, both, many, counted_at}
-use Rattle.mcs_codec.specs.BoardReading.{board_at}
+use Rattle.mcs_codec.specs.Marked.{marked_at, watches_at}
 
 unfoldable pub memory_at : List ℕ → Option ((List ℕ × (List ℕ × (List ℕ × (List ℕ × List ℕ)))) × List ℕ)
 memory_at = both (bytes_at 4096) (both (bytes_at 2048) (both (bytes_at 512) (both (bytes_at 32) (bytes_at 16))))
@@ -28,9 +28,9 @@ breakpoints_at = counted_at 32 (number_at w16)
 unfoldable pub wiring_at : BoardParts → List ℕ → Option ((List (List ℕ) × (List ℕ × (ℕ × List ℕ))) × List ℕ)
 wiring_at board = both (rows_at board.chains.items) (both (bytes_at (key_count board)) (both byte_at breakpoints_at))
 
--- all fields, in their order
-unfoldable pub state_at : List ℕ → Option (Flat × List ℕ)
-state_at bytes = giving (λ p. record {
+-- whether in version 1, and all fields, in their order
+unfoldable pub state_at : List ℕ → Option ((Bool × Flat) × List ℕ)
+state_at bytes = giving (λ p. (p.1.0.0, record {
   processor = record {
     acc = p.1.1.1.0.0;
     cy = p.1.1.1.0.1.0;
@@ -41,7 +41,7 @@ state_at bytes = giving (λ p. record {
     owed = p.1.1.1.1.0.1.1.1;
   };
   bus = record {
-    board = p.1.0;
+    board = p.1.0.1;
     rom = p.1.1.0.0;
     ram = p.1.1.0.1.0;
     status = p.1.1.0.1.1.0;
@@ -49,11 +49,12 @@ state_at bytes = giving (λ p. record {
     rom_ports = p.1.1.0.1.1.1.1;
     rom_src = p.1.1.1.1.0.1.0;
     ram_src = p.1.1.1.1.0.1.1.0;
-    chains = p.1.1.1.1.1.0;
-    keys = p.1.1.1.1.1.1.0;
-    test = p.1.1.1.1.1.1.1.0;
+    chains = p.1.1.1.1.1.0.0;
+    keys = p.1.1.1.1.1.0.1.0;
+    test = p.1.1.1.1.1.0.1.1.0;
   };
-  breakpoints = p.1.1.1.1.1.1.1.1;
+  breakpoints = p.1.1.1.1.1.0.1.1.1;
+  watches = p.1.1.1.1.1.1;
   seq = p.0;
-})
-    (both (number_at w32) (depending board_at (λ board. both memory_at (both registers_at (both sources_at (wiring_at board))))) bytes)
+}))
+    (both (number_at w32) (depending marked_at (λ x. both memory_at (both registers_at (both sources_at (both (wiring_at x.1) (watches_at x.0)))))) bytes)

@@ -22,10 +22,10 @@ fn mask_byte(mask: LineMask) -> u8
 
 /// The bytes of the port lines of a ROM.
 fn mask_text(mask: [LineMask; 4]) -> [u8; 4]
-    ensures { result ≡ map mask_byte mask }
+    ensures { result ≡ rom_text (Some mask) }
 {
     let [a, b, c, d] = mask;
-    [mask_byte(a), mask_byte(b), mask_byte(c), mask_byte(d)]
+    [mask_byte(d), mask_byte(c), mask_byte(b), mask_byte(a)]
 }
 
 /// The port line that a byte stands for.
@@ -67,12 +67,11 @@ impl Field for Option<[LineMask; 4]> {
         if first == b'-' && second == b'-' && third == b'-' && fourth == b'-' {
             return Some(None);
         }
-        Some(Some([
-            mask_of(first)?,
-            mask_of(second)?,
-            mask_of(third)?,
-            mask_of(fourth)?,
-        ]))
+        let line_3 = mask_of(first)?;
+        let line_2 = mask_of(second)?;
+        let line_1 = mask_of(third)?;
+        let line_0 = mask_of(fourth)?;
+        Some(Some([line_0, line_1, line_2, line_3]))
     }
 }
 

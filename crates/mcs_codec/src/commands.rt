@@ -12,7 +12,7 @@ use crate::images::{put_image, read_image};
 use crate::places::place_is_in_range;
 use crate::reader::Reader;
 use mcs_model::command::{Command, Place};
-use mcs_nibble::{Addr, Bit};
+use mcs_nibble::{Addr, BankNo, Bit};
 use std::alloc::{AllocError, Global};
 
 /// Bytes that are lent to write a command into. No command takes more.
@@ -41,6 +41,9 @@ fn command_is_in_range(command: &Command)
         }
         Command::Break(address) | Command::Unbreak(address) => {
             address.get();
+        }
+        Command::Watch(bank, src) | Command::Unwatch(bank, src) => {
+            let _character = (bank.get(), *src);
         }
         Command::Step | Command::Reset => {}
     }
@@ -82,6 +85,8 @@ fn put_command(command: &Command, out: &mut [u8], at: usize) -> usize
             let at = put(out, at, &[11]);
             address.put(out, at)
         }
+        Command::Watch(bank, src) => put(out, at, &[12, bank.get(), *src]),
+        Command::Unwatch(bank, src) => put(out, at, &[13, bank.get(), *src]),
     }
 }
 
@@ -118,6 +123,14 @@ fn read_behind(tag: u8, reader: &mut Reader<'_>) -> Option<Command>
         9 => Some(Command::Reset),
         10 => Some(Command::Break(Addr::read(reader)?)),
         11 => Some(Command::Unbreak(Addr::read(reader)?)),
+        12 => {
+            let bank = BankNo::read(reader)?;
+            Some(Command::Watch(bank, reader.byte()?))
+        }
+        13 => {
+            let bank = BankNo::read(reader)?;
+            Some(Command::Unwatch(bank, reader.byte()?))
+        }
         _ => None,
     }
 }

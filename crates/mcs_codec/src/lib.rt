@@ -1,6 +1,7 @@
 //! The bytes of commands and of whole states, as a session file has them.
 //!
-//! Every command and every state has exactly one spelling, and no bytes spell two of them. A value out of its range, a
+//! Every command and every state has exactly one spelling, and no bytes spell two of them. States of version 1, whose bytes
+//! begin otherwise, are read too, and carried over; nothing is written in version 1. A value out of its range, a
 //! board with which something is wrong, bytes that are left over and bytes that are missing spell nothing.
 #![tactic(auto)]
 
@@ -12,7 +13,9 @@ mod places;
 mod reader;
 mod restoring;
 mod saving;
+mod versions;
 
 pub use commands::{COMMAND_BYTES, command_bytes, command_of, one_command};
-pub use restoring::{bench_of, one_state};
+pub use restoring::bench_of;
 pub use saving::{STATE_BYTES, state_bytes};
+pub use versions::{in_version_1, one_state, version_of};

@@ -1,23 +1,25 @@
 //! A bench from the bytes of its state.
-ghost use Rattle.std.specs.Prelude.{◌≡◌, ℕ, ◌*◌, ◌≤◌, List, All, length, map, option_map, IfOk, IfSome, IfNone};
+ghost use Rattle.std.specs.Prelude.{◌≡◌, ℕ, ◌*◌, ◌≤◌, List, Bool, All, length, map, option_map, IfOk, IfSome, IfNone};
 ghost use Rattle.mcs_model.specs.Boards.{key_count};
 ghost use Rattle.mcs_model.specs.Flat.{Flat as State};
 ghost use Rattle.mcs_bench.specs.States.{state_of};
 ghost use Rattle.mcs_codec.specs.Reading.{bytes_at, whole};
+ghost use Rattle.mcs_codec.specs.Marked.{marked_at, watches_at};
 ghost use Rattle.mcs_codec.specs.StateReading.{memory_at, registers_at, sources_at, rows_at, breakpoints_at, wiring_at, state_at};
-ghost use Rattle.mcs_codec.specs.Codec.{SpellsState};
+ghost use Rattle.mcs_codec.specs.Codec.{SpellsStateBy, is_first};
 
 use crate::boards::read_board;
 use crate::field::{Field, counted, fill};
 use crate::reader::Reader;
+use crate::versions::is_small;
 use arrayvec::ArrayVec;
 use mcs_bench::{Bench, Cells, Flat};
 use mcs_model::board::{Board, ChainPart};
-use mcs_model::limits::{BANKS, BREAKPOINTS, CHAINS};
+use mcs_model::limits::{BANKS, BREAKPOINTS, CHAIN_CHIPS, CHAIN_PLACES, CHAINS, KEYS, WATCHES};
 use std::alloc::{AllocError, Global};
 
 /// The bits of a chain.
-type Row = ArrayVec<u8, 40>;
+type Row = ArrayVec<u8, CHAIN_PLACES>;
 
 /// What a 4004 keeps in registers and return addresses.
 type Registers = (u8, u8, [u8; 16], u16, [u16; 3]);
@@ -25,7 +27,7 @@ type Registers = (u8, u8, [u8; 16], u16, [u16; 3]);
 /// What the chains and the keys of a board hold, TEST, and the breakpoints.
 type Wiring = (
     ArrayVec<Row, CHAINS>,
-    ArrayVec<u8, 80>,
+    ArrayVec<u8, KEYS>,
     u8,
     ArrayVec<u16, BREAKPOINTS>,
 );
@@ -143,8 +145,8 @@ fn read_sources(reader: &mut Reader<'_>) -> Option<(u8, u8, [u8; BANKS], u8)>
 
 /// Reads the bits of each chain.
 fn read_rows(reader: &mut Reader<'_>, chains: &[ChainPart]) -> Option<ArrayVec<Row, CHAINS>>
-    requires few { length chains.now ≤ 2 }
-    requires short { All (λ c. c.chips ≤ 4) chains.now }
+    requires few { length chains.now ≤ CHAINS }
+    requires short { All (λ c. c.chips ≤ CHAIN_CHIPS) chains.now }
     ensures { option_map (λ rows. (map (λ row. row.items) rows.items, reader.new)) result ≡ rows_at chains.now reader.old }
 {
     let mut rows = ArrayVec::new();
@@ -157,7 +159,7 @@ fn read_rows(reader: &mut Reader<'_>, chains: &[ChainPart]) -> Option<ArrayVec<R
 /// How many keys a board has.
 fn keys_on(board: &Board) -> usize
     ensures count { result ≡ key_count board.now }
-    ensures few { result ≤ 80 }
+    ensures few { result ≤ KEYS }
 {
     match &board.parts().keys {
         Some(matrix) => usize::from(matrix.rows) * matrix.columns.len(),
@@ -166,7 +168,7 @@ fn keys_on(board: &Board) -> usize
 }
 
 /// Reads which keys of a board are down.
-fn read_keys_down(reader: &mut Reader<'_>, board: &Board) -> Option<ArrayVec<u8, 80>>
+fn read_keys_down(reader: &mut Reader<'_>, board: &Board) -> Option<ArrayVec<u8, KEYS>>
     ensures { option_map (λ x. (x.items, reader.new)) result ≡ bytes_at (key_count board.now) reader.old }
 {
     read_bytes(reader, keys_on(board))
@@ -192,18 +194,42 @@ fn read_wiring(reader: &mut Reader<'_>, board: &Board) -> Option<Wiring>
     Some((chains, keys, test, breakpoints))
 }
 
-/// Reads the fields of a state, into these lists and others.
+/// Reads the board behind the count of commands, and whether the bytes are of version 1: they have no mark then.
+#[tactic(auto, unfolding(crate::specs::Marked::marked_at))]
+fn read_marked(reader: &mut Reader<'_>) -> Option<(bool, Board)>
+    ensures { option_map (λ x. ((x.0, x.1), reader.new)) result ≡ marked_at reader.old }
+{
+    if reader.mark() {
+        let board = read_board(reader)?;
+        return Some((false, board));
+    }
+    let board = read_board(reader)?;
+    if is_small(&board) { Some((true, board)) } else { None }
+}
+
+/// Reads the watches; version 1 has none.
+#[tactic(auto, unfolding(crate::specs::Marked::watches_at))]
+fn read_watches(reader: &mut Reader<'_>, first: bool) -> Option<ArrayVec<u16, WATCHES>>
+    ensures { option_map (λ x. (x.items, reader.new)) result ≡ watches_at first reader.old }
+{
+    if first {
+        return Some(ArrayVec::new());
+    }
+    counted(reader)
+}
+
+/// Reads the fields of a state, into these lists and others, and whether it is one of version 1.
 #[tactic(auto, unfolding(crate::specs::StateReading::state_at))]
-fn read_state(reader: &mut Reader<'_>, memory: Memory) -> Option<Flat>
+fn read_state(reader: &mut Reader<'_>, memory: Memory) -> Option<(bool, Flat)>
     requires rom { length memory.rom ≡ 4096 }
     requires ram { length memory.ram ≡ 2048 }
     requires status { length memory.status ≡ 512 }
     requires ram_ports { length memory.ram_ports ≡ 32 }
     requires rom_ports { length memory.rom_ports ≡ 16 }
-    ensures { option_map (λ x. (state_of x, reader.new)) result ≡ state_at reader.old }
+    ensures { option_map (λ x. ((x.0, state_of x.1), reader.new)) result ≡ state_at reader.old }
 {
     let seq = reader.long_number()?;
-    let board = read_board(reader)?;
+    let (first, board) = read_marked(reader)?;
     let Memory {
         rom,
         ram,
@@ -214,7 +240,8 @@ fn read_state(reader: &mut Reader<'_>, memory: Memory) -> Option<Flat>
     let (acc, cy, r, pc, ret) = read_registers(reader)?;
     let (dcl, rom_src, ram_src, owed) = read_sources(reader)?;
     let (chains, keys, test, breakpoints) = read_wiring(reader, &board)?;
-    Some(Flat {
+    let watches = read_watches(reader, first)?;
+    let flat = Flat {
         seq,
         board,
         rom,
@@ -235,34 +262,37 @@ fn read_state(reader: &mut Reader<'_>, memory: Memory) -> Option<Flat>
         keys,
         test,
         breakpoints,
-    })
+        watches,
+    };
+    Some((first, flat))
 }
 
 /// What all of these bytes are read as, or none.
-fn read_whole(bytes: &[u8], memory: Memory) -> Option<Flat>
+fn read_whole(bytes: &[u8], memory: Memory) -> Option<(bool, Flat)>
     requires rom { length memory.rom ≡ 4096 }
     requires ram { length memory.ram ≡ 2048 }
     requires status { length memory.status ≡ 512 }
     requires ram_ports { length memory.ram_ports ≡ 32 }
     requires rom_ports { length memory.rom_ports ≡ 16 }
-    ensures { option_map state_of result ≡ whole state_at bytes.now }
+    ensures { option_map (λ x. (x.0, state_of x.1)) result ≡ whole state_at bytes.now }
 {
     let mut reader = Reader::new(bytes);
-    let flat = read_state(&mut reader, memory)?;
-    if reader.is_empty() { Some(flat) } else { None }
+    let read = read_state(&mut reader, memory)?;
+    if reader.is_empty() { Some(read) } else { None }
 }
 
-/// The bench whose state these bytes spell, or none where they spell no state.
+/// The bench whose state these bytes spell, in the version that they tell, or none where they spell no state. A state of
+/// version 1 is carried over: nothing is watched.
 ///
 /// # Errors
 ///
 /// Where memory is refused.
 pub fn bench_of(alloc: Global, bytes: &[u8]) -> Result<Option<Bench>, AllocError>
-    ensures some { IfOk result (λ found. IfSome found (λ s. SpellsState bytes.now s)) }
-    ensures none { IfOk result (λ found. IfNone found ((s : State) → SpellsState bytes.now s → ⊥)) }
+    ensures some { IfOk result (λ found. IfSome found (λ s. SpellsStateBy (is_first bytes.now) bytes.now s)) }
+    ensures none { IfOk result (λ found. IfNone found ((first : Bool) (s : State) → SpellsStateBy first bytes.now s → ⊥)) }
 {
     let memory = Memory::new(alloc)?;
-    let Some(flat) = read_whole(bytes, memory) else {
+    let Some((_first, flat)) = read_whole(bytes, memory) else {
         return Ok(None);
     };
     if !flat.check() {
@@ -272,7 +302,3 @@ pub fn bench_of(alloc: Global, bytes: &[u8]) -> Result<Option<Bench>, AllocError
     Ok(Some(bench))
 }
 
-/// A law: no bytes spell two states. (And each state has one spelling: the definition gives one.)
-pub fn one_state()
-    ensures { (bytes : List ℕ) (s t : State) → SpellsState bytes s → SpellsState bytes t → s ≡ t }
-{}

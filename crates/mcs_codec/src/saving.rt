@@ -5,12 +5,17 @@ ghost use Rattle.mcs_model.specs.Boards.{chain_bits, chain_count, key_count};
 ghost use Rattle.mcs_model.specs.Validity.{IsValid};
 ghost use Rattle.mcs_codec.specs.Parts.{list_of, count_of};
 ghost use Rattle.mcs_codec.specs.StateText.{memory_text, registers_text, sources_text, wiring_text, groups_text, state_text};
+ghost use Rattle.mcs_codec.specs.BoardText.{counted};
+ghost use Rattle.mcs_codec.specs.CommandText.{address};
 ghost use Rattle.mcs_codec.specs.Codec.{SpellsState};
 
 use crate::boards::put_board;
 use crate::field::{Spelled, put, put_all, put_counted};
 use mcs_bench::Bench;
 use mcs_nibble::{Addr, Nibble};
+
+/// The version in which states are written.
+const VERSION: u8 = 2;
 
 /// Bytes that are lent to write a state into. No state takes more.
 pub const STATE_BYTES: usize = 16_380;
@@ -180,17 +185,18 @@ fn put_wiring(bench: &Bench, out: &mut [u8], at: usize) -> usize
     put_counted(bench.breaks(), out, at)
 }
 
-/// Puts the groups behind the board.
+/// Puts the groups behind the board, and the watches.
 fn put_groups(bench: &Bench, out: &mut [u8], at: usize) -> usize
     requires valid { IsValid bench.now }
-    requires room { at + length (groups_text bench.now) ≤ length out.old }
-    ensures end { result ≡ at + length (groups_text bench.now) }
-    ensures front { take result out.new ≡ take at out.old ++ groups_text bench.now }
+    requires room { at + length (groups_text bench.now.processor bench.now.bus bench.now.breakpoints (counted address bench.now.watches)) ≤ length out.old }
+    ensures end { result ≡ at + length (groups_text bench.now.processor bench.now.bus bench.now.breakpoints (counted address bench.now.watches)) }
+    ensures front { take result out.new ≡ take at out.old ++ groups_text bench.now.processor bench.now.bus bench.now.breakpoints (counted address bench.now.watches) }
 {
     let at = put_memory(bench, out, at);
     let at = put_registers(bench, out, at);
     let at = put_sources(bench, out, at);
-    put_wiring(bench, out, at)
+    let at = put_wiring(bench, out, at);
+    put_counted(bench.watches(), out, at)
 }
 
 /// Puts the state of a bench at the front of these bytes.
@@ -201,11 +207,12 @@ fn put_state(bench: &Bench, into: &mut [u8]) -> usize
     ensures front { take result into.new ≡ state_text bench.now }
 {
     let at = put(into, 0, &bench.seq().to_be_bytes());
+    let at = put(into, at, &[VERSION]);
     let at = put_board(bench.board().parts(), into, at);
     put_groups(bench, into, at)
 }
 
-/// Spells the state of a bench at the front of these bytes, and answers how many it took: at most 7,356. Nothing is said of
+/// Spells the state of a bench at the front of these bytes, and answers how many it took: at most 7,632. Nothing is said of
 /// those behind.
 pub fn state_bytes(bench: &Bench, into: &mut [u8]) -> usize
     requires lent { STATE_BYTES ≤ length into.old }

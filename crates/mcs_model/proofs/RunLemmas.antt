@@ -5,11 +5,11 @@ use Rattle.std.proofs.Math.Nat.{add-suc}
 use Rattle.std.proofs.lemmas.Bool.{eqb-true, cases_eq}
 use Rattle.std.proofs.lemmas.Bool.Decides.{nat_tests}
 use Rattle.mcs_model.specs.declared.regs.Regs.{Regs}
-use Rattle.mcs_model.specs.declared.stop.Stop.TheVariants.{Outside, Breakpoint, Ended}
+use Rattle.mcs_model.specs.declared.stop.Stop.TheVariants.{Outside, Breakpoint, Watched, Ended}
 use Rattle.mcs_model.specs.Bus.{BusState}
 use Rattle.mcs_model.specs.Effect.{cycle_of, effect, instruction_at}
 use Rattle.mcs_model.specs.declared.op.Op.{Op}
-use Rattle.mcs_model.specs.Running.{Machine, is_outside, cycled, Turned, at_break, stop_at, after_run}
+use Rattle.mcs_model.specs.Running.{Machine, is_outside, cycled, Turned, at_break, no_stops, stop_after, after_run}
 
 -- the machine after one cycle
 abbrev next : Machine → Machine
@@ -48,22 +48,22 @@ some_stop false false true f e = inr refl
 some_stop false false false f e = cc
 
 -- without breakpoints, a run stops where no cycle can follow or at its end
-stop_cases : (n k : ℕ) (s : Machine) → is_some (stop_at [] n k s) ≡ true → (is_outside s ≡ true) ⊎ (eqb k n ≡ true)
-stop_cases n k s e = some_stop (is_outside s) (at_break [] k s) (eqb k n) (and_false _) e
+stop_cases : (n k : ℕ) (s : Machine) → is_some (stop_after no_stops n s k) ≡ true → (is_outside (cycled k s) ≡ true) ⊎ (eqb k n ≡ true)
+stop_cases n k s e = some_stop (is_outside (cycled k s)) (at_break [] k (cycled k s)) (eqb k n) (and_false _) e
 
-pub after_run-nil : (n : ℕ) (s : Machine) → after_run [] n s ≡ cycled n s
+pub after_run-nil : (n : ℕ) (s : Machine) → after_run no_stops n s ≡ cycled n s
 after_run-nil n s =
-    found (λ k. is_some (stop_at [] n k (cycled k s))) (λ k. cycled k s ≡ cycled n s) n refl 0 (n + 1)
+    found (λ k. is_some (stop_after no_stops n s k)) (λ k. cycled k s ≡ cycled n s) n refl 0 (n + 1)
     (λ k l e.
-    elim (stop_cases n k (cycled k s) e) [
+    elim (stop_cases n k s e) [
       | inl outside ↦ sym (ap (λ m. cycled m s) (let same : n ≡ k + (n - k) = omega arith in same) ∙ cycled-add k (n - k) s ∙ cycled-outside (n - k) (cycled k s) outside)
       | inr ended ↦ ap (λ m. cycled m s) (eqb-true k n ended)
     ])
 
 -- two runs one after the other, without breakpoints, come to where one run of all their cycles does
-pub after_run-after_run : (a b : ℕ) (s : Machine) → after_run [] b (after_run [] a s) ≡ after_run [] (a + b) s
+pub after_run-after_run : (a b : ℕ) (s : Machine) → after_run no_stops b (after_run no_stops a s) ≡ after_run no_stops (a + b) s
 after_run-after_run a b s =
-    after_run-nil b (after_run [] a s) ∙ ap (cycled b) (after_run-nil a s) ∙ sym (cycled-add a b s) ∙ sym (after_run-nil (a + b) s)
+    after_run-nil b (after_run no_stops a s) ∙ ap (cycled b) (after_run-nil a s) ∙ sym (cycled-add a b s) ∙ sym (after_run-nil (a + b) s)
 
 -- where one cycle has a value, it can follow, and comes to that value
 pub goes-to : (s t : Machine) → cycle_of s.0 s.1 ≡ Some t → (is_outside s ≡ false) × (t ≡ next s)

@@ -82,7 +82,7 @@ any_lamp p b = list_any p b.lamps.items
 abbrev pub any_line : (Line → Bool) → BoardParts → Bool
 any_line p b = any_chain_line p b || any_column p b || any_lamp p b
 
--- whether a chain has 1 to 4 chips
+-- whether a chain has 1 to 8 chips
 abbrev pub is_chain_size : ChainPart → Bool
 is_chain_size c = nat_lt 0 c.chips && nat_le c.chips CHAIN_CHIPS
 

@@ -1,24 +1,24 @@
 -- Which commands a bench accepts, what they do, and what they answer.
 -- (Our own choice throughout: commands are what a user does at the bench.)
-use Rattle.std.specs.Prelude.{ℕ, Bool, ◌+◌, ◌/◌, ◌==◌, ◌&&◌, ◌||◌, length, Option, Some, None, is_none, nat_lt, nat_le, slice_set, if◌then◌else◌}
+use Rattle.std.specs.Prelude.{ℕ, Bool, ◌+◌, ◌*◌, ◌/◌, ◌==◌, ◌&&◌, ◌||◌, length, Option, Some, None, is_none, nat_lt, nat_le, slice_set, if◌then◌else◌}
 use Rattle.std.specs.List.{list_any}
 use Rattle.mcs_model.specs.declared.board.BoardParts.{BoardParts}
 use Rattle.mcs_model.specs.declared.command.Command.{Command}
-use Rattle.mcs_model.specs.declared.command.Command.TheVariants.{Wire, Load, Press, Release, Run, Step, Poke, Test, Reset, Break, Unbreak}
+use Rattle.mcs_model.specs.declared.command.Command.TheVariants.{Wire, Load, Press, Release, Run, Step, Poke, Test, Reset, Break, Unbreak, Watch, Unwatch}
 use Rattle.mcs_model.specs.declared.command.Place.{Place}
 use Rattle.mcs_model.specs.declared.command.Place.TheVariants.{Acc, Cy, Pc, Register, Dcl, Rom, Ram, Status}
 use Rattle.mcs_model.specs.declared.command.Reply.{Reply}
 use Rattle.mcs_model.specs.declared.command.Reply.TheVariants.{Done, Loaded, Ran}
-use Rattle.mcs_model.specs.declared.limits.TheConstants.{ACCEPTED_COMMANDS, BREAKPOINTS, RUN_CYCLES}
+use Rattle.mcs_model.specs.declared.limits.TheConstants.{ACCEPTED_COMMANDS, BREAKPOINTS, RUN_CYCLES, WATCHES}
 use Rattle.mcs_model.specs.declared.refusals.BenchFault.{BenchFault}
-use Rattle.mcs_model.specs.declared.refusals.BenchFault.TheVariants.{NoKey, NoRom, NoSuchPlace, BadCount, BreaksFull, Worn}
+use Rattle.mcs_model.specs.declared.refusals.BenchFault.TheVariants.{NoKey, NoRom, NoSuchPlace, BadCount, BreaksFull, Worn, WatchesFull}
 use Rattle.mcs_model.specs.declared.regs.Regs.{Regs}
 use Rattle.mcs_model.specs.Boards.{has_key, masks_on}
 use Rattle.mcs_model.specs.Breakpoints.{is_breakpoint, with_breakpoint, without_breakpoint}
 use Rattle.mcs_model.specs.Bus.{BusState, has_chip, wired_of}
 use Rattle.mcs_model.specs.Flat.{Flat, new_regs}
 use Rattle.mcs_model.specs.Places.{with_rom_byte, with_rom_bytes, with_ram, with_status, with_key, after_reset, after_wire}
-use Rattle.mcs_model.specs.Running.{Machine, run_length, after_run, run_stop, step_length, after_step, step_stop}
+use Rattle.mcs_model.specs.Running.{Machine, Stops, run_length, after_run, run_stop, step_length, after_step, step_stop}
 
 -- ---- which commands are accepted
 
@@ -33,6 +33,10 @@ place_refusal s (Ram bank src n) = if has_chip s bank src then None else Some No
 place_refusal s (Status bank high k n) = if nat_lt (high / 4) (wired_of s bank) then None else Some NoSuchPlace
 place_refusal s _ = None
 
+-- where the character of a bank and an SRC byte stands
+abbrev pub watch_place : ℕ → ℕ → ℕ
+watch_place bank src = bank * 256 + src
+
 -- why a state refuses a command for the command's own sake, if it does
 abbrev pub own_refusal : Flat → Command → Option BenchFault
 own_refusal s (Load image) = if list_any (λ p. lacks_rom s.bus.board p.0) image then Some NoRom else None
@@ -41,6 +45,7 @@ own_refusal s (Release row column) = if has_key s.bus.board row column then None
 own_refusal s (Run n) = if nat_le 1 n && nat_le n RUN_CYCLES then None else Some BadCount
 own_refusal s (Poke place) = place_refusal s.bus place
 own_refusal s (Break at) = if is_breakpoint s.breakpoints at || nat_lt (length s.breakpoints) BREAKPOINTS then None else Some BreaksFull
+own_refusal s (Watch bank src) = if is_breakpoint s.watches (watch_place bank src) || nat_lt (length s.watches) WATCHES then None else Some WatchesFull
 own_refusal s _ = None
 
 -- why a state refuses a command, if it does: a worn session refuses each of them
@@ -51,6 +56,10 @@ refusal s c = if s.seq == ACCEPTED_COMMANDS then Some Worn else own_refusal s c
 
 abbrev pub machine_of : Flat → Machine
 machine_of s = (s.processor, s.bus)
+
+-- what stops a run from it
+abbrev pub stops_of : Flat → Stops
+stops_of s = record { breaks = s.breakpoints; watches = s.watches }
 
 abbrev pub with_machine : Flat → Machine → Flat
 with_machine s m = record s { processor = m.0; bus = m.1 }
@@ -78,13 +87,15 @@ changed s (Wire board) = with_machine s (new_regs, after_wire s.bus board)
 changed s (Load image) = with_bus s (with_rom_bytes s.bus image)
 changed s (Press row column) = with_bus s (with_key s.bus row column 1)
 changed s (Release row column) = with_bus s (with_key s.bus row column 0)
-changed s (Run n) = with_machine s (after_run s.breakpoints n (machine_of s))
+changed s (Run n) = with_machine s (after_run (stops_of s) n (machine_of s))
 changed s Step = with_machine s (after_step (machine_of s))
 changed s (Poke place) = with_place s place
 changed s (Test bit) = with_bus s (record s.bus { test = bit })
 changed s Reset = with_machine s (new_regs, after_reset s.bus)
 changed s (Break at) = record s { breakpoints = with_breakpoint s.breakpoints at }
 changed s (Unbreak at) = record s { breakpoints = without_breakpoint s.breakpoints at }
+changed s (Watch bank src) = record s { watches = with_breakpoint s.watches (watch_place bank src) }
+changed s (Unwatch bank src) = record s { watches = without_breakpoint s.watches (watch_place bank src) }
 
 -- the state after an accepted command: each raises the count by one, also where nothing else changes
 abbrev pub after : Flat → Command → Flat
@@ -95,6 +106,6 @@ after s c = record (changed s c) { seq = s.seq + 1 }
 -- what an accepted command answers
 abbrev pub reply : Flat → Command → Reply
 reply s (Load image) = Loaded (length image)
-reply s (Run n) = Ran (run_length s.breakpoints n (machine_of s)) (run_stop s.breakpoints n (machine_of s))
+reply s (Run n) = Ran (run_length (stops_of s) n (machine_of s)) (run_stop (stops_of s) n (machine_of s))
 reply s Step = Ran (step_length (machine_of s)) (step_stop (machine_of s))
 reply s _ = Done

@@ -10,6 +10,8 @@ pub record Flat : Type 0 where
   pub bus : BusState
   -- the breakpoints, rising
   pub breakpoints : List ℕ
+  -- the watched RAM characters, each as bank * 256 + SRC byte, rising
+  pub watches : List ℕ
   -- how many commands were accepted
   pub seq : ℕ
 
@@ -31,5 +33,6 @@ new_flat = record {
   processor = new_regs;
   bus = record zero_bus { test = 1 };
   breakpoints = [];
+  watches = [];
   seq = 0;
 }

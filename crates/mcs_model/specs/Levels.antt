@@ -96,10 +96,14 @@ after_rom_port s n =
       | None ↦ s
     ]
 
--- what is read at the port of the selected ROM (4001 data sheet, RDR); an absent ROM reads 0 (our own choice)
-unfoldable pub port_of : BusState → ℕ
-port_of s =
-    elim (masks_on s.board (s.rom_src / 16)) [
-      | Some mask ↦ read_lines (λ k. bit_when (keyed s (s.rom_src / 16) k)) mask
+-- what is read at the port of a ROM (4001 data sheet, RDR); an absent ROM reads 0 (our own choice)
+unfoldable pub port_at : BusState → ℕ → ℕ
+port_at s chip =
+    elim (masks_on s.board chip) [
+      | Some mask ↦ read_lines (λ k. bit_when (keyed s chip k)) mask
       | None ↦ 0
     ]
+
+-- what is read at the port of the selected ROM
+abbrev pub port_of : BusState → ℕ
+port_of s = port_at s (s.rom_src / 16)

@@ -1,12 +1,15 @@
 -- What a bench tells of its state: one text for each query and state, without the last line feed (our own choice).
-use Rattle.std.specs.Prelude.{ℕ, ◌+◌, ◌*◌, ◌/◌, ◌%◌, ◌==◌, List, [], ◌∷◌, ◌++◌, map, take, drop, codes, nat_lt, if◌then◌else◌, slice_index}
+use Rattle.std.specs.Prelude.{ℕ, ◌+◌, ◌*◌, ◌/◌, ◌%◌, ◌==◌, List, [], ◌∷◌, ◌++◌, map, take, drop, length, codes, nat_lt, if◌then◌else◌, slice_index, Some, None}
 use Rattle.std.specs.Fmt.{decimal}
 use Rattle.std.specs.List.{flat_map, join_by, join_with_byte, range_with_len}
 use Rattle.mcs_model.specs.declared.query.Query.{Query}
-use Rattle.mcs_model.specs.declared.query.Query.TheVariants.{Lamps, Regs, Ram, Breaks, Seq}
+use Rattle.mcs_model.specs.declared.query.Query.TheVariants.{Lamps, Regs, Ram, Breaks, Watches, Ports, Seq}
+use Rattle.mcs_model.specs.declared.board.KeyMatrix.{KeyMatrix}
+use Rattle.mcs_model.specs.declared.limits.TheConstants.{BANKS, ROMS}
+use Rattle.mcs_model.specs.Boards.{chain_bits, chain_count, key_place, masks_on}
 use Rattle.mcs_model.specs.Bus.{BusState, wired_of}
 use Rattle.mcs_model.specs.Flat.{Flat}
-use Rattle.mcs_model.specs.Levels.{level}
+use Rattle.mcs_model.specs.Levels.{chain_bit, level, port_at}
 
 -- a line, ended by its line feed
 abbrev pub as_line : List ℕ → List ℕ
@@ -80,6 +83,72 @@ ram_lines s bank =
 abbrev pub breaks_text : Flat → List ℕ
 breaks_text s = codes "breaks " ++ or_dash (join_by address_text (codes " ") s.breakpoints)
 
+-- the two digits of a byte
+abbrev pub byte_text : ℕ → List ℕ
+byte_text b = hex_digit (b / 16) ∷ hex_digit (b % 16) ∷ []
+
+-- a watched character: its bank, and its SRC byte
+abbrev pub watch_text : ℕ → List ℕ
+watch_text w = digit_text (w / 256) ++ codes "." ++ byte_text (w % 256)
+
+-- `watches`: the watched characters, rising
+abbrev pub watches_text : Flat → List ℕ
+watches_text s = codes "watches " ++ or_dash (join_by watch_text (codes " ") s.watches)
+
+-- behind a word, texts that each begin with a space; a list of nothing is told as a dash
+abbrev pub spaced_or_dash : List ℕ → List ℕ
+spaced_or_dash [] = codes " -"
+spaced_or_dash text = text
+
+-- the SRC byte that a bank keeps, where it has chips
+abbrev pub bank_src_text : BusState → ℕ → List ℕ
+bank_src_text s bank =
+    if nat_lt 0 (wired_of s bank)
+    then codes " " ++ digit_text bank ++ codes "." ++ byte_text (slice_index s.ram_src bank)
+    else []
+
+-- the SRC byte that the ROMs keep, and those of the banks, rising
+abbrev pub src_line : BusState → List ℕ
+src_line s = codes "src " ++ byte_text s.rom_src ++ flat_map (bank_src_text s) (range_with_len 0 BANKS)
+
+-- the port of a ROM that is there: what its latch holds, and what is read there
+abbrev pub rom_port_lines : BusState → ℕ → List (List ℕ)
+rom_port_lines s chip =
+    elim (masks_on s.board chip) [
+      | Some mask ↦ (codes "rom " ++ decimal chip ++ codes " out " ++ digit_text (slice_index s.rom_ports chip) ++ codes " in " ++ digit_text (port_at s chip)) ∷ []
+      | None ↦ []
+    ]
+
+-- bit i of a chain; a space goes before each group of ten
+abbrev pub bit_text : BusState → ℕ → ℕ → List ℕ
+bit_text s n i = (if i % 10 == 0 then codes " " else []) ++ digit_text (chain_bit s n i)
+
+-- a chain: its bits, bit 0 first
+abbrev pub chain_line : BusState → ℕ → List ℕ
+chain_line s n = codes "chain " ++ digit_text n ++ flat_map (bit_text s n) (range_with_len 0 (chain_bits s.board n))
+
+-- the keys of a row that are down, each as row and column
+abbrev pub row_keys : BusState → ℕ → ℕ → List ℕ
+row_keys s columns row =
+    flat_map (λ column. if slice_index s.keys (key_place s.board row column) == 1 then codes " " ++ digit_text row ++ codes "." ++ digit_text column else [])
+    (range_with_len 0 columns)
+
+-- the keys that are down, row by row; no line where the board has no key matrix
+abbrev pub key_lines : BusState → List (List ℕ)
+key_lines s =
+    elim s.board.keys [
+      | Some m ↦ (codes "keys" ++ spaced_or_dash (flat_map (row_keys s (length m.columns.items)) (range_with_len 0 m.rows))) ∷ []
+      | None ↦ []
+    ]
+
+-- `ports`: what SRC has selected, the ports of the ROMs, the chains and the keys
+abbrev pub ports_lines : BusState → List (List ℕ)
+ports_lines s =
+    codes "ports" ∷ src_line s
+    ∷ flat_map (rom_port_lines s) (range_with_len 0 ROMS)
+    ++ map (chain_line s) (range_with_len 0 (chain_count s.board))
+    ++ key_lines s
+
 -- `seq`: how many commands were accepted
 abbrev pub seq_text : Flat → List ℕ
 seq_text s = codes "seq " ++ decimal s.seq
@@ -90,4 +159,6 @@ text Lamps s = lamps_text s
 text Regs s = regs_text s
 text (Ram bank) s = join_with_byte 10 (ram_lines s.bus bank)
 text Breaks s = breaks_text s
+text Watches s = watches_text s
+text Ports s = join_with_byte 10 (ports_lines s.bus)
 text Seq s = seq_text s

@@ -3,8 +3,8 @@ use Rattle.std.specs.Prelude.{ℕ}
 use Rattle.mcs_model.specs.declared.board.BoardFault.{BoardFault}
 use Rattle.mcs_model.specs.declared.board.BoardFault.TheVariants.{BadValue, NoSuchLine, WrongDirection}
 use Rattle.mcs_model.specs.declared.refusals.BenchFault.{BenchFault}
-use Rattle.mcs_model.specs.declared.refusals.BenchFault.TheVariants.{NoKey, NoRom, NoSuchPlace, BadCount, BreaksFull, Worn}
-use Rattle.mcs_model.specs.declared.refusal_numbers.TheConstants.{BAD_VALUE, NO_SUCH_LINE, WRONG_DIRECTION, NO_KEY, NO_ROM, NO_SUCH_PLACE, BAD_COUNT, BREAKS_FULL, WORN}
+use Rattle.mcs_model.specs.declared.refusals.BenchFault.TheVariants.{NoKey, NoRom, NoSuchPlace, BadCount, BreaksFull, Worn, WatchesFull}
+use Rattle.mcs_model.specs.declared.refusal_numbers.TheConstants.{BAD_VALUE, NO_SUCH_LINE, WRONG_DIRECTION, NO_KEY, NO_ROM, NO_SUCH_PLACE, BAD_COUNT, BREAKS_FULL, WORN, WATCHES_FULL}
 
 -- of a command
 abbrev pub bench_refusal_number : BenchFault → ℕ
@@ -14,6 +14,7 @@ bench_refusal_number NoSuchPlace = NO_SUCH_PLACE
 bench_refusal_number BadCount = BAD_COUNT
 bench_refusal_number BreaksFull = BREAKS_FULL
 bench_refusal_number Worn = WORN
+bench_refusal_number WatchesFull = WATCHES_FULL
 
 -- of a board
 abbrev pub board_refusal_number : BoardFault → ℕ

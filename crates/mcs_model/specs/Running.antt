@@ -1,9 +1,9 @@
 -- A run and a step: the cycle repeated up to the first reason to stop. (Our own choice.)
-use Rattle.std.specs.Prelude.{◌≡◌, ℕ, ◌+◌, ◌<◌, ◌≤◌, zero, suc, Bool, true, false, ◌&&◌, List, [], Option, Some, None, is_none, is_some, if◌then◌else◌, nat_lt, ◌==◌, unwrap_or, find}
+use Rattle.std.specs.Prelude.{◌≡◌, ℕ, ◌+◌, ◌<◌, ◌≤◌, zero, suc, Bool, true, false, ◌&&◌, List, [], Option, Some, None, is_none, is_some, not, slice_index, ◌-◌, if◌then◌else◌, nat_lt, ◌==◌, unwrap_or, find}
 use Rattle.std.specs.List.{range_with_len, list_any}
 use Rattle.mcs_model.specs.declared.regs.Regs.{Regs}
 use Rattle.mcs_model.specs.declared.stop.Stop.{Stop}
-use Rattle.mcs_model.specs.declared.stop.Stop.TheVariants.{Outside, Breakpoint, Ended}
+use Rattle.mcs_model.specs.declared.stop.Stop.TheVariants.{Outside, Breakpoint, Watched, Ended}
 use Rattle.mcs_model.specs.Bus.{BusState}
 use Rattle.mcs_model.specs.Effect.{cycle_of}
 
@@ -33,25 +33,43 @@ pub record Turned (left : ℕ) (s t : Machine) (k : ℕ) : Type 0 where
 abbrev pub at_break : List ℕ → ℕ → Machine → Bool
 at_break breaks k s = nat_lt 0 k && s.0.owed == 0 && list_any (λ a. a == s.0.pc) breaks
 
--- whether a run of n cycles stops after k of them, at the machine s, and why
-abbrev pub stop_at : List ℕ → ℕ → ℕ → Machine → Option Stop
-stop_at breaks n k s =
-    if is_outside s then Some Outside
-    else if at_break breaks k s then Some Breakpoint
+-- whether a watched RAM character has another value in the machine t than in s
+abbrev pub has_changed : List ℕ → Machine → Machine → Bool
+has_changed watches s t = list_any (λ w. not (slice_index s.1.ram w == slice_index t.1.ram w)) watches
+
+-- what stops a run: breakpoints and watched RAM characters
+pub record Stops : Type 0 where
+  pub breaks : List ℕ
+  pub watches : List ℕ
+
+-- whether a run of n cycles stops after k of them, which led to the machine t, the last one from the machine s, and why
+abbrev pub stop_at : Stops → ℕ → ℕ → Machine → Machine → Option Stop
+stop_at stops n k s t =
+    if is_outside t then Some Outside
+    else if at_break stops.breaks k t then Some Breakpoint
+    else if has_changed stops.watches s t then Some Watched
     else if k == n then Some Ended
     else None
 
+-- whether a run of n cycles from s stops after k of them; at k = 0 no cycle was done, so no character has changed
+abbrev pub stop_after : Stops → ℕ → Machine → ℕ → Option Stop
+stop_after stops n s k = stop_at stops n k (cycled (k - 1) s) (cycled k s)
+
 -- how many cycles a run of n cycles takes: the least k at which it stops
-abbrev pub run_length : List ℕ → ℕ → Machine → ℕ
-run_length breaks n s = unwrap_or (find (λ k. is_some (stop_at breaks n k (cycled k s))) (range_with_len 0 (n + 1))) n
+abbrev pub run_length : Stops → ℕ → Machine → ℕ
+run_length stops n s = unwrap_or (find (λ k. is_some (stop_after stops n s k)) (range_with_len 0 (n + 1))) n
 
 -- the machine after a run of n cycles
-abbrev pub after_run : List ℕ → ℕ → Machine → Machine
-after_run breaks n s = cycled (run_length breaks n s) s
+abbrev pub after_run : Stops → ℕ → Machine → Machine
+after_run stops n s = cycled (run_length stops n s) s
 
 -- why a run of n cycles stops
-abbrev pub run_stop : List ℕ → ℕ → Machine → Stop
-run_stop breaks n s = unwrap_or (stop_at breaks n (run_length breaks n s) (after_run breaks n s)) Ended
+abbrev pub run_stop : Stops → ℕ → Machine → Stop
+run_stop stops n s = unwrap_or (stop_after stops n s (run_length stops n s)) Ended
+
+-- nothing but its end and a code outside stops a run
+abbrev pub no_stops : Stops
+no_stops = record { breaks = []; watches = [] }
 
 -- whether a step stops after k cycles, at the machine s, and why: at its start where no cycle can
 -- follow, else behind the instruction
@@ -71,6 +89,6 @@ after_step s = cycled (step_length s) s
 abbrev pub step_stop : Machine → Stop
 step_stop s = unwrap_or (step_at (step_length s) (after_step s)) Ended
 
--- where no breakpoint is set, two runs come to where one run of all their cycles does
+-- where no breakpoint is set and nothing is watched, two runs come to where one run of all their cycles does
 abbrev pub RunsCompose : Type 0
-RunsCompose = (s : Machine) (a b : ℕ) → after_run [] b (after_run [] a s) ≡ after_run [] (a + b) s
+RunsCompose = (s : Machine) (a b : ℕ) → after_run no_stops b (after_run no_stops a s) ≡ after_run no_stops (a + b) s

@@ -3,7 +3,7 @@ use Rattle.std.specs.Prelude.{◌≡◌, ◌<◌, ◌≤◌, ◌+◌, ◌*◌, �
 use Rattle.std.specs.List.Sorted.{IsStrictlyIncreasing}
 use Rattle.mcs_nibble.specs.Ports.{latch_value}
 use Rattle.mcs_model.specs.declared.board.BoardParts.{BoardParts}
-use Rattle.mcs_model.specs.declared.limits.TheConstants.{ACCEPTED_COMMANDS, BREAKPOINTS}
+use Rattle.mcs_model.specs.declared.limits.TheConstants.{ACCEPTED_COMMANDS, BREAKPOINTS, WATCHES}
 use Rattle.mcs_model.specs.declared.regs.Regs.{Regs}
 use Rattle.mcs_model.specs.Boards.{IsSized, fault_of, masks_on, chain_bits, chain_count, key_count}
 use Rattle.mcs_model.specs.Bus.{BusState, wired_of}
@@ -72,8 +72,15 @@ pub record AreBreakpoints (items : List ℕ) : Type 0 where
   pub addresses : All (λ a. a < 4096) items
   pub rising : IsStrictlyIncreasing items
 
+-- at most 8 places of RAM characters, rising
+pub record AreWatches (items : List ℕ) : Type 0 where
+  pub few : length items ≤ WATCHES
+  pub places : All (λ a. a < 2048) items
+  pub rising : IsStrictlyIncreasing items
+
 pub record IsValid (s : Flat) : Type 0 where
   pub processor : IsValidRegs s.processor
   pub bus : IsValidBus s.bus
   pub breakpoints : AreBreakpoints s.breakpoints
+  pub watches : AreWatches s.watches
   pub seq : s.seq ≤ ACCEPTED_COMMANDS

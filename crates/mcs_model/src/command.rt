@@ -53,6 +53,10 @@ pub enum Command {
     Break(Addr),
     /// Makes an address none.
     Unbreak(Addr),
+    /// Watches the RAM character that an SRC byte selects in a bank, so that a run stops where its value changes.
+    Watch(BankNo, u8),
+    /// Watches that character no longer.
+    Unwatch(BankNo, u8),
 }
 
 /// What an accepted command answers.

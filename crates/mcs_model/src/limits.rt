@@ -10,13 +10,16 @@ pub const BANKS: usize = 8;
 pub const BANK_CHIPS: u8 = 4;
 
 /// Chains of 4003 chips of a board.
-pub const CHAINS: usize = 2;
+pub const CHAINS: usize = 4;
 
 /// 4003 chips of a chain.
-pub const CHAIN_CHIPS: u8 = 4;
+pub const CHAIN_CHIPS: u8 = 8;
 
-/// Bits of a chain.
-pub const CHAIN_BITS: u8 = 40;
+/// Bits of a chain: ten of each chip.
+pub const CHAIN_BITS: u8 = 10 * CHAIN_CHIPS;
+
+/// Places for the bits of a chain.
+pub const CHAIN_PLACES: usize = CHAIN_BITS as usize;
 
 /// Rows of a key matrix.
 pub const KEY_ROWS: u8 = 10;
@@ -24,11 +27,17 @@ pub const KEY_ROWS: u8 = 10;
 /// Columns of a key matrix.
 pub const KEY_COLUMNS: usize = 8;
 
+/// Keys of a matrix.
+pub const KEYS: usize = KEY_ROWS as usize * KEY_COLUMNS;
+
 /// Lamps of a board.
 pub const LAMPS: usize = 64;
 
 /// Breakpoints that are set at one time.
 pub const BREAKPOINTS: usize = 32;
+
+/// RAM characters that can be watched at one time.
+pub const WATCHES: usize = 8;
 
 /// Instruction cycles of one run.
 pub const RUN_CYCLES: u32 = 100_000;

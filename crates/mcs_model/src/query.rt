@@ -13,6 +13,10 @@ pub enum Query {
     Ram(BankNo),
     /// The breakpoints.
     Breaks,
+    /// The watched RAM characters.
+    Watches,
+    /// What SRC has selected, the ports of the ROMs, the chains and the keys.
+    Ports,
     /// How many commands were accepted.
     Seq,
 }

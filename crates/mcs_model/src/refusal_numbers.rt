@@ -84,6 +84,9 @@ pub const BREAKS_FULL: u8 = 45;
 /// The session has accepted all the commands that it can count.
 pub const WORN: u8 = 46;
 
+/// All watches are set.
+pub const WATCHES_FULL: u8 = 47;
+
 /// A file whose size or name is not that of a session.
 pub const NOT_A_SESSION: u8 = 50;
 

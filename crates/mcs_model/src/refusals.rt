@@ -26,6 +26,9 @@ pub enum BenchFault {
     /// The session has accepted all the commands that it can count.
     #[error("the session is worn")]
     Worn,
+    /// All watches are set.
+    #[error("all watches are set")]
+    WatchesFull,
 }
 
 impl BenchFault {
@@ -40,6 +43,7 @@ impl BenchFault {
             BenchFault::BadCount => refusal_numbers::BAD_COUNT,
             BenchFault::BreaksFull => refusal_numbers::BREAKS_FULL,
             BenchFault::Worn => refusal_numbers::WORN,
+            BenchFault::WatchesFull => refusal_numbers::WATCHES_FULL,
         }
     }
 }

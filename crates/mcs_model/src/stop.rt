@@ -7,6 +7,8 @@ pub enum Stop {
     Outside,
     /// The counter is a breakpoint.
     Breakpoint,
+    /// A watched RAM character has changed.
+    Watched,
     /// All its instruction cycles are done.
     Ended,
 }

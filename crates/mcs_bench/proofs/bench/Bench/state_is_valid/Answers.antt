@@ -9,5 +9,6 @@ returns c = subst IsValid c.self.view_is (record {
   processor = subst (λ (r : Regs). IsValidRegs r) c.regs.ensures.same c.registers_are_valid.ensures;
   bus = c.state_is_valid.ensures;
   breakpoints = c.state_is_valid-2.ensures;
+  watches = c.state_is_valid-3.ensures;
   seq = omega arith;
 })

@@ -1,15 +1,28 @@
-//! The processor over a rig of the bench's size.
+//! The bench's rig, which every board fits, and the processor over it.
 ghost use Rattle.std.specs.Prelude.{◌≡◌, ◌≢◌, ◌<◌, ◌↔◌, IsNone, unwrap_or};
 ghost use Rattle.mcs_model.specs.Effect.{cycle_of};
 ghost use Rattle.mcs_model.specs.Running.{Turned};
+ghost use Rattle.mcs_board.specs.Fitting.{FitsCounts};
 
 use crate::rig::Rig;
 use mcs_cpu4004::{Cpu, Cycle};
+use mcs_model::board::Board;
+use mcs_model::limits::{BANKS, CHAIN_PLACES, CHAINS, ROMS};
 use mcs_nibble::Addr;
+
+/// A rig that every board fits.
+pub type BenchRig = Rig<ROMS, BANKS, CHAINS, CHAIN_PLACES>;
+
+/// A law: every board fits the bench's rig.
+pub fn every_board_fits_the_bench(board: &Board)
+    ensures { FitsCounts board.now ROMS BANKS CHAINS CHAIN_PLACES }
+{
+    let _parts = board.parts();
+}
 
 /// One instruction cycle of a processor over a rig, which is the cycle on their flat states.
 #[inline(always)]
-pub fn cycle(cpu: &mut Cpu, rig: &mut Rig<16, 8, 2, 40>) -> Cycle
+pub fn cycle(cpu: &mut Cpu, rig: &mut BenchRig) -> Cycle
     ensures outside { (result ≡ Cycle.Outside) ↔ IsNone (cycle_of cpu.old rig.old) }
     ensures idle { (result ≡ Cycle.Idle) ↔ (cpu.old.owed ≡ 1) }
     ensures state { (cpu.new, rig.new) ≡ unwrap_or (cycle_of cpu.old rig.old) (cpu.old, rig.old) }
@@ -21,7 +34,7 @@ pub fn cycle(cpu: &mut Cpu, rig: &mut Rig<16, 8, 2, 40>) -> Cycle
 /// the address where the processor goes on, and how many cycles it did; 0 where none can follow. The counter itself
 /// stays as it is.
 #[inline(always)]
-pub fn turn(cpu: &mut Cpu, rig: &mut Rig<16, 8, 2, 40>, at: Addr, left: u32) -> (Addr, u32)
+pub fn turn(cpu: &mut Cpu, rig: &mut BenchRig, at: Addr, left: u32) -> (Addr, u32)
     requires free { cpu.old.owed ≢ 1 }
     requires some { 0 < left }
     ensures turned { Turned left (record cpu.old { pc = at }, rig.old) (record cpu.new { pc = result.0 }, rig.new) result.1 }

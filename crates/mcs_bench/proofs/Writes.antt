@@ -1,0 +1,211 @@
+-- Which instructions change a RAM character, and which characters they change: WRM alone, and the selected one alone.
+use Rattle.std.proofs.Common.{◌≡◌, ◌≢◌, ℕ, ◌+◌, ◌-◌, ◌*◌, ◌/◌, ◌<◌, ◌≤◌, zero, suc, Bool, true, false, ◌||◌, ◌&&◌, not, cond, List, [], ◌∷◌, Option, Some, None, slice_index, slice_set, length, unwrap_or, inl, inr, refl, sym, ap, ◌∙◌, subst, arith, eqb, eq-eqb, nat_lt}
+use Rattle.std.proofs.lemmas.Bool.{cases_eq}
+use Rattle.std.proofs.lemmas.List.{get_or-set_other, get_or-set_same, set-get_or}
+use Rattle.std.proofs.lemmas.Bool.Decides.{nat_tests}
+use Rattle.mcs_model.specs.declared.regs.Regs.{Regs}
+use Rattle.mcs_model.specs.declared.op.Op.{Op}
+use Rattle.mcs_model.specs.declared.op.Op.TheVariants.{Nop, Jcn, Fim, Src, Fin, Jin, Jun, Jms, Inc, Isz, Add, Sub, Ld, Xch, Bbl, Ldm, Wrm, Wmp, Wrr, Wr0, Wr1, Wr2, Wr3, Sbm, Rdm, Rdr, Adm, Rd0, Rd1, Rd2, Rd3, Clb, Clc, Iac, Cmc, Cma, Ral, Rar, Tcc, Dac, Tcs, Stc, Daa, Kbp, Dcl}
+use Rattle.mcs_nibble.specs.declared.lines.LineMask.{LineMask}
+use Rattle.mcs_nibble.specs.Ports.{latch_value}
+use Rattle.std.specs.List.{list_all, range_with_len}
+use Rattle.mcs_model.specs.Table.{decoded, row_of}
+use Rattle.mcs_model.specs.Boards.{masks_on}
+use Rattle.mcs_model.specs.Bus.{BusState, after_src, after_ram, after_status, src_of, wired_of, has_chip}
+use Rattle.mcs_model.specs.Levels.{after_ram_port, after_rom_port, chains_clocked, clock_levels, with_rom_latch}
+use Rattle.mcs_model.specs.Effect.{cycle_of, effect, bus_after, instruction_at}
+use Rattle.mcs_model.specs.Running.{Machine, Turned, cycled, has_changed, is_outside}
+use Rattle.mcs_model.specs.Breakpoints.{is_breakpoint}
+use Rattle.mcs_bench.specs.Runs.{Seen}
+
+either-ram : (b : Bool) (x y : BusState) (ram : List ℕ) → x.ram ≡ ram → y.ram ≡ ram → (cond b x y).ram ≡ ram
+either-ram true x y ram e f = e
+either-ram false x y ram e f = f
+
+src-keeps : (m : BusState) (bank byte : ℕ) → (after_src m bank byte).ram ≡ m.ram
+unfolding after_src
+src-keeps m bank byte = either-ram (nat_lt 0 (wired_of m bank)) _ _ m.ram refl refl
+
+status-keeps : (m : BusState) (bank k n : ℕ) → (after_status m bank k n).ram ≡ m.ram
+unfolding after_status
+status-keeps m bank k n = either-ram (has_chip m bank (src_of m bank)) _ _ m.ram refl refl
+
+ram-port-keeps : (m : BusState) (bank n : ℕ) → (after_ram_port m bank n).ram ≡ m.ram
+unfolding after_ram_port chains_clocked
+ram-port-keeps m bank n = either-ram (has_chip m bank (src_of m bank)) _ _ m.ram refl refl
+
+chosen : (o : Option (List LineMask)) (m : BusState) (f : List LineMask → BusState) → ((mask : List LineMask) → (f mask).ram ≡ m.ram) → (elim o as (λ _. BusState) [ Some mask ↦ f mask | None ↦ m ]).ram ≡ m.ram
+chosen None m f h = refl
+chosen (Some mask) m f h = h mask
+
+rom-port-keeps : (m : BusState) (n : ℕ) → (after_rom_port m n).ram ≡ m.ram
+unfolding after_rom_port chains_clocked
+rom-port-keeps m n = chosen (masks_on m.board (m.rom_src / 16)) m _ (λ mask. refl)
+
+-- an instruction that is no WRM keeps the RAM characters
+op-keeps : (op : Op) (s : Regs) (m : BusState) → op ≢ Wrm → (bus_after op s m).ram ≡ m.ram
+op-keeps Nop s m h = refl
+op-keeps (Jcn a b) s m h = refl
+op-keeps (Fim a b) s m h = refl
+op-keeps (Src a) s m h = src-keeps m s.dcl _
+op-keeps (Fin a) s m h = refl
+op-keeps (Jin a) s m h = refl
+op-keeps (Jun a b) s m h = refl
+op-keeps (Jms a b) s m h = refl
+op-keeps (Inc a) s m h = refl
+op-keeps (Isz a b) s m h = refl
+op-keeps (Add a) s m h = refl
+op-keeps (Sub a) s m h = refl
+op-keeps (Ld a) s m h = refl
+op-keeps (Xch a) s m h = refl
+op-keeps (Bbl a) s m h = refl
+op-keeps (Ldm a) s m h = refl
+op-keeps Wrm s m h = absurd (h refl)
+op-keeps Wmp s m h = ram-port-keeps m s.dcl s.acc
+op-keeps Wrr s m h = rom-port-keeps m s.acc
+op-keeps Wr0 s m h = status-keeps m s.dcl 0 s.acc
+op-keeps Wr1 s m h = status-keeps m s.dcl 1 s.acc
+op-keeps Wr2 s m h = status-keeps m s.dcl 2 s.acc
+op-keeps Wr3 s m h = status-keeps m s.dcl 3 s.acc
+op-keeps Sbm s m h = refl
+op-keeps Rdm s m h = refl
+op-keeps Rdr s m h = refl
+op-keeps Adm s m h = refl
+op-keeps Rd0 s m h = refl
+op-keeps Rd1 s m h = refl
+op-keeps Rd2 s m h = refl
+op-keeps Rd3 s m h = refl
+op-keeps Clb s m h = refl
+op-keeps Clc s m h = refl
+op-keeps Iac s m h = refl
+op-keeps Cmc s m h = refl
+op-keeps Cma s m h = refl
+op-keeps Ral s m h = refl
+op-keeps Rar s m h = refl
+op-keeps Tcc s m h = refl
+op-keeps Dac s m h = refl
+op-keeps Tcs s m h = refl
+op-keeps Stc s m h = refl
+op-keeps Daa s m h = refl
+op-keeps Kbp s m h = refl
+op-keeps Dcl s m h = refl
+
+op-of : (o : Option Op) (s : Machine) → o ≢ Some Wrm → (unwrap_or (elim o [ Some op ↦ Some (effect op s.0 s.1) | None ↦ None ]) s).1.ram ≡ s.1.ram
+op-of None s h = refl
+op-of (Some op) s h = op-keeps op _ s.1 (λ e. h (ap Some e))
+
+-- nor does a cycle that does no WRM
+pub cycle-keeps : (s : Machine) → instruction_at s.0 s.1 ≢ Some Wrm → (cycled 1 s).1.ram ≡ s.1.ram
+unfolding cycle_of
+cycle-keeps s h =
+    elim (eqb s.0.owed 1) as (λ v. (unwrap_or (cond v (Some (record s.0 { owed = 0 }, s.1)) (elim (instruction_at s.0 s.1) [ Some op ↦ Some (effect op s.0 s.1) | None ↦ None ])) s).1.ram ≡ s.1.ram) [
+      | true ↦ refl
+      | false ↦ op-of (instruction_at s.0 s.1) s h
+    ]
+
+-- nor an idle one
+pub idle-keeps : (s : Machine) → s.0.owed ≡ 1 → (cycled 1 s).1.ram ≡ s.1.ram
+unfolding cycle_of
+idle-keeps s e = rw e refl
+
+-- a WRM
+pub write-does : (s : Machine) → s.0.owed ≢ 1 → instruction_at s.0 s.1 ≡ Some Wrm → cycled 1 s ≡ effect Wrm s.0 s.1
+unfolding cycle_of
+write-does s free at = let e : eqb s.0.owed 1 ≡ false = grind (arith, nat_tests) in rw (e, at) refl
+
+-- ---- what is seen of it
+
+pub same-ram : (watches : List ℕ) (s t : Machine) → s.1.ram ≡ t.1.ram → has_changed watches s t ≡ false
+same-ram [] s t e = refl
+same-ram (w ∷ ws) s t e = let here : eqb (slice_index s.1.ram w) (slice_index t.1.ram w) ≡ true = eq-eqb _ _ (ap (λ (xs : List ℕ). slice_index xs w) e) in rw (here, same-ram ws s t e) refl
+
+absorbs : (b x : Bool) → (b || (x && b)) ≡ b
+absorbs true x = refl
+absorbs false true = refl
+absorbs false false = refl
+
+-- where no place but one has changed, a watched one has if it is that one
+pub one-changed : (watches : List ℕ) (s t : Machine) (place : ℕ) → ((w : ℕ) → w ≢ place → slice_index s.1.ram w ≡ slice_index t.1.ram w) → has_changed watches s t ≡ (is_breakpoint watches place && not (eqb (slice_index s.1.ram place) (slice_index t.1.ram place)))
+one-changed [] s t place others = refl
+one-changed (w ∷ ws) s t place others =
+    elim (cases_eq w place) [
+      | inl e ↦ (
+          let on : eqb w place ≡ true = eq-eqb w place e in
+          rw (on, one-changed ws s t place others, e) (absorbs (not (eqb (slice_index s.1.ram place) (slice_index t.1.ram place))) (is_breakpoint ws place)))
+      | inr ne ↦ (
+          let off : eqb w place ≡ false = grind (arith, nat_tests) in
+          let same : eqb (slice_index s.1.ram w) (slice_index t.1.ram w) ≡ true = eq-eqb _ _ (others w ne) in
+          rw (off, same) (one-changed ws s t place others))
+    ]
+
+place-of : (b : Bool) (m : BusState) (place n w : ℕ) → w ≢ place → slice_index m.ram w ≡ slice_index (cond b (record m { ram = slice_set m.ram place n }) m).ram w
+place-of true m place n w ne = sym (get_or-set_other m.ram place w n 0 ne)
+place-of false m place n w ne = refl
+
+-- a write changes no other place than the selected one
+pub write-others : (m : BusState) (bank n w : ℕ) → w ≢ bank * 256 + src_of m bank → slice_index m.ram w ≡ slice_index (after_ram m bank n).ram w
+unfolding after_ram
+write-others m bank n w ne = place-of (has_chip m bank (src_of m bank)) m (bank * 256 + src_of m bank) n w ne
+
+-- ---- the code of WRM
+
+is_wrm : Option Op → Bool
+is_wrm (Some Wrm) = true
+is_wrm _ = false
+
+-- code by code
+other-codes : (x : ℕ) → list_all (λ code. eqb code 224 || not (is_wrm (decoded code x))) (range_with_len 0 256) ≡ true
+unfolding decoded row_of is_wrm
+other-codes x = refl
+
+both-true : (a b : Bool) → (a && b) ≡ true → a ≡ true
+both-true true b h = refl
+both-true false b h = absurd (cc)
+
+rest-true : (a b : Bool) → (a && b) ≡ true → b ≡ true
+rest-true true b h = h
+rest-true false b h = absurd (cc)
+
+all-at : (p : ℕ → Bool) (a n k : ℕ) → list_all p (range_with_len a n) ≡ true → a ≤ k → k < a + n → p k ≡ true
+all-at p a zero k h l m = absurd (omega arith)
+all-at p a (suc n) k h l m =
+    elim (cases_eq a k) [
+      | inl e ↦ ap p (sym e) ∙ both-true (p a) _ h
+      | inr ne ↦ all-at p (a + 1) n k (rest-true (p a) _ h) (omega arith) (omega arith)
+    ]
+
+pub code-writes : (code x : ℕ) → code ≡ 224 → decoded code x ≡ Some Wrm
+unfolding decoded row_of
+code-writes code x e = rw e refl
+
+neither-way : (a b : Bool) → a ≡ false → b ≡ true → (a || not b) ≡ true → ⊥
+neither-way true b e f h = cc
+neither-way false true e f h = cc
+neither-way false false e f h = cc
+
+pub only-code : (code x : ℕ) → code < 256 → code ≢ 224 → decoded code x ≢ Some Wrm
+unfolding is_wrm
+only-code code x l ne e =
+    let off : eqb code 224 ≡ false = grind (arith, nat_tests) in
+    let on = all-at (λ c. eqb c 224 || not (is_wrm (decoded c x))) 0 256 code (other-codes x) (omega arith) l in
+    let at : is_wrm (decoded code x) ≡ true = ap is_wrm e in
+    neither-way (eqb code 224) (is_wrm (decoded code x)) off at on
+
+-- ---- what a write does to the selected character
+
+written-there : (b : Bool) (m : BusState) (place n : ℕ) → slice_index m.ram place ≡ n → slice_index (cond b (record m { ram = slice_set m.ram place n }) m).ram place ≡ n
+written-there true m place n e = ap (λ v. slice_index (slice_set m.ram place v) place) (sym e) ∙ ap (λ (xs : List ℕ). slice_index xs place) (set-get_or m.ram place 0) ∙ e
+written-there false m place n e = e
+
+pub lost-write : (m : BusState) (bank n : ℕ) → has_chip m bank (src_of m bank) ≡ false → (after_ram m bank n).ram ≡ m.ram
+unfolding after_ram
+lost-write m bank n off = rw off refl
+
+-- a value that is there already
+pub same-write : (m : BusState) (bank n : ℕ) → slice_index m.ram (bank * 256 + src_of m bank) ≡ n → slice_index (after_ram m bank n).ram (bank * 256 + src_of m bank) ≡ n
+unfolding after_ram
+same-write m bank n e = written-there (has_chip m bank (src_of m bank)) m (bank * 256 + src_of m bank) n e
+
+pub new-write : (m : BusState) (bank n : ℕ) → has_chip m bank (src_of m bank) ≡ true → bank * 256 + src_of m bank < length m.ram → slice_index (after_ram m bank n).ram (bank * 256 + src_of m bank) ≡ n
+unfolding after_ram
+new-write m bank n on l = rw on (get_or-set_same m.ram (bank * 256 + src_of m bank) n 0 l)

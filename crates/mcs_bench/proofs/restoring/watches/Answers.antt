@@ -1,0 +1,22 @@
+use Rattle.std.proofs.Common.{◌≡◌, ◌∙◌, ◌<◌, ◌/◌, ◌%◌, ℕ, List, ap, arith, length, length-take-le, take, get_or}
+use Rattle.mcs_model.specs.Breakpoints.{with_breakpoint}
+use Rattle.mcs_model.specs.Command.{watch_place}
+use Rattle.mcs_bench.proofs.Marks.{with-next, room-of}
+use Rattle.mcs_bench.proofs.restoring.watches.Goals as goal
+
+pub loop-at-preserved : goal.loop-at-preserved
+loop-at-preserved c =
+    let list : List ℕ = c.args.list.now in
+    let i : ℕ = c.loop-at.at-index in
+    let x : ℕ = get_or list i 0 in
+    let same : watch_place (x / 256) (x % 256) ≡ x = omega arith in
+    c.set.ensures ∙ ap (λ (xs : List ℕ). with_breakpoint xs (watch_place (x / 256) (x % 256))) c.loop-at.invariant ∙ ap (with_breakpoint (take i list)) same ∙ with-next list i c.requires.rising c.loop-at-test.true
+
+pub set-requires-clause-room : goal.set-requires-clause-room
+set-requires-clause-room c =
+    let i : ℕ = c.loop-at.at-index in
+    let list : List ℕ = c.args.list.now in
+    let all : length c.loop-at.watches ≡ length (take i list) = ap length c.loop-at.invariant in
+    let some : length (take i list) ≡ i = length-take-le i list (omega arith) in
+    let few = c.requires.few in
+    room-of _ (length c.loop-at.watches) (omega arith)

@@ -1,0 +1,105 @@
+//! Watched RAM characters.
+ghost use Rattle.std.specs.Prelude.{◌≡◌, ◌<◌, ◌+◌, ◌*◌, ◌||◌, true, [], length, nat_lt};
+ghost use Rattle.mcs_model.specs.Breakpoints.{is_breakpoint, with_breakpoint, without_breakpoint};
+ghost use Rattle.mcs_model.specs.Command.{watch_place};
+ghost use Rattle.mcs_model.specs.Validity.{AreWatches};
+
+use crate::breaks::Breaks;
+use mcs_model::limits::WATCHES;
+use mcs_nibble::Addr;
+use std::marker::Model;
+
+/// The places of the watched characters, each at bank * 256 + SRC byte, rising, with a mark for each. A run asks for a
+/// place in constant time.
+#[derive(Drop)]
+pub(crate) struct Watches {
+    places: Breaks,
+}
+
+impl Model for Watches {
+    ghost use Rattle.std.specs.Prelude.{List, ℕ};
+    ghost use Rattle.mcs_bench.specs.Breaks.{AreFew};
+
+    ghost Value = { List ℕ };
+
+    ghost view = { λ w. w.places };
+
+    ghost invariant = { λ w. AreFew w.places };
+}
+
+/// Where the character of a bank and an SRC byte stands.
+#[inline(always)]
+fn place_of(bank: u8, src: u8) -> Addr
+    requires { bank < 8 }
+    ensures { result ≡ watch_place bank src }
+{
+    Addr::ZERO.plus(u16::from(bank) * 256 + u16::from(src))
+}
+
+impl Watches {
+    /// No character is watched.
+    pub(crate) fn new() -> Watches
+        ensures { result ≡ [] }
+    {
+        Watches {
+            places: Breaks::new(),
+        }
+    }
+
+    /// The places, rising.
+    pub(crate) fn list(&self) -> &[Addr]
+        ensures same { result.now ≡ self.now }
+        ensures valid { AreWatches result.now }
+    {
+        self.places.list()
+    }
+
+    /// Whether no character is watched.
+    pub(crate) fn is_empty(&self) -> bool
+        ensures { result ≡ true → self.now ≡ [] }
+    {
+        self.places.list().is_empty()
+    }
+
+    /// Whether a character is watched.
+    #[inline(always)]
+    pub(crate) fn contains(&self, bank: u8, src: u8) -> bool
+        requires { bank < 8 }
+        ensures { result ≡ is_breakpoint self.now (watch_place bank src) }
+    {
+        self.places.contains(place_of(bank, src))
+    }
+
+    /// Whether a character is watched, or can be.
+    pub(crate) fn has_room_for(&self, bank: u8, src: u8) -> bool
+        requires { bank < 8 }
+        ensures { result ≡ (is_breakpoint self.now (watch_place bank src) || nat_lt (length self.now) WATCHES) }
+    {
+        self.contains(bank, src) || self.places.list().len() < WATCHES
+    }
+
+    /// Watches a character.
+    pub(crate) fn set(&mut self, bank: u8, src: u8)
+        requires bank { bank < 8 }
+        requires src { src < 256 }
+        requires room { (is_breakpoint self.old (watch_place bank src) || nat_lt (length self.old) WATCHES) ≡ true }
+        ensures { self.new ≡ with_breakpoint self.old (watch_place bank src) }
+    {
+        self.places.set(place_of(bank, src));
+    }
+
+    /// Watches it no more.
+    pub(crate) fn clear(&mut self, bank: u8, src: u8)
+        requires { bank < 8 }
+        ensures { self.new ≡ without_breakpoint self.old (watch_place bank src) }
+    {
+        self.places.clear(place_of(bank, src));
+    }
+
+    /// A law: they are at most so many, each a place, rising.
+    pub(crate) fn state_is_valid(&self)
+        ensures { AreWatches self.now }
+    {
+        let _places = self.places.list();
+    }
+}

@@ -1,0 +1,11 @@
+use Rattle.mcs_codec.proofs.StateCodec.{same_state, state_told}
+use Rattle.mcs_codec.proofs.versions.one_state.Goals as goal
+
+pub returns-clause-states : goal.returns-clause-states
+returns-clause-states c = λ bytes v w s t h k. (same_state bytes v w s t h k).1
+
+pub returns-clause-versions : goal.returns-clause-versions
+returns-clause-versions c = λ bytes v w s t h k. (same_state bytes v w s t h k).0
+
+pub returns-clause-told : goal.returns-clause-told
+returns-clause-told c = λ bytes first s h. state_told first bytes s h

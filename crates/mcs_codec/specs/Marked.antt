@@ -1,0 +1,34 @@
+-- The version of a state's bytes. A state of version 1 has its board behind the count of commands and ends with its
+-- breakpoints; one of version 2 has the byte 02 before its board, and its watches behind the breakpoints. (Our own choice.)
+-- Here `first` is true of version 1.
+use Rattle.std.specs.Prelude.{ℕ, Bool, true, false, ◌==◌, List, [], ◌∷◌, Option, Some, drop, if◌then◌else◌}
+use Rattle.std.specs.Int.{w16}
+use Rattle.mcs_model.specs.declared.board.BoardParts.{BoardParts}
+use Rattle.mcs_version1.specs.Boards.{is_small}
+use Rattle.mcs_codec.specs.Reading.{giving, only, number_at, counted_at}
+use Rattle.mcs_codec.specs.BoardText.{board_text, counted}
+use Rattle.mcs_codec.specs.BoardReading.{board_at}
+use Rattle.mcs_codec.specs.CommandText.{address}
+
+-- the board, with the mark of version 2 before it
+abbrev pub marked_text : Bool × BoardParts → List ℕ
+marked_text x = if x.0 then board_text x.1 else 2 ∷ board_text x.1
+
+-- whether bytes begin with the mark
+abbrev pub is_marked : List ℕ → Bool
+is_marked [] = false
+is_marked (b ∷ bytes) = b == 2
+
+unfoldable pub marked_at : List ℕ → Option ((Bool × BoardParts) × List ℕ)
+marked_at bytes =
+    if is_marked bytes then giving (λ b. (false, b)) (board_at (drop 1 bytes))
+    else giving (λ b. (true, b)) (only is_small board_at bytes)
+
+-- the watches, each as its bank and its SRC byte: the two bytes of its place; none in version 1
+abbrev pub watches_text : Bool → List ℕ → List ℕ
+watches_text true watches = []
+watches_text false watches = counted address watches
+
+unfoldable pub watches_at : Bool → List ℕ → Option (List ℕ × List ℕ)
+watches_at true bytes = Some ([], bytes)
+watches_at false bytes = counted_at 8 (number_at w16) bytes

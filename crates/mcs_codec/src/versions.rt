@@ -1,0 +1,76 @@
+//! The two versions of a session's bytes.
+ghost use Rattle.std.specs.Prelude.{◌≡◌, List, ℕ, Bool, Some, nat_lt, if◌then◌else◌};
+ghost use Rattle.std.specs.List.{list_any};
+ghost use Rattle.mcs_model.specs.Flat.{Flat as State};
+ghost use Rattle.mcs_version1.specs.Boards.{is_small};
+ghost use Rattle.mcs_version1.specs.Command.{in_version_1};
+ghost use Rattle.mcs_codec.specs.Codec.{SpellsStateBy, version_of};
+
+use mcs_model::board::Board;
+use mcs_model::command::Command;
+
+/// Chains of a board of version 1.
+const FIRST_CHAINS: usize = 2;
+
+/// Chips of a chain of version 1.
+const FIRST_CHAIN_CHIPS: u8 = 4;
+
+/// Whether a board has a chain that is too long for version 1.
+fn has_long_chain(board: &Board) -> bool
+    ensures { result ≡ list_any (λ chain. nat_lt FIRST_CHAIN_CHIPS chain.chips) board.now.chains.items }
+{
+    board.parts().chains.iter().any(|chain| chain.chips > FIRST_CHAIN_CHIPS)
+}
+
+/// Whether a board is one of version 1: at most two chains of at most four chips.
+pub(crate) fn is_small(board: &Board) -> bool
+    ensures { result ≡ is_small board.now }
+{
+    if board.chain_count() > FIRST_CHAINS {
+        return false;
+    }
+    !has_long_chain(board)
+}
+
+/// Whether version 1 has a command: it watches nothing, and has shorter and fewer chains.
+pub fn in_version_1(command: &Command) -> bool
+    ensures { result ≡ in_version_1 command.now }
+{
+    match command {
+        Command::Wire(board) => is_small(board),
+        Command::Watch(_, _) | Command::Unwatch(_, _) => false,
+        Command::Load(_)
+        | Command::Press(_, _)
+        | Command::Release(_, _)
+        | Command::Run(_)
+        | Command::Step
+        | Command::Poke(_)
+        | Command::Test(_)
+        | Command::Reset
+        | Command::Break(_)
+        | Command::Unbreak(_) => true,
+    }
+}
+
+/// The version that the bytes of a state tell by their fifth: 1 where it is a port character, `i`, `0`, `1` or `-`, and 2
+/// where it is 02; else none. Whether they spell a state is not asked.
+pub fn version_of(bytes: &[u8]) -> Option<u8>
+    ensures { result ≡ version_of bytes.now }
+{
+    if bytes.len() < 5 {
+        return None;
+    }
+    match bytes[4] {
+        b'i' | b'0' | b'1' | b'-' => Some(1),
+        2 => Some(2),
+        _ => None,
+    }
+}
+
+/// A law: no bytes spell two states, nor states of both versions, and the fifth byte tells the version of the state that they
+/// spell. (And each state has one spelling in each version that has it: the definitions give one.)
+pub fn one_state()
+    ensures states { (bytes : List ℕ) (v w : Bool) (s t : State) → SpellsStateBy v bytes s → SpellsStateBy w bytes t → s ≡ t }
+    ensures versions { (bytes : List ℕ) (v w : Bool) (s t : State) → SpellsStateBy v bytes s → SpellsStateBy w bytes t → v ≡ w }
+    ensures told { (bytes : List ℕ) (first : Bool) (s : State) → SpellsStateBy first bytes s → version_of bytes ≡ Some (if first then 1 else 2) }
+{}

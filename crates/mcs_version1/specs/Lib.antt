@@ -1,0 +1,8 @@
+pub mod Boards
+pub mod Flat
+pub mod Validity
+pub mod Running
+pub mod Command
+pub mod Fold
+pub mod QueryText
+pub mod Lift

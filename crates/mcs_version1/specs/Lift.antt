@@ -1,0 +1,39 @@
+-- A state of version 1 as one of the last version, and that commands and queries do not tell the two apart.
+use Rattle.std.specs.Prelude.{◌≡◌, [], IsTrue, List}
+use Rattle.mcs_model.specs.declared.command.Command.{Command}
+use Rattle.mcs_model.specs.declared.query.Query.{Query}
+use Rattle.mcs_model.specs.declared.query.Query.TheVariants as asked
+use Rattle.mcs_model.specs.Command.{refusal, after, reply}
+use Rattle.mcs_model.specs.Flat.{Flat}
+use Rattle.mcs_model.specs.Fold.{fold}
+use Rattle.mcs_model.specs.QueryText.{text}
+use Rattle.mcs_version1.specs.Command.{in_version_1, refusal_1, after_1, reply_1}
+use Rattle.mcs_version1.specs.Flat.{Flat1}
+use Rattle.mcs_version1.specs.Fold.{fold_1, AreAccepted1}
+use Rattle.mcs_version1.specs.QueryText.{Query1, text_1, Lamps, Regs, Ram, Breaks, Seq}
+
+-- the same fields, and nothing is watched; the board and what its chips hold are the same
+abbrev pub lift : Flat1 → Flat
+lift s = record { processor = s.processor; bus = s.bus; breakpoints = s.breakpoints; watches = []; seq = s.seq }
+
+abbrev pub lift_query : Query1 → Query
+lift_query Lamps = asked.Lamps
+lift_query Regs = asked.Regs
+lift_query (Ram bank) = asked.Ram bank
+lift_query Breaks = asked.Breaks
+lift_query Seq = asked.Seq
+
+-- a command of version 1 on a state of version 1
+pub record IsLifted (s : Flat1) (c : Command) : Type 0 where
+  pub refusal : refusal (lift s) c ≡ refusal_1 s c
+  pub after : lift (after_1 s c) ≡ after (lift s) c
+  pub reply : reply (lift s) c ≡ reply_1 s c
+
+abbrev pub CommandsLift : Type 0
+CommandsLift = (s : Flat1) (c : Command) → IsTrue (in_version_1 c) → IsLifted s c
+
+abbrev pub QueriesLift : Type 0
+QueriesLift = (s : Flat1) (q : Query1) → text (lift_query q) (lift s) ≡ text_1 q s
+
+abbrev pub FoldsLift : Type 0
+FoldsLift = (s : Flat1) (cs : List Command) → AreAccepted1 s cs → lift (fold_1 s cs) ≡ fold (lift s) cs

@@ -1,0 +1,13 @@
+//! Laws of the definitions, each proved as the contract of a function that does nothing.
+ghost use Rattle.mcs_version1.specs.Lift.{CommandsLift, FoldsLift, QueriesLift};
+
+/// What version 1 refuses, does and answers at a command is what the last version does at the lifted state.
+pub fn commands_lift()
+    ensures each { CommandsLift }
+    ensures folds { FoldsLift }
+{}
+
+/// What version 1 tells of a state is what the last version tells of the lifted state.
+pub fn queries_lift()
+    ensures { QueriesLift }
+{}
