@@ -21,7 +21,7 @@ reopened t old new found opened s u done reached kept le h =
 
 pub not_refused : (fault : OpenFault) (disk : DiskState) (s : Flat) → IsLawful disk → StandsFor disk.bytes s → RefusesSession fault disk → (fault ≡ Device) ⊎ (fault ≡ NoMemory)
 not_refused NotASession disk s lawful stands h = absurd (is_session disk stands.snap stands.records lawful stands.holds h)
-not_refused Damaged disk s lawful stands h = absurd (h.1 s stands)
+not_refused Damaged disk s lawful stands h = absurd (h.1 s (inl stands))
 not_refused Device disk s lawful stands h = inl refl
 not_refused NoMemory disk s lawful stands h = inr refl
 

@@ -1,5 +1,5 @@
 -- Room for a record, a snapshot where there is none, and the record behind it.
-use Rattle.std.proofs.Common.{◌≡◌, ◌+◌, ◌≤◌, inl, inr, ⊎_elim, List, [], ◌∷◌, ◌++◌, ℕ, None, sym, ap, subst, refl, arith, length}
+use Rattle.std.proofs.Common.{◌≡◌, ◌+◌, ◌≤◌, inl, inr, ⊎_elim, List, [], ◌∷◌, ◌++◌, ℕ, false, None, sym, ap, subst, refl, arith, length}
 use Rattle.std.proofs.lemmas.Grind.{common_steps}
 use Rattle.mcs_disk.specs.Disk.{DiskState, IsLawful}
 use Rattle.mcs_disk.specs.Moments.{Either, IsDurable, LeavesOnly}
@@ -7,7 +7,7 @@ use Rattle.mcs_disk.proofs.Composing.{leaves_map, leaves_then}
 use Rattle.mcs_journal.specs.File.{HasRoom, Holds, spelled}
 use Rattle.mcs_journal.proofs.Unique.{same_snap, same_pair}
 use Rattle.mcs_model.specs.declared.command.Command.{Command}
-use Rattle.mcs_model.specs.declared.command.Command.TheVariants.{Wire, Load, Press, Release, Run, Step, Poke, Test, Reset, Break, Unbreak}
+use Rattle.mcs_model.specs.declared.command.Command.TheVariants.{Wire, Load, Press, Release, Run, Step, Poke, Test, Reset, Break, Unbreak, Watch, Unwatch}
 use Rattle.mcs_model.specs.declared.limits.TheConstants.{REPLAY_CYCLES}
 use Rattle.mcs_model.specs.Flat.{Flat}
 use Rattle.mcs_model.specs.Command.{refusal, after}
@@ -15,7 +15,8 @@ use Rattle.mcs_session.specs.Answers.{Acknowledges, MayLeave, Ticks}
 use Rattle.mcs_codec.specs.Codec.{Spells, SpellsState}
 use Rattle.mcs_codec.specs.CommandText.{command_text}
 use Rattle.mcs_session.specs.Invariant.{HasMadeRoom, IsRecorded, IsReplayed}
-use Rattle.mcs_session.specs.Stands.{HasSpace, StandsFor, log_cycles, replay_cycles}
+use Rattle.mcs_session.specs.Cycles.{log_cycles, replay_cycles}
+use Rattle.mcs_session.specs.Stands.{HasSpace, StandsFor}
 use Rattle.mcs_session.proofs.Files.{at_of, recorded_new, stands_by, stands_new}
 use Rattle.mcs_session.proofs.Records.{pair_more, replayed_more, same_list}
 
@@ -34,6 +35,8 @@ few_cycles s (Test bit) h = omega arith
 few_cycles s Reset h = omega arith
 few_cycles s (Break at) h = omega arith
 few_cycles s (Unbreak at) h = omega arith
+few_cycles s (Watch bank src) h = omega arith
+few_cycles s (Unwatch bank src) h = omega arith
 
 -- ---- where there is room
 
@@ -63,7 +66,7 @@ pub no_space : (disk : DiskState) (used bytes more cycles : ℕ) (s : Flat) (was
 no_space disk used bytes more cycles s was is none there =
     let snap = same_snap _ _ _ _ _ there.stands.holds was.stands.holds in
     let records = same_pair _ _ _ _ _ there.stands.holds was.stands.holds in
-    let commands = same_list there.stands.snap was.stands.snap there.stands.records was.stands.records there.state s snap records there.stands.stand was.stands.stand in
+    let commands = same_list false there.stands.snap was.stands.snap there.stands.records was.stands.records there.state s snap records there.stands.stand was.stands.stand in
     let log : length (spelled there.stands.records) ≡ length (spelled was.stands.records) = ap (λ (rs : List (List ℕ)). length (spelled rs)) records in
     let replay : log_cycles there.stands.stand.commands ≡ log_cycles was.stands.stand.commands = ap log_cycles commands.1 in
     let count = was.count in
@@ -97,7 +100,7 @@ pub appended : (old mid new : DiskState) (cycles : ℕ) (s : Flat) (c : Command)
     → LeavesOnly mid new (Either (λ f. Holds f was.stands.snap was.stands.records) (λ f. Holds f was.stands.snap (was.stands.records ++ r ∷ []))) → MayLeave old new s (after s c)
 appended old mid new cycles s c r was spells accepted few lawful first moments =
     let count = was.count in
-    let more = pair_more was.stands.snap r was.stands.records s c was.stands.stand spells accepted (omega (arith, count, few)) in
+    let more = pair_more false was.stands.snap r was.stands.records s c was.stands.stand spells accepted (omega (arith, count, few)) in
     leaves_then old mid new (Either (λ file. StandsFor file s) (λ file. StandsFor file (after s c))) lawful (leaves_before old mid s (after s c) first)
     (leaves_map mid new (Either (λ f. Holds f was.stands.snap was.stands.records) (λ f. Holds f was.stands.snap (was.stands.records ++ r ∷ []))) (Either (λ file. StandsFor file s) (λ file. StandsFor file (after s c)))
     (λ f. ⊎_elim (λ there. inl (stands_by was.stands.snap was.stands.records s was.stands.stand f there)) (λ here. inr (stands_by was.stands.snap (was.stands.records ++ r ∷ []) (after s c) more f here))) moments)
@@ -106,8 +109,8 @@ appended old mid new cycles s c r was spells accepted few lawful first moments =
 pub recorded_more : (old new : DiskState) (cycles more : ℕ) (s : Flat) (c : Command) (r : List ℕ) (was : IsRecorded old cycles s) → Spells r c → refusal s c ≡ None → more ≡ replay_cycles c
     → cycles + more ≤ REPLAY_CYCLES → IsDurable new → Holds new.bytes was.stands.snap (was.stands.records ++ r ∷ []) → IsRecorded new (cycles + more) (after s c)
 recorded_more old new cycles more s c r was spells accepted is few durable held =
-    let so_far : IsReplayed was.stands.snap was.stands.records cycles s = record { stand = was.stands.stand; count = was.count } in
-    let replayed = replayed_more was.stands.snap r was.stands.records cycles more s c so_far spells accepted is few in
+    let so_far : IsReplayed false was.stands.snap was.stands.records cycles s = record { stand = was.stands.stand; count = was.count } in
+    let replayed = replayed_more false was.stands.snap r was.stands.records cycles more s c so_far spells accepted is few in
     record { durable = durable; stands = record { snap = was.stands.snap; records = was.stands.records ++ r ∷ []; holds = held; stand = replayed.stand }; count = replayed.count }
 
 -- the steps of both

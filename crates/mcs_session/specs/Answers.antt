@@ -12,7 +12,8 @@ use Rattle.mcs_model.specs.Flat.{Flat, new_flat}
 use Rattle.mcs_model.specs.Command.{refusal, after, reply}
 use Rattle.mcs_session.specs.declared.fault.SessionFault.{SessionFault}
 use Rattle.mcs_session.specs.declared.fault.SessionFault.TheVariants.{Refused, Device, Closed}
-use Rattle.mcs_session.specs.Stands.{HasRoomFor, IsAt, StandsFor}
+use Rattle.mcs_session.specs.Stands.{HasRoomFor, HoldsState, IsAt, StandsByEither, StandsFor}
+use Rattle.mcs_session.specs.Version1.{StandsForLifted}
 
 -- ---- `create` and `open` on an honest disk
 
@@ -24,15 +25,22 @@ pub record CreatesSession (old new : DiskState) : Type 0 where
   pub ticks : new.clock ≡ old.clock + 5
   pub moments : GoesOn old new
 
--- the disk stood for this state and was not written, and now every image stands for it
+-- an image that a power cut may leave of this stretch: one that the disk had before, or one that stands for this state
+abbrev pub MayMigrate : DiskState → DiskState → Flat → Type 0
+MayMigrate old new s = LeavesOnly old new (Either (old.since old.clock) (λ file. StandsByEither file s))
+
+-- The disk stood for this state, and now every image stands for it. A file of version 2 is not written; one of version 1 is
+-- replaced by a snapshot of version 2.
 pub record OpensSession (old new : DiskState) (s : Flat) : Type 0 where
-  pub stands : StandsFor old.bytes s
-  pub rests : Rests old new
+  pub stands : StandsByEither old.bytes s
+  pub moments : MayMigrate old new s
+  pub rests : StandsFor old.bytes s → Rests old new
+  pub migrated : StandsForLifted old.bytes s → HoldsState new.bytes s
   pub at : IsAt new s
 
 -- the bytes stand for no state
 abbrev pub StandsForNone : DiskState → Type 0
-StandsForNone disk = (s : Flat) → StandsFor disk.bytes s → ⊥
+StandsForNone disk = (s : Flat) → StandsByEither disk.bytes s → ⊥
 
 -- what a refusal of `open` says of the disk
 abbrev pub RefusesSession : OpenFault → DiskState → Type 0
@@ -40,6 +48,17 @@ RefusesSession open_fault.NotASession disk = IsNoSession disk
 RefusesSession open_fault.Damaged disk = ¬ (IsNoSession disk) × StandsForNone disk
 RefusesSession open_fault.Device disk = Unit {0}
 RefusesSession open_fault.NoMemory disk = Unit {0}
+
+-- a file of version 1 stood for a state, and the disk failed as it was replaced
+pub record FailsMigrating (old new : DiskState) : Type 0 where
+  pub state : Flat
+  pub stands : StandsForLifted old.bytes state
+  pub moments : MayMigrate old new state
+
+-- what a refused `open` did to the disk: nothing, but for a device fault while a file of version 1 was replaced
+abbrev pub LeftRefused : OpenFault → DiskState → DiskState → Type 0
+LeftRefused open_fault.Device old new = Rests old new ⊎ FailsMigrating old new
+LeftRefused fault old new = Rests old new
 
 -- ---- `apply`
 

@@ -1,11 +1,13 @@
 -- What the fields of a session keep, and what its steps do.
 use Rattle.std.specs.Prelude.{◌≡◌, ◌⊎◌, ◌+◌, ◌≤◌, ℕ, List, Bool, IsTrue, length}
 use Rattle.mcs_disk.specs.Disk.{DiskState}
-use Rattle.mcs_disk.specs.Moments.{IsDurable}
+use Rattle.mcs_disk.specs.Moments.{Either, IsDurable, LeavesOnly}
+use Rattle.mcs_journal.specs.File.{Holds}
 use Rattle.mcs_journal.specs.declared.format.TheConstants.{MOST_RECORD, MOST_SNAP}
 use Rattle.mcs_model.specs.declared.limits.TheConstants.{REPLAY_CYCLES}
 use Rattle.mcs_model.specs.Flat.{Flat}
-use Rattle.mcs_session.specs.Stands.{HasSpace, RecordsStandFor, StandsFor, log_cycles}
+use Rattle.mcs_session.specs.Cycles.{log_cycles}
+use Rattle.mcs_session.specs.Stands.{HoldsState, HasSpace, RecordsStandFor, StandsFor}
 
 -- an honest disk of an open session: whatever a power cut leaves stands for the state of the bench, by a log of so many cycles
 pub record IsRecorded (disk : DiskState) (cycles : ℕ) (s : Flat) : Type 0 where
@@ -24,9 +26,9 @@ pub record IsSession (disk : DiskState) (live : Bool) (cycles : ℕ) (s : Flat) 
   pub ready : IsReady cycles text snapshot
   pub recorded : IsTrue live → disk.honest → IsRecorded disk cycles s
 
--- a snapshot and records stand for this state, by commands of so many cycles
-pub record IsReplayed (snap : List ℕ) (records : List (List ℕ)) (cycles : ℕ) (s : Flat) : Type 0 where
-  pub stand : RecordsStandFor snap records s
+-- a snapshot and records, of version 1 where `first` is true, stand for this state, by commands of so many cycles
+pub record IsReplayed (first : Bool) (snap : List ℕ) (records : List (List ℕ)) (cycles : ℕ) (s : Flat) : Type 0 where
+  pub stand : RecordsStandFor first snap records s
   pub count : cycles ≡ log_cycles stand.commands
 
 -- Room was made for a record of so many bytes and so many cycles, in no step where there was room and else in four. The disk stands
@@ -34,3 +36,19 @@ pub record IsReplayed (snap : List ℕ) (records : List (List ℕ)) (cycles : �
 pub record HasMadeRoom (old new : DiskState) (bytes more cycles : ℕ) (s : Flat) : Type 0 where
   pub ticks : (HasSpace old.bytes bytes more × (new.clock ≡ old.clock)) ⊎ (¬ (HasSpace old.bytes bytes more) × (new.clock ≡ old.clock + 4))
   pub recorded : IsRecorded new cycles s
+
+-- a pair stands on an honest disk, and it is all that is there
+pub record IsHeld (disk : DiskState) : Type 0 where
+  pub snap : List ℕ
+  pub records : List (List ℕ)
+  pub holds : Holds disk.bytes snap records
+
+-- until a snapshot of this state is there, the pair of before is
+abbrev pub MayReplace : DiskState → DiskState → List ℕ → List (List ℕ) → Flat → Type 0
+MayReplace old new snap records s = LeavesOnly old new (Either (λ c. Holds c snap records) (λ c. HoldsState c s))
+
+-- and now it is there
+pub record Replaced (old new : DiskState) (snap : List ℕ) (records : List (List ℕ)) (s : Flat) : Type 0 where
+  pub moments : MayReplace old new snap records s
+  pub held : HoldsState new.bytes s
+  pub durable : IsDurable new

@@ -1,3 +1,5 @@
+pub mod Cycles
+pub mod Version1
 pub mod Stands
 pub mod Standing
 pub mod Answers

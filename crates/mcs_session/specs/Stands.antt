@@ -1,49 +1,50 @@
--- What a session file stands for, and what it has room for.
-use Rattle.std.specs.Prelude.{◌≡◌, ◌+◌, ◌≤◌, ℕ, List, [], ◌∷◌, None, length, sum_by}
-use Rattle.mcs_codec.specs.Codec.{Spells, SpellsState}
+-- What a session file stands for, and what it has room for. Where a definition takes a Boolean first, that is true where the
+-- snapshot and the records are of version 1; what they stand for is then what version 2 makes of them.
+use Rattle.std.specs.Prelude.{◌≡◌, ◌⊎◌, ◌+◌, ◌≤◌, ℕ, Bool, true, false, List, [], ◌∷◌, None, length}
+use Rattle.mcs_codec.specs.Codec.{SpellsBy, SpellsState, SpellsStateBy}
 use Rattle.mcs_codec.specs.CommandText.{command_text}
 use Rattle.mcs_disk.specs.Disk.{DiskState}
 use Rattle.mcs_journal.specs.File.{HasRoom, Holds, spelled}
 use Rattle.mcs_model.specs.declared.command.Command.{Command}
-use Rattle.mcs_model.specs.declared.command.Command.TheVariants.{Run, Step}
+use Rattle.mcs_session.specs.Cycles.{log_cycles, replay_cycles}
+use Rattle.mcs_session.specs.Version1.{StandsForLifted}
 use Rattle.mcs_model.specs.declared.limits.TheConstants.{REPLAY_CYCLES}
 use Rattle.mcs_model.specs.Flat.{Flat}
 use Rattle.mcs_model.specs.Command.{refusal, after}
 use Rattle.mcs_model.specs.Fold.{fold}
 
 -- these records spell these commands, accepted in turn from this state
-abbrev pub Replays : Flat → List (List ℕ) → List Command → Type 0
-Replays s [] [] = Unit {0}
-Replays s [] (c ∷ cs) = ⊥
-Replays s (r ∷ rs) [] = ⊥
-Replays s (r ∷ rs) (c ∷ cs) = Spells r c × (refusal s c ≡ None) × Replays (after s c) rs cs
-
--- The instruction cycles that a command counts for in the log: those that it may take to be done again. (Our own choice: n for a
--- run of n, 2 for a step.)
-abbrev pub replay_cycles : Command → ℕ
-replay_cycles (Run n) = n
-replay_cycles Step = 2
-replay_cycles _ = 0
-
--- those of a list of commands
-abbrev pub log_cycles : List Command → ℕ
-log_cycles commands = sum_by replay_cycles commands
+abbrev pub Replays : Bool → Flat → List (List ℕ) → List Command → Type 0
+Replays first s [] [] = Unit {0}
+Replays first s [] (c ∷ cs) = ⊥
+Replays first s (r ∷ rs) [] = ⊥
+Replays first s (r ∷ rs) (c ∷ cs) = SpellsBy first r c × (refusal s c ≡ None) × Replays first (after s c) rs cs
 
 -- a snapshot and the records behind it stand for this state
-pub record RecordsStandFor (snap : List ℕ) (records : List (List ℕ)) (s : Flat) : Type 0 where
+pub record RecordsStandFor (first : Bool) (snap : List ℕ) (records : List (List ℕ)) (s : Flat) : Type 0 where
   pub start : Flat
-  pub snapshot : SpellsState snap start
+  pub snapshot : SpellsStateBy first snap start
   pub commands : List Command
-  pub replays : Replays start records commands
+  pub replays : Replays first start records commands
   pub bounded : log_cycles commands ≤ REPLAY_CYCLES
   pub state : s ≡ fold start commands
 
--- a file stands for the state that its snapshot and its records stand for
+-- a file of version 2 stands for the state that its snapshot and its records stand for
 pub record StandsFor (file : List ℕ) (s : Flat) : Type 0 where
   pub snap : List ℕ
   pub records : List (List ℕ)
   pub holds : Holds file snap records
-  pub stand : RecordsStandFor snap records s
+  pub stand : RecordsStandFor false snap records s
+
+-- a file of either version stands for this state
+abbrev pub StandsByEither : List ℕ → Flat → Type 0
+StandsByEither file s = StandsFor file s ⊎ StandsForLifted file s
+
+-- a file holds a snapshot of this state in version 2, and no records
+pub record HoldsState (file : List ℕ) (s : Flat) : Type 0 where
+  pub snap : List ℕ
+  pub spells : SpellsState snap s
+  pub holds : Holds file snap []
 
 -- whatever a power cut now leaves stands for this state
 abbrev pub IsAt : DiskState → Flat → Type 0

@@ -5,16 +5,17 @@ ghost use Rattle.mcs_journal.specs.declared.fault.OpenFault.{OpenFault};
 ghost use Rattle.mcs_model.specs.declared.command.Command.{Command};
 ghost use Rattle.mcs_model.specs.Flat.{Flat};
 ghost use Rattle.mcs_model.specs.Fold.{fold};
-ghost use Rattle.mcs_session.specs.Answers.{RefusesSession};
+ghost use Rattle.mcs_session.specs.Answers.{FailsMigrating, OpensSession, RefusesSession};
+ghost use Rattle.mcs_session.specs.Version1.{StandsForLifted};
 ghost use Rattle.mcs_session.specs.Kept.{IsAfterPrefix, IsReopened, Kept, StandsForPrefix, acknowledged_by};
-ghost use Rattle.mcs_session.specs.Stands.{StandsFor};
+ghost use Rattle.mcs_session.specs.Stands.{HoldsState, StandsByEither, StandsFor};
 
 use mcs_disk::Disk;
 use mcs_journal::OpenFault;
 
 /// A file stands for at most one state.
 pub fn file_stands_for_one_state()
-    ensures { (file : List ℕ) (s t : Flat) → StandsFor file s → StandsFor file t → s ≡ t }
+    ensures { (file : List ℕ) (s t : Flat) → StandsFor file s → StandsByEither file t → s ≡ t }
 {}
 
 /// Where a power cut, at some moment since a time of a run, leaves a disk that is then opened: the bench stands as after a
@@ -51,4 +52,18 @@ pub fn at_the_end_all_is_kept<D: Disk>()
     ensures whole { (old new : D) (s : Flat) (commands : List Command) (image : List ℕ)
         → Kept (D.state old) (D.state new) s commands commands → (D.state new).images image
         → StandsFor image (fold s commands) }
+{}
+
+/// A session of version 1 is opened in the state that it stood for, carried over. Whatever a power cut since the opening
+/// began leaves stands for that state, also where the opening failed; once it is open, the disk holds a snapshot of version 2
+/// and no records.
+pub fn a_file_of_version_1_keeps_its_state<D: Disk>()
+    ensures opened { (old new : D) (s u : Flat) → (D.state old).honest
+        → ((image : List ℕ) → (D.state old).since (D.state old).clock image → StandsForLifted image s)
+        → OpensSession (D.state old) (D.state new) u
+        → (u ≡ s) × (HoldsState (D.state new).bytes s × ((image : List ℕ) → (D.state new).since (D.state old).clock image → StandsByEither image s)) }
+    ensures failed { (old new : D) (s : Flat) → (D.state old).honest
+        → ((image : List ℕ) → (D.state old).since (D.state old).clock image → StandsForLifted image s)
+        → FailsMigrating (D.state old) (D.state new)
+        → (image : List ℕ) → (D.state new).since (D.state old).clock image → StandsByEither image s }
 {}

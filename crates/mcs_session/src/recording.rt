@@ -1,13 +1,13 @@
 //! The log of a session: the records of its commands, and a snapshot in their place where there is no room for one more.
-ghost use Rattle.std.specs.Prelude.{◌≡◌, ◌+◌, ◌≤◌, None, IsErr, IsTrue, OnOk, is_ok, length, take};
+ghost use Rattle.std.specs.Prelude.{◌≡◌, ◌+◌, ◌≤◌, ℕ, List, None, IsErr, IsTrue, OnOk, is_ok, length, take};
 ghost use Rattle.mcs_codec.specs.Codec.{Spells, SpellsState};
 ghost use Rattle.mcs_codec.specs.CommandText.{command_text};
-ghost use Rattle.mcs_disk.specs.Moments.{Counts, LeavesOnly};
-ghost use Rattle.mcs_journal.specs.File.{HasRoom};
+ghost use Rattle.mcs_disk.specs.Moments.{Changes, Counts, LeavesOnly};
+ghost use Rattle.mcs_journal.specs.File.{HasRoom, Holds};
 ghost use Rattle.mcs_model.specs.Command.{after, refusal};
 ghost use Rattle.mcs_session.specs.Answers.{Acknowledges, MayLeave};
 ghost use Rattle.mcs_session.specs.Invariant.{HasMadeRoom, IsReady, IsRecorded};
-ghost use Rattle.mcs_session.specs.Stands.{StandsFor};
+ghost use Rattle.mcs_session.specs.Stands.{HoldsState, StandsFor};
 
 use crate::replaying::replay_cycles;
 use mcs_bench::Bench;
@@ -51,6 +51,30 @@ pub(crate) fn spell_state(snapshot: &mut Vec<u8>, bench: &Bench) -> usize
 }
 
 impl<D: Disk + Drop> CommandLog<D> {
+    /// A snapshot of the bench takes the place of all that the store holds.
+    pub(crate) fn checkpoint(&mut self, bench: &Bench) -> Result<(), DiskFault>
+        requires live { IsTrue self.old.store.live }
+        requires ready { IsReady self.old.cycles self.old.text.items self.old.snapshot.items }
+        ensures live { self.new.store.live ≡ is_ok result }
+        ensures counts { Counts (D.state self.old.store.disk) (D.state self.new.store.disk) (IsErr result) }
+        ensures text { self.new.text ≡ self.old.text }
+        ensures used { OnOk result ((self.new.store.used ≡ 0) × (self.new.cycles ≡ 0)) }
+        ensures ready { IsReady self.new.cycles self.new.text.items self.new.snapshot.items }
+        ensures replaces { (D.state self.old.store.disk).honest
+            → (snap : List ℕ) (records : List (List ℕ)) → Holds (D.state self.old.store.disk).bytes snap records
+            → Changes 4 (D.state self.old.store.disk) (D.state self.new.store.disk)
+            (λ c. Holds c snap records) (λ c. HoldsState c bench.now) result }
+    {
+        let length = spell_state(&mut self.snapshot, bench);
+        match self.store.replace(&self.snapshot.as_slice()[..length]) {
+            Ok(()) => {
+                self.cycles = 0;
+                Ok(())
+            }
+            Err(fault) => Err(fault),
+        }
+    }
+
     /// Makes room for a record of `count` bytes and for `more` cycles: where there is none, a snapshot of the bench takes the
     /// place of all that the store holds.
     fn make_room(&mut self, bench: &Bench, count: usize, more: u32) -> Result<(), DiskFault>

@@ -1,11 +1,14 @@
 //! What a snapshot and the records behind it stand for.
-ghost use Rattle.std.specs.Prelude.{◌≡◌, IfOk, IfSome, IfNone};
+ghost use Rattle.std.specs.Prelude.{◌≡◌, ◌||◌, not, Bool, IfOk, IfSome, IfNone};
 ghost use Rattle.mcs_model.specs.Flat.{Flat};
 ghost use Rattle.mcs_session.specs.Invariant.{IsReplayed};
-ghost use Rattle.mcs_session.specs.Stands.{RecordsStandFor, replay_cycles};
+ghost use Rattle.mcs_session.specs.Cycles.{replay_cycles};
+ghost use Rattle.mcs_codec.specs.Codec.{is_first};
+ghost use Rattle.mcs_version1.specs.Command.{in_version_1};
+ghost use Rattle.mcs_session.specs.Stands.{RecordsStandFor};
 
 use mcs_bench::Bench;
-use mcs_codec::{bench_of, command_of};
+use mcs_codec::{bench_of, command_of, in_version_1, version_of};
 use mcs_journal::Records;
 use mcs_model::command::Command;
 use mcs_model::limits::REPLAY_CYCLES;
@@ -16,6 +19,8 @@ use std::alloc::{AllocError, Global};
 pub struct Replayed {
     pub bench: Bench,
     pub cycles: u32,
+    /// Whether the snapshot was of version 1.
+    pub first: bool,
 }
 
 /// The instruction cycles that a command counts for in the log.
@@ -29,22 +34,37 @@ pub(crate) fn replay_cycles(command: &Command) -> u32
     }
 }
 
-/// The bench that a snapshot and the records behind it stand for, or none.
+/// Whether a snapshot tells that it is of version 1.
+fn is_first(snap: &[u8]) -> bool
+    ensures { result ≡ is_first snap.now }
+{
+    version_of(snap).unwrap_or(2) == 1
+}
+
+/// Whether a command may stand in a log, of version 1 where `first` is true.
+fn may_stand(first: bool, command: &Command) -> bool
+    ensures { result ≡ (not first || in_version_1 command.now) }
+{
+    !first || in_version_1(command)
+}
+
+/// The bench that a snapshot and the records behind it stand for, or none. All are of the version that the snapshot tells.
 pub(crate) fn replay(
     alloc: Global,
     snap: &[u8],
     records: &Records,
 ) -> Result<Option<Replayed>, AllocError>
     ensures some { IfOk result (λ found.
-        IfSome found (λ r. IsReplayed snap.now records.now r.cycles r.bench)) }
+        IfSome found (λ r. IsReplayed r.first snap.now records.now r.cycles r.bench)) }
     ensures none { IfOk result (λ found.
-        IfNone found ((s : Flat) → RecordsStandFor snap.now records.now s → ⊥)) }
+        IfNone found ((v : Bool) (s : Flat) → RecordsStandFor v snap.now records.now s → ⊥)) }
 {
     let mut bench = match bench_of(alloc, snap) {
         Ok(Some(bench)) => bench,
         Ok(None) => return Ok(None),
         Err(refused) => return Err(refused),
     };
+    let first = is_first(snap);
     let mut cycles = 0;
     let mut at = 0;
     while at < records.len() {
@@ -53,6 +73,9 @@ pub(crate) fn replay(
             Ok(None) => return Ok(None),
             Err(refused) => return Err(refused),
         };
+        if !may_stand(first, &command) {
+            return Ok(None);
+        }
         if bench.check(&command).is_err() {
             return Ok(None);
         }
@@ -64,5 +87,5 @@ pub(crate) fn replay(
         cycles += more;
         at += 1;
     }
-    Ok(Some(Replayed { bench, cycles }))
+    Ok(Some(Replayed { bench, cycles, first }))
 }

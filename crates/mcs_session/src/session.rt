@@ -1,10 +1,12 @@
 //! A bench whose commands are recorded on a disk.
-ghost use Rattle.std.specs.Prelude.{◌≡◌, ◌≢◌, ◌⊎◌, ◌↔◌, IsTrue, IsErrAnd, IfOk, IfErr};
+ghost use Rattle.std.specs.Prelude.{◌≡◌, ◌≢◌, ◌⊎◌, ◌↔◌, IsTrue, ℕ, List, true, false, IsErrAnd, IfOk, IfErr};
 ghost use Rattle.mcs_disk.specs.Moments.{Counts, Rests};
 ghost use Rattle.mcs_journal.specs.Answers.{RefusesCreate};
 ghost use Rattle.mcs_model.specs.Flat.{new_flat};
 ghost use Rattle.mcs_session.specs.Stands.{StandsFor, IsAt};
-ghost use Rattle.mcs_session.specs.Answers.{Applied, Closes, CreatesSession, OpensSession, Recorded, RefusesSession};
+ghost use Rattle.mcs_journal.specs.File.{Holds};
+ghost use Rattle.mcs_session.specs.Answers.{Applied, Closes, CreatesSession, LeftRefused, OpensSession, Recorded, RefusesSession};
+ghost use Rattle.mcs_session.specs.Invariant.{IsHeld, IsReady, IsRecorded, MayReplace, Replaced};
 
 use crate::fault::SessionFault;
 use crate::recording::{CommandLog, spell_state};
@@ -87,7 +89,8 @@ impl<D: Disk + Drop> Session<D> {
         }
     }
 
-    /// Opens the session that a disk holds. It writes nothing.
+    /// Opens the session that a disk holds. Nothing is written to a file of version 2. In a file of version 1 a snapshot of
+    /// version 2 takes the place of what it holds, once all memory was taken: it stands for the same state at every moment.
     ///
     /// It is refused for want of memory (90), where size or name is not that of a session file (50), where the bytes stand
     /// for no state otherwise (51), and where a call on the disk failed (53). A refusal hands the disk back.
@@ -105,7 +108,7 @@ impl<D: Disk + Drop> Session<D> {
         ensures opened { (D.state disk).honest → IfOk result (λ s.
             OpensSession (D.state disk) (D.state s.disk) s.state) }
         ensures refused { (D.state disk).honest → IfErr result (λ refused.
-            RefusesSession refused.0 (D.state disk) × Rests (D.state disk) (D.state refused.1)) }
+            RefusesSession refused.0 (D.state disk) × LeftRefused refused.0 (D.state disk) (D.state refused.1)) }
     {
         let Ok(text) = vec![in alloc; 0u8; COMMAND_BYTES] else {
             return Err((OpenFault::NoMemory, disk));
@@ -121,15 +124,22 @@ impl<D: Disk + Drop> Session<D> {
                     records,
                 },
             ) => match replay(alloc, snap.bytes(), &records) {
-                Ok(Some(Replayed { bench, cycles })) => Ok(Session {
-                    log: CommandLog {
+                Ok(Some(Replayed {
+                    bench,
+                    cycles,
+                    first,
+                })) => {
+                    let log = CommandLog {
                         store,
                         cycles,
                         text,
                         snapshot,
-                    },
-                    bench,
-                }),
+                    };
+                    match begin(log, bench, first) {
+                        Ok(session) => Ok(session),
+                        Err(refused) => Err(refused),
+                    }
+                }
                 Ok(None) => Err((OpenFault::Damaged, store.into_disk())),
                 Err(_) => Err((OpenFault::NoMemory, store.into_disk())),
             },
@@ -158,7 +168,7 @@ impl<D: Disk + Drop> Session<D> {
     /// Where its record has no room in the log, by its bytes or by the cycles that the log counts, the state before the command
     /// first takes the place of the snapshot and of all records.
     ///
-    /// It is refused on a closed session (54), where the bench refuses it (41 to 46), and where a call on the disk failed
+    /// It is refused on a closed session (54), where the bench refuses it (41 to 47), and where a call on the disk failed
     /// (53). Each refusal but the last leaves the disk untouched.
     pub fn apply(&mut self, command: &Command) -> Result<Reply, SessionFault>
         // on any disk
@@ -198,5 +208,30 @@ impl<D: Disk + Drop> Session<D> {
             snapshot: _,
         } = log;
         store.into_disk()
+    }
+}
+
+/// The session of a log that was replayed, of version 1 where `first` is true: a snapshot of the bench then takes the place of
+/// all that the disk holds.
+fn begin<D: Disk + Drop>(mut log: CommandLog<D>, bench: Bench, first: bool) -> Result<Session<D>, (OpenFault, D)>
+    requires live { IsTrue log.store.live }
+    requires ready { IsReady log.cycles log.text.items log.snapshot.items }
+    requires recorded { first ≡ false → (D.state log.store.disk).honest → IsRecorded (D.state log.store.disk) log.cycles bench }
+    requires held { (D.state log.store.disk).honest → IsHeld (D.state log.store.disk) }
+    ensures open { IfOk result (λ s. IsTrue s.live × (s.state ≡ bench)) }
+    ensures counts { IfOk result (λ s. Counts (D.state log.store.disk) (D.state s.disk) ⊥) }
+    ensures same { first ≡ false → IfOk result (λ s. s.disk ≡ log.store.disk) }
+    ensures first { first ≡ true → (D.state log.store.disk).honest → (snap : List ℕ) (records : List (List ℕ))
+        → Holds (D.state log.store.disk).bytes snap records → IfOk result (λ s. Replaced (D.state log.store.disk) (D.state s.disk) snap records bench) }
+    ensures refused { IfErr result (λ r. (r.0 ≡ OpenFault.Device) × ((first ≡ true) × Counts (D.state log.store.disk) (D.state r.1) (Unit {0}))) }
+    ensures failed { (D.state log.store.disk).honest → (snap : List ℕ) (records : List (List ℕ))
+        → Holds (D.state log.store.disk).bytes snap records → IfErr result (λ r. MayReplace (D.state log.store.disk) (D.state r.1) snap records bench) }
+{
+    if !first {
+        return Ok(Session { log, bench });
+    }
+    match log.checkpoint(&bench) {
+        Ok(()) => Ok(Session { log, bench }),
+        Err(DiskFault) => Err((OpenFault::Device, log.store.into_disk())),
     }
 }

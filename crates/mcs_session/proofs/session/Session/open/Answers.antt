@@ -1,17 +1,41 @@
-use Rattle.std.proofs.Common.{rules}
-use Rattle.mcs_session.proofs.Files.{opened_session, recorded_opened, refuses_pair, refuses_store}
+use Rattle.std.proofs.Common.{rules, ◌≡◌, Bool, false, subst, sym}
+use Rattle.mcs_model.specs.Flat.{Flat}
+use Rattle.mcs_session.specs.Answers.{OpensSession}
+use Rattle.mcs_session.specs.Invariant.{IsReplayed}
+use Rattle.mcs_session.proofs.Files.{counts_both, failed_by, held_on, left_store, opened_by, recorded_by, refused_by, refuses_pair, refuses_store}
 use Rattle.mcs_session.proofs.session.Session.open.Goals as goal
 
-pub invariant_of-result : goal.invariant_of-result
-invariant_of-result g c = record {
-  ready = search rules;
-  recorded = λ alive honest.
-      let was = c.in-Ok-open.ensures.counts.honest.0 honest in
-      recorded_opened _ _ _ _ _ _ (c.in-Ok-open.ensures.opened was) (rw (c.bytes.ensures, c.in-Ok-Some.field-0-is) at c.in-Ok-Some.ensures.some);
-}
+pub begin-requires-clause-recorded : goal.begin-requires-clause-recorded
+begin-requires-clause-recorded g c = λ last honest.
+    let was = c.in-Ok-open.ensures.counts.honest.0 honest in
+    recorded_by _ _ _ _ _ _ _ last (c.in-Ok-open.ensures.opened was) (rw (c.bytes.ensures, c.in-Ok-Some.field-0-is) at c.in-Ok-Some.ensures.some)
 
-pub returns-in-Ok-Some-clause-opened : goal.returns-in-Ok-Some-clause-opened
-returns-in-Ok-Some-clause-opened g c = λ honest. opened_session _ _ _ _ _ _ (c.in-Ok-open.ensures.opened honest) (rw (c.bytes.ensures, c.in-Ok-Some.field-0-is) at c.in-Ok-Some.ensures.some)
+pub begin-requires-clause-held : goal.begin-requires-clause-held
+begin-requires-clause-held g c = λ honest.
+    let was = c.in-Ok-open.ensures.counts.honest.0 honest in
+    record { snap = _; records = _; holds = held_on _ _ _ _ (c.in-Ok-open.ensures.opened was) }
+
+pub returns-in-Ok-begin-clause-counts : goal.returns-in-Ok-begin-clause-counts
+returns-in-Ok-begin-clause-counts g c = counts_both _ _ _ ⊥ c.in-Ok-open.ensures.counts c.in-Ok-begin.ensures.counts
+
+pub returns-in-Ok-begin-clause-opened : goal.returns-in-Ok-begin-clause-opened
+returns-in-Ok-begin-clause-opened g c = λ honest.
+    let opened = c.in-Ok-open.ensures.opened honest in
+    let now = c.in-Ok-open.ensures.counts.honest.1 honest in
+    let replayed = rw (c.bytes.ensures, c.in-Ok-Some.field-0-is) at c.in-Ok-Some.ensures.some in
+    rw c.in-Ok-begin.ensures.open.1 (
+    opened_by _ _ _ _ _ _ _ _ (g.met.D.Disk.lawful c.in-Ok-begin.session.disk (c.in-Ok-begin.ensures.counts.honest.1 now)) opened replayed
+    (λ last o. rw (c.in-Ok-begin.ensures.same last) o)
+    (λ first. c.in-Ok-begin.ensures.first first now _ _ (held_on _ _ _ _ opened)))
+
+pub returns-in-Ok-Some-clause-refused : goal.returns-in-Ok-Some-clause-refused
+returns-in-Ok-Some-clause-refused g c = λ honest.
+    let opened = c.in-Ok-open.ensures.opened honest in
+    let now = c.in-Ok-open.ensures.counts.honest.1 honest in
+    let replayed = rw (c.bytes.ensures, c.in-Ok-Some.field-0-is) at c.in-Ok-Some.ensures.some in
+    let why = c.in-Err-begin.ensures.refused in
+    refused_by _ _ _ why.0 (failed_by _ _ _ _ _ _ _ _ why.1.0 (g.met.D.Disk.lawful c.in-Err-begin.refused.1 (why.1.1.honest.1 now)) opened replayed
+    (c.in-Err-begin.ensures.failed now _ _ (held_on _ _ _ _ opened)))
 
 pub returns-in-Ok-None-clause-refusal_counts : goal.returns-in-Ok-None-clause-refusal_counts
 returns-in-Ok-None-clause-refusal_counts g c = rw c.into_disk.ensures (record {
@@ -25,13 +49,13 @@ pub returns-in-Ok-None-clause-refused : goal.returns-in-Ok-None-clause-refused
 returns-in-Ok-None-clause-refused g c = λ honest. rw c.into_disk.ensures
     (refuses_pair _ _ _ _ (g.met.D.Disk.lawful c.args.disk honest) (c.in-Ok-open.ensures.opened honest) (rw (c.bytes.ensures, c.in-Ok-None.field-0-is) at c.in-Ok-None.ensures.none))
 
-pub returns-in-Err-replay-clause-refusal_counts : goal.returns-in-Err-replay-clause-refusal_counts
-returns-in-Err-replay-clause-refusal_counts g c = rw c.into_disk-in-Err-replay.ensures (record {
+pub returns-in-Ok-open-clause-refusal_counts : goal.returns-in-Ok-open-clause-refusal_counts
+returns-in-Ok-open-clause-refusal_counts g c = rw c.into_disk-in-Err-replay.ensures (record {
   size = c.in-Ok-open.ensures.counts.size;
   honest = c.in-Ok-open.ensures.counts.honest;
   fault = λ is. absurd (cc is);
   no_fault = λ no. c.in-Ok-open.ensures.counts.no_fault (λ none. none);
 })
 
-pub returns-in-Err-clause-refused : goal.returns-in-Err-clause-refused
-returns-in-Err-clause-refused g c = λ honest. let h = c.in-Err.ensures.refused honest in (refuses_store _ _ h.0, h.1)
+pub returns-clause-refused : goal.returns-clause-refused
+returns-clause-refused g c = λ honest. let h = c.in-Err.ensures.refused honest in (refuses_store _ _ h.0, left_store c.in-Err.refused.0 _ _ h.1)

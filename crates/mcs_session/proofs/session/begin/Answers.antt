@@ -1,0 +1,25 @@
+use Rattle.std.proofs.Common.{ℕ, sym, subst}
+use Rattle.mcs_session.specs.Invariant.{IsRecorded}
+use Rattle.mcs_session.proofs.Files.{recorded_new}
+use Rattle.mcs_session.proofs.session.begin.Goals as goal
+
+pub invariant_of-result : goal.invariant_of-result
+invariant_of-result g c = record { ready = c.requires.ready; recorded = λ alive honest. c.requires.recorded c.if-not-first.true honest }
+
+pub invariant_of-result-in-Ok : goal.invariant_of-result-in-Ok
+invariant_of-result-in-Ok g c = record {
+  ready = c.in-Ok.ensures.ready;
+  recorded = λ alive honest.
+      let was = c.in-Ok.ensures.counts.honest.0 honest in
+      let held = c.requires.held was in
+      let changes = c.in-Ok.ensures.replaces was held.snap held.records held.holds in
+      subst (λ n. IsRecorded (g.D.Disk.state c.checkpoint.new.self.store.disk) n c.args.bench) (sym c.in-Ok.ensures.used.1) (recorded_new (g.D.Disk.state c.checkpoint.new.self.store.disk) changes.after.snap c.args.bench changes.after.spells changes.after.holds changes.durable);
+}
+
+pub returns-in-Ok-clause-first : goal.returns-in-Ok-clause-first
+returns-in-Ok-clause-first g c = λ e honest snap records held.
+    let changes = c.in-Ok.ensures.replaces honest snap records held in
+    record { moments = changes.moments; held = changes.after; durable = changes.durable }
+
+pub returns-in-Err-clause-failed : goal.returns-in-Err-clause-failed
+returns-in-Err-clause-failed g c = λ honest snap records held. rw c.into_disk.ensures (c.in-Err.ensures.replaces honest snap records held).moments
