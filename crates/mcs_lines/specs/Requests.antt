@@ -3,7 +3,7 @@ use Rattle.std.specs.Prelude.{◌==◌, ◌&&◌, Bool, ℕ, List, [], ◌∷◌
 use Rattle.std.specs.List.{list_all}
 use Rattle.std.specs.Str.{bytes_eq}
 use Rattle.mcs_model.specs.Numerals.{number_written, number_up_to}
-use Rattle.mcs_model.specs.declared.command.Command.TheVariants.{Press, Release, Run, Step, Poke, Test, Reset, Break, Unbreak}
+use Rattle.mcs_model.specs.declared.command.Command.TheVariants.{Press, Release, Run, Step, Poke, Test, Reset, Break, Unbreak, Watch, Unwatch}
 use Rattle.mcs_model.specs.declared.command.Place.{Place}
 use Rattle.mcs_model.specs.declared.command.Place.TheVariants.{Acc, Cy, Pc, Register, Dcl, Rom, Ram, Status}
 use Rattle.mcs_model.specs.declared.query.Query.TheVariants as query
@@ -87,6 +87,8 @@ request_alone word =
     else if bytes_eq word (codes "lamps") then Ask (State query.Lamps)
     else if bytes_eq word (codes "regs") then Ask (State query.Regs)
     else if bytes_eq word (codes "breaks") then Ask (State query.Breaks)
+    else if bytes_eq word (codes "watches") then Ask (State query.Watches)
+    else if bytes_eq word (codes "ports") then Ask (State query.Ports)
     else if bytes_eq word (codes "seq") then Ask (State query.Seq)
     else if bytes_eq word (codes "board") then Ask Board
     else Refused NotACommand
@@ -115,6 +117,8 @@ request_with_two word a b =
     if bytes_eq word (codes "poke") then poke_of a b
     else if bytes_eq word (codes "press") then with_number 255 a (λ row. with_number 255 b (λ column. Change (Press row column)))
     else if bytes_eq word (codes "release") then with_number 255 a (λ row. with_number 255 b (λ column. Change (Release row column)))
+    else if bytes_eq word (codes "watch") then with_number 7 a (λ bank. with_number 255 b (λ src. Change (Watch bank src)))
+    else if bytes_eq word (codes "unwatch") then with_number 7 a (λ bank. with_number 255 b (λ src. Change (Unwatch bank src)))
     else if bytes_eq word (codes "list") then list_of a b
     else Refused NotACommand
 

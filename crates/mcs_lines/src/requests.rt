@@ -82,6 +82,10 @@ fn read_alone(word: &[u8]) -> Request
         Request::Ask(Question::State(Query::Regs))
     } else if is_word(word, b"breaks") {
         Request::Ask(Question::State(Query::Breaks))
+    } else if is_word(word, b"watches") {
+        Request::Ask(Question::State(Query::Watches))
+    } else if is_word(word, b"ports") {
+        Request::Ask(Question::State(Query::Ports))
     } else if is_word(word, b"seq") {
         Request::Ask(Question::State(Query::Seq))
     } else if is_word(word, b"board") {
@@ -143,6 +147,10 @@ fn read_with_two(word: &[u8], a: &[u8], b: &[u8]) -> Option<Request>
         Request::Change(Command::Press(byte(a)?, byte(b)?))
     } else if is_word(word, b"release") {
         Request::Change(Command::Release(byte(a)?, byte(b)?))
+    } else if is_word(word, b"watch") {
+        Request::Change(Command::Watch(bank(a)?, byte(b)?))
+    } else if is_word(word, b"unwatch") {
+        Request::Change(Command::Unwatch(bank(a)?, byte(b)?))
     } else if is_word(word, b"list") {
         in_range(read_list(a, b))
     } else {

@@ -12,12 +12,14 @@ fn refusal(line: &[u8]) -> u8 {
 
 #[test]
 fn lines_in_range(rt: HostRuntime) -> Result<(), Fail> {
-    let lines: [&[u8]; 32] = [
+    let lines: [&[u8]; 38] = [
         b"step",
         b"  reset\t",
         b"lamps",
         b"regs",
         b"breaks",
+        b"watches",
+        b" ports ",
         b"seq",
         b"board",
         b"run 0",
@@ -27,6 +29,10 @@ fn lines_in_range(rt: HostRuntime) -> Result<(), Fail> {
         b"test 1",
         b"break 4095",
         b"unbreak 0xFff",
+        b"watch 7 255",
+        b"watch 0x0 0xfF",
+        b"unwatch 0 0",
+        b"unwatch\t7 255",
         b"ram 7",
         b"press 255 0",
         b"release\t0 \t 255",
@@ -54,7 +60,7 @@ fn lines_in_range(rt: HostRuntime) -> Result<(), Fail> {
 
 #[test]
 fn lines_that_are_no_commands(rt: HostRuntime) -> Result<(), Fail> {
-    let lines: [&[u8]; 30] = [
+    let lines: [&[u8]; 42] = [
         b"",
         b"foo",
         b"STEP",
@@ -66,6 +72,18 @@ fn lines_that_are_no_commands(rt: HostRuntime) -> Result<(), Fail> {
         b"ram",
         b"press 1",
         b"press 1 1 1",
+        b"watch",
+        b"watch 0",
+        b"watch 8",
+        b"watch 0 0 0",
+        b"unwatch 0",
+        b"unwatch 0 0 0",
+        b"WATCH 0 0",
+        b"watches 0",
+        b"watches 0 0",
+        b"ports 0",
+        b"ports 0 0",
+        b"port",
         b"wire x",
         b"asm x",
         b"list 0",
@@ -94,7 +112,7 @@ fn lines_that_are_no_commands(rt: HostRuntime) -> Result<(), Fail> {
 
 #[test]
 fn lines_with_bad_numbers(rt: HostRuntime) -> Result<(), Fail> {
-    let lines: [&[u8]; 34] = [
+    let lines: [&[u8]; 40] = [
         b"run x",
         b"run -1",
         b"run 0x",
@@ -108,6 +126,12 @@ fn lines_with_bad_numbers(rt: HostRuntime) -> Result<(), Fail> {
         b"press 256 0",
         b"press 0 256",
         b"release x 0",
+        b"watch 8 0",
+        b"watch 0 256",
+        b"watch x 1",
+        b"watch 1 -1",
+        b"unwatch 8 0",
+        b"unwatch 0 0x100",
         b"list 4096 1",
         b"list 0 0",
         b"list 0 257",
@@ -153,11 +177,18 @@ fn bytes_that_no_line_has(rt: HostRuntime) -> Result<(), Fail> {
 
 #[test]
 fn what_lines_ask_for(rt: HostRuntime) -> Result<(), Fail> {
-    let rows: [(&[u8], &str); 5] = [
+    let rows: [(&[u8], &str); 9] = [
         (b"press 9 7", "Change(Press(9, 7))"),
         (b"run 100001", "Change(Run(100001))"),
         (b"list 0x100 3", "Ask(Listing(Addr { value: 256 }, 3))"),
         (b"ram 5", "Ask(State(Ram(BankNo { value: 5 })))"),
+        (b"watches", "Ask(State(Watches))"),
+        (b"ports", "Ask(State(Ports))"),
+        (b"watch 5 63", "Change(Watch(BankNo { value: 5 }, 63))"),
+        (
+            b"unwatch 0x6 0x3F",
+            "Change(Unwatch(BankNo { value: 6 }, 63))",
+        ),
         (
             b"poke st.1.2.3 4",
             "Change(Poke(Status(BankNo { value: 1 }, Nibble { value: 2 }, StatusNo { value: 3 }, Nibble { value: 4 })))",
