@@ -9,6 +9,17 @@ use clap::{Arg, ArgMatches, Command, Error};
 use std::alloc::Global;
 use std::convert::AsStr;
 
+impl Choice {
+    /// The name of its file.
+    pub fn file(&self) -> &str
+        ensures { result.now ≡ (meant self.now).1 }
+    {
+        match self {
+            Choice::New(file) | Choice::Open(file) => file.as_str(),
+        }
+    }
+}
+
 // The matches of the words by clap's definition.
 fn matches<'a, S: AsStr>(alloc: Global, words: &'a [S]) -> Result<ArgMatches<'a>, Error>
     ensures ok { IfOk result (λ m. subcommand_rows_of m ≡ subcommand_of program (map S.text words.entry.now)) }

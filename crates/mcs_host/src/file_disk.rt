@@ -2,48 +2,16 @@
 ghost use Rattle.std.specs.Prelude.{◌≡◌, ◌↔◌, ◌<◌, ◌≤◌, ◌^◌, ◌+◌, ℕ, List, IfOk, OnOk, IsTrue, length, min, vec_len};
 ghost use Rattle.mcs_disk.specs.Disk.{most_faults, part, put, IsCall, Reads, Torn, Writes};
 ghost use Rattle.mcs_host.specs.FileCalls.{bytes_behind};
-ghost use Rattle.mcs_host.specs.declared.file_disk.FileFault.TheVariants.{Device, NoMemory};
 
 use crate::call_record::{Call, CallRecord};
+use crate::file_fault::FileFault;
+use crate::opening::{MOST_BYTES, open_and_read};
 use mcs_disk::{Disk, DiskFault};
 use mcs_journal::FILE_SIZE;
 use std::alloc::{AllocError, Global};
-use std::fs::{File, OpenOptions};
-use std::io;
+use std::fs::File;
 use std::os::unix::fs::FileExt;
-use std::path::Path;
 use std::rt::Files;
-use thiserror::Error;
-
-/// So much is seen of a longer file: one byte more than a session file has, so that its size tells that it is none.
-const MOST_BYTES: usize = FILE_SIZE + 1;
-
-/// Why a file was not opened.
-#[derive(Clone, Copy, Debug, PartialEq, Eq, Error)]
-pub enum FileFault {
-    /// The host refused to open the file, to make it, to fill it or to read it.
-    #[error("the host refused the file")]
-    Device,
-    /// There was no memory for the bytes of the file.
-    #[error("out of memory")]
-    NoMemory,
-}
-
-impl From<io::Error> for FileFault {
-    ghost from_gives = { λ _ e. e ≡ Device };
-
-    fn from(_: io::Error) -> Self {
-        FileFault::Device
-    }
-}
-
-impl From<AllocError> for FileFault {
-    ghost from_gives = { λ _ e. e ≡ NoMemory };
-
-    fn from(_: AllocError) -> Self {
-        FileFault::NoMemory
-    }
-}
 
 /// A session file of the host, as a disk.
 ///
@@ -80,20 +48,7 @@ impl FileDisk {
     {
         // First, so that where there is no memory the host is asked for nothing.
         let mut bytes = zeros(alloc, MOST_BYTES)?;
-        let opened = OpenOptions::new()
-            .read(true)
-            .write(true)
-            .create(make)
-            .open(rt, file)?;
-        let found = opened.metadata()?.len().min(MOST_BYTES as u64) as usize;
-        let is_filled = make && found == 0;
-        bytes.truncate(if is_filled { FILE_SIZE } else { found });
-        if is_filled {
-            fill(&opened, &bytes)?;
-            sync_folder(rt, file)?;
-        }
-        opened.sync_all()?;
-        opened.read_exact_at(&mut bytes, 0)?;
+        let opened = open_and_read(rt, alloc, file, make, &mut bytes)?;
         let history = CallRecord::new(&bytes);
         Ok(FileDisk {
             file: opened,
@@ -127,22 +82,6 @@ fn zeros(alloc: Global, size: usize) -> Result<Vec<u8>, AllocError>
     ensures { IfOk result (λ bytes. vec_len bytes ≡ size) }
 {
     vec![in alloc; 0u8; size]
-}
-
-// Writes these bytes, which are zeros, to an empty file. It has its size at once, so that a fill that stops half way leaves a file that
-// a new session can still be begun in.
-fn fill(file: &File, zeros: &[u8]) -> io::Result<()> {
-    file.set_len(zeros.len() as u64)?;
-    file.write_all_at(zeros, 0)
-}
-
-// Makes the name of a file that was made stay after a power cut.
-fn sync_folder<R: Files<File = File>>(rt: &R, file: &str) -> io::Result<()> {
-    let folder = match Path::new(file).parent() {
-        Some(folder) if !folder.as_str().is_empty() => folder.as_str(),
-        _ => ".",
-    };
-    File::open(rt, folder)?.sync_all()
 }
 
 // Writes over the bytes from `at` on.

@@ -1,7 +1,8 @@
-//! What the premise on a file, that it is honest, gives. The contract of each call is the law; the call does nothing.
-ghost use Rattle.std.specs.Prelude.{◌≡◌, ℕ};
+//! What the premise on a file, that it is honest, says and gives, and that it can hold. The contract of each call is the law; the call
+//! does nothing.
+ghost use Rattle.std.specs.Prelude.{◌≡◌, ◌↔◌, ℕ, List};
 ghost use Rattle.mcs_disk.specs.PowerCut.{IsLeftByCut};
-ghost use Rattle.mcs_host.specs.Ending.{IsLeftSince, found_in};
+ghost use Rattle.mcs_host.specs.Ending.{IsFoundBehindTheEnd, IsFoundWith, IsLeftSince, found_in};
 ghost use Rattle.mcs_host.specs.FileDisk.{IsOpened};
 
 use crate::FileDisk;
@@ -20,4 +21,16 @@ pub fn opened_again_is_left_by_cut()
         → IsOpened (⟦<FileDisk as Disk>⟧.state again)
         → (⟦<FileDisk as Disk>⟧.state again).bytes ≡ found_in file
         → IsLeftByCut t (⟦<FileDisk as Disk>⟧.state file) (⟦<FileDisk as Disk>⟧.state again) }
+{}
+
+/// A file is honest exactly where what is found in it after the end is an image behind the calls by then.
+pub fn honest_where_an_image_is_found()
+    ensures { (file : FileDisk) → (⟦<FileDisk as Disk>⟧.state file).honest ↔ IsFoundBehindTheEnd file }
+{}
+
+/// The premise can hold, of a file that was just opened and of any other: whatever image its calls have left, there is an honest file
+/// of which all that was told is the same, and in which that image is found after the end. So no answer of a file refutes the premise.
+pub fn each_image_may_be_found()
+    ensures { (file : FileDisk) (c : List ℕ) → (⟦<FileDisk as Disk>⟧.state file).images c
+        → (like : FileDisk) × (⟦<FileDisk as Disk>⟧.state like).honest × IsFoundWith c file like }
 {}

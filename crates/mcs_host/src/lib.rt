@@ -7,10 +7,16 @@
 mod call_record;
 mod command_line;
 mod file_disk;
+mod file_fault;
 mod laws;
+mod opening;
 mod words;
 
 pub use command_line::choice;
-pub use file_disk::{FileDisk, FileFault};
-pub use laws::{opened_again_is_left_by_cut, what_is_found_is_an_image};
+pub use file_disk::FileDisk;
+pub use file_fault::FileFault;
+pub use laws::{
+    each_image_may_be_found, honest_where_an_image_is_found, opened_again_is_left_by_cut,
+    what_is_found_is_an_image,
+};
 pub use words::{Choice, FileName, WordsFault};

@@ -27,7 +27,10 @@ fn session_of(
     word: &str,
     path: &str,
 ) -> Result<Result<Session<FileDisk>, u8>, Fail> {
-    Ok(session_in(rt, &chosen(rt.alloc(), word, path)?))
+    match session_in(rt, &chosen(rt.alloc(), word, path)?) {
+        Ok(session) => Ok(Ok(session)),
+        Err(refusal) => Ok(Err(refusal.number())),
+    }
 }
 
 /// The count of the commands of the session of a word with a file, or the number that it is refused by.
@@ -52,6 +55,9 @@ fn a_session_in_a_file(rt: HostRuntime) -> Result<(), Fail> {
     let end = run_shell(alloc, &mut reader, &mut writer, &mut session);
     assert_eq!(rt; end, ShellEnd::End);
     assert_eq!(rt; writer.as_slice(), ANSWERS);
+    assert_eq!(rt; begun(&rt, "open", path)?, Err(53));
+    assert_eq!(rt; begun(&rt, "new", path)?, Err(53));
+    drop(session);
     assert_eq!(rt; begun(&rt, "new", path)?, Err(55));
     let Ok(again) = session_of(&rt, "open", path)? else {
         return Err("not opened".into());

@@ -1,7 +1,8 @@
 use mcs_disk::{Disk, DiskFault};
 use mcs_host::{Choice, FileDisk, FileFault, WordsFault, choice};
 use std::alloc::Global;
-use std::fs;
+use std::fs::{self, OpenOptions};
+use std::os::unix::fs::FileExt;
 use std::test::Fail;
 
 #[test]
@@ -10,7 +11,7 @@ fn a_new_file_is_blank_and_keeps_what_is_written(rt: HostRuntime) -> Result<(), 
     let _ = fs::remove_file(&rt, path);
     assert_eq!(rt;
         FileDisk::open_at(&rt, rt.alloc(), path, false).err(),
-        Some(FileFault::Device)
+        Some(FileFault::NotThere)
     );
     let mut disk = FileDisk::open_at(&rt, rt.alloc(), path, true)?;
     assert_eq!(rt; disk.size(), 163_856);
@@ -19,14 +20,53 @@ fn a_new_file_is_blank_and_keeps_what_is_written(rt: HostRuntime) -> Result<(), 
     assert_eq!(rt; bytes, [0, 0, 0, 0]);
     disk.write(2, &[7, 8])?;
     disk.sync()?;
+    drop(disk);
     let mut again = FileDisk::open_at(&rt, rt.alloc(), path, true)?;
     assert_eq!(rt; again.size(), 163_856);
     again.read(0, &mut bytes)?;
     assert_eq!(rt; bytes, [0, 0, 7, 8]);
-    // The second handle has written here, so what the first reads is not what it wrote.
-    again.write(2, &[9])?;
-    assert_eq!(rt; disk.read(0, &mut bytes), Err(DiskFault));
+    // Another program, which heeds no lock, writes here, so what is read is not what was written.
+    let other = OpenOptions::new().write(true).open(&rt, path)?;
+    other.write_all_at(&[9], 2)?;
+    assert_eq!(rt; again.read(0, &mut bytes), Err(DiskFault));
     fs::remove_file(&rt, path)?;
+    Ok(())
+}
+
+#[test]
+fn a_file_is_in_use_by_one_disk(rt: HostRuntime) -> Result<(), Fail> {
+    let path = "mcs_host_lock_test.mcs";
+    let _ = fs::remove_file(&rt, path);
+    let disk = FileDisk::open_at(&rt, rt.alloc(), path, true)?;
+    for make in [true, false] {
+        assert_eq!(rt;
+            FileDisk::open_at(&rt, rt.alloc(), path, make).err(),
+            Some(FileFault::InUse)
+        );
+    }
+    drop(disk);
+    let again = FileDisk::open_at(&rt, rt.alloc(), path, false)?;
+    assert_eq!(rt; again.size(), 163_856);
+    fs::remove_file(&rt, path)?;
+    Ok(())
+}
+
+#[test]
+fn what_is_no_file_is_refused_by_name(rt: HostRuntime) -> Result<(), Fail> {
+    let rows = [
+        (".", FileFault::Folder),
+        ("/dev/null", FileFault::NotAFile),
+        ("none/s.mcs", FileFault::NotThere),
+        ("", FileFault::NotThere),
+    ];
+    for (path, fault) in rows {
+        for make in [true, false] {
+            assert_eq!(rt;
+                FileDisk::open_at(&rt, rt.alloc(), path, make).err(),
+                Some(fault)
+            );
+        }
+    }
     Ok(())
 }
 
@@ -36,6 +76,7 @@ fn a_file_of_another_size_is_seen_as_one(rt: HostRuntime) -> Result<(), Fail> {
     fs::write(&rt, path, b"short".as_slice())?;
     let short = FileDisk::open_at(&rt, rt.alloc(), path, true)?;
     assert_eq!(rt; short.size(), 5);
+    drop(short);
     let long = vec![in rt.alloc(); 1u8; 163_900]?;
     fs::write(&rt, path, long.as_slice())?;
     let mut seen = FileDisk::open_at(&rt, rt.alloc(), path, true)?;

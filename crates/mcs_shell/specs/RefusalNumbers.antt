@@ -1,7 +1,7 @@
 -- The numbers that refusals are told by.
 use Rattle.std.specs.Prelude.{ℕ}
-use Rattle.mcs_host.specs.declared.file_disk.FileFault.{FileFault}
-use Rattle.mcs_host.specs.declared.file_disk.FileFault.TheVariants as file_fault
+use Rattle.mcs_host.specs.declared.file_fault.FileFault.{FileFault}
+use Rattle.mcs_host.specs.declared.file_fault.FileFault.TheVariants as file_fault
 use Rattle.mcs_journal.specs.declared.fault.CreateFault.{CreateFault}
 use Rattle.mcs_journal.specs.declared.fault.CreateFault.TheVariants as create_fault
 use Rattle.mcs_journal.specs.declared.fault.OpenFault.{OpenFault}
@@ -10,6 +10,8 @@ use Rattle.mcs_model.specs.Refusal.{bench_refusal_number}
 use Rattle.mcs_model.specs.declared.refusal_numbers.TheConstants.{CLOSED, DAMAGED, DEVICE, LINE_TOO_LONG, NOT_ASCII, NOT_A_SESSION, NOT_BLANK, NO_END, NO_MEMORY, TEXT_TOO_LONG}
 use Rattle.mcs_session.specs.declared.fault.SessionFault.{SessionFault}
 use Rattle.mcs_session.specs.declared.fault.SessionFault.TheVariants as session_fault
+use Rattle.mcs_shell.specs.declared.refusal.Refusal.{Refusal}
+use Rattle.mcs_shell.specs.declared.refusal.Refusal.TheVariants as refusal
 use Rattle.mcs_shell.specs.declared.texts.TextFault.{TextFault}
 use Rattle.mcs_shell.specs.declared.texts.TextFault.TheVariants as text_fault
 
@@ -38,7 +40,20 @@ open_fault_number open_fault.Damaged = DAMAGED
 open_fault_number open_fault.Device = DEVICE
 open_fault_number open_fault.NoMemory = NO_MEMORY
 
--- the numbers that refusals to open a file are told by
+-- the numbers that refusals to open a file are told by: whatever the host has against it, there is no device to work on
 abbrev pub file_fault_number : FileFault → ℕ
+file_fault_number file_fault.InUse = DEVICE
+file_fault_number file_fault.NoLock = DEVICE
+file_fault_number file_fault.NotThere = DEVICE
+file_fault_number file_fault.Denied = DEVICE
+file_fault_number file_fault.Folder = DEVICE
+file_fault_number file_fault.NotAFile = DEVICE
+file_fault_number file_fault.NoSpace = DEVICE
 file_fault_number file_fault.Device = DEVICE
 file_fault_number file_fault.NoMemory = NO_MEMORY
+
+-- the number that a refused session is told by
+abbrev pub refusal_number : Refusal → ℕ
+refusal_number (refusal.File f) = file_fault_number f
+refusal_number (refusal.Create f) = create_fault_number f
+refusal_number (refusal.Open f) = open_fault_number f

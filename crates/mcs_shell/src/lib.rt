@@ -10,10 +10,12 @@ pub mod laws;
 pub mod lines;
 pub mod outcome;
 pub mod program;
+pub mod refusal;
 pub mod sending;
 mod serving;
 pub mod shell;
 pub mod spelling;
+mod telling;
 pub mod texts;
 mod unfinished;
 

@@ -4,15 +4,16 @@ ghost use Rattle.std.specs.Process.{exit_status};
 ghost use Rattle.mcs_host.specs.CommandLine.{chosen, is_taken};
 ghost use Rattle.mcs_host.specs.FileDisk.{IsOpened};
 ghost use Rattle.mcs_host.specs.declared.file_disk.FileDisk.{FileDisk};
-ghost use Rattle.mcs_host.specs.declared.file_disk.FileFault.{FileFault};
+ghost use Rattle.mcs_host.specs.declared.file_fault.FileFault.{FileFault};
 ghost use Rattle.mcs_shell.specs.Program.{Begins, IsRefusedBy, RanToStatus, ServedAsChosen};
 ghost use Rattle.mcs_shell.specs.Shell.{Ran};
-ghost use Rattle.mcs_shell.specs.RefusalNumbers.{file_fault_number};
+ghost use Rattle.mcs_shell.specs.RefusalNumbers.{refusal_number};
 ghost use Rattle.mcs_shell.specs.Stage.{staged};
 
 use crate::ends::{ShellEnd, status};
-use crate::faults::{create_number, file_number, open_number};
+use crate::refusal::Refusal;
 use crate::shell::run_shell;
+use crate::telling::{tell_end, tell_no_memory, tell_refusal, tell_usage};
 use mcs_disk::Disk;
 use mcs_host::{Choice, FileDisk, FileFault, WordsFault, choice};
 use mcs_model::refusal_numbers;
@@ -53,73 +54,78 @@ pub fn refuse_words(rt: &HostRuntime, fault: WordsFault) -> io::Result<ExitCode>
 {
     match fault {
         WordsFault::Usage => {
-            eprintln!(rt; "usage: mcs4 new FILE or mcs4 open FILE")?;
+            tell_usage(rt)?;
             Ok(ExitCode::from(WRONG_WORDS))
         }
-        WordsFault::NoMemory => refuse(rt, refusal_numbers::NO_MEMORY),
+        WordsFault::NoMemory => {
+            let refused = refuse(rt, refusal_numbers::NO_MEMORY);
+            tell_no_memory(rt);
+            refused
+        }
     }
 }
 
-/// Begins the session that a choice asks for, on the disk that opening its file gave; or the number of the refusal.
+/// Begins the session that a choice asks for, on the disk that opening its file gave; or why there is none.
 pub fn session_on<D: Disk + Drop>(
     alloc: Global,
     choice: &Choice,
     opened: Result<D, FileFault>,
-) -> Result<Session<D>, u8>
+) -> Result<Session<D>, Refusal>
     ensures begun { IfOk opened (λ disk. IfOk result (λ session. Begins choice.now (D.state disk) (D.state session.disk) session.live session.state)) }
-    ensures refused { IfOk opened (λ disk. IfErr result (λ number. (left : D) × IsRefusedBy choice.now (D.state disk) (D.state left) number)) }
-    ensures unopened { IfErr opened (λ fault. result ≡ Err (file_fault_number fault)) }
+    ensures refused { IfOk opened (λ disk. IfErr result (λ refusal. (left : D) × IsRefusedBy choice.now (D.state disk) (D.state left) (refusal_number refusal))) }
+    ensures unopened { IfErr opened (λ fault. result ≡ Err (Refusal.File fault)) }
 {
     let disk = match opened {
         Ok(disk) => disk,
-        Err(fault) => return Err(file_number(fault)),
+        Err(fault) => return Err(Refusal::File(fault)),
     };
     match choice {
         Choice::New(_) => match Session::create(alloc, disk) {
             Ok(session) => Ok(session),
-            Err((fault, _disk)) => Err(create_number(fault)),
+            Err((fault, _disk)) => Err(Refusal::Create(fault)),
         },
         Choice::Open(_) => match Session::open(alloc, disk) {
             Ok(session) => Ok(session),
-            Err((fault, _disk)) => Err(open_number(fault)),
+            Err((fault, _disk)) => Err(Refusal::Open(fault)),
         },
     }
 }
 
-/// Makes or opens the session in a file, or answers the number of the refusal.
-pub fn session_in(rt: &HostRuntime, choice: &Choice) -> Result<Session<FileDisk>, u8>
+/// Makes or opens the session in a file, or tells why there is none.
+pub fn session_in(rt: &HostRuntime, choice: &Choice) -> Result<Session<FileDisk>, Refusal>
     ensures begun { IfOk result (λ session. (disk : FileDisk) × IsOpened (⟦<FileDisk as Disk>⟧.state disk)
         × Begins choice.now (⟦<FileDisk as Disk>⟧.state disk) (⟦<FileDisk as Disk>⟧.state session.disk) session.live session.state) }
-    ensures refused { IfErr result (λ number. ((fault : FileFault) × (number ≡ file_fault_number fault))
+    ensures refused { IfErr result (λ refusal. ((fault : FileFault) × (refusal ≡ Refusal.File fault))
         ⊎ ((disk : FileDisk) × (left : FileDisk) × IsOpened (⟦<FileDisk as Disk>⟧.state disk)
-        × IsRefusedBy choice.now (⟦<FileDisk as Disk>⟧.state disk) (⟦<FileDisk as Disk>⟧.state left) number)) }
+        × IsRefusedBy choice.now (⟦<FileDisk as Disk>⟧.state disk) (⟦<FileDisk as Disk>⟧.state left) (refusal_number refusal))) }
 {
     let alloc = rt.alloc();
-    let (file, make) = match choice {
-        Choice::New(file) => (file, true),
-        Choice::Open(file) => (file, false),
-    };
-    let opened = FileDisk::open_at(rt, alloc, file.as_str(), make);
+    let make = matches!(choice, Choice::New(_));
+    let opened = FileDisk::open_at(rt, alloc, choice.file(), make);
     session_on(alloc, choice, opened)
 }
 
-/// Serves a session over a reader and a writer, and gives the exit status of the shell's end. An `Err` comes only where memory
+/// Serves the session of this file over a reader and a writer, and gives the exit status of the shell's end. An `Err` comes only where memory
 /// for the shell was refused and that could not be told; then nothing was read or done.
 pub fn serve<R: Read, W: Write, D: Disk + Drop>(
     rt: &HostRuntime,
     reader: &mut R,
     writer: &mut W,
     session: &mut Session<D>,
+    file: &str,
 ) -> io::Result<ExitCode>
     ensures ran { IfOk result (λ code. RanToStatus (exit_status code) (R.remaining reader.old) (R.remaining reader.new)
         (staged (D.state session.old.disk) session.old (W.contents writer.old)) (staged (D.state session.new.disk) session.new (W.contents writer.new))) }
     ensures untold { OnErr result (Ran ShellEnd.NoMemory (R.remaining reader.old) (R.remaining reader.new)
         (staged (D.state session.old.disk) session.old (W.contents writer.old)) (staged (D.state session.new.disk) session.new (W.contents writer.new))) }
 {
-    match run_shell(rt.alloc(), reader, writer, session) {
+    let end = run_shell(rt.alloc(), reader, writer, session);
+    let left = match end {
         ShellEnd::NoMemory => refuse(rt, refusal_numbers::NO_MEMORY),
         end => Ok(ExitCode::from(status(end))),
-    }
+    };
+    tell_end(rt, file, end);
+    left
 }
 
 /// Runs the bench by these words, the program's name first: session, shell, exit status.
@@ -133,8 +139,15 @@ pub fn run_words<S: AsStr>(rt: &HostRuntime, words: &[S]) -> io::Result<ExitCode
         Err(fault) => return refuse_words(rt, fault),
     };
     match session_in(rt, &choice) {
-        Ok(mut session) => serve(rt, &mut rt.stdin(), &mut rt.stdout(), &mut session),
-        Err(number) => refuse(rt, number),
+        Ok(mut session) => {
+            let (input, output) = (&mut rt.stdin(), &mut rt.stdout());
+            serve(rt, input, output, &mut session, choice.file())
+        }
+        Err(refusal) => {
+            let refused = refuse(rt, refusal.number());
+            tell_refusal(rt, &choice, refusal);
+            refused
+        }
     }
 }
 

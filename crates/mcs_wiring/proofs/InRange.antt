@@ -1,5 +1,5 @@
 -- The parts that a table tells have numbers in their ranges.
-use Rattle.std.proofs.Common.{◌≡◌, ℕ, ◌<◌, ◌≤◌, ℤ, pos, negsuc, Bool, true, false, not, ◌||◌, ◌&&◌, List, [], ◌∷◌, length, map, codes, Option, Some, None, is_none, option_and_then, Ok, Err, if◌then◌else◌, eqb, ltb, leb, refl, sym, ap, ◌∙◌, arith}
+use Rattle.std.proofs.Common.{◌≡◌, ℕ, ◌-◌, ◌<◌, ◌≤◌, ℤ, pos, negsuc, Bool, true, false, not, ◌||◌, ◌&&◌, List, [], ◌∷◌, length, map, codes, Option, Some, None, is_none, option_and_then, Ok, Err, if◌then◌else◌, eqb, ltb, leb, refl, sym, ap, ◌∙◌, arith}
 use Rattle.std.proofs.lemmas.Bool.{and_parts, true≢false, leb-true, le-leb, le-ltb, lt-ltb}
 use Rattle.std.proofs.lemmas.Option.{same_Some}
 use Rattle.std.specs.List.{list_any, filter_map, cons_option, range_with_len}
@@ -11,7 +11,7 @@ use Rattle.mcs_model.specs.declared.board.ChainPart.{ChainPart}
 use Rattle.mcs_model.specs.declared.board.KeyMatrix.{KeyMatrix}
 use Rattle.mcs_model.specs.declared.board.Line.{Line}
 use Rattle.mcs_model.specs.declared.board.Line.TheVariants as line
-use Rattle.mcs_model.specs.declared.limits.TheConstants.{ROMS, BANKS, BANK_CHIPS, CHAINS, CHAIN_BITS}
+use Rattle.mcs_model.specs.declared.limits.TheConstants.{ROMS, BANKS, BANK_CHIPS, CHAINS, CHAIN_BITS, CHAIN_CHIPS, KEY_ROWS}
 use Rattle.mcs_model.specs.Boards as boards
 use Rattle.mcs_model.specs.declared.board.BoardFault.TheVariants as fault
 use Rattle.mcs_wiring.specs.declared.fault.WiringFault.TheVariants.{NoSuchLine, WrongDirection}
@@ -139,12 +139,12 @@ above n = ltb BANK_CHIPS n
 ram_within : (d : Data) (p : Numbered ℕ) → part_of ram_in d ≡ Some p → above p.part ≡ false
 ram_within d p e =
     let (ms, _, e1) = bound (as_table d) ram_in p e in
-    let (bank, _, e2) = bound (number_at (codes "bank") 0 7 ms) _ p e1 in
-    let (chips, chips_is, e3) = bound (number_at (codes "chips") 1 4 ms) _ p e2 in
+    let (bank, _, e2) = bound (number_at (codes "bank") 0 (BANKS - 1) ms) _ p e1 in
+    let (chips, chips_is, e3) = bound (number_at (codes "chips") 1 BANK_CHIPS ms) _ p e2 in
     let made : Numbered ℕ = record { number = bank; part = chips } in
     let same : made ≡ p = same_Some made p e3 in
-    let (low, high) = number_bounds (codes "chips") 1 4 ms chips chips_is in
-    ap (λ (q : Numbered ℕ). above q.part) (sym same) ∙ le-ltb 4 chips high
+    let (low, high) = number_bounds (codes "chips") 1 BANK_CHIPS ms chips chips_is in
+    ap (λ (q : Numbered ℕ). above q.part) (sym same) ∙ le-ltb BANK_CHIPS chips high
 
 chosen : (b : Bool) (x y : ℕ) → above x ≡ false → above y ≡ false → above (if b then x else y) ≡ false
 chosen true x y h k = h
@@ -168,13 +168,13 @@ chain_right d c e =
     let (ms, _, e1) = bound (as_table d) chain_in c e in
     let (clock, clock_is, e2) = bound (line_at (codes "clock") ms) _ c e1 in
     let (data_in, data_is, e3) = bound (line_at (codes "data") ms) _ c e2 in
-    let (chips, chips_is, e4) = bound (number_at (codes "chips") 1 4 ms) _ c e3 in
+    let (chips, chips_is, e4) = bound (number_at (codes "chips") 1 CHAIN_CHIPS ms) _ c e3 in
     let made : ChainPart = record { clock = clock; data_in = data_in; chips = chips } in
     let same : made ≡ c = same_Some made c e4 in
-    let (low, high) = number_bounds (codes "chips") 1 4 ms chips chips_is in
+    let (low, high) = number_bounds (codes "chips") 1 CHAIN_CHIPS ms chips chips_is in
     let some : ltb 0 chips ≡ true = lt-ltb 0 chips low in
-    let few : leb chips 4 ≡ true = le-leb chips 4 high in
-    let sized : not (ltb 0 chips && leb chips 4) ≡ false = rw (some, few) refl in
+    let few : leb chips CHAIN_CHIPS ≡ true = le-leb chips CHAIN_CHIPS high in
+    let sized : not (ltb 0 chips && leb chips CHAIN_CHIPS) ≡ false = rw (some, few) refl in
     let lines : (is_out clock || is_out data_in) ≡ false = rw (at_in_range (codes "clock") ms clock clock_is, at_in_range (codes "data") ms data_in data_is) refl in
     (ap (λ (x : ChainPart). not (boards.is_chain_size x)) (sym same) ∙ sized, ap (λ (x : ChainPart). is_out x.clock || is_out x.data_in) (sym same) ∙ lines)
 
@@ -195,19 +195,19 @@ IsRightMatrix m = (not (boards.is_matrix_size m) ≡ false) × (list_any is_out 
 
 matrix_right : (t : Members) (m : KeyMatrix) → matrix_in t ≡ Some m → has_bad_columns t ≡ false → IsRightMatrix m
 matrix_right t m e good =
-    let (chain, chain_is, e1) = bound (number_at (codes "chain") 0 1 t) _ m e in
-    let (first, first_is, e2) = bound (number_at (codes "first") 0 39 t) _ m e1 in
-    let (rows, rows_is, e3) = bound (number_at (codes "rows") 1 10 t) _ m e2 in
+    let (chain, chain_is, e1) = bound (number_at (codes "chain") 0 (CHAINS - 1) t) _ m e in
+    let (first, first_is, e2) = bound (number_at (codes "first") 0 (CHAIN_BITS - 1) t) _ m e1 in
+    let (rows, rows_is, e3) = bound (number_at (codes "rows") 1 KEY_ROWS t) _ m e2 in
     let values = values_at (codes "columns") t in
     let made : KeyMatrix = record { chain = chain; first = first; rows = rows; columns = record { items = filter_map line_of values } } in
     let same : made ≡ m = same_Some made m e3 in
-    let (_, chain_high) = number_bounds (codes "chain") 0 1 t chain chain_is in
-    let (_, first_high) = number_bounds (codes "first") 0 39 t first first_is in
-    let (rows_low, rows_high) = number_bounds (codes "rows") 1 10 t rows rows_is in
-    let a : ltb chain 2 ≡ true = lt-ltb chain 2 (omega arith) in
-    let b : ltb first 40 ≡ true = lt-ltb first 40 (omega arith) in
+    let (_, chain_high) = number_bounds (codes "chain") 0 (CHAINS - 1) t chain chain_is in
+    let (_, first_high) = number_bounds (codes "first") 0 (CHAIN_BITS - 1) t first first_is in
+    let (rows_low, rows_high) = number_bounds (codes "rows") 1 KEY_ROWS t rows rows_is in
+    let a : ltb chain CHAINS ≡ true = lt-ltb chain CHAINS (omega arith) in
+    let b : ltb first CHAIN_BITS ≡ true = lt-ltb first CHAIN_BITS (omega arith) in
     let c : ltb 0 rows ≡ true = lt-ltb 0 rows rows_low in
-    let d : leb rows 10 ≡ true = le-leb rows 10 rows_high in
+    let d : leb rows KEY_ROWS ≡ true = le-leb rows KEY_ROWS rows_high in
     let f : ltb 0 (length (filter_map line_of values)) ≡ true = lt-ltb 0 _ (some_columns values good) in
     let sized : not (boards.is_matrix_size made) ≡ false = rw (a, b, c, d, f) refl in
     let lines : list_any is_out made.columns.items ≡ false = none_of is_out line_of of_in_range values in

@@ -2,10 +2,12 @@
 use Rattle.std.proofs.Common.{◌≡◌, ℕ, ◌≤◌, false, ◌||◌, length, codes, ltb, arith}
 use Rattle.std.proofs.lemmas.Bool.Decides.{nat_tests}
 use Rattle.toml.specs.Data.{Members}
+use Rattle.mcs_model.specs.declared.limits.TheConstants.{ROMS, BANKS, CHAINS, KEY_COLUMNS, LAMPS}
 use Rattle.mcs_wiring.specs.Wiring.{has_too_many, values_at, column_values}
 use Rattle.mcs_wiring.specs.Flaws.{IsWithinLimits}
 
-below_all : (a b c d e : ℕ) → ((((ltb 16 a || ltb 8 b) || ltb 2 c) || ltb 8 d) || ltb 64 e) ≡ false → (a ≤ 16) × (b ≤ 8) × (c ≤ 2) × (d ≤ 8) × (e ≤ 64)
+below_all : (a b c d e : ℕ) → ((((ltb ROMS a || ltb BANKS b) || ltb CHAINS c) || ltb KEY_COLUMNS d) || ltb LAMPS e) ≡ false
+    → (a ≤ ROMS) × (b ≤ BANKS) × (c ≤ CHAINS) × (d ≤ KEY_COLUMNS) × (e ≤ LAMPS)
 below_all a b c d e h = (grind (arith, nat_tests), grind (arith, nat_tests), grind (arith, nat_tests), grind (arith, nat_tests), grind (arith, nat_tests))
 
 pub within : (ms : Members) → has_too_many ms ≡ false → IsWithinLimits ms

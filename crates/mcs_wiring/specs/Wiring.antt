@@ -1,5 +1,5 @@
 -- The board that a table describes, or the first refusal that holds of it (our own choice).
-use Rattle.std.specs.Prelude.{◌≡◌, ℕ, ℤ, pos, negsuc, Bool, true, false, not, ◌&&◌, ◌||◌, List, [], ◌∷◌, length, Option, Some, None, is_none, Result, Ok, Err, nat_lt, nat_le, ◌==◌, if◌then◌else◌, codes}
+use Rattle.std.specs.Prelude.{◌≡◌, ◌-◌, ℕ, ℤ, pos, negsuc, Bool, true, false, not, ◌&&◌, ◌||◌, List, [], ◌∷◌, length, Option, Some, None, is_none, Result, Ok, Err, nat_lt, nat_le, ◌==◌, if◌then◌else◌, codes}
 use Rattle.std.specs.List.{list_any, filter_map}
 use Rattle.std.specs.Option.{option_to_list, option_map_or}
 use Rattle.toml.specs.Data.{Data, array, table, Items, no_items, item, Members, no_members, member, get_member, as_str, as_integer, as_array, as_table}
@@ -10,7 +10,7 @@ use Rattle.mcs_model.specs.declared.board.BoardParts.{BoardParts}
 use Rattle.mcs_model.specs.declared.board.ChainPart.{ChainPart}
 use Rattle.mcs_model.specs.declared.board.KeyMatrix.{KeyMatrix}
 use Rattle.mcs_model.specs.declared.board.Line.{Line}
-use Rattle.mcs_model.specs.declared.limits.TheConstants.{ROMS, BANKS, CHAINS, KEY_COLUMNS, LAMPS}
+use Rattle.mcs_model.specs.declared.limits.TheConstants.{ROMS, BANKS, BANK_CHIPS, CHAINS, CHAIN_BITS, CHAIN_CHIPS, KEY_COLUMNS, KEY_ROWS, LAMPS}
 use Rattle.mcs_model.specs.Boards.{lacks_line, has_wrong_direction}
 use Rattle.mcs_wiring.specs.declared.fault.WiringFault.{WiringFault}
 use Rattle.mcs_wiring.specs.declared.fault.WiringFault.TheVariants.{BadToml, UnknownKey, MissingKey, BadValue, TooManyParts, DoubleChip, NoSuchLine, WrongDirection, NoMemory}
@@ -89,30 +89,30 @@ line_at key ms = get_member key ms >>= line_of
 -- a ROM: its chip and its masks
 abbrev pub rom_in : Members → Option (Numbered (Option (List LineMask)))
 rom_in ms =
-    number_at (codes "chip") 0 15 ms >>= (λ chip.
+    number_at (codes "chip") 0 (ROMS - 1) ms >>= (λ chip.
     get_member (codes "port") ms >>= as_str >>= masks_named >>= (λ masks.
     Some (record { number = chip; part = Some masks })))
 
 -- a bank of RAM, and how many chips it has
 abbrev pub ram_in : Members → Option (Numbered ℕ)
 ram_in ms =
-    number_at (codes "bank") 0 7 ms >>= (λ bank.
-    number_at (codes "chips") 1 4 ms >>= (λ chips.
+    number_at (codes "bank") 0 (BANKS - 1) ms >>= (λ bank.
+    number_at (codes "chips") 1 BANK_CHIPS ms >>= (λ chips.
     Some (record { number = bank; part = chips })))
 
 abbrev pub chain_in : Members → Option ChainPart
 chain_in ms =
     line_at (codes "clock") ms >>= (λ clock.
     line_at (codes "data") ms >>= (λ data_in.
-    number_at (codes "chips") 1 4 ms >>= (λ chips.
+    number_at (codes "chips") 1 CHAIN_CHIPS ms >>= (λ chips.
     Some (record { clock = clock; data_in = data_in; chips = chips }))))
 
 -- a key matrix, but for columns that are no line
 abbrev pub matrix_in : Members → Option KeyMatrix
 matrix_in ms =
-    number_at (codes "chain") 0 1 ms >>= (λ chain.
-    number_at (codes "first") 0 39 ms >>= (λ first.
-    number_at (codes "rows") 1 10 ms >>= (λ rows.
+    number_at (codes "chain") 0 (CHAINS - 1) ms >>= (λ chain.
+    number_at (codes "first") 0 (CHAIN_BITS - 1) ms >>= (λ first.
+    number_at (codes "rows") 1 KEY_ROWS ms >>= (λ rows.
     Some (record { chain = chain; first = first; rows = rows; columns = record { items = filter_map line_of (values_at (codes "columns") ms) } }))))
 
 -- no array, an empty one, or one with something that is no line

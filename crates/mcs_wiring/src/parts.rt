@@ -9,7 +9,9 @@ use crate::sections::Numbered;
 use crate::values::{line_at, line_of, member, number_at, values_at};
 use arrayvec::ArrayVec;
 use mcs_model::board::{ChainPart, KeyMatrix, Line};
-use mcs_model::limits::{BANKS, CHAINS, KEY_COLUMNS, LAMPS, ROMS};
+use mcs_model::limits::{
+    BANK_CHIPS, BANKS, CHAIN_BITS, CHAIN_CHIPS, CHAINS, KEY_COLUMNS, KEY_ROWS, LAMPS, ROMS,
+};
 use mcs_nibble::LineMask;
 use toml::{Table, Value};
 
@@ -18,7 +20,7 @@ pub(crate) fn rom(value: &Value) -> Option<Numbered<Option<[LineMask; 4]>>>
     ensures { result ≡ part_of rom_in (view value.now) }
 {
     let table = value.as_table()?;
-    let chip = number_at(table, "chip", 0, 15)?;
+    let chip = number_at(table, "chip", 0, ROMS as u8 - 1)?;
     let masks = masks_named(member(table, "port")?.as_str()?)?;
     Some(Numbered {
         number: chip,
@@ -31,8 +33,8 @@ pub(crate) fn ram(value: &Value) -> Option<Numbered<u8>>
     ensures { result ≡ part_of ram_in (view value.now) }
 {
     let table = value.as_table()?;
-    let bank = number_at(table, "bank", 0, 7)?;
-    let chips = number_at(table, "chips", 1, 4)?;
+    let bank = number_at(table, "bank", 0, BANKS as u8 - 1)?;
+    let chips = number_at(table, "chips", 1, BANK_CHIPS)?;
     Some(Numbered {
         number: bank,
         part: chips,
@@ -46,7 +48,7 @@ pub(crate) fn chain(value: &Value) -> Option<ChainPart>
     let table = value.as_table()?;
     let clock = line_at(table, "clock")?;
     let data_in = line_at(table, "data")?;
-    let chips = number_at(table, "chips", 1, 4)?;
+    let chips = number_at(table, "chips", 1, CHAIN_CHIPS)?;
     Some(ChainPart {
         clock,
         data_in,
@@ -87,13 +89,13 @@ pub(crate) fn has_bad_columns(table: &Table) -> bool
 pub(crate) fn has_bad_numbers(table: &Table) -> bool
     ensures { result ≡ is_none (matrix_in (table_view table.now)) }
 {
-    if number_at(table, "chain", 0, 1).is_none() {
+    if number_at(table, "chain", 0, CHAINS as u8 - 1).is_none() {
         return true;
     }
-    if number_at(table, "first", 0, 39).is_none() {
+    if number_at(table, "first", 0, CHAIN_BITS - 1).is_none() {
         return true;
     }
-    number_at(table, "rows", 1, 10).is_none()
+    number_at(table, "rows", 1, KEY_ROWS).is_none()
 }
 
 /// The key matrix that a table tells.
@@ -101,9 +103,9 @@ pub(crate) fn matrix(table: &Table) -> Option<KeyMatrix>
     requires { length (values_at (codes "columns") (table_view table.now)) ≤ KEY_COLUMNS }
     ensures { result ≡ matrix_in (table_view table.now) }
 {
-    let chain = number_at(table, "chain", 0, 1)?;
-    let first = number_at(table, "first", 0, 39)?;
-    let rows = number_at(table, "rows", 1, 10)?;
+    let chain = number_at(table, "chain", 0, CHAINS as u8 - 1)?;
+    let first = number_at(table, "first", 0, CHAIN_BITS - 1)?;
+    let rows = number_at(table, "rows", 1, KEY_ROWS)?;
     Some(KeyMatrix {
         chain,
         first,

@@ -3,6 +3,7 @@ ghost use Rattle.std.specs.Prelude.{◌<◌};
 
 use arrayvec::ArrayVec;
 use mcs_model::board::{Board, BoardParts, ChainPart, KeyMatrix, Line};
+use mcs_model::limits::{CHAIN_BITS, CHAIN_CHIPS, CHAINS};
 use mcs_nibble::LineMask;
 use std::process::Abort;
 
@@ -71,11 +72,11 @@ impl Numbers {
         None
     }
 
-    fn chains(&mut self, board: &Board) -> ArrayVec<ChainPart, 2> {
+    fn chains(&mut self, board: &Board) -> ArrayVec<ChainPart, CHAINS> {
         let mut chains = ArrayVec::new();
-        for _ in 0..self.below(3) {
+        for _ in 0..self.below(CHAINS as u8 + 1) {
             if let (Some(clock), Some(data_in)) = (self.output(board), self.output(board)) {
-                let chips = 1 + self.below(4);
+                let chips = 1 + self.below(CHAIN_CHIPS);
                 let _ = chains.try_push(ChainPart {
                     clock,
                     data_in,
@@ -87,8 +88,8 @@ impl Numbers {
     }
 
     fn keys(&mut self, board: &Board, chains: &[ChainPart]) -> Option<KeyMatrix> {
-        let chain = self.below(2);
-        let bits = 10 * chains.get(usize::from(chain))?.chips.min(4);
+        let chain = self.below(CHAINS as u8);
+        let bits = 10 * chains.get(usize::from(chain))?.chips.min(CHAIN_CHIPS);
         if bits == 0 {
             return None;
         }
@@ -117,7 +118,7 @@ impl Numbers {
     fn lamps(&mut self, board: &Board, chains: &[ChainPart]) -> ArrayVec<Line, 64> {
         let mut lamps = ArrayVec::new();
         for _ in 0..self.below(65) {
-            let bit = Line::Chain(self.below(2), self.below(40));
+            let bit = Line::Chain(self.below(CHAINS as u8), self.below(CHAIN_BITS));
             if let Line::Chain(n, i) = bit
                 && let Some(chain) = chains.get(usize::from(n))
                 && u16::from(i) < chain.bits()

@@ -81,7 +81,7 @@ fn worked_refusals(rt: HostRuntime) -> Result<(), Fail> {
             ("", 0),
         ],
     );
-    // The first column replaced, and the chain written three times.
+    // The first column replaced, and the chain written more often.
     let (before, after) = MATRIX_AND_LAMPS
         .split_once("\"rom1.0\"")
         .ok_or("no column")?;
@@ -90,8 +90,73 @@ fn worked_refusals(rt: HostRuntime) -> Result<(), Fail> {
     let output = joined(alloc, joined(alloc, before, "\"rom0.2\"")?.as_str(), after)?;
     assert_eq!(rt; answer(alloc, output.as_str()), 26);
     let chain = "[[chain]]\nclock = \"rom0.0\"\ndata = \"rom0.1\"\nchips = 1\n";
-    let more = joined(alloc, MATRIX_AND_LAMPS, repeated(alloc, chain, 2)?.as_str())?;
-    assert_eq!(rt; answer(alloc, more.as_str()), 27);
+    for (more, number) in [(2, 0), (3, 0), (4, 27), (5, 27)] {
+        let text = joined(
+            alloc,
+            MATRIX_AND_LAMPS,
+            repeated(alloc, chain, more)?.as_str(),
+        )?;
+        assert_eq!(rt; answer(alloc, text.as_str()), number, "{more} chains more");
+    }
+    Ok(())
+}
+
+/// The text of the board with a matrix and lamps, its chain of so many chips and its first row at a bit of that.
+fn long_chain(alloc: Global, chips: u8, first: u8) -> Result<String, Fail> {
+    let (before, after) = MATRIX_AND_LAMPS
+        .split_once("chips = 1\n[keys]\nchain = 0\nfirst = 0\n")
+        .ok_or("no chain before its keys")?;
+    let text = format!(in alloc;
+        "{before}chips = {chips}\n[keys]\nchain = 0\nfirst = {first}\n{after}"
+    )?;
+    Ok(text)
+}
+
+/// Chains of up to eight chips, and what stands at their bits.
+#[test]
+fn longer_chains(rt: HostRuntime) -> Result<(), Fail> {
+    let alloc = rt.alloc();
+    for (chips, first, number) in [
+        (8, 0, 0),
+        (9, 0, 23),
+        (255, 0, 23),
+        (8, 70, 0),
+        (8, 71, 25),
+        (8, 79, 25),
+        (8, 80, 23),
+        (7, 60, 0),
+        (7, 61, 25),
+    ] {
+        let text = long_chain(alloc, chips, first)?;
+        assert_eq!(rt;
+            answer(alloc, text.as_str()),
+            number,
+            "{chips} chips, first {first}"
+        );
+    }
+    let board = long_chain(alloc, 8, 0)?;
+    for (line, number) in [
+        ("chain0.79", 0),
+        ("chain0.80", 23),
+        ("chain1.0", 25),
+        ("chain3.79", 25),
+        ("chain4.0", 23),
+    ] {
+        let text = format!(in alloc; "{board}[[lamp]]\nline = \"{line}\"\n")?;
+        assert_eq!(rt; answer(alloc, text.as_str()), number, "at {line}");
+    }
+    // The longest chains, as often as they can be, and the last bit of the last.
+    let chain = "[[chain]]\nclock = \"rom0.0\"\ndata = \"rom0.1\"\nchips = 8\n";
+    let lamp = "[[lamp]]\nline = \"chain3.79\"\n";
+    let text = joined(
+        alloc,
+        "[[rom]]\nchip = 0\nport = \"0000\"\n",
+        repeated(alloc, chain, 4)?.as_str(),
+    )?;
+    let text = joined(alloc, text.as_str(), lamp)?;
+    let board = board_of(alloc, text.as_str())?;
+    assert_eq!(rt; board_text(alloc, &board)?.as_str(), text.as_str());
+    assert!(rt; board.lamp_line(0) == Some(Line::Chain(3, 79)));
     Ok(())
 }
 
@@ -223,8 +288,8 @@ fn bad_values(rt: HostRuntime) -> Result<(), Fail> {
         "ram0.0.4",
         "ram0.0.0.0",
         "ram00.0.0",
-        "chain2.0",
-        "chain0.40",
+        "chain4.0",
+        "chain0.80",
         "chain0.01",
         "chain0.100",
         "chain0",
@@ -236,8 +301,8 @@ fn bad_values(rt: HostRuntime) -> Result<(), Fail> {
         assert_eq!(rt; answer(alloc, text.as_str()), 23, "at {line}");
     }
     for keys in [
-        "chain = 2, first = 0, rows = 1, columns = [\"rom1.0\"]",
-        "chain = 0, first = 40, rows = 1, columns = [\"rom1.0\"]",
+        "chain = 4, first = 0, rows = 1, columns = [\"rom1.0\"]",
+        "chain = 0, first = 80, rows = 1, columns = [\"rom1.0\"]",
         "chain = 0, first = 0, rows = 0, columns = [\"rom1.0\"]",
         "chain = 0, first = 0, rows = 11, columns = [\"rom1.0\"]",
         "chain = 0, first = 0, rows = 1, columns = []",
@@ -261,7 +326,7 @@ fn bad_values(rt: HostRuntime) -> Result<(), Fail> {
                 23,
             ),
             (
-                "[[chain]]\nclock = \"rom0.0\"\ndata = \"rom0.0\"\nchips = 5",
+                "[[chain]]\nclock = \"rom0.0\"\ndata = \"rom0.0\"\nchips = 9",
                 23,
             ),
             ("[[chain]]\nclock = 0\ndata = \"rom0.0\"\nchips = 1", 23),

@@ -1,3 +1,4 @@
+use Rattle.std.proofs.Common.{refl}
 use Rattle.mcs_shell.proofs.program.session_on.Goals as goal
 
 pub returns-in-Ok-create-clause-begun : goal.returns-in-Ok-create-clause-begun
@@ -13,7 +14,7 @@ returns-in-Err-create-clause-refused g c = rw (c.in-Ok.is, c.in-New.is) (
   c.in-Err-create._disk,
   record {
     fault = c.in-Err-create.fault;
-    told = c.create_number.ensures;
+    told = refl;
     counts = c.in-Err-create.ensures.refusal_counts;
     refuses = c.in-Err-create.ensures.refused;
   },
@@ -31,7 +32,7 @@ returns-in-Err-open-clause-refused g c = rw (c.in-Ok.is, c.in-Open.is) (
   c.in-Err-open._disk,
   record {
     fault = c.in-Err-open.fault;
-    told = c.open_number.ensures;
+    told = refl;
     counts = c.in-Err-open.ensures.refusal_counts;
     refuses = c.in-Err-open.ensures.refused;
   },

@@ -1,4 +1,5 @@
--- A record is made: it has no bytes, so its ghost fields are what is said here. Of the end it has to name something, which no caller learns.
+-- A record is made: it has no bytes, so its ghost fields are what is said here. Of the end it has to name something, which no
+-- caller learns: an end at once, at which the bytes of the start are found, so that a file is honest here.
 use Rattle.std.proofs.Common.{ℕ, List, [], ◌∷◌, refl, length, ◌<◌, ◌^◌}
 use seplogic.Ra.Ura.{Ura}
 use mir.Syntax.{named}
@@ -45,7 +46,7 @@ module _ {M : Type 1} {𝓤 : Ura M} (𝓛 : Logic 𝓤) (at_mem : Memory → SP
   open 𝓛 use {H}
 
   abbrev r : CallRecord
-  r = record { marker = record {}; start = s.now; calls = []; calls_by_the_end = []; found = [] }
+  r = record { marker = record {}; start = s.now; calls = []; calls_by_the_end = []; found = s.now }
 
   abbrev at : List Val × Unit {0}
   at = (slice_val s.ref_ptr (length s.now) ∷ [], tt)

@@ -1,0 +1,31 @@
+//! Why there is no session.
+ghost use Rattle.std.specs.Prelude.{◌≡◌};
+ghost use Rattle.mcs_shell.specs.RefusalNumbers.{refusal_number};
+
+use crate::faults::{create_number, file_number, open_number};
+use mcs_host::FileFault;
+use mcs_journal::{CreateFault, OpenFault};
+
+/// Why there is no session.
+#[derive(Clone, Copy, Debug, PartialEq, Eq)]
+pub enum Refusal {
+    /// Its file was not opened.
+    File(FileFault),
+    /// It was not made.
+    Create(CreateFault),
+    /// It was not opened.
+    Open(OpenFault),
+}
+
+impl Refusal {
+    /// The number that it is told by.
+    pub fn number(self) -> u8
+        ensures { result ≡ refusal_number self }
+    {
+        match self {
+            Refusal::File(fault) => file_number(fault),
+            Refusal::Create(fault) => create_number(fault),
+            Refusal::Open(fault) => open_number(fault),
+        }
+    }
+}

@@ -1,0 +1,72 @@
+//! What standard error gets, for people: a line where a session is refused or ends by a fault, and the usage. What could not be written
+//! there is not told elsewhere. Standard output and the exit status are those without it.
+use crate::ends::ShellEnd;
+use crate::refusal::Refusal;
+use mcs_host::{Choice, FileFault};
+use mcs_journal::{CreateFault, OpenFault};
+use std::io;
+
+/// What wrong words get: what the words are, where the manual is, and the versions of the program and of its session files.
+pub fn tell_usage(rt: &HostRuntime) -> io::Result<()> {
+    eprintln!(rt; "usage: mcs4 new FILE or mcs4 open FILE")?;
+    eprintln!(rt; "manual: docs/MANUAL.md in the folder that mcs4 was built in")?;
+    eprintln!(rt; "version: mcs4 1.0, session files MCS4BEN1 with states of version 1")
+}
+
+/// A line on a refused session: what is wrong with its file, and what to do.
+pub fn tell_refusal(rt: &HostRuntime, choice: &Choice, refusal: Refusal) {
+    let file = choice.file();
+    // Where standard error takes nothing, the number that standard output got has to do.
+    let _ = match (choice, refusal) {
+        (Choice::Open(_), Refusal::File(FileFault::NotThere)) => {
+            eprintln!(rt; "mcs4: {file}: no such file; begin a session with: mcs4 new {file}")
+        }
+        (_, Refusal::Create(CreateFault::NotBlank)) => eprintln!(rt;
+            "mcs4: {file}: not blank, so no session is made in it; remove it, or go on with: mcs4 open {file}"
+        ),
+        (_, refusal) => eprintln!(rt; "mcs4: {file}: {}", words_of(refusal)),
+    };
+}
+
+/// A line on a session that a fault ended, or nothing where it came to its end.
+pub fn tell_end(rt: &HostRuntime, file: &str, end: ShellEnd) {
+    let words = match end {
+        ShellEnd::End => return,
+        ShellEnd::ReadFault => "standard input could not be read; what was answered ok is kept",
+        ShellEnd::WriteFault => "standard output took no more; what was answered ok is kept",
+        ShellEnd::DeviceFault => "the device failed; open it again",
+        ShellEnd::InputLimit => "no more than 16777216 bytes are read; open it again to go on",
+        ShellEnd::NoMemory => "out of memory",
+    };
+    let _ = eprintln!(rt; "mcs4: {file}: {words}");
+}
+
+/// A line on words that there was no memory for.
+pub fn tell_no_memory(rt: &HostRuntime) {
+    let _ = eprintln!(rt; "mcs4: out of memory");
+}
+
+fn words_of(refusal: Refusal) -> &'static str {
+    match refusal {
+        Refusal::File(FileFault::InUse) => "in use by another program; wait until that has ended",
+        Refusal::File(FileFault::NoLock) => {
+            "the host has no lock for it; put it on a disk of this machine"
+        }
+        Refusal::File(FileFault::NotThere) => "no such folder; make it first",
+        Refusal::File(FileFault::Denied) => "no permission to read and write it",
+        Refusal::File(FileFault::Folder) => "it is a folder; name a file in it",
+        Refusal::File(FileFault::NotAFile) => "it is no regular file; name another",
+        Refusal::File(FileFault::NoSpace) => {
+            "no space for it on the device; make room and try again"
+        }
+        Refusal::File(FileFault::Device) => "the host refused it, or its device failed",
+        Refusal::Create(CreateFault::NotBlank) => "not blank",
+        Refusal::Open(OpenFault::NotASession) => "no session file; begin a session in another file",
+        Refusal::Open(OpenFault::Damaged) => "damaged; go on with a copy of it, if there is one",
+        Refusal::Create(CreateFault::Device) => "the device failed; remove it and begin again",
+        Refusal::Open(OpenFault::Device) => "the device failed; open it again",
+        Refusal::File(FileFault::NoMemory)
+        | Refusal::Create(CreateFault::NoMemory)
+        | Refusal::Open(OpenFault::NoMemory) => "out of memory",
+    }
+}
