@@ -16,6 +16,7 @@ use Rattle.mcs_version1.specs.Boards.{is_small}
 use Rattle.mcs_version1.specs.Flat.{Flat1}
 use Rattle.mcs_version1.specs.Lift.{lift}
 use Rattle.mcs_version1.specs.Validity.{IsValid1}
+use Rattle.mcs_version1.proofs.Limits.{small-then, valid-now, valid-then}
 use Rattle.mcs_codec.specs.StateText.{text_by}
 use Rattle.mcs_codec.specs.StateReading.{memory_at, registers_at, sources_at, rows_at, breakpoints_at, wiring_at, state_at}
 use Rattle.mcs_codec.specs.Codec.{SpellsState, SpellsState1, SpellsLifted, SpellsStateBy, version_of, is_first}
@@ -243,14 +244,14 @@ shape_of s h = shape_by false s h (λ no. absurd cc) (h.watches.few, places_of s
 pub lift-valid : (s : Flat1) → IsValid1 s → IsValid (lift s)
 lift-valid s h = record {
   processor = h.processor;
-  bus = h.bus;
+  bus = record { board = valid-now s.bus.board h.bus.board; in_range = h.bus.in_range; absent = h.bus.absent };
   breakpoints = h.breakpoints;
   watches = record { few = omega arith; places = λ i d lt. absurd (omega arith); rising = λ i l. absurd (omega arith) };
   seq = h.seq;
 }
 
 shape_of_1 : (s : Flat1) → IsValid1 s → HasShape true (lift s)
-shape_of_1 s h = shape_by true (lift s) (lift-valid s h) (λ _. h.small) refl
+shape_of_1 s h = shape_by true (lift s) (lift-valid s h) (λ _. small-then s.bus.board h.bus.board) refl
 
 -- ---- what the public calls promise
 
@@ -261,7 +262,7 @@ state_read bytes true s all e valid =
     let t = whole_takes state_codec bytes (true, s) all (sym e) in
     record {
       first = record { processor = s.processor; bus = s.bus; breakpoints = s.breakpoints; seq = s.seq };
-      spells = record { is = t.0; valid = record { processor = valid.processor; bus = valid.bus; small = t.1.small refl; breakpoints = valid.breakpoints; seq = valid.seq } };
+      spells = record { is = t.0; valid = record { processor = valid.processor; bus = record { board = valid-then s.bus.board valid.bus.board (t.1.small refl); in_range = valid.bus.in_range; absent = valid.bus.absent }; breakpoints = valid.breakpoints; seq = valid.seq } };
       lifted = ap (λ (l : List ℕ). record s { watches = l }) t.1.watches;
     }
 
@@ -300,7 +301,7 @@ same_state bytes v w s t h k =
 -- the version that the fifth byte tells is that of the state which the bytes spell
 pub state_told : (first : Bool) (bytes : List ℕ) (s : Flat) → SpellsStateBy first bytes s → version_of bytes ≡ Some (cond first 1 2)
 state_told false bytes s h = ap version_of h.is
-state_told true bytes s h = ap version_of h.spells.is ∙ (board-begins h.first.bus.board _ h.spells.valid.bus.board).told
+state_told true bytes s h = ap version_of h.spells.is ∙ (board-begins h.first.bus.board _ (valid-now h.first.bus.board h.spells.valid.bus.board)).told
 
 pub first_told : (first : Bool) (bytes : List ℕ) (s : Flat) → SpellsStateBy first bytes s → is_first bytes ≡ first
 first_told false bytes s h = rw (state_told false bytes s h) refl

@@ -18,5 +18,5 @@ mod versions;
 pub use commands::{COMMAND_BYTES, command_bytes, command_of, one_command};
 pub use restoring::bench_of;
 pub use saving::{STATE_BYTES, state_bytes};
-pub use mcs_version1::laws::{commands_lift, queries_lift};
+pub use mcs_version1::laws::{boards_are_small, commands_lift, queries_lift};
 pub use versions::{in_version_1, one_state, version_of};

@@ -1,9 +1,60 @@
--- Version 1 of a board: shorter and fewer chains.
-use Rattle.std.specs.Prelude.{Bool, ◌&&◌, not, length, nat_lt, nat_le}
+-- Version 1 of which parts make a board: fewer and shorter chains. What the lines of a board are did not change.
+use Rattle.std.specs.Prelude.{◌≡◌, ◌≤◌, ◌↔◌, ℕ, Bool, true, false, ◌&&◌, ◌||◌, not, Option, Some, None, length, nat_lt, nat_le, if◌then◌else◌}
 use Rattle.std.specs.List.{list_any}
+use Rattle.mcs_model.specs.declared.board.BoardFault.{BoardFault}
+use Rattle.mcs_model.specs.declared.board.BoardFault.TheVariants.{BadValue, NoSuchLine, WrongDirection}
 use Rattle.mcs_model.specs.declared.board.BoardParts.{BoardParts}
+use Rattle.mcs_model.specs.declared.board.ChainPart.{ChainPart}
+use Rattle.mcs_model.specs.declared.board.KeyMatrix.{KeyMatrix}
+use Rattle.mcs_model.specs.declared.board.Line.{Line}
+use Rattle.mcs_model.specs.declared.board.Line.TheVariants.{Rom, Ram, Chain}
+use Rattle.mcs_model.specs.declared.limits.TheConstants.{ROMS, BANKS, BANK_CHIPS, KEY_ROWS}
+use Rattle.mcs_model.specs.Boards.{IsSized, any_line, has_wrong_direction, lacks_line}
+use Rattle.mcs_model.specs.Validity.{IsValidBoard}
 
--- whether a board is one of version 1: at most 2 chains of at most 4 chips. (All its other ranges follow: a line of a chain,
--- and the chain and the rows of a key matrix, have to exist.)
+-- whether the numbers of a line are in their ranges
+abbrev pub in_range_1 : Line → Bool
+in_range_1 (Rom chip k) = nat_lt chip ROMS && nat_lt k 4
+in_range_1 (Ram bank chip k) = nat_lt bank BANKS && nat_lt chip BANK_CHIPS && nat_lt k 4
+in_range_1 (Chain n i) = nat_lt n 2 && nat_lt i 40
+
+-- whether a chain has 1 to 4 chips
+abbrev pub is_chain_size_1 : ChainPart → Bool
+is_chain_size_1 c = nat_lt 0 c.chips && nat_le c.chips 4
+
+-- whether the numbers of a key matrix are in their ranges
+abbrev pub is_matrix_size_1 : KeyMatrix → Bool
+is_matrix_size_1 m = nat_lt m.chain 2 && nat_lt m.first 40 && nat_lt 0 m.rows && nat_le m.rows KEY_ROWS && nat_lt 0 (length m.columns.items)
+
+abbrev pub has_bad_matrix_1 : BoardParts → Bool
+has_bad_matrix_1 b = elim b.keys [ Some m ↦ not (is_matrix_size_1 m) | None ↦ false ]
+
+-- a number is out of its range
+abbrev pub has_bad_value_1 : BoardParts → Bool
+has_bad_value_1 b =
+    list_any (λ n. nat_lt BANK_CHIPS n) b.banks
+    || list_any (λ c. not (is_chain_size_1 c)) b.chains.items
+    || has_bad_matrix_1 b
+    || any_line (λ line. not (in_range_1 line)) b
+
+-- the first thing that is wrong with the parts, if any
+abbrev pub fault_of_1 : BoardParts → Option BoardFault
+fault_of_1 b =
+    if has_bad_value_1 b then Some BadValue
+    else if lacks_line b then Some NoSuchLine
+    else if has_wrong_direction b then Some WrongDirection
+    else None
+
+-- parts with which nothing is wrong, and at most two chains
+pub record IsValidBoard1 (b : BoardParts) : Type 0 where
+  pub sized : IsSized b
+  pub few : length b.chains.items ≤ 2
+  pub valid : fault_of_1 b ≡ None
+
+-- whether a board has at most 2 chains of at most 4 chips
 abbrev pub is_small : BoardParts → Bool
 is_small b = nat_le (length b.chains.items) 2 && not (list_any (λ chain. nat_lt 4 chain.chips) b.chains.items)
+
+-- the boards of version 1 are those of today that are so small: all its other ranges follow, since lines and rows have to exist
+abbrev pub SmallBoards : Type 0
+SmallBoards = (b : BoardParts) → IsValidBoard1 b ↔ (IsValidBoard b × (is_small b ≡ true))

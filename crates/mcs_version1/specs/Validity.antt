@@ -1,13 +1,19 @@
 -- Version 1 of the states that a bench can be in.
-use Rattle.std.specs.Prelude.{◌≡◌, ◌≤◌, true}
+use Rattle.std.specs.Prelude.{◌≡◌, ◌≤◌}
 use Rattle.mcs_model.specs.declared.limits.TheConstants.{ACCEPTED_COMMANDS}
-use Rattle.mcs_model.specs.Validity.{IsValidRegs, IsValidBus, AreBreakpoints}
-use Rattle.mcs_version1.specs.Boards.{is_small}
+use Rattle.mcs_model.specs.Bus.{BusState}
+use Rattle.mcs_model.specs.Validity.{IsValidRegs, IsInRange, IsAbsentZero, AreBreakpoints}
+use Rattle.mcs_version1.specs.Boards.{IsValidBoard1}
 use Rattle.mcs_version1.specs.Flat.{Flat1}
+
+-- a board and what its chips hold
+pub record IsValidBus1 (s : BusState) : Type 0 where
+  pub board : IsValidBoard1 s.board
+  pub in_range : IsInRange s
+  pub absent : IsAbsentZero s
 
 pub record IsValid1 (s : Flat1) : Type 0 where
   pub processor : IsValidRegs s.processor
-  pub bus : IsValidBus s.bus
-  pub small : is_small s.bus.board ≡ true
+  pub bus : IsValidBus1 s.bus
   pub breakpoints : AreBreakpoints s.breakpoints
   pub seq : s.seq ≤ ACCEPTED_COMMANDS
