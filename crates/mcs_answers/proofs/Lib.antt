@@ -1,3 +1,4 @@
 pub mod DecimalDigits
 pub mod Growing
 pub mod RamTexts
+pub mod PortTexts

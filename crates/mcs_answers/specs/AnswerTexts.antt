@@ -4,7 +4,7 @@ use Rattle.std.specs.Fmt.{decimal}
 use Rattle.mcs_model.specs.declared.command.Reply.{Reply}
 use Rattle.mcs_model.specs.declared.command.Reply.TheVariants.{Done, Loaded, Ran}
 use Rattle.mcs_model.specs.declared.stop.Stop.{Stop}
-use Rattle.mcs_model.specs.declared.stop.Stop.TheVariants.{Outside, Breakpoint, Ended}
+use Rattle.mcs_model.specs.declared.stop.Stop.TheVariants.{Outside, Breakpoint, Watched, Ended}
 use Rattle.mcs_model.specs.Flat.{Flat}
 use Rattle.mcs_model.specs.QueryText.{text}
 use Rattle.mcs_source.specs.Text.{listing_text}
@@ -23,6 +23,7 @@ session_text s = codes "session " ++ (decimal s.seq ++ line_feed)
 abbrev pub stop_name : Stop → List ℕ
 stop_name Outside = codes "code"
 stop_name Breakpoint = codes "break"
+stop_name Watched = codes "watch"
 stop_name Ended = codes "end"
 
 -- what a reply tells behind the count of commands: how many bytes were loaded, or how many cycles were run and why no more

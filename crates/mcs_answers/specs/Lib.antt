@@ -1,2 +1,4 @@
 pub mod AnswerTexts
 pub mod Told
+pub mod Keys
+pub mod Version1

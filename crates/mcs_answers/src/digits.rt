@@ -1,15 +1,16 @@
-//! Bytes, digits and numbers behind a text of at most 512 bytes.
+//! Bytes, digits and numbers behind a text of an answer.
 ghost use Rattle.std.specs.Prelude.{◌≡◌, ◌+◌, ◌++◌, ◌<◌, ◌≤◌, length, map};
 ghost use Rattle.std.specs.Fmt.{decimal};
 ghost use Rattle.arrayvec.specs.ArrayVec.{array_vec_len};
-ghost use Rattle.mcs_model.specs.QueryText.{address_text, digit_text, hex_digit};
+ghost use Rattle.mcs_model.specs.QueryText.{address_text, byte_text, digit_text, hex_digit};
 
+use crate::size::ANSWER_BYTES;
 use arrayvec::ArrayVec;
 use mcs_nibble::{Addr, Nibble};
 
 /// Adds bytes to an answer.
-pub fn put(answer: &mut ArrayVec<u8, 512>, bytes: &[u8])
-    requires { array_vec_len answer.old + length bytes.now ≤ 512 }
+pub fn put(answer: &mut ArrayVec<u8, ANSWER_BYTES>, bytes: &[u8])
+    requires { array_vec_len answer.old + length bytes.now ≤ ANSWER_BYTES }
     ensures text { answer.new.items ≡ answer.old.items ++ bytes.now }
     ensures count { length answer.new.items ≡ length answer.old.items + length bytes.now }
 {
@@ -18,8 +19,8 @@ pub fn put(answer: &mut ArrayVec<u8, 512>, bytes: &[u8])
 
 /// Adds a number in decimal digits.
 #[tactic(auto, using(std::proofs::lemmas::Fmt::decimal_digit, std::proofs::lemmas::Fmt::decimal_step))]
-pub fn put_decimal(answer: &mut ArrayVec<u8, 512>, n: u64)
-    requires { array_vec_len answer.old + length (decimal n) ≤ 512 }
+pub fn put_decimal(answer: &mut ArrayVec<u8, ANSWER_BYTES>, n: u64)
+    requires { array_vec_len answer.old + length (decimal n) ≤ ANSWER_BYTES }
     ensures { answer.new.items ≡ answer.old.items ++ decimal n }
 {
     if n < 10 {
@@ -43,9 +44,9 @@ pub fn hex_digit(nibble: u8) -> u8
 }
 
 /// Adds a word and the digit of a number below 16.
-pub fn put_digit(answer: &mut ArrayVec<u8, 512>, word: &[u8], digit: u8)
+pub fn put_digit(answer: &mut ArrayVec<u8, ANSWER_BYTES>, word: &[u8], digit: u8)
     requires digit { digit < 16 }
-    requires room { array_vec_len answer.old + length word.now + 1 ≤ 512 }
+    requires room { array_vec_len answer.old + length word.now + 1 ≤ ANSWER_BYTES }
     ensures text { answer.new.items ≡ answer.old.items ++ word.now ++ digit_text digit }
     ensures count { length answer.new.items ≡ length answer.old.items + length word.now + 1 }
 {
@@ -54,8 +55,8 @@ pub fn put_digit(answer: &mut ArrayVec<u8, 512>, word: &[u8], digit: u8)
 }
 
 /// Adds a word and the three digits of an address.
-pub fn put_address(answer: &mut ArrayVec<u8, 512>, word: &[u8], address: Addr)
-    requires { array_vec_len answer.old + length word.now + 3 ≤ 512 }
+pub fn put_address(answer: &mut ArrayVec<u8, ANSWER_BYTES>, word: &[u8], address: Addr)
+    requires { array_vec_len answer.old + length word.now + 3 ≤ ANSWER_BYTES }
     ensures text { answer.new.items ≡ answer.old.items ++ word.now ++ address_text address }
     ensures count { length answer.new.items ≡ length answer.old.items + length word.now + 3 }
 {
@@ -69,9 +70,20 @@ pub fn put_address(answer: &mut ArrayVec<u8, 512>, word: &[u8], address: Addr)
     put(answer, &digits);
 }
 
+/// Adds a word and the two digits of a byte.
+pub fn put_byte(answer: &mut ArrayVec<u8, ANSWER_BYTES>, word: &[u8], byte: u8)
+    requires { array_vec_len answer.old + length word.now + 2 ≤ ANSWER_BYTES }
+    ensures text { answer.new.items ≡ answer.old.items ++ word.now ++ byte_text byte }
+    ensures count { length answer.new.items ≡ length answer.old.items + length word.now + 2 }
+{
+    let digits = [hex_digit(byte / 16), hex_digit(byte % 16)];
+    put(answer, word);
+    put(answer, &digits);
+}
+
 /// Adds the digits of nibbles.
-pub fn put_digits(answer: &mut ArrayVec<u8, 512>, nibbles: &[Nibble])
-    requires { array_vec_len answer.old + length nibbles.now ≤ 512 }
+pub fn put_digits(answer: &mut ArrayVec<u8, ANSWER_BYTES>, nibbles: &[Nibble])
+    requires { array_vec_len answer.old + length nibbles.now ≤ ANSWER_BYTES }
     ensures text { answer.new.items ≡ answer.old.items ++ map hex_digit nibbles.now }
     ensures count { length answer.new.items ≡ length answer.old.items + length nibbles.now }
 {

@@ -1,12 +1,13 @@
-//! The answers to `lamps` and `breaks`.
+//! The answers to `lamps`, `breaks` and `watches`.
 ghost use Rattle.std.specs.Prelude.{◌≡◌, ◌+◌, ◌*◌, ◌++◌, ◌≤◌, [], codes, length, map};
 ghost use Rattle.std.specs.List.{flat_map};
 ghost use Rattle.arrayvec.specs.ArrayVec.{array_vec_len};
 ghost use Rattle.mcs_model.specs.Levels.{level};
-ghost use Rattle.mcs_model.specs.QueryText.{address_text, breaks_text, lamp_mark, lamps_text};
+ghost use Rattle.mcs_model.specs.QueryText.{address_text, breaks_text, lamp_mark, lamps_text, watch_text, watches_text};
 ghost use Rattle.mcs_answers.specs.AnswerTexts.{line_feed};
 
-use crate::digits::{put, put_address};
+use crate::digits::{put, put_address, put_byte, put_digit};
+use crate::size::ANSWER_BYTES;
 use arrayvec::ArrayVec;
 use mcs_bench::Bench;
 use mcs_nibble::{Addr, Bit};
@@ -19,7 +20,7 @@ fn lamp_mark(level: Bit) -> u8
 }
 
 /// Adds a mark for each lamp of the board, in order.
-fn put_marks(answer: &mut ArrayVec<u8, 512>, bench: &Bench)
+fn put_marks(answer: &mut ArrayVec<u8, ANSWER_BYTES>, bench: &Bench)
     requires { array_vec_len answer.old ≤ 100 }
     ensures text { answer.new.items ≡ answer.old.items ++ map (λ line. lamp_mark (level bench.now.bus line)) bench.now.bus.board.lamps.items }
     ensures count { length answer.new.items ≤ length answer.old.items + 64 }
@@ -32,7 +33,7 @@ fn put_marks(answer: &mut ArrayVec<u8, 512>, bench: &Bench)
 }
 
 /// Tells the levels of the lamps, in an empty answer.
-pub fn put_lamps(answer: &mut ArrayVec<u8, 512>, bench: &Bench)
+pub fn put_lamps(answer: &mut ArrayVec<u8, ANSWER_BYTES>, bench: &Bench)
     requires { answer.old.items ≡ [] }
     ensures { answer.new.items ≡ lamps_text bench.now ++ line_feed }
 {
@@ -46,8 +47,8 @@ pub fn put_lamps(answer: &mut ArrayVec<u8, 512>, bench: &Bench)
 }
 
 /// Adds addresses, each behind a space.
-fn put_addresses(answer: &mut ArrayVec<u8, 512>, list: &[Addr])
-    requires room { array_vec_len answer.old + 4 * length list.now ≤ 512 }
+fn put_addresses(answer: &mut ArrayVec<u8, ANSWER_BYTES>, list: &[Addr])
+    requires room { array_vec_len answer.old + 4 * length list.now ≤ ANSWER_BYTES }
     ensures text { answer.new.items ≡ answer.old.items ++ flat_map (λ at. codes " " ++ address_text at) list.now }
     ensures count { length answer.new.items ≡ length answer.old.items + 4 * length list.now }
 {
@@ -57,7 +58,7 @@ fn put_addresses(answer: &mut ArrayVec<u8, 512>, list: &[Addr])
 }
 
 /// Tells the breakpoints, in an empty answer.
-pub fn put_breaks(answer: &mut ArrayVec<u8, 512>, bench: &Bench)
+pub fn put_breaks(answer: &mut ArrayVec<u8, ANSWER_BYTES>, bench: &Bench)
     requires { answer.old.items ≡ [] }
     ensures { answer.new.items ≡ breaks_text bench.now ++ line_feed }
 {
@@ -66,6 +67,43 @@ pub fn put_breaks(answer: &mut ArrayVec<u8, 512>, bench: &Bench)
         [first, others @ ..] => {
             put_address(answer, b"breaks ", *first);
             put_addresses(answer, others);
+            put(answer, b"\n");
+        }
+    }
+}
+
+/// Adds a word, and the bank and the SRC byte of a watched character.
+fn put_watch(answer: &mut ArrayVec<u8, ANSWER_BYTES>, word: &[u8], watch: Addr)
+    requires { array_vec_len answer.old + length word.now + 4 ≤ ANSWER_BYTES }
+    ensures text { answer.new.items ≡ answer.old.items ++ word.now ++ watch_text watch }
+    ensures count { length answer.new.items ≡ length answer.old.items + length word.now + 4 }
+{
+    let place = watch.get();
+    put_digit(answer, word, (place / 256) as u8);
+    put_byte(answer, b".", (place % 256) as u8);
+}
+
+/// Adds watched characters, each behind a space.
+fn put_places(answer: &mut ArrayVec<u8, ANSWER_BYTES>, list: &[Addr])
+    requires room { array_vec_len answer.old + 5 * length list.now ≤ ANSWER_BYTES }
+    ensures text { answer.new.items ≡ answer.old.items ++ flat_map (λ watch. codes " " ++ watch_text watch) list.now }
+    ensures count { length answer.new.items ≡ length answer.old.items + 5 * length list.now }
+{
+    for watch in list {
+        put_watch(answer, b" ", *watch);
+    }
+}
+
+/// Tells the watched characters, in an empty answer.
+pub fn put_watches(answer: &mut ArrayVec<u8, ANSWER_BYTES>, bench: &Bench)
+    requires { answer.old.items ≡ [] }
+    ensures { answer.new.items ≡ watches_text bench.now ++ line_feed }
+{
+    match bench.watches() {
+        [] => put(answer, b"watches -\n"),
+        [first, others @ ..] => {
+            put_watch(answer, b"watches ", *first);
+            put_places(answer, others);
             put(answer, b"\n");
         }
     }

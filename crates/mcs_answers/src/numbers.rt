@@ -5,14 +5,15 @@ ghost use Rattle.arrayvec.specs.ArrayVec.{array_vec_len};
 ghost use Rattle.mcs_answers.specs.AnswerTexts.{line_feed, no_line_text, ok_text, reply_text, stop_name};
 
 use crate::digits::{put, put_decimal};
+use crate::size::ANSWER_BYTES;
 use arrayvec::ArrayVec;
 use mcs_bench::Bench;
 use mcs_model::command::Reply;
 use mcs_model::stop::Stop;
 
 /// Adds a word and a number in decimal digits.
-fn put_counted(answer: &mut ArrayVec<u8, 512>, word: &[u8], n: u64)
-    requires { array_vec_len answer.old + length word.now + 20 ≤ 512 }
+fn put_counted(answer: &mut ArrayVec<u8, ANSWER_BYTES>, word: &[u8], n: u64)
+    requires { array_vec_len answer.old + length word.now + 20 ≤ ANSWER_BYTES }
     ensures text { answer.new.items ≡ answer.old.items ++ (word.now ++ decimal n) }
     ensures count { length answer.new.items ≤ length answer.old.items + length word.now + 20 }
 {
@@ -21,7 +22,7 @@ fn put_counted(answer: &mut ArrayVec<u8, 512>, word: &[u8], n: u64)
 }
 
 /// Puts a word, a number and a line feed into an empty answer.
-pub fn put_number(answer: &mut ArrayVec<u8, 512>, word: &[u8], n: u64)
+pub fn put_number(answer: &mut ArrayVec<u8, ANSWER_BYTES>, word: &[u8], n: u64)
     requires empty { answer.old.items ≡ [] }
     requires short { length word.now ≤ 20 }
     ensures { answer.new.items ≡ word.now ++ (decimal n ++ line_feed) }
@@ -31,7 +32,7 @@ pub fn put_number(answer: &mut ArrayVec<u8, 512>, word: &[u8], n: u64)
 }
 
 /// Tells the refusal of a text by its number and the line that it is for, counted from 1, in an empty answer.
-pub fn put_refusal_at(answer: &mut ArrayVec<u8, 512>, number: u8, line: u64)
+pub fn put_refusal_at(answer: &mut ArrayVec<u8, ANSWER_BYTES>, number: u8, line: u64)
     requires { answer.old.items ≡ [] }
     ensures { answer.new.items ≡ no_line_text number line }
 {
@@ -48,12 +49,13 @@ fn stop_name(stop: Stop) -> &'static [u8]
     match stop {
         Stop::Outside => b"code",
         Stop::Breakpoint => b"break",
+        Stop::Watched => b"watch",
         Stop::Ended => b"end",
     }
 }
 
 /// Adds what a reply tells behind the count of commands.
-fn put_told(answer: &mut ArrayVec<u8, 512>, reply: &Reply)
+fn put_told(answer: &mut ArrayVec<u8, ANSWER_BYTES>, reply: &Reply)
     requires { array_vec_len answer.old ≤ 100 }
     ensures text { answer.new.items ≡ answer.old.items ++ reply_text reply.now }
     ensures count { length answer.new.items ≤ length answer.old.items + 50 }
@@ -70,7 +72,7 @@ fn put_told(answer: &mut ArrayVec<u8, 512>, reply: &Reply)
 }
 
 /// Tells of an accepted command, in an empty answer, from its reply and the bench after it.
-pub fn put_reply(answer: &mut ArrayVec<u8, 512>, reply: &Reply, bench: &Bench)
+pub fn put_reply(answer: &mut ArrayVec<u8, ANSWER_BYTES>, reply: &Reply, bench: &Bench)
     requires { answer.old.items ≡ [] }
     ensures { answer.new.items ≡ ok_text reply.now bench.now }
 {

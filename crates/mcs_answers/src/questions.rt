@@ -6,10 +6,12 @@ ghost use Rattle.mcs_answers.specs.Told.{told};
 ghost use Rattle.mcs_lines.specs.declared.requests.Question.TheVariants.{Listing};
 
 use crate::digits::put;
-use crate::lists::{put_breaks, put_lamps};
+use crate::lists::{put_breaks, put_lamps, put_watches};
 use crate::numbers::put_number;
+use crate::ports::put_ports;
 use crate::ram::put_ram;
 use crate::registers::put_registers;
+use crate::size::ANSWER_BYTES;
 use arrayvec::ArrayVec;
 use mcs_bench::Bench;
 use mcs_dis::listing;
@@ -20,7 +22,7 @@ use mcs_wiring::board_text;
 use std::alloc::{AllocError, Global};
 
 /// Tells what a query asks of the state, in an empty answer. It takes no memory.
-fn put_query(answer: &mut ArrayVec<u8, 512>, query: Query, bench: &Bench)
+fn put_query(answer: &mut ArrayVec<u8, ANSWER_BYTES>, query: Query, bench: &Bench)
     requires { answer.old.items ≡ [] }
     ensures { answer.new.items ≡ text query bench.now ++ line_feed }
 {
@@ -29,6 +31,8 @@ fn put_query(answer: &mut ArrayVec<u8, 512>, query: Query, bench: &Bench)
         Query::Regs => put_registers(answer, bench),
         Query::Ram(bank) => put_ram(answer, bench, bank.get()),
         Query::Breaks => put_breaks(answer, bench),
+        Query::Watches => put_watches(answer, bench),
+        Query::Ports => put_ports(answer, bench),
         Query::Seq => put_number(answer, b"seq ", u64::from(bench.seq())),
     }
 }
@@ -45,7 +49,7 @@ fn listed(alloc: Global, bench: &Bench, from: Addr, lines: u16) -> Result<Vec<u8
 /// back, to stand behind it. It fails where memory is refused, and then the short text counts for nothing.
 pub fn put_answer(
     alloc: Global,
-    short: &mut ArrayVec<u8, 512>,
+    short: &mut ArrayVec<u8, ANSWER_BYTES>,
     question: &Question,
     bench: &Bench,
 ) -> Result<Option<Vec<u8>>, AllocError>

@@ -7,6 +7,7 @@ ghost use Rattle.mcs_model.specs.QueryText.{as_line, chip_lines, hex_digit, port
 ghost use Rattle.mcs_answers.specs.AnswerTexts.{line_feed};
 
 use crate::digits::{hex_digit, put, put_digit};
+use crate::size::ANSWER_BYTES;
 use arrayvec::ArrayVec;
 use mcs_bench::Bench;
 use mcs_nibble::Nibble;
@@ -21,11 +22,11 @@ fn are_whole(bench: &Bench)
 }
 
 /// Adds the 16 main characters of register `r` of a RAM chip.
-fn put_main(answer: &mut ArrayVec<u8, 512>, bench: &Bench, bank: u8, chip: u8, r: u8)
+fn put_main(answer: &mut ArrayVec<u8, ANSWER_BYTES>, bench: &Bench, bank: u8, chip: u8, r: u8)
     requires bank { bank < 8 }
     requires chip { chip < 4 }
     requires r { r < 4 }
-    requires room { array_vec_len answer.old + 16 ≤ 512 }
+    requires room { array_vec_len answer.old + 16 ≤ ANSWER_BYTES }
     ensures text { answer.new.items ≡ answer.old.items ++ map hex_digit (stretch bench.now.bus.ram (bank * 256 + chip * 64 + r * 16) 16) }
     ensures count { length answer.new.items ≡ length answer.old.items + 16 }
 {
@@ -37,11 +38,11 @@ fn put_main(answer: &mut ArrayVec<u8, 512>, bench: &Bench, bank: u8, chip: u8, r
 }
 
 /// Adds the 4 status characters of register `r` of a RAM chip.
-fn put_status(answer: &mut ArrayVec<u8, 512>, bench: &Bench, bank: u8, chip: u8, r: u8)
+fn put_status(answer: &mut ArrayVec<u8, ANSWER_BYTES>, bench: &Bench, bank: u8, chip: u8, r: u8)
     requires bank { bank < 8 }
     requires chip { chip < 4 }
     requires r { r < 4 }
-    requires room { array_vec_len answer.old + 4 ≤ 512 }
+    requires room { array_vec_len answer.old + 4 ≤ ANSWER_BYTES }
     ensures text { answer.new.items ≡ answer.old.items ++ map hex_digit (stretch bench.now.bus.status (bank * 64 + chip * 16 + r * 4) 4) }
     ensures count { length answer.new.items ≡ length answer.old.items + 4 }
 {
@@ -54,11 +55,11 @@ fn put_status(answer: &mut ArrayVec<u8, 512>, bench: &Bench, bank: u8, chip: u8,
 }
 
 /// Adds the line of register `r` of a RAM chip.
-fn put_register(answer: &mut ArrayVec<u8, 512>, bench: &Bench, bank: u8, chip: u8, r: u8)
+fn put_register(answer: &mut ArrayVec<u8, ANSWER_BYTES>, bench: &Bench, bank: u8, chip: u8, r: u8)
     requires bank { bank < 8 }
     requires chip { chip < 4 }
     requires r { r < 4 }
-    requires room { array_vec_len answer.old + 28 ≤ 512 }
+    requires room { array_vec_len answer.old + 28 ≤ ANSWER_BYTES }
     ensures text { answer.new.items ≡ answer.old.items ++ as_line (register_line bench.now.bus bank chip r) }
     ensures count { length answer.new.items ≡ length answer.old.items + 28 }
 {
@@ -73,10 +74,10 @@ fn put_register(answer: &mut ArrayVec<u8, 512>, bench: &Bench, bank: u8, chip: u
 }
 
 /// Adds the line of the output port of a RAM chip.
-fn put_port(answer: &mut ArrayVec<u8, 512>, bench: &Bench, bank: u8, chip: u8)
+fn put_port(answer: &mut ArrayVec<u8, ANSWER_BYTES>, bench: &Bench, bank: u8, chip: u8)
     requires bank { bank < 8 }
     requires chip { chip < 4 }
-    requires room { array_vec_len answer.old + 10 ≤ 512 }
+    requires room { array_vec_len answer.old + 10 ≤ ANSWER_BYTES }
     ensures text { answer.new.items ≡ answer.old.items ++ as_line (port_line bench.now.bus bank chip) }
     ensures count { length answer.new.items ≡ length answer.old.items + 10 }
 {
@@ -87,10 +88,10 @@ fn put_port(answer: &mut ArrayVec<u8, 512>, bench: &Bench, bank: u8, chip: u8)
 }
 
 /// Adds the lines of a RAM chip.
-fn put_chip(answer: &mut ArrayVec<u8, 512>, bench: &Bench, bank: u8, chip: u8)
+fn put_chip(answer: &mut ArrayVec<u8, ANSWER_BYTES>, bench: &Bench, bank: u8, chip: u8)
     requires bank { bank < 8 }
     requires chip { chip < 4 }
-    requires room { array_vec_len answer.old + 122 ≤ 512 }
+    requires room { array_vec_len answer.old + 122 ≤ ANSWER_BYTES }
     ensures text { answer.new.items ≡ answer.old.items ++ flat_map as_line (chip_lines bench.now.bus bank chip) }
     ensures count { length answer.new.items ≡ length answer.old.items + 122 }
 {
@@ -111,7 +112,7 @@ fn chips_of(bench: &Bench, bank: u8) -> u8
 }
 
 /// Tells how many chips a bank has and what they hold, in an empty answer.
-pub fn put_ram(answer: &mut ArrayVec<u8, 512>, bench: &Bench, bank: u8)
+pub fn put_ram(answer: &mut ArrayVec<u8, ANSWER_BYTES>, bench: &Bench, bank: u8)
     requires bank { bank < 8 }
     requires empty { answer.old.items ≡ [] }
     ensures { answer.new.items ≡ join_with_byte 10 (ram_lines bench.now.bus bank) ++ line_feed }

@@ -4,11 +4,12 @@ ghost use Rattle.mcs_model.specs.QueryText.{regs_text};
 ghost use Rattle.mcs_answers.specs.AnswerTexts.{line_feed};
 
 use crate::digits::{put, put_address, put_digit, put_digits};
+use crate::size::ANSWER_BYTES;
 use arrayvec::ArrayVec;
 use mcs_bench::Bench;
 
 /// Tells the registers and the TEST pin of a bench, in an empty answer.
-pub fn put_registers(answer: &mut ArrayVec<u8, 512>, bench: &Bench)
+pub fn put_registers(answer: &mut ArrayVec<u8, ANSWER_BYTES>, bench: &Bench)
     requires { answer.old.items ≡ [] }
     ensures { answer.new.items ≡ regs_text bench.now ++ line_feed }
 {
