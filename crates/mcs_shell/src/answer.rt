@@ -9,7 +9,7 @@ ghost use Rattle.mcs_shell.specs.Spelling.{text_refusal};
 use crate::sending::{WriteStopped, send, send_two};
 use crate::spelling::TextRefusal;
 use arrayvec::ArrayVec;
-use mcs_answers::{put_answer, put_number, put_refusal_at, put_reply};
+use mcs_answers::{ANSWER_BYTES, put_answer, put_number, put_refusal_at, put_reply};
 use mcs_bench::Bench;
 use mcs_lines::requests::Question;
 use mcs_model::command::Reply;
@@ -20,7 +20,7 @@ use std::marker::Model;
 /// The answer to one input: a short text, and where it takes memory a long one behind it.
 #[derive(Drop)]
 pub struct Answer {
-    short: ArrayVec<u8, 512>,
+    short: ArrayVec<u8, ANSWER_BYTES>,
     long: Option<Vec<u8>>,
 }
 
