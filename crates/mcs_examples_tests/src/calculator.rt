@@ -1,7 +1,7 @@
 //! The calculator's arithmetic and keys, by its lamps.
+use crate::chains::CHAINS;
 use crate::scripts::expect;
-use crate::sums::SUMS;
-use crate::texts::{SUM, SUM_ANSWERS};
+use crate::texts::{QUOTIENT, QUOTIENT_ANSWERS};
 use std::alloc::Global;
 use std::test::Fail;
 
@@ -14,29 +14,41 @@ struct Talk {
     accepted: u32,
 }
 
-/// The place of a key: its row and its column.
+/// The place of a key: its row and its column. `E` is CE.
 fn place(key: u8) -> &'static str {
     match key {
         b'7' => "0 0",
         b'8' => "0 1",
         b'9' => "0 2",
-        b'C' => "0 3",
+        b'/' => "0 3",
         b'4' => "1 0",
         b'5' => "1 1",
         b'6' => "1 2",
-        b'-' => "1 3",
+        b'*' => "1 3",
         b'1' => "2 0",
         b'2' => "2 1",
         b'3' => "2 2",
-        b'+' => "2 3",
+        b'-' => "2 3",
         b'0' => "3 0",
-        b'~' => "3 1",
-        b'=' => "3 2",
-        _ => "3 3",
+        b'.' => "3 1",
+        b'~' => "3 2",
+        b'+' => "3 3",
+        b'C' => "4 0",
+        b'E' => "4 1",
+        b'S' => "4 2",
+        _ => "4 3",
     }
 }
 
-/// The lamps of a part of the display: minus, overflow, dark, or a digit.
+/// How many cycles a key is up before the next: behind an operator until it is worked out.
+fn rest(key: u8) -> u32 {
+    match key {
+        b'+' | b'-' | b'*' | b'/' | b'=' => 16_000,
+        _ => 1_700,
+    }
+}
+
+/// The lamps of a part of the display: a digit, dark, or one that is lit (a sign or a point).
 fn lamps(part: u8) -> &'static str {
     match part {
         b'0' => "....",
@@ -58,8 +70,8 @@ impl Talk {
     /// Wires the board, assembles the program, and waits until it awaits keys.
     fn new(alloc: Global) -> Result<Talk, Fail> {
         let (Some((script, _)), Some((answers, _))) = (
-            SUM.split_once("\npress "),
-            SUM_ANSWERS.split_once("ok 4\n"),
+            QUOTIENT.split_once("\npress "),
+            QUOTIENT_ANSWERS.split_once("ok 4\n"),
         ) else {
             return Err("no head".into());
         };
@@ -115,14 +127,14 @@ impl Talk {
     fn keys(&mut self, keys: &str) -> Result<(), Fail> {
         for key in keys.as_bytes() {
             self.press(*key)?;
-            self.run(2_000)?;
-            self.release(*key)?;
             self.run(1_000)?;
+            self.release(*key)?;
+            self.run(rest(*key))?;
         }
         Ok(())
     }
 
-    /// The display has to show the sign, `!` for an overflow, and eight digits.
+    /// The display has to show minus, `!` for an overflow, `?` for a division by zero, and eight digits, each with its point or a blank.
     fn shows(&mut self, display: &str) -> Result<(), Fail> {
         self.line("lamps")?;
         self.answers.extend_from_slice(b"lamps ".as_slice())?;
@@ -135,10 +147,10 @@ impl Talk {
 }
 
 #[test]
-fn two_hundred_sums_and_differences(rt: HostRuntime) -> Result<(), Fail> {
+fn forty_chains(rt: HostRuntime) -> Result<(), Fail> {
     let alloc = rt.alloc();
     // a session for each text
-    for rows in SUMS {
+    for rows in CHAINS {
         let mut talk = Talk::new(alloc)?;
         for row in rows.lines() {
             let Some((keys, display)) = row.split_once(":") else {
@@ -156,62 +168,96 @@ fn two_hundred_sums_and_differences(rt: HostRuntime) -> Result<(), Fail> {
 fn the_keys_one_after_the_other(rt: HostRuntime) -> Result<(), Fail> {
     let alloc = rt.alloc();
     let rows = [
-        // a sum
-        ("12+30=", "  00000042"),
-        // a carry over all digits
-        ("C9999999+1=", "  10000000"),
-        // the greatest number
-        ("C99999998+1=", "  99999999"),
-        // a borrow over all digits
-        ("C10000000-1=", "  09999999"),
-        // and below zero
-        ("C1-10000000=", "- 09999999"),
-        // the least number
-        ("C0-99999999=", "- 99999999"),
-        // a negative difference
-        ("C12-30=", "- 00000018"),
-        // zero has no sign
-        ("C7-7=", "  00000000"),
-        // nor here
-        ("C3-7+4=", "  00000000"),
-        // an overflow
-        ("C99999999+1=", " !00000000"),
+        // a quotient, cut off
+        ("22/7=", "   3.1 4 2 8 5 7 1 "),
+        // a product
+        ("C12*30=", "   0 0 0 0 0 3 6 0."),
+        // in the order keyed
+        ("C2+3*4=", "   0 0 0 0 0 0 2 0."),
+        // one third
+        ("C1/3=", "   0.3 3 3 3 3 3 3 "),
+        // and what is left of it
+        ("*3=", "   0.9 9 9 9 9 9 9 "),
+        // 0 times anything
+        ("C0*12345678=", "   0 0 0 0 0 0 0 0."),
+        // nothing is below zero here
+        ("C0*5~=", "   0 0 0 0 0 0 0 0."),
+        // and none of nothing
+        ("C0/9=", "   0 0 0 0 0 0 0 0."),
+        // the greatest product
+        ("C99999999*99999999=", " ! 0 0 0 0 0 0 0 0."),
         // all keys but C are dead behind it
-        ("+5=", " !00000000"),
+        ("+5ES~.=", " ! 0 0 0 0 0 0 0 0."),
         // C takes it away
-        ("C5", "  00000005"),
-        // the lower digits of an overflow
-        ("C50000000+60000000=", " !10000000"),
-        // a negative overflow
-        ("C~99999999-99999999=", "-!99999998"),
-        // C in the middle of a number
-        ("C12+3C4+5=", "  00000009"),
-        // C behind an operator, which it forgets
-        ("C12+C4=", "  00000004"),
-        // the number shown is the second one, too
-        ("C5+=", "  00000010"),
+        ("C5", "   0 0 0 0 0 0 0 5."),
+        // division by zero
+        ("C1/0=", "  ?0 0 0 0 0 0 0 0."),
+        // and zero by zero
+        ("C0/0+", "  ?0 0 0 0 0 0 0 0."),
+        // the least quotient
+        ("C1/99999999=", "   0 0 0 0 0 0 0 0."),
+        // the greatest one
+        ("C99999999/.0000001=", " ! 0 0 0 0 0 0 0 0."),
+        // a quotient of two small ones
+        ("C.0000001/.0000002=", "   0 0 0 0 0 0 0.5 "),
+        // eight digits of eight
+        ("C99999999/1=", "   9 9 9 9 9 9 9 9."),
+        // no carry out of eight digits
+        ("C99999998+1=", "   9 9 9 9 9 9 9 9."),
+        // a carry out of them
+        ("C99999999+1=", " ! 0 0 0 0 0 0 0 0."),
+        // decimals make room
+        ("C9999999.9+.1=", "   1 0 0 0 0 0 0 0."),
+        // and are cut off
+        ("C99999999+.9=", "   9 9 9 9 9 9 9 9."),
+        // towards zero
+        ("C99999999-.1=", "   9 9 9 9 9 9 9 8."),
+        // a borrow over all digits
+        ("C10000000-.0000001=", "   9 9 9 9 9 9 9.9 "),
+        // and below zero
+        ("C.0000001-1=", "-  0.9 9 9 9 9 9 9 "),
+        // signs
+        ("C6~*7~=", "   0 0 0 0 0 0 4 2."),
+        // and others
+        ("C8~/16=", "-  0 0 0 0 0 0 0.5 "),
+        // zeros behind the point go
+        ("C1.50=", "   0 0 0 0 0 0 1.5 "),
+        // they stay while they are keyed
+        ("C1.50", "   0 0 0 0 0 1.5 0 "),
+        // a point twice
+        ("C1.2.5", "   0 0 0 0 0 1.2 5 "),
+        // a point alone
+        ("C.", "   0 0 0 0 0 0 0 0."),
+        // digits beyond eight
+        ("C123456789", "   1 2 3 4 5 6 7 8."),
+        // and beyond seven behind the point
+        ("C.12345678", "   0.1 2 3 4 5 6 7 "),
+        // a point behind eight
+        ("C12345678.9", "   1 2 3 4 5 6 7 8."),
+        // = without an operator
+        ("C5==", "   0 0 0 0 0 0 0 5."),
+        // = again
+        ("C2+3==", "   0 0 0 0 0 0 0 8."),
+        // and again, with a quotient
+        ("C100/2===", "   0 0 0 0 0 1 2.5 "),
+        // with a number of its own
+        ("C2+3=7=", "   0 0 0 0 0 0 1 0."),
+        // the number shown is the right one, too
+        ("C5+=", "   0 0 0 0 0 0 1 0."),
         // the later operator counts
-        ("C5+-3=", "  00000002"),
-        // several in a row
-        ("C1+2+3+4-20=", "- 00000010"),
-        // no operator waits
-        ("==", "- 00000010"),
+        ("C5+*-3=", "   0 0 0 0 0 0 0 2."),
+        // the entry alone is cleared
+        ("C5+3E4=", "   0 0 0 0 0 0 0 9."),
+        // both numbers change places
+        ("C3/12S=", "   0 0 0 0 0 0 0 4."),
         // change of sign of an outcome
-        ("~", "  00000010"),
-        // on with an outcome
-        ("+1=", "  00000011"),
-        // a new number behind an outcome
-        ("5", "  00000005"),
-        // change of sign before the digits
-        ("C~5+3=", "- 00000002"),
-        // and behind them
-        ("C3-5~=", "  00000008"),
-        // and behind an operator
-        ("C5+~=", "  00000000"),
-        // a ninth digit is not taken
-        ("C123456789", "  12345678"),
-        // the place without a use
-        ("C4_2", "  00000042"),
+        ("~", "-  0 0 0 0 0 0 0 4."),
+        // no sign on an outcome of zero
+        ("C7-7=~", "   0 0 0 0 0 0 0 0."),
+        // but on a zero that is keyed
+        ("C~", "-  0 0 0 0 0 0 0 0."),
+        // which is none behind an operator
+        ("+", "   0 0 0 0 0 0 0 0."),
     ];
     let mut talk = Talk::new(alloc)?;
     for (keys, display) in rows {
@@ -233,7 +279,7 @@ fn keys_that_bounce(rt: HostRuntime) -> Result<(), Fail> {
         talk.run(300)?;
     }
     talk.run(1_000)?;
-    talk.shows("  00000000")?;
+    talk.shows("   0 0 0 0 0 0 0 0.")?;
     // it bounces as it goes down and as it goes up: one key
     for rest in [2_000, 1_000] {
         for _ in 0..5 {
@@ -249,11 +295,11 @@ fn keys_that_bounce(rt: HostRuntime) -> Result<(), Fail> {
     }
     talk.release(b'2')?;
     talk.run(1_000)?;
-    talk.shows("  00000002")?;
+    talk.shows("   0 0 0 0 0 0 0 2.")?;
     // a key that stays down is one key
     talk.press(b'3')?;
     talk.run(100_000)?;
-    talk.shows("  00000023")?;
+    talk.shows("   0 0 0 0 0 0 2 3.")?;
     expect(&rt, alloc, talk.script.as_slice(), talk.answers.as_slice())
 }
 
@@ -262,8 +308,8 @@ fn two_keys_down(rt: HostRuntime) -> Result<(), Fail> {
     let alloc = rt.alloc();
     // in one row, and in two rows
     for (first, second, both, one) in [
-        (b'1', b'2', "  00000012", "  00000122"),
-        (b'1', b'6', "  00000016", "  00000166"),
+        (b'1', b'2', "   0 0 0 0 0 0 1 2.", "   0 0 0 0 0 1 2 2."),
+        (b'1', b'6', "   0 0 0 0 0 0 1 6.", "   0 0 0 0 0 1 6 6."),
     ] {
         let mut talk = Talk::new(alloc)?;
         // the second goes down before the first is up, and is taken once that one is up
@@ -271,7 +317,7 @@ fn two_keys_down(rt: HostRuntime) -> Result<(), Fail> {
         talk.run(2_000)?;
         talk.press(second)?;
         talk.run(2_000)?;
-        talk.shows("  00000001")?;
+        talk.shows("   0 0 0 0 0 0 0 1.")?;
         talk.release(first)?;
         talk.run(2_000)?;
         talk.shows(both)?;

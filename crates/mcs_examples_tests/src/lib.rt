@@ -4,8 +4,8 @@
 #[cfg(test)]
 mod calculator;
 #[cfg(test)]
-mod scripts;
+mod chains;
 #[cfg(test)]
-mod sums;
+mod scripts;
 #[cfg(test)]
 mod texts;

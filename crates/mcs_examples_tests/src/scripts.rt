@@ -1,6 +1,7 @@
 //! Each example's script with its answers.
 use crate::texts::{
-    RUNNING_LIGHT, RUNNING_LIGHT_ANSWERS, STOPWATCH, STOPWATCH_ANSWERS, SUM, SUM_ANSWERS,
+    COUNTER, COUNTER_ANSWERS, DIE, DIE_ANSWERS, QUOTIENT, QUOTIENT_ANSWERS, RUNNING_LIGHT,
+    RUNNING_LIGHT_ANSWERS, STOPWATCH, STOPWATCH_ANSWERS, TRAFFIC_LIGHT, TRAFFIC_LIGHT_ANSWERS,
 };
 use mcs_disk::MemDisk;
 use mcs_journal::FILE_SIZE;
@@ -43,7 +44,10 @@ fn the_examples_are_answered(rt: HostRuntime) -> Result<(), Fail> {
     let rows = [
         (RUNNING_LIGHT, RUNNING_LIGHT_ANSWERS),
         (STOPWATCH, STOPWATCH_ANSWERS),
-        (SUM, SUM_ANSWERS),
+        (TRAFFIC_LIGHT, TRAFFIC_LIGHT_ANSWERS),
+        (DIE, DIE_ANSWERS),
+        (COUNTER, COUNTER_ANSWERS),
+        (QUOTIENT, QUOTIENT_ANSWERS),
     ];
     for (script, answers) in rows {
         expect(&rt, alloc, script.as_bytes(), answers.as_bytes())?;
