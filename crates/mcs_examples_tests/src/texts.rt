@@ -864,7 +864,7 @@ swap: JMS tidy
 
 ; Equals: the operator that waits is done with the number before on its left.
 ; Where none waits, the last one is done once more with its right number.
-; Uses R0 to R7, R13, R14. 14,612 cycles, of which most are a quotient's.
+; Uses R0 to R7, R13, R14. 14,618 cycles, of which most are a quotient's.
 
 equals: FIM P1, before
  SRC P1
@@ -878,7 +878,7 @@ again: JMS compute
 
 ; An operator: the one that waited is done, and this one waits. Where it was
 ; keyed just before, this one only takes its place. Uses R0 to R7, R13 to R15.
-; 14,756 cycles.
+; 14,762 cycles.
 
 plus: LDM op_plus
  JUN keyed
@@ -1085,7 +1085,7 @@ trade: SRC P0
  ORG 0x200
 
 ; The operator that waited, if any, is done, and the outcome is the number
-; before from now on. Copies all of register 0. 14,725 cycles.
+; before from now on. Copies all of register 0. 14,731 cycles.
 
 chain: FIM P1, before
  SRC P1
@@ -1232,7 +1232,7 @@ shift: JMS right
 ; done eight times, and on while the quotient has neither eight digits nor
 ; seven decimals. R4 is the decimals and 8, since they may be below 0.
 ; Uses R0 to R7, R13, R14; characters 0 to 15 of register 0, 0 to 7 of
-; register 1. 14,252 cycles, for 95 / 9.500001.
+; register 1. 14,258 cycles, for 99 / 9.9099100.
 
 divide: FIM P1, before
 divisor: SRC P1
