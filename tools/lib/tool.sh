@@ -2,7 +2,6 @@
 # shellcheck shell=sh
 
 tools=$(CDPATH= cd -- "$(dirname -- "$0")" && pwd -P)
-case $tools in */tools) ;; *) tools=$(CDPATH= cd -- "$tools/../../tools" && pwd -P) ;; esac
 mcs4=${MCS4:-$(dirname -- "$tools")/mcs4}
 LC_ALL=C
 export LC_ALL
@@ -31,8 +30,9 @@ make_folder() {
         place=/tmp
     fi
     folder=$(mktemp -d "$place/$tool.XXXXXX") || fail "cannot make a folder in $place"
-    trap 'rm -rf -- "$folder"' EXIT
-    trap 'exit 1' HUP INT TERM
+    # A second signal must not end the removing.
+    trap 'trap "" HUP INT TERM; rm -rf -- "$folder"' EXIT
+    trap 'trap "" HUP INT TERM; exit 1' HUP INT TERM
 }
 
 # A file that is there and can be read, of 1 to so many bytes; `size` is how many.
