@@ -53,8 +53,8 @@ function can_begin(i, line,    kind) {
     if (kind ~ /^(wire|asm|press|release|run|step|poke|test|reset|break|unbreak|watch|unwatch)$/) return line ~ /^ok [0-9]+/
     if (kind == "regs") return line ~ /^acc /
     if (kind == "list") return is_listed(line)
-    if (kind == "board") return line == "board"
-    if (kind ~ /^(lamps|ram|breaks|seq)$/) return index(line, kind " ") == 1
+    if (kind ~ /^(board|ports)$/) return line == kind
+    if (kind ~ /^(lamps|ram|breaks|watches|seq)$/) return index(line, kind " ") == 1
     return kind != "long"
 }
 
@@ -65,6 +65,8 @@ function answer_length(i, at,    kind, n, most, words, count, place) {
     if (answer[at] ~ /^(no|ok) [0-9]+/) return 1
     if (kind == "ram") {
         while (answer[at + n] ~ /^[0-7]\.[0-9]+(\.[0-9]+ [0-9A-F]+ [0-9A-F]+| out [0-9A-F])$/) n++
+    } else if (kind == "ports") {
+        while (answer[at + n] ~ /^(src|rom|chain|keys) /) n++
     } else if (kind == "board") {
         while (answer[at + n] ~ /^\[/ || answer[at + n] ~ /^[a-z]+ = /) n++
     } else if (kind == "list") {
