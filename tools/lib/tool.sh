@@ -70,10 +70,12 @@ keep_answers() {
 }
 
 # Serves a script, from standard input, on a session (`new` or `open`), and keeps the answers in a file of the folder. Where the
-# session itself is refused, this is told, in the place of the program's own words. A fourth word is the session's name.
+# session itself is refused, this is told, behind the program's own words, but for those that name a copy. A fourth word is the
+# session's name.
 serve() {
     status=0
     "$mcs4" "$1" "$2" > "$folder/$3" 2> "$folder/words" || status=$?
+    grep -vF -- "$folder" "$folder/words" >&2 || :
     case $(sed 1q "$folder/$3") in
     session\ *) ;;
     no\ *)
@@ -81,7 +83,6 @@ serve() {
         fail "the session ${4:-$2} was refused: no $number: $(refusal "$number")"
         ;;
     *)
-        cat "$folder/words" >&2
         fail "$mcs4 does not answer; MCS4 names the program where it is not the mcs4 at the top"
         ;;
     esac
