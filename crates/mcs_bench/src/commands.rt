@@ -92,7 +92,10 @@ impl Bench {
             Command::Poke(place) => self.place_fault(*place),
             Command::Break(at) => unless(self.breaks.has_room_for(*at), BenchFault::BreaksFull),
             Command::Watch(bank, src) => {
-                unless(self.watches.has_room_for(bank.get(), *src), BenchFault::WatchesFull)
+                unless(
+                    self.watches.has_room_for(bank.get(), *src),
+                    BenchFault::WatchesFull,
+                )
             }
             Command::Wire(_)
             | Command::Step

@@ -1,6 +1,7 @@
 //! Two boards, part by part.
 use arrayvec::ArrayVec;
 use mcs_model::board::{Board, BoardParts, ChainPart, KeyMatrix, Line};
+use mcs_model::limits::CHAINS;
 use mcs_nibble::LineMask;
 use std::process::Abort;
 
@@ -33,9 +34,9 @@ fn board_of(rt: &impl Abort, parts: BoardParts) -> Board {
 }
 
 /// One chain of one chip, clocked by line 0 of ROM 0, which takes in line 1.
-fn one_chain(rt: &impl Abort) -> ArrayVec<ChainPart, 2> {
+fn one_chain(rt: &impl Abort) -> ArrayVec<ChainPart, CHAINS> {
     let mut chains = ArrayVec::new();
-    assert!(rt; chains.len() < 2);
+    assert!(rt; chains.len() < CHAINS);
     chains.push(ChainPart {
         clock: Line::Rom(0, 0),
         data_in: Line::Rom(0, 1),

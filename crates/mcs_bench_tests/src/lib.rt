@@ -10,4 +10,6 @@ mod runs;
 #[cfg(test)]
 mod states;
 #[cfg(test)]
+mod watches;
+#[cfg(test)]
 mod worked;

@@ -1,5 +1,5 @@
 //! Runs beside single steps.
-use crate::desk::{address, did, done, lamps, load, runs, wired};
+use crate::desk::{address, bank, did, done, lamps, load, runs, wired};
 use mcs_bench::Bench;
 use mcs_model::command::{Command, Reply};
 use mcs_model::stop::Stop;
@@ -73,6 +73,32 @@ fn a_run_to_a_breakpoint_does_what_its_steps_do(rt: HostRuntime) {
             }
         }
         runs(&rt, &mut running, 1000, cycles, Stop::Breakpoint);
+        same(&rt, &running, &stepping);
+    }
+}
+
+/// FIM P0 10, SRC P0; then in a loop LD R6, KBP, WRM, ISZ R6, INC R7, JUN: of 0 to 15 KBP makes 0, 1, 2, 15, 3, 15, 15, 15,
+/// 4 and seven times 15, so some writes change the character and some do not. Steps heed no watch.
+#[test]
+fn a_run_to_a_change_does_what_its_steps_do(rt: HostRuntime) {
+    let program = [
+        0x20, 0x10, 0x21, 0xA6, 0xFC, 0xE0, 0x76, 0x03, 0x67, 0x40, 0x03,
+    ];
+    let mut running = wired(rt.alloc(), &rt);
+    load(rt.alloc(), &rt, &mut running, &program);
+    did(&rt, &mut running, &Command::Watch(bank(&rt, 0), 0x10));
+    let mut stepping = wired(rt.alloc(), &rt);
+    load(rt.alloc(), &rt, &mut stepping, &program);
+    did(&rt, &mut stepping, &Command::Watch(bank(&rt, 0), 0x10));
+    for _ in 0..50 {
+        let before = stepping.ram(0, 0x10);
+        let mut cycles: u32 = 0;
+        for _ in 0..100 {
+            if stepping.ram(0, 0x10) == before {
+                cycles = cycles.wrapping_add(stepped(&rt, &mut stepping));
+            }
+        }
+        runs(&rt, &mut running, 1_000, cycles, Stop::Watched);
         same(&rt, &running, &stepping);
     }
 }

@@ -3,6 +3,7 @@ use crate::boards::calculator;
 use crate::desk::{address, nibble, refused};
 use mcs_bench::{Bench, Flat};
 use mcs_model::command::Command;
+use mcs_model::limits::CHAIN_PLACES;
 use mcs_model::refusals::BenchFault;
 use mcs_nibble::Bit;
 use std::alloc::Global;
@@ -79,6 +80,29 @@ fn breakpoints_rise(rt: HostRuntime) {
     assert_eq!(rt; breaks[1], address(300));
 }
 
+/// Watches rise, each below 8 * 256, and are found again.
+#[test]
+fn watches_rise(rt: HostRuntime) {
+    let mut flat = new_state(rt.alloc(), &rt);
+    assert!(rt; flat.watches.is_empty());
+    flat.watches.push(1);
+    flat.watches.push(0x53F);
+    assert!(rt; flat.check());
+    let bench = restored(rt.alloc(), &rt, &flat);
+    let watches = bench.watches();
+    assert_eq!(rt; watches.len(), 2);
+    assert_eq!(rt; watches[0], address(1));
+    assert_eq!(rt; watches[1], address(0x53F));
+    flat.watches.push(0x53F);
+    assert!(rt; !flat.check());
+    let _last = flat.watches.pop();
+    flat.watches.push(0x800);
+    assert!(rt; !flat.check());
+    let _last = flat.watches.pop();
+    flat.watches.push(0x7FF);
+    assert!(rt; flat.check());
+}
+
 /// The bits of input lines are 0, chains and keys are as many as the board has, and all is found again.
 #[test]
 fn a_state_of_a_board_is_restored(rt: HostRuntime) {
@@ -87,7 +111,7 @@ fn a_state_of_a_board_is_restored(rt: HostRuntime) {
     assert!(rt; !flat.check());
     let mut row = arrayvec::ArrayVec::new();
     for i in 0..10 {
-        assert!(rt; row.len() < 40);
+        assert!(rt; row.len() < CHAIN_PLACES);
         row.push(u8::from(i == 9));
     }
     assert!(rt; flat.chains.is_empty());

@@ -1,6 +1,7 @@
 //! Two boards, part by part.
 use arrayvec::ArrayVec;
 use mcs_model::board::{Board, BoardParts, ChainPart, KeyMatrix, Line};
+use mcs_model::limits::CHAINS;
 use mcs_nibble::LineMask;
 use std::process::Abort;
 
@@ -32,15 +33,17 @@ fn board_of(rt: &impl Abort, parts: BoardParts) -> Board {
     }
 }
 
-/// One chain of one chip, clocked by line 0 of ROM 0, which takes in line 1.
-fn one_chain(rt: &impl Abort) -> ArrayVec<ChainPart, 2> {
+/// Chains of so many chips, chain `n` clocked by line 0 of ROM `n`, which takes in line 1.
+fn chains(rt: &impl Abort, count: u8, chips: u8) -> ArrayVec<ChainPart, CHAINS> {
     let mut chains = ArrayVec::new();
-    assert!(rt; chains.len() < 2);
-    chains.push(ChainPart {
-        clock: Line::Rom(0, 0),
-        data_in: Line::Rom(0, 1),
-        chips: 1,
-    });
+    for n in 0..count {
+        assert!(rt; chains.len() < CHAINS);
+        chains.push(ChainPart {
+            clock: Line::Rom(n, 0),
+            data_in: Line::Rom(n, 1),
+            chips,
+        });
+    }
     chains
 }
 
@@ -56,6 +59,52 @@ pub(crate) fn one_rom(rt: &impl Abort) -> Board {
             chains: ArrayVec::new(),
             keys: None,
             lamps: ArrayVec::new(),
+        },
+    )
+}
+
+/// ROM 0 with a port of both directions, alone.
+pub(crate) fn one_mixed_rom(rt: &impl Abort) -> Board {
+    let mut roms = [None; 16];
+    roms[0] = Some(MIXED);
+    board_of(
+        rt,
+        BoardParts {
+            roms,
+            banks: [0; 8],
+            chains: ArrayVec::new(),
+            keys: None,
+            lamps: ArrayVec::new(),
+        },
+    )
+}
+
+/// One ROM, a bank of four chips, a chain of eighty bits, and a lamp at its end.
+pub(crate) fn one_long_chain(rt: &impl Abort) -> Board {
+    let mut roms = [None; 16];
+    roms[0] = Some(OUTPUTS);
+    board_of(
+        rt,
+        BoardParts {
+            roms,
+            banks: [4, 0, 0, 0, 0, 0, 0, 0],
+            chains: chains(rt, 1, 8),
+            keys: None,
+            lamps: lines(rt, &[Line::Chain(0, 79)]),
+        },
+    )
+}
+
+/// As many ROMs, RAM chips and chains as a board can have, and a lamp at the end of the last chain.
+pub(crate) fn largest(rt: &impl Abort) -> Board {
+    board_of(
+        rt,
+        BoardParts {
+            roms: [Some(OUTPUTS); 16],
+            banks: [4; 8],
+            chains: chains(rt, 4, 8),
+            keys: None,
+            lamps: lines(rt, &[Line::Chain(3, 79)]),
         },
     )
 }
@@ -82,7 +131,7 @@ pub(crate) fn calculator(rt: &impl Abort) -> Board {
         BoardParts {
             roms,
             banks: [1, 1, 0, 0, 0, 0, 0, 0],
-            chains: one_chain(rt),
+            chains: chains(rt, 1, 1),
             keys: Some(KeyMatrix {
                 chain: 0,
                 first: 0,
@@ -104,7 +153,7 @@ pub(crate) fn two_keys(rt: &impl Abort) -> Board {
         BoardParts {
             roms,
             banks: [0; 8],
-            chains: one_chain(rt),
+            chains: chains(rt, 1, 1),
             keys: Some(KeyMatrix {
                 chain: 0,
                 first: 0,

@@ -7,6 +7,8 @@ mod boards;
 #[cfg(test)]
 mod chips;
 #[cfg(test)]
+mod counts;
+#[cfg(test)]
 mod seeded;
 #[cfg(test)]
 mod tests;

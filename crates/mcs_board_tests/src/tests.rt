@@ -144,6 +144,11 @@ fn a_port_of_both_directions_is_read(rt: HostRuntime) {
     assert!(rt; rig.board().has_key(0, 1));
     rig.press(0, 1);
     assert_eq!(rt; rig.port_read(), nibble(13));
+    rig.src(0, 0);
+    assert_eq!(rt; rig.port_read(), Nibble::ZERO);
+    assert_eq!(rt; rig.read_port(nibble(1)), nibble(13));
+    assert_eq!(rt; rig.read_port(nibble(0)), Nibble::ZERO);
+    assert_eq!(rt; rig.read_port(nibble(15)), Nibble::ZERO);
 }
 
 /// Another board keeps the bytes of the ROMs that it has, and nothing else.

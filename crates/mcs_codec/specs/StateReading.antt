@@ -30,31 +30,34 @@ wiring_at board = both (rows_at board.chains.items) (both (bytes_at (key_count b
 
 -- whether in version 1, and all fields, in their order
 unfoldable pub state_at : List ℕ → Option ((Bool × Flat) × List ℕ)
-state_at bytes = giving (λ p. (p.1.0.0, record {
-  processor = record {
-    acc = p.1.1.1.0.0;
-    cy = p.1.1.1.0.1.0;
-    r = p.1.1.1.0.1.1.0;
-    pc = p.1.1.1.0.1.1.1.0;
-    ret = p.1.1.1.0.1.1.1.1;
-    dcl = p.1.1.1.1.0.0;
-    owed = p.1.1.1.1.0.1.1.1;
-  };
-  bus = record {
-    board = p.1.0.1;
-    rom = p.1.1.0.0;
-    ram = p.1.1.0.1.0;
-    status = p.1.1.0.1.1.0;
-    ram_ports = p.1.1.0.1.1.1.0;
-    rom_ports = p.1.1.0.1.1.1.1;
-    rom_src = p.1.1.1.1.0.1.0;
-    ram_src = p.1.1.1.1.0.1.1.0;
-    chains = p.1.1.1.1.1.0.0;
-    keys = p.1.1.1.1.1.0.1.0;
-    test = p.1.1.1.1.1.0.1.1.0;
-  };
-  breakpoints = p.1.1.1.1.1.0.1.1.1;
-  watches = p.1.1.1.1.1.1;
-  seq = p.0;
-}))
+state_at bytes = giving (λ p. (
+  p.1.0.0,
+  record {
+    processor = record {
+      acc = p.1.1.1.0.0;
+      cy = p.1.1.1.0.1.0;
+      r = p.1.1.1.0.1.1.0;
+      pc = p.1.1.1.0.1.1.1.0;
+      ret = p.1.1.1.0.1.1.1.1;
+      dcl = p.1.1.1.1.0.0;
+      owed = p.1.1.1.1.0.1.1.1;
+    };
+    bus = record {
+      board = p.1.0.1;
+      rom = p.1.1.0.0;
+      ram = p.1.1.0.1.0;
+      status = p.1.1.0.1.1.0;
+      ram_ports = p.1.1.0.1.1.1.0;
+      rom_ports = p.1.1.0.1.1.1.1;
+      rom_src = p.1.1.1.1.0.1.0;
+      ram_src = p.1.1.1.1.0.1.1.0;
+      chains = p.1.1.1.1.1.0.0;
+      keys = p.1.1.1.1.1.0.1.0;
+      test = p.1.1.1.1.1.0.1.1.0;
+    };
+    breakpoints = p.1.1.1.1.1.0.1.1.1;
+    watches = p.1.1.1.1.1.1;
+    seq = p.0;
+  },
+))
     (both (number_at w32) (depending marked_at (λ x. both memory_at (both registers_at (both sources_at (both (wiring_at x.1) (watches_at x.0)))))) bytes)

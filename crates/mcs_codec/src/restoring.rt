@@ -204,7 +204,11 @@ fn read_marked(reader: &mut Reader<'_>) -> Option<(bool, Board)>
         return Some((false, board));
     }
     let board = read_board(reader)?;
-    if is_small(&board) { Some((true, board)) } else { None }
+    if is_small(&board) {
+        Some((true, board))
+    } else {
+        None
+    }
 }
 
 /// Reads the watches; version 1 has none.
@@ -301,4 +305,3 @@ pub fn bench_of(alloc: Global, bytes: &[u8]) -> Result<Option<Bench>, AllocError
     let bench = Bench::restore(alloc, &flat)?;
     Ok(Some(bench))
 }
-

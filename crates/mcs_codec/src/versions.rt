@@ -19,7 +19,11 @@ const FIRST_CHAIN_CHIPS: u8 = 4;
 fn has_long_chain(board: &Board) -> bool
     ensures { result ≡ list_any (λ chain. nat_lt FIRST_CHAIN_CHIPS chain.chips) board.now.chains.items }
 {
-    board.parts().chains.iter().any(|chain| chain.chips > FIRST_CHAIN_CHIPS)
+    board
+        .parts()
+        .chains
+        .iter()
+        .any(|chain| chain.chips > FIRST_CHAIN_CHIPS)
 }
 
 /// Whether a board is one of version 1: at most two chains of at most four chips.

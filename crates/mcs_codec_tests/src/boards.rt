@@ -1,11 +1,13 @@
 //! Boards, part by part.
 use arrayvec::ArrayVec;
 use mcs_model::board::{Board, BoardParts, ChainPart, KeyMatrix, Line};
+use mcs_model::limits::{CHAINS, KEY_COLUMNS};
 use mcs_nibble::LineMask;
 use std::process::Abort;
 
 const OUTPUTS: [LineMask; 4] = [LineMask::Zero; 4];
 
+/// Lines 0 and 2 are inputs, line 1 an output read as 0, line 3 an output read as 1.
 const MIXED: [LineMask; 4] = [
     LineMask::Input,
     LineMask::Zero,
@@ -31,10 +33,10 @@ fn lines<const CAP: usize>(rt: &impl Abort, line: Line, count: usize) -> ArrayVe
 }
 
 /// So many chains, clocked by line 1 of ROM 0, which take in line 3.
-fn chains(rt: &impl Abort, count: usize, chips: u8) -> ArrayVec<ChainPart, 2> {
+fn chains(rt: &impl Abort, count: usize, chips: u8) -> ArrayVec<ChainPart, CHAINS> {
     let mut list = ArrayVec::new();
     for _ in 0..count {
-        assert!(rt; list.len() < 2);
+        assert!(rt; list.len() < CHAINS);
         list.push(ChainPart {
             clock: Line::Rom(0, 1),
             data_in: Line::Rom(0, 3),
@@ -44,8 +46,8 @@ fn chains(rt: &impl Abort, count: usize, chips: u8) -> ArrayVec<ChainPart, 2> {
     list
 }
 
-/// A board with ROM 0 alone.
-pub(crate) fn one_rom(rt: &impl Abort) -> Board {
+/// A board with ROM 0, and so many chains of so many chips.
+pub(crate) fn chained(rt: &impl Abort, count: usize, chips: u8) -> Board {
     let mut roms = [None; 16];
     roms[0] = Some(OUTPUTS);
     board_of(
@@ -53,8 +55,45 @@ pub(crate) fn one_rom(rt: &impl Abort) -> Board {
         BoardParts {
             roms,
             banks: [0; 8],
-            chains: ArrayVec::new(),
+            chains: chains(rt, count, chips),
             keys: None,
+            lamps: ArrayVec::new(),
+        },
+    )
+}
+
+/// A board with ROM 0 alone.
+pub(crate) fn one_rom(rt: &impl Abort) -> Board {
+    chained(rt, 0, 1)
+}
+
+/// ROM 0 with four output lines, ROM 1 with a port of both directions, a chain of one chip, and one row of two keys.
+pub(crate) fn two_keys(rt: &impl Abort) -> Board {
+    let mut roms = [None; 16];
+    roms[0] = Some(OUTPUTS);
+    roms[1] = Some(MIXED);
+    let mut chain = ArrayVec::new();
+    assert!(rt; chain.len() < CHAINS);
+    chain.push(ChainPart {
+        clock: Line::Rom(0, 0),
+        data_in: Line::Rom(0, 1),
+        chips: 1,
+    });
+    let mut columns = lines(rt, Line::Rom(1, 0), 1);
+    assert!(rt; columns.len() < KEY_COLUMNS);
+    columns.push(Line::Rom(1, 2));
+    board_of(
+        rt,
+        BoardParts {
+            roms,
+            banks: [0; 8],
+            chains: chain,
+            keys: Some(KeyMatrix {
+                chain: 0,
+                first: 0,
+                rows: 1,
+                columns,
+            }),
             lamps: ArrayVec::new(),
         },
     )
@@ -88,14 +127,14 @@ pub(crate) fn largest(rt: &impl Abort) -> Board {
         BoardParts {
             roms: [Some(MIXED); 16],
             banks: [4; 8],
-            chains: chains(rt, 2, 4),
+            chains: chains(rt, 4, 8),
             keys: Some(KeyMatrix {
-                chain: 1,
-                first: 30,
+                chain: 3,
+                first: 70,
                 rows: 10,
                 columns: lines(rt, Line::Rom(15, 0), 8),
             }),
-            lamps: lines(rt, Line::Chain(1, 39), 64),
+            lamps: lines(rt, Line::Chain(3, 79), 64),
         },
     )
 }

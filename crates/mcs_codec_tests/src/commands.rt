@@ -1,5 +1,5 @@
 //! The bytes of commands.
-use crate::boards::{each_part, largest};
+use crate::boards::{each_part, largest, two_keys};
 use mcs_codec::{COMMAND_BYTES, command_bytes, command_of};
 use mcs_model::board::Board;
 use mcs_model::command::{Command, Place};
@@ -39,7 +39,7 @@ fn expect_both(rt: &impl Abort, alloc: Global, command: &Command, want: &[u8]) {
 fn commands_of_a_few_bytes(rt: HostRuntime) {
     let register = RegNo::of(5).expect(&rt, "a register");
     let last = StatusNo::of(3).expect(&rt, "a status character");
-    let rows: [(Command, &[u8]); 16] = [
+    let rows: [(Command, &[u8]); 18] = [
         (Command::Press(9, 7), &[3, 9, 7]),
         (Command::Release(0, 255), &[4, 0, 255]),
         (Command::Run(100_000), &[5, 0, 1, 0x86, 0xA0]),
@@ -71,6 +71,8 @@ fn commands_of_a_few_bytes(rt: HostRuntime) {
         (Command::Reset, &[9]),
         (Command::Break(address(0x100)), &[10, 1, 0]),
         (Command::Unbreak(address(0xFFF)), &[11, 0x0F, 0xFF]),
+        (Command::Watch(bank(&rt, 5), 0x3F), &[12, 5, 0x3F]),
+        (Command::Unwatch(bank(&rt, 7), 0xFF), &[13, 7, 0xFF]),
     ];
     for row in &rows {
         expect_both(&rt, rt.alloc(), &row.0, row.1);
@@ -109,7 +111,7 @@ fn boards(rt: HostRuntime) {
     expect_both(&rt, alloc, &Command::Wire(Board::empty()), &want);
     let mut want = [b'-'; 97];
     want[0] = 1;
-    want[1..5].copy_from_slice(b"i0i1");
+    want[1..5].copy_from_slice(b"1i0i");
     want[65..73].copy_from_slice(&[0, 2, 0, 0, 0, 0, 0, 0]);
     want[73..83].copy_from_slice(&[1, 0, 0, 1, 0, 0, 0, 3, 0, 3]);
     want[83..92].copy_from_slice(&[1, 0, 5, 2, 1, 0, 0, 2, 0]);
@@ -117,20 +119,34 @@ fn boards(rt: HostRuntime) {
     expect_both(&rt, alloc, &Command::Wire(each_part(&rt)), &want);
     let mut bytes = [0; COMMAND_BYTES];
     let count = command_bytes(&Command::Wire(largest(&rt)), &mut bytes);
-    assert_eq!(rt; count, 386);
+    assert_eq!(rt; count, 404);
     assert!(rt;
-        command_of(alloc, &bytes[..386])
+        command_of(alloc, &bytes[..404])
             .expect(&rt, "memory")
             .is_some()
     );
 }
 
+/// The port characters of a ROM stand for lines 3, 2, 1, 0: those of ROM 1 are 31 69 30 69.
+#[test]
+fn line_3_of_a_port_stands_first(rt: HostRuntime) {
+    let mut want = [b'-'; 97];
+    want[0] = 1;
+    want[1..5].copy_from_slice(&[0x30, 0x30, 0x30, 0x30]);
+    want[5..9].copy_from_slice(&[0x31, 0x69, 0x30, 0x69]);
+    want[65..73].copy_from_slice(&[0; 8]);
+    want[73..83].copy_from_slice(&[1, 0, 0, 0, 0, 0, 0, 1, 0, 1]);
+    want[83..96].copy_from_slice(&[1, 0, 0, 1, 2, 0, 1, 0, 0, 0, 1, 2, 0]);
+    want[96] = 0;
+    expect_both(&rt, rt.alloc(), &Command::Wire(two_keys(&rt)), &want);
+}
+
 #[test]
 fn bytes_that_spell_no_command(rt: HostRuntime) {
-    let rows: [&[u8]; 20] = [
+    let rows: [&[u8]; 25] = [
         &[],
         &[0],
-        &[12],
+        &[14],
         &[3, 0],
         &[3, 0, 0, 0],
         &[5, 0, 0, 0],
@@ -148,6 +164,11 @@ fn bytes_that_spell_no_command(rt: HostRuntime) {
         &[8, 2],
         &[10, 0x10, 0],
         &[11, 0],
+        &[12],
+        &[12, 8, 0],
+        &[12, 0],
+        &[13, 0, 0, 0],
+        &[13, 8, 0],
     ];
     for row in &rows {
         assert!(rt; command_of(rt.alloc(), row).expect(&rt, "memory").is_none());

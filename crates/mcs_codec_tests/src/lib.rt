@@ -7,3 +7,5 @@ mod boards;
 mod commands;
 #[cfg(test)]
 mod states;
+#[cfg(test)]
+mod versions;

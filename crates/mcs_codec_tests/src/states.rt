@@ -5,19 +5,23 @@ use crate::boards::{largest, one_rom};
 use mcs_bench::Bench;
 use mcs_codec::{STATE_BYTES, bench_of, state_bytes};
 use mcs_model::command::{Command, Place};
-use mcs_nibble::Addr;
+use mcs_nibble::{Addr, BankNo};
 use std::alloc::Global;
 use std::process::Abort;
 
-/// Bytes of a state whose board has neither chains nor keys nor lamps, and which has no breakpoint.
-const PLAIN_STATE: usize = 6_822;
+/// Bytes of a state whose board has neither chains nor keys nor lamps, and which has neither breakpoints nor watches.
+pub(crate) const PLAIN_STATE: usize = 6_824;
 
-fn address(at: u16) -> Addr {
+pub(crate) fn address(at: u16) -> Addr {
     Addr::ZERO.plus(at)
 }
 
+fn bank(rt: &impl Abort, n: u8) -> BankNo {
+    BankNo::of(n).expect(rt, "a bank")
+}
+
 /// Does a command that is accepted.
-fn apply(rt: &impl Abort, bench: &mut Bench, command: &Command) {
+pub(crate) fn apply(rt: &impl Abort, bench: &mut Bench, command: &Command) {
     match bench.check(command) {
         Ok(()) => {
             bench.apply(command);
@@ -26,15 +30,15 @@ fn apply(rt: &impl Abort, bench: &mut Bench, command: &Command) {
     }
 }
 
-fn expect_bytes(rt: &impl Abort, got: &[u8], want: &[u8]) {
+pub(crate) fn expect_bytes(rt: &impl Abort, got: &[u8], want: &[u8]) {
     assert_eq!(rt; got, want);
 }
 
-fn is_read(rt: &impl Abort, alloc: Global, bytes: &[u8]) -> bool {
+pub(crate) fn is_read(rt: &impl Abort, alloc: Global, bytes: &[u8]) -> bool {
     bench_of(alloc, bytes).expect(rt, "memory").is_some()
 }
 
-fn buffer(rt: &impl Abort, alloc: Global) -> Vec<u8>
+pub(crate) fn buffer(rt: &impl Abort, alloc: Global) -> Vec<u8>
     ensures { length result.items ≡ STATE_BYTES }
 {
     let bytes = vec![in alloc; 0; STATE_BYTES].expect(rt, "memory");
@@ -43,19 +47,20 @@ fn buffer(rt: &impl Abort, alloc: Global) -> Vec<u8>
 }
 
 /// The first bytes, so many.
-fn front<'a>(rt: &impl Abort, bytes: &'a [u8], count: usize) -> &'a [u8] {
+pub(crate) fn front<'a>(rt: &impl Abort, bytes: &'a [u8], count: usize) -> &'a [u8] {
     bytes.get(..count).expect(rt, "so many bytes")
 }
 
-fn slice_of(state: &[u8; PLAIN_STATE]) -> &[u8] {
+pub(crate) fn slice_of<const N: usize>(state: &[u8; N]) -> &[u8] {
     state
 }
 
-/// The state of a new bench: 64 dashes for the ROMs that are not there, TEST 1, and all else 0.
-fn new_state() -> [u8; PLAIN_STATE] {
+/// The state of a new bench: the mark of version 2, 64 dashes for the ROMs that are not there, TEST 1, and all else 0.
+pub(crate) fn new_state() -> [u8; PLAIN_STATE] {
     let mut bytes = [0; PLAIN_STATE];
-    bytes[4..68].copy_from_slice(&[b'-'; 64]);
-    bytes[6_820] = 1;
+    bytes[4] = 2;
+    bytes[5..69].copy_from_slice(&[b'-'; 64]);
+    bytes[6_821] = 1;
     bytes
 }
 
@@ -78,40 +83,46 @@ fn one_byte_of_a_new_bench_changed(rt: HostRuntime) {
     // Where, what, and whether it spells a state: each list at its start and its end, and each number.
     let rows = [
         (0, 0xFF, true),
-        (4, b'i', false),
-        (68, 5, false),
-        (76, 3, false),
-        (77, 2, false),
-        (78, 65, false),
-        (79, 1, false),
-        (4_174, 1, false),
+        (4, 1, false),
+        (4, b'-', false),
+        (5, b'i', false),
+        (69, 5, false),
+        (77, 1, false),
+        (77, 5, false),
+        (78, 2, false),
+        (79, 65, false),
+        (80, 1, false),
         (4_175, 1, false),
-        (6_222, 1, false),
+        (4_176, 1, false),
         (6_223, 1, false),
-        (6_734, 1, false),
+        (6_224, 1, false),
         (6_735, 1, false),
-        (6_766, 1, false),
+        (6_736, 1, false),
         (6_767, 1, false),
-        (6_782, 1, false),
-        (6_783, 15, true),
-        (6_783, 16, false),
-        (6_784, 2, false),
-        (6_785, 16, false),
-        (6_800, 15, true),
-        (6_801, 0x0F, true),
-        (6_801, 0x10, false),
-        (6_803, 0x10, false),
-        (6_807, 0x10, false),
-        (6_809, 7, true),
-        (6_809, 8, false),
-        (6_810, 0xFF, true),
-        (6_811, 1, false),
-        (6_818, 1, false),
-        (6_819, 1, true),
-        (6_819, 2, false),
-        (6_820, 0, true),
+        (6_768, 1, false),
+        (6_783, 1, false),
+        (6_784, 15, true),
+        (6_784, 16, false),
+        (6_785, 2, false),
+        (6_786, 16, false),
+        (6_801, 15, true),
+        (6_802, 0x0F, true),
+        (6_802, 0x10, false),
+        (6_804, 0x10, false),
+        (6_808, 0x10, false),
+        (6_810, 7, true),
+        (6_810, 8, false),
+        (6_811, 0xFF, true),
+        (6_812, 1, false),
+        (6_819, 1, false),
+        (6_820, 1, true),
         (6_820, 2, false),
-        (6_821, 1, false),
+        (6_821, 0, true),
+        (6_821, 2, false),
+        (6_822, 1, false),
+        (6_822, 33, false),
+        (6_823, 1, false),
+        (6_823, 9, false),
     ];
     for (at, byte, spells) in rows {
         let mut bytes = new_state();
@@ -140,12 +151,12 @@ fn an_owed_cycle_is_kept(rt: HostRuntime) {
     apply(&rt, &mut bench, &Command::Run(1));
     let mut want = new_state();
     want[3] = 4;
-    want[4..8].copy_from_slice(b"0000");
-    want[79] = 0x41;
-    want[80] = 0x23;
-    want[6_801] = 0x01;
-    want[6_802] = 0x23;
-    want[6_819] = 1;
+    want[5..9].copy_from_slice(b"0000");
+    want[80] = 0x41;
+    want[81] = 0x23;
+    want[6_802] = 0x01;
+    want[6_803] = 0x23;
+    want[6_820] = 1;
     let mut bytes = buffer(&rt, alloc);
     let count = state_bytes(&bench, &mut bytes);
     expect_bytes(&rt, front(&rt, &bytes, count), slice_of(&want));
@@ -170,13 +181,55 @@ fn breakpoints_rise(rt: HostRuntime) {
     let mut bytes = buffer(&rt, alloc);
     let count = state_bytes(&bench, &mut bytes);
     assert_eq!(rt; count, PLAIN_STATE + 4);
-    expect_bytes(&rt, &bytes[6_821..6_826], &[2, 0, 3, 1, 0x23]);
-    assert!(rt; is_read(&rt, alloc, front(&rt, &bytes, 6_826)));
-    bytes[6_824] = 0;
-    bytes[6_825] = 3;
-    assert!(rt; !is_read(&rt, alloc, front(&rt, &bytes, 6_826)));
-    bytes[6_825] = 2;
-    assert!(rt; !is_read(&rt, alloc, front(&rt, &bytes, 6_826)));
+    expect_bytes(&rt, &bytes[6_822..6_828], &[2, 0, 3, 1, 0x23, 0]);
+    assert!(rt; is_read(&rt, alloc, front(&rt, &bytes, 6_828)));
+    bytes[6_825] = 0;
+    bytes[6_826] = 3;
+    assert!(rt; !is_read(&rt, alloc, front(&rt, &bytes, 6_828)));
+    bytes[6_826] = 2;
+    assert!(rt; !is_read(&rt, alloc, front(&rt, &bytes, 6_828)));
+}
+
+/// Watches stand behind the breakpoints, each as its bank and its SRC byte.
+#[test]
+fn watches_rise(rt: HostRuntime) {
+    let alloc = rt.alloc();
+    let mut bench = Bench::new(alloc).expect(&rt, "memory");
+    apply(&rt, &mut bench, &Command::Watch(bank(&rt, 5), 0x3F));
+    apply(&rt, &mut bench, &Command::Watch(bank(&rt, 0), 1));
+    let mut bytes = buffer(&rt, alloc);
+    let count = state_bytes(&bench, &mut bytes);
+    assert_eq!(rt; count, PLAIN_STATE + 4);
+    expect_bytes(&rt, &bytes[6_822..6_828], &[0, 2, 0, 1, 5, 0x3F]);
+    assert!(rt; is_read(&rt, alloc, front(&rt, &bytes, 6_828)));
+    // The first one behind the second, the same as the second, and of a bank that is not there.
+    for (first_bank, first_src) in [(5, 0x40), (5, 0x3F), (8, 0)] {
+        bytes[6_824] = first_bank;
+        bytes[6_825] = first_src;
+        assert!(rt; !is_read(&rt, alloc, front(&rt, &bytes, 6_828)));
+    }
+}
+
+/// Eight watches are a state's most.
+#[test]
+fn nine_watches_are_no_state(rt: HostRuntime) {
+    let alloc = rt.alloc();
+    let mut bytes = [0; PLAIN_STATE + 18];
+    bytes[4] = 2;
+    bytes[5..69].copy_from_slice(&[b'-'; 64]);
+    bytes[6_821] = 1;
+    for i in 0..9u8 {
+        bytes[6_825 + 2 * usize::from(i)] = i;
+    }
+    bytes[6_823] = 8;
+    assert!(rt; is_read(&rt, alloc, front(&rt, slice_of(&bytes), 6_840)));
+    bytes[6_823] = 9;
+    assert!(rt; !is_read(&rt, alloc, slice_of(&bytes)));
+    bytes[6_823] = 1;
+    bytes[6_824] = 7;
+    assert!(rt; is_read(&rt, alloc, front(&rt, slice_of(&bytes), 6_826)));
+    bytes[6_824] = 8;
+    assert!(rt; !is_read(&rt, alloc, front(&rt, slice_of(&bytes), 6_826)));
 }
 
 #[test]
@@ -187,11 +240,14 @@ fn the_longest_state(rt: HostRuntime) {
     for at in 0..32 {
         apply(&rt, &mut bench, &Command::Break(address(at)));
     }
+    for src in 0..8 {
+        apply(&rt, &mut bench, &Command::Watch(bank(&rt, 7), src));
+    }
     apply(&rt, &mut bench, &Command::Press(9, 7));
     let mut bytes = buffer(&rt, alloc);
     let count = state_bytes(&bench, &mut bytes);
-    assert_eq!(rt; count, 7_356);
-    assert!(rt; is_read(&rt, alloc, front(&rt, &bytes, 7_356)));
-    assert!(rt; !is_read(&rt, alloc, front(&rt, &bytes, 7_355)));
-    assert!(rt; !is_read(&rt, alloc, front(&rt, &bytes, 7_357)));
+    assert_eq!(rt; count, 7_632);
+    assert!(rt; is_read(&rt, alloc, front(&rt, &bytes, 7_632)));
+    assert!(rt; !is_read(&rt, alloc, front(&rt, &bytes, 7_631)));
+    assert!(rt; !is_read(&rt, alloc, front(&rt, &bytes, 7_633)));
 }

@@ -48,7 +48,7 @@ impl Bus for Memory {
     #[tactic(auto, unfolding(mcs_model::specs::Levels::after_rom_port, mcs_model::specs::Bus::zero_bus))]
     fn rom_port(&mut self, _n: Nibble) {}
 
-    #[tactic(auto, unfolding(mcs_model::specs::Levels::port_of, mcs_model::specs::Bus::zero_bus))]
+    #[tactic(auto, unfolding(mcs_model::specs::Levels::port_at, mcs_model::specs::Bus::zero_bus))]
     fn port_read(&self) -> Nibble {
         Nibble::ZERO
     }

@@ -1,0 +1,99 @@
+//! Rigs of other counts: one place of each kind, as many as a board can have, and no chain.
+use crate::boards::{largest, one_long_chain, one_mixed_rom};
+use mcs_board::Rig;
+use mcs_cpu4004::{Bus, Cpu, Cycle};
+use mcs_model::board::Board;
+use mcs_nibble::{Addr, Bit, Nibble};
+use std::alloc::Global;
+use std::process::Abort;
+
+fn nibble(n: u8) -> Nibble {
+    Nibble::low_of(n)
+}
+
+/// A rig on a board, with a program that runs over it for so many cycles, and the processor behind it.
+fn ran<const ROMS: usize, const BANKS: usize, const CHAINS: usize, const MAX: usize>(
+    alloc: Global,
+    rt: &impl Abort,
+    board: &Board,
+    program: &[u8],
+    cycles: u32,
+) -> (Rig<ROMS, BANKS, CHAINS, MAX>, Cpu) {
+    let mut rig = Rig::<ROMS, BANKS, CHAINS, MAX>::new(alloc).expect(rt, "memory");
+    assert!(rt; Rig::<ROMS, BANKS, CHAINS, MAX>::fits(board));
+    rig.wire(board);
+    let mut at = Addr::ZERO;
+    for byte in program {
+        rig.set_rom_byte(at, *byte);
+        at = at.plus(1);
+    }
+    let mut cpu = Cpu::new();
+    for _ in 0..cycles {
+        assert!(rt; cpu.cycle(&mut rig) != Cycle::Outside);
+    }
+    (rig, cpu)
+}
+
+/// Looks at lamp 0 at the end of a chain of 80 bits whose first bit is 1: it comes to the end with 79 shifts more, and is
+/// lost with the next. The selected ROM clocks the chain by line 0.
+fn comes_to_the_end<const ROMS: usize, const BANKS: usize, const CHAINS: usize, const MAX: usize>(
+    rt: &impl Abort,
+    rig: &mut Rig<ROMS, BANKS, CHAINS, MAX>,
+) {
+    for _ in 0..79 {
+        assert_eq!(rt; rig.lamp(0), Some(Bit::ZERO));
+        rig.rom_port(nibble(0));
+        rig.rom_port(nibble(1));
+    }
+    assert_eq!(rt; rig.lamp(0), Some(Bit::ONE));
+    rig.rom_port(nibble(0));
+    rig.rom_port(nibble(1));
+    assert_eq!(rt; rig.lamp(0), Some(Bit::ZERO));
+}
+
+/// FIM P0 FF, SRC P0, LDM 9, WRM, FIM P0 00, SRC P0, LDM 3, WRR: the last character of bank 0, and a shift.
+#[test]
+fn one_place_of_each_kind(rt: HostRuntime) {
+    let program = [0x20, 0xFF, 0x21, 0xD9, 0xE0, 0x20, 0x00, 0x21, 0xD3, 0xE2];
+    let (mut rig, cpu) = ran::<1, 1, 1, 80>(rt.alloc(), &rt, &one_long_chain(&rt), &program, 10);
+    assert_eq!(rt; cpu.regs().pc.get(), 10);
+    assert_eq!(rt; rig.ram(0, 0xFF), nibble(9));
+    assert_eq!(rt; rig.ram(1, 0xFF), Nibble::ZERO);
+    assert_eq!(rt; rig.chain_bit(0, 0), Bit::ONE);
+    comes_to_the_end(&rt, &mut rig);
+    assert!(rt; !Rig::<1, 1, 1, 80>::fits(&largest(&rt)));
+    assert!(rt; !Rig::<1, 1, 1, 79>::fits(&one_long_chain(&rt)));
+}
+
+/// LDM 7, DCL, FIM P0 FF, SRC P0, LDM 9, WRM, WMP, FIM P0 30, SRC P0, LDM 3, WRR: the last character and the last port of
+/// bank 7, and a shift of chain 3.
+#[test]
+fn as_many_places_as_a_board_can_have(rt: HostRuntime) {
+    let program = [
+        0xD7, 0xFD, 0x20, 0xFF, 0x21, 0xD9, 0xE0, 0xE1, 0x20, 0x30, 0x21, 0xD3, 0xE2,
+    ];
+    let (mut rig, cpu) = ran::<16, 8, 4, 80>(rt.alloc(), &rt, &largest(&rt), &program, 13);
+    assert_eq!(rt; cpu.regs().pc.get(), 13);
+    assert_eq!(rt; rig.ram(7, 0xFF), nibble(9));
+    assert_eq!(rt; rig.ram_latch(7, 3), nibble(9));
+    assert_eq!(rt; rig.chain_bit(3, 0), Bit::ONE);
+    assert_eq!(rt; rig.chain_bit(0, 0), Bit::ZERO);
+    comes_to_the_end(&rt, &mut rig);
+    rig.set_rom_byte(Addr::ZERO.plus(0xFFF), 0xA5);
+    assert_eq!(rt; rig.fetch(Addr::ZERO.plus(0xFFF)), 0xA5);
+}
+
+/// LDM 15, WRR, RDR, at a port `1i0i`: the latch takes lines 1 and 3, and the port reads its constants.
+#[test]
+fn no_place_for_a_chain(rt: HostRuntime) {
+    let program = [0xDF, 0xE2, 0xEA];
+    let (mut rig, cpu) = ran::<1, 0, 0, 0>(rt.alloc(), &rt, &one_mixed_rom(&rt), &program, 3);
+    assert_eq!(rt; cpu.regs().acc, nibble(8));
+    assert_eq!(rt; rig.rom_latch(0), nibble(10));
+    assert_eq!(rt; rig.read_port(nibble(0)), nibble(8));
+    assert_eq!(rt; rig.read_port(nibble(1)), Nibble::ZERO);
+    assert_eq!(rt; rig.chain_bit(0, 0), Bit::ZERO);
+    rig.reset();
+    assert_eq!(rt; rig.rom_latch(0), Nibble::ZERO);
+    assert!(rt; !Rig::<1, 0, 0, 0>::fits(&one_long_chain(&rt)));
+}

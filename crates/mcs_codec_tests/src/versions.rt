@@ -1,0 +1,168 @@
+//! The two versions of the bytes, and sessions of version 1 carried over.
+use crate::boards::{chained, each_part};
+use crate::states::{address, apply, buffer, expect_bytes, front, is_read, new_state, slice_of};
+use mcs_bench::Bench;
+use mcs_codec::{bench_of, in_version_1, state_bytes, version_of};
+use mcs_model::command::{Command, Place};
+use mcs_nibble::BankNo;
+use std::alloc::Global;
+use std::process::Abort;
+
+/// Bytes of a state of version 1 whose board has neither chains nor keys nor lamps, and which has no breakpoint.
+const FIRST_PLAIN_STATE: usize = 6_822;
+
+/// The state of a new bench in version 1: 64 dashes for the ROMs that are not there, TEST 1, and all else 0.
+fn first_new_state() -> [u8; FIRST_PLAIN_STATE] {
+    let mut bytes = [0; FIRST_PLAIN_STATE];
+    bytes[4..68].copy_from_slice(&[b'-'; 64]);
+    bytes[6_820] = 1;
+    bytes
+}
+
+fn add(rt: &impl Abort, bytes: &mut Vec<u8>, more: &[u8]) {
+    for byte in more {
+        bytes.push(*byte).expect(rt, "memory");
+    }
+}
+
+fn add_zeros(rt: &impl Abort, bytes: &mut Vec<u8>, count: usize) {
+    for _ in 0..count {
+        bytes.push(0).expect(rt, "memory");
+    }
+}
+
+/// The state of a bench behind `wire` of a board with ROM 0 and chains alone, by hand; the mark of version 2 is left out,
+/// and so is the number of watches.
+fn chained_state(rt: &impl Abort, alloc: Global, first: bool, count: u8, chips: u8) -> Vec<u8> {
+    let mut bytes = Vec::new(alloc);
+    add(rt, &mut bytes, &[0, 0, 0, 1]);
+    if !first {
+        add(rt, &mut bytes, &[2]);
+    }
+    add(rt, &mut bytes, b"0000");
+    add(rt, &mut bytes, &[b'-'; 60]);
+    add_zeros(rt, &mut bytes, 8);
+    add(rt, &mut bytes, &[count]);
+    for _ in 0..count {
+        add(rt, &mut bytes, &[0, 0, 1, 0, 0, 0, 3, 0, chips]);
+    }
+    add_zeros(rt, &mut bytes, 2);
+    add_zeros(rt, &mut bytes, 4_096 + 2_048 + 512 + 32 + 16 + 18 + 8 + 11);
+    for _ in 0..count {
+        for _ in 0..chips {
+            add_zeros(rt, &mut bytes, 10);
+        }
+    }
+    add(rt, &mut bytes, &[1, 0]);
+    if !first {
+        add(rt, &mut bytes, &[0]);
+    }
+    bytes
+}
+
+/// Whether these bytes are read, and written in version 2 then as those.
+fn carried_over(rt: &impl Abort, alloc: Global, bytes: &[u8], want: &[u8]) {
+    let bench = bench_of(alloc, bytes)
+        .expect(rt, "memory")
+        .expect(rt, "a state");
+    assert!(rt; bench.watches().is_empty());
+    let mut written = buffer(rt, alloc);
+    let count = state_bytes(&bench, &mut written);
+    expect_bytes(rt, front(rt, &written, count), want);
+}
+
+#[test]
+fn the_fifth_byte_tells_the_version(rt: HostRuntime) {
+    let rows = [
+        (b'i', Some(1)),
+        (b'0', Some(1)),
+        (b'1', Some(1)),
+        (b'-', Some(1)),
+        (2, Some(2)),
+        (1, None),
+    ];
+    for (fifth, version) in rows {
+        assert_eq!(rt; version_of(&[0, 0, 0, 0, fifth]), version);
+        assert_eq!(rt; version_of(&[2, 2, 2, 2, fifth, 0]), version);
+    }
+    assert_eq!(rt; version_of(&[2, 2, 2, 2]), None);
+}
+
+#[test]
+fn a_new_state_of_version_1(rt: HostRuntime) {
+    let alloc = rt.alloc();
+    let first = first_new_state();
+    let second = new_state();
+    carried_over(&rt, alloc, slice_of(&first), slice_of(&second));
+    // A byte less; a number of watches, for which version 1 has no place; version 2 without it.
+    assert!(rt; !is_read(&rt, alloc, front(&rt, slice_of(&first), 6_821)));
+    let mut longer = Vec::new(alloc);
+    add(&rt, &mut longer, slice_of(&first));
+    add(&rt, &mut longer, &[0]);
+    assert!(rt; !is_read(&rt, alloc, &longer));
+    assert!(rt; !is_read(&rt, alloc, front(&rt, slice_of(&second), 6_823)));
+}
+
+/// After JUN 0x123 at 000 and one cycle the second cycle of the jump is owed, and stays so.
+#[test]
+fn an_owed_cycle_of_version_1(rt: HostRuntime) {
+    let mut bytes = first_new_state();
+    bytes[3] = 4;
+    bytes[4..8].copy_from_slice(b"0000");
+    bytes[79] = 0x41;
+    bytes[80] = 0x23;
+    bytes[6_801] = 0x01;
+    bytes[6_802] = 0x23;
+    bytes[6_819] = 1;
+    let mut want = new_state();
+    want[3] = 4;
+    want[5..9].copy_from_slice(b"0000");
+    want[80] = 0x41;
+    want[81] = 0x23;
+    want[6_802] = 0x01;
+    want[6_803] = 0x23;
+    want[6_820] = 1;
+    carried_over(&rt, rt.alloc(), slice_of(&bytes), slice_of(&want));
+}
+
+/// Two chains of four chips are version 1's most; four of eight are version 2's.
+#[test]
+fn chains_of_either_version(rt: HostRuntime) {
+    // How many, of how many chips, and whether version 1 and version 2 have them.
+    let rows = [
+        (2, 4, true, true),
+        (3, 1, false, true),
+        (1, 5, false, true),
+        (4, 8, false, true),
+        (5, 1, false, false),
+        (1, 9, false, false),
+    ];
+    for (count, chips, in_first, in_second) in rows {
+        let first = chained_state(&rt, rt.alloc(), true, count, chips);
+        let second = chained_state(&rt, rt.alloc(), false, count, chips);
+        assert_eq!(rt; is_read(&rt, rt.alloc(), &first), in_first);
+        assert_eq!(rt; is_read(&rt, rt.alloc(), &second), in_second);
+        if in_first {
+            carried_over(&rt, rt.alloc(), &first, &second);
+        }
+    }
+    let mut bench = Bench::new(rt.alloc()).expect(&rt, "memory");
+    apply(&rt, &mut bench, &Command::Wire(chained(&rt, 4, 8)));
+    let mut written = buffer(&rt, rt.alloc());
+    let count = state_bytes(&bench, &mut written);
+    let want = chained_state(&rt, rt.alloc(), false, 4, 8);
+    expect_bytes(&rt, front(&rt, &written, count), &want);
+}
+
+#[test]
+fn commands_of_version_1(rt: HostRuntime) {
+    let bank = BankNo::of(0).expect(&rt, "a bank");
+    assert!(rt; in_version_1(&Command::Step));
+    assert!(rt; in_version_1(&Command::Poke(Place::Pc(address(1)))));
+    assert!(rt; in_version_1(&Command::Wire(each_part(&rt))));
+    assert!(rt; in_version_1(&Command::Wire(chained(&rt, 2, 4))));
+    assert!(rt; !in_version_1(&Command::Wire(chained(&rt, 3, 1))));
+    assert!(rt; !in_version_1(&Command::Wire(chained(&rt, 1, 5))));
+    assert!(rt; !in_version_1(&Command::Watch(bank, 0)));
+    assert!(rt; !in_version_1(&Command::Unwatch(bank, 0)));
+}
