@@ -94,3 +94,46 @@ fn files_that_hold_no_session(rt: HostRuntime) -> Result<(), Fail> {
     fs::remove_file(&rt, path)?;
     Ok(())
 }
+
+/// Puts bytes into those of a file, as far as there are any.
+fn put(bytes: &mut [u8], at: usize, from: &[u8]) {
+    for (byte, new) in bytes.iter_mut().skip(at).zip(from.iter()) {
+        *byte = *new;
+    }
+}
+
+#[test]
+fn a_file_of_version_1_is_carried_over(rt: HostRuntime) -> Result<(), Fail> {
+    let alloc = rt.alloc();
+    let path = "a_file_of_version_1.mcs";
+    // the state of a new bench: 6,822 bytes, of which the ROMs are dashes and TEST is 1; then the record of `poke r5 9`
+    let mut first = vec![in alloc; 0u8; 163_856]?;
+    put(&mut first, 0, b"MCS4BEN1");
+    put(&mut first, 18, &[0x1A, 0xA6]);
+    put(&mut first, 24, &[b'-'; 64]);
+    put(&mut first, 6_840, &[1]);
+    put(&mut first, 16_400, &[1, 0, 4, 7, 3, 5, 9]);
+    fs::write(&rt, path, first.as_slice())?;
+    let Ok(mut session) = session_of(&rt, "open", path)? else {
+        return Err("not opened".into());
+    };
+    let mut writer = Vec::new(alloc);
+    let mut reader = b"regs\n".as_slice();
+    let end = run_shell(alloc, &mut reader, &mut writer, &mut session);
+    assert_eq!(rt; end, ShellEnd::End);
+    let wanted: &[u8] =
+        b"session 1\nacc 0 cy 0 pc 000 owed 0 dcl 0 test 1 r 0000090000000000 ret 000 000 000\n";
+    assert_eq!(rt; writer.as_slice(), wanted);
+    // the first slot is as it was, and the second has a snapshot of version 2
+    let left = fs::read(&rt, path)?;
+    assert_eq!(rt; left.get(8), Some(&1));
+    assert_eq!(rt; left.get(16..81_936), first.get(16..81_936));
+    assert_eq!(rt;
+        left.get(81_936..81_945),
+        Some([0, 0, 0x1A, 0xA8, 0, 0, 0, 1, 2].as_slice())
+    );
+    assert_eq!(rt; left.get(98_320), Some(&0));
+    assert_eq!(rt; begun(&rt, "open", path)?, Ok(1));
+    fs::remove_file(&rt, path)?;
+    Ok(())
+}

@@ -1,7 +1,8 @@
 //! Files that others wrote: one change of a right file, and files of a seeded generator.
+use crate::first_version::file_of_inputs;
 use crate::generator::Numbers;
 use crate::scripts::{INPUTS, POKE, POKES};
-use crate::sessions::{disk_of, expect, file_of, found, opened, put, told};
+use crate::sessions::{bytes_of, disk_of, expect, file_of, found, opened, put, told};
 use mcs_journal::{FILE_SIZE, OpenFault};
 use mcs_session::session::Session;
 use std::alloc::Global;
@@ -10,31 +11,52 @@ use std::process::Abort;
 /// Where the first log begins.
 const LOG: usize = 16_400;
 
-/// Changes that leave no state: a place, and the bytes that are put there.
-const DAMAGES: [(usize, &[u8]); 24] = [
+/// A change: a place, and the bytes that are put there.
+pub(crate) type Change = (usize, &'static [u8]);
+
+/// A change that leaves a state, what is asked then, and the answers.
+pub(crate) type Told = (usize, &'static [u8], &'static [u8], &'static [u8]);
+
+/// Changes of the turn, of the length of the snapshot, and of a state of version 2, that leave no state.
+const DAMAGES: [Change; 21] = [
     // the turn, of a slot without a snapshot
     (8, &[1]),
     // the length of the snapshot
     (16, &[0, 0, 0, 0]),
-    (16, &[0, 0, 0x1A, 0xA5]),
+    (16, &[0, 0, 0x1A, 0xA6]),
     (16, &[0, 0, 0x1A, 0xA7]),
+    (16, &[0, 0, 0x1A, 0xA9]),
     (16, &[0, 0, 0x3F, 0xFC]),
     (16, &[0, 0, 0x3F, 0xFD]),
     (16, &[0xFF, 0xFF, 0xFF, 0xFF]),
-    // a port of a ROM that is no mask of four, a bank of five chips, a byte of a ROM that is not there
+    // the version
+    (24, &[0]),
+    (24, &[1]),
+    (24, &[3]),
+    (24, b"-"),
     (24, b"i"),
-    (88, &[5]),
-    (99, &[1]),
-    // an accumulator of 16, a counter of 4,096, two cycles owed, 33 breakpoints
-    (6_803, &[0x10]),
-    (6_821, &[0x10]),
-    (6_839, &[2]),
-    (6_841, &[33]),
+    // a port of a ROM that is no mask of four, a bank of five chips, a byte of a ROM that is not there
+    (25, b"i"),
+    (89, &[5]),
+    (100, &[1]),
+    // an accumulator of 16, a counter of 4,096, two cycles owed, 33 breakpoints, nine watches
+    (6_804, &[0x10]),
+    (6_822, &[0x10]),
+    (6_840, &[2]),
+    (6_842, &[33]),
+    (6_843, &[9]),
+];
+
+/// Records of the log that no version has.
+const RECORDS: [Change; 12] = [
     // records of no byte, of 8,193 bytes, of nothing that is a command
     (LOG, &[1, 0, 0]),
     (LOG, &[1, 0x20, 1]),
     (LOG, &[1, 0, 3, 0, 0, 0, 0]),
-    (LOG, &[1, 0, 4, 0x0C, 3, 5, 9, 0]),
+    (LOG, &[1, 0, 3, 14, 0, 0, 0]),
+    // one byte more than a watch has, a watch of a bank that is not there
+    (LOG, &[1, 0, 4, 12, 3, 5, 9, 0]),
+    (LOG, &[1, 0, 3, 12, 8, 0, 0]),
     // a register of 16, one byte more than a poke has, one byte less
     (LOG, &[1, 0, 4, 7, 3, 5, 0x10, 0]),
     (LOG, &[1, 0, 5, 7, 3, 5, 9, 0, 0]),
@@ -45,22 +67,28 @@ const DAMAGES: [(usize, &[u8]); 24] = [
     (LOG, &[1, 0, 5, 5, 0, 1, 0x86, 0xA1, 0]),
 ];
 
-/// Changes that leave a state: a place, the bytes, what is asked then, and the answers.
-const CHANGES: [(usize, &[u8], &[u8], &[u8]); 5] = [
+/// Changes of a file of version 2 that leave a state.
+const CHANGES: [Told; 6] = [
     (8, &[2], b"seq\n", b"session 0\nseq 0\n"),
     (
-        6_803,
+        6_804,
         &[0x0F],
         b"regs\n",
         b"session 0\nacc F cy 0 pc 000 owed 0 dcl 0 test 1 r 0000000000000000 ret 000 000 000\n",
     ),
     (
-        6_839,
+        6_840,
         &[1],
         b"regs\n",
         b"session 0\nacc 0 cy 0 pc 000 owed 1 dcl 0 test 1 r 0000000000000000 ret 000 000 000\n",
     ),
     (LOG, &[37], b"seq\n", b"session 0\nseq 0\n"),
+    (
+        LOG,
+        &[1, 0, 3, 12, 0, 0, 0],
+        b"watches\n",
+        b"session 1\nwatches 0.00\n",
+    ),
     (
         20,
         &[0xFF, 0xFF, 0xFF, 0xFF],
@@ -69,23 +97,89 @@ const CHANGES: [(usize, &[u8], &[u8], &[u8]); 5] = [
     ),
 ];
 
-/// A file is refused with this fault.
-fn expect_refused(alloc: Global, rt: &impl Abort, file: &[u8], fault: OpenFault, at: usize) {
+/// Watches of a state, their number first, and the answer to the question for them, if the state is one.
+const WATCHES: [(&[u8], Option<&[u8]>); 8] = [
+    (&[1, 7, 0xFF], Some(b"session 0\nwatches 7.FF\n")),
+    (&[2, 0, 4, 0, 5], Some(b"session 0\nwatches 0.04 0.05\n")),
+    (
+        &[8, 0, 0, 0, 1, 0, 2, 0, 3, 0, 4, 0, 5, 1, 0, 7, 0],
+        Some(b"session 0\nwatches 0.00 0.01 0.02 0.03 0.04 0.05 1.00 7.00\n"),
+    ),
+    // falling, one twice, of a bank that is not there, one missing, nine
+    (&[2, 0, 5, 0, 4], None),
+    (&[2, 0, 5, 0, 5], None),
+    (&[1, 8, 0], None),
+    (&[2, 0, 4], None),
+    (
+        &[9, 0, 0, 0, 1, 0, 2, 0, 3, 0, 4, 0, 5, 1, 0, 1, 1, 7, 0],
+        None,
+    ),
+];
+
+/// A file is refused with this fault, and is as it was.
+pub(crate) fn expect_refused(
+    alloc: Global,
+    rt: &impl Abort,
+    file: &[u8],
+    fault: OpenFault,
+    at: usize,
+) {
     match Session::open(alloc, disk_of(alloc, rt, file)) {
         Ok(_) => panic!(rt; "it opened, at {at}"),
-        Err((found, _)) => expect(rt, found == fault, at),
+        Err((found, mut disk)) => {
+            expect(rt, found == fault, at);
+            let left = bytes_of(alloc, rt, &mut disk);
+            expect(rt, left.as_slice() == file, at);
+        }
     }
 }
 
 /// A file with other bytes from a place on.
-fn changed(alloc: Global, rt: &impl Abort, file: &[u8], at: usize, bytes: &[u8]) -> Vec<u8> {
+pub(crate) fn changed(
+    alloc: Global,
+    rt: &impl Abort,
+    file: &[u8],
+    at: usize,
+    bytes: &[u8],
+) -> Vec<u8> {
     let mut other = file.to_vec(alloc).expect(rt, "memory");
     put(rt, other.as_mut_slice(), at, bytes);
     other
 }
 
+/// A file of a new bench with one change: behind its name, of those that leave no state, of those that leave one.
+pub(crate) fn expect_changes(
+    alloc: Global,
+    rt: &impl Abort,
+    new: &[u8],
+    damages: &[Change],
+    changes: &[Told],
+) {
+    for at in 9..16usize {
+        let file = changed(alloc, rt, new, at, &[1]);
+        expect_refused(alloc, rt, file.as_slice(), OpenFault::Damaged, at);
+    }
+    for (at, bytes) in damages.iter().chain(RECORDS.iter()) {
+        let file = changed(alloc, rt, new, *at, bytes);
+        expect_refused(alloc, rt, file.as_slice(), OpenFault::Damaged, *at);
+    }
+    for (at, bytes, script, answers) in changes {
+        let file = changed(alloc, rt, new, *at, bytes);
+        let mut session = opened(alloc, rt, disk_of(alloc, rt, file.as_slice()));
+        let found = told(alloc, rt, &mut session, script);
+        expect(rt, found.as_slice() == *answers, *at);
+    }
+}
+
 #[test]
 fn with_one_change(rt: HostRuntime) {
+    let alloc = rt.alloc();
+    let new = file_of(alloc, &rt, &[], 0, b"");
+    expect_changes(alloc, &rt, new.as_slice(), &DAMAGES, &CHANGES);
+}
+
+#[test]
+fn of_another_name(rt: HostRuntime) {
     let alloc = rt.alloc();
     let new = file_of(alloc, &rt, &[], 0, b"");
     for at in 0..8usize {
@@ -96,19 +190,25 @@ fn with_one_change(rt: HostRuntime) {
             }
         }
     }
-    for at in 9..16usize {
-        let file = changed(alloc, &rt, new.as_slice(), at, &[1]);
-        expect_refused(alloc, &rt, file.as_slice(), OpenFault::Damaged, at);
-    }
-    for (row, (at, bytes)) in DAMAGES.iter().enumerate() {
-        let file = changed(alloc, &rt, new.as_slice(), *at, bytes);
-        expect_refused(alloc, &rt, file.as_slice(), OpenFault::Damaged, row);
-    }
-    for (row, (at, bytes, script, answers)) in CHANGES.iter().enumerate() {
-        let file = changed(alloc, &rt, new.as_slice(), *at, bytes);
-        let mut session = opened(alloc, &rt, disk_of(alloc, &rt, file.as_slice()));
-        let found = told(alloc, &rt, &mut session, script);
-        expect(&rt, found.as_slice() == *answers, row);
+}
+
+#[test]
+fn with_watches(rt: HostRuntime) {
+    let alloc = rt.alloc();
+    let new = file_of(alloc, &rt, &[], 0, b"");
+    for (row, (watches, answer)) in WATCHES.iter().enumerate() {
+        // the number of watches is the last of 6,824 bytes
+        let low = 0xA7u8.wrapping_add(watches.len() as u8);
+        let file = changed(alloc, &rt, new.as_slice(), 19, &[low]);
+        let file = changed(alloc, &rt, file.as_slice(), 6_843, watches);
+        match answer {
+            Some(answer) => {
+                let mut session = opened(alloc, &rt, disk_of(alloc, &rt, file.as_slice()));
+                let found = told(alloc, &rt, &mut session, b"watches\n");
+                expect(&rt, found.as_slice() == *answer, row);
+            }
+            None => expect_refused(alloc, &rt, file.as_slice(), OpenFault::Damaged, row),
+        }
     }
 }
 
@@ -130,28 +230,31 @@ fn with_too_much_in_the_log(rt: HostRuntime) {
     let full = file_of(alloc, &rt, &[], 9_361, b"run 1\n");
     let file = changed(alloc, &rt, full.as_slice(), 81_935, &[1]);
     expect_refused(alloc, &rt, file.as_slice(), OpenFault::Damaged, 81_935);
-    // forty runs of 100,000 cycles are what one log may hold
-    let mut file = file_of(alloc, &rt, &[], 0, b"");
+    expect_most_cycles(alloc, &rt, file_of(alloc, &rt, &[], 0, b""));
+}
+
+/// Forty runs of 100,000 cycles are what the log of a new bench's file may hold.
+pub(crate) fn expect_most_cycles(alloc: Global, rt: &impl Abort, mut file: Vec<u8>) {
     for i in 0..40usize {
         put(
-            &rt,
+            rt,
             file.as_mut_slice(),
             LOG + 8 * i,
             &[1, 0, 5, 5, 0, 1, 0x86, 0xA0, 0],
         );
     }
-    let mut session = opened(alloc, &rt, disk_of(alloc, &rt, file.as_slice()));
-    let found = told(alloc, &rt, &mut session, b"regs\n");
+    let mut session = opened(alloc, rt, disk_of(alloc, rt, file.as_slice()));
+    let found = told(alloc, rt, &mut session, b"regs\n");
     let wanted: &[u8] =
         b"session 40\nacc 0 cy 0 pc 900 owed 0 dcl 0 test 1 r 0000000000000000 ret 000 000 000\n";
     assert!(rt; found.as_slice() == wanted);
     put(
-        &rt,
+        rt,
         file.as_mut_slice(),
         LOG + 8 * 40,
         &[1, 0, 5, 5, 0, 1, 0x86, 0xA0, 0],
     );
-    expect_refused(alloc, &rt, file.as_slice(), OpenFault::Damaged, 41);
+    expect_refused(alloc, rt, file.as_slice(), OpenFault::Damaged, 41);
 }
 
 /// The place of one of the first gates of a log, from its begin on.
@@ -232,6 +335,7 @@ fn of_a_generator(rt: HostRuntime) {
         file_of(alloc, &rt, &INPUTS, 0, b""),
         file_of(alloc, &rt, &INPUTS, POKES, POKE),
         file_of(alloc, &rt, &INPUTS, 40, b""),
+        file_of_inputs(alloc, &rt),
     ];
     let mut taken = 0u32;
     for right in files.iter() {
@@ -254,5 +358,5 @@ fn of_a_generator(rt: HostRuntime) {
         }
     }
     // the generator makes many of both kinds
-    assert!(rt; 200 < taken && taken < 1_800, "{taken}");
+    assert!(rt; 200 < taken && taken < 2_300, "{taken}");
 }

@@ -6,6 +6,8 @@ mod disks;
 #[cfg(test)]
 mod files;
 #[cfg(test)]
+mod first_version;
+#[cfg(test)]
 mod generator;
 #[cfg(test)]
 mod refused;

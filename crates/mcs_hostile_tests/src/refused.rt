@@ -1,8 +1,9 @@
 //! One allocation that is refused, whichever it is: `tools/refuse_allocations` refuses each in turn, the gate none.
+use crate::first_version::{NEW, RECORD, new_file};
 use crate::scripts::INPUTS;
-use crate::sessions::opened;
+use crate::sessions::{bytes_of, opened, put};
 use arrayvec::ArrayVec;
-use mcs_disk::{Disk, MemDisk};
+use mcs_disk::{Disk, DiskFault, MemDisk};
 use mcs_journal::{CreateFault, FILE_SIZE, OpenFault};
 use mcs_session::session::Session;
 use mcs_shell::ends::ShellEnd;
@@ -194,5 +195,56 @@ fn make_and_run(alloc: Global, rt: &impl Abort) -> &'static str {
 #[test]
 fn one_allocation(rt: HostRuntime) {
     let refused = make_and_run(rt.alloc(), &rt);
+    let _ = println!(rt; "refused: {refused}");
+}
+
+/// Puts the file of one register, of version 1, on a disk.
+fn put_first(disk: &mut MemDisk) -> Result<(), DiskFault> {
+    for (at, bytes) in [NEW[0], NEW[1], NEW[2], NEW[3], RECORD] {
+        if at <= disk.size() && bytes.len() <= disk.size() - at {
+            disk.write(at, bytes)?;
+        }
+    }
+    Ok(())
+}
+
+/// The session of that file.
+fn expect_register(rt: &impl Abort, session: &Session<MemDisk>) {
+    let bench = session.bench();
+    assert!(rt; bench.seq() == 1 && bench.regs().r[5].get() == 9);
+}
+
+/// Opens a file of version 1, and again where it was refused. It answers what was refused.
+fn carry_over(alloc: Global, rt: &impl Abort) -> &'static str {
+    let Ok(mut disk) = MemDisk::new(alloc, FILE_SIZE) else {
+        return "the disk";
+    };
+    if put_first(&mut disk).is_err() {
+        return "a record of the file";
+    }
+    match Session::open(alloc, disk) {
+        Ok(session) => {
+            expect_register(rt, &session);
+            "nothing"
+        }
+        Err((OpenFault::NoMemory, mut disk)) => {
+            let mut file = new_file(alloc, rt);
+            put(rt, file.as_mut_slice(), RECORD.0, RECORD.1);
+            let left = bytes_of(alloc, rt, &mut disk);
+            assert!(rt; left.as_slice() == file.as_slice());
+            expect_register(rt, &opened(alloc, rt, disk));
+            "the session carried over"
+        }
+        Err((fault, disk)) => {
+            assert_eq!(rt; fault, OpenFault::Device);
+            expect_register(rt, &opened(alloc, rt, disk));
+            "a record at carrying over"
+        }
+    }
+}
+
+#[test]
+fn a_session_of_version_1(rt: HostRuntime) {
+    let refused = carry_over(rt.alloc(), &rt);
     let _ = println!(rt; "refused: {refused}");
 }

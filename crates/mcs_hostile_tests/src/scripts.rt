@@ -69,6 +69,8 @@ list 0 12
 ram 0
 ram 1
 breaks
+watches
+ports
 lamps
 regs
 ";

@@ -121,13 +121,13 @@ fn tear(
 
 /// When commands are acknowledged: behind so many first syncs, and each by so many.
 #[derive(Clone, Copy)]
-struct Pace {
-    first: usize,
-    each: usize,
+pub(crate) struct Pace {
+    pub(crate) first: usize,
+    pub(crate) each: usize,
 }
 
 /// Tears each noted write of a file, and answers how many files that makes.
-fn tear_all(
+pub(crate) fn tear_all(
     alloc: Global,
     rt: &impl Abort,
     file: &mut [u8],

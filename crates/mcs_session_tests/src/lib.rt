@@ -6,4 +6,8 @@ mod boards;
 #[cfg(test)]
 mod desk;
 #[cfg(test)]
+mod files;
+#[cfg(test)]
+mod first_version;
+#[cfg(test)]
 mod tests;

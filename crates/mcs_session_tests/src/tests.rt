@@ -60,12 +60,12 @@ fn a_full_log_gives_way_to_a_snapshot(rt: HostRuntime) {
     done(&rt, &mut session, &poke(&rt, 0, 2));
     let mut disk = session.into_disk();
     expect_bytes(&rt, &mut disk, 8, &[1]);
-    // 6,822 bytes of a state, whose count of commands comes first
+    // 6,824 bytes of a state, whose count of commands comes first, and then its version
     expect_bytes(
         &rt,
         &mut disk,
         SECOND_SLOT,
-        &[0, 0, 0x1A, 0xA6, 0, 0, 0x24, 0x92],
+        &[0, 0, 0x1A, 0xA8, 0, 0, 0x24, 0x92, 2],
     );
     expect_bytes(&rt, &mut disk, SECOND_LOG, &[1, 0, 4, 7, 3, 0, 2, 0]);
     // the last byte of the first log is a closed gate
@@ -111,7 +111,7 @@ fn a_log_of_many_cycles_gives_way_to_a_snapshot(rt: HostRuntime) {
         &rt,
         &mut disk,
         SECOND_SLOT,
-        &[0, 0, 0x1A, 0xA6, 0, 0, 0, 0x28],
+        &[0, 0, 0x1A, 0xA8, 0, 0, 0, 0x28, 2],
     );
     expect_bytes(&rt, &mut disk, SECOND_LOG, &[1, 0, 1, 6, 0]);
     let mut session = opened(alloc, &rt, disk);
@@ -149,13 +149,13 @@ fn the_second_snapshot_goes_back_to_the_first_slot(rt: HostRuntime) {
         &rt,
         &mut disk,
         SECOND_SLOT,
-        &[0, 0, 0x1A, 0xA8, 0, 0, 0, 41],
+        &[0, 0, 0x1A, 0xAA, 0, 0, 0, 41, 2],
     );
     let mut session = opened(alloc, &rt, disk);
     run_round(&rt, &mut session, 1);
     let mut disk = session.into_disk();
     expect_bytes(&rt, &mut disk, 8, &[0]);
-    expect_bytes(&rt, &mut disk, 16, &[0, 0, 0x1A, 0xA8, 0, 0, 0, 81]);
+    expect_bytes(&rt, &mut disk, 16, &[0, 0, 0x1A, 0xAA, 0, 0, 0, 81, 2]);
     expect_bytes(
         &rt,
         &mut disk,
@@ -267,6 +267,7 @@ fn expect_same(rt: &impl Abort, one: &Bench, other: &Bench) {
     assert_eq!(rt; one.regs(), other.regs());
     assert_eq!(rt; one.test(), other.test());
     assert_eq!(rt; one.breaks(), other.breaks());
+    assert_eq!(rt; one.watches(), other.watches());
     assert_eq!(rt; one.rom_src(), other.rom_src());
     for chip in 0..16 {
         assert_eq!(rt; one.rom_port(chip), other.rom_port(chip));
@@ -291,7 +292,7 @@ fn expect_same(rt: &impl Abort, one: &Bench, other: &Bench) {
             assert_eq!(rt; one.ram_port(bank, chip), other.ram_port(bank, chip));
         }
     }
-    for bit in 0..40 {
+    for bit in 0..80 {
         assert_eq!(rt; one.chain_bit(0, bit), other.chain_bit(0, bit));
     }
     for lamp in 0..3 {

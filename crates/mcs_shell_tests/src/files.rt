@@ -21,13 +21,13 @@ fn the_bytes_of_a_new_session(rt: HostRuntime) -> Result<(), Fail> {
     assert_eq!(rt; bytes.get(8..16), Some([0; 8].as_slice()));
     assert_eq!(rt;
         bytes.get(16..20),
-        Some([0x00, 0x00, 0x1a, 0xa6].as_slice())
+        Some([0x00, 0x00, 0x1a, 0xa8].as_slice())
     );
     assert_eq!(rt; bytes.get(20..24), Some([0; 4].as_slice()));
-    assert_eq!(rt; bytes.get(24..28), Some(b"----".as_slice()));
-    assert_eq!(rt; bytes.get(84..88), Some(b"----".as_slice()));
-    assert_eq!(rt; bytes.get(88..100), Some([0; 12].as_slice()));
-    assert_eq!(rt; bytes.get(6_839..6_842), Some([0, 1, 0].as_slice()));
+    assert_eq!(rt; bytes.get(24..29), Some(b"\x02----".as_slice()));
+    assert_eq!(rt; bytes.get(85..89), Some(b"----".as_slice()));
+    assert_eq!(rt; bytes.get(89..101), Some([0; 12].as_slice()));
+    assert_eq!(rt; bytes.get(6_840..6_844), Some([0, 1, 0, 0].as_slice()));
     assert_eq!(rt; bytes.get(16_400), Some(&0));
     Ok(())
 }

@@ -2,6 +2,8 @@
 #![tactic(auto)]
 
 #[cfg(test)]
+mod boards;
+#[cfg(test)]
 mod faults;
 #[cfg(test)]
 mod files;
@@ -11,5 +13,7 @@ mod lines;
 mod sessions;
 #[cfg(test)]
 mod texts;
+#[cfg(test)]
+mod watches;
 #[cfg(test)]
 mod worked;

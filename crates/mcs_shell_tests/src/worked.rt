@@ -77,18 +77,14 @@ fn worked_instructions(rt: HostRuntime) -> Result<(), Fail> {
 #[test]
 fn worked_commands(rt: HostRuntime) -> Result<(), Fail> {
     // Breakpoints, keys, listings and their refusals on the worked board.
-    let rows: [(&[u8], &[u8]); 6] = [
+    let rows: [(&[u8], &[u8]); 5] = [
         (
             b"break 0\nbreak 3\nrun 5\nbreaks\nrun 1\npoke rom.4 0xE3\nrun 5\nstep\n",
             b"ok 2\nok 3\nok 4 ran 3 break\nbreaks 000 003\nok 5 ran 1 end\nok 6\nok 7 ran 0 code\nok 8 ran 0 code\n",
         ),
         (
-            b"asm\nJUN go\nORG 0x100\ngo: LDM 5\nDB 1, 0xFF\n.\nlist 0 1\nlist 0x100 3\n",
-            b"ok 2 bytes 5\n000 41 00 JUN 0x100\n100 D5    LDM 5\n101 01    DB 0x01\n102 FF    DB 0xFF\n",
-        ),
-        (
-            b"asm\nLDM 1\nORG 0\nLDM 1\n.\nasm\nORG 0x300\nNOP\n.\nlist 0xFFF 5\nasm\n.\n",
-            b"no 35 line 3\nno 42\nFFF 00    NOP\nok 2 bytes 0\n",
+            b"asm\nJUN go\nORG 0x100\ngo: LDM 5\nDB 1, 0xFF\n.\nlist 0 1\nlist 0x100 3\nasm\nLDM 1\nORG 0\nLDM 1\n.\nasm\nORG 0x300\nNOP\n.\nlist 0xFFF 5\nasm\n.\n",
+            b"ok 2 bytes 5\n000 41 00 JUN 0x100\n100 D5    LDM 5\n101 01    DB 0x01\n102 FF    DB 0xFF\nno 35 line 3\nno 42\nFFF 00    NOP\nok 3 bytes 0\n",
         ),
         (
             b"press 9 7\npress 10 0\npress 9 7\nrelease 0 0\npress 300 0\nseq\n",
@@ -125,7 +121,7 @@ fn worked_lines(rt: HostRuntime) -> Result<(), Fail> {
 #[test]
 fn worked_board_texts(rt: HostRuntime) -> Result<(), Fail> {
     // Texts of boards that are refused, each with its number.
-    let rows: [(&[u8], &[u8]); 8] = [
+    let rows: [(&[u8], &[u8]); 7] = [
         (b"wire\nsize = 1\n.\n", b"no 21\n"),
         (b"wire\n[[rom]]\nchip = 0\n.\n", b"no 22\n"),
         (
@@ -144,13 +140,31 @@ fn worked_board_texts(rt: HostRuntime) -> Result<(), Fail> {
             b"wire\n[[rom]]\nchip = 0\nport = \"0000\"\n[[rom]]\nchip = 1\nport = \"iiii\"\n[[rom]]\nchip = 2\nport = \"iiii\"\n[[ram]]\nbank = 0\nchips = 1\n[[ram]]\nbank = 1\nchips = 1\n[[chain]]\nclock = \"rom0.0\"\ndata = \"rom0.1\"\nchips = 1\n[keys]\nchain = 0\nfirst = 0\nrows = 10\ncolumns = [\"rom0.2\", \"rom1.1\", \"rom1.2\", \"rom1.3\", \"rom2.0\", \"rom2.1\", \"rom2.2\", \"rom2.3\"]\n[[lamp]]\nline = \"chain0.0\"\n[[lamp]]\nline = \"chain0.1\"\n[[lamp]]\nline = \"ram0.0.3\"\n.\n",
             b"no 26\n",
         ),
-        (
-            b"wire\n[[rom]]\nchip = 0\nport = \"0000\"\n[[rom]]\nchip = 1\nport = \"iiii\"\n[[rom]]\nchip = 2\nport = \"iiii\"\n[[ram]]\nbank = 0\nchips = 1\n[[ram]]\nbank = 1\nchips = 1\n[[chain]]\nclock = \"rom0.0\"\ndata = \"rom0.1\"\nchips = 1\n[[chain]]\nclock = \"rom0.0\"\ndata = \"rom0.1\"\nchips = 1\n[[chain]]\nclock = \"rom0.0\"\ndata = \"rom0.1\"\nchips = 1\n[keys]\nchain = 0\nfirst = 0\nrows = 10\ncolumns = [\"rom1.0\", \"rom1.1\", \"rom1.2\", \"rom1.3\", \"rom2.0\", \"rom2.1\", \"rom2.2\", \"rom2.3\"]\n[[lamp]]\nline = \"chain0.0\"\n[[lamp]]\nline = \"chain0.1\"\n[[lamp]]\nline = \"ram0.0.3\"\n.\n",
-            b"no 27\n",
-        ),
         (b"wire\n[[rom\n.\n", b"no 20\n"),
     ];
     run_all(&rt, rt.alloc(), (b"", b"session 0\n"), &rows)
+}
+
+#[test]
+fn a_log_of_many_cycles(rt: HostRuntime) -> Result<(), Fail> {
+    let alloc = rt.alloc();
+    let mut script = Vec::new(alloc);
+    let mut answers = Vec::new(alloc);
+    for i in 1..40u32 {
+        script.extend_from_slice(b"run 100000\n")?;
+        let answer = format!(in alloc; "ok {i} ran 100000 end\n")?;
+        answers.extend_from_slice(answer.as_str().as_bytes())?;
+    }
+    expect_answers(
+        &rt,
+        alloc,
+        &[script.as_slice(), b"run 99999\nstep\nrun 1\nregs\n"],
+        &[
+            b"session 0\n",
+            answers.as_slice(),
+            b"ok 40 ran 99999 end\nok 41 ran 1 end\nok 42 ran 1 end\nacc 0 cy 0 pc 901 owed 0 dcl 0 test 1 r 0000000000000000 ret 000 000 000\n",
+        ],
+    )
 }
 
 /// Gives one byte at each read.

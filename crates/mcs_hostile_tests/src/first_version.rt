@@ -1,0 +1,225 @@
+//! Files of version 1: what opening makes of them, of one change of them, and of a stop or a torn write while it carries them over.
+use crate::disks::NotingDisk;
+use crate::files::{Change, Told, expect_changes, expect_most_cycles, expect_refused};
+use crate::scripts::{INPUTS, LAST};
+use crate::sessions::{
+    bytes_of, disk_of, expect, expect_state, file_of, found, opened, put, states_behind, told,
+};
+use crate::torn::{Pace, tear_all};
+use mcs_disk::FuseDisk;
+use mcs_journal::{FILE_SIZE, OpenFault};
+use mcs_session::session::Session;
+use std::alloc::Global;
+use std::process::Abort;
+
+/// Where the first log begins.
+const LOG: usize = 16_400;
+
+/// All bytes but 0 of the file of a new bench: 6,822 bytes of state, whose ROMs are not there and whose TEST is 1.
+pub(crate) const NEW: [Change; 4] = [
+    (0, b"MCS4BEN1"),
+    (18, &[0x1A, 0xA6]),
+    (24, &[b'-'; 64]),
+    (6_840, &[1]),
+];
+
+/// The record of `poke r5 9`.
+pub(crate) const RECORD: Change = (LOG, &[1, 0, 4, 7, 3, 5, 9]);
+
+/// The file of a new bench.
+pub(crate) fn new_file(alloc: Global, rt: &impl Abort) -> Vec<u8> {
+    let mut file = vec![in alloc; 0u8; FILE_SIZE].expect(rt, "memory");
+    for (at, bytes) in NEW {
+        put(rt, file.as_mut_slice(), at, bytes);
+    }
+    file
+}
+
+/// The file of the commands of the script. Their records are those of version 2.
+pub(crate) fn file_of_inputs(alloc: Global, rt: &impl Abort) -> Vec<u8> {
+    let mut file = new_file(alloc, rt);
+    let later = file_of(alloc, rt, &INPUTS, 0, b"");
+    match later.get(LOG..LOG + 800) {
+        Some(records) => put(rt, file.as_mut_slice(), LOG, records),
+        None => panic!(rt; "a file without a log"),
+    }
+    file
+}
+
+/// Changes of the turn, of the length of the snapshot, of a state of version 1, and records that it has not. They leave no state.
+const DAMAGES: [Change; 18] = [
+    (8, &[1]),
+    (16, &[0, 0, 0, 0]),
+    (16, &[0, 0, 0x1A, 0xA5]),
+    (16, &[0, 0, 0x1A, 0xA7]),
+    (16, &[0, 0, 0x1A, 0xA8]),
+    (16, &[0, 0, 0x3F, 0xFC]),
+    (16, &[0, 0, 0x3F, 0xFD]),
+    (16, &[0xFF, 0xFF, 0xFF, 0xFF]),
+    // a port of a ROM that is no mask of four, or the byte that version 2 has there
+    (24, b"i"),
+    (24, &[2]),
+    // a bank of five chips, a byte of a ROM that is not there
+    (88, &[5]),
+    (99, &[1]),
+    // an accumulator of 16, a counter of 4,096, two cycles owed, 33 breakpoints
+    (6_803, &[0x10]),
+    (6_821, &[0x10]),
+    (6_839, &[2]),
+    (6_841, &[33]),
+    // a watch set and taken away
+    (LOG, &[1, 0, 3, 12, 0, 0, 0]),
+    (LOG, &[1, 0, 3, 13, 0, 0, 0]),
+];
+
+/// Changes that leave a state.
+const CHANGES: [Told; 5] = [
+    (8, &[2], b"seq\n", b"session 0\nseq 0\n"),
+    (
+        6_803,
+        &[0x0F],
+        b"regs\n",
+        b"session 0\nacc F cy 0 pc 000 owed 0 dcl 0 test 1 r 0000000000000000 ret 000 000 000\n",
+    ),
+    (
+        6_839,
+        &[1],
+        b"regs\n",
+        b"session 0\nacc 0 cy 0 pc 000 owed 1 dcl 0 test 1 r 0000000000000000 ret 000 000 000\n",
+    ),
+    (LOG, &[37], b"seq\n", b"session 0\nseq 0\n"),
+    (
+        20,
+        &[0xFF, 0xFF, 0xFF, 0xFF],
+        b"reset\nseq\n",
+        b"session 4294967295\nno 46\nseq 4294967295\n",
+    ),
+];
+
+#[test]
+fn with_one_change(rt: HostRuntime) {
+    let alloc = rt.alloc();
+    let new = new_file(alloc, &rt);
+    expect_changes(alloc, &rt, new.as_slice(), &DAMAGES, &CHANGES);
+}
+
+#[test]
+fn with_too_much_in_the_log(rt: HostRuntime) {
+    let alloc = rt.alloc();
+    expect_most_cycles(alloc, &rt, new_file(alloc, &rt));
+}
+
+/// A board of one ROM and of three chains of one chip, or of one of five: the wiring and the length of its state.
+const CHAINS: [(&[u8], [u8; 2], usize); 2] = [
+    (
+        b"0000------------------------------------------------------------\0\0\0\0\0\0\0\0\x03\0\0\0\0\0\0\x01\0\x01\0\0\0\0\0\0\x01\0\x01\0\0\0\0\0\0\x01\0\x01",
+        [0x1A, 0xDF],
+        57,
+    ),
+    (
+        b"0000------------------------------------------------------------\0\0\0\0\0\0\0\0\x01\0\0\0\0\0\0\x01\0\x05",
+        [0x1A, 0xE1],
+        59,
+    ),
+];
+
+#[test]
+fn with_chains_of_version_2(rt: HostRuntime) {
+    let alloc = rt.alloc();
+    for (wiring, length, more) in CHAINS {
+        let mut file = new_file(alloc, &rt);
+        put(&rt, file.as_mut_slice(), 18, &length);
+        put(&rt, file.as_mut_slice(), 24, wiring);
+        put(&rt, file.as_mut_slice(), 6_840, &[0]);
+        put(
+            &rt,
+            file.as_mut_slice(),
+            6_840usize.saturating_add(more),
+            &[1],
+        );
+        expect_refused(alloc, &rt, file.as_slice(), OpenFault::Damaged, more);
+    }
+}
+
+#[test]
+fn opened_and_told(rt: HostRuntime) {
+    let alloc = rt.alloc();
+    let mut file = new_file(alloc, &rt);
+    put(&rt, file.as_mut_slice(), RECORD.0, RECORD.1);
+    let mut session = opened(alloc, &rt, disk_of(alloc, &rt, file.as_slice()));
+    let answers = told(alloc, &rt, &mut session, b"regs\nwatches\nwatch 0 0\n");
+    let wanted: &[u8] =
+        b"session 1\nacc 0 cy 0 pc 000 owed 0 dcl 0 test 1 r 0000090000000000 ret 000 000 000\nwatches -\nok 2\n";
+    assert!(rt; answers.as_slice() == wanted);
+    let mut disk = session.into_disk();
+    let left = bytes_of(alloc, &rt, &mut disk);
+    assert_eq!(rt; left.get(8), Some(&1));
+    assert_eq!(rt;
+        left.get(81_936..81_945),
+        Some([0, 0, 0x1A, 0xA8, 0, 0, 0, 1, 2].as_slice())
+    );
+    assert_eq!(rt;
+        left.get(98_320..98_327),
+        Some([1, 0, 3, 12, 0, 0, 0].as_slice())
+    );
+    // the commands of the script stand for one state in both versions
+    let first = found(alloc, &rt, file_of_inputs(alloc, &rt).as_slice());
+    let second = found(alloc, &rt, file_of(alloc, &rt, &INPUTS, 0, b"").as_slice());
+    match (first, second) {
+        (Ok(first), Ok(second)) => {
+            assert!(rt; first.as_slice() == second.as_slice() && first.as_slice().ends_with(LAST));
+        }
+        _ => panic!(rt; "no state"),
+    }
+}
+
+#[test]
+fn stopped_at_each_call_of_opening(rt: HostRuntime) {
+    let alloc = rt.alloc();
+    let file = file_of_inputs(alloc, &rt);
+    let Ok(state) = found(alloc, &rt, file.as_slice()) else {
+        panic!(rt; "no state")
+    };
+    let mut stops = 0usize;
+    for calls in 0..64usize {
+        match Session::open(
+            alloc,
+            FuseDisk::after(disk_of(alloc, &rt, file.as_slice()), calls),
+        ) {
+            Ok(_) => {}
+            Err((fault, mut disk)) => {
+                stops = stops.saturating_add(1);
+                expect(&rt, fault == OpenFault::Device, calls);
+                disk.mend();
+                let left = bytes_of(alloc, &rt, &mut disk);
+                expect_state(alloc, &rt, left.as_slice(), Some(&state), calls);
+            }
+        }
+    }
+    assert!(rt; 4 < stops && stops < 64, "{stops}");
+}
+
+#[test]
+fn torn_while_carried_over(rt: HostRuntime) {
+    let alloc = rt.alloc();
+    let mut file = file_of_inputs(alloc, &rt);
+    let mut session = opened(alloc, &rt, disk_of(alloc, &rt, file.as_slice()));
+    // one state, before and after
+    let states = states_behind(alloc, &rt, &mut session, &[b""]);
+    let disk = NotingDisk::new(alloc, disk_of(alloc, &rt, file.as_slice()));
+    let notes = opened(alloc, &rt, disk).into_disk().into_notes();
+    let pace = Pace {
+        first: 0,
+        each: usize::MAX,
+    };
+    let images = tear_all(
+        alloc,
+        &rt,
+        file.as_mut_slice(),
+        notes.as_slice(),
+        states.as_slice(),
+        pace,
+    );
+    // 20 places of the snapshot, in 5 ways; the turn has 256 values
+    assert_eq!(rt; images, 5 * 20 + 256);
+}

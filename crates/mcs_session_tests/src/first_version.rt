@@ -1,0 +1,373 @@
+//! Sessions of version 1: the first opening carries them over.
+use crate::desk::{
+    done, expect_bytes, expect_refusal, expect_reply, expect_seq, leave, new_session, opened, poke,
+    run,
+};
+use crate::files::{
+    ALL_PLACES, BREAKPOINTS, FULL_LOG, File, HALF_A_JUMP, KEYS, MANY_CYCLES, ONE_REGISTER, SUM,
+    disk_of,
+};
+use mcs_bench::Bench;
+use mcs_disk::{FuseDisk, MemDisk};
+use mcs_journal::OpenFault;
+use mcs_model::command::{Command, Place, Reply};
+use mcs_model::stop::Stop;
+use mcs_nibble::{Addr, Bit};
+use mcs_session::session::Session;
+use std::alloc::Global;
+use std::process::Abort;
+
+const FIRST_SLOT: usize = 16;
+
+const FIRST_LOG: usize = 16_400;
+
+const SECOND_SLOT: usize = 81_936;
+
+const SECOND_LOG: usize = 98_320;
+
+/// What is asked of a bench: how many commands it has accepted; the accumulator, the carry, the counter and the cycles that are
+/// owed; the index registers.
+#[derive(Clone, Copy)]
+struct Told {
+    seq: u32,
+    processor: (u8, u8, u16, u8),
+    registers: [u8; 16],
+}
+
+fn expect_told(rt: &impl Abort, bench: &Bench, want: &Told) {
+    let regs = bench.regs();
+    assert_eq!(rt; bench.seq(), want.seq);
+    let processor = (regs.acc.get(), regs.cy.get(), regs.pc.get(), regs.owed);
+    assert_eq!(rt; processor, want.processor);
+    for (found, wanted) in regs.r.iter().zip(want.registers.iter()) {
+        assert_eq!(rt; found.get(), *wanted);
+    }
+    assert!(rt; bench.watches().is_empty());
+}
+
+/// Lamps of the worked board.
+fn expect_lamps(rt: &impl Abort, bench: &Bench, want: [Bit; 3]) {
+    for (i, level) in want.iter().enumerate() {
+        assert_eq!(rt; bench.lamp(i), Some(*level));
+    }
+    assert_eq!(rt; bench.lamp(3), None);
+}
+
+/// Opens a file of version 1, whose slot does not count any more then: the other one has a snapshot that begins so, in version 2,
+/// and an empty log. Opened again it tells the same.
+fn carried_over(
+    alloc: Global,
+    rt: &impl Abort,
+    file: &File,
+    snapshot: [u8; 9],
+    want: &Told,
+) -> Session<MemDisk> {
+    let was_second = file.runs.iter().any(|run| run.0 == 8);
+    let session = opened(alloc, rt, disk_of(alloc, rt, file));
+    expect_told(rt, session.bench(), want);
+    let mut disk = session.into_disk();
+    expect_bytes(rt, &mut disk, 0, b"MCS4BEN1");
+    let (turn, slot, log) = if was_second {
+        (0, FIRST_SLOT, FIRST_LOG)
+    } else {
+        (1, SECOND_SLOT, SECOND_LOG)
+    };
+    expect_bytes(rt, &mut disk, 8, &[turn, 0, 0, 0, 0, 0, 0, 0]);
+    expect_bytes(rt, &mut disk, slot, &snapshot);
+    expect_bytes(rt, &mut disk, log, &[0]);
+    let session = opened(alloc, rt, disk);
+    expect_told(rt, session.bench(), want);
+    session
+}
+
+#[test]
+fn one_register(rt: HostRuntime) {
+    let alloc = rt.alloc();
+    let mut want = Told {
+        seq: 1,
+        processor: (0, 0, 0, 0),
+        registers: [0; 16],
+    };
+    want.registers[5] = 9;
+    let snapshot = [0, 0, 0x1A, 0xA8, 0, 0, 0, 1, 2];
+    let mut session = carried_over(alloc, &rt, &ONE_REGISTER, snapshot, &want);
+    done(&rt, &mut session, &poke(&rt, 5, 3));
+    let mut disk = session.into_disk();
+    expect_bytes(&rt, &mut disk, SECOND_LOG, &[1, 0, 4, 7, 3, 5, 3, 0]);
+    expect_seq(alloc, &rt, disk, 2);
+}
+
+#[test]
+fn a_sum(rt: HostRuntime) {
+    let alloc = rt.alloc();
+    let mut want = Told {
+        seq: 5,
+        processor: (7, 1, 0x002, 0),
+        registers: [0; 16],
+    };
+    want.registers[2] = 8;
+    let snapshot = [0, 0, 0x1B, 0x3B, 0, 0, 0, 5, 2];
+    let mut session = carried_over(alloc, &rt, &SUM, snapshot, &want);
+    run(&rt, &mut session, 1);
+    want.seq = 6;
+    want.processor = (7, 1, 0x003, 0);
+    expect_told(&rt, session.bench(), &want);
+}
+
+#[test]
+fn keys_and_lamps(rt: HostRuntime) {
+    let alloc = rt.alloc();
+    let mut want = Told {
+        seq: 5,
+        processor: (6, 0, 0x00A, 0),
+        registers: [0; 16],
+    };
+    want.registers[0] = 1;
+    let snapshot = [0, 0, 0x1B, 0x3B, 0, 0, 0, 5, 2];
+    let mut session = carried_over(alloc, &rt, &KEYS, snapshot, &want);
+    expect_lamps(&rt, session.bench(), [Bit::ONE, Bit::ONE, Bit::ZERO]);
+    // two keys are down at once
+    run(&rt, &mut session, 1);
+    want.seq = 6;
+    want.processor = (15, 0, 0x00B, 0);
+    expect_told(&rt, session.bench(), &want);
+}
+
+#[test]
+fn half_a_jump(rt: HostRuntime) {
+    let alloc = rt.alloc();
+    let mut want = Told {
+        seq: 3,
+        processor: (0, 0, 0x123, 1),
+        registers: [0; 16],
+    };
+    let snapshot = [0, 0, 0x1B, 0x3B, 0, 0, 0, 3, 2];
+    let mut session = carried_over(alloc, &rt, &HALF_A_JUMP, snapshot, &want);
+    run(&rt, &mut session, 1);
+    want.seq = 4;
+    want.processor = (0, 0, 0x123, 0);
+    expect_told(&rt, session.bench(), &want);
+}
+
+#[test]
+fn breakpoints(rt: HostRuntime) {
+    let alloc = rt.alloc();
+    let want = Told {
+        seq: 7,
+        processor: (0, 0, 0x004, 0),
+        registers: [0; 16],
+    };
+    let snapshot = [0, 0, 0x1B, 0x3F, 0, 0, 0, 7, 2];
+    let mut session = carried_over(alloc, &rt, &BREAKPOINTS, snapshot, &want);
+    assert_eq!(rt;
+        session.bench().breaks(),
+        [Addr::ZERO, Addr::ZERO.plus(3)].as_slice()
+    );
+    let stopped = Reply::Ran {
+        cycles: 0,
+        stop: Stop::Outside,
+    };
+    expect_reply(&rt, &mut session, &Command::Step, stopped);
+    assert_eq!(rt; session.bench().seq(), 8);
+}
+
+#[test]
+fn a_snapshot_in_the_second_slot(rt: HostRuntime) {
+    let alloc = rt.alloc();
+    let mut want = Told {
+        seq: 9_363,
+        processor: (0, 0, 0x001, 0),
+        registers: [0; 16],
+    };
+    want.registers[0] = 2;
+    let snapshot = [0, 0, 0x1A, 0xA8, 0, 0, 0x24, 0x93, 2];
+    let mut session = carried_over(alloc, &rt, &FULL_LOG, snapshot, &want);
+    done(&rt, &mut session, &poke(&rt, 0, 3));
+    let mut disk = session.into_disk();
+    expect_bytes(&rt, &mut disk, FIRST_LOG, &[1, 0, 4, 7, 3, 0, 3, 0]);
+    expect_seq(alloc, &rt, disk, 9_364);
+}
+
+#[test]
+fn a_log_of_many_cycles(rt: HostRuntime) {
+    let alloc = rt.alloc();
+    let want = Told {
+        seq: 40,
+        processor: (0, 0, 0x8FF, 0),
+        registers: [0; 16],
+    };
+    let snapshot = [0, 0, 0x1A, 0xA8, 0, 0, 0, 0x28, 2];
+    let mut session = carried_over(alloc, &rt, &MANY_CYCLES, snapshot, &want);
+    let stepped = Reply::Ran {
+        cycles: 1,
+        stop: Stop::Ended,
+    };
+    expect_reply(&rt, &mut session, &Command::Step, stepped);
+    run(&rt, &mut session, 1);
+    assert_eq!(rt; session.bench().regs().pc.get(), 0x901);
+    let mut disk = session.into_disk();
+    expect_bytes(&rt, &mut disk, 8, &[1]);
+    expect_bytes(
+        &rt,
+        &mut disk,
+        SECOND_LOG,
+        &[1, 0, 1, 6, 1, 0, 5, 5, 0, 0, 0, 1, 0],
+    );
+    expect_seq(alloc, &rt, disk, 42);
+}
+
+#[test]
+fn all_places_of_a_snapshot(rt: HostRuntime) {
+    let alloc = rt.alloc();
+    let mut want = Told {
+        seq: 9_271,
+        processor: (15, 0, 0x123, 1),
+        registers: [0; 16],
+    };
+    want.registers[0] = 1;
+    want.registers[5] = 9;
+    want.registers[6] = 4;
+    let snapshot = [0, 0, 0x1B, 0x3D, 0, 0, 0x24, 0x37, 2];
+    let mut session = carried_over(alloc, &rt, &ALL_PLACES, snapshot, &want);
+    let bench = session.bench();
+    expect_lamps(&rt, bench, [Bit::ONE, Bit::ONE, Bit::ZERO]);
+    assert_eq!(rt; bench.breaks(), [Addr::ZERO.plus(0x200)].as_slice());
+    assert_eq!(rt; bench.test(), Bit::ZERO);
+    assert_eq!(rt; (bench.rom_src(), bench.ram_src(0)), (0x10, 0x10));
+    assert_eq!(rt; bench.ram(0, 0x10).get(), 15);
+    run(&rt, &mut session, 1);
+    // the instruction that reads the keys, once more
+    done(
+        &rt,
+        &mut session,
+        &Command::Poke(Place::Pc(Addr::ZERO.plus(9))),
+    );
+    run(&rt, &mut session, 1);
+    want.seq = 9_274;
+    want.processor = (6, 0, 0x00A, 0);
+    expect_told(&rt, session.bench(), &want);
+}
+
+/// A stop behind so many calls of the disk keeps the file of one register from opening. The disk is handed back then.
+fn stopped(alloc: Global, rt: &impl Abort, calls: usize) -> Option<FuseDisk> {
+    match Session::open(
+        alloc,
+        FuseDisk::after(disk_of(alloc, rt, &ONE_REGISTER), calls),
+    ) {
+        Ok(_) => None,
+        Err((fault, mut disk)) => {
+            assert_eq!(rt; fault, OpenFault::Device);
+            disk.mend();
+            Some(disk)
+        }
+    }
+}
+
+/// The session of one register is there.
+fn expect_register(alloc: Global, rt: &impl Abort, disk: FuseDisk) {
+    let session = opened(alloc, rt, disk);
+    assert_eq!(rt; session.bench().seq(), 1);
+    assert_eq!(rt; session.bench().regs().r[5].get(), 9);
+}
+
+#[test]
+fn a_stop_at_each_call(rt: HostRuntime) {
+    let alloc = rt.alloc();
+    let mut calls = 0usize;
+    for _ in 0..64 {
+        if stopped(alloc, &rt, calls).is_some() {
+            calls = calls.saturating_add(1);
+        }
+    }
+    assert!(rt; 4 < calls && calls < 64, "{calls}");
+    for call in 0..calls {
+        let Some(mut disk) = stopped(alloc, &rt, call) else {
+            panic!(rt; "the call {call} did not fail")
+        };
+        // the last four write the snapshot, sync it, write the turn, and sync it
+        let (length, turn) = match calls - call {
+            1 => ([0, 0, 0x1A, 0xA8], 1),
+            2 | 3 => ([0, 0, 0x1A, 0xA8], 0),
+            _ => ([0; 4], 0),
+        };
+        expect_bytes(&rt, &mut disk, SECOND_SLOT, &length);
+        expect_bytes(&rt, &mut disk, 8, &[turn]);
+        expect_register(alloc, &rt, disk);
+    }
+    // the turn may have been left as anything
+    for left in [0x7F, 0x40] {
+        let Some(mut disk) = stopped(alloc, &rt, calls - 2) else {
+            panic!(rt; "the turn was written")
+        };
+        leave(&rt, &mut disk, 8, &[left]);
+        expect_register(alloc, &rt, disk);
+    }
+}
+
+/// `watch 0 0`.
+const WATCH: [u8; 7] = [1, 0, 3, 12, 0, 0, 0];
+
+#[test]
+fn a_watch_is_of_version_2(rt: HostRuntime) {
+    let alloc = rt.alloc();
+    let first = File {
+        boards: &[],
+        runs: &[(FIRST_LOG, &WATCH, 1)],
+    };
+    expect_refusal(alloc, &rt, disk_of(alloc, &rt, &first), OpenFault::Damaged);
+    let mut disk = new_session(alloc, &rt).into_disk();
+    leave(&rt, &mut disk, FIRST_LOG, &WATCH);
+    let session = opened(alloc, &rt, disk);
+    assert_eq!(rt; session.bench().seq(), 1);
+    assert_eq!(rt; session.bench().watches(), [Addr::ZERO].as_slice());
+}
+
+/// A snapshot of version 1 of a board with a ROM and so many chains of so many chips, all 0 but TEST.
+fn with_chains(alloc: Global, rt: &impl Abort, count: u8, chips: u8) -> MemDisk {
+    let mut disk = disk_of(
+        alloc,
+        rt,
+        &File {
+            boards: &[],
+            runs: &[],
+        },
+    );
+    let (chains, bits) = (
+        usize::from(count),
+        usize::from(count) * usize::from(chips) * 10,
+    );
+    let length = 6_822 + 9 * chains + bits;
+    leave(
+        rt,
+        &mut disk,
+        18,
+        &[(length / 256 % 256) as u8, (length % 256) as u8],
+    );
+    leave(rt, &mut disk, 24, b"0000");
+    leave(rt, &mut disk, 96, &[count]);
+    for chain in 0..chains {
+        leave(
+            rt,
+            &mut disk,
+            97 + 9 * chain,
+            &[0, 0, 0, 0, 0, 0, 1, 0, chips],
+        );
+    }
+    leave(rt, &mut disk, 6_840, &[0]);
+    leave(rt, &mut disk, 6_840 + 9 * chains + bits, &[1]);
+    disk
+}
+
+#[test]
+fn chains_of_version_1_are_shorter_and_fewer(rt: HostRuntime) {
+    let alloc = rt.alloc();
+    expect_seq(alloc, &rt, with_chains(alloc, &rt, 2, 4), 0);
+    for (count, chips) in [(3, 1), (1, 5)] {
+        expect_refusal(
+            alloc,
+            &rt,
+            with_chains(alloc, &rt, count, chips),
+            OpenFault::Damaged,
+        );
+    }
+}
