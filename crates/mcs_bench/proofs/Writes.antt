@@ -1,5 +1,5 @@
 -- Which instructions change a RAM character, and which characters they change: WRM alone, and the selected one alone.
-use Rattle.std.proofs.Common.{◌≡◌, ◌≢◌, ℕ, ◌+◌, ◌-◌, ◌*◌, ◌/◌, ◌<◌, ◌≤◌, zero, suc, Bool, true, false, ◌||◌, ◌&&◌, not, cond, List, [], ◌∷◌, Option, Some, None, slice_index, slice_set, length, unwrap_or, inl, inr, refl, sym, ap, ◌∙◌, subst, arith, eqb, eq-eqb, nat_lt}
+use Rattle.std.proofs.Common.{◌≡◌, ◌≢◌, ℕ, ◌+◌, ◌*◌, ◌/◌, ◌<◌, ◌≤◌, zero, suc, Bool, true, false, ◌||◌, ◌&&◌, not, cond, List, [], ◌∷◌, Option, Some, None, slice_index, slice_set, length, unwrap_or, inl, inr, refl, sym, ap, ◌∙◌, arith, eqb, eq-eqb, nat_lt}
 use Rattle.std.proofs.lemmas.Bool.{cases_eq}
 use Rattle.std.proofs.lemmas.List.{get_or-set_other, get_or-set_same, set-get_or}
 use Rattle.std.proofs.lemmas.Bool.Decides.{nat_tests}
@@ -7,16 +7,14 @@ use Rattle.mcs_model.specs.declared.regs.Regs.{Regs}
 use Rattle.mcs_model.specs.declared.op.Op.{Op}
 use Rattle.mcs_model.specs.declared.op.Op.TheVariants.{Nop, Jcn, Fim, Src, Fin, Jin, Jun, Jms, Inc, Isz, Add, Sub, Ld, Xch, Bbl, Ldm, Wrm, Wmp, Wrr, Wr0, Wr1, Wr2, Wr3, Sbm, Rdm, Rdr, Adm, Rd0, Rd1, Rd2, Rd3, Clb, Clc, Iac, Cmc, Cma, Ral, Rar, Tcc, Dac, Tcs, Stc, Daa, Kbp, Dcl}
 use Rattle.mcs_nibble.specs.declared.lines.LineMask.{LineMask}
-use Rattle.mcs_nibble.specs.Ports.{latch_value}
 use Rattle.std.specs.List.{list_all, range_with_len}
 use Rattle.mcs_model.specs.Table.{decoded, row_of}
 use Rattle.mcs_model.specs.Boards.{masks_on}
 use Rattle.mcs_model.specs.Bus.{BusState, after_src, after_ram, after_status, src_of, wired_of, has_chip}
-use Rattle.mcs_model.specs.Levels.{after_ram_port, after_rom_port, chains_clocked, clock_levels, with_rom_latch}
+use Rattle.mcs_model.specs.Levels.{after_ram_port, after_rom_port, chains_clocked}
 use Rattle.mcs_model.specs.Effect.{cycle_of, effect, bus_after, instruction_at}
-use Rattle.mcs_model.specs.Running.{Machine, Turned, cycled, has_changed, is_outside}
+use Rattle.mcs_model.specs.Running.{Machine, cycled, has_changed}
 use Rattle.mcs_model.specs.Breakpoints.{is_breakpoint}
-use Rattle.mcs_bench.specs.Runs.{Seen}
 
 either-ram : (b : Bool) (x y : BusState) (ram : List ℕ) → x.ram ≡ ram → y.ram ≡ ram → (cond b x y).ram ≡ ram
 either-ram true x y ram e f = e

@@ -1,7 +1,6 @@
 -- The board with its mark, the watches, and that the versions differ.
 use Rattle.std.proofs.Common.{◌≡◌, ℕ, ◌≤◌, Bool, true, false, cond, eqb, List, [], ◌∷◌, ◌++◌, ◌^◌, ◌<◌, length, Option, Some, None, refl, sym, ap, subst, ◌∙◌, append_assoc, arith}
 use Rattle.std.specs.List.{flat_map, AllByRecursion}
-use Rattle.std.specs.Int.{w32, to_be_bytes}
 use Rattle.std.proofs.lemmas.Bool.{eqb-true}
 use Rattle.mcs_nibble.specs.declared.lines.LineMask.{LineMask}
 use Rattle.mcs_nibble.specs.declared.lines.LineMask.TheVariants.{Input, Zero, One}
@@ -12,7 +11,6 @@ use Rattle.mcs_version1.specs.Boards.{is_small}
 use Rattle.mcs_codec.specs.Reading.{giving, only}
 use Rattle.mcs_codec.specs.BoardText.{mask_byte, rom_text, board_text}
 use Rattle.mcs_codec.specs.BoardReading.{board_at}
-use Rattle.mcs_codec.specs.CommandText.{address}
 use Rattle.mcs_codec.specs.Marked.{marked_text, is_marked, marked_at, watches_text, watches_at}
 use Rattle.mcs_codec.specs.Codec.{version_told}
 use Rattle.mcs_codec.proofs.Codecs.{IsCodec, IsBytes, IsBytes-rest, giving_some, counted_codec, only_codec, word_codec}

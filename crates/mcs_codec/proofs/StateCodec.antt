@@ -19,7 +19,7 @@ use Rattle.mcs_version1.specs.Validity.{IsValid1}
 use Rattle.mcs_version1.proofs.Limits.{small-then, valid-now, valid-then}
 use Rattle.mcs_codec.specs.StateText.{text_by}
 use Rattle.mcs_codec.specs.StateReading.{memory_at, registers_at, sources_at, rows_at, breakpoints_at, wiring_at, state_at}
-use Rattle.mcs_codec.specs.Codec.{SpellsState, SpellsState1, SpellsLifted, SpellsStateBy, version_of, is_first}
+use Rattle.mcs_codec.specs.Codec.{SpellsStateBy, version_of, is_first}
 use Rattle.mcs_codec.proofs.Codecs.{AreCells, IsCodec, IsBytes, IsBytes-behind, bind_some, giving_some, byte_codec, bytes_codec, word_codec, long_codec, both_codec, depending_codec, many_codec, counted_codec, giving_codec, whole_takes, whole_again}
 use Rattle.mcs_codec.proofs.MarkedCodec.{FitsWatches, marked_codec, watches_codec, board-begins}
 

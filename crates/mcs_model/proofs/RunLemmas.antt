@@ -5,7 +5,7 @@ use Rattle.std.proofs.Math.Nat.{add-suc}
 use Rattle.std.proofs.lemmas.Bool.{eqb-true, cases_eq}
 use Rattle.std.proofs.lemmas.Bool.Decides.{nat_tests}
 use Rattle.mcs_model.specs.declared.regs.Regs.{Regs}
-use Rattle.mcs_model.specs.declared.stop.Stop.TheVariants.{Outside, Breakpoint, Watched, Ended}
+use Rattle.mcs_model.specs.declared.stop.Stop.TheVariants.{Outside, Breakpoint, Ended}
 use Rattle.mcs_model.specs.Bus.{BusState}
 use Rattle.mcs_model.specs.Effect.{cycle_of, effect, instruction_at}
 use Rattle.mcs_model.specs.declared.op.Op.{Op}

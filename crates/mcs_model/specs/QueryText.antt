@@ -4,7 +4,6 @@ use Rattle.std.specs.Fmt.{decimal}
 use Rattle.std.specs.List.{flat_map, join_by, join_with_byte, range_with_len}
 use Rattle.mcs_model.specs.declared.query.Query.{Query}
 use Rattle.mcs_model.specs.declared.query.Query.TheVariants.{Lamps, Regs, Ram, Breaks, Watches, Ports, Seq}
-use Rattle.mcs_model.specs.declared.board.KeyMatrix.{KeyMatrix}
 use Rattle.mcs_model.specs.declared.limits.TheConstants.{BANKS, ROMS}
 use Rattle.mcs_model.specs.Boards.{chain_bits, chain_count, key_place, masks_on}
 use Rattle.mcs_model.specs.Bus.{BusState, wired_of}

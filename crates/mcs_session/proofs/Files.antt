@@ -100,8 +100,7 @@ first_replays first [] (c ∷ cs) h = absurd h
 first_replays first (r ∷ rs) [] h = absurd h
 first_replays first (r ∷ rs) (c ∷ cs) h =
     let lifts = command-lifts first c h.0.1 in
-    let rest = first_replays (after_1 first c) rs cs (h.2) in
-    (
+    let rest = first_replays (after_1 first c) rs cs (h.2) in (
       (h.0, lifts.refusal ∙ h.1, subst (λ (x : Flat). Replays true x rs cs) lifts.after rest.0),
       ap (λ (x : Flat). fold x cs) (sym lifts.after) ∙ rest.1,
     )

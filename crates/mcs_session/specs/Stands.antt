@@ -1,6 +1,6 @@
 -- What a session file stands for, and what it has room for. Where a definition takes a Boolean first, that is true where the
 -- snapshot and the records are of version 1; what they stand for is then what version 2 makes of them.
-use Rattle.std.specs.Prelude.{◌≡◌, ◌⊎◌, ◌+◌, ◌≤◌, ℕ, Bool, true, false, List, [], ◌∷◌, None, length}
+use Rattle.std.specs.Prelude.{◌≡◌, ◌⊎◌, ◌+◌, ◌≤◌, ℕ, Bool, false, List, [], ◌∷◌, None, length}
 use Rattle.mcs_codec.specs.Codec.{SpellsBy, SpellsState, SpellsStateBy}
 use Rattle.mcs_codec.specs.CommandText.{command_text}
 use Rattle.mcs_disk.specs.Disk.{DiskState}

@@ -87,5 +87,9 @@ pub(crate) fn replay(
         cycles += more;
         at += 1;
     }
-    Ok(Some(Replayed { bench, cycles, first }))
+    Ok(Some(Replayed {
+        bench,
+        cycles,
+        first,
+    }))
 }

@@ -124,11 +124,15 @@ impl<D: Disk + Drop> Session<D> {
                     records,
                 },
             ) => match replay(alloc, snap.bytes(), &records) {
-                Ok(Some(Replayed {
-                    bench,
-                    cycles,
-                    first,
-                })) => {
+                Ok(
+                    Some(
+                        Replayed {
+                            bench,
+                            cycles,
+                            first,
+                        },
+                    ),
+                ) => {
                     let log = CommandLog {
                         store,
                         cycles,
@@ -213,7 +217,11 @@ impl<D: Disk + Drop> Session<D> {
 
 /// The session of a log that was replayed, of version 1 where `first` is true: a snapshot of the bench then takes the place of
 /// all that the disk holds.
-fn begin<D: Disk + Drop>(mut log: CommandLog<D>, bench: Bench, first: bool) -> Result<Session<D>, (OpenFault, D)>
+fn begin<D: Disk + Drop>(
+    mut log: CommandLog<D>,
+    bench: Bench,
+    first: bool,
+) -> Result<Session<D>, (OpenFault, D)>
     requires live { IsTrue log.store.live }
     requires ready { IsReady log.cycles log.text.items log.snapshot.items }
     requires recorded { first ≡ false → (D.state log.store.disk).honest → IsRecorded (D.state log.store.disk) log.cycles bench }

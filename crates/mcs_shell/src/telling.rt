@@ -10,7 +10,9 @@ use std::io;
 pub fn tell_usage(rt: &HostRuntime) -> io::Result<()> {
     eprintln!(rt; "usage: mcs4 new FILE or mcs4 open FILE")?;
     eprintln!(rt; "manual: docs/MANUAL.md in the folder that mcs4 was built in")?;
-    eprintln!(rt; "version: mcs4 2.0, session files MCS4BEN1 of version 2; those of version 1 are carried over")
+    eprintln!(rt;
+        "version: mcs4 2.0, session files MCS4BEN1 of version 2; those of version 1 are carried over"
+    )
 }
 
 /// A line on a refused session: what is wrong with its file, and what to do.

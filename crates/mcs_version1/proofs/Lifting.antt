@@ -1,17 +1,13 @@
 -- Each command and each query in turn.
-use Rattle.std.proofs.Common.{◌≡◌, List, [], ◌∷◌, Bool, true, false, cond, refl, ap, ◌∙◌, Option, Some, None, IsTrue, eqb}
+use Rattle.std.proofs.Common.{◌≡◌, List, [], ◌∷◌, refl, ap, ◌∙◌, IsTrue}
 use Rattle.mcs_model.specs.declared.command.Command.{Command}
 use Rattle.mcs_model.specs.declared.command.Command.TheVariants.{Wire, Load, Press, Release, Run, Step, Poke, Test, Reset, Break, Unbreak, Watch, Unwatch}
-use Rattle.mcs_model.specs.declared.command.Place.{Place}
 use Rattle.mcs_model.specs.declared.command.Place.TheVariants.{Acc, Cy, Pc, Register, Dcl, Rom, Ram, Status}
-use Rattle.mcs_model.specs.declared.refusals.BenchFault.TheVariants.{Worn}
-use Rattle.mcs_model.specs.declared.limits.TheConstants.{ACCEPTED_COMMANDS}
-use Rattle.mcs_model.specs.Command.{own_refusal, changed, after, with_place}
 use Rattle.mcs_model.specs.Fold.{fold}
-use Rattle.mcs_version1.specs.Command.{in_version_1, own_refusal_1, changed_1, with_place_1, after_1}
+use Rattle.mcs_version1.specs.Command.{in_version_1, after_1}
 use Rattle.mcs_version1.specs.Flat.{Flat1}
 use Rattle.mcs_version1.specs.Fold.{fold_1, AreAccepted1}
-use Rattle.mcs_version1.specs.Lift.{lift, IsLifted, lift_query, CommandsLift}
+use Rattle.mcs_version1.specs.Lift.{lift, IsLifted, lift_query}
 use Rattle.mcs_version1.specs.QueryText.{Query1, text_1, Lamps, Regs, Ram, Breaks, Seq}
 use Rattle.mcs_model.specs.QueryText.{text}
 

@@ -1,5 +1,5 @@
 -- The boards of version 1 are the small ones.
-use Rattle.std.proofs.Common.{◌≡◌, ℕ, ◌*◌, ◌+◌, ◌<◌, ◌≤◌, Bool, true, false, not, ◌&&◌, ◌||◌, cond, List, [], ◌∷◌, length, get_or, Option, Some, None, refl, sym, ap, ◌∙◌, arith, nat_lt, nat_le, inl, inr, zero, suc, ◌↔◌}
+use Rattle.std.proofs.Common.{◌≡◌, ℕ, ◌*◌, ◌+◌, ◌<◌, ◌≤◌, Bool, true, false, not, ◌&&◌, ◌||◌, cond, List, [], ◌∷◌, length, get_or, Option, Some, None, refl, ap, arith, nat_lt, nat_le, inl, inr, zero, suc}
 use Rattle.std.specs.List.{list_any}
 use Rattle.std.proofs.lemmas.Bool.{ltb-true, lt-ltb, leb-true, le-leb, cases_lt}
 use Rattle.std.proofs.lemmas.Bool.Decides.{nat_tests}
@@ -10,9 +10,9 @@ use Rattle.mcs_model.specs.declared.board.KeyMatrix.{KeyMatrix}
 use Rattle.mcs_model.specs.declared.board.Line.{Line}
 use Rattle.mcs_model.specs.declared.board.Line.TheVariants.{Rom, Ram, Chain}
 use Rattle.mcs_model.specs.declared.limits.TheConstants.{BANK_CHIPS, CHAINS, CHAIN_CHIPS, CHAIN_BITS, KEY_ROWS}
-use Rattle.mcs_model.specs.Boards.{any_line, any_chain_line, any_column, any_lamp, lacks_line, lacks_rows, exists_on, chain_bits, chain_part, chain_count, no_chain, has_bad_matrix, has_bad_value, has_wrong_direction, in_range, is_chain_size, is_matrix_size, fault_of}
+use Rattle.mcs_model.specs.Boards.{any_line, any_chain_line, any_column, any_lamp, lacks_line, lacks_rows, exists_on, chain_bits, chain_part, chain_count, no_chain, has_bad_matrix, has_bad_value, has_wrong_direction, in_range, is_chain_size, is_matrix_size}
 use Rattle.mcs_model.specs.Validity.{IsValidBoard}
-use Rattle.mcs_version1.specs.Boards.{in_range_1, is_chain_size_1, is_matrix_size_1, has_bad_matrix_1, has_bad_value_1, fault_of_1, is_small, IsValidBoard1}
+use Rattle.mcs_version1.specs.Boards.{in_range_1, is_chain_size_1, is_matrix_size_1, has_bad_matrix_1, has_bad_value_1, is_small, IsValidBoard1}
 
 -- ---- tests
 
@@ -82,10 +82,10 @@ line-within b s (Chain n i) there fits =
     let here : i < 10 * (chain_part b n).chips = ltb-true _ _ (not-false _ there) in
     let short = short-chain b n s in
     let inside : n < 2 =
-        elim (cases_lt n (length b.chains.items)) [
-          | inl lt ↦ omega arith
-          | inr ge ↦ absurd (let none : (chain_part b n).chips ≡ 0 = ap (λ (c : ChainPart). c.chips) (beyond b.chains.items n ge) in omega arith)
-        ] in
+    elim (cases_lt n (length b.chains.items)) [
+      | inl lt ↦ omega arith
+      | inr ge ↦ absurd (let none : (chain_part b n).chips ≡ 0 = ap (λ (c : ChainPart). c.chips) (beyond b.chains.items n ge) in omega arith)
+    ] in
     let a : nat_lt n 2 ≡ true = lt-ltb _ _ inside in
     let c : nat_lt i 40 ≡ true = lt-ltb _ _ (omega arith) in
     rw (a, c) refl

@@ -1,5 +1,5 @@
 -- Version 1 of what a bench tells of its state.
-use Rattle.std.specs.Prelude.{ℕ, List, ◌∷◌, ◌++◌, map, codes, slice_index}
+use Rattle.std.specs.Prelude.{ℕ, List, ◌++◌, map, codes, slice_index}
 use Rattle.std.specs.Fmt.{decimal}
 use Rattle.std.specs.List.{join_by, join_with_byte}
 use Rattle.mcs_model.specs.Levels.{level}

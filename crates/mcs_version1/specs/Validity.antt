@@ -1,5 +1,5 @@
 -- Version 1 of the states that a bench can be in.
-use Rattle.std.specs.Prelude.{◌≡◌, ◌≤◌}
+use Rattle.std.specs.Prelude.{◌≤◌}
 use Rattle.mcs_model.specs.declared.limits.TheConstants.{ACCEPTED_COMMANDS}
 use Rattle.mcs_model.specs.Bus.{BusState}
 use Rattle.mcs_model.specs.Validity.{IsValidRegs, IsInRange, IsAbsentZero, AreBreakpoints}

@@ -1,4 +1,4 @@
-use Rattle.std.proofs.Common.{◌≡◌, ◌∙◌, ◌<◌, ◌/◌, ◌%◌, ℕ, List, ap, arith, length, length-take-le, take, get_or}
+use Rattle.std.proofs.Common.{◌≡◌, ◌∙◌, ◌/◌, ◌%◌, ℕ, List, ap, arith, length, length-take-le, take, get_or}
 use Rattle.mcs_model.specs.Breakpoints.{with_breakpoint}
 use Rattle.mcs_model.specs.Command.{watch_place}
 use Rattle.mcs_bench.proofs.Marks.{with-next, room-of}

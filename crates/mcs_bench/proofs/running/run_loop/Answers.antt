@@ -1,8 +1,7 @@
-use Rattle.std.proofs.Common.{◌≡◌, ◌≢◌, ℕ, ◌<◌, ◌-◌, ◌∙◌, ◌&&◌, true, false, Some, None, Option, sym, ap, subst, arith, eqb}
+use Rattle.std.proofs.Common.{◌≡◌, ◌≢◌, ℕ, ◌<◌, ◌-◌, ◌∙◌, ◌&&◌, false, Some, None, sym, ap, subst, arith, eqb}
 use Rattle.mcs_model.specs.Breakpoints.{is_breakpoint}
 use Rattle.mcs_bench.specs.Runs.{RanOn, mark_of}
 use Rattle.mcs_model.specs.declared.regs.Regs.{Regs}
-use Rattle.mcs_model.specs.declared.stop.Stop.{Stop}
 use Rattle.mcs_model.specs.Running.{Machine, Stops}
 use Rattle.mcs_bench.proofs.Runs.{Keeps, starts, starts-begun, begun-marks, left-marks, left-goes, watched-at}
 use Rattle.mcs_bench.proofs.running.run_loop.Goals as goal

@@ -1,4 +1,4 @@
-use Rattle.std.proofs.Common.{◌≡◌, false, refl, sym, subst, List, ℕ, []}
+use Rattle.std.proofs.Common.{false, refl, sym, subst, List, ℕ}
 use Rattle.mcs_model.specs.Running.{Machine}
 use Rattle.mcs_bench.specs.Runs.{Seen}
 use Rattle.mcs_bench.proofs.Runs.{nothing-seen, told-seen}

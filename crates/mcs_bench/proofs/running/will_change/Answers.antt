@@ -1,11 +1,9 @@
-use Rattle.std.proofs.Common.{◌≡◌, ◌≢◌, ◌∙◌, ◌+◌, ◌%◌, ◌*◌, ◌/◌, ◌<◌, ℕ, List, Some, true, false, eqb, nat_lt, inl, refl, sym, ap, slice_index, length, arith}
+use Rattle.std.proofs.Common.{◌≡◌, ◌∙◌, ◌+◌, ◌%◌, ◌*◌, ◌/◌, ◌<◌, false, eqb, nat_lt, inl, refl, sym, ap, slice_index, length, arith}
 use Rattle.std.proofs.lemmas.Bool.{eqb-true}
 use Rattle.mcs_model.specs.declared.regs.Regs.{Regs}
 use Rattle.mcs_model.specs.declared.board.BoardParts.{BoardParts}
-use Rattle.mcs_model.specs.declared.op.Op.TheVariants.{Wrm}
 use Rattle.mcs_model.specs.Breakpoints.{is_breakpoint}
 use Rattle.mcs_model.specs.Bus.{fetch_of, has_chip, src_of}
-use Rattle.mcs_model.specs.Effect.{instruction_at}
 use Rattle.mcs_model.specs.Running.{Machine}
 use Rattle.mcs_bench.specs.Runs.{selected}
 use Rattle.mcs_bench.proofs.Writes.{code-writes, only-code}

@@ -1,4 +1,4 @@
-use Rattle.std.proofs.Common.{ℕ, sym, subst}
+use Rattle.std.proofs.Common.{sym, subst}
 use Rattle.mcs_session.specs.Invariant.{IsRecorded}
 use Rattle.mcs_session.proofs.Files.{recorded_new}
 use Rattle.mcs_session.proofs.session.begin.Goals as goal

@@ -2,7 +2,7 @@ use Rattle.mcs_disk.proofs.Composing.{changes_map}
 use Rattle.mcs_journal.specs.File.{Holds}
 use Rattle.mcs_session.specs.Stands.{HoldsState}
 use Rattle.mcs_session.proofs.recording.CommandLog.checkpoint.Goals as goal
-use Rattle.std.proofs.Common.{List, ℕ, [], ◌≡◌}
+use Rattle.std.proofs.Common.{List, ℕ}
 
 pub returns-in-Err-clause-replaces : goal.returns-in-Err-clause-replaces
 returns-in-Err-clause-replaces g c = λ honest snap records held.

@@ -1,7 +1,3 @@
-use Rattle.std.proofs.Common.{rules, ◌≡◌, Bool, false, subst, sym}
-use Rattle.mcs_model.specs.Flat.{Flat}
-use Rattle.mcs_session.specs.Answers.{OpensSession}
-use Rattle.mcs_session.specs.Invariant.{IsReplayed}
 use Rattle.mcs_session.proofs.Files.{counts_both, failed_by, held_on, left_store, opened_by, recorded_by, refused_by, refuses_pair, refuses_store}
 use Rattle.mcs_session.proofs.session.Session.open.Goals as goal
 
