@@ -124,6 +124,7 @@ fn a_file_of_version_1_is_carried_over(rt: HostRuntime) -> Result<(), Fail> {
     let wanted: &[u8] =
         b"session 1\nacc 0 cy 0 pc 000 owed 0 dcl 0 test 1 r 0000090000000000 ret 000 000 000\n";
     assert_eq!(rt; writer.as_slice(), wanted);
+    drop(session);
     // the first slot is as it was, and the second has a snapshot of version 2
     let left = fs::read(&rt, path)?;
     assert_eq!(rt; left.get(8), Some(&1));
