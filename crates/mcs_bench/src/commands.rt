@@ -112,7 +112,7 @@ impl Bench {
     ///
     /// `Worn` where as many commands were accepted as can be counted; else `NoKey` for a key that the board lacks,
     /// `NoRom` for an address in a ROM that it lacks, `NoSuchPlace` for a RAM chip that it lacks, `BadCount` for a run of
-    /// no cycle or of more than 100,000, `BreaksFull` for one breakpoint more than 32.
+    /// no cycle or of more than 100,000, `BreaksFull` for one breakpoint more than 32, `WatchesFull` for one watch more than 8.
     pub fn check(&self, command: &Command) -> Result<(), BenchFault>
         ensures { MatchOption (refusal self.now command.now) (IsOk result) (λ fault. result ≡ Err fault) }
     {
