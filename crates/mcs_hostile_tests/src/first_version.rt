@@ -173,6 +173,18 @@ fn opened_and_told(rt: HostRuntime) {
     }
 }
 
+/// The file that a stop behind so many calls of the disk leaves, where it keeps a file from opening.
+fn left_by_a_stop(alloc: Global, rt: &impl Abort, file: &[u8], calls: usize) -> Option<Vec<u8>> {
+    match Session::open(alloc, FuseDisk::after(disk_of(alloc, rt, file), calls)) {
+        Ok(_) => None,
+        Err((fault, mut disk)) => {
+            expect(rt, fault == OpenFault::Device, calls);
+            disk.mend();
+            Some(bytes_of(alloc, rt, &mut disk))
+        }
+    }
+}
+
 #[test]
 fn stopped_at_each_call_of_opening(rt: HostRuntime) {
     let alloc = rt.alloc();
@@ -182,18 +194,9 @@ fn stopped_at_each_call_of_opening(rt: HostRuntime) {
     };
     let mut stops = 0usize;
     for calls in 0..64usize {
-        match Session::open(
-            alloc,
-            FuseDisk::after(disk_of(alloc, &rt, file.as_slice()), calls),
-        ) {
-            Ok(_) => {}
-            Err((fault, mut disk)) => {
-                stops = stops.saturating_add(1);
-                expect(&rt, fault == OpenFault::Device, calls);
-                disk.mend();
-                let left = bytes_of(alloc, &rt, &mut disk);
-                expect_state(alloc, &rt, left.as_slice(), Some(&state), calls);
-            }
+        if let Some(left) = left_by_a_stop(alloc, &rt, file.as_slice(), calls) {
+            stops = stops.saturating_add(1);
+            expect_state(alloc, &rt, left.as_slice(), Some(&state), calls);
         }
     }
     assert!(rt; 4 < stops && stops < 64, "{stops}");
