@@ -2,7 +2,6 @@
 use Rattle.std.specs.Prelude.{◌==◌, ◌&&◌, Bool, ℕ, List, [], ◌∷◌, codes, nat_lt, is_some, if◌then◌else◌, Option, Some, None}
 use Rattle.std.specs.List.{list_all}
 use Rattle.std.specs.Str.{bytes_eq}
-use Rattle.mcs_model.specs.declared.limits.TheConstants.{LISTING_LINES}
 use Rattle.mcs_model.specs.Numerals.{number_written, number_up_to}
 use Rattle.mcs_model.specs.declared.command.Command.TheVariants.{Press, Release, Run, Step, Poke, Test, Reset, Break, Unbreak, Watch, Unwatch}
 use Rattle.mcs_model.specs.declared.command.Place.{Place}
@@ -110,7 +109,7 @@ listing at lines = if nat_lt 0 lines then Ask (Listing at lines) else Refused Ba
 
 -- `list`
 abbrev pub list_of : List ℕ → List ℕ → Request
-list_of a n = with_number 4095 a (λ at. with_number LISTING_LINES n (λ lines. listing at lines))
+list_of a n = with_number 4095 a (λ at. with_number 256 n (λ lines. listing at lines))
 
 -- a line of three words
 abbrev pub request_with_two : List ℕ → List ℕ → List ℕ → Request
