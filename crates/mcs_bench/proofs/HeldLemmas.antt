@@ -5,13 +5,13 @@ use Rattle.std.proofs.lemmas.Bool.{cases_lt}
 use Rattle.std.proofs.lemmas.Bool.Decides.{nat_tests}
 use Rattle.mcs_nibble.specs.declared.lines.LineMask.{LineMask}
 use Rattle.mcs_model.specs.Boards.{masks_on}
-use Rattle.mcs_model.specs.Bus.{BusState}
+use Rattle.mcs_model.specs.Bus.{BusState, with_ram, with_status}
 use Rattle.mcs_model.specs.declared.board.BoardParts.{BoardParts}
 use Rattle.mcs_model.specs.Levels.{with_rom_latch}
 use Rattle.mcs_nibble.specs.Ports.{latch_value}
 use Rattle.mcs_nibble.proofs.PortLemmas.{latch_value-zero}
 use Rattle.std.proofs.lemmas.List.{get_or_past}
-use Rattle.mcs_model.specs.Places.{with_rom_port, with_rom_byte, with_ram, with_status, with_ram_port, with_ram_src}
+use Rattle.mcs_model.specs.Places.{with_rom_port, with_rom_byte, with_ram_port, with_ram_src}
 use Rattle.mcs_model.specs.Validity.{IsInRange, IsAbsentZero}
 use Rattle.mcs_bench.specs.declared.held.Held.{Held}
 use Rattle.mcs_bench.specs.declared.held.Held.TheVariants.{RomBytes, Characters, StatusCharacters, RamPorts, BankSrcs}

@@ -10,7 +10,7 @@ use Rattle.mcs_nibble.specs.declared.lines.LineMask.{LineMask}
 use Rattle.std.specs.List.{list_all, range_with_len}
 use Rattle.mcs_model.specs.Table.{decoded, row_of}
 use Rattle.mcs_model.specs.Boards.{masks_on}
-use Rattle.mcs_model.specs.Bus.{BusState, after_src, after_ram, after_status, src_of, wired_of, has_chip}
+use Rattle.mcs_model.specs.Bus.{BusState, after_src, after_ram, after_status, src_of, wired_of, has_chip, with_ram, with_status}
 use Rattle.mcs_model.specs.Levels.{after_ram_port, after_rom_port, chains_clocked}
 use Rattle.mcs_model.specs.Effect.{cycle_of, effect, bus_after, instruction_at}
 use Rattle.mcs_model.specs.Running.{Machine, cycled, has_changed}
@@ -25,8 +25,8 @@ unfolding after_src
 src-keeps m bank byte = either-ram (nat_lt 0 (wired_of m bank)) _ _ m.ram refl refl
 
 status-keeps : (m : BusState) (bank k n : ℕ) → (after_status m bank k n).ram ≡ m.ram
-unfolding after_status
-status-keeps m bank k n = either-ram (has_chip m bank (src_of m bank)) _ _ m.ram refl refl
+unfolding after_status with_status
+status-keeps m bank k n = either-ram (nat_lt (src_of m bank / 16 / 4) (wired_of m bank)) _ _ m.ram refl refl
 
 ram-port-keeps : (m : BusState) (bank n : ℕ) → (after_ram_port m bank n).ram ≡ m.ram
 unfolding after_ram_port chains_clocked
@@ -142,7 +142,7 @@ place-of false m place n w ne = refl
 
 -- a write changes no other place than the selected one
 pub write-others : (m : BusState) (bank n w : ℕ) → w ≢ bank * 256 + src_of m bank → slice_index m.ram w ≡ slice_index (after_ram m bank n).ram w
-unfolding after_ram
+unfolding after_ram with_ram
 write-others m bank n w ne = place-of (has_chip m bank (src_of m bank)) m (bank * 256 + src_of m bank) n w ne
 
 -- ---- the code of WRM
@@ -196,14 +196,14 @@ written-there true m place n e = ap (λ v. slice_index (slice_set m.ram place v)
 written-there false m place n e = e
 
 pub lost-write : (m : BusState) (bank n : ℕ) → has_chip m bank (src_of m bank) ≡ false → (after_ram m bank n).ram ≡ m.ram
-unfolding after_ram
+unfolding after_ram with_ram
 lost-write m bank n off = rw off refl
 
 -- a value that is there already
 pub same-write : (m : BusState) (bank n : ℕ) → slice_index m.ram (bank * 256 + src_of m bank) ≡ n → slice_index (after_ram m bank n).ram (bank * 256 + src_of m bank) ≡ n
-unfolding after_ram
+unfolding after_ram with_ram
 same-write m bank n e = written-there (has_chip m bank (src_of m bank)) m (bank * 256 + src_of m bank) n e
 
 pub new-write : (m : BusState) (bank n : ℕ) → has_chip m bank (src_of m bank) ≡ true → bank * 256 + src_of m bank < length m.ram → slice_index (after_ram m bank n).ram (bank * 256 + src_of m bank) ≡ n
-unfolding after_ram
+unfolding after_ram with_ram
 new-write m bank n on l = rw on (get_or-set_same m.ram (bank * 256 + src_of m bank) n 0 l)

@@ -3,7 +3,7 @@ ghost use Rattle.std.specs.Prelude.{◌≡◌, ◌+◌, ◌*◌, ◌<◌, ◌≤
 ghost use Rattle.std.specs.List.Sorted.{IsStrictlyIncreasing};
 ghost use Rattle.mcs_model.specs.Boards.{has_key, key_place};
 ghost use Rattle.mcs_model.specs.Levels.{chain_bit, level, port_at};
-ghost use Rattle.mcs_model.specs.Places.{status_at};
+ghost use Rattle.mcs_model.specs.Bus.{status_at};
 ghost use Rattle.mcs_model.specs.Validity.{AreWatches};
 
 use crate::bench::Bench;

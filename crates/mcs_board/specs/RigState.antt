@@ -11,8 +11,8 @@ use Rattle.mcs_keypad.specs.Keys.{KeyState, no_matrix}
 use Rattle.mcs_model.specs.declared.board.BoardParts.{BoardParts}
 use Rattle.mcs_model.specs.declared.board.KeyMatrix.{KeyMatrix}
 use Rattle.mcs_model.specs.Boards.{masks_on, chain_count, chain_bits, key_count}
-use Rattle.mcs_model.specs.Bus.{BusState}
-use Rattle.mcs_model.specs.Places.{with_ram, with_status, with_ram_port, with_ram_src}
+use Rattle.mcs_model.specs.Bus.{BusState, with_ram, with_status}
+use Rattle.mcs_model.specs.Places.{with_ram_port, with_ram_src}
 
 -- what is read where a bank, or a ROM, is absent: nothing but 0
 abbrev pub no_bank : BankState

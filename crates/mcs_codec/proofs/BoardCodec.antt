@@ -12,8 +12,9 @@ use Rattle.mcs_model.specs.declared.limits.TheConstants.{CHAINS}
 use Rattle.mcs_model.specs.Boards.{fault_of}
 use Rattle.mcs_codec.specs.Reading.{giving, four_at}
 use Rattle.mcs_model.specs.Validity.{IsValidBoard}
-use Rattle.mcs_codec.specs.BoardText.{mask_byte, rom_text, line_text, chain_text, counted, keys_text, board_text}
-use Rattle.mcs_codec.specs.BoardReading.{mask_of, rom_of, rom_at, line_of, line_at, chain_at, keys_at, matrix_at, parts_at, board_at}
+use Rattle.mcs_nibble.specs.Ports.{mask_character, mask_of}
+use Rattle.mcs_codec.specs.BoardText.{rom_text, line_text, chain_text, counted, keys_text, board_text}
+use Rattle.mcs_codec.specs.BoardReading.{rom_of, rom_at, line_of, line_at, chain_at, keys_at, matrix_at, parts_at, board_at}
 use Rattle.mcs_codec.proofs.BoardLengths.{IsMask, IsKeys, HasLengths, lengths_of, valid_of}
 use Rattle.mcs_codec.proofs.Codecs.{IsCodec, IsBytes-rest, bind_some, any_codec, bytes_codec, both_codec, many_codec, any_counted_codec, giving_codec, decoding_codec, only_codec, refit_codec, done_codec, row, IsBytes}
 
@@ -81,25 +82,25 @@ line_codec = decoding_codec line_of line_text (λ _. Unit {0}) four_codec line_m
 
 -- ---- ROMs
 
-mask_is : (b : ℕ) (m : LineMask) → mask_of b ≡ Some m → mask_byte m ≡ b
+mask_is : (b : ℕ) (m : LineMask) → mask_of b ≡ Some m → mask_character m ≡ b
 mask_is b m e =
     elim (chosen (eqb b 105) (Some Input) _ (Some m) e) [
-      | inl t ↦ let k : b ≡ 105 = eqb-true _ _ t.0 in let same : Input ≡ m = let i = t.1 in cc in subst (λ (v : LineMask). mask_byte v ≡ b) same (sym k)
+      | inl t ↦ let k : b ≡ 105 = eqb-true _ _ t.0 in let same : Input ≡ m = let i = t.1 in cc in subst (λ (v : LineMask). mask_character v ≡ b) same (sym k)
       | inr t ↦ elim (chosen (eqb b 48) (Some Zero) _ (Some m) t.1) [
-        | inl u ↦ let k : b ≡ 48 = eqb-true _ _ u.0 in let same : Zero ≡ m = let i = u.1 in cc in subst (λ (v : LineMask). mask_byte v ≡ b) same (sym k)
+        | inl u ↦ let k : b ≡ 48 = eqb-true _ _ u.0 in let same : Zero ≡ m = let i = u.1 in cc in subst (λ (v : LineMask). mask_character v ≡ b) same (sym k)
         | inr u ↦ elim (chosen (eqb b 49) (Some One) None (Some m) u.1) [
-          | inl v ↦ let k : b ≡ 49 = eqb-true _ _ v.0 in let same : One ≡ m = let i = v.1 in cc in subst (λ (v : LineMask). mask_byte v ≡ b) same (sym k)
+          | inl v ↦ let k : b ≡ 49 = eqb-true _ _ v.0 in let same : One ≡ m = let i = v.1 in cc in subst (λ (v : LineMask). mask_character v ≡ b) same (sym k)
           | inr v ↦ absurd (let i = v.1 in cc)
         ]
       ]
     ]
 
-mask_again : (m : LineMask) → mask_of (mask_byte m) ≡ Some m
+mask_again : (m : LineMask) → mask_of (mask_character m) ≡ Some m
 mask_again Input = refl
 mask_again Zero = refl
 mask_again One = refl
 
-no_dash : (m : LineMask) → eqb (mask_byte m) 45 ≡ false
+no_dash : (m : LineMask) → eqb (mask_character m) 45 ≡ false
 no_dash Input = refl
 no_dash Zero = refl
 no_dash One = refl
@@ -136,7 +137,7 @@ rom_unmade (Some (a ∷ [])) h = absurd cc
 rom_unmade (Some (a ∷ b ∷ [])) h = absurd cc
 rom_unmade (Some (a ∷ b ∷ c ∷ [])) h = absurd cc
 rom_unmade (Some (a ∷ b ∷ c ∷ d ∷ [])) h =
-    ((mask_byte d, (mask_byte c, (mask_byte b, mask_byte a))), refl, are_four, rw (no_dash d, mask_again d, mask_again c, mask_again b, mask_again a) refl)
+    ((mask_character d, (mask_character c, (mask_character b, mask_character a))), refl, are_four, rw (no_dash d, mask_again d, mask_again c, mask_again b, mask_again a) refl)
 rom_unmade (Some (a ∷ b ∷ c ∷ d ∷ e ∷ l)) h = absurd cc
 
 pub rom_codec : IsCodec rom_text IsMask rom_at

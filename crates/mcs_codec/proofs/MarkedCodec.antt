@@ -4,12 +4,12 @@ use Rattle.std.specs.List.{flat_map, AllByRecursion}
 use Rattle.std.proofs.lemmas.Bool.{eqb-true}
 use Rattle.mcs_nibble.specs.declared.lines.LineMask.{LineMask}
 use Rattle.mcs_nibble.specs.declared.lines.LineMask.TheVariants.{Input, Zero, One}
-use Rattle.mcs_nibble.specs.Ports.{mask_at}
+use Rattle.mcs_nibble.specs.Ports.{mask_at, mask_character}
 use Rattle.mcs_model.specs.declared.board.BoardParts.{BoardParts}
 use Rattle.mcs_model.specs.Validity.{IsValidBoard}
 use Rattle.mcs_version1.specs.Boards.{is_small}
 use Rattle.mcs_codec.specs.Reading.{giving, only}
-use Rattle.mcs_codec.specs.BoardText.{mask_byte, rom_text, board_text}
+use Rattle.mcs_codec.specs.BoardText.{rom_text, board_text}
 use Rattle.mcs_codec.specs.BoardReading.{board_at}
 use Rattle.mcs_codec.specs.Marked.{marked_text, is_marked, marked_at, watches_text, watches_at}
 use Rattle.mcs_codec.specs.Codec.{version_told}
@@ -23,7 +23,7 @@ pub record BeginsFirst (bytes : List ℕ) : Type 0 where
   pub unmarked : is_marked bytes ≡ false
   pub told : version_told bytes ≡ Some 1
 
-line-begins : (mask : LineMask) (rest : List ℕ) → BeginsFirst (mask_byte mask ∷ rest)
+line-begins : (mask : LineMask) (rest : List ℕ) → BeginsFirst (mask_character mask ∷ rest)
 line-begins Input rest = record { unmarked = refl; told = refl }
 line-begins Zero rest = record { unmarked = refl; told = refl }
 line-begins One rest = record { unmarked = refl; told = refl }

@@ -1,18 +1,15 @@
 -- How a board is read.
 use Rattle.std.specs.Prelude.{ℕ, ◌==◌, ◌&&◌, List, [], ◌∷◌, Option, Some, None, is_none, if◌then◌else◌}
 use Rattle.mcs_nibble.specs.declared.lines.LineMask.{LineMask}
-use Rattle.mcs_nibble.specs.declared.lines.LineMask.TheVariants.{Input, Zero, One}
+use Rattle.mcs_nibble.specs.Ports.{mask_of}
 use Rattle.mcs_model.specs.declared.board.BoardParts.{BoardParts}
 use Rattle.mcs_model.specs.declared.board.ChainPart.{ChainPart}
 use Rattle.mcs_model.specs.declared.board.KeyMatrix.{KeyMatrix}
 use Rattle.mcs_model.specs.declared.board.Line.{Line}
 use Rattle.mcs_model.specs.declared.board.Line.TheVariants.{Rom, Ram, Chain}
-use Rattle.mcs_model.specs.declared.limits.TheConstants.{CHAINS}
+use Rattle.mcs_model.specs.declared.limits.TheConstants.{BANKS, CHAINS, KEY_COLUMNS, LAMPS, ROMS}
 use Rattle.mcs_model.specs.Boards.{fault_of}
 use Rattle.mcs_codec.specs.Reading.{◌>>=◌, giving, byte_at, only, both, many, bytes_at, decoding, four_at, done_at, counted_at}
-
-abbrev pub mask_of : ℕ → Option LineMask
-mask_of b = if b == 105 then Some Input else if b == 48 then Some Zero else if b == 49 then Some One else None
 
 abbrev pub rom_of : ℕ × (ℕ × (ℕ × ℕ)) → Option (Option (List LineMask))
 rom_of x =
@@ -36,7 +33,7 @@ unfoldable pub chain_at : List ℕ → Option (ChainPart × List ℕ)
 chain_at bytes = giving (λ p. record { clock = p.0; data_in = p.1.0; chips = p.1.1 }) (both line_at (both line_at byte_at) bytes)
 
 unfoldable pub matrix_at : List ℕ → Option (KeyMatrix × List ℕ)
-matrix_at bytes = giving (λ p. record { chain = p.0; first = p.1.0; rows = p.1.1.0; columns = record { items = p.1.1.1 } }) (both byte_at (both byte_at (both byte_at (counted_at 8 line_at))) bytes)
+matrix_at bytes = giving (λ p. record { chain = p.0; first = p.1.0; rows = p.1.1.0; columns = record { items = p.1.1.1 } }) (both byte_at (both byte_at (both byte_at (counted_at KEY_COLUMNS line_at))) bytes)
 
 abbrev pub keys_behind : ℕ → List ℕ → Option (Option KeyMatrix × List ℕ)
 keys_behind tag bytes =
@@ -54,7 +51,7 @@ parts_at bytes = giving (λ p. record {
   chains = record { items = p.1.1.0 };
   keys = p.1.1.1.0;
   lamps = record { items = p.1.1.1.1 };
-}) (both (many 16 rom_at) (both (bytes_at 8) (both (counted_at CHAINS chain_at) (both keys_at (counted_at 64 line_at)))) bytes)
+}) (both (many ROMS rom_at) (both (bytes_at BANKS) (both (counted_at CHAINS chain_at) (both keys_at (counted_at LAMPS line_at)))) bytes)
 
 -- the parts with which nothing is wrong
 unfoldable pub board_at : List ℕ → Option (BoardParts × List ℕ)

@@ -2,23 +2,16 @@
 use Rattle.std.specs.Prelude.{ℕ, List, [], ◌∷◌, ◌++◌, length, Option, Some, None}
 use Rattle.std.specs.List.{flat_map}
 use Rattle.mcs_nibble.specs.declared.lines.LineMask.{LineMask}
-use Rattle.mcs_nibble.specs.Ports.{mask_at}
-use Rattle.mcs_nibble.specs.declared.lines.LineMask.TheVariants.{Input, Zero, One}
+use Rattle.mcs_nibble.specs.Ports.{mask_at, mask_character}
 use Rattle.mcs_model.specs.declared.board.BoardParts.{BoardParts}
 use Rattle.mcs_model.specs.declared.board.ChainPart.{ChainPart}
 use Rattle.mcs_model.specs.declared.board.KeyMatrix.{KeyMatrix}
 use Rattle.mcs_model.specs.declared.board.Line.{Line}
 use Rattle.mcs_model.specs.declared.board.Line.TheVariants.{Rom, Ram, Chain}
 
--- what a port line is: `i`, `0` or `1`, in ASCII
-abbrev pub mask_byte : LineMask → ℕ
-mask_byte Input = 105
-mask_byte Zero = 48
-mask_byte One = 49
-
 -- the four port lines of a ROM, lines 3, 2, 1, 0 in this order, or `----` where it is absent
 abbrev pub rom_text : Option (List LineMask) → List ℕ
-rom_text (Some mask) = mask_byte (mask_at mask 3) ∷ mask_byte (mask_at mask 2) ∷ mask_byte (mask_at mask 1) ∷ mask_byte (mask_at mask 0) ∷ []
+rom_text (Some mask) = mask_character (mask_at mask 3) ∷ mask_character (mask_at mask 2) ∷ mask_character (mask_at mask 1) ∷ mask_character (mask_at mask 0) ∷ []
 rom_text None = 45 ∷ 45 ∷ 45 ∷ 45 ∷ []
 
 -- four bytes: the kind of line, and its numbers

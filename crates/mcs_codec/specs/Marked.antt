@@ -4,6 +4,7 @@
 use Rattle.std.specs.Prelude.{ℕ, Bool, true, false, ◌==◌, List, [], ◌∷◌, Option, Some, drop, if◌then◌else◌}
 use Rattle.std.specs.Int.{w16}
 use Rattle.mcs_model.specs.declared.board.BoardParts.{BoardParts}
+use Rattle.mcs_model.specs.declared.limits.TheConstants.{WATCHES}
 use Rattle.mcs_version1.specs.Boards.{is_small}
 use Rattle.mcs_codec.specs.Reading.{giving, only, number_at, counted_at}
 use Rattle.mcs_codec.specs.BoardText.{board_text, counted}
@@ -31,4 +32,4 @@ watches_text false watches = counted address watches
 
 unfoldable pub watches_at : Bool → List ℕ → Option (List ℕ × List ℕ)
 watches_at true bytes = Some ([], bytes)
-watches_at false bytes = counted_at 8 (number_at w16) bytes
+watches_at false bytes = counted_at WATCHES (number_at w16) bytes

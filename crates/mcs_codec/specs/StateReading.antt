@@ -3,6 +3,7 @@ use Rattle.std.specs.Prelude.{ℕ, ◌*◌, Bool, List, [], ◌∷◌, Option, S
 use Rattle.std.specs.Int.{w16, w32}
 use Rattle.mcs_model.specs.declared.board.BoardParts.{BoardParts}
 use Rattle.mcs_model.specs.declared.board.ChainPart.{ChainPart}
+use Rattle.mcs_model.specs.declared.limits.TheConstants.{BANKS, BREAKPOINTS}
 use Rattle.mcs_model.specs.Boards.{key_count}
 use Rattle.mcs_model.specs.Flat.{Flat}
 use Rattle.mcs_codec.specs.Reading.{◌>>=◌, giving, byte_at, number_at, bytes_at, depending, both, many, counted_at}
@@ -15,7 +16,7 @@ unfoldable pub registers_at : List ℕ → Option ((ℕ × (ℕ × (List ℕ × 
 registers_at = both byte_at (both byte_at (both (bytes_at 16) (both (number_at w16) (many 3 (number_at w16)))))
 
 unfoldable pub sources_at : List ℕ → Option ((ℕ × (ℕ × (List ℕ × ℕ))) × List ℕ)
-sources_at = both byte_at (both byte_at (both (bytes_at 8) byte_at))
+sources_at = both byte_at (both byte_at (both (bytes_at BANKS) byte_at))
 
 -- the rows of the chains
 unfoldable pub rows_at : List ChainPart → List ℕ → Option (List (List ℕ) × List ℕ)
@@ -23,7 +24,7 @@ rows_at [] bytes = Some ([], bytes)
 rows_at (c ∷ chains) bytes = bytes_at (10 * c.chips) bytes >>= λ row. giving (λ rows. row.0 ∷ rows) (rows_at chains row.1)
 
 unfoldable pub breakpoints_at : List ℕ → Option (List ℕ × List ℕ)
-breakpoints_at = counted_at 32 (number_at w16)
+breakpoints_at = counted_at BREAKPOINTS (number_at w16)
 
 unfoldable pub wiring_at : BoardParts → List ℕ → Option ((List (List ℕ) × (List ℕ × (ℕ × List ℕ))) × List ℕ)
 wiring_at board = both (rows_at board.chains.items) (both (bytes_at (key_count board)) (both byte_at breakpoints_at))

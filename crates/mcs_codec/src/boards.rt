@@ -1,7 +1,7 @@
 //! The bytes of a board.
 ghost use Rattle.std.specs.Prelude.{◌≡◌, ℕ, ◌+◌, ◌≤◌, ◌<◌, ◌∷◌, ◌++◌, List, [], length, map, take, option_map, Option, Some, None, if◌then◌else◌};
-ghost use Rattle.mcs_codec.specs.BoardText.{mask_byte, rom_text, line_text, chain_text, keys_text, board_text};
-ghost use Rattle.mcs_codec.specs.BoardReading.{mask_of, rom_at, line_at, chain_at, keys_at, matrix_at, parts_at, board_at};
+ghost use Rattle.mcs_codec.specs.BoardText.{rom_text, line_text, chain_text, keys_text, board_text};
+ghost use Rattle.mcs_codec.specs.BoardReading.{rom_at, line_at, chain_at, keys_at, matrix_at, parts_at, board_at};
 
 use crate::field::{Field, Spelled, counted, fill, put, put_all, put_counted};
 use crate::reader::Reader;
@@ -9,35 +9,12 @@ use mcs_model::board::{Board, BoardParts, ChainPart, KeyMatrix, Line};
 use mcs_model::limits::{BANKS, ROMS};
 use mcs_nibble::LineMask;
 
-/// The byte of a port line of a ROM.
-fn mask_byte(mask: LineMask) -> u8
-    ensures { result ≡ mask_byte mask }
-{
-    match mask {
-        LineMask::Input => b'i',
-        LineMask::Zero => b'0',
-        LineMask::One => b'1',
-    }
-}
-
 /// The bytes of the port lines of a ROM.
 fn mask_text(mask: [LineMask; 4]) -> [u8; 4]
     ensures { result ≡ rom_text (Some mask) }
 {
     let [a, b, c, d] = mask;
-    [mask_byte(d), mask_byte(c), mask_byte(b), mask_byte(a)]
-}
-
-/// The port line that a byte stands for.
-fn mask_of(byte: u8) -> Option<LineMask>
-    ensures { result ≡ mask_of byte }
-{
-    match byte {
-        b'i' => Some(LineMask::Input),
-        b'0' => Some(LineMask::Zero),
-        b'1' => Some(LineMask::One),
-        _ => None,
-    }
+    [d.character(), c.character(), b.character(), a.character()]
 }
 
 impl Spelled for Option<[LineMask; 4]> {
@@ -67,10 +44,10 @@ impl Field for Option<[LineMask; 4]> {
         if first == b'-' && second == b'-' && third == b'-' && fourth == b'-' {
             return Some(None);
         }
-        let line_3 = mask_of(first)?;
-        let line_2 = mask_of(second)?;
-        let line_1 = mask_of(third)?;
-        let line_0 = mask_of(fourth)?;
+        let line_3 = LineMask::of_character(first)?;
+        let line_2 = LineMask::of_character(second)?;
+        let line_1 = LineMask::of_character(third)?;
+        let line_0 = LineMask::of_character(fourth)?;
         Some(Some([line_0, line_1, line_2, line_3]))
     }
 }

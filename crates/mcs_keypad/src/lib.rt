@@ -14,9 +14,14 @@ ghost use Rattle.mcs_keypad.specs.Keys.{KeyState, no_matrix, IsByteOf, is_down};
 
 use arrayvec::ArrayVec;
 use mcs_model::board::{KeyMatrix, Line};
+use mcs_model::limits::{KEYS, KEY_COLUMNS, KEY_ROWS, ROMS};
 use mcs_nibble::{Bit, Nibble};
 use mcs_shift4003::Chain;
 use std::marker::Model;
+
+// A byte for each row, and one for each line of each ROM.
+const ROW_BYTES: usize = KEY_ROWS as usize;
+const LINE_BYTES: usize = 4 * ROMS;
 
 /// The keys of a matrix. A board without keys has a matrix of no rows and no columns. Contracts see the matrix and its
 /// keys alone.
@@ -24,11 +29,11 @@ use std::marker::Model;
 pub struct KeyPad {
     matrix: KeyMatrix,
     // Row by row.
-    down: ArrayVec<Bit, 80>,
+    down: ArrayVec<Bit, KEYS>,
     // The byte of each row's keys that are down.
-    rows: [u8; 10],
+    rows: [u8; ROW_BYTES],
     // The byte of the columns at line k of ROM c, at 4 * c + k.
-    lines: [u8; 64],
+    lines: [u8; LINE_BYTES],
 }
 
 impl Model for KeyPad {
@@ -63,8 +68,8 @@ fn is_down(down: &[Bit], at: usize) -> bool
 
 /// The byte of the keys that are down, of as many columns from a place on.
 fn row_byte(down: &[Bit], from: usize, columns: usize) -> u8
-    requires columns { columns ≤ 8 }
-    requires from { from ≤ 80 }
+    requires columns { columns ≤ KEY_COLUMNS }
+    requires from { from ≤ KEYS }
     ensures { IsByteOf result columns (λ j. is_down down.now (from + j)) }
 {
     let mut byte: u8 = 0;
@@ -78,7 +83,7 @@ fn row_byte(down: &[Bit], from: usize, columns: usize) -> u8
 
 /// The byte of the columns at line `k` of a ROM.
 fn line_byte(columns: &[Line], chip: u8, k: u8) -> u8
-    requires { length columns.now ≤ 8 }
+    requires { length columns.now ≤ KEY_COLUMNS }
     ensures { IsByteOf result (length columns.now) (λ j. is_rom_line chip k (slice_index_or columns.now j (Rom 0 0))) }
 {
     let mut byte: u8 = 0;
@@ -91,12 +96,12 @@ fn line_byte(columns: &[Line], chip: u8, k: u8) -> u8
 }
 
 /// The byte of the keys that are down, of each row.
-fn row_bytes(down: &[Bit], rows: u8, columns: usize) -> [u8; 10]
-    requires rows { rows ≤ 10 }
-    requires columns { columns ≤ 8 }
+fn row_bytes(down: &[Bit], rows: u8, columns: usize) -> [u8; ROW_BYTES]
+    requires rows { rows ≤ KEY_ROWS }
+    requires columns { columns ≤ KEY_COLUMNS }
     ensures { (r : ℕ) → r < rows → IsByteOf (slice_index result r) columns (λ j. is_down down.now (r * columns + j)) }
 {
-    let mut bytes = [0; 10];
+    let mut bytes = [0; ROW_BYTES];
     for r in 0..usize::from(rows) {
         bytes[r] = row_byte(down, r * columns, columns);
     }
@@ -104,12 +109,12 @@ fn row_bytes(down: &[Bit], rows: u8, columns: usize) -> [u8; 10]
 }
 
 /// The byte of the columns at each line of each ROM, four lines a ROM.
-fn line_bytes(columns: &[Line]) -> [u8; 64]
-    requires { length columns.now ≤ 8 }
-    ensures { (i : ℕ) → i < 64 → IsByteOf (slice_index result i) (length columns.now) (λ j. is_rom_line (i / 4) (i % 4) (slice_index_or columns.now j (Rom 0 0))) }
+fn line_bytes(columns: &[Line]) -> [u8; LINE_BYTES]
+    requires { length columns.now ≤ KEY_COLUMNS }
+    ensures { (i : ℕ) → i < LINE_BYTES → IsByteOf (slice_index result i) (length columns.now) (λ j. is_rom_line (i / 4) (i % 4) (slice_index_or columns.now j (Rom 0 0))) }
 {
-    let mut bytes = [0; 64];
-    for i in 0..64u8 {
+    let mut bytes = [0; LINE_BYTES];
+    for i in 0..LINE_BYTES as u8 {
         bytes[usize::from(i)] = line_byte(columns, i / 4, i % 4);
     }
     bytes
@@ -127,9 +132,9 @@ fn meets(line: u8, driven: u8) -> Bit
 }
 
 /// Keys that are all up.
-fn up(rows: u8, columns: usize) -> ArrayVec<Bit, 80>
-    requires rows { rows ≤ 10 }
-    requires columns { columns ≤ 8 }
+fn up(rows: u8, columns: usize) -> ArrayVec<Bit, KEYS>
+    requires rows { rows ≤ KEY_ROWS }
+    requires columns { columns ≤ KEY_COLUMNS }
     ensures { result.items ≡ replicate (rows * columns) 0 }
 {
     let mut down = ArrayVec::new();
@@ -140,9 +145,9 @@ fn up(rows: u8, columns: usize) -> ArrayVec<Bit, 80>
 }
 
 /// The same columns.
-fn copied(columns: &ArrayVec<Line, 8>) -> ArrayVec<Line, 8>
+fn copied(columns: &ArrayVec<Line, KEY_COLUMNS>) -> ArrayVec<Line, KEY_COLUMNS>
     ensures same { result.items ≡ columns.now.items }
-    ensures few { length result.items ≤ 8 }
+    ensures few { length result.items ≤ KEY_COLUMNS }
 {
     let mut copy = ArrayVec::new();
     for column in columns.as_slice() {
@@ -166,7 +171,7 @@ impl KeyPad {
 
     /// The keys of a matrix, all up.
     pub fn of(matrix: &KeyMatrix) -> KeyPad
-        requires { matrix.now.rows ≤ 10 }
+        requires { matrix.now.rows ≤ KEY_ROWS }
         ensures { result ≡ record { matrix = matrix.now; down = replicate (matrix.now.rows * length matrix.now.columns.items) 0 } }
     {
         let columns = copied(&matrix.columns);

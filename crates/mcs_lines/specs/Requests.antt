@@ -6,6 +6,7 @@ use Rattle.mcs_model.specs.Numerals.{number_written, number_up_to}
 use Rattle.mcs_model.specs.declared.command.Command.TheVariants.{Press, Release, Run, Step, Poke, Test, Reset, Break, Unbreak, Watch, Unwatch}
 use Rattle.mcs_model.specs.declared.command.Place.{Place}
 use Rattle.mcs_model.specs.declared.command.Place.TheVariants.{Acc, Cy, Pc, Register, Dcl, Rom, Ram, Status}
+use Rattle.mcs_model.specs.declared.limits.TheConstants.{LISTING_LINES}
 use Rattle.mcs_model.specs.declared.query.Query.TheVariants as query
 use Rattle.mcs_lines.specs.declared.requests.Question.TheVariants.{State, Listing, Board}
 use Rattle.mcs_lines.specs.declared.requests.Request.{Request}
@@ -109,7 +110,7 @@ listing at lines = if nat_lt 0 lines then Ask (Listing at lines) else Refused Ba
 
 -- `list`
 abbrev pub list_of : List ℕ → List ℕ → Request
-list_of a n = with_number 4095 a (λ at. with_number 256 n (λ lines. listing at lines))
+list_of a n = with_number 4095 a (λ at. with_number LISTING_LINES n (λ lines. listing at lines))
 
 -- a line of three words
 abbrev pub request_with_two : List ℕ → List ℕ → List ℕ → Request

@@ -9,6 +9,7 @@ use crate::numbers::{address, bank, bit, byte};
 use crate::places::read_poke;
 use crate::words::{is_plain_byte, is_word, next_word};
 use mcs_model::command::Command;
+use mcs_model::limits::LISTING_LINES;
 use mcs_model::numeral::number_within;
 use mcs_model::query::Query;
 use mcs_model::refusal_numbers;
@@ -51,7 +52,7 @@ impl LineFault {
 pub enum Question {
     /// What a bench tells of its state.
     State(Query),
-    /// A listing of the ROM: from an address on, of 1 to 256 lines.
+    /// A listing of the ROM: from an address on, of 1 to `LISTING_LINES` lines.
     Listing(Addr, u16),
     /// The wiring of the board.
     Board,
@@ -130,7 +131,7 @@ fn read_list(a: &[u8], n: &[u8]) -> Option<Request>
     ensures { or_bad_number result ≡ list_of a.now n.now }
 {
     let at = address(a)?;
-    let lines = number_within(n, 256)?;
+    let lines = number_within(n, LISTING_LINES)?;
     if lines == 0 {
         return None;
     }

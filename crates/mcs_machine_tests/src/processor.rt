@@ -31,7 +31,7 @@ impl Bus for Memory {
         Nibble::ZERO
     }
 
-    #[tactic(auto, unfolding(mcs_model::specs::Bus::after_ram, mcs_model::specs::Bus::zero_bus))]
+    #[tactic(auto, unfolding(mcs_model::specs::Bus::after_ram, mcs_model::specs::Bus::with_ram, mcs_model::specs::Bus::zero_bus))]
     fn ram_write(&mut self, _bank: u8, _n: Nibble) {}
 
     #[tactic(auto, unfolding(mcs_model::specs::Bus::status_of, mcs_model::specs::Bus::zero_bus))]
@@ -39,7 +39,7 @@ impl Bus for Memory {
         Nibble::ZERO
     }
 
-    #[tactic(auto, unfolding(mcs_model::specs::Bus::after_status, mcs_model::specs::Bus::zero_bus))]
+    #[tactic(auto, unfolding(mcs_model::specs::Bus::after_status, mcs_model::specs::Bus::with_status, mcs_model::specs::Bus::zero_bus))]
     fn status_write(&mut self, _bank: u8, _k: u8, _n: Nibble) {}
 
     #[tactic(auto, unfolding(mcs_model::specs::Levels::after_ram_port, mcs_model::specs::Bus::zero_bus))]

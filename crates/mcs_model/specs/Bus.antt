@@ -74,25 +74,27 @@ after_src s bank byte =
 unfoldable pub ram_of : BusState → ℕ → ℕ
 ram_of s bank = slice_index s.ram (bank * 256 + src_of s bank)
 
--- a write to the selected character of a bank (4002 data sheet); one to an absent chip is lost (our own choice)
-unfoldable pub after_ram : BusState → ℕ → ℕ → BusState
-after_ram s bank n =
-    if has_chip s bank (src_of s bank)
-    then record s { ram = slice_set s.ram (bank * 256 + src_of s bank) n }
-    else s
+-- a RAM character is written, by its bank and its SRC byte (4002 data sheet); lost where the chip is absent (our own choice)
+unfoldable pub with_ram : BusState → ℕ → ℕ → ℕ → BusState
+with_ram s bank src n = if has_chip s bank src then record s { ram = slice_set s.ram (bank * 256 + src) n } else s
 
--- where status character k of the selected register stands among the 64 of its bank
-abbrev pub status_place : ℕ → ℕ → ℕ
-status_place src k = src / 16 * 4 + k
+-- a write to the selected character of a bank
+unfoldable pub after_ram : BusState → ℕ → ℕ → BusState
+after_ram s bank n = with_ram s bank (src_of s bank) n
+
+-- where status character k of the register with SRC upper nibble `high` of a bank stands
+abbrev pub status_at : ℕ → ℕ → ℕ → ℕ
+status_at bank high k = bank * 64 + (high * 4 + k)
 
 -- status character k of the selected register of a bank (4002 data sheet); an absent one reads 0 (our own choice)
 unfoldable pub status_of : BusState → ℕ → ℕ → ℕ
-status_of s bank k = slice_index s.status (bank * 64 + status_place (src_of s bank) k)
+status_of s bank k = slice_index s.status (status_at bank (src_of s bank / 16) k)
 
--- a write to status character k of the selected register of a bank (4002 data sheet); one to an absent chip is lost (our
--- own choice)
+-- a status character is written, by its bank, the upper nibble of its SRC byte and k (4002 data sheet); lost where the chip
+-- is absent (our own choice)
+unfoldable pub with_status : BusState → ℕ → ℕ → ℕ → ℕ → BusState
+with_status s bank high k n = if nat_lt (high / 4) (wired_of s bank) then record s { status = slice_set s.status (status_at bank high k) n } else s
+
+-- a write to status character k of the selected register of a bank
 unfoldable pub after_status : BusState → ℕ → ℕ → ℕ → BusState
-after_status s bank k n =
-    if has_chip s bank (src_of s bank)
-    then record s { status = slice_set s.status (bank * 64 + status_place (src_of s bank) k) n }
-    else s
+after_status s bank k n = with_status s bank (src_of s bank / 16) k n

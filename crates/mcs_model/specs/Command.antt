@@ -15,9 +15,9 @@ use Rattle.mcs_model.specs.declared.refusals.BenchFault.TheVariants.{NoKey, NoRo
 use Rattle.mcs_model.specs.declared.regs.Regs.{Regs}
 use Rattle.mcs_model.specs.Boards.{has_key, masks_on}
 use Rattle.mcs_model.specs.Breakpoints.{is_breakpoint, with_breakpoint, without_breakpoint}
-use Rattle.mcs_model.specs.Bus.{BusState, has_chip, wired_of}
+use Rattle.mcs_model.specs.Bus.{BusState, has_chip, wired_of, with_ram, with_status}
 use Rattle.mcs_model.specs.Flat.{Flat, new_regs}
-use Rattle.mcs_model.specs.Places.{with_rom_byte, with_rom_bytes, with_ram, with_status, with_key, after_reset, after_wire}
+use Rattle.mcs_model.specs.Places.{with_rom_byte, with_rom_bytes, with_key, after_reset, after_wire}
 use Rattle.mcs_model.specs.Running.{Machine, Stops, run_length, after_run, run_stop, step_length, after_step, step_stop}
 
 -- ---- which commands are accepted

@@ -7,7 +7,7 @@ use Rattle.mcs_nibble.specs.Ports.{latch_value}
 use Rattle.mcs_model.specs.declared.board.BoardParts.{BoardParts}
 use Rattle.mcs_model.specs.declared.board.ChainPart.{ChainPart}
 use Rattle.mcs_model.specs.Boards.{masks_on, key_count, key_place}
-use Rattle.mcs_model.specs.Bus.{BusState, has_chip, wired_of}
+use Rattle.mcs_model.specs.Bus.{BusState, wired_of}
 use Rattle.mcs_model.specs.Levels.{with_rom_latch, with_ram_latch}
 
 -- the ROM byte at an address; lost where the ROM is absent
@@ -18,18 +18,6 @@ with_rom_byte s at byte = if is_some (masks_on s.board (at / 256)) then record s
 abbrev pub with_rom_bytes : BusState → List (ℕ × ℕ) → BusState
 with_rom_bytes s [] = s
 with_rom_bytes s (p ∷ image) = with_rom_bytes (with_rom_byte s p.0 p.1) image
-
--- the RAM character of a bank and an SRC byte; lost where the chip is absent
-unfoldable pub with_ram : BusState → ℕ → ℕ → ℕ → BusState
-with_ram s bank src n = if has_chip s bank src then record s { ram = slice_set s.ram (bank * 256 + src) n } else s
-
--- where status character k of the register with SRC high nibble `high` of a bank stands
-abbrev pub status_at : ℕ → ℕ → ℕ → ℕ
-status_at bank high k = bank * 64 + (high * 4 + k)
-
--- the status character of a bank, an SRC high nibble and k; lost where the chip is absent
-unfoldable pub with_status : BusState → ℕ → ℕ → ℕ → ℕ → BusState
-with_status s bank high k n = if nat_lt (high / 4) (wired_of s bank) then record s { status = slice_set s.status (status_at bank high k) n } else s
 
 -- the port latch of a RAM chip, nothing being clocked; lost where the chip is absent
 unfoldable pub with_ram_port : BusState → ℕ → ℕ → ℕ → BusState

@@ -54,6 +54,9 @@ pub const LINE_BYTES: usize = 255;
 /// Bytes of a text, its line feeds among them.
 pub const TEXT_BYTES: usize = 16_384;
 
+/// Lines of one listing.
+pub const LISTING_LINES: u32 = 256;
+
 /// Names that one source text defines.
 pub const NAMES: usize = 512;
 

@@ -1,7 +1,7 @@
 -- The port of a 4001: what its latch holds and what the processor reads, line by line.
 -- (4001 data sheet: by its mask a line is an input or an output; WRR writes the latch, RDR reads the input lines. Our own
 -- choice: positive logic, a latch bit of 0 at each input line, and that an output line reads the constant of its mask.)
-use Rattle.std.specs.Prelude.{ℕ, Bool, true, false, List, slice_index_or, if◌then◌else◌}
+use Rattle.std.specs.Prelude.{ℕ, Bool, true, false, ◌==◌, List, Option, Some, None, slice_index_or, if◌then◌else◌}
 use Rattle.mcs_nibble.specs.Bits.{bit_of, nibble_of}
 use Rattle.mcs_nibble.specs.declared.lines.LineMask.{LineMask}
 use Rattle.mcs_nibble.specs.declared.lines.LineMask.TheVariants.{Input, Zero, One}
@@ -11,6 +11,17 @@ abbrev pub is_input : LineMask → Bool
 is_input Input = true
 is_input Zero = false
 is_input One = false
+
+-- the character of a port line in a board text and in a session file: `i` for an input line, `0` and `1` for an output line
+-- that is read as 0 and as 1 (our own choice)
+abbrev pub mask_character : LineMask → ℕ
+mask_character Input = 105
+mask_character Zero = 48
+mask_character One = 49
+
+-- the mask that a character stands for
+abbrev pub mask_of : ℕ → Option LineMask
+mask_of c = if c == 105 then Some Input else if c == 48 then Some Zero else if c == 49 then Some One else None
 
 -- the mask of line k
 abbrev pub mask_at : List LineMask → ℕ → LineMask

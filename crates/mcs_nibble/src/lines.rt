@@ -1,4 +1,6 @@
 //! The port lines of a 4001.
+ghost use Rattle.std.specs.Prelude.{◌≡◌};
+ghost use Rattle.mcs_nibble.specs.Ports.{mask_character, mask_of};
 
 /// What a port line of a ROM is, by the mask that the chip was made with.
 /// Source: the 4001 in the Intel MCS-4 Users Manual, for input and output by the mask; that an output
@@ -13,4 +15,29 @@ pub enum LineMask {
 
     /// An output line that is read as 1.
     One,
+}
+
+impl LineMask {
+    /// The character of the line in a board text and in a session file: `i`, `0` or `1`.
+    pub fn character(self) -> u8
+        ensures { result ≡ mask_character self }
+    {
+        match self {
+            LineMask::Input => b'i',
+            LineMask::Zero => b'0',
+            LineMask::One => b'1',
+        }
+    }
+
+    /// What a character makes its line; None for a character other than `i`, `0` and `1`.
+    pub fn of_character(character: u8) -> Option<LineMask>
+        ensures { result ≡ mask_of character }
+    {
+        match character {
+            b'i' => Some(LineMask::Input),
+            b'0' => Some(LineMask::Zero),
+            b'1' => Some(LineMask::One),
+            _ => None,
+        }
+    }
 }

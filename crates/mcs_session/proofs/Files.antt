@@ -175,7 +175,7 @@ first_of file snap records s held first =
     (subst (λ (x : List (List ℕ)). RecordsStandFor true snap x (lift first.first)) (same_pair _ _ _ _ _ first.holds held)
     (subst (λ (x : List ℕ). RecordsStandFor true x first.records (lift first.first)) (same_snap _ _ _ _ _ first.holds held) (first_by first.snap first.records first.first first.stand)))
 
--- a file stands for at most one state
+-- a file that stands for a state by version 2 stands for no other
 pub one_state : (file : List ℕ) (s t : Flat) → StandsFor file s → StandsByEither file t → s ≡ t
 one_state file s t a (inl b) = same_pair_state false a.snap b.snap a.records b.records s t (same_snap _ _ _ _ _ a.holds b.holds) (same_pair _ _ _ _ _ a.holds b.holds) a.stand b.stand
 one_state file s t a (inr b) = absurd (not_both a.snap a.stand.start b.stand.start a.stand.snapshot (subst (λ (x : List ℕ). SpellsState1 x b.stand.start) (same_snap _ _ _ _ _ b.holds a.holds) b.stand.snapshot))
@@ -240,9 +240,11 @@ recorded_by true old new snap records cycles s e opened replayed = absurd (cc)
 pub one_first : (file : List ℕ) (s t : Flat) → StandsForLifted file s → StandsForLifted file t → s ≡ t
 one_first file s t a b = same_pair_state true a.snap b.snap a.records b.records s t (same_snap _ _ _ _ _ a.holds b.holds) (same_pair _ _ _ _ _ a.holds b.holds) (first_of file a.snap a.records s a.holds a) (first_of file b.snap b.records t b.holds b)
 
-pub one_either : (file : List ℕ) (s t : Flat) → StandsByEither file s → StandsForLifted file t → s ≡ t
-one_either file s t (inl a) b = one_state file s t a (inr b)
-one_either file s t (inr a) b = one_first file s t a b
+-- by either version a file stands for at most one state
+pub one_either : (file : List ℕ) (s t : Flat) → StandsByEither file s → StandsByEither file t → s ≡ t
+one_either file s t (inl a) b = one_state file s t a b
+one_either file s t (inr a) (inl b) = sym (one_state file t s b (inr a))
+one_either file s t (inr a) (inr b) = one_first file s t a b
 
 -- a disk whose every image stands for a state by version 1
 pub stays_first : (old new : DiskState) (s u : Flat) → MayMigrate old new u → u ≡ s → ((image : List ℕ) → old.since old.clock image → StandsForLifted image s) → (image : List ℕ) → new.since old.clock image → StandsByEither image s
@@ -252,7 +254,7 @@ pub opens_first : (old new : DiskState) (s u : Flat) → IsLawful old → ((imag
     → (u ≡ s) × (HoldsState new.bytes s × ((image : List ℕ) → new.since old.clock image → StandsByEither image s))
 opens_first old new s u lawful each opens =
     let here : StandsForLifted old.bytes s = each old.bytes (lawful.counts_now old.clock old.bytes (omega arith) lawful.current) in
-    let same : u ≡ s = one_either old.bytes u s opens.stands here in
+    let same : u ≡ s = one_either old.bytes u s opens.stands (inr here) in
     (same, (subst (HoldsState new.bytes) same (opens.migrated (subst (StandsForLifted old.bytes) (sym same) here)), stays_first old new s u opens.moments same each))
 
 pub fails_first : (old new : DiskState) (s : Flat) → IsLawful old → ((image : List ℕ) → old.since old.clock image → StandsForLifted image s) → FailsMigrating old new

@@ -13,9 +13,9 @@ ghost use Rattle.mcs_session.specs.Stands.{HoldsState, StandsByEither, StandsFor
 use mcs_disk::Disk;
 use mcs_journal::OpenFault;
 
-/// A file stands for at most one state.
+/// A file stands for at most one state, whichever version it has.
 pub fn file_stands_for_one_state()
-    ensures { (file : List ℕ) (s t : Flat) → StandsFor file s → StandsByEither file t → s ≡ t }
+    ensures { (file : List ℕ) (s t : Flat) → StandsByEither file s → StandsByEither file t → s ≡ t }
 {}
 
 /// Where a power cut, at some moment since a time of a run, leaves a disk that is then opened: the bench stands as after a

@@ -13,10 +13,10 @@ use Rattle.mcs_model.specs.declared.refusals.BenchFault.TheVariants.{NoKey, NoRo
 use Rattle.mcs_model.specs.declared.regs.Regs.{Regs}
 use Rattle.mcs_model.specs.Boards.{has_key}
 use Rattle.mcs_model.specs.Breakpoints.{is_breakpoint, with_breakpoint, without_breakpoint}
-use Rattle.mcs_model.specs.Bus.{BusState}
+use Rattle.mcs_model.specs.Bus.{BusState, with_ram, with_status}
 use Rattle.mcs_model.specs.Command.{lacks_rom, place_refusal}
 use Rattle.mcs_model.specs.Flat.{new_regs}
-use Rattle.mcs_model.specs.Places.{with_rom_byte, with_rom_bytes, with_ram, with_status, with_key, after_reset, after_wire}
+use Rattle.mcs_model.specs.Places.{with_rom_byte, with_rom_bytes, with_key, after_reset, after_wire}
 use Rattle.mcs_model.specs.Running.{Machine, step_length, after_step, step_stop}
 use Rattle.mcs_version1.specs.Boards.{is_small}
 use Rattle.mcs_version1.specs.Flat.{Flat1}

@@ -9,11 +9,12 @@ use Rattle.mcs_model.specs.declared.board.Line.{Line}
 use Rattle.mcs_model.specs.declared.board.Line.TheVariants.{Rom, Ram, Chain}
 use Rattle.mcs_model.specs.declared.limits.TheConstants.{ROMS, BANKS, BANK_CHIPS, CHAINS, CHAIN_BITS}
 use Rattle.mcs_model.specs.Boards.{in_range}
-use Rattle.mcs_wiring.specs.Names.{line_name, line_named, mask_of, mask_code, masks_named, port_name}
+use Rattle.mcs_nibble.specs.Ports.{mask_character, mask_of}
+use Rattle.mcs_wiring.specs.Names.{line_name, line_named, masks_named, port_name}
 
 -- ---- ports
 
-mask_back : (m : LineMask) → mask_of (mask_code m) ≡ Some m
+mask_back : (m : LineMask) → mask_of (mask_character m) ≡ Some m
 mask_back Input = refl
 mask_back Zero = refl
 mask_back One = refl

@@ -3,11 +3,11 @@ use Rattle.std.proofs.Common.{◌<◌, codes, Some, length, get_or, take, ◌≡
 use Rattle.std.specs.Fmt.{decimal}
 use Rattle.std.specs.List.{flat_map, join_by, range_with_len}
 use Rattle.mcs_nibble.specs.declared.lines.LineMask.{LineMask}
-use Rattle.mcs_nibble.specs.Ports.{mask_at}
+use Rattle.mcs_nibble.specs.Ports.{mask_at, mask_character}
 use Rattle.mcs_model.specs.declared.board.ChainPart.{ChainPart}
 use Rattle.mcs_model.specs.declared.board.KeyMatrix.{KeyMatrix}
 use Rattle.mcs_model.specs.declared.board.Line.{Line}
-use Rattle.mcs_wiring.specs.Names.{mask_code, port_name}
+use Rattle.mcs_wiring.specs.Names.{port_name}
 use Rattle.std.specs.Option.{option_map_or}
 use Rattle.std.proofs.lemmas.List.{flat_map_more, take_more}
 use Rattle.std.proofs.lemmas.List.Concat.{flat_map-append}
@@ -76,7 +76,7 @@ list_step f xs i d start before after lt so_far written =
     written ∙ (ap (λ t. t ++ f x) so_far ∙ (flat_map_more f start (take i xs) x ∙ ap (λ ys. start ++ flat_map f ys) (sym (take_more xs i d lt))))
 
 -- what the pieces of a part come to
-pub rom_is : (a f m3 m2 m1 m0 : List ℕ) (chip : ℕ) (masks : List LineMask) → m3 ≡ mask_code (mask_at masks 3) ∷ [] → m2 ≡ mask_code (mask_at masks 2) ∷ [] → m1 ≡ mask_code (mask_at masks 1) ∷ [] → m0 ≡ mask_code (mask_at masks 0) ∷ []
+pub rom_is : (a f m3 m2 m1 m0 : List ℕ) (chip : ℕ) (masks : List LineMask) → m3 ≡ mask_character (mask_at masks 3) ∷ [] → m2 ≡ mask_character (mask_at masks 2) ∷ [] → m1 ≡ mask_character (mask_at masks 1) ∷ [] → m0 ≡ mask_character (mask_at masks 0) ∷ []
     → f ≡ a ++ (codes "[[rom]]\nchip = " ++ (decimal chip ++ (codes "\nport = \"" ++ (m3 ++ (m2 ++ (m1 ++ (m0 ++ codes "\"\n")))))))
     → f ≡ a ++ text_of (rom_lines chip (Some masks))
 rom_is a f m3 m2 m1 m0 chip masks e3 e2 e1 e0 h =

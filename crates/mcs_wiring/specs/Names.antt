@@ -4,8 +4,7 @@ use Rattle.std.specs.List.{position_or_len, before_first, after_first}
 use Rattle.std.specs.Str.{bytes_eq}
 use Rattle.std.specs.Fmt.{decimal}
 use Rattle.mcs_nibble.specs.declared.lines.LineMask.{LineMask}
-use Rattle.mcs_nibble.specs.declared.lines.LineMask.TheVariants.{Input, Zero, One}
-use Rattle.mcs_nibble.specs.Ports.{mask_at}
+use Rattle.mcs_nibble.specs.Ports.{mask_at, mask_character, mask_of}
 use Rattle.mcs_model.specs.declared.board.Line.{Line}
 use Rattle.mcs_model.specs.declared.board.Line.TheVariants.{Rom, Ram, Chain}
 use Rattle.mcs_model.specs.declared.limits.TheConstants.{ROMS, BANKS, BANK_CHIPS, CHAINS, CHAIN_BITS}
@@ -77,15 +76,6 @@ line_name (Chain n i) = codes "chain" ++ (decimal n ++ (codes "." ++ decimal i))
 
 -- ---- ports: four characters, line 3 first
 
--- `i` an input line, `0` and `1` an output line that is read as 0 and as 1
-abbrev pub mask_of : ℕ → Option LineMask
-mask_of c = if c == 105 then Some Input else if c == 48 then Some Zero else if c == 49 then Some One else None
-
-abbrev pub mask_code : LineMask → ℕ
-mask_code Input = 105
-mask_code Zero = 48
-mask_code One = 49
-
 -- the masks of a port, line 0 first, that a text names
 abbrev pub masks_named : List ℕ → Option (List LineMask)
 masks_named (c3 ∷ c2 ∷ c1 ∷ c0 ∷ []) =
@@ -94,4 +84,4 @@ masks_named text = None
 
 -- the name of a port
 abbrev pub port_name : List LineMask → List ℕ
-port_name masks = mask_code (mask_at masks 3) ∷ mask_code (mask_at masks 2) ∷ mask_code (mask_at masks 1) ∷ mask_code (mask_at masks 0) ∷ []
+port_name masks = mask_character (mask_at masks 3) ∷ mask_character (mask_at masks 2) ∷ mask_character (mask_at masks 1) ∷ mask_character (mask_at masks 0) ∷ []

@@ -1,6 +1,6 @@
 //! The names of lines and ports in a board text.
 ghost use Rattle.std.specs.Prelude.{◌≡◌, string_bytes};
-ghost use Rattle.mcs_wiring.specs.Names.{number_below, rom_line, ram_line, chain_line, line_named, mask_of, masks_named};
+ghost use Rattle.mcs_wiring.specs.Names.{number_below, rom_line, ram_line, chain_line, line_named, masks_named};
 
 use mcs_model::board::Line;
 use mcs_model::limits::{BANK_CHIPS, BANKS, CHAIN_BITS, CHAINS, ROMS};
@@ -63,24 +63,17 @@ pub(crate) fn line_named(text: &str) -> Option<Line>
     chain_line(text.strip_prefix("chain")?)
 }
 
-/// What a character of a port makes its line.
-fn mask_of(character: u8) -> Option<LineMask>
-    ensures { result ≡ mask_of character }
-{
-    match character {
-        b'i' => Some(LineMask::Input),
-        b'0' => Some(LineMask::Zero),
-        b'1' => Some(LineMask::One),
-        _ => None,
-    }
-}
-
 /// The masks of a port, line 0 first, that four characters name, line 3 first.
 pub(crate) fn masks_named(text: &str) -> Option<[LineMask; 4]>
     ensures { result ≡ masks_named text.now }
 {
     match text.as_bytes() {
-        [c3, c2, c1, c0] => Some([mask_of(*c0)?, mask_of(*c1)?, mask_of(*c2)?, mask_of(*c3)?]),
+        [c3, c2, c1, c0] => Some([
+            LineMask::of_character(*c0)?,
+            LineMask::of_character(*c1)?,
+            LineMask::of_character(*c2)?,
+            LineMask::of_character(*c3)?,
+        ]),
         _ => None,
     }
 }

@@ -2,8 +2,7 @@
 ghost use Rattle.std.specs.Prelude.{◌≡◌, ◌<◌, ◌∷◌, [], ◌++◌, string_bytes, codes, OnOk, IfOk};
 ghost use Rattle.std.specs.List.{flat_map, join_by};
 ghost use Rattle.std.specs.Option.{option_map_or};
-ghost use Rattle.mcs_nibble.specs.Ports.{mask_at};
-ghost use Rattle.mcs_wiring.specs.Names.{mask_code};
+ghost use Rattle.mcs_nibble.specs.Ports.{mask_at, mask_character};
 ghost use Rattle.mcs_wiring.specs.BoardText.{quoted_name, columns_text, rom_lines, ram_lines, chain_lines, matrix_lines, lamp_lines, text_of, board_text};
 ghost use Rattle.mcs_wiring.specs.Flaws.{roms_text, rams_text};
 
@@ -15,7 +14,7 @@ use std::alloc::{AllocError, Global};
 /// The character of line `k` in the name of a port.
 fn mask_text(masks: &[LineMask; 4], k: usize) -> &'static str
     requires { k < 4 }
-    ensures { result.now ≡ mask_code (mask_at masks.now k) ∷ [] }
+    ensures { result.now ≡ mask_character (mask_at masks.now k) ∷ [] }
 {
     match masks[k] {
         LineMask::Input => "i",

@@ -1,6 +1,6 @@
 use Rattle.std.proofs.Common.{◌≡◌, ◌+◌, ◌*◌, ◌++◌, ◌∷◌, [], get_or, arith, ap, ◌∙◌}
 use Rattle.mcs_model.specs.QueryText.{hex_digit}
-use Rattle.mcs_model.specs.Places.{status_at}
+use Rattle.mcs_model.specs.Bus.{status_at}
 use Rattle.mcs_answers.proofs.Growing.{stretched}
 use Rattle.mcs_answers.proofs.ram.put_status.Goals as goal
 
