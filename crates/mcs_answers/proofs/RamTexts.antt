@@ -7,7 +7,7 @@ use Rattle.std.specs.List.{flat_map, join_with_byte, list_any, range_with_len}
 use Rattle.mcs_model.specs.declared.board.BoardParts.{BoardParts}
 use Rattle.mcs_model.specs.declared.board.BoardFault.{BoardFault}
 use Rattle.mcs_model.specs.declared.board.BoardFault.TheVariants.{BadValue}
-use Rattle.mcs_model.specs.Boards.{fault_of, has_bad_value}
+use Rattle.mcs_model.specs.Boards.{board_fault_of, has_bad_value}
 use Rattle.mcs_model.specs.Bus.{BusState, wired_of}
 use Rattle.mcs_model.specs.QueryText.{as_line, chip_lines, digit_text, port_line, ram_lines, register_line}
 use Rattle.mcs_wiring.proofs.PartTexts.{text_of-flat_map}
@@ -62,7 +62,7 @@ no_bad_value true x e = absurd (cc)
 no_bad_value false x e = refl
 
 -- a bank of a valid board has at most four chips
-pub few_chips : (b : BoardParts) (bank : ℕ) → fault_of b ≡ None → get_or b.banks bank 0 ≤ 4
+pub few_chips : (b : BoardParts) (bank : ℕ) → board_fault_of b ≡ None → get_or b.banks bank 0 ≤ 4
 few_chips b bank e =
     let fine = no_bad_value (has_bad_value b) _ e in
     none_above b.banks bank (or_left _ _ (or_left _ _ (or_left _ _ fine)))

@@ -5,7 +5,7 @@ use Rattle.mcs_model.specs.declared.command.Reply.{Reply}
 use Rattle.mcs_model.specs.declared.command.Reply.TheVariants.{Done, Loaded, Ran}
 use Rattle.mcs_model.specs.declared.stop.Stop.{Stop}
 use Rattle.mcs_model.specs.declared.stop.Stop.TheVariants.{Outside, Breakpoint, Watched, Ended}
-use Rattle.mcs_model.specs.Flat.{Flat}
+use Rattle.mcs_model.specs.BenchState.{BenchState}
 use Rattle.mcs_model.specs.QueryText.{text}
 use Rattle.mcs_source.specs.Text.{listing_text}
 use Rattle.mcs_wiring.specs.BoardText.{query_lines, text_of}
@@ -16,7 +16,7 @@ abbrev pub line_feed : List ℕ
 line_feed = 10 ∷ []
 
 -- the first line of a transcript
-abbrev pub session_text : Flat → List ℕ
+abbrev pub session_text : BenchState → List ℕ
 session_text s = codes "session " ++ (decimal s.seq ++ line_feed)
 
 -- why a run or a step stopped
@@ -33,7 +33,7 @@ reply_text (Loaded bytes) = codes " bytes " ++ decimal bytes
 reply_text (Ran cycles stop) = codes " ran " ++ (decimal cycles ++ (codes " " ++ stop_name stop))
 
 -- the answer to an accepted command, from its reply and the state after it
-abbrev pub ok_text : Reply → Flat → List ℕ
+abbrev pub ok_text : Reply → BenchState → List ℕ
 ok_text r s = codes "ok " ++ (decimal s.seq ++ (reply_text r ++ line_feed))
 
 -- the answer to what is refused
@@ -45,7 +45,7 @@ abbrev pub no_line_text : ℕ → ℕ → List ℕ
 no_line_text number line = codes "no " ++ (decimal number ++ (codes " line " ++ (decimal line ++ line_feed)))
 
 -- the answer to a question
-abbrev pub answer_text : Question → Flat → List ℕ
+abbrev pub answer_text : Question → BenchState → List ℕ
 answer_text (State q) s = text q s ++ line_feed
 answer_text (Listing at lines) s = listing_text s.bus.rom at lines
 answer_text Board s = text_of (query_lines s.bus.board)

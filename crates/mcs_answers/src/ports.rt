@@ -25,7 +25,7 @@ fn are_within_limits(bench: &Bench)
     ensures rows { (m : KeyMatrix) → bench.now.bus.board.keys ≡ Some m → m.rows ≤ KEY_ROWS }
     ensures columns { (m : KeyMatrix) → bench.now.bus.board.keys ≡ Some m → length m.columns.items ≤ KEY_COLUMNS }
 {
-    bench.state_is_valid();
+    bench.show_state_is_valid();
 }
 
 /// Adds the SRC byte that a bank keeps, where it has chips.

@@ -18,7 +18,7 @@ fn are_whole(bench: &Bench)
     ensures status { length bench.now.bus.status ≡ 512 }
     ensures chips { (bank : ℕ) → wired_of bench.now.bus bank ≤ 4 }
 {
-    bench.state_is_valid();
+    bench.show_state_is_valid();
 }
 
 /// Adds the 16 main characters of register `r` of a RAM chip.

@@ -9,7 +9,7 @@ use Rattle.mcs_source.specs.declared.fault.SourceFault.{SourceFault}
 use Rattle.mcs_source.specs.declared.fault.SourceFault.TheVariants.{DoubleName, OutOfRange, Overlap, PastEnd, TooManyNames}
 use Rattle.mcs_source.specs.Lexical.{tokens}
 use Rattle.mcs_source.specs.Lines.{Line, line_of}
-use Rattle.mcs_model.specs.Pairs.{from_address, overlaps}
+use Rattle.mcs_model.specs.Images.{from_address, overlaps}
 use Rattle.mcs_source.specs.Assembly.{assembled, lines_of, then_class_two, Before, Names, Spelt, nothing_before, nothing_spelt, before_with_line, spelt_with_line, spelt_with_bytes, unless_fault, fault_one, before_next, next_at, line_bytes, defined_name, is_known_name, is_bad_place, passes_end, pairs_of, then_lines, class_one, class_two}
 use Rattle.mcs_asm.specs.Cells.{IsKept}
 use Rattle.mcs_asm.specs.View.{Steps, FailsAs, NumbersLine, Adds, HasNoFault}

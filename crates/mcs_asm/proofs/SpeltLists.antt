@@ -7,13 +7,13 @@ use Rattle.mcs_source.specs.declared.fault.SourceFault.{SourceFault}
 use Rattle.mcs_model.specs.declared.op.Op.{Op}
 use Rattle.mcs_model.specs.declared.op.Op.TheVariants as op
 use Rattle.mcs_source.specs.Lines as asm
-use Rattle.mcs_model.specs.Table.{words_of}
+use Rattle.mcs_model.specs.Table.{word_count_of}
 use Rattle.mcs_source.specs.Spelling.{spelling}
 use Rattle.mcs_source.specs.Assembly.{Names, value_in, values_in, bytes_at, size, if_known, if_in_range, if_on_page, is_near, line_bytes, passes_end}
 use Rattle.std.specs.Prelude.{is_some}
 use Rattle.std.specs.List.{list_any}
 use Rattle.mcs_source.specs.declared.fault.SourceFault.TheVariants.{Overlap}
-use Rattle.mcs_model.specs.Pairs.{from_address, overlaps}
+use Rattle.mcs_model.specs.Images.{from_address, overlaps}
 use Rattle.mcs_source.specs.Assembly.{Spelt, spelt_with_bytes, spelt_with_line, next_at}
 use Rattle.mcs_asm.specs.Cells.{written, IsKept}
 use Rattle.mcs_asm.proofs.CellPairs.{taken_is, all_kept, free_from}
@@ -39,7 +39,7 @@ second_is names s l line bytes next wanted form is at goes =
 
 -- ---- the bytes of a line fit, where class one found no fault
 
-spelling_size : (o : Op) → length (spelling o) ≡ words_of o
+spelling_size : (o : Op) → length (spelling o) ≡ word_count_of o
 spelling_size (op.Jcn r b) = refl
 spelling_size _ = refl
 

@@ -1,10 +1,10 @@
 -- The numbers that the assembler's faults are told by. (Our own choice.)
 use Rattle.std.specs.Prelude.{ℕ}
 use Rattle.mcs_model.specs.declared.refusal_numbers.TheConstants.{NO_MEMORY}
-use Rattle.mcs_source.specs.Refusal.{source_refusal_number}
+use Rattle.mcs_source.specs.Refusal.{source_fault_number}
 use Rattle.mcs_asm.specs.declared.fault.FaultKind.{FaultKind}
 use Rattle.mcs_asm.specs.declared.fault.FaultKind.TheVariants.{NoMemory, Refused}
 
-abbrev pub assembler_refusal_number : FaultKind → ℕ
-assembler_refusal_number NoMemory = NO_MEMORY
-assembler_refusal_number (Refused f) = source_refusal_number f
+abbrev pub assembler_fault_number : FaultKind → ℕ
+assembler_fault_number NoMemory = NO_MEMORY
+assembler_fault_number (Refused f) = source_fault_number f

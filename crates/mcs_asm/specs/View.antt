@@ -22,7 +22,7 @@ use Rattle.mcs_model.specs.declared.op.Op.{Op}
 use Rattle.mcs_source.specs.Spelling.{spelling}
 use Rattle.mcs_source.specs.Lexical as spec
 use Rattle.mcs_source.specs.Lines as lines
-use Rattle.mcs_model.specs.Pairs.{IsImageOf}
+use Rattle.mcs_model.specs.Images.{IsImageOf}
 use Rattle.mcs_source.specs.Assembly as spelt
 use Rattle.mcs_asm.specs.Cells.{IsKept}
 

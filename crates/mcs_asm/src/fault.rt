@@ -1,6 +1,6 @@
 //! Why a text is refused.
 ghost use Rattle.std.specs.Prelude.{◌≡◌};
-ghost use Rattle.mcs_asm.specs.Refusal.{assembler_refusal_number};
+ghost use Rattle.mcs_asm.specs.Refusal.{assembler_fault_number};
 
 use mcs_model::refusal_numbers;
 pub use mcs_source::fault::SourceFault;
@@ -21,7 +21,7 @@ pub enum FaultKind {
 impl FaultKind {
     /// The number that the refusal is told by.
     pub fn number(self) -> u8
-        ensures { result ≡ assembler_refusal_number self }
+        ensures { result ≡ assembler_fault_number self }
     {
         match self {
             FaultKind::NoMemory => refusal_numbers::NO_MEMORY,

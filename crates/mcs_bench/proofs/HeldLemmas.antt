@@ -7,11 +7,11 @@ use Rattle.mcs_nibble.specs.declared.lines.LineMask.{LineMask}
 use Rattle.mcs_model.specs.Boards.{masks_on}
 use Rattle.mcs_model.specs.Bus.{BusState, with_ram, with_status}
 use Rattle.mcs_model.specs.declared.board.BoardParts.{BoardParts}
-use Rattle.mcs_model.specs.Levels.{with_rom_latch}
+use Rattle.mcs_model.specs.Levels.{with_rom_ports_at}
 use Rattle.mcs_nibble.specs.Ports.{latch_value}
 use Rattle.mcs_nibble.proofs.PortLemmas.{latch_value-zero}
 use Rattle.std.proofs.lemmas.List.{get_or_past}
-use Rattle.mcs_model.specs.Places.{with_rom_port, with_rom_byte, with_ram_port, with_ram_src}
+use Rattle.mcs_model.specs.Places.{with_rom_latch, with_rom_byte, with_ram_latch, with_ram_src}
 use Rattle.mcs_model.specs.Validity.{IsInRange, IsAbsentZero}
 use Rattle.mcs_bench.specs.declared.held.Held.{Held}
 use Rattle.mcs_bench.specs.declared.held.Held.TheVariants.{RomBytes, Characters, StatusCharacters, RamPorts, BankSrcs}
@@ -48,8 +48,8 @@ set-status s i bank high k m n b h c e =
     let chip : i % 64 / 4 / 4 ≡ i % 64 / 16 = omega arith in
     rw (b, h, c, e, place, chip) (turned (i % 64 / 16) (slice_index s.board.banks (i / 64)) (record s { status = slice_set s.status i n }) s)
 
-pub set-port : (s : BusState) (i bank chip m n : ℕ) → bank ≡ i / 4 → chip ≡ i % 4 → m ≡ n → with_ram_port s bank chip m ≡ with_number s RamPorts i n
-unfolding with_ram_port
+pub set-port : (s : BusState) (i bank chip m n : ℕ) → bank ≡ i / 4 → chip ≡ i % 4 → m ≡ n → with_ram_latch s bank chip m ≡ with_number s RamPorts i n
+unfolding with_ram_latch
 set-port s i bank chip m n b c e =
     let place : i / 4 * 4 + i % 4 ≡ i = omega arith in
     rw (b, c, e, place) (turned (i % 4) (slice_index s.board.banks (i / 4)) (record s { ram_ports = slice_set s.ram_ports i n }) s)
@@ -206,7 +206,7 @@ pub record FillsPorts (start s : BusState) (goal : List ℕ) (i : ℕ) : Type 0 
 abbrev pub can_hold : Option (List LineMask) → ℕ → Type 0
 can_hold masks n = MatchOption masks (n ≡ 0) (λ mask. latch_value mask n ≡ n)
 
-port-next : (masks : Option (List LineMask)) (start s t : BusState) (goal : List ℕ) (i n : ℕ) → i < length goal → n ≡ get_or goal i 0 → can_hold masks (get_or goal i 0) → can_hold masks (get_or start.rom_ports i 0) → FillsPorts start s goal i → t ≡ elim masks [ Some mask ↦ with_rom_latch s i (latch_value mask n) | None ↦ s ] → FillsPorts start t goal (i + 1)
+port-next : (masks : Option (List LineMask)) (start s t : BusState) (goal : List ℕ) (i n : ℕ) → i < length goal → n ≡ get_or goal i 0 → can_hold masks (get_or goal i 0) → can_hold masks (get_or start.rom_ports i 0) → FillsPorts start s goal i → t ≡ elim masks [ Some mask ↦ with_rom_ports_at s i (latch_value mask n) | None ↦ s ] → FillsPorts start t goal (i + 1)
 port-next (Some mask) start s t goal i n l is new old f to =
     let now : t.rom_ports ≡ slice_set s.rom_ports i (latch_value mask n) = ap (λ (u : BusState). u.rom_ports) to in
     record {
@@ -216,8 +216,8 @@ port-next (Some mask) start s t goal i n l is new old f to =
 port-next None start s t goal i n l is new old f to =
     subst (λ (u : BusState). FillsPorts start u goal (i + 1)) (sym to) (record { others = f.others; filled = filled-kept start.rom_ports goal s.rom_ports i (old ∙ sym new) f.filled })
 
-pub ports-next : (start s t : BusState) (goal : List ℕ) (i n : ℕ) → i < length goal → n ≡ get_or goal i 0 → can_hold (masks_on start.board i) (get_or goal i 0) → can_hold (masks_on start.board i) (get_or start.rom_ports i 0) → FillsPorts start s goal i → t ≡ with_rom_port s i n → FillsPorts start t goal (i + 1)
-unfolding with_rom_port
+pub ports-next : (start s t : BusState) (goal : List ℕ) (i n : ℕ) → i < length goal → n ≡ get_or goal i 0 → can_hold (masks_on start.board i) (get_or goal i 0) → can_hold (masks_on start.board i) (get_or start.rom_ports i 0) → FillsPorts start s goal i → t ≡ with_rom_latch s i n → FillsPorts start t goal (i + 1)
+unfolding with_rom_latch
 ports-next start s t goal i n l is new old f to =
     let board : start.board ≡ s.board = sym (ap (λ (u : BusState). u.board) f.others) in
     let hold = λ (x : ℕ) (h : can_hold (masks_on start.board i) x). subst (λ (b : BoardParts). can_hold (masks_on b i) x) board h in

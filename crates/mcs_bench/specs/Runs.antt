@@ -5,7 +5,7 @@ use Rattle.mcs_model.specs.declared.op.Op.TheVariants.{Wrm}
 use Rattle.mcs_model.specs.declared.stop.Stop.{Stop}
 use Rattle.mcs_model.specs.declared.stop.Stop.TheVariants.{Breakpoint, Watched}
 use Rattle.mcs_model.specs.Command.{changed}
-use Rattle.mcs_model.specs.Flat.{Flat}
+use Rattle.mcs_model.specs.BenchState.{BenchState}
 use Rattle.mcs_model.specs.Breakpoints.{is_breakpoint}
 use Rattle.mcs_model.specs.Bus.{src_of, after_ram}
 use Rattle.mcs_model.specs.Effect.{instruction_at}
@@ -57,4 +57,4 @@ pub record SteppedTo (s t : Machine) (k : ℕ) (why : Stop) : Type 0 where
 
 -- where no breakpoint is set and nothing is watched, two runs come to the state that one run of all their cycles comes to
 abbrev pub RunsAddUp : Type 0
-RunsAddUp = (s : Flat) (a b : ℕ) → s.breakpoints ≡ [] → s.watches ≡ [] → changed (changed s (Run a)) (Run b) ≡ changed s (Run (a + b))
+RunsAddUp = (s : BenchState) (a b : ℕ) → s.breakpoints ≡ [] → s.watches ≡ [] → changed (changed s (Run a)) (Run b) ≡ changed s (Run (a + b))

@@ -1,14 +1,14 @@
 -- A state as plain numbers, as the flat state that it stands for. (Our own choice.)
 use Rattle.std.specs.Prelude.{ℕ, List, map}
 use Rattle.arrayvec.specs.ArrayVec.{ArrayVec}
-use Rattle.mcs_model.specs.Flat.{Flat as State}
+use Rattle.mcs_model.specs.BenchState.{BenchState}
 use Rattle.mcs_bench.specs.declared.flat.Flat.{Flat}
 
 -- the bits of each chain
 abbrev pub rows_of : List (ArrayVec ℕ) → List (List ℕ)
 rows_of rows = map (λ row. row.items) rows
 
-abbrev pub state_of : Flat → State
+abbrev pub state_of : Flat → BenchState
 state_of f = record {
   processor = record { acc = f.acc; cy = f.cy; r = f.r; pc = f.pc; ret = f.ret; dcl = f.dcl; owed = f.owed };
   bus = record {

@@ -1,6 +1,6 @@
 //! What a bench holds.
 ghost use Rattle.std.specs.Prelude.{◌≡◌, IfOk};
-ghost use Rattle.mcs_model.specs.Flat.{new_flat};
+ghost use Rattle.mcs_model.specs.BenchState.{new_bench_state};
 
 use crate::breaks::Breaks;
 use crate::watches::Watches;
@@ -20,9 +20,9 @@ pub struct Bench {
 }
 
 impl Model for Bench {
-    ghost use Rattle.mcs_model.specs.Flat.{Flat};
+    ghost use Rattle.mcs_model.specs.BenchState.{BenchState};
 
-    ghost Value = { Flat };
+    ghost Value = { BenchState };
 
     ghost view = { λ b. record { processor = b.cpu; bus = b.rig; breakpoints = b.breaks; watches = b.watches; seq = b.seq } };
 }
@@ -34,7 +34,7 @@ impl Bench {
     ///
     /// Where memory is refused. No command on a bench takes memory.
     pub fn new(alloc: Global) -> Result<Bench, AllocError>
-        ensures { IfOk result (λ bench. bench ≡ new_flat) }
+        ensures { IfOk result (λ bench. bench ≡ new_bench_state) }
     {
         Ok(Bench {
             rig: BenchRig::new(alloc)?,

@@ -110,7 +110,7 @@ impl Breaks {
     }
 
     /// A law: they are at most so many, each an address, rising.
-    pub(crate) fn state_is_valid(&self)
+    pub(crate) fn show_state_is_valid(&self)
         ensures { AreBreakpoints self.now }
     {
         are_addresses(self.list());

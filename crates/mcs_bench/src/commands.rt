@@ -57,7 +57,7 @@ fn load(rig: &mut BenchRig, image: &Image) -> Reply
 
 impl Bench {
     /// Why a value cannot be put into a place, if so.
-    fn place_fault(&self, place: Place) -> Option<BenchFault>
+    fn place_refusal(&self, place: Place) -> Option<BenchFault>
         ensures { result ≡ place_refusal self.now.bus place }
     {
         let board = self.rig.board();
@@ -79,7 +79,7 @@ impl Bench {
     }
 
     /// Why the bench refuses a command for the command's own sake, if so.
-    fn own_fault(&self, command: &Command) -> Option<BenchFault>
+    fn own_refusal(&self, command: &Command) -> Option<BenchFault>
         ensures { result ≡ own_refusal self.now command.now }
     {
         let board = self.rig.board();
@@ -89,7 +89,7 @@ impl Bench {
                 unless(board.has_key(*row, *column), BenchFault::NoKey)
             }
             Command::Run(n) => unless(1 <= *n && *n <= RUN_CYCLES, BenchFault::BadCount),
-            Command::Poke(place) => self.place_fault(*place),
+            Command::Poke(place) => self.place_refusal(*place),
             Command::Break(at) => unless(self.breaks.has_room_for(*at), BenchFault::BreaksFull),
             Command::Watch(bank, src) => {
                 unless(
@@ -119,7 +119,7 @@ impl Bench {
         if self.seq == ACCEPTED_COMMANDS {
             return Err(BenchFault::Worn);
         }
-        match self.own_fault(command) {
+        match self.own_refusal(command) {
             Some(fault) => Err(fault),
             None => Ok(()),
         }

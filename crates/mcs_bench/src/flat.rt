@@ -1,6 +1,6 @@
 //! The state of a bench as plain numbers.
 ghost use Rattle.std.specs.Prelude.{◌≡◌, ◌<◌, ◌↔◌, ℕ, IfOk, IsTrue, length, replicate, slice_index, slice_set};
-ghost use Rattle.mcs_model.specs.Flat.{new_flat};
+ghost use Rattle.mcs_model.specs.BenchState.{new_bench_state};
 ghost use Rattle.mcs_bench.specs.States.{state_of};
 
 use arrayvec::ArrayVec;
@@ -118,7 +118,7 @@ impl Flat {
     ///
     /// Where memory is refused.
     pub fn new(alloc: Global) -> Result<Flat, AllocError>
-        ensures { IfOk result (λ flat. state_of flat ≡ new_flat) }
+        ensures { IfOk result (λ flat. state_of flat ≡ new_bench_state) }
     {
         Ok(Flat {
             seq: 0,

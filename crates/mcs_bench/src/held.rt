@@ -90,7 +90,7 @@ pub(crate) fn fill(rig: &mut BenchRig, held: Held, numbers: &[u8])
     requires absent { (i : ℕ) → i < count_of held → is_absent rig.old.board held i ≡ true → slice_index numbers.now i ≡ 0 }
     ensures { rig.new ≡ with_list rig.old held numbers.now }
 {
-    rig.state_is_valid();
+    rig.show_state_is_valid();
     for i in 0..numbers.len() {
         set(rig, held, i, numbers[i]);
     }

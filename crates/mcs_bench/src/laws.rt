@@ -46,13 +46,13 @@ fn registers_are_valid(regs: Regs)
 
 impl Bench {
     /// A law: the state of a bench is valid.
-    pub fn state_is_valid(&self)
+    pub fn show_state_is_valid(&self)
         ensures { IsValid self.now }
     {
         let _seq = self.seq;
         registers_are_valid(self.cpu.regs());
-        self.rig.state_is_valid();
-        self.breaks.state_is_valid();
-        self.watches.state_is_valid();
+        self.rig.show_state_is_valid();
+        self.breaks.show_state_is_valid();
+        self.watches.show_state_is_valid();
     }
 }

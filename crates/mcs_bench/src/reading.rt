@@ -55,7 +55,7 @@ impl Bench {
         ensures bytes { IfOk result (λ rom. rom.items ≡ self.now.bus.rom) }
         ensures whole { IfOk result (λ rom. length rom.items ≡ 4096) }
     {
-        self.rig.state_is_valid();
+        self.rig.show_state_is_valid();
         let mut rom = Vec::with_capacity(alloc, 4096)?;
         for at in 0..4096 {
             rom.push(self.rig.rom_byte(Addr::ZERO.plus(at)))?;

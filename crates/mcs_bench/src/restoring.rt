@@ -65,7 +65,7 @@ fn fill_rom_ports(rig: &mut BenchRig, ports: &[u8])
     requires kept { (chip : ℕ) → MatchOption (masks_on rig.old.board chip) (slice_index ports.now chip ≡ 0) (λ mask. latch_value mask (slice_index ports.now chip) ≡ slice_index ports.now chip) }
     ensures { rig.new ≡ record rig.old { rom_ports = ports.now } }
 {
-    rig.state_is_valid();
+    rig.show_state_is_valid();
     for chip in 0..16u8 {
         rig.set_rom_latch(chip, Nibble::low_of(ports[usize::from(chip)]));
     }
@@ -77,7 +77,7 @@ fn fill_chain(rig: &mut BenchRig, chain: u8, bits: &[u8])
     requires fit { AreBelow (chain_bits rig.old.board chain) 2 bits.now }
     ensures { rig.new ≡ record rig.old { chains = slice_set rig.old.chains chain bits.now } }
 {
-    rig.state_is_valid();
+    rig.show_state_is_valid();
     for i in 0..bits.len() {
         rig.set_chain_bit(chain, i as u8, Bit::low_of(bits[i]));
     }
@@ -89,7 +89,7 @@ fn fill_chains(rig: &mut BenchRig, rows: &[ArrayVec<u8, CHAIN_PLACES>])
     requires fit { (i : ℕ) → i < chain_count rig.old.board → AreBelow (chain_bits rig.old.board i) 2 (slice_index_or (rows_of rows.now) i []) }
     ensures { rig.new ≡ record rig.old { chains = rows_of rows.now } }
 {
-    rig.state_is_valid();
+    rig.show_state_is_valid();
     for i in 0..rows.len() {
         fill_chain(rig, i as u8, rows[i].as_slice());
     }
@@ -111,7 +111,7 @@ fn fill_keys(rig: &mut BenchRig, keys: &[u8])
     requires fit { AreBelow (key_count rig.old.board) 2 keys.now }
     ensures { rig.new ≡ record rig.old { keys = keys.now } }
 {
-    rig.state_is_valid();
+    rig.show_state_is_valid();
     let columns = columns_of(rig.board());
     for i in 0..keys.len() {
         rig.set_key(

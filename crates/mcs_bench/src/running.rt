@@ -2,7 +2,7 @@
 ghost use Rattle.std.specs.Prelude.{◌≡◌, ◌≢◌, ◌<◌, ◌*◌, ◌+◌, ◌&&◌, ◌==◌, not, unwrap_or, true, false, [], Some, MatchOption, slice_index};
 ghost use Rattle.mcs_model.specs.Bus.{src_of};
 ghost use Rattle.mcs_model.specs.Effect.{cycle_of, instruction_at};
-ghost use Rattle.mcs_model.specs.Running.{Turned, is_outside};
+ghost use Rattle.mcs_model.specs.Running.{InstructionRan, is_outside};
 ghost use Rattle.mcs_model.specs.Breakpoints.{is_breakpoint};
 ghost use Rattle.mcs_bench.specs.Runs.{RanOn, RanTo, Seen, SteppedTo, WillChange, mark_of};
 
@@ -42,7 +42,7 @@ const WRM: u8 = 0xE0;
 fn will_change(cpu: &Cpu, rig: &BenchRig, watches: &Watches, at: Addr) -> bool
     ensures { WillChange watches.now (record cpu.now { pc = at }, rig.now) result }
 {
-    rig.state_is_valid();
+    rig.show_state_is_valid();
     if rig.rom_byte(at) != WRM {
         return false;
     }
@@ -60,7 +60,7 @@ fn will_change(cpu: &Cpu, rig: &BenchRig, watches: &Watches, at: Addr) -> bool
 
 /// The cycles of the instruction at an address, at most `left` of them, and whether a watched character has changed.
 #[inline(always)]
-fn turn<const WATCHED: bool>(
+fn run_instruction<const WATCHED: bool>(
     cpu: &mut Cpu,
     rig: &mut BenchRig,
     watches: &Watches,
@@ -70,16 +70,16 @@ fn turn<const WATCHED: bool>(
     requires free { cpu.old.owed ≢ 1 }
     requires some { 0 < left }
     requires watched { WATCHED ≡ false → watches.now ≡ [] }
-    ensures turned { Turned left (record cpu.old { pc = at }, rig.old) (record cpu.new { pc = result.0 }, rig.new) result.1 }
+    ensures turned { InstructionRan left (record cpu.old { pc = at }, rig.old) (record cpu.new { pc = result.0 }, rig.new) result.1 }
     ensures owes { cpu.new.owed ≡ 1 → result.1 ≡ left }
     ensures seen { Seen watches.now (record cpu.old { pc = at }, rig.old) result.1 result.2 }
 {
     if !WATCHED {
-        let (next, cycles) = mcs_board::turn(cpu, rig, at, left);
+        let (next, cycles) = mcs_board::run_instruction(cpu, rig, at, left);
         return (next, cycles, false);
     }
     let changed = will_change(cpu, rig, watches, at);
-    let (next, cycles) = mcs_board::turn(cpu, rig, at, left);
+    let (next, cycles) = mcs_board::run_instruction(cpu, rig, at, left);
     (next, cycles, changed)
 }
 
@@ -108,7 +108,7 @@ fn run_loop<const WATCHED: bool>(
         }
     }
     while left > 0 {
-        let (next, cycles, changed) = turn::<WATCHED>(cpu, rig, watches, at, left);
+        let (next, cycles, changed) = run_instruction::<WATCHED>(cpu, rig, watches, at, left);
         if cycles == 0 {
             return (n - left, next, None);
         }

@@ -97,7 +97,7 @@ impl Watches {
     }
 
     /// A law: they are at most so many, each a place, rising.
-    pub(crate) fn state_is_valid(&self)
+    pub(crate) fn show_state_is_valid(&self)
         ensures { AreWatches self.now }
     {
         let _places = self.places.list();

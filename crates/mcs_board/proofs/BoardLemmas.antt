@@ -11,7 +11,7 @@ use Rattle.mcs_model.specs.declared.board.ChainPart.{ChainPart}
 use Rattle.mcs_model.specs.declared.board.KeyMatrix.{KeyMatrix}
 use Rattle.mcs_model.specs.declared.board.Line.{Line}
 use Rattle.mcs_model.specs.declared.board.Line.TheVariants.{Rom, Ram, Chain}
-use Rattle.mcs_model.specs.Boards.{fault_of, has_bad_value, lacks_line, lacks_rows, has_wrong_direction, any_chain_line, any_column, any_lamp, any_line, exists_on, is_output_line, is_input_line, input_on, chain_part, chain_count, chain_bits, no_chain}
+use Rattle.mcs_model.specs.Boards.{board_fault_of, has_bad_value, lacks_line, lacks_rows, has_wrong_direction, any_chain_line, any_column, any_lamp, any_line, exists_on, is_output_line, is_input_line, input_on, chain_part, chain_count, chain_bits, no_chain}
 
 pub bool_cases : (b : Bool) → (b ≡ true) ⊎ (b ≡ false)
 bool_cases true = inl refl
@@ -42,7 +42,7 @@ no_fault false true c h = absurd (cc)
 no_fault false false true h = absurd (cc)
 no_fault false false false h = (refl, refl, refl)
 
-valid : (b : BoardParts) → fault_of b ≡ None → (has_bad_value b ≡ false) × (lacks_line b ≡ false) × (has_wrong_direction b ≡ false)
+valid : (b : BoardParts) → board_fault_of b ≡ None → (has_bad_value b ≡ false) × (lacks_line b ≡ false) × (has_wrong_direction b ≡ false)
 valid b v = no_fault (has_bad_value b) (lacks_line b) (has_wrong_direction b) v
 
 -- some line of a chain, of the keys, or of the lamps
@@ -52,7 +52,7 @@ no_line p b h =
     ((neither (any_chain_line p b) (any_column p b) first.0).0, first.1)
 
 -- the chain that drives the keys
-pub keys-chain : (b : BoardParts) (m : KeyMatrix) → fault_of b ≡ None → b.keys ≡ Some m → m.chain < chain_count b
+pub keys-chain : (b : BoardParts) (m : KeyMatrix) → board_fault_of b ≡ None → b.keys ≡ Some m → m.chain < chain_count b
 keys-chain b m v is =
     let lacks = (neither (any_line (λ line. not (exists_on b line)) b) (lacks_rows b) (valid b v).1).1 in
     let here = sym (ap (λ (o : Option KeyMatrix). elim o [ Some k ↦ nat_le (chain_count b) k.chain || nat_lt (chain_bits b k.chain) (k.first + k.rows) | None ↦ false ]) is) ∙ lacks in
@@ -60,7 +60,7 @@ keys-chain b m v is =
     grind (arith, nat_tests, first)
 
 -- and it has a bit for each row
-pub keys-rows : (b : BoardParts) (m : KeyMatrix) → fault_of b ≡ None → b.keys ≡ Some m → m.first + m.rows ≤ chain_bits b m.chain
+pub keys-rows : (b : BoardParts) (m : KeyMatrix) → board_fault_of b ≡ None → b.keys ≡ Some m → m.first + m.rows ≤ chain_bits b m.chain
 keys-rows b m v is =
     let lacks = (neither (any_line (λ line. not (exists_on b line)) b) (lacks_rows b) (valid b v).1).1 in
     let here = sym (ap (λ (o : Option KeyMatrix). elim o [ Some k ↦ nat_le (chain_count b) k.chain || nat_lt (chain_bits b k.chain) (k.first + k.rows) | None ↦ false ]) is) ∙ lacks in
@@ -68,17 +68,17 @@ keys-rows b m v is =
     grind (arith, nat_tests, second)
 
 -- the lines of the clocks, the data and the lamps
-driven : (b : BoardParts) (i : ℕ) → fault_of b ≡ None → i < chain_count b → (not (is_output_line b (chain_part b i).clock) || not (is_output_line b (chain_part b i).data_in)) ≡ false
+driven : (b : BoardParts) (i : ℕ) → board_fault_of b ≡ None → i < chain_count b → (not (is_output_line b (chain_part b i).clock) || not (is_output_line b (chain_part b i).data_in)) ≡ false
 driven b i v l =
     let p = λ (line : Line). not (is_output_line b line) in
     let first = (neither (any_chain_line p b || any_column (λ line. not (is_input_line b line)) b) (any_lamp (is_input_line b) b) (valid b v).2).0 in
     let chains = (neither (any_chain_line p b) (any_column (λ line. not (is_input_line b line)) b) first).0 in
     none_at (λ (c : ChainPart). not (is_output_line b c.clock) || not (is_output_line b c.data_in)) b.chains.items i no_chain chains l
 
-pub clock-output : (b : BoardParts) (i : ℕ) → fault_of b ≡ None → i < chain_count b → is_output_line b (chain_part b i).clock ≡ true
+pub clock-output : (b : BoardParts) (i : ℕ) → board_fault_of b ≡ None → i < chain_count b → is_output_line b (chain_part b i).clock ≡ true
 clock-output b i v l = not_false _ (neither (not (is_output_line b (chain_part b i).clock)) (not (is_output_line b (chain_part b i).data_in)) (driven b i v l)).0
 
-pub data-output : (b : BoardParts) (i : ℕ) → fault_of b ≡ None → i < chain_count b → is_output_line b (chain_part b i).data_in ≡ true
+pub data-output : (b : BoardParts) (i : ℕ) → board_fault_of b ≡ None → i < chain_count b → is_output_line b (chain_part b i).data_in ≡ true
 data-output b i v l = not_false _ (neither (not (is_output_line b (chain_part b i).clock)) (not (is_output_line b (chain_part b i).data_in)) (driven b i v l)).1
 
 pub output-exists : (b : BoardParts) (line : Line) → is_output_line b line ≡ true → exists_on b line ≡ true
@@ -86,7 +86,7 @@ output-exists b (Rom chip k) h = (both (exists_on b (Rom chip k)) (not (input_on
 output-exists b (Ram bank chip k) h = h
 output-exists b (Chain n i) h = absurd (cc)
 
-pub lamp-exists : (b : BoardParts) (i : ℕ) (line : Line) → fault_of b ≡ None → slice_get b.lamps.items i ≡ Some line → exists_on b line ≡ true
+pub lamp-exists : (b : BoardParts) (i : ℕ) (line : Line) → board_fault_of b ≡ None → slice_get b.lamps.items i ≡ Some line → exists_on b line ≡ true
 lamp-exists b i line v is =
     let p = λ (x : Line). not (exists_on b x) in
     let lines = (neither (any_line p b) (lacks_rows b) (valid b v).1).0 in

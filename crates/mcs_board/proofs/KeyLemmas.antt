@@ -7,7 +7,7 @@ use Rattle.mcs_nibble.specs.Ports.{read_lines, mask_at}
 use Rattle.mcs_keypad.specs.Keys.{no_matrix}
 use Rattle.mcs_model.specs.declared.board.BoardParts.{BoardParts}
 use Rattle.mcs_model.specs.declared.board.KeyMatrix.{KeyMatrix}
-use Rattle.mcs_model.specs.Boards.{fault_of, masks_on, chain_count, chain_bits}
+use Rattle.mcs_model.specs.Boards.{board_fault_of, masks_on, chain_count, chain_bits}
 use Rattle.mcs_model.specs.Bus.{BusState}
 use Rattle.mcs_model.specs.Levels.{keyed, pulled, bit_when, port_at}
 use Rattle.mcs_board.specs.RigState.{RigParts, rig_of, matrix_on}
@@ -21,7 +21,7 @@ matrix-none : (b : BoardParts) → b.keys ≡ None → matrix_on b ≡ no_matrix
 matrix-none b e = ap (λ (o : Option KeyMatrix). elim o [ Some k ↦ k | None ↦ no_matrix ]) e
 
 -- the chain of the rows has a bit for each of them
-pub rows-fit : (b : BoardParts) (chains : List (List ℕ)) (m : KeyMatrix) → fault_of b ≡ None → m ≡ matrix_on b → ((i : ℕ) → i < chain_count b → length (get_or chains i []) ≡ chain_bits b i) → m.first + m.rows ≤ length (get_or chains m.chain [])
+pub rows-fit : (b : BoardParts) (chains : List (List ℕ)) (m : KeyMatrix) → board_fault_of b ≡ None → m ≡ matrix_on b → ((i : ℕ) → i < chain_count b → length (get_or chains i []) ≡ chain_bits b i) → m.first + m.rows ≤ length (get_or chains m.chain [])
 rows-fit b chains m v is bits =
     elim (b.keys) as (λ o. b.keys ≡ o → m.first + m.rows ≤ length (get_or chains m.chain [])) [
       | Some k ↦ λ e.
@@ -45,7 +45,7 @@ unfolding keyed
 keyed-none s chip k is = rw (is, keyed) refl
 
 -- what the keys pull is what the flat state says
-pub keyed-by : (p : RigParts) (chip k : ℕ) → fault_of p.board ≡ None → p.keys.matrix ≡ matrix_on p.board → pulled (get_or p.chains p.keys.matrix.chain []) p.keys.down p.keys.matrix chip k ≡ keyed (rig_of p) chip k
+pub keyed-by : (p : RigParts) (chip k : ℕ) → board_fault_of p.board ≡ None → p.keys.matrix ≡ matrix_on p.board → pulled (get_or p.chains p.keys.matrix.chain []) p.keys.down p.keys.matrix chip k ≡ keyed (rig_of p) chip k
 keyed-by p chip k v is =
     let down = p.keys.down in
     elim (p.board.keys) as (λ o. p.board.keys ≡ o → pulled (get_or p.chains p.keys.matrix.chain []) p.keys.down p.keys.matrix chip k ≡ keyed (rig_of p) chip k) [

@@ -12,7 +12,7 @@ use Rattle.mcs_model.specs.declared.board.BoardParts.{BoardParts}
 use Rattle.mcs_model.specs.declared.board.KeyMatrix.{KeyMatrix}
 use Rattle.mcs_model.specs.Boards.{masks_on, chain_count, chain_bits, key_count}
 use Rattle.mcs_model.specs.Bus.{BusState, with_ram, with_status}
-use Rattle.mcs_model.specs.Places.{with_ram_port, with_ram_src}
+use Rattle.mcs_model.specs.Places.{with_ram_latch, with_ram_src}
 
 -- what is read where a bank, or a ROM, is absent: nothing but 0
 abbrev pub no_bank : BankState
@@ -86,5 +86,5 @@ pub record Fitted (p : RigParts) (rom_places bank_places chain_places : ℕ) : T
 abbrev pub after_bank_write : BusState → ℕ → BankWrite → BusState
 after_bank_write s bank (Character src n) = with_ram s bank src n
 after_bank_write s bank (Status high k n) = with_status s bank high k n
-after_bank_write s bank (Port chip n) = with_ram_port s bank chip n
+after_bank_write s bank (Port chip n) = with_ram_latch s bank chip n
 after_bank_write s bank (Src byte) = with_ram_src s bank byte

@@ -1,7 +1,7 @@
 //! The bench's rig, which every board fits, and the processor over it.
 ghost use Rattle.std.specs.Prelude.{◌≡◌, ◌≢◌, ◌<◌, ◌↔◌, IsNone, unwrap_or};
 ghost use Rattle.mcs_model.specs.Effect.{cycle_of};
-ghost use Rattle.mcs_model.specs.Running.{Turned};
+ghost use Rattle.mcs_model.specs.Running.{InstructionRan};
 ghost use Rattle.mcs_board.specs.Fitting.{FitsCounts};
 
 use crate::rig::Rig;
@@ -34,12 +34,12 @@ pub fn cycle(cpu: &mut Cpu, rig: &mut BenchRig) -> Cycle
 /// the address where the processor goes on, and how many cycles it did; 0 where none can follow. The counter itself
 /// stays as it is.
 #[inline(always)]
-pub fn turn(cpu: &mut Cpu, rig: &mut BenchRig, at: Addr, left: u32) -> (Addr, u32)
+pub fn run_instruction(cpu: &mut Cpu, rig: &mut BenchRig, at: Addr, left: u32) -> (Addr, u32)
     requires free { cpu.old.owed ≢ 1 }
     requires some { 0 < left }
-    ensures turned { Turned left (record cpu.old { pc = at }, rig.old) (record cpu.new { pc = result.0 }, rig.new) result.1 }
+    ensures turned { InstructionRan left (record cpu.old { pc = at }, rig.old) (record cpu.new { pc = result.0 }, rig.new) result.1 }
     ensures owes { cpu.new.owed ≡ 1 → result.1 ≡ left }
     ensures counter { cpu.new.pc ≡ cpu.old.pc }
 {
-    cpu.turn(rig, at, left)
+    cpu.run_instruction(rig, at, left)
 }

@@ -246,7 +246,7 @@ fn rom_is_valid(rom: &Option<Rom>)
     ensures { IfSome rom.now IsValidRom }
 {
     if let Some(rom) = rom {
-        rom.state_is_valid();
+        rom.show_state_is_valid();
     }
 }
 
@@ -264,6 +264,6 @@ pub(crate) fn banks_are_valid(banks: &Vec<Bank<4>>)
     ensures { (k : ℕ) → k < length banks.now.items → IsValidBank (slice_index_or banks.now.items k no_bank) }
 {
     for i in 0..banks.len() {
-        banks[i].state_is_valid();
+        banks[i].show_state_is_valid();
     }
 }

@@ -103,14 +103,14 @@ impl<const ROMS: usize, const BANKS: usize, const CHAINS: usize, const MAX: usiz
 
     /// A law: the board is valid, each place of the chips holds a number of its kind, there are as many places as the
     /// board gives, and what is absent holds 0.
-    pub fn state_is_valid(&self)
+    pub fn show_state_is_valid(&self)
         ensures { IsValidBus self.now }
     {
         let _parts = self.parts();
         roms_are_valid(&self.roms);
         banks_are_valid(&self.banks);
         self.chains_are_valid();
-        self.keys.state_is_valid();
+        self.keys.show_state_is_valid();
         let _level = self.test.get();
     }
 }

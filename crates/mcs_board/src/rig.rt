@@ -1,6 +1,6 @@
 //! What a rig holds.
 ghost use Rattle.std.specs.Prelude.{◌≡◌, ◌<◌, None};
-ghost use Rattle.mcs_model.specs.Boards.{fault_of, chain_count, IsSized};
+ghost use Rattle.mcs_model.specs.Boards.{board_fault_of, chain_count, IsSized};
 ghost use Rattle.mcs_model.specs.Levels.{chain_bit};
 
 use mcs_keypad::KeyPad;
@@ -49,7 +49,7 @@ impl<const ROMS: usize, const BANKS: usize, const CHAINS: usize, const MAX: usiz
     /// The parts of the board. Nothing is wrong with them.
     pub(crate) fn parts(&self) -> &BoardParts
         ensures same { result.now ≡ self.now.board }
-        ensures valid { fault_of self.now.board ≡ None }
+        ensures valid { board_fault_of self.now.board ≡ None }
         ensures sized { IsSized self.now.board }
     {
         let _chains = &self.chains;

@@ -7,7 +7,7 @@
 
 ghost use Rattle.std.specs.Prelude.{◌≡◌, ◌↔◌, IsSome, Some, unwrap_or};
 ghost use Rattle.std.specs.Option.{option_map_or};
-ghost use Rattle.mcs_model.specs.Table.{decoded, words_of, cycles_of};
+ghost use Rattle.mcs_model.specs.Table.{decoded, word_count_of, cycles_of};
 
 pub use mcs_model::op::Op;
 use mcs_nibble::{Nibble, PairNo, RegNo};
@@ -30,7 +30,7 @@ pub fn decode(first: u8, second: u8) -> Option<Op>
 #[tactic(auto, unfolding(mcs_model::specs::Table::decoded, mcs_model::specs::Table::row_of))]
 pub fn encode(op: Op) -> Words
     ensures decodes { decoded result.first (unwrap_or result.second 0) ≡ Some op }
-    ensures second { IsSome result.second ↔ (words_of op ≡ 2) }
+    ensures second { IsSome result.second ↔ (word_count_of op ≡ 2) }
 {
     instructions!(encode_rows!(op))
 }
@@ -38,14 +38,14 @@ pub fn encode(op: Op) -> Words
 /// How many words an instruction with that first word has, 1 or 2; 1 for a code outside the table.
 #[tactic(auto, unfolding(mcs_model::specs::Table::decoded, mcs_model::specs::Table::row_of))]
 pub fn words(code: u8) -> u8
-    ensures { result ≡ option_map_or words_of (decoded code 0) 1 }
+    ensures { result ≡ option_map_or word_count_of (decoded code 0) 1 }
 {
     instructions!(words_rows!(code))
 }
 
 /// How many words an instruction has, 1 or 2.
 pub fn word_count(op: Op) -> u8
-    ensures { result ≡ words_of op }
+    ensures { result ≡ word_count_of op }
 {
     instructions!(word_count_rows!(op))
 }

@@ -9,7 +9,7 @@ use Rattle.mcs_model.specs.declared.board.BoardFault.TheVariants.{BadValue, NoSu
 use Rattle.mcs_model.specs.declared.board.BoardParts.{BoardParts}
 use Rattle.mcs_model.specs.declared.board.ChainPart.{ChainPart}
 use Rattle.mcs_model.specs.declared.board.KeyMatrix.{KeyMatrix}
-use Rattle.mcs_model.specs.Boards.{fault_of, has_bad_value, has_bad_matrix, lacks_line, no_chain, chain_bits, has_wrong_direction, any_line, in_range, is_chain_size, is_matrix_size, key_count}
+use Rattle.mcs_model.specs.Boards.{board_fault_of, has_bad_value, has_bad_matrix, lacks_line, no_chain, chain_bits, has_wrong_direction, any_line, in_range, is_chain_size, is_matrix_size, key_count}
 use Rattle.mcs_model.specs.declared.limits.TheConstants.{CHAINS, CHAIN_CHIPS, CHAIN_BITS, KEY_ROWS, KEYS}
 use Rattle.mcs_model.specs.Validity.{IsValidBoard}
 
@@ -55,7 +55,7 @@ pub record HasGoodValues (b : BoardParts) : Type 0 where
   pub chains : list_any (λ c. not (is_chain_size c)) b.chains.items ≡ false
   pub matrix : has_bad_matrix b ≡ false
 
-pub good_values : (b : BoardParts) → fault_of b ≡ None → HasGoodValues b
+pub good_values : (b : BoardParts) → board_fault_of b ≡ None → HasGoodValues b
 good_values b h =
     let large = list_any (λ n. nat_lt 4 n) b.banks in
     let chains = list_any (λ c. not (is_chain_size c)) b.chains.items in
@@ -86,7 +86,7 @@ few_keys (Some m) h e =
     let rows = (both_true (nat_lt m.chain CHAINS && nat_lt m.first CHAIN_BITS && nat_lt 0 m.rows) (nat_le m.rows KEY_ROWS) (both_true (nat_lt m.chain CHAINS && nat_lt m.first CHAIN_BITS && nat_lt 0 m.rows && nat_le m.rows KEY_ROWS) (nat_lt 0 (length m.columns.items)) all).0).1 in
     mul-le m.rows (length m.columns.items) 10 8 (leb-true _ _ rows) h
 
-pub chips_of : (b : BoardParts) → fault_of b ≡ None → AllByRecursion (λ c. c.chips ≤ CHAIN_CHIPS) b.chains.items
+pub chips_of : (b : BoardParts) → board_fault_of b ≡ None → AllByRecursion (λ c. c.chips ≤ CHAIN_CHIPS) b.chains.items
 chips_of b h = few_chips b.chains.items (good_values b h).chains
 
 chips_at : (chains : List ChainPart) (i : ℕ) → AllByRecursion (λ c. c.chips ≤ CHAIN_CHIPS) chains → (get_or chains i no_chain).chips ≤ CHAIN_CHIPS
@@ -95,10 +95,10 @@ chips_at (c ∷ chains) zero h = h.0
 chips_at (c ∷ chains) (suc i) h = chips_at chains i h.1
 
 -- no chain has more bits
-pub few_bits : (b : BoardParts) (i : ℕ) → fault_of b ≡ None → chain_bits b i ≤ CHAIN_BITS
+pub few_bits : (b : BoardParts) (i : ℕ) → board_fault_of b ≡ None → chain_bits b i ≤ CHAIN_BITS
 few_bits b i h = omega (arith, chips_at b.chains.items i (chips_of b h))
 
-pub keys_of : (b : BoardParts) → IsKeys b.keys → fault_of b ≡ None → key_count b ≤ KEYS
+pub keys_of : (b : BoardParts) → IsKeys b.keys → board_fault_of b ≡ None → key_count b ≤ KEYS
 keys_of b k h = few_keys b.keys k (good_values b h).matrix
 
 -- ---- lengths by place, and by element
@@ -127,7 +127,7 @@ lengths_of b h = record {
   lamps = h.sized.lamps;
 }
 
-pub valid_of : (b : BoardParts) → HasLengths b → fault_of b ≡ None → IsValidBoard b
+pub valid_of : (b : BoardParts) → HasLengths b → board_fault_of b ≡ None → IsValidBoard b
 valid_of b h sound = record {
   sized = record {
     roms = h.roms;

@@ -5,8 +5,8 @@ use Rattle.std.specs.Int.{Width, w16, w32, byte_len, from_be_bytes, to_be_bytes}
 use Rattle.std.proofs.lemmas.Bool.{leb-true, le-leb, cases_lt, ltb-false, ltb-true, le-ltb, lt-ltb, eqb-true}
 use Rattle.std.proofs.lemmas.List.{take_at, drop_at, take-append-drop, append-nil, length-append, length-take, length-take-le, get_or-take, get_or_past}
 use Rattle.std.proofs.lemmas.Nat.{be_bytes_2, be_bytes_4, from_be_bytes-to_be_bytes_2, from_be_bytes-to_be_bytes_4}
-use Rattle.mcs_codec.specs.BoardText.{counted}
-use Rattle.mcs_codec.specs.CommandText.{address}
+use Rattle.mcs_codec.specs.BoardBytes.{counted}
+use Rattle.mcs_codec.specs.CommandBytes.{address}
 use Rattle.mcs_codec.specs.Reading.{◌>>=◌, giving, byte_at, number_at, address_at, bytes_at, passing, only, depending, both, many, small_at, nothing_after, whole, decoding, decoded, giving_rest, done_at, counted_at}
 
 -- ---- bytes

@@ -6,7 +6,7 @@ use Rattle.mcs_model.specs.declared.command.Place.TheVariants.{Acc, Cy, Pc, Regi
 use Rattle.mcs_model.specs.declared.command.Command.{Command}
 use Rattle.mcs_model.specs.declared.command.Command.TheVariants.{Wire, Load, Press, Release, Run, Step, Poke, Test, Reset, Break, Unbreak, Watch, Unwatch}
 use Rattle.mcs_codec.specs.Reading.{giving, small_at, whole}
-use Rattle.mcs_codec.specs.CommandText.{place_text, command_text, IsPlace, IsCommand}
+use Rattle.mcs_codec.specs.CommandBytes.{place_bytes, command_bytes, IsPlace, IsCommand}
 use Rattle.mcs_codec.specs.CommandReading.{place_at, command_at, all_behind}
 use Rattle.mcs_codec.specs.Codec.{Spells}
 use Rattle.mcs_codec.proofs.Codecs.{IsCodec, IsBytes, IsBytes-rest, byte_codec, long_codec, address_codec, small_codec, both_codec, done_codec, row, whole_takes, whole_again, same_value}
@@ -25,22 +25,22 @@ bank_codec = small_codec 8 (omega arith)
 status_codec : IsCodec (λ n. n ∷ []) (λ n. n < 4) (small_at 4)
 status_codec = small_codec 4 (omega arith)
 
-place_takes : (bytes : List ℕ) (x : Place × List ℕ) → IsBytes bytes → place_at bytes ≡ Some x → (bytes ≡ place_text x.0 ++ x.1) × IsPlace x.0
+place_takes : (bytes : List ℕ) (x : Place × List ℕ) → IsBytes bytes → place_at bytes ≡ Some x → (bytes ≡ place_bytes x.0 ++ x.1) × IsPlace x.0
 unfolding place_at
 place_takes [] x all e = absurd cc
 place_takes (tag ∷ bytes) x all e =
     let rest = IsBytes-rest tag bytes all in
-    row place_text IsPlace 0 Acc rest nibble_codec (λ a h. (refl, h))
-    (row place_text IsPlace 1 Cy rest bit_codec (λ a h. (refl, h))
-    (row place_text IsPlace 2 Pc rest address_codec (λ a h. (refl, h))
-    (row place_text IsPlace 3 (λ p. Register p.0 p.1) rest (both_codec nibble_codec nibble_codec) (λ a h. (refl, h))
-    (row place_text IsPlace 4 Dcl rest bank_codec (λ a h. (refl, h))
-    (row place_text IsPlace 5 (λ p. Rom p.0 p.1) rest (both_codec address_codec byte_codec) (λ a h. (refl, h))
-    (row place_text IsPlace 6 (λ p. Ram p.0 p.1.0 p.1.1) rest (both_codec bank_codec (both_codec byte_codec nibble_codec)) (λ a h. (refl, h))
-    (row place_text IsPlace 7 (λ p. Status p.0 p.1.0 p.1.1.0 p.1.1.1) rest (both_codec bank_codec (both_codec nibble_codec (both_codec status_codec nibble_codec))) (λ a h. (refl, h))
+    row place_bytes IsPlace 0 Acc rest nibble_codec (λ a h. (refl, h))
+    (row place_bytes IsPlace 1 Cy rest bit_codec (λ a h. (refl, h))
+    (row place_bytes IsPlace 2 Pc rest address_codec (λ a h. (refl, h))
+    (row place_bytes IsPlace 3 (λ p. Register p.0 p.1) rest (both_codec nibble_codec nibble_codec) (λ a h. (refl, h))
+    (row place_bytes IsPlace 4 Dcl rest bank_codec (λ a h. (refl, h))
+    (row place_bytes IsPlace 5 (λ p. Rom p.0 p.1) rest (both_codec address_codec byte_codec) (λ a h. (refl, h))
+    (row place_bytes IsPlace 6 (λ p. Ram p.0 p.1.0 p.1.1) rest (both_codec bank_codec (both_codec byte_codec nibble_codec)) (λ a h. (refl, h))
+    (row place_bytes IsPlace 7 (λ p. Status p.0 p.1.0 p.1.1.0 p.1.1.1) rest (both_codec bank_codec (both_codec nibble_codec (both_codec status_codec nibble_codec))) (λ a h. (refl, h))
     (λ none. absurd cc)))))))) e
 
-place_again : (p : Place) (rest : List ℕ) → IsPlace p → place_at (place_text p ++ rest) ≡ Some (p, rest)
+place_again : (p : Place) (rest : List ℕ) → IsPlace p → place_at (place_bytes p ++ rest) ≡ Some (p, rest)
 unfolding place_at
 place_again (Acc n) rest h = ap (giving Acc) (nibble_codec.again n rest h)
 place_again (Cy b) rest h = ap (giving Cy) (bit_codec.again b rest h)
@@ -51,30 +51,30 @@ place_again (Rom at byte) rest h = ap (giving (λ p. Rom p.0 p.1)) ((both_codec 
 place_again (Ram bank src n) rest h = ap (giving (λ p. Ram p.0 p.1.0 p.1.1)) ((both_codec bank_codec (both_codec byte_codec nibble_codec)).again (bank, (src, n)) rest h)
 place_again (Status bank high k n) rest h = ap (giving (λ p. Status p.0 p.1.0 p.1.1.0 p.1.1.1)) ((both_codec bank_codec (both_codec nibble_codec (both_codec status_codec nibble_codec))).again (bank, (high, (k, n))) rest h)
 
-pub place_codec : IsCodec place_text IsPlace place_at
+pub place_codec : IsCodec place_bytes IsPlace place_at
 place_codec = record { takes = place_takes; again = place_again }
 
-command_takes : (bytes : List ℕ) (x : Command × List ℕ) → IsBytes bytes → command_at bytes ≡ Some x → (bytes ≡ command_text x.0 ++ x.1) × IsCommand x.0
+command_takes : (bytes : List ℕ) (x : Command × List ℕ) → IsBytes bytes → command_at bytes ≡ Some x → (bytes ≡ command_bytes x.0 ++ x.1) × IsCommand x.0
 unfolding command_at all_behind
 command_takes [] x all e = absurd cc
 command_takes (tag ∷ bytes) x all e =
     let rest = IsBytes-rest tag bytes all in
-    row command_text IsCommand 2 Load rest image_codec (λ a h. (refl, h))
-    (row command_text IsCommand 1 Wire rest board_codec (λ a h. (refl, h))
-    (row command_text IsCommand 3 (λ p. Press p.0 p.1) rest (both_codec byte_codec byte_codec) (λ a h. (refl, h))
-    (row command_text IsCommand 4 (λ p. Release p.0 p.1) rest (both_codec byte_codec byte_codec) (λ a h. (refl, h))
-    (row command_text IsCommand 5 Run rest long_codec (λ a h. (refl, h))
-    (row command_text IsCommand 6 (λ _. Step) rest done_codec (λ a h. (refl, h))
-    (row command_text IsCommand 7 Poke rest place_codec (λ a h. (refl, h))
-    (row command_text IsCommand 8 Test rest bit_codec (λ a h. (refl, h))
-    (row command_text IsCommand 9 (λ _. Reset) rest done_codec (λ a h. (refl, h))
-    (row command_text IsCommand 10 Break rest address_codec (λ a h. (refl, h))
-    (row command_text IsCommand 11 Unbreak rest address_codec (λ a h. (refl, h))
-    (row command_text IsCommand 12 (λ p. Watch p.0 p.1) rest (both_codec bank_codec byte_codec) (λ a h. (refl, h))
-    (row command_text IsCommand 13 (λ p. Unwatch p.0 p.1) rest (both_codec bank_codec byte_codec) (λ a h. (refl, h))
+    row command_bytes IsCommand 2 Load rest image_codec (λ a h. (refl, h))
+    (row command_bytes IsCommand 1 Wire rest board_codec (λ a h. (refl, h))
+    (row command_bytes IsCommand 3 (λ p. Press p.0 p.1) rest (both_codec byte_codec byte_codec) (λ a h. (refl, h))
+    (row command_bytes IsCommand 4 (λ p. Release p.0 p.1) rest (both_codec byte_codec byte_codec) (λ a h. (refl, h))
+    (row command_bytes IsCommand 5 Run rest long_codec (λ a h. (refl, h))
+    (row command_bytes IsCommand 6 (λ _. Step) rest done_codec (λ a h. (refl, h))
+    (row command_bytes IsCommand 7 Poke rest place_codec (λ a h. (refl, h))
+    (row command_bytes IsCommand 8 Test rest bit_codec (λ a h. (refl, h))
+    (row command_bytes IsCommand 9 (λ _. Reset) rest done_codec (λ a h. (refl, h))
+    (row command_bytes IsCommand 10 Break rest address_codec (λ a h. (refl, h))
+    (row command_bytes IsCommand 11 Unbreak rest address_codec (λ a h. (refl, h))
+    (row command_bytes IsCommand 12 (λ p. Watch p.0 p.1) rest (both_codec bank_codec byte_codec) (λ a h. (refl, h))
+    (row command_bytes IsCommand 13 (λ p. Unwatch p.0 p.1) rest (both_codec bank_codec byte_codec) (λ a h. (refl, h))
     (λ none. absurd cc))))))))))))) e
 
-command_again : (c : Command) (rest : List ℕ) → IsCommand c → command_at (command_text c ++ rest) ≡ Some (c, rest)
+command_again : (c : Command) (rest : List ℕ) → IsCommand c → command_at (command_bytes c ++ rest) ≡ Some (c, rest)
 unfolding command_at all_behind
 command_again (Wire board) rest h = ap (giving Wire) (board_codec.again board rest h)
 command_again (Load image) rest h = ap (giving Load) (image_codec.again image rest h)
@@ -90,7 +90,7 @@ command_again (Unbreak at) rest h = ap (giving Unbreak) (address_codec.again at 
 command_again (Watch bank src) rest h = ap (giving (λ p. Watch p.0 p.1)) ((both_codec bank_codec byte_codec).again (bank, src) rest h)
 command_again (Unwatch bank src) rest h = ap (giving (λ p. Unwatch p.0 p.1)) ((both_codec bank_codec byte_codec).again (bank, src) rest h)
 
-pub command_codec : IsCodec command_text IsCommand command_at
+pub command_codec : IsCodec command_bytes IsCommand command_at
 command_codec = record { takes = command_takes; again = command_again }
 
 -- ---- what the public calls promise

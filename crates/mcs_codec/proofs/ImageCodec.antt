@@ -13,9 +13,9 @@ use Rattle.mcs_nibble.specs.Bits.{bit_of}
 use Rattle.mcs_nibble.specs.Tabled.{tabled}
 use Rattle.mcs_nibble.proofs.TabledLemmas.{tabled_from, get_or-tabled, length-tabled}
 use Rattle.mcs_codec.specs.Reading.{giving, byte_at}
-use Rattle.mcs_model.specs.Pairs.{IsImage}
-use Rattle.mcs_codec.specs.CommandText.{mark, byte_of, map_text, image_text, values}
-use Rattle.mcs_codec.specs.CommandReading.{mark_at, pairs_at, image_at}
+use Rattle.mcs_model.specs.Images.{IsImage}
+use Rattle.mcs_codec.specs.CommandBytes.{mark, byte_of, map_bytes, image_bytes, values}
+use Rattle.mcs_codec.specs.CommandReading.{map_bit_at, pairs_at, image_at}
 use Rattle.mcs_codec.proofs.Codecs.{AreCells, IsCodec, IsBytes, IsBytes-rest, bind_some, giving_some, byte_codec, bytes_codec, depending_codec, giving_codec, refit_codec}
 
 -- by rising address from one on, below a limit
@@ -25,7 +25,7 @@ AreFrom low limit (p ∷ image) = (low ≤ p.0) × (p.0 < limit) × (p.1 < 256) 
 
 -- the map has exactly the addresses of the image, from one on, so many
 abbrev pub IsMarked : List ℕ → ℕ → ℕ → List (ℕ × ℕ) → Type 0
-IsMarked marks at limit image = (x : ℕ) → at ≤ x → x < limit → mark image x ≡ mark_at marks x
+IsMarked marks at limit image = (x : ℕ) → at ≤ x → x < limit → mark image x ≡ map_bit_at marks x
 
 unequal : (a x : ℕ) → a < x → eqb a x ≡ false
 unequal a x lt = grind (arith, nat_tests)
@@ -47,8 +47,8 @@ from_lower : (image : List (ℕ × ℕ)) (low limit : ℕ) → AreFrom (low + 1)
 from_lower [] low limit h = tt
 from_lower (p ∷ image) low limit h = (omega (arith, h.0), h.1, h.2, h.3)
 
-bit_cases : (marks : List ℕ) (at : ℕ) → (mark_at marks at ≡ 1) ⊎ (mark_at marks at ≡ 0)
-unfolding mark_at
+bit_cases : (marks : List ℕ) (at : ℕ) → (map_bit_at marks at ≡ 1) ⊎ (map_bit_at marks at ≡ 0)
+unfolding map_bit_at
 bit_cases marks at =
     let n = get_or marks (at / 8) 0 / 2 ^ (at % 8) in
     let lt : n % 2 < 2 = omega arith in
@@ -73,7 +73,7 @@ pairs_takes marks (suc n) at limit bytes x k all e =
           let two = pairs_takes marks n (at + 1) limit a.0.1 b.0 (omega arith) (IsBytes-rest a.0.0 a.0.1 (subst IsBytes one.0 all)) b.1 in
           let marked : IsMarked marks at limit ((at, a.0.0) ∷ b.0.0) = λ v le lt. elim (above at v le) [
             | inl more ↦ later_mark (at, a.0.0) b.0.0 v more ∙ two.1.1 v (omega arith) lt
-            | inr is ↦ own_mark (at, a.0.0) b.0.0 v (sym is) ∙ sym h ∙ ap (mark_at marks) (sym is)
+            | inr is ↦ own_mark (at, a.0.0) b.0.0 v (sym is) ∙ sym h ∙ ap (map_bit_at marks) (sym is)
           ] in
           subst (λ (y : List (ℕ × ℕ) × List ℕ). (bytes ≡ values y.0 ++ y.1) × (AreFrom at limit y.0 × IsMarked marks at limit y.0)) b.2
           (one.0 ∙ ap (λ (l : List ℕ). a.0.0 ∷ l) two.0, ((omega arith, omega arith, one.1, two.1.0), marked))
@@ -95,17 +95,17 @@ unfolding pairs_at
 pairs_again marks zero at limit [] rest k h m = refl
 pairs_again marks zero at limit (p ∷ image) rest k h m = absurd (omega (arith, h.0, h.1))
 pairs_again marks (suc n) at limit [] rest k h m =
-    let none : mark_at marks at ≡ 0 = sym (m at (omega arith) (omega arith)) in
+    let none : map_bit_at marks at ≡ 0 = sym (m at (omega arith) (omega arith)) in
     rw none (pairs_again marks n (at + 1) limit [] rest (omega arith) tt (λ v le lt. m v (omega arith) lt))
 pairs_again marks (suc n) at limit (p ∷ image) rest k h m =
     elim (above at p.0 h.0) [
       | inl more ↦
           let same : mark (p ∷ image) at ≡ 0 = no_mark (p ∷ image) p.0 limit at (omega arith, h.1, h.2, h.3) more in
-          let none : mark_at marks at ≡ 0 = sym (m at (omega arith) (omega arith)) ∙ same in
+          let none : map_bit_at marks at ≡ 0 = sym (m at (omega arith) (omega arith)) ∙ same in
           rw none (pairs_again marks n (at + 1) limit (p ∷ image) rest (omega arith) (omega arith, h.1, h.2, h.3) (λ v le lt. m v (omega arith) lt))
       | inr is ↦
           let same : mark (p ∷ image) at ≡ 1 = own_mark p image at is in
-          let some : mark_at marks at ≡ 1 = sym (m at (omega arith) (omega arith)) ∙ same in
+          let some : map_bit_at marks at ≡ 1 = sym (m at (omega arith) (omega arith)) ∙ same in
           let tail : AreFrom (at + 1) limit image = rw is at h.3 in
           let back = pairs_again marks n (at + 1) limit image rest (omega arith) tail (λ v le lt. sym (later_mark p image v (omega arith)) ∙ m v (omega arith) lt) in
           rw (some, back) (rw (← is) refl)
@@ -139,15 +139,15 @@ mark_small image x = elim (list_any (λ p. eqb p.0 x) image) as (λ b. cond b 1 
 -- ---- the map of an image
 
 same_bit : (marks : List ℕ) (image : List (ℕ × ℕ)) (i k : ℕ) → IsMarked marks 0 4096 image → i < 512 → k < 8 → mark image (8 * i + k) ≡ bit_of (get_or marks i 0) k
-unfolding mark_at
+unfolding map_bit_at
 same_bit marks image i k m lt small =
     let here : mark image (8 * i + k) ≡ bit_of (get_or marks ((8 * i + k) / 8) 0) ((8 * i + k) % 8) = m (8 * i + k) (omega arith) (omega arith) in
     let q : (8 * i + k) / 8 ≡ i = omega arith in
     let r : (8 * i + k) % 8 ≡ k = omega arith in
     here ∙ ap (λ j. bit_of (get_or marks j 0) ((8 * i + k) % 8)) q ∙ ap (bit_of (get_or marks i 0)) r
 
-same_map : (marks : List ℕ) (image : List (ℕ × ℕ)) → AreCells 512 256 marks → IsMarked marks 0 4096 image → map_text image ≡ marks
-unfolding map_text
+same_map : (marks : List ℕ) (image : List (ℕ × ℕ)) → AreCells 512 256 marks → IsMarked marks 0 4096 image → map_bytes image ≡ marks
+unfolding map_bytes
 same_map marks image c m = sym (tabled_from 512 (λ i. byte_of (λ k. mark image (8 * i + k))) marks 0 c.len (λ i lt.
     let b = λ (k : ℕ) (small : k < 8). same_bit marks image i k m lt small in
     let n = get_or marks i 0 in
@@ -155,8 +155,8 @@ same_map marks image c m = sym (tabled_from 512 (λ i. byte_of (λ k. mark image
     let bits : byte_of (λ k. mark image (8 * i + k)) ≡ byte_of (bit_of n) = rw (b 0 (omega arith), b 1 (omega arith), b 2 (omega arith), b 3 (omega arith), b 4 (omega arith), b 5 (omega arith), b 6 (omega arith), b 7 (omega arith)) refl in
     sym (bits ∙ byte_bits n fits)))
 
-map_marks : (image : List (ℕ × ℕ)) → IsMarked (map_text image) 0 4096 image
-unfolding map_text mark_at
+map_marks : (image : List (ℕ × ℕ)) → IsMarked (map_bytes image) 0 4096 image
+unfolding map_bytes map_bit_at
 map_marks image x le lt =
     let f = λ (i : ℕ). byte_of (λ k. mark image (8 * i + k)) in
     let byte : get_or (tabled 512 f) (x / 8) 0 ≡ f (x / 8) = get_or-tabled 512 f (x / 8) 0 (omega arith) in
@@ -164,8 +164,8 @@ map_marks image x le lt =
     let whole : 8 * (x / 8) + x % 8 ≡ x = omega arith in
     sym (ap (λ b. bit_of b (x % 8)) byte ∙ bit ∙ ap (mark image) whole)
 
-map_cells : (image : List (ℕ × ℕ)) → AreCells 512 256 (map_text image)
-unfolding map_text
+map_cells : (image : List (ℕ × ℕ)) → AreCells 512 256 (map_bytes image)
+unfolding map_bytes
 map_cells image =
     let f = λ (i : ℕ). byte_of (λ k. mark image (8 * i + k)) in
     record {
@@ -177,9 +177,9 @@ map_cells image =
           rw (get_or-tabled 512 f i d in_list) byte);
     }
 
-rising_codec : IsCodec image_text (AreFrom 0 4096) image_at
+rising_codec : IsCodec image_bytes (AreFrom 0 4096) image_at
 unfolding image_at
-rising_codec = giving_codec (λ (p : List ℕ × List (ℕ × ℕ)). p.1) (λ image. (map_text image, image)) image_text (AreFrom 0 4096)
+rising_codec = giving_codec (λ (p : List ℕ × List (ℕ × ℕ)). p.1) (λ image. (map_bytes image, image)) image_bytes (AreFrom 0 4096)
     (depending_codec (bytes_codec 512) (λ marks _. pairs_codec marks))
     (λ p h. (ap (λ (l : List ℕ). l ++ values p.1) (same_map p.0 p.1 h.0 h.1.1), h.1.0))
     (λ image h. (refl, (map_cells image, (h, map_marks image))))
@@ -208,7 +208,7 @@ image_from (p ∷ image) low h =
       all_cons (λ q. low ≤ q.0) p image h.0 above,
     )
 
-pub image_codec : IsCodec image_text IsImage image_at
+pub image_codec : IsCodec image_bytes IsImage image_at
 image_codec = refit_codec IsImage (λ image h. (image_from image 0 h).0) (λ image h. from_image image 0 h (λ i d lt. omega arith)) rising_codec
 
 -- ---- how many bytes
@@ -220,10 +220,10 @@ few_pairs (p ∷ image) low limit le h =
     let rest = few_pairs image (p.0 + 1) limit (omega (arith, h.1)) h.3 in
     omega (arith, h.0, rest)
 
-pub length-image : (image : List (ℕ × ℕ)) → IsImage image → length (image_text image) ≤ 4608
+pub length-image : (image : List (ℕ × ℕ)) → IsImage image → length (image_bytes image) ≤ 4608
 length-image image h =
     let few = few_pairs image 0 4096 (omega arith) (from_image image 0 h (λ i d lt. omega arith)) in
-    omega (arith, few, (map_cells image).len, length-append (map_text image) (values image), length-map image (λ p. p.1))
+    omega (arith, few, (map_cells image).len, length-append (map_bytes image) (values image), length-map image (λ p. p.1))
 
 -- ---- one pair more
 
@@ -262,6 +262,6 @@ map_goes_on pairs marks map i byte lt len marked is so_far j below =
       | inr ne ↦ get_or-set_other map i j byte 0 ne ∙ so_far j (omega arith)
     ]
 
-pub map_done : (pairs : List (ℕ × ℕ)) (map : List ℕ) (i : ℕ) → 512 ≤ i → length map ≡ 512 → ((j : ℕ) → j < i → get_or map j 0 ≡ byte_of (λ k. mark pairs (8 * j + k))) → map ≡ map_text pairs
-unfolding map_text
+pub map_done : (pairs : List (ℕ × ℕ)) (map : List ℕ) (i : ℕ) → 512 ≤ i → length map ≡ 512 → ((j : ℕ) → j < i → get_or map j 0 ≡ byte_of (λ k. mark pairs (8 * j + k))) → map ≡ map_bytes pairs
+unfolding map_bytes
 map_done pairs map i le len so_far = tabled_from 512 (λ j. byte_of (λ k. mark pairs (8 * j + k))) map 0 len (λ j lt. so_far j (omega arith))

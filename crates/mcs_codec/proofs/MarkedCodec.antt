@@ -9,9 +9,9 @@ use Rattle.mcs_model.specs.declared.board.BoardParts.{BoardParts}
 use Rattle.mcs_model.specs.Validity.{IsValidBoard}
 use Rattle.mcs_version1.specs.Boards.{is_small}
 use Rattle.mcs_codec.specs.Reading.{giving, only}
-use Rattle.mcs_codec.specs.BoardText.{rom_text, board_text}
+use Rattle.mcs_codec.specs.BoardBytes.{rom_bytes, board_bytes}
 use Rattle.mcs_codec.specs.BoardReading.{board_at}
-use Rattle.mcs_codec.specs.Marked.{marked_text, is_marked, marked_at, watches_text, watches_at}
+use Rattle.mcs_codec.specs.Marked.{marked_bytes, is_marked, marked_at, watches_bytes, watches_at}
 use Rattle.mcs_codec.specs.Codec.{version_told}
 use Rattle.mcs_codec.proofs.Codecs.{IsCodec, IsBytes, IsBytes-rest, giving_some, counted_codec, only_codec, word_codec}
 use Rattle.mcs_codec.proofs.BoardCodec.{board_codec}
@@ -28,15 +28,15 @@ line-begins Input rest = record { unmarked = refl; told = refl }
 line-begins Zero rest = record { unmarked = refl; told = refl }
 line-begins One rest = record { unmarked = refl; told = refl }
 
-rom-begins : (mask : Option (List LineMask)) (rest : List ℕ) → BeginsFirst (rom_text mask ++ rest)
+rom-begins : (mask : Option (List LineMask)) (rest : List ℕ) → BeginsFirst (rom_bytes mask ++ rest)
 rom-begins None rest = record { unmarked = refl; told = refl }
 rom-begins (Some mask) rest = line-begins (mask_at mask 3) _
 
-roms-begin : (roms : List (Option (List LineMask))) (rest : List ℕ) → length roms ≡ 16 → BeginsFirst (flat_map rom_text roms ++ rest)
+roms-begin : (roms : List (Option (List LineMask))) (rest : List ℕ) → length roms ≡ 16 → BeginsFirst (flat_map rom_bytes roms ++ rest)
 roms-begin [] rest l = absurd (omega arith)
-roms-begin (r ∷ roms) rest l = rw append_assoc (rom-begins r (flat_map rom_text roms ++ rest))
+roms-begin (r ∷ roms) rest l = rw append_assoc (rom-begins r (flat_map rom_bytes roms ++ rest))
 
-pub board-begins : (b : BoardParts) (rest : List ℕ) → IsValidBoard b → BeginsFirst (board_text b ++ rest)
+pub board-begins : (b : BoardParts) (rest : List ℕ) → IsValidBoard b → BeginsFirst (board_bytes b ++ rest)
 board-begins b rest h = rw append_assoc (roms-begin b.roms _ h.sized.roms)
 
 -- ---- the board with its mark
@@ -44,36 +44,36 @@ board-begins b rest h = rw append_assoc (roms-begin b.roms _ h.sized.roms)
 abbrev pub FitsMark : Bool × BoardParts → Type 0
 FitsMark x = IsValidBoard x.1 × (x.0 ≡ true → is_small x.1 ≡ true)
 
-small_codec : IsCodec board_text (λ b. IsValidBoard b × (is_small b ≡ true)) (only is_small board_at)
+small_codec : IsCodec board_bytes (λ b. IsValidBoard b × (is_small b ≡ true)) (only is_small board_at)
 small_codec = only_codec is_small board_codec
 
 by-first : (n : ℕ) (bytes : List ℕ) (x : (Bool × BoardParts) × List ℕ) → IsBytes (n ∷ bytes) → (v : Bool) → eqb n 2 ≡ v
     → cond v (giving (λ (b : BoardParts). (false, b)) (board_at bytes)) (giving (λ (b : BoardParts). (true, b)) (only is_small board_at (n ∷ bytes))) ≡ Some x
-    → (n ∷ bytes ≡ marked_text x.0 ++ x.1) × FitsMark x.0
+    → (n ∷ bytes ≡ marked_bytes x.0 ++ x.1) × FitsMark x.0
 by-first n bytes x all true is e =
     let g = giving_some (λ (b : BoardParts). (false, b)) (board_at bytes) x e in
     let t = board_codec.takes bytes g.0 (IsBytes-rest n bytes all) g.1 in
     let two : n ≡ 2 = eqb-true n 2 is in
-    subst (λ (y : (Bool × BoardParts) × List ℕ). (n ∷ bytes ≡ marked_text y.0 ++ y.1) × FitsMark y.0) g.2 (ap (λ m. m ∷ bytes) two ∙ ap (λ l. 2 ∷ l) t.0, (t.1, λ no. absurd (cc)))
+    subst (λ (y : (Bool × BoardParts) × List ℕ). (n ∷ bytes ≡ marked_bytes y.0 ++ y.1) × FitsMark y.0) g.2 (ap (λ m. m ∷ bytes) two ∙ ap (λ l. 2 ∷ l) t.0, (t.1, λ no. absurd (cc)))
 by-first n bytes x all false is e =
     let g = giving_some (λ (b : BoardParts). (true, b)) (only is_small board_at (n ∷ bytes)) x e in
     let t = small_codec.takes (n ∷ bytes) g.0 all g.1 in
-    subst (λ (y : (Bool × BoardParts) × List ℕ). (n ∷ bytes ≡ marked_text y.0 ++ y.1) × FitsMark y.0) g.2 (t.0, (t.1.0, λ _. t.1.1))
+    subst (λ (y : (Bool × BoardParts) × List ℕ). (n ∷ bytes ≡ marked_bytes y.0 ++ y.1) × FitsMark y.0) g.2 (t.0, (t.1.0, λ _. t.1.1))
 
-marked-takes : (bytes : List ℕ) (x : (Bool × BoardParts) × List ℕ) → IsBytes bytes → marked_at bytes ≡ Some x → (bytes ≡ marked_text x.0 ++ x.1) × FitsMark x.0
+marked-takes : (bytes : List ℕ) (x : (Bool × BoardParts) × List ℕ) → IsBytes bytes → marked_at bytes ≡ Some x → (bytes ≡ marked_bytes x.0 ++ x.1) × FitsMark x.0
 unfolding marked_at
 marked-takes [] x all e =
     let g = giving_some (λ (b : BoardParts). (true, b)) (only is_small board_at []) x e in
     let t = small_codec.takes [] g.0 all g.1 in
-    subst (λ (y : (Bool × BoardParts) × List ℕ). ([] ≡ marked_text y.0 ++ y.1) × FitsMark y.0) g.2 (t.0, (t.1.0, λ _. t.1.1))
+    subst (λ (y : (Bool × BoardParts) × List ℕ). ([] ≡ marked_bytes y.0 ++ y.1) × FitsMark y.0) g.2 (t.0, (t.1.0, λ _. t.1.1))
 marked-takes (n ∷ bytes) x all e = by-first n bytes x all (eqb n 2) refl e
 
-marked-again : (x : Bool × BoardParts) (rest : List ℕ) → FitsMark x → marked_at (marked_text x ++ rest) ≡ Some (x, rest)
+marked-again : (x : Bool × BoardParts) (rest : List ℕ) → FitsMark x → marked_at (marked_bytes x ++ rest) ≡ Some (x, rest)
 unfolding marked_at
 marked-again (false, b) rest h = ap (giving (λ (c : BoardParts). (false, c))) (board_codec.again b rest h.0)
 marked-again (true, b) rest h = rw ((board-begins b rest h.0).unmarked) (ap (giving (λ (c : BoardParts). (true, c))) (small_codec.again b rest (h.0, h.1 refl)))
 
-pub marked_codec : IsCodec marked_text FitsMark marked_at
+pub marked_codec : IsCodec marked_bytes FitsMark marked_at
 marked_codec = record { takes = marked-takes; again = marked-again }
 
 -- ---- the watches
@@ -85,7 +85,7 @@ FitsWatches false watches = (length watches ≤ 8) × AllByRecursion (λ n. n < 
 no-watches : (bytes : List ℕ) (x : List ℕ × List ℕ) → Some ([], bytes) ≡ Some x → (bytes ≡ [] ++ x.1) × (x.0 ≡ [])
 no-watches bytes x e = let same : ([], bytes) ≡ x = cc in subst (λ (y : List ℕ × List ℕ). (bytes ≡ [] ++ y.1) × (y.0 ≡ [])) same (refl, refl)
 
-pub watches_codec : (first : Bool) → IsCodec (watches_text first) (FitsWatches first) (watches_at first)
+pub watches_codec : (first : Bool) → IsCodec (watches_bytes first) (FitsWatches first) (watches_at first)
 unfolding watches_at
 watches_codec true = record { takes = λ bytes x all e. no-watches bytes x e; again = λ a rest h. ap (λ (l : List ℕ). Some (l, rest)) (sym h) }
 watches_codec false = counted_codec 8 (omega arith) word_codec

@@ -14,13 +14,13 @@ use Rattle.mcs_model.specs.declared.command.Command.TheVariants.{Wire, Load, Pre
 use Rattle.mcs_model.specs.declared.command.Place.{Place}
 use Rattle.mcs_model.specs.declared.command.Place.TheVariants.{Acc, Cy, Pc, Register, Dcl, Rom, Ram, Status}
 use Rattle.mcs_model.specs.declared.limits.TheConstants.{CHAIN_CHIPS, CHAIN_BITS}
-use Rattle.mcs_model.specs.Boards.{fault_of}
+use Rattle.mcs_model.specs.Boards.{board_fault_of}
 use Rattle.mcs_model.specs.Bus.{BusState}
-use Rattle.mcs_model.specs.Flat.{Flat}
+use Rattle.mcs_model.specs.BenchState.{BenchState}
 use Rattle.mcs_model.specs.Validity.{IsValid}
-use Rattle.mcs_codec.specs.BoardText.{rom_text, line_text, chain_text, counted, keys_text, board_text}
-use Rattle.mcs_codec.specs.CommandText.{address, place_text, command_text, IsCommand}
-use Rattle.mcs_codec.specs.StateText.{memory_text, registers_text, sources_text, wiring_text, groups_text, state_text}
+use Rattle.mcs_codec.specs.BoardBytes.{rom_bytes, line_bytes, chain_bytes, counted, keys_bytes, board_bytes}
+use Rattle.mcs_codec.specs.CommandBytes.{address, place_bytes, command_bytes, IsCommand}
+use Rattle.mcs_codec.specs.StateBytes.{memory_bytes, registers_bytes, sources_bytes, wiring_bytes, groups_bytes, state_bytes}
 use Rattle.mcs_codec.proofs.BoardLengths.{IsMask, IsKeys, HasLengths, lengths_of, chips_of, keys_of}
 use Rattle.mcs_codec.proofs.ImageCodec.{length-image}
 use Rattle.mcs_codec.proofs.StateCodec.{AreRows, HasMemory, HasRegisters, HasWiring, shape_of}
@@ -36,39 +36,39 @@ units : {A : Type 0} (l : List A) → AllByRecursion (λ _. Unit {0}) l
 units [] = tt
 units (a ∷ l) = (tt, units l)
 
-pub length-line : (l : Line) → length (line_text l) ≡ 4
+pub length-line : (l : Line) → length (line_bytes l) ≡ 4
 length-line (RomLine a b) = refl
 length-line (RamLine a b c) = refl
 length-line (ChainLine a b) = refl
 
-length-rom : (r : Option (List LineMask)) → IsMask r → length (rom_text r) ≡ 4
+length-rom : (r : Option (List LineMask)) → IsMask r → length (rom_bytes r) ≡ 4
 length-rom None h = refl
 length-rom (Some mask) h = refl
 
-length-chain : (c : ChainPart) → length (chain_text c) ≡ 9
+length-chain : (c : ChainPart) → length (chain_bytes c) ≡ 9
 length-chain c =
     let a = length-line c.clock in
     let b = length-line c.data_in in
-    omega (arith, length-append (line_text c.clock) (line_text c.data_in ++ c.chips ∷ []), length-append (line_text c.data_in) (c.chips ∷ []))
+    omega (arith, length-append (line_bytes c.clock) (line_bytes c.data_in ++ c.chips ∷ []), length-append (line_bytes c.data_in) (c.chips ∷ []))
 
-length-lines : (l : List Line) → length (counted line_text l) ≡ 1 + length l * 4
-length-lines l = let e = each_is line_text (λ _. Unit {0}) 4 (λ a h. length-line a) l (units l) in omega (arith, e)
+length-lines : (l : List Line) → length (counted line_bytes l) ≡ 1 + length l * 4
+length-lines l = let e = each_is line_bytes (λ _. Unit {0}) 4 (λ a h. length-line a) l (units l) in omega (arith, e)
 
-length-keys : (k : Option KeyMatrix) → IsKeys k → length (keys_text k) ≤ 37
+length-keys : (k : Option KeyMatrix) → IsKeys k → length (keys_bytes k) ≤ 37
 length-keys None h = omega arith
-length-keys (Some m) h = let e : length (counted line_text m.columns.items) ≡ 1 + length m.columns.items * 4 = length-lines m.columns.items in omega (arith, h, e)
+length-keys (Some m) h = let e : length (counted line_bytes m.columns.items) ≡ 1 + length m.columns.items * 4 = length-lines m.columns.items in omega (arith, h, e)
 
-pub length-board : (b : BoardParts) → HasLengths b → length (board_text b) ≤ 403
+pub length-board : (b : BoardParts) → HasLengths b → length (board_bytes b) ≤ 403
 length-board b h =
-    let roms : length (flat_map rom_text b.roms) ≡ length b.roms * 4 = each_is rom_text IsMask 4 length-rom b.roms h.masks in
-    let chains : length (flat_map chain_text b.chains.items) ≡ length b.chains.items * 9 = each_is chain_text (λ _. Unit {0}) 9 (λ c u. length-chain c) b.chains.items (units b.chains.items) in
+    let roms : length (flat_map rom_bytes b.roms) ≡ length b.roms * 4 = each_is rom_bytes IsMask 4 length-rom b.roms h.masks in
+    let chains : length (flat_map chain_bytes b.chains.items) ≡ length b.chains.items * 9 = each_is chain_bytes (λ _. Unit {0}) 9 (λ c u. length-chain c) b.chains.items (units b.chains.items) in
     let keys = length-keys b.keys h.keys in
-    let lamps : length (counted line_text b.lamps.items) ≡ 1 + length b.lamps.items * 4 = length-lines b.lamps.items in
-    let last = counted line_text b.lamps.items in
-    let four = keys_text b.keys ++ last in
-    let three = counted chain_text b.chains.items ++ four in
+    let lamps : length (counted line_bytes b.lamps.items) ≡ 1 + length b.lamps.items * 4 = length-lines b.lamps.items in
+    let last = counted line_bytes b.lamps.items in
+    let four = keys_bytes b.keys ++ last in
+    let three = counted chain_bytes b.chains.items ++ four in
     let two = b.banks ++ three in
-    omega (arith, h.roms, h.banks.0, h.chains, h.lamps, length-append (flat_map rom_text b.roms) two, length-append b.banks three, length-append (counted chain_text b.chains.items) four, length-append (keys_text b.keys) last)
+    omega (arith, h.roms, h.banks.0, h.chains, h.lamps, length-append (flat_map rom_bytes b.roms) two, length-append b.banks three, length-append (counted chain_bytes b.chains.items) four, length-append (keys_bytes b.keys) last)
 
 -- ---- a state
 
@@ -80,7 +80,7 @@ length-rows (c ∷ chains) (row ∷ rows) h few =
     let rest : length (flat_map (λ row. row) rows) ≤ length chains * CHAIN_BITS = length-rows chains rows h.1 few.1 in
     omega (arith, h.0.len, few.0, length-append row (flat_map (λ row. row) rows))
 
-length-memory : (b : BusState) → HasMemory b → length (memory_text b) ≡ 6704
+length-memory : (b : BusState) → HasMemory b → length (memory_bytes b) ≡ 6704
 length-memory b h =
     let four = b.ram_ports ++ b.rom_ports in
     let three = b.status ++ four in
@@ -101,22 +101,22 @@ length-memory b h =
 addresses : (l : List ℕ) → length (flat_map address l) ≡ length l * 2
 addresses l = each_is address (λ _. Unit {0}) 2 (λ a h. refl) l (units l)
 
-length-registers : (s : Flat) → HasRegisters s → length (registers_text s.processor) ≡ 26
+length-registers : (s : BenchState) → HasRegisters s → length (registers_bytes s.processor) ≡ 26
 length-registers s h =
     let p = s.processor in
     omega (arith, h.r.len, h.ret.0, addresses p.ret, length-append p.r (address p.pc ++ flat_map address p.ret), length-append (address p.pc) (flat_map address p.ret))
 
-length-sources : (s : Flat) → HasRegisters s → length (sources_text s.processor.dcl s.bus.rom_src s.bus.ram_src s.processor.owed) ≡ 11
+length-sources : (s : BenchState) → HasRegisters s → length (sources_bytes s.processor.dcl s.bus.rom_src s.bus.ram_src s.processor.owed) ≡ 11
 length-sources s h = omega (arith, h.ram_src.len, length-append s.bus.ram_src (s.processor.owed ∷ []))
 
-length-wiring : (s : Flat) → HasLengths s.bus.board → fault_of s.bus.board ≡ None → HasWiring s → length (wiring_text s.bus.chains s.bus.keys s.bus.test s.breakpoints) ≤ 466
+length-wiring : (s : BenchState) → HasLengths s.bus.board → board_fault_of s.bus.board ≡ None → HasWiring s → length (wiring_bytes s.bus.chains s.bus.keys s.bus.test s.breakpoints) ≤ 466
 length-wiring s b sound h =
     let rows = length-rows s.bus.board.chains.items s.bus.chains h.chains (chips_of s.bus.board sound) in
     let keys = keys_of s.bus.board b.keys sound in
     let last = s.bus.test ∷ counted address s.breakpoints in
     omega (arith, rows, keys, b.chains, h.keys.len, h.breakpoints.0, addresses s.breakpoints, length-append (flat_map (λ row. row) s.bus.chains) (s.bus.keys ++ last), length-append s.bus.keys last)
 
-pub length-state : (s : Flat) → IsValid s → length (state_text s) ≤ 7632
+pub length-state : (s : BenchState) → IsValid s → length (state_bytes s) ≤ 7632
 length-state s valid =
     let h = shape_of s valid in
     let lengths = lengths_of s.bus.board h.board in
@@ -125,11 +125,11 @@ length-state s valid =
     let x = length-sources s h.registers in
     let w = length-wiring s lengths h.board.valid h.wiring in
     let b = length-board s.bus.board lengths in
-    let wiring = wiring_text s.bus.chains s.bus.keys s.bus.test s.breakpoints in
-    let sources = sources_text s.processor.dcl s.bus.rom_src s.bus.ram_src s.processor.owed in
+    let wiring = wiring_bytes s.bus.chains s.bus.keys s.bus.test s.breakpoints in
+    let sources = sources_bytes s.processor.dcl s.bus.rom_src s.bus.ram_src s.processor.owed in
     let watches = counted address s.watches in
     let three = sources ++ (wiring ++ watches) in
-    let two = registers_text s.processor ++ three in
+    let two = registers_bytes s.processor ++ three in
     omega (
       arith,
       m,
@@ -139,16 +139,16 @@ length-state s valid =
       b,
       h.watches.0,
       addresses s.watches,
-      length-append (memory_text s.bus) two,
-      length-append (registers_text s.processor) three,
+      length-append (memory_bytes s.bus) two,
+      length-append (registers_bytes s.processor) three,
       length-append sources (wiring ++ watches),
       length-append wiring watches,
-      length-append (board_text s.bus.board) (groups_text s.processor s.bus s.breakpoints watches),
+      length-append (board_bytes s.bus.board) (groups_bytes s.processor s.bus s.breakpoints watches),
     )
 
 -- ---- a command
 
-length-place : (p : Place) → length (place_text p) ≤ 5
+length-place : (p : Place) → length (place_bytes p) ≤ 5
 length-place (Acc n) = omega arith
 length-place (Cy b) = omega arith
 length-place (Pc at) = omega arith
@@ -158,7 +158,7 @@ length-place (Rom at byte) = omega arith
 length-place (Ram bank src n) = omega arith
 length-place (Status bank high k n) = omega arith
 
-pub length-command : (c : Command) → IsCommand c → length (command_text c) ≤ 4609
+pub length-command : (c : Command) → IsCommand c → length (command_bytes c) ≤ 4609
 length-command (Wire board) h = omega (arith, length-board board (lengths_of board h))
 length-command (Load image) h = omega (arith, length-image image h)
 length-command (Press row column) h = omega arith
@@ -174,7 +174,7 @@ length-command (Watch bank src) h = omega arith
 length-command (Unwatch bank src) h = omega arith
 
 -- each command takes a tag
-pub some-command : (c : Command) → 1 ≤ length (command_text c)
+pub some-command : (c : Command) → 1 ≤ length (command_bytes c)
 some-command (Wire board) = omega arith
 some-command (Load image) = omega arith
 some-command (Press row column) = omega arith

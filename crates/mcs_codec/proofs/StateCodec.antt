@@ -5,19 +5,19 @@ use Rattle.std.proofs.lemmas.List.Elements.{recursion_from_All}
 use Rattle.mcs_model.specs.declared.board.BoardParts.{BoardParts}
 use Rattle.mcs_model.specs.declared.board.ChainPart.{ChainPart}
 use Rattle.mcs_model.specs.Boards.{key_count}
-use Rattle.mcs_model.specs.Flat.{Flat}
+use Rattle.mcs_model.specs.BenchState.{BenchState}
 use Rattle.mcs_model.specs.Boards.{no_chain}
 use Rattle.mcs_model.specs.Bus.{BusState}
 use Rattle.mcs_model.specs.Validity.{AreBelow, IsValid, IsValidBoard}
 use Rattle.mcs_codec.specs.Reading.{giving, bytes_at, whole}
-use Rattle.mcs_codec.specs.BoardText.{counted}
-use Rattle.mcs_codec.specs.CommandText.{address}
+use Rattle.mcs_codec.specs.BoardBytes.{counted}
+use Rattle.mcs_codec.specs.CommandBytes.{address}
 use Rattle.mcs_version1.specs.Boards.{is_small}
-use Rattle.mcs_version1.specs.Flat.{Flat1}
+use Rattle.mcs_version1.specs.BenchState.{BenchState1}
 use Rattle.mcs_version1.specs.Lift.{lift}
 use Rattle.mcs_version1.specs.Validity.{IsValid1}
 use Rattle.mcs_version1.proofs.Limits.{small-then, valid-now, valid-then}
-use Rattle.mcs_codec.specs.StateText.{text_by}
+use Rattle.mcs_codec.specs.StateBytes.{bytes_by}
 use Rattle.mcs_codec.specs.StateReading.{memory_at, registers_at, sources_at, rows_at, breakpoints_at, wiring_at, state_at}
 use Rattle.mcs_codec.specs.Codec.{SpellsStateBy, version_of, is_first}
 use Rattle.mcs_codec.proofs.Codecs.{AreCells, IsCodec, IsBytes, IsBytes-behind, bind_some, giving_some, byte_codec, bytes_codec, word_codec, long_codec, both_codec, depending_codec, many_codec, counted_codec, giving_codec, whole_takes, whole_again}
@@ -41,7 +41,7 @@ pub record HasMemory (b : BusState) : Type 0 where
   pub ram_ports : AreCells 32 256 b.ram_ports
   pub rom_ports : AreCells 16 256 b.rom_ports
 
-pub record HasRegisters (s : Flat) : Type 0 where
+pub record HasRegisters (s : BenchState) : Type 0 where
   pub acc : s.processor.acc < 256
   pub cy : s.processor.cy < 256
   pub r : AreCells 16 256 s.processor.r
@@ -52,13 +52,13 @@ pub record HasRegisters (s : Flat) : Type 0 where
   pub ram_src : AreCells 8 256 s.bus.ram_src
   pub owed : s.processor.owed < 256
 
-pub record HasWiring (s : Flat) : Type 0 where
+pub record HasWiring (s : BenchState) : Type 0 where
   pub chains : AreRows s.bus.board.chains.items s.bus.chains
   pub keys : AreCells (key_count s.bus.board) 256 s.bus.keys
   pub test : s.bus.test < 256
   pub breakpoints : (length s.breakpoints ≤ 32) × AreWords s.breakpoints
 
-pub record HasShape (first : Bool) (s : Flat) : Type 0 where
+pub record HasShape (first : Bool) (s : BenchState) : Type 0 where
   pub seq : s.seq < 2 ^ 32
   pub board : IsValidBoard s.bus.board
   pub small : first ≡ true → is_small s.bus.board ≡ true
@@ -132,7 +132,7 @@ wiring_codec board = both_codec (rows_codec board.chains.items) (both_codec (byt
 abbrev Parts : Type 0
 Parts = ℕ × ((Bool × BoardParts) × (Memory × (Registers × (Sources × (Wiring × List ℕ)))))
 
-abbrev parts_of : Bool × Flat → Parts
+abbrev parts_of : Bool × BenchState → Parts
 parts_of x = let s = x.1 in (
   s.seq,
   (
@@ -150,9 +150,9 @@ parts_of x = let s = x.1 in (
   ),
 )
 
-pub state_codec : IsCodec text_by (λ x. HasShape x.0 x.1) state_at
+pub state_codec : IsCodec bytes_by (λ x. HasShape x.0 x.1) state_at
 unfolding state_at
-state_codec = giving_codec _ parts_of text_by (λ x. HasShape x.0 x.1)
+state_codec = giving_codec _ parts_of bytes_by (λ x. HasShape x.0 x.1)
     (both_codec long_codec (depending_codec marked_codec (λ x _. both_codec memory_codec (both_codec registers_codec (both_codec sources_codec (both_codec (wiring_codec x.1) (watches_codec x.0)))))))
     (λ p h. (
       refl,
@@ -200,7 +200,7 @@ rows_of [] (row ∷ rows) l h = absurd cc
 rows_of (c ∷ chains) [] l h = absurd cc
 rows_of (c ∷ chains) (row ∷ rows) l h = (cells_of (10 * c.chips) 2 row (omega arith) (h 0 (omega arith)), rows_of chains rows (omega arith) (λ i lt. h (suc i) (omega arith)))
 
-shape_by : (first : Bool) (s : Flat) → IsValid s → (first ≡ true → is_small s.bus.board ≡ true) → FitsWatches first s.watches → HasShape first s
+shape_by : (first : Bool) (s : BenchState) → IsValid s → (first ≡ true → is_small s.bus.board ≡ true) → FitsWatches first s.watches → HasShape first s
 shape_by first s h small watches =
     let r = h.bus.in_range in
     let p = h.processor in
@@ -238,10 +238,10 @@ shape_by first s h small watches =
 places_of : (items : List ℕ) → All (λ n. n < 2048) items → AreWords items
 places_of items h = recursion_from_All (λ n. n < 2 ^ 16) items (λ i d lt. let x = h i d lt in omega arith)
 
-pub shape_of : (s : Flat) → IsValid s → HasShape false s
+pub shape_of : (s : BenchState) → IsValid s → HasShape false s
 shape_of s h = shape_by false s h (λ no. absurd cc) (h.watches.few, places_of s.watches h.watches.places)
 
-pub lift-valid : (s : Flat1) → IsValid1 s → IsValid (lift s)
+pub lift-valid : (s : BenchState1) → IsValid1 s → IsValid (lift s)
 lift-valid s h = record {
   processor = h.processor;
   bus = record { board = valid-now s.bus.board h.bus.board; in_range = h.bus.in_range; absent = h.bus.absent };
@@ -250,13 +250,13 @@ lift-valid s h = record {
   seq = h.seq;
 }
 
-shape_of_1 : (s : Flat1) → IsValid1 s → HasShape true (lift s)
+shape_of_1 : (s : BenchState1) → IsValid1 s → HasShape true (lift s)
 shape_of_1 s h = shape_by true (lift s) (lift-valid s h) (λ _. small-then s.bus.board h.bus.board) refl
 
 -- ---- what the public calls promise
 
 -- what all of the bytes are read as, where it is valid, is what they spell
-pub state_read : (bytes : List ℕ) (first : Bool) (s : Flat) → IsBytes bytes → Some (first, s) ≡ whole state_at bytes → IsValid s → SpellsStateBy first bytes s
+pub state_read : (bytes : List ℕ) (first : Bool) (s : BenchState) → IsBytes bytes → Some (first, s) ≡ whole state_at bytes → IsValid s → SpellsStateBy first bytes s
 state_read bytes false s all e valid = record { is = (whole_takes state_codec bytes (false, s) all (sym e)).0; valid = valid }
 state_read bytes true s all e valid =
     let t = whole_takes state_codec bytes (true, s) all (sym e) in
@@ -267,42 +267,42 @@ state_read bytes true s all e valid =
     }
 
 -- what the bytes spell is what they are read as
-pub state_again : (first : Bool) (bytes : List ℕ) (s : Flat) → SpellsStateBy first bytes s → whole state_at bytes ≡ Some (first, s)
+pub state_again : (first : Bool) (bytes : List ℕ) (s : BenchState) → SpellsStateBy first bytes s → whole state_at bytes ≡ Some (first, s)
 state_again false bytes s h = ap (whole state_at) h.is ∙ whole_again state_codec (false, s) (shape_of s h.valid)
 state_again true bytes s h =
-    ap (whole state_at) h.spells.is ∙ whole_again state_codec (true, lift h.first) (shape_of_1 h.first h.spells.valid) ∙ ap (λ (t : Flat). Some (true, t)) (sym h.lifted)
+    ap (whole state_at) h.spells.is ∙ whole_again state_codec (true, lift h.first) (shape_of_1 h.first h.spells.valid) ∙ ap (λ (t : BenchState). Some (true, t)) (sym h.lifted)
 
-pub spelled_valid : (first : Bool) (bytes : List ℕ) (s : Flat) → SpellsStateBy first bytes s → IsValid s
+pub spelled_valid : (first : Bool) (bytes : List ℕ) (s : BenchState) → SpellsStateBy first bytes s → IsValid s
 spelled_valid false bytes s h = h.valid
 spelled_valid true bytes s h = subst IsValid (sym h.lifted) (lift-valid h.first h.spells.valid)
 
-pub state_none : (bytes : List ℕ) → None ≡ whole state_at bytes → (first : Bool) (s : Flat) → SpellsStateBy first bytes s → ⊥
+pub state_none : (bytes : List ℕ) → None ≡ whole state_at bytes → (first : Bool) (s : BenchState) → SpellsStateBy first bytes s → ⊥
 state_none bytes e first s h =
-    let x : Bool × Flat = (first, s) in
+    let x : Bool × BenchState = (first, s) in
     let back : Some x ≡ None = sym (state_again first bytes s h) ∙ sym e in
     cc
 
-pub state_invalid : (bytes : List ℕ) (v : Bool) (t : Flat) → Some (v, t) ≡ whole state_at bytes → (IsValid t → ⊥) → (first : Bool) (s : Flat) → SpellsStateBy first bytes s → ⊥
+pub state_invalid : (bytes : List ℕ) (v : Bool) (t : BenchState) → Some (v, t) ≡ whole state_at bytes → (IsValid t → ⊥) → (first : Bool) (s : BenchState) → SpellsStateBy first bytes s → ⊥
 state_invalid bytes v t e wrong first s h =
-    let x : Bool × Flat = (first, s) in
-    let y : Bool × Flat = (v, t) in
+    let x : Bool × BenchState = (first, s) in
+    let y : Bool × BenchState = (v, t) in
     let same : Some y ≡ Some x = e ∙ state_again first bytes s h in
     let pairs : x ≡ y = cc in
-    wrong (subst IsValid (ap (λ (z : Bool × Flat). z.1) pairs) (spelled_valid first bytes s h))
+    wrong (subst IsValid (ap (λ (z : Bool × BenchState). z.1) pairs) (spelled_valid first bytes s h))
 
-pub same_state : (bytes : List ℕ) (v w : Bool) (s t : Flat) → SpellsStateBy v bytes s → SpellsStateBy w bytes t → (v ≡ w) × (s ≡ t)
+pub same_state : (bytes : List ℕ) (v w : Bool) (s t : BenchState) → SpellsStateBy v bytes s → SpellsStateBy w bytes t → (v ≡ w) × (s ≡ t)
 same_state bytes v w s t h k =
-    let x : Bool × Flat = (v, s) in
-    let y : Bool × Flat = (w, t) in
+    let x : Bool × BenchState = (v, s) in
+    let y : Bool × BenchState = (w, t) in
     let one : Some x ≡ Some y = sym (state_again v bytes s h) ∙ state_again w bytes t k in
     let pairs : x ≡ y = cc in
-    (ap (λ (z : Bool × Flat). z.0) pairs, ap (λ (z : Bool × Flat). z.1) pairs)
+    (ap (λ (z : Bool × BenchState). z.0) pairs, ap (λ (z : Bool × BenchState). z.1) pairs)
 
 -- the version that the fifth byte tells is that of the state which the bytes spell
-pub state_told : (first : Bool) (bytes : List ℕ) (s : Flat) → SpellsStateBy first bytes s → version_of bytes ≡ Some (cond first 1 2)
+pub state_told : (first : Bool) (bytes : List ℕ) (s : BenchState) → SpellsStateBy first bytes s → version_of bytes ≡ Some (cond first 1 2)
 state_told false bytes s h = ap version_of h.is
 state_told true bytes s h = ap version_of h.spells.is ∙ (board-begins h.first.bus.board _ (valid-now h.first.bus.board h.spells.valid.bus.board)).told
 
-pub first_told : (first : Bool) (bytes : List ℕ) (s : Flat) → SpellsStateBy first bytes s → is_first bytes ≡ first
+pub first_told : (first : Bool) (bytes : List ℕ) (s : BenchState) → SpellsStateBy first bytes s → is_first bytes ≡ first
 first_told false bytes s h = rw (state_told false bytes s h) refl
 first_told true bytes s h = rw (state_told true bytes s h) refl

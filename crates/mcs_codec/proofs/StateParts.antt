@@ -6,20 +6,20 @@ use Rattle.std.proofs.lemmas.List.Folds.{length-flat_map-take}
 use Rattle.std.proofs.lemmas.List.{get_or_past, length-replicate, take_more, take_more_set}
 use Rattle.mcs_model.specs.Boards.{chain_count, chain_bits, no_chain}
 use Rattle.mcs_model.specs.Bus.{zero_bus}
-use Rattle.mcs_model.specs.Flat.{Flat, new_flat}
+use Rattle.mcs_model.specs.BenchState.{BenchState, new_bench_state}
 use Rattle.mcs_model.specs.Validity.{IsValid}
 use Rattle.mcs_codec.specs.declared.saving.Part.{Part}
 use Rattle.mcs_codec.specs.declared.saving.Part.TheVariants.{RomBytes, RamCharacters, StatusCharacters, RamPorts, RomPorts, IndexRegisters, RamSources, ChainBits, Keys}
-use Rattle.mcs_codec.specs.Parts.{list_of, count_of}
+use Rattle.mcs_codec.specs.Parts.{part_list, part_count}
 
 -- the row of a chain that is not there is empty, and has no bits
-no_row : (s : Flat) (n : ℕ) → IsValid s → chain_count s.bus.board ≤ n → length (get_or s.bus.chains n []) ≡ chain_bits s.bus.board n
+no_row : (s : BenchState) (n : ℕ) → IsValid s → chain_count s.bus.board ≤ n → length (get_or s.bus.chains n []) ≡ chain_bits s.bus.board n
 no_row s n h past =
     let row : get_or s.bus.chains n [] ≡ [] = get_or_past s.bus.chains n [] (omega (arith, h.bus.in_range.chains)) in
     let chain : get_or s.bus.board.chains.items n no_chain ≡ no_chain = get_or_past s.bus.board.chains.items n no_chain past in
     rw (row, chain) refl
 
-pub is_whole : (p : Part) (s : Flat) → IsValid s → length (list_of p s) ≡ count_of p s
+pub is_whole : (p : Part) (s : BenchState) → IsValid s → length (part_list p s) ≡ part_count p s
 is_whole RomBytes s h = h.bus.in_range.rom.count_is
 is_whole RamCharacters s h = h.bus.in_range.ram.count_is
 is_whole StatusCharacters s h = h.bus.in_range.status.count_is
@@ -39,25 +39,25 @@ place_more out front list at i byte inside lt is so_far =
 
 -- ---- the lists of a new bench have the lengths of every bench
 
-pub rom_length : (s : Flat) → s ≡ new_flat → length s.bus.rom ≡ 4096
+pub rom_length : (s : BenchState) → s ≡ new_bench_state → length s.bus.rom ≡ 4096
 unfolding zero_bus
-rom_length s e = ap (λ (t : Flat). length t.bus.rom) e ∙ length-replicate {A = ℕ} 4096 0
+rom_length s e = ap (λ (t : BenchState). length t.bus.rom) e ∙ length-replicate {A = ℕ} 4096 0
 
-pub ram_length : (s : Flat) → s ≡ new_flat → length s.bus.ram ≡ 2048
+pub ram_length : (s : BenchState) → s ≡ new_bench_state → length s.bus.ram ≡ 2048
 unfolding zero_bus
-ram_length s e = ap (λ (t : Flat). length t.bus.ram) e ∙ length-replicate {A = ℕ} 2048 0
+ram_length s e = ap (λ (t : BenchState). length t.bus.ram) e ∙ length-replicate {A = ℕ} 2048 0
 
-pub status_length : (s : Flat) → s ≡ new_flat → length s.bus.status ≡ 512
+pub status_length : (s : BenchState) → s ≡ new_bench_state → length s.bus.status ≡ 512
 unfolding zero_bus
-status_length s e = ap (λ (t : Flat). length t.bus.status) e ∙ length-replicate {A = ℕ} 512 0
+status_length s e = ap (λ (t : BenchState). length t.bus.status) e ∙ length-replicate {A = ℕ} 512 0
 
-pub ram_ports_length : (s : Flat) → s ≡ new_flat → length s.bus.ram_ports ≡ 32
+pub ram_ports_length : (s : BenchState) → s ≡ new_bench_state → length s.bus.ram_ports ≡ 32
 unfolding zero_bus
-ram_ports_length s e = ap (λ (t : Flat). length t.bus.ram_ports) e ∙ length-replicate {A = ℕ} 32 0
+ram_ports_length s e = ap (λ (t : BenchState). length t.bus.ram_ports) e ∙ length-replicate {A = ℕ} 32 0
 
-pub rom_ports_length : (s : Flat) → s ≡ new_flat → length s.bus.rom_ports ≡ 16
+pub rom_ports_length : (s : BenchState) → s ≡ new_bench_state → length s.bus.rom_ports ≡ 16
 unfolding zero_bus
-rom_ports_length s e = ap (λ (t : Flat). length t.bus.rom_ports) e ∙ length-replicate {A = ℕ} 16 0
+rom_ports_length s e = ap (λ (t : BenchState). length t.bus.rom_ports) e ∙ length-replicate {A = ℕ} 16 0
 
 -- ---- the rows, one chain after another
 

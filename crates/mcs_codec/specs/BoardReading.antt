@@ -8,7 +8,7 @@ use Rattle.mcs_model.specs.declared.board.KeyMatrix.{KeyMatrix}
 use Rattle.mcs_model.specs.declared.board.Line.{Line}
 use Rattle.mcs_model.specs.declared.board.Line.TheVariants.{Rom, Ram, Chain}
 use Rattle.mcs_model.specs.declared.limits.TheConstants.{BANKS, CHAINS, KEY_COLUMNS, LAMPS, ROMS}
-use Rattle.mcs_model.specs.Boards.{fault_of}
+use Rattle.mcs_model.specs.Boards.{board_fault_of}
 use Rattle.mcs_codec.specs.Reading.{◌>>=◌, giving, byte_at, only, both, many, bytes_at, decoding, four_at, done_at, counted_at}
 
 abbrev pub rom_of : ℕ × (ℕ × (ℕ × ℕ)) → Option (Option (List LineMask))
@@ -55,4 +55,4 @@ parts_at bytes = giving (λ p. record {
 
 -- the parts with which nothing is wrong
 unfoldable pub board_at : List ℕ → Option (BoardParts × List ℕ)
-board_at = only (λ b. is_none (fault_of b)) parts_at
+board_at = only (λ b. is_none (board_fault_of b)) parts_at

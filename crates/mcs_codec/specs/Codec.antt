@@ -1,19 +1,19 @@
 -- Which bytes spell a command, and which spell a state, in version 2 and in version 1. (Our own choice.) Where a definition
 -- takes a Boolean, that is true of version 1.
 use Rattle.std.specs.Prelude.{◌≡◌, ℕ, Bool, true, false, ◌==◌, ◌||◌, List, [], ◌∷◌, take, drop, Option, Some, None, unwrap_or, if◌then◌else◌}
-use Rattle.mcs_model.specs.Flat.{Flat}
+use Rattle.mcs_model.specs.BenchState.{BenchState}
 use Rattle.mcs_model.specs.Validity.{IsValid}
 use Rattle.mcs_model.specs.declared.command.Command.{Command}
 use Rattle.mcs_version1.specs.Command.{in_version_1}
-use Rattle.mcs_version1.specs.Flat.{Flat1}
+use Rattle.mcs_version1.specs.BenchState.{BenchState1}
 use Rattle.mcs_version1.specs.Lift.{lift}
 use Rattle.mcs_version1.specs.Validity.{IsValid1}
-use Rattle.mcs_codec.specs.CommandText.{command_text, IsCommand}
-use Rattle.mcs_codec.specs.StateText.{state_text, state_text_1}
+use Rattle.mcs_codec.specs.CommandBytes.{command_bytes, IsCommand}
+use Rattle.mcs_codec.specs.StateBytes.{state_bytes, state_bytes_1}
 
 -- these bytes spell this command
 pub record Spells (bytes : List ℕ) (c : Command) : Type 0 where
-  pub is : bytes ≡ command_text c
+  pub is : bytes ≡ command_bytes c
   pub in_range : IsCommand c
 
 -- these bytes spell this command in a session of version 1, or of version 2: version 1 has fewer commands
@@ -26,23 +26,23 @@ abbrev pub BeginsAsLoad : List ℕ → Type 0
 BeginsAsLoad bytes = take 1 bytes ≡ 2 ∷ []
 
 -- these bytes spell this state
-pub record SpellsState (bytes : List ℕ) (s : Flat) : Type 0 where
-  pub is : bytes ≡ state_text s
+pub record SpellsState (bytes : List ℕ) (s : BenchState) : Type 0 where
+  pub is : bytes ≡ state_bytes s
   pub valid : IsValid s
 
 -- these bytes spell this state of version 1
-pub record SpellsState1 (bytes : List ℕ) (s : Flat1) : Type 0 where
-  pub is : bytes ≡ state_text_1 s
+pub record SpellsState1 (bytes : List ℕ) (s : BenchState1) : Type 0 where
+  pub is : bytes ≡ state_bytes_1 s
   pub valid : IsValid1 s
 
 -- these bytes spell a state of version 1 that is carried over as this state
-pub record SpellsLifted (bytes : List ℕ) (s : Flat) : Type 0 where
-  pub first : Flat1
+pub record SpellsLifted (bytes : List ℕ) (s : BenchState) : Type 0 where
+  pub first : BenchState1
   pub spells : SpellsState1 bytes first
   pub lifted : s ≡ lift first
 
 -- these bytes spell this state in version 1, carried over, or in version 2
-abbrev pub SpellsStateBy : Bool → List ℕ → Flat → Type 0
+abbrev pub SpellsStateBy : Bool → List ℕ → BenchState → Type 0
 SpellsStateBy false bytes s = SpellsState bytes s
 SpellsStateBy true bytes s = SpellsLifted bytes s
 

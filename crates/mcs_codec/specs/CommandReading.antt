@@ -24,14 +24,14 @@ unfoldable pub place_at : List ℕ → Option (Place × List ℕ)
 place_at bytes = byte_at bytes >>= λ tag. place_behind tag.0 tag.1
 
 -- the bit of an address in a map
-unfoldable pub mark_at : List ℕ → ℕ → ℕ
-mark_at marks at = bit_of (slice_index marks (at / 8)) (at % 8)
+unfoldable pub map_bit_at : List ℕ → ℕ → ℕ
+map_bit_at marks at = bit_of (slice_index marks (at / 8)) (at % 8)
 
 -- the bytes of the addresses that a map has, so many addresses from one on
 unfoldable pub pairs_at : List ℕ → ℕ → ℕ → List ℕ → Option (List (ℕ × ℕ) × List ℕ)
 pairs_at marks zero at bytes = Some ([], bytes)
 pairs_at marks (suc n) at bytes =
-    if mark_at marks at == 1
+    if map_bit_at marks at == 1
     then (byte_at bytes >>= λ b. giving (λ rest. (at, b.0) ∷ rest) (pairs_at marks n (at + 1) b.1))
     else pairs_at marks n (at + 1) bytes
 

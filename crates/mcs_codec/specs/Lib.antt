@@ -1,10 +1,10 @@
 pub mod Reading
-pub mod BoardText
+pub mod BoardBytes
 pub mod BoardReading
-pub mod CommandText
+pub mod CommandBytes
 pub mod CommandReading
 pub mod Marked
-pub mod StateText
+pub mod StateBytes
 pub mod StateReading
 pub mod Codec
 pub mod Parts

@@ -7,13 +7,13 @@ use Rattle.mcs_model.specs.declared.board.BoardParts.{BoardParts}
 use Rattle.mcs_model.specs.declared.limits.TheConstants.{WATCHES}
 use Rattle.mcs_version1.specs.Boards.{is_small}
 use Rattle.mcs_codec.specs.Reading.{giving, only, number_at, counted_at}
-use Rattle.mcs_codec.specs.BoardText.{board_text, counted}
+use Rattle.mcs_codec.specs.BoardBytes.{board_bytes, counted}
 use Rattle.mcs_codec.specs.BoardReading.{board_at}
-use Rattle.mcs_codec.specs.CommandText.{address}
+use Rattle.mcs_codec.specs.CommandBytes.{address}
 
 -- the board, with the mark of version 2 before it
-abbrev pub marked_text : Bool × BoardParts → List ℕ
-marked_text x = if x.0 then board_text x.1 else 2 ∷ board_text x.1
+abbrev pub marked_bytes : Bool × BoardParts → List ℕ
+marked_bytes x = if x.0 then board_bytes x.1 else 2 ∷ board_bytes x.1
 
 -- whether bytes begin with the mark
 abbrev pub is_marked : List ℕ → Bool
@@ -26,9 +26,9 @@ marked_at bytes =
     else giving (λ b. (true, b)) (only is_small board_at bytes)
 
 -- the watches, each as its bank and its SRC byte: the two bytes of its place; none in version 1
-abbrev pub watches_text : Bool → List ℕ → List ℕ
-watches_text true watches = []
-watches_text false watches = counted address watches
+abbrev pub watches_bytes : Bool → List ℕ → List ℕ
+watches_bytes true watches = []
+watches_bytes false watches = counted address watches
 
 unfoldable pub watches_at : Bool → List ℕ → Option (List ℕ × List ℕ)
 watches_at true bytes = Some ([], bytes)

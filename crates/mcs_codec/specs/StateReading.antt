@@ -5,7 +5,7 @@ use Rattle.mcs_model.specs.declared.board.BoardParts.{BoardParts}
 use Rattle.mcs_model.specs.declared.board.ChainPart.{ChainPart}
 use Rattle.mcs_model.specs.declared.limits.TheConstants.{BANKS, BREAKPOINTS}
 use Rattle.mcs_model.specs.Boards.{key_count}
-use Rattle.mcs_model.specs.Flat.{Flat}
+use Rattle.mcs_model.specs.BenchState.{BenchState}
 use Rattle.mcs_codec.specs.Reading.{◌>>=◌, giving, byte_at, number_at, bytes_at, depending, both, many, counted_at}
 use Rattle.mcs_codec.specs.Marked.{marked_at, watches_at}
 
@@ -30,7 +30,7 @@ unfoldable pub wiring_at : BoardParts → List ℕ → Option ((List (List ℕ) 
 wiring_at board = both (rows_at board.chains.items) (both (bytes_at (key_count board)) (both byte_at breakpoints_at))
 
 -- whether in version 1, and all fields, in their order
-unfoldable pub state_at : List ℕ → Option ((Bool × Flat) × List ℕ)
+unfoldable pub state_at : List ℕ → Option ((Bool × BenchState) × List ℕ)
 state_at bytes = giving (λ p. (
   p.1.0.0,
   record {

@@ -1,36 +1,36 @@
 //! The bytes of a board.
 ghost use Rattle.std.specs.Prelude.{◌≡◌, ℕ, ◌+◌, ◌≤◌, ◌<◌, ◌∷◌, ◌++◌, List, [], length, map, take, option_map, Option, Some, None, if◌then◌else◌};
-ghost use Rattle.mcs_codec.specs.BoardText.{rom_text, line_text, chain_text, keys_text, board_text};
+ghost use Rattle.mcs_codec.specs.BoardBytes.{rom_bytes, line_bytes, chain_bytes, keys_bytes, board_bytes};
 ghost use Rattle.mcs_codec.specs.BoardReading.{rom_at, line_at, chain_at, keys_at, matrix_at, parts_at, board_at};
 
-use crate::field::{Field, Spelled, counted, fill, put, put_all, put_counted};
+use crate::encoding::{Decode, Encode, counted, fill, put, put_all, put_counted};
 use crate::reader::Reader;
 use mcs_model::board::{Board, BoardParts, ChainPart, KeyMatrix, Line};
 use mcs_model::limits::{BANKS, ROMS};
 use mcs_nibble::LineMask;
 
 /// The bytes of the port lines of a ROM.
-fn mask_text(mask: [LineMask; 4]) -> [u8; 4]
-    ensures { result ≡ rom_text (Some mask) }
+fn masks_bytes(mask: [LineMask; 4]) -> [u8; 4]
+    ensures { result ≡ rom_bytes (Some mask) }
 {
     let [a, b, c, d] = mask;
     [d.character(), c.character(), b.character(), a.character()]
 }
 
-impl Spelled for Option<[LineMask; 4]> {
-    ghost use Rattle.mcs_codec.specs.BoardText.{rom_text};
+impl Encode for Option<[LineMask; 4]> {
+    ghost use Rattle.mcs_codec.specs.BoardBytes.{rom_bytes};
 
-    ghost spelling = { rom_text };
+    ghost spelling = { rom_bytes };
 
     fn put(&self, out: &mut [u8], at: usize) -> usize {
         match self {
-            Some(mask) => put(out, at, &mask_text(*mask)),
+            Some(mask) => put(out, at, &masks_bytes(*mask)),
             None => put(out, at, b"----"),
         }
     }
 }
 
-impl Field for Option<[LineMask; 4]> {
+impl Decode for Option<[LineMask; 4]> {
     ghost use Rattle.mcs_codec.specs.BoardReading.{rom_at};
 
     ghost reading = { rom_at };
@@ -52,10 +52,10 @@ impl Field for Option<[LineMask; 4]> {
     }
 }
 
-impl Spelled for Line {
-    ghost use Rattle.mcs_codec.specs.BoardText.{line_text};
+impl Encode for Line {
+    ghost use Rattle.mcs_codec.specs.BoardBytes.{line_bytes};
 
-    ghost spelling = { line_text };
+    ghost spelling = { line_bytes };
 
     fn put(&self, out: &mut [u8], at: usize) -> usize {
         let text = match *self {
@@ -67,7 +67,7 @@ impl Spelled for Line {
     }
 }
 
-impl Field for Line {
+impl Decode for Line {
     ghost use Rattle.mcs_codec.specs.BoardReading.{line_at};
 
     ghost reading = { line_at };
@@ -90,10 +90,10 @@ impl Field for Line {
     }
 }
 
-impl Spelled for ChainPart {
-    ghost use Rattle.mcs_codec.specs.BoardText.{chain_text};
+impl Encode for ChainPart {
+    ghost use Rattle.mcs_codec.specs.BoardBytes.{chain_bytes};
 
-    ghost spelling = { chain_text };
+    ghost spelling = { chain_bytes };
 
     fn put(&self, out: &mut [u8], at: usize) -> usize {
         let at = self.clock.put(out, at);
@@ -102,7 +102,7 @@ impl Spelled for ChainPart {
     }
 }
 
-impl Field for ChainPart {
+impl Decode for ChainPart {
     ghost use Rattle.mcs_codec.specs.BoardReading.{chain_at};
 
     ghost reading = { chain_at };
@@ -154,9 +154,9 @@ fn read_keys(reader: &mut Reader<'_>) -> Option<Option<KeyMatrix>>
 
 /// Puts the keys: whether there are any, and their matrix.
 fn put_keys(keys: &Option<KeyMatrix>, out: &mut [u8], at: usize) -> usize
-    requires { at + length (keys_text keys.now) ≤ length out.old }
-    ensures end { result ≡ at + length (keys_text keys.now) }
-    ensures front { take result out.new ≡ take at out.old ++ keys_text keys.now }
+    requires { at + length (keys_bytes keys.now) ≤ length out.old }
+    ensures end { result ≡ at + length (keys_bytes keys.now) }
+    ensures front { take result out.new ≡ take at out.old ++ keys_bytes keys.now }
 {
     match keys {
         None => put(out, at, &[0]),
@@ -202,9 +202,9 @@ pub fn read_board(reader: &mut Reader<'_>) -> Option<Board>
 
 /// Puts the parts of a board at a place of the buffer, and answers the place after them.
 pub fn put_board(parts: &BoardParts, out: &mut [u8], at: usize) -> usize
-    requires { at + length (board_text parts.now) ≤ length out.old }
-    ensures end { result ≡ at + length (board_text parts.now) }
-    ensures front { take result out.new ≡ take at out.old ++ board_text parts.now }
+    requires { at + length (board_bytes parts.now) ≤ length out.old }
+    ensures end { result ≡ at + length (board_bytes parts.now) }
+    ensures front { take result out.new ≡ take at out.old ++ board_bytes parts.now }
 {
     let at = put_all(&parts.roms, out, at);
     let at = put(out, at, &parts.banks);

@@ -2,12 +2,12 @@
 ghost use Rattle.std.specs.Prelude.{◌≡◌, ℕ, ◌+◌, ◌≤◌, ◌<◌, ◌∷◌, ◌++◌, List, [], length, take, option_map, Option, Some, None, IfOk, OnErr, IfSome, IfNone, if◌then◌else◌};
 ghost use Rattle.mcs_model.specs.declared.command.Command.{Command};
 ghost use Rattle.mcs_codec.specs.Reading.{whole};
-ghost use Rattle.mcs_codec.specs.CommandText.{command_text, IsCommand};
+ghost use Rattle.mcs_codec.specs.CommandBytes.{command_bytes, IsCommand};
 ghost use Rattle.mcs_codec.specs.CommandReading.{command_behind, all_behind, command_at};
 ghost use Rattle.mcs_codec.specs.Codec.{BeginsAsLoad, Spells};
 
 use crate::boards::{put_board, read_board};
-use crate::field::{Field, Spelled, put};
+use crate::encoding::{Decode, Encode, put};
 use crate::images::{put_image, read_image};
 use crate::places::place_is_in_range;
 use crate::reader::Reader;
@@ -51,9 +51,9 @@ fn command_is_in_range(command: &Command)
 
 /// Puts a command at a place of the buffer, and answers the place after it.
 fn put_command(command: &Command, out: &mut [u8], at: usize) -> usize
-    requires { at + length (command_text command.now) ≤ length out.old }
-    ensures end { result ≡ at + length (command_text command.now) }
-    ensures front { take result out.new ≡ take at out.old ++ command_text command.now }
+    requires { at + length (command_bytes command.now) ≤ length out.old }
+    ensures end { result ≡ at + length (command_bytes command.now) }
+    ensures front { take result out.new ≡ take at out.old ++ command_bytes command.now }
 {
     match command {
         Command::Wire(board) => {
@@ -94,7 +94,7 @@ fn put_command(command: &Command, out: &mut [u8], at: usize) -> usize
 pub fn command_bytes(command: &Command, into: &mut [u8]) -> usize
     requires lent { COMMAND_BYTES ≤ length into.old }
     ensures spells { Spells (take result into.new) command.now }
-    ensures count { result ≡ length (command_text command.now) }
+    ensures count { result ≡ length (command_bytes command.now) }
     ensures some { 1 ≤ result }
     ensures fits { result ≤ COMMAND_BYTES }
 {

@@ -1,10 +1,10 @@
 //! The bytes of an image: a map of its addresses, and its bytes.
 ghost use Rattle.std.specs.Prelude.{◌≡◌, ℕ, ◌+◌, ◌*◌, ◌≤◌, ◌<◌, ◌∷◌, ◌++◌, List, [], length, take, map, slice_index, option_map, IfOk};
 ghost use Rattle.mcs_nibble.specs.Tabled.{tabled};
-ghost use Rattle.mcs_codec.specs.CommandText.{mark, byte_of, map_text, values, image_text};
-ghost use Rattle.mcs_codec.specs.CommandReading.{mark_at, pairs_at, image_at};
+ghost use Rattle.mcs_codec.specs.CommandBytes.{mark, byte_of, map_bytes, values, image_bytes};
+ghost use Rattle.mcs_codec.specs.CommandReading.{map_bit_at, pairs_at, image_at};
 
-use crate::field::{Spelled, put, put_all};
+use crate::encoding::{Encode, put, put_all};
 use crate::reader::Reader;
 use mcs_model::image::Image;
 use mcs_nibble::{Addr, Bit};
@@ -40,7 +40,7 @@ fn map_byte(marks: &[Bit], at: usize) -> u8
 
 /// The map of the addresses of some pairs.
 fn map_of(pairs: &[(Addr, u8)]) -> [u8; MAP_BYTES]
-    ensures { result ≡ map_text pairs.now }
+    ensures { result ≡ map_bytes pairs.now }
 {
     let marks = marks_of(pairs);
     let mut map = [0; MAP_BYTES];
@@ -50,7 +50,7 @@ fn map_of(pairs: &[(Addr, u8)]) -> [u8; MAP_BYTES]
     map
 }
 
-impl Spelled for (Addr, u8) {
+impl Encode for (Addr, u8) {
     ghost spelling = { λ pair. pair.1 ∷ [] };
 
     fn put(&self, out: &mut [u8], at: usize) -> usize {
@@ -69,9 +69,9 @@ fn put_values(pairs: &[(Addr, u8)], out: &mut [u8], at: usize) -> usize
 
 /// Puts an image at a place of the buffer, and answers the place after it.
 pub fn put_image(image: &Image, out: &mut [u8], at: usize) -> usize
-    requires { at + length (image_text image.now) ≤ length out.old }
-    ensures end { result ≡ at + length (image_text image.now) }
-    ensures front { take result out.new ≡ take at out.old ++ image_text image.now }
+    requires { at + length (image_bytes image.now) ≤ length out.old }
+    ensures end { result ≡ at + length (image_bytes image.now) }
+    ensures front { take result out.new ≡ take at out.old ++ image_bytes image.now }
 {
     let pairs = image.pairs();
     let at = put(out, at, &map_of(pairs));
@@ -79,11 +79,11 @@ pub fn put_image(image: &Image, out: &mut [u8], at: usize) -> usize
 }
 
 /// The bit of an address in a map.
-#[tactic(auto, unfolding(crate::specs::CommandReading::mark_at))]
-fn mark_at(marks: &[u8], at: u16) -> u8
+#[tactic(auto, unfolding(crate::specs::CommandReading::map_bit_at))]
+fn map_bit_at(marks: &[u8], at: u16) -> u8
     requires marks { length marks.now ≡ 512 }
     requires at { at < 4096 }
-    ensures { result ≡ mark_at marks.now at }
+    ensures { result ≡ map_bit_at marks.now at }
 {
     marks[usize::from(at / 8)] >> (at % 8) & 1
 }
@@ -99,7 +99,7 @@ fn read_pairs(
 {
     let mut image = Image::new(alloc)?;
     for at in 0..4096 {
-        if mark_at(marks, at) != 1 {
+        if map_bit_at(marks, at) != 1 {
             continue;
         }
         let Some(byte) = reader.byte() else {

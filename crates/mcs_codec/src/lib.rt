@@ -7,7 +7,7 @@
 
 mod boards;
 mod commands;
-mod field;
+mod encoding;
 mod images;
 mod places;
 mod reader;

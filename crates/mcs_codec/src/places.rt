@@ -1,14 +1,14 @@
 //! The bytes of a place.
 ghost use Rattle.std.specs.Prelude.{◌≡◌, ℕ, ◌+◌, ◌≤◌, ◌∷◌, ◌++◌, List, [], length, take, option_map, Option, Some, None};
-ghost use Rattle.mcs_codec.specs.CommandText.{place_text, IsPlace};
+ghost use Rattle.mcs_codec.specs.CommandBytes.{place_bytes, IsPlace};
 ghost use Rattle.mcs_codec.specs.CommandReading.{place_at};
 
-use crate::field::{Field, Spelled, put};
+use crate::encoding::{Decode, Encode, put};
 use crate::reader::Reader;
 use mcs_model::command::Place;
 use mcs_nibble::{Addr, BankNo, Bit, Nibble, RegNo, StatusNo};
 
-impl Field for RegNo {
+impl Decode for RegNo {
     ghost use Rattle.mcs_codec.specs.Reading.{small_at};
 
     ghost reading = { small_at 16 };
@@ -19,7 +19,7 @@ impl Field for RegNo {
     }
 }
 
-impl Field for BankNo {
+impl Decode for BankNo {
     ghost use Rattle.mcs_codec.specs.Reading.{small_at};
 
     ghost reading = { small_at 8 };
@@ -30,7 +30,7 @@ impl Field for BankNo {
     }
 }
 
-impl Field for StatusNo {
+impl Decode for StatusNo {
     ghost use Rattle.mcs_codec.specs.Reading.{small_at};
 
     ghost reading = { small_at 4 };
@@ -41,7 +41,7 @@ impl Field for StatusNo {
     }
 }
 
-impl Field for Place {
+impl Decode for Place {
     ghost use Rattle.mcs_codec.specs.CommandReading.{place_at};
 
     ghost reading = { place_at };
@@ -77,10 +77,10 @@ impl Field for Place {
     }
 }
 
-impl Spelled for Place {
-    ghost use Rattle.mcs_codec.specs.CommandText.{place_text};
+impl Encode for Place {
+    ghost use Rattle.mcs_codec.specs.CommandBytes.{place_bytes};
 
-    ghost spelling = { place_text };
+    ghost spelling = { place_bytes };
 
     fn put(&self, out: &mut [u8], at: usize) -> usize {
         match *self {

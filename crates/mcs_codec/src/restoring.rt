@@ -1,7 +1,7 @@
 //! A bench from the bytes of its state.
 ghost use Rattle.std.specs.Prelude.{◌≡◌, ℕ, ◌*◌, ◌≤◌, List, Bool, All, length, map, option_map, IfOk, IfSome, IfNone};
 ghost use Rattle.mcs_model.specs.Boards.{key_count};
-ghost use Rattle.mcs_model.specs.Flat.{Flat as State};
+ghost use Rattle.mcs_model.specs.BenchState.{BenchState};
 ghost use Rattle.mcs_bench.specs.States.{state_of};
 ghost use Rattle.mcs_codec.specs.Reading.{bytes_at, whole};
 ghost use Rattle.mcs_codec.specs.Marked.{marked_at, watches_at};
@@ -9,7 +9,7 @@ ghost use Rattle.mcs_codec.specs.StateReading.{memory_at, registers_at, sources_
 ghost use Rattle.mcs_codec.specs.Codec.{SpellsStateBy, is_first};
 
 use crate::boards::read_board;
-use crate::field::{Field, counted, fill};
+use crate::encoding::{Decode, counted, fill};
 use crate::reader::Reader;
 use crate::versions::is_small;
 use arrayvec::ArrayVec;
@@ -32,7 +32,7 @@ type Wiring = (
     ArrayVec<u16, BREAKPOINTS>,
 );
 
-impl Field for u16 {
+impl Decode for u16 {
     ghost use Rattle.std.specs.Int.{w16};
     ghost use Rattle.mcs_codec.specs.Reading.{number_at};
 
@@ -293,7 +293,7 @@ fn read_whole(bytes: &[u8], memory: Memory) -> Option<(bool, Flat)>
 /// Where memory is refused.
 pub fn bench_of(alloc: Global, bytes: &[u8]) -> Result<Option<Bench>, AllocError>
     ensures some { IfOk result (λ found. IfSome found (λ s. SpellsStateBy (is_first bytes.now) bytes.now s)) }
-    ensures none { IfOk result (λ found. IfNone found ((first : Bool) (s : State) → SpellsStateBy first bytes.now s → ⊥)) }
+    ensures none { IfOk result (λ found. IfNone found ((first : Bool) (s : BenchState) → SpellsStateBy first bytes.now s → ⊥)) }
 {
     let memory = Memory::new(alloc)?;
     let Some((_first, flat)) = read_whole(bytes, memory) else {

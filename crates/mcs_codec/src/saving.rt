@@ -3,14 +3,14 @@ ghost use Rattle.std.specs.Prelude.{◌≡◌, ℕ, ◌+◌, ◌*◌, ◌≤◌,
 ghost use Rattle.std.specs.List.{flat_map};
 ghost use Rattle.mcs_model.specs.Boards.{chain_bits, chain_count, key_count};
 ghost use Rattle.mcs_model.specs.Validity.{IsValid};
-ghost use Rattle.mcs_codec.specs.Parts.{list_of, count_of};
-ghost use Rattle.mcs_codec.specs.StateText.{memory_text, registers_text, sources_text, wiring_text, groups_text, state_text};
-ghost use Rattle.mcs_codec.specs.BoardText.{counted};
-ghost use Rattle.mcs_codec.specs.CommandText.{address};
+ghost use Rattle.mcs_codec.specs.Parts.{part_list, part_count};
+ghost use Rattle.mcs_codec.specs.StateBytes.{memory_bytes, registers_bytes, sources_bytes, wiring_bytes, groups_bytes, state_bytes};
+ghost use Rattle.mcs_codec.specs.BoardBytes.{counted};
+ghost use Rattle.mcs_codec.specs.CommandBytes.{address};
 ghost use Rattle.mcs_codec.specs.Codec.{SpellsState};
 
 use crate::boards::put_board;
-use crate::field::{Spelled, put, put_all, put_counted};
+use crate::encoding::{Encode, put, put_all, put_counted};
 use mcs_bench::Bench;
 use mcs_nibble::{Addr, Nibble};
 
@@ -60,7 +60,7 @@ fn key_at(bench: &Bench, i: usize) -> u8
 impl Part {
     /// How many places the list has.
     fn count(self, bench: &Bench) -> usize
-        ensures { result ≡ count_of self bench.now }
+        ensures { result ≡ part_count self bench.now }
     {
         match self {
             Part::RomBytes => 4096,
@@ -83,8 +83,8 @@ impl Part {
     /// The byte at a place of the list.
     fn byte(self, bench: &Bench, i: usize) -> u8
         requires valid { IsValid bench.now }
-        requires place { i < count_of self bench.now }
-        ensures { result ≡ slice_index (list_of self bench.now) i }
+        requires place { i < part_count self bench.now }
+        ensures { result ≡ slice_index (part_list self bench.now) i }
     {
         match self {
             Part::RomBytes => bench.rom_byte(Addr::ZERO.plus(i as u16)),
@@ -105,9 +105,9 @@ impl Part {
     /// Puts the list at a place of the buffer, and answers the place after it.
     fn put(self, bench: &Bench, out: &mut [u8], at: usize) -> usize
         requires valid { IsValid bench.now }
-        requires room { at + length (list_of self bench.now) ≤ length out.old }
-        ensures end { result ≡ at + length (list_of self bench.now) }
-        ensures front { take result out.new ≡ take at out.old ++ list_of self bench.now }
+        requires room { at + length (part_list self bench.now) ≤ length out.old }
+        ensures end { result ≡ at + length (part_list self bench.now) }
+        ensures front { take result out.new ≡ take at out.old ++ part_list self bench.now }
     {
         let count = self.count(bench);
         for i in 0..count {
@@ -120,9 +120,9 @@ impl Part {
 /// Puts what the ROMs and the RAM chips hold, and their ports.
 fn put_memory(bench: &Bench, out: &mut [u8], at: usize) -> usize
     requires valid { IsValid bench.now }
-    requires room { at + length (memory_text bench.now.bus) ≤ length out.old }
-    ensures end { result ≡ at + length (memory_text bench.now.bus) }
-    ensures front { take result out.new ≡ take at out.old ++ memory_text bench.now.bus }
+    requires room { at + length (memory_bytes bench.now.bus) ≤ length out.old }
+    ensures end { result ≡ at + length (memory_bytes bench.now.bus) }
+    ensures front { take result out.new ≡ take at out.old ++ memory_bytes bench.now.bus }
 {
     let at = Part::RomBytes.put(bench, out, at);
     let at = Part::RamCharacters.put(bench, out, at);
@@ -134,9 +134,9 @@ fn put_memory(bench: &Bench, out: &mut [u8], at: usize) -> usize
 /// Puts the accumulator, the carry, the index registers, the counter and the return addresses.
 fn put_registers(bench: &Bench, out: &mut [u8], at: usize) -> usize
     requires valid { IsValid bench.now }
-    requires room { at + length (registers_text bench.now.processor) ≤ length out.old }
-    ensures end { result ≡ at + length (registers_text bench.now.processor) }
-    ensures front { take result out.new ≡ take at out.old ++ registers_text bench.now.processor }
+    requires room { at + length (registers_bytes bench.now.processor) ≤ length out.old }
+    ensures end { result ≡ at + length (registers_bytes bench.now.processor) }
+    ensures front { take result out.new ≡ take at out.old ++ registers_bytes bench.now.processor }
 {
     let registers = bench.regs();
     let at = put(out, at, &[registers.acc.get(), registers.cy.get()]);
@@ -148,9 +148,9 @@ fn put_registers(bench: &Bench, out: &mut [u8], at: usize) -> usize
 /// Puts the command register, the SRC bytes of the ROMs and of the banks, and the owed cycles.
 fn put_sources(bench: &Bench, out: &mut [u8], at: usize) -> usize
     requires valid { IsValid bench.now }
-    requires room { at + length (sources_text bench.now.processor.dcl bench.now.bus.rom_src bench.now.bus.ram_src bench.now.processor.owed) ≤ length out.old }
-    ensures end { result ≡ at + length (sources_text bench.now.processor.dcl bench.now.bus.rom_src bench.now.bus.ram_src bench.now.processor.owed) }
-    ensures front { take result out.new ≡ take at out.old ++ sources_text bench.now.processor.dcl bench.now.bus.rom_src bench.now.bus.ram_src bench.now.processor.owed }
+    requires room { at + length (sources_bytes bench.now.processor.dcl bench.now.bus.rom_src bench.now.bus.ram_src bench.now.processor.owed) ≤ length out.old }
+    ensures end { result ≡ at + length (sources_bytes bench.now.processor.dcl bench.now.bus.rom_src bench.now.bus.ram_src bench.now.processor.owed) }
+    ensures front { take result out.new ≡ take at out.old ++ sources_bytes bench.now.processor.dcl bench.now.bus.rom_src bench.now.bus.ram_src bench.now.processor.owed }
 {
     let registers = bench.regs();
     let at = put(out, at, &[registers.dcl, bench.rom_src()]);
@@ -175,9 +175,9 @@ fn put_rows(bench: &Bench, out: &mut [u8], at: usize) -> usize
 /// Puts what the chains and the keys hold, TEST, and the breakpoints.
 fn put_wiring(bench: &Bench, out: &mut [u8], at: usize) -> usize
     requires valid { IsValid bench.now }
-    requires room { at + length (wiring_text bench.now.bus.chains bench.now.bus.keys bench.now.bus.test bench.now.breakpoints) ≤ length out.old }
-    ensures end { result ≡ at + length (wiring_text bench.now.bus.chains bench.now.bus.keys bench.now.bus.test bench.now.breakpoints) }
-    ensures front { take result out.new ≡ take at out.old ++ wiring_text bench.now.bus.chains bench.now.bus.keys bench.now.bus.test bench.now.breakpoints }
+    requires room { at + length (wiring_bytes bench.now.bus.chains bench.now.bus.keys bench.now.bus.test bench.now.breakpoints) ≤ length out.old }
+    ensures end { result ≡ at + length (wiring_bytes bench.now.bus.chains bench.now.bus.keys bench.now.bus.test bench.now.breakpoints) }
+    ensures front { take result out.new ≡ take at out.old ++ wiring_bytes bench.now.bus.chains bench.now.bus.keys bench.now.bus.test bench.now.breakpoints }
 {
     let at = put_rows(bench, out, at);
     let at = Part::Keys.put(bench, out, at);
@@ -188,9 +188,9 @@ fn put_wiring(bench: &Bench, out: &mut [u8], at: usize) -> usize
 /// Puts the groups behind the board, and the watches.
 fn put_groups(bench: &Bench, out: &mut [u8], at: usize) -> usize
     requires valid { IsValid bench.now }
-    requires room { at + length (groups_text bench.now.processor bench.now.bus bench.now.breakpoints (counted address bench.now.watches)) ≤ length out.old }
-    ensures end { result ≡ at + length (groups_text bench.now.processor bench.now.bus bench.now.breakpoints (counted address bench.now.watches)) }
-    ensures front { take result out.new ≡ take at out.old ++ groups_text bench.now.processor bench.now.bus bench.now.breakpoints (counted address bench.now.watches) }
+    requires room { at + length (groups_bytes bench.now.processor bench.now.bus bench.now.breakpoints (counted address bench.now.watches)) ≤ length out.old }
+    ensures end { result ≡ at + length (groups_bytes bench.now.processor bench.now.bus bench.now.breakpoints (counted address bench.now.watches)) }
+    ensures front { take result out.new ≡ take at out.old ++ groups_bytes bench.now.processor bench.now.bus bench.now.breakpoints (counted address bench.now.watches) }
 {
     let at = put_memory(bench, out, at);
     let at = put_registers(bench, out, at);
@@ -202,9 +202,9 @@ fn put_groups(bench: &Bench, out: &mut [u8], at: usize) -> usize
 /// Puts the state of a bench at the front of these bytes.
 fn put_state(bench: &Bench, into: &mut [u8]) -> usize
     requires valid { IsValid bench.now }
-    requires room { length (state_text bench.now) ≤ length into.old }
-    ensures end { result ≡ length (state_text bench.now) }
-    ensures front { take result into.new ≡ state_text bench.now }
+    requires room { length (state_bytes bench.now) ≤ length into.old }
+    ensures end { result ≡ length (state_bytes bench.now) }
+    ensures front { take result into.new ≡ state_bytes bench.now }
 {
     let at = put(into, 0, &bench.seq().to_be_bytes());
     let at = put(into, at, &[VERSION]);
@@ -217,9 +217,9 @@ fn put_state(bench: &Bench, into: &mut [u8]) -> usize
 pub fn state_bytes(bench: &Bench, into: &mut [u8]) -> usize
     requires lent { STATE_BYTES ≤ length into.old }
     ensures spells { SpellsState (take result into.new) bench.now }
-    ensures count { result ≡ length (state_text bench.now) }
+    ensures count { result ≡ length (state_bytes bench.now) }
     ensures fits { result ≤ STATE_BYTES }
 {
-    bench.state_is_valid();
+    bench.show_state_is_valid();
     put_state(bench, into)
 }

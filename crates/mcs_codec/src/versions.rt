@@ -1,7 +1,7 @@
 //! The two versions of a session's bytes.
 ghost use Rattle.std.specs.Prelude.{◌≡◌, List, ℕ, Bool, Some, nat_lt, if◌then◌else◌};
 ghost use Rattle.std.specs.List.{list_any};
-ghost use Rattle.mcs_model.specs.Flat.{Flat as State};
+ghost use Rattle.mcs_model.specs.BenchState.{BenchState};
 ghost use Rattle.mcs_version1.specs.Boards.{is_small};
 ghost use Rattle.mcs_version1.specs.Command.{in_version_1};
 ghost use Rattle.mcs_codec.specs.Codec.{SpellsStateBy, version_of};
@@ -74,7 +74,7 @@ pub fn version_of(bytes: &[u8]) -> Option<u8>
 /// A law: no bytes spell two states, nor states of both versions, and the fifth byte tells the version of the state that they
 /// spell. (And each state has one spelling in each version that has it: the definitions give one.)
 pub fn one_state()
-    ensures states { (bytes : List ℕ) (v w : Bool) (s t : State) → SpellsStateBy v bytes s → SpellsStateBy w bytes t → s ≡ t }
-    ensures versions { (bytes : List ℕ) (v w : Bool) (s t : State) → SpellsStateBy v bytes s → SpellsStateBy w bytes t → v ≡ w }
-    ensures told { (bytes : List ℕ) (first : Bool) (s : State) → SpellsStateBy first bytes s → version_of bytes ≡ Some (if first then 1 else 2) }
+    ensures states { (bytes : List ℕ) (v w : Bool) (s t : BenchState) → SpellsStateBy v bytes s → SpellsStateBy w bytes t → s ≡ t }
+    ensures versions { (bytes : List ℕ) (v w : Bool) (s t : BenchState) → SpellsStateBy v bytes s → SpellsStateBy w bytes t → v ≡ w }
+    ensures told { (bytes : List ℕ) (first : Bool) (s : BenchState) → SpellsStateBy first bytes s → version_of bytes ≡ Some (if first then 1 else 2) }
 {}

@@ -1,9 +1,9 @@
 //! The processor and its instruction cycle.
 ghost use Rattle.std.specs.Prelude.{◌≡◌, ◌≢◌, ℕ, ◌<◌, ◌↔◌, IsNone, IsTrue, unwrap_or};
-ghost use Rattle.mcs_model.specs.Flat.{new_regs};
+ghost use Rattle.mcs_model.specs.BenchState.{new_regs};
 ghost use Rattle.mcs_model.specs.Registers.{with_register};
 ghost use Rattle.mcs_model.specs.Effect.{cycle_of};
-ghost use Rattle.mcs_model.specs.Running.{Turned};
+ghost use Rattle.mcs_model.specs.Running.{InstructionRan};
 
 use crate::bus::Bus;
 use crate::execute::execute;
@@ -91,10 +91,10 @@ impl Cpu {
     /// itself stays as it is: a run keeps it at hand, and sets it at its end.
     #[inline(always)]
     #[tactic(auto, unfolding(mcs_model::specs::Effect::cycle_of))]
-    pub fn turn<B: Bus>(&mut self, bus: &mut B, at: Addr, left: u32) -> (Addr, u32)
+    pub fn run_instruction<B: Bus>(&mut self, bus: &mut B, at: Addr, left: u32) -> (Addr, u32)
         requires free { self.old.owed ≢ 1 }
         requires some { 0 < left }
-        ensures turned { Turned left (record self.old { pc = at }, B.flat bus.old) (record self.new { pc = result.0 }, B.flat bus.new) result.1 }
+        ensures turned { InstructionRan left (record self.old { pc = at }, B.flat bus.old) (record self.new { pc = result.0 }, B.flat bus.new) result.1 }
         ensures owes { self.new.owed ≡ 1 → result.1 ≡ left }
         ensures counter { self.new.pc ≡ self.old.pc }
     {

@@ -5,7 +5,7 @@ use Rattle.std.proofs.lemmas.Bool.{leb-true, le-leb, lt-leb, lt-ltb}
 use Rattle.std.proofs.lemmas.List.{length-drop, length-take, take_all}
 use Rattle.std.specs.List.{flat_map}
 use Rattle.mcs_model.specs.declared.op.Op.{Op}
-use Rattle.mcs_model.specs.Table.{decoded, words_of}
+use Rattle.mcs_model.specs.Table.{decoded, word_count_of}
 use Rattle.mcs_source.specs.Text.{op_at, whole_or_byte, second_word, piece_text, piece_size, second_of, piece_texts, listing_lines, listed_line, origin_text, range, source_text, listing_text}
 use Rattle.mcs_model.specs.QueryText.{as_line}
 use Rattle.mcs_source.proofs.Decoding.{one_or_two}
@@ -17,9 +17,9 @@ size_some (Some o) = elim (one_or_two o) [ inl e ↦ omega (arith, e) | inr e �
 whole_fits : (o : Option Op) (b : ℕ) (rest : List ℕ) → piece_size (whole_or_byte o b rest) ≤ 1 + length rest
 whole_fits None b rest = omega arith
 whole_fits (Some o) b rest =
-    let Q : Bool → Type 0 = λ t. leb (words_of o) (1 + length rest) ≡ t → piece_size (cond t (Some o) None) ≤ 1 + length rest in
-    (elim (leb (words_of o) (1 + length rest)) as Q [
-      | true ↦ λ yes. leb-true (words_of o) (1 + length rest) yes
+    let Q : Bool → Type 0 = λ t. leb (word_count_of o) (1 + length rest) ≡ t → piece_size (cond t (Some o) None) ≤ 1 + length rest in
+    (elim (leb (word_count_of o) (1 + length rest)) as Q [
+      | true ↦ λ yes. leb-true (word_count_of o) (1 + length rest) yes
       | false ↦ λ not_whole. omega arith
     ]) refl
 
@@ -30,21 +30,21 @@ size_fits b rest = whole_fits (decoded b (second_word rest)) b rest
 -- ---- the instruction in front
 
 -- a code of one word is an instruction by itself
-pub one_is : (o : Option Op) (b : ℕ) → option_map_or words_of o 1 ≤ 1 → whole_or_byte o b [] ≡ o
+pub one_is : (o : Option Op) (b : ℕ) → option_map_or word_count_of o 1 ≤ 1 → whole_or_byte o b [] ≡ o
 one_is None b le = refl
-one_is (Some o) b le = rw (le-leb (words_of o) 1 le) refl
+one_is (Some o) b le = rw (le-leb (word_count_of o) 1 le) refl
 
 -- a code of two words is none
-pub two_is : (o : Option Op) (b : ℕ) → 1 < option_map_or words_of o 1 → whole_or_byte o b [] ≡ None
+pub two_is : (o : Option Op) (b : ℕ) → 1 < option_map_or word_count_of o 1 → whole_or_byte o b [] ≡ None
 two_is None b lt = refl
-two_is (Some o) b lt = rw (lt-leb (words_of o) 1 lt) refl
+two_is (Some o) b lt = rw (lt-leb (word_count_of o) 1 lt) refl
 
 -- with a second word behind it, each code of the table is an instruction
 pub both_is : (o : Option Op) (b c : ℕ) (rest : List ℕ) → whole_or_byte o b (c ∷ rest) ≡ o
 both_is None b c rest = refl
 both_is (Some o) b c rest =
-    let fits : words_of o ≤ 1 + length (c ∷ rest) = elim (one_or_two o) [ inl e ↦ omega (arith, e) | inr e ↦ omega (arith, e) ] in
-    rw (le-leb (words_of o) (1 + length (c ∷ rest)) fits) refl
+    let fits : word_count_of o ≤ 1 + length (c ∷ rest) = elim (one_or_two o) [ inl e ↦ omega (arith, e) | inr e ↦ omega (arith, e) ] in
+    rw (le-leb (word_count_of o) (1 + length (c ∷ rest)) fits) refl
 
 pub two_front : (bytes : List ℕ) → 2 ≤ length bytes → decoded (get_or bytes 0 0) (get_or bytes 1 0) ≡ op_at (get_or bytes 0 0) (drop 1 bytes)
 unfolding op_at

@@ -4,7 +4,7 @@ use Rattle.std.proofs.lemmas.Bool.{lt-ltb, leb-true}
 use Rattle.mcs_model.specs.declared.op.Op.{Op}
 use Rattle.mcs_source.specs.Lexical.{tokens}
 use Rattle.mcs_source.specs.Lines as asm
-use Rattle.mcs_model.specs.Table.{decoded, words_of}
+use Rattle.mcs_model.specs.Table.{decoded, word_count_of}
 use Rattle.mcs_source.specs.Assembly.{bytes_at, size, is_bad_statement, next_statement}
 use Rattle.mcs_source.specs.Text.{op_at, whole_or_byte, second_word, piece_text, piece_size}
 use Rattle.mcs_dis.specs.Again.{statement}
@@ -34,12 +34,12 @@ take_words n b rest (inl e) le = rw e refl
 take_words n b [] (inr e) le = absurd (omega (arith, e, le))
 take_words n b (c ∷ rest) (inr e) le = rw e refl
 
-op_piece : (at b : ℕ) (rest : List ℕ) (o : Op) → second_word rest < 256 → decoded b (second_word rest) ≡ Some o → words_of o ≤ 1 + length rest → IsPiece at b rest (Some o)
+op_piece : (at b : ℕ) (rest : List ℕ) (o : Op) → second_word rest < 256 → decoded b (second_word rest) ≡ Some o → word_count_of o ≤ 1 + length rest → IsPiece at b rest (Some o)
 op_piece at b rest o lt e le =
     let s = decoded_spells b (second_word rest) o lt e in
     record {
       reads = read_back at o s.0;
-      bytes = spells at o [] s.0 ∙ ap Ok (s.1 ∙ take_words (words_of o) b rest (one_or_two o) le);
+      bytes = spells at o [] s.0 ∙ ap Ok (s.1 ∙ take_words (word_count_of o) b rest (one_or_two o) le);
       size_of = size_is at o;
       next = next_is at at o;
       fine = fine_is at o;
@@ -55,9 +55,9 @@ piece_is at b rest lt second =
     (elim (decoded b (second_word rest)) as P [
       | None ↦ λ e. byte_piece at b rest lt
       | Some o ↦ λ e.
-          let Q : Bool → Type 0 = λ t. leb (words_of o) (1 + length rest) ≡ t → IsPiece at b rest (cond t (Some o) None) in
-          (elim (leb (words_of o) (1 + length rest)) as Q [
-            | true ↦ λ yes. op_piece at b rest o second e (leb-true (words_of o) (1 + length rest) yes)
+          let Q : Bool → Type 0 = λ t. leb (word_count_of o) (1 + length rest) ≡ t → IsPiece at b rest (cond t (Some o) None) in
+          (elim (leb (word_count_of o) (1 + length rest)) as Q [
+            | true ↦ λ yes. op_piece at b rest o second e (leb-true (word_count_of o) (1 + length rest) yes)
             | false ↦ λ not_whole. byte_piece at b rest lt
           ]) refl
     ]) refl

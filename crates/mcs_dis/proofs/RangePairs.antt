@@ -1,7 +1,7 @@
 -- The pairs of a range of a ROM.
 use Rattle.std.proofs.Common.{◌≡◌, ℕ, zero, suc, ◌+◌, ◌-◌, ◌<◌, ◌≤◌, List, [], ◌∷◌, length, get_or, drop, refl, sym, ap, subst, ◌∙◌, arith}
 use Rattle.std.proofs.lemmas.List.{length-take, length-drop, get_or-take, get_or-drop}
-use Rattle.mcs_model.specs.Pairs.{from_address}
+use Rattle.mcs_model.specs.Images.{from_address}
 use Rattle.mcs_source.specs.Text.{range}
 use Rattle.mcs_dis.specs.Again.{AreItsPairs}
 

@@ -13,7 +13,7 @@ use Rattle.mcs_source.specs.Mnemonics.{mnemonic_of, orders, on_registers, on_por
 use Rattle.mcs_source.specs.Lines as asm
 use Rattle.mcs_source.specs.Text.{byte_text, origin_text, hex_2, address, near_page}
 use Rattle.mcs_source.specs.Assembly.{Names, bytes_at, size, next_statement, is_bad_statement}
-use Rattle.mcs_model.specs.Table.{words_of}
+use Rattle.mcs_model.specs.Table.{word_count_of}
 use Rattle.mcs_source.specs.Spelling.{spelling, IsOp}
 use Rattle.mcs_dis.specs.Again.{statement, ReadsAs}
 
@@ -263,7 +263,7 @@ pub byte_back : (b : ℕ) → b < 256 → asm.line_of (tokens (byte_text b)) ≡
 unfolding tokens_after asm.statement_of asm.operands_of mnemonic_of orders
 byte_back b lt = rw (hex_end b lt, hex_2_again b lt) refl
 
-pub size_is : (at : ℕ) (o : Op) → size (statement at o) ≡ words_of o
+pub size_is : (at : ℕ) (o : Op) → size (statement at o) ≡ word_count_of o
 size_is at Nop = refl
 size_is at Wrm = refl
 size_is at Wmp = refl
@@ -310,7 +310,7 @@ size_is at (Jun r b) = refl
 size_is at (Jms r b) = refl
 size_is at (Isz r b) = refl
 
-pub next_is : (at a : ℕ) (o : Op) → next_statement (Some (statement at o)) a ≡ a + words_of o
+pub next_is : (at a : ℕ) (o : Op) → next_statement (Some (statement at o)) a ≡ a + word_count_of o
 next_is at a Nop = refl
 next_is at a Wrm = refl
 next_is at a Wmp = refl

@@ -6,7 +6,7 @@ use Rattle.std.specs.List.{AllByRecursion}
 use Rattle.mcs_model.specs.declared.op.Op.{Op}
 use Rattle.mcs_source.specs.Lexical.{tokens}
 use Rattle.mcs_source.specs.Lines as asm
-use Rattle.mcs_model.specs.Pairs.{from_address, overlaps}
+use Rattle.mcs_model.specs.Images.{from_address, overlaps}
 use Rattle.mcs_source.specs.Assembly.{assembled, lines_of, nothing_before, nothing_spelt, Before, Spelt, before_with_line, spelt_with_line, class_one, class_two}
 use Rattle.mcs_source.specs.Text.{SpellsItself, origin_text, source_of, op_at, second_word, piece_text, piece_size, piece_texts}
 use Rattle.mcs_dis.proofs.Clean.{line_is, address_clean}

@@ -1,7 +1,7 @@
 -- The statement that the text of an instruction is.
 use Rattle.std.specs.Prelude.{◌≡◌, ℕ, ◌+◌, ◌*◌, ◌<◌, ◌≤◌, ◌↔◌, List, Some, None, slice_index}
 use Rattle.std.specs.List.{Contains}
-use Rattle.mcs_model.specs.Pairs.{from_address}
+use Rattle.mcs_model.specs.Images.{from_address}
 use Rattle.mcs_model.specs.declared.op.Op.{Op}
 use Rattle.mcs_model.specs.declared.op.Op.TheVariants.{Jcn, Fim, Jun, Jms, Isz, Bbl, Ldm}
 use Rattle.mcs_source.specs.Lexical.{tokens}

@@ -2,9 +2,9 @@
 #![tactic(auto)]
 
 mod decoding;
-mod law;
+mod laws;
 mod listings;
 mod texts;
 
-pub use law::{reads_back, source_law};
+pub use laws::{reads_back, source_law};
 pub use listings::{line_of, listing, source};

@@ -1,10 +1,10 @@
 -- Stretches of calls, one behind another. `new` is a state of an honest disk wherever its laws are asked for.
 use Rattle.std.proofs.Common.{◌≡◌, inl, inr, ⊎_elim, ◌+◌, ℕ, List, refl, arith, ◌∙◌, Result, Ok, Err}
 use Rattle.mcs_disk.specs.Disk.{DiskState, IsLawful}
-use Rattle.mcs_disk.specs.Moments.{Changes, Either, GoesOn, LeavesOnly, Rests}
+use Rattle.mcs_disk.specs.Moments.{Changes, Either, KeepsEarlierImages, LeavesOnly, AddsNoImage}
 
 -- calls that rest, one after another
-pub rests_then : (old mid new : DiskState) → Rests old mid → Rests mid new → Rests old new
+pub rests_then : (old mid new : DiskState) → AddsNoImage old mid → AddsNoImage mid new → AddsNoImage old new
 rests_then old mid new first second = record {
   bytes = second.bytes ∙ first.bytes;
   images = λ c now. first.images c (second.images c now);
@@ -14,11 +14,11 @@ rests_then old mid new first second = record {
 }
 
 -- calls that never were
-pub rests_still : (disk : DiskState) → Rests disk disk
+pub rests_still : (disk : DiskState) → AddsNoImage disk disk
 rests_still disk = record { bytes = refl; images = λ c left. left; later = omega arith; nothing_else = λ t c le left. left; keeps = λ t c le left. left }
 
 -- calls that rest are a stretch
-pub rests_leave : (old new : DiskState) → Rests old new → GoesOn old new
+pub rests_leave : (old new : DiskState) → AddsNoImage old new → KeepsEarlierImages old new
 rests_leave old new rests = record {
   later = rests.later;
   each = λ c left. tt;

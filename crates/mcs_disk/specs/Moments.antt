@@ -9,14 +9,14 @@ pub record IsDurable (disk : DiskState) : Type 0 where
   pub fresh : (c : List ℕ) → disk.since disk.clock c → c ≡ disk.bytes
 
 -- size and honesty stayed, and the count of faults rose by one where a call failed, and nowhere else
-pub record Counts (old new : DiskState) (failed : Type 0) : Type 0 where
+pub record CountsFault (old new : DiskState) (failed : Type 0) : Type 0 where
   pub size : new.size ≡ old.size
   pub honest : new.honest ↔ old.honest
   pub fault : failed → new.faults ≡ min (old.faults + 1) most_faults
   pub no_fault : ¬ failed → new.faults ≡ old.faults
 
 -- nothing but the count of faults has changed
-pub record Stays (old new : DiskState) : Type 0 where
+pub record IsUntouched (old new : DiskState) : Type 0 where
   pub bytes : new.bytes ≡ old.bytes
   pub clock : new.clock ≡ old.clock
   pub images : (c : List ℕ) → new.images c ↔ old.images c
@@ -27,7 +27,7 @@ pub record IsSame (old new : DiskState) : Type 0 where
   pub size : new.size ≡ old.size
   pub faults : new.faults ≡ old.faults
   pub honest : new.honest ↔ old.honest
-  pub stays : Stays old new
+  pub stays : IsUntouched old new
 
 -- an honest disk of n zeros that no call has reached
 pub record IsNew (n : ℕ) (disk : DiskState) : Type 0 where
@@ -39,7 +39,7 @@ pub record IsNew (n : ℕ) (disk : DiskState) : Type 0 where
   pub durable : IsDurable disk
 
 -- calls that changed no byte and left nothing else behind (reads and syncs)
-pub record Rests (old new : DiskState) : Type 0 where
+pub record AddsNoImage (old new : DiskState) : Type 0 where
   pub bytes : new.bytes ≡ old.bytes
   pub images : (c : List ℕ) → new.images c → old.images c
   pub later : old.clock ≤ new.clock
@@ -54,8 +54,8 @@ pub record LeavesOnly (old new : DiskState) (P : List ℕ → Type 0) : Type 0 w
   pub keeps : (t : ℕ) (c : List ℕ) → t ≤ old.clock → old.since t c → new.since t c
 
 -- nothing is said of what the stretch left behind
-abbrev pub GoesOn : DiskState → DiskState → Type 0
-GoesOn old new = LeavesOnly old new (λ c. Unit {0})
+abbrev pub KeepsEarlierImages : DiskState → DiskState → Type 0
+KeepsEarlierImages old new = LeavesOnly old new (λ c. Unit {0})
 
 -- nothing was done yet, or all of it
 abbrev pub Either : (List ℕ → Type 0) → (List ℕ → Type 0) → List ℕ → Type 0

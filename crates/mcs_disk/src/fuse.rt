@@ -1,7 +1,7 @@
 //! A disk in memory that fails chosen calls.
 ghost use Rattle.std.specs.Prelude.{◌≡◌, ◌≤◌, ◌+◌, ◌↔◌, ℕ, length, min, OnErr, IsErr, IsTrue};
 ghost use Rattle.mcs_disk.specs.Disk.{most_faults, IsCall, Reads, Writes, Syncs};
-ghost use Rattle.mcs_disk.specs.Moments.{IsSame, Stays};
+ghost use Rattle.mcs_disk.specs.Moments.{IsSame, IsUntouched};
 ghost use Rattle.mcs_disk.specs.Memory.{memory_state};
 ghost use Rattle.mcs_disk.specs.MemoryLaws.{memory_lawful};
 
@@ -126,7 +126,7 @@ impl Disk for FuseDisk {
         ensures honest { (⟦<FuseDisk as Disk>⟧.state self.old).honest
             → Reads at into.old into.new (⟦<FuseDisk as Disk>⟧.state self.old)
             (⟦<FuseDisk as Disk>⟧.state self.new) result }
-        ensures refused { OnErr result (Stays (⟦<FuseDisk as Disk>⟧.state self.old)
+        ensures refused { OnErr result (IsUntouched (⟦<FuseDisk as Disk>⟧.state self.old)
             (⟦<FuseDisk as Disk>⟧.state self.new)) }
         ensures fails { FailsAfter self.old 0 → IsErr result }
         ensures kept_back { FailsAfter self.old 0 → inner_disk self.new ≡ inner_disk self.old }
@@ -151,7 +151,7 @@ impl Disk for FuseDisk {
         ensures honest { (⟦<FuseDisk as Disk>⟧.state self.old).honest
             → Writes at from.now (⟦<FuseDisk as Disk>⟧.state self.old)
             (⟦<FuseDisk as Disk>⟧.state self.new) result }
-        ensures refused { OnErr result (Stays (⟦<FuseDisk as Disk>⟧.state self.old)
+        ensures refused { OnErr result (IsUntouched (⟦<FuseDisk as Disk>⟧.state self.old)
             (⟦<FuseDisk as Disk>⟧.state self.new)) }
         ensures fails { FailsAfter self.old 0 → IsErr result }
         ensures kept_back { FailsAfter self.old 0 → inner_disk self.new ≡ inner_disk self.old }
@@ -175,7 +175,7 @@ impl Disk for FuseDisk {
         ensures honest { (⟦<FuseDisk as Disk>⟧.state self.old).honest
             → Syncs (⟦<FuseDisk as Disk>⟧.state self.old)
             (⟦<FuseDisk as Disk>⟧.state self.new) result }
-        ensures refused { OnErr result (Stays (⟦<FuseDisk as Disk>⟧.state self.old)
+        ensures refused { OnErr result (IsUntouched (⟦<FuseDisk as Disk>⟧.state self.old)
             (⟦<FuseDisk as Disk>⟧.state self.new)) }
         ensures fails { FailsAfter self.old 0 → IsErr result }
         ensures kept_back { FailsAfter self.old 0 → inner_disk self.new ≡ inner_disk self.old }

@@ -1,6 +1,6 @@
 //! Laws of power cuts. The contract of each call is the law; the call does nothing.
 ghost use Rattle.std.specs.Prelude.{◌≡◌, ◌⊎◌, ◌≤◌, ℕ};
-ghost use Rattle.mcs_disk.specs.Moments.{GoesOn, IsDurable};
+ghost use Rattle.mcs_disk.specs.Moments.{KeepsEarlierImages, IsDurable};
 ghost use Rattle.mcs_disk.specs.PowerCut.{IsLeftByCut};
 
 use crate::Disk;
@@ -21,7 +21,7 @@ pub fn cut_leaves_what_is_durable<D: Disk, E: Disk>()
 /// A power cut behind a stretch of calls, since a time before it, is one before the stretch, or one since its start.
 pub fn cut_is_before_a_stretch_or_since_its_start<D: Disk, E: Disk>()
     ensures { (t : ℕ) (old new : D) (e : E) → t ≤ (D.state old).clock
-        → (D.state new).size ≡ (D.state old).size → GoesOn (D.state old) (D.state new)
+        → (D.state new).size ≡ (D.state old).size → KeepsEarlierImages (D.state old) (D.state new)
         → IsLeftByCut t (D.state new) (E.state e) → IsLeftByCut t (D.state old) (E.state e)
         ⊎ IsLeftByCut (D.state old).clock (D.state new) (E.state e) }
 {}

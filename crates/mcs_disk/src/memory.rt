@@ -1,7 +1,7 @@
 //! A disk in memory.
 ghost use Rattle.std.specs.Prelude.{◌≡◌, ◌+◌, ◌-◌, ◌^◌, ◌≤◌, [], ◌∷◌, ◌++◌, length, reverse, IfOk, OnOk, OnErr, min};
 ghost use Rattle.mcs_disk.specs.Disk.{most_faults, put, IsCall, Reads, Writes, Syncs};
-ghost use Rattle.mcs_disk.specs.Moments.{IsNew, Stays};
+ghost use Rattle.mcs_disk.specs.Moments.{IsNew, IsUntouched};
 ghost use Rattle.mcs_disk.specs.Memory.{bytes_after, memory_state};
 ghost use Rattle.mcs_disk.specs.MemoryLaws.{memory_lawful};
 
@@ -93,7 +93,7 @@ impl Disk for MemDisk {
         ensures honest { (⟦<MemDisk as Disk>⟧.state self.old).honest
             → Reads at into.old into.new (⟦<MemDisk as Disk>⟧.state self.old)
             (⟦<MemDisk as Disk>⟧.state self.new) result }
-        ensures refused { OnErr result (Stays (⟦<MemDisk as Disk>⟧.state self.old)
+        ensures refused { OnErr result (IsUntouched (⟦<MemDisk as Disk>⟧.state self.old)
             (⟦<MemDisk as Disk>⟧.state self.new)) }
     {
         keep(&mut self.calls, &mut self.faults, Call::Read)?;
@@ -108,7 +108,7 @@ impl Disk for MemDisk {
         ensures honest { (⟦<MemDisk as Disk>⟧.state self.old).honest
             → Writes at from.now (⟦<MemDisk as Disk>⟧.state self.old)
             (⟦<MemDisk as Disk>⟧.state self.new) result }
-        ensures refused { OnErr result (Stays (⟦<MemDisk as Disk>⟧.state self.old)
+        ensures refused { OnErr result (IsUntouched (⟦<MemDisk as Disk>⟧.state self.old)
             (⟦<MemDisk as Disk>⟧.state self.new)) }
     {
         let Ok(copy) = from.to_vec(self.alloc) else {
@@ -125,7 +125,7 @@ impl Disk for MemDisk {
         ensures honest { (⟦<MemDisk as Disk>⟧.state self.old).honest
             → Syncs (⟦<MemDisk as Disk>⟧.state self.old)
             (⟦<MemDisk as Disk>⟧.state self.new) result }
-        ensures refused { OnErr result (Stays (⟦<MemDisk as Disk>⟧.state self.old)
+        ensures refused { OnErr result (IsUntouched (⟦<MemDisk as Disk>⟧.state self.old)
             (⟦<MemDisk as Disk>⟧.state self.new)) }
     {
         keep(&mut self.calls, &mut self.faults, Call::Sync)

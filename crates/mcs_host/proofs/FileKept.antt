@@ -3,35 +3,35 @@ use Rattle.std.proofs.Common.{◌≡◌, ◌⊎◌, inl, inr, ⊎_elim, ℕ, ◌
 use Rattle.mcs_disk.specs.Disk.{Elapses, Reads, Syncs, Writes, Torn, part, put}
 use Rattle.mcs_disk.specs.MemoryLaws.{put_torn}
 use Rattle.mcs_disk.proofs.Kept.{part_put}
-use Rattle.mcs_host.specs.FileCalls.{FileCall, WasRead, Wrote, Failed, Synced, bytes_behind, images_behind, clock_of, since_behind}
+use Rattle.mcs_host.specs.FileCalls.{FileCall, WasRead, Wrote, Failed, Synced, bytes_after, images_after, clock_of, since_after}
 use Rattle.mcs_host.specs.FileDisk.{file_state}
 use Rattle.mcs_host.specs.FileLaws.{current, untorn}
 use Rattle.mcs_host.specs.declared.call_record.CallRecord.{CallRecord}
 
 -- the record before and behind a call; how many faults there are and which bytes does not matter to the times
 module _ (f g : ℕ) (b d : List ℕ) (h h' : CallRecord) (call : FileCall) (noted : h' ≡ record h { calls = call ∷ h.calls }) where
-  pub images_are : (c : List ℕ) → images_behind h'.start h'.calls c ≡ images_behind h.start (call ∷ h.calls) c
-  images_are c = λ k. images_behind (noted k).start (noted k).calls c
+  pub images_are : (c : List ℕ) → images_after h'.start h'.calls c ≡ images_after h.start (call ∷ h.calls) c
+  images_are c = λ k. images_after (noted k).start (noted k).calls c
 
-  pub since_are : (t : ℕ) (c : List ℕ) → since_behind h'.start h'.calls t c ≡ since_behind h.start (call ∷ h.calls) t c
-  since_are t c = λ k. since_behind (noted k).start (noted k).calls t c
+  pub since_are : (t : ℕ) (c : List ℕ) → since_after h'.start h'.calls t c ≡ since_after h.start (call ∷ h.calls) t c
+  since_are t c = λ k. since_after (noted k).start (noted k).calls t c
 
-  pub to_images : (c : List ℕ) → images_behind h.start (call ∷ h.calls) c → images_behind h'.start h'.calls c
+  pub to_images : (c : List ℕ) → images_after h.start (call ∷ h.calls) c → images_after h'.start h'.calls c
   to_images c now = subst (λ (X : Type 0). X) (sym (images_are c)) now
 
-  pub from_images : (c : List ℕ) → images_behind h'.start h'.calls c → images_behind h.start (call ∷ h.calls) c
+  pub from_images : (c : List ℕ) → images_after h'.start h'.calls c → images_after h.start (call ∷ h.calls) c
   from_images c now = subst (λ (X : Type 0). X) (images_are c) now
 
-  from_since : (t : ℕ) (c : List ℕ) → since_behind h'.start h'.calls t c → since_behind h.start (call ∷ h.calls) t c
+  from_since : (t : ℕ) (c : List ℕ) → since_after h'.start h'.calls t c → since_after h.start (call ∷ h.calls) t c
   from_since t c left = subst (λ (X : Type 0). X) (since_are t c) left
 
   clock_is : clock_of h'.calls ≡ clock_of (call ∷ h.calls)
   clock_is = ap (λ (r : CallRecord). clock_of r.calls) noted
 
-  nothing_else : (t : ℕ) (c : List ℕ) → since_behind h'.start h'.calls t c → since_behind h.start h.calls t c ⊎ images_behind h'.start h'.calls c
+  nothing_else : (t : ℕ) (c : List ℕ) → since_after h'.start h'.calls t c → since_after h.start h.calls t c ⊎ images_after h'.start h'.calls c
   nothing_else t c left = ⊎_elim (λ now. inr (to_images c now)) (λ past. inl past.1) (from_since t c left)
 
-  keeps : (t : ℕ) (c : List ℕ) → t ≤ clock_of h.calls → since_behind h.start h.calls t c → since_behind h'.start h'.calls t c
+  keeps : (t : ℕ) (c : List ℕ) → t ≤ clock_of h.calls → since_after h.start h.calls t c → since_after h'.start h'.calls t c
   keeps t c le left = subst (λ (X : Type 0). X) (sym (since_are t c)) (inr (le, left))
 
   pub answered : {T E : Type 0} (x : T) → clock_of (call ∷ h.calls) ≡ clock_of h.calls + 1 → Elapses {T = T} {E = E} (file_state f b h) (file_state g d h') (Ok x)
@@ -62,17 +62,17 @@ was_read f g b h h' at old into x noted given = record {
   time = answered f g b b h h' WasRead noted x refl;
 }
 
-pub was_synced : {T E : Type 0} (f g : ℕ) (b : List ℕ) (h h' : CallRecord) (x : T) → h' ≡ record h { calls = Synced ∷ h.calls } → b ≡ bytes_behind h.start h.calls
+pub was_synced : {T E : Type 0} (f g : ℕ) (b : List ℕ) (h h' : CallRecord) (x : T) → h' ≡ record h { calls = Synced ∷ h.calls } → b ≡ bytes_after h.start h.calls
     → Syncs {T = T} {E = E} (file_state f b h) (file_state g b h') (Ok x)
 was_synced f g b h h' x noted kept = record {
   durable = λ c left. at_sync c left;
   bytes = refl;
-  images = λ c left. subst (images_behind h.start h.calls) (sym (at_sync c left)) (subst (images_behind h.start h.calls) (sym kept) (current h.start h.calls));
+  images = λ c left. subst (images_after h.start h.calls) (sym (at_sync c left)) (subst (images_after h.start h.calls) (sym kept) (current h.start h.calls));
   kept = tt;
   time = answered f g b b h h' Synced noted x refl;
 }
   where
-    at_sync : (c : List ℕ) → images_behind h'.start h'.calls c → c ≡ b
+    at_sync : (c : List ℕ) → images_after h'.start h'.calls c → c ≡ b
     at_sync c left = from_images f g b b h h' Synced noted c left ∙ sym kept
 
 pub was_written : {T E : Type 0} (f g : ℕ) (b d : List ℕ) (h h' : CallRecord) (at : ℕ) (from : List ℕ) (x : T) → h' ≡ record h { calls = Wrote at from ∷ h.calls } → d ≡ put at from b → at + length from ≤ length b
@@ -98,5 +98,5 @@ was_failed f g b h h' at from e noted = record {
 }
 
 -- the bytes that are kept stay those behind the calls
-pub still_kept : (b d : List ℕ) (h h' : CallRecord) (at : ℕ) (from : List ℕ) → h' ≡ record h { calls = Wrote at from ∷ h.calls } → d ≡ put at from b → b ≡ bytes_behind h.start h.calls → d ≡ bytes_behind h'.start h'.calls
-still_kept b d h h' at from noted is kept = is ∙ ap (put at from) kept ∙ sym (ap (λ (r : CallRecord). bytes_behind r.start r.calls) noted)
+pub still_kept : (b d : List ℕ) (h h' : CallRecord) (at : ℕ) (from : List ℕ) → h' ≡ record h { calls = Wrote at from ∷ h.calls } → d ≡ put at from b → b ≡ bytes_after h.start h.calls → d ≡ bytes_after h'.start h'.calls
+still_kept b d h h' at from noted is kept = is ∙ ap (put at from) kept ∙ sym (ap (λ (r : CallRecord). bytes_after r.start r.calls) noted)

@@ -18,8 +18,8 @@ abbrev pub program : App
 program = with_subcommand (with_subcommand (new_app (codes "mcs4")) (over_file (codes "new")).top) (over_file (codes "open")).top
 
 -- clap's definition takes these words, the program's name first
-unfoldable pub is_taken : List Text → Bool
-is_taken words = takes program words
+unfoldable pub takes_words : List Text → Bool
+takes_words words = takes program words
 
 -- `new` or `open`, with its FILE
 abbrev pub file_in : Text × List Row → Option (Text × Text)

@@ -1,6 +1,6 @@
 -- How a file is left, and what is found in it then. (Our own choice.)
 use Rattle.std.specs.Prelude.{◌≡◌, ◌⊎◌, ℕ, ◌≤◌, List, ◌∷◌, ◌++◌}
-use Rattle.mcs_host.specs.FileCalls.{FileCall, Wrote, Failed, clock_of, images_behind}
+use Rattle.mcs_host.specs.FileCalls.{FileCall, Wrote, Failed, clock_of, images_after}
 use Rattle.mcs_host.specs.declared.file_disk.FileDisk.{FileDisk}
 
 -- what the next one to open the file finds, after a close, a kill or a power cut
@@ -25,8 +25,8 @@ pub record IsLeftSince (t : ℕ) (file : FileDisk) : Type 0 where
   pub late : t ≤ clock_of file.history.calls_by_the_end
 
 -- what is found after the end is an image behind the calls by then
-abbrev pub IsFoundBehindTheEnd : FileDisk → Type 0
-IsFoundBehindTheEnd file = images_behind file.history.start file.history.calls_by_the_end (found_in file)
+abbrev pub IsFoundAfterTheEnd : FileDisk → Type 0
+IsFoundAfterTheEnd file = images_after file.history.start file.history.calls_by_the_end (found_in file)
 
 -- This file is like that one in all that any call has told of it, it was left behind all of its calls, and these bytes are found in it.
 pub record IsFoundWith (c : List ℕ) (file like : FileDisk) : Type 0 where

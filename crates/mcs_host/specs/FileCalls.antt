@@ -24,20 +24,20 @@ call_of (FailedWrite at) bytes = Failed at bytes
 call_of Sync bytes = Synced
 
 -- what the file holds after these calls, which held `start` when it was opened
-abbrev pub bytes_behind : List ℕ → List FileCall → List ℕ
-bytes_behind start [] = start
-bytes_behind start (WasRead ∷ calls) = bytes_behind start calls
-bytes_behind start (Wrote at from ∷ calls) = put at from (bytes_behind start calls)
-bytes_behind start (Failed at from ∷ calls) = bytes_behind start calls
-bytes_behind start (Synced ∷ calls) = bytes_behind start calls
+abbrev pub bytes_after : List ℕ → List FileCall → List ℕ
+bytes_after start [] = start
+bytes_after start (WasRead ∷ calls) = bytes_after start calls
+bytes_after start (Wrote at from ∷ calls) = put at from (bytes_after start calls)
+bytes_after start (Failed at from ∷ calls) = bytes_after start calls
+bytes_after start (Synced ∷ calls) = bytes_after start calls
 
 -- what a power cut behind these calls may leave
-abbrev pub images_behind : List ℕ → List FileCall → List ℕ → Type 0
-images_behind start [] c = c ≡ start
-images_behind start (WasRead ∷ calls) c = images_behind start calls c
-images_behind start (Wrote at from ∷ calls) c = (d : List ℕ) × images_behind start calls d × Torn at (length from) d c
-images_behind start (Failed at from ∷ calls) c = (d : List ℕ) × images_behind start calls d × Torn at (length from) d c
-images_behind start (Synced ∷ calls) c = c ≡ bytes_behind start calls
+abbrev pub images_after : List ℕ → List FileCall → List ℕ → Type 0
+images_after start [] c = c ≡ start
+images_after start (WasRead ∷ calls) c = images_after start calls c
+images_after start (Wrote at from ∷ calls) c = (d : List ℕ) × images_after start calls d × Torn at (length from) d c
+images_after start (Failed at from ∷ calls) c = (d : List ℕ) × images_after start calls d × Torn at (length from) d c
+images_after start (Synced ∷ calls) c = c ≡ bytes_after start calls
 
 -- how many of these calls have answered Ok
 abbrev pub clock_of : List FileCall → ℕ
@@ -48,6 +48,6 @@ clock_of (Failed at from ∷ calls) = clock_of calls
 clock_of (Synced ∷ calls) = clock_of calls + 1
 
 -- what a power cut behind these calls, or when t or more of them had answered Ok, may leave
-abbrev pub since_behind : List ℕ → List FileCall → ℕ → List ℕ → Type 0
-since_behind start [] t c = images_behind start [] c
-since_behind start (call ∷ calls) t c = images_behind start (call ∷ calls) c ⊎ ((t ≤ clock_of calls) × since_behind start calls t c)
+abbrev pub since_after : List ℕ → List FileCall → ℕ → List ℕ → Type 0
+since_after start [] t c = images_after start [] c
+since_after start (call ∷ calls) t c = images_after start (call ∷ calls) c ⊎ ((t ≤ clock_of calls) × since_after start calls t c)

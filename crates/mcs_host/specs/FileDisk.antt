@@ -2,13 +2,13 @@
 use Rattle.std.specs.Prelude.{◌≡◌, ℕ, List, length}
 use Rattle.mcs_disk.specs.Disk.{DiskState}
 use Rattle.mcs_disk.specs.Moments.{IsDurable}
-use Rattle.mcs_host.specs.FileCalls.{clock_of, images_behind, since_behind}
+use Rattle.mcs_host.specs.FileCalls.{clock_of, images_after, since_after}
 use Rattle.mcs_host.specs.declared.call_record.CallRecord.{CallRecord}
 
 -- The premise on the host, and on programs that write the file without asking for its lock: what is found in the file after the end is an
 -- image behind the calls by then, of which a write that was under way is one that failed.
 abbrev pub IsHonest : CallRecord → Type 0
-IsHonest history = images_behind history.start history.calls_by_the_end history.found
+IsHonest history = images_after history.start history.calls_by_the_end history.found
 
 -- what contracts see of a file that has so many faults, these bytes and this record of calls
 abbrev pub file_state : ℕ → List ℕ → CallRecord → DiskState
@@ -18,8 +18,8 @@ file_state faults bytes history = record {
   honest = IsHonest history;
   bytes = bytes;
   clock = clock_of history.calls;
-  images = images_behind history.start history.calls;
-  since = since_behind history.start history.calls;
+  images = images_after history.start history.calls;
+  since = since_after history.start history.calls;
 }
 
 -- a disk that no call has reached, all of whose bytes are there after a power cut

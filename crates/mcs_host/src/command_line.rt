@@ -1,7 +1,7 @@
 //! The command line: `mcs4 new FILE` and `mcs4 open FILE`, read by clap.
 ghost use Rattle.std.specs.Prelude.{◌≡◌, ◌≢◌, Some, None, true, map, IfOk, IfErr, IsErrOf};
 ghost use Rattle.clap.specs.Words.{kind_of, subcommand_of, subcommand_rows_of};
-ghost use Rattle.mcs_host.specs.CommandLine.{chosen, is_taken, meant, program};
+ghost use Rattle.mcs_host.specs.CommandLine.{chosen, takes_words, meant, program};
 
 use crate::words::{Choice, FileName, WordsFault};
 use clap::error::ErrorKind;
@@ -23,7 +23,7 @@ impl Choice {
 // The matches of the words by clap's definition.
 fn matches<'a, S: AsStr>(alloc: Global, words: &'a [S]) -> Result<ArgMatches<'a>, Error>
     ensures ok { IfOk result (λ m. subcommand_rows_of m ≡ subcommand_of program (map S.text words.entry.now)) }
-    ensures err { IfErr result (λ e. is_taken (map S.text words.entry.now) ≡ true → kind_of e ≡ ErrorKind.OutOfMemory) }
+    ensures err { IfErr result (λ e. takes_words (map S.text words.entry.now) ≡ true → kind_of e ≡ ErrorKind.OutOfMemory) }
 {
     let new_file = Arg::new(alloc, "FILE").required(true);
     let making = Command::new(alloc, "new").arg(new_file)?;
@@ -40,7 +40,7 @@ fn matches<'a, S: AsStr>(alloc: Global, words: &'a [S]) -> Result<ArgMatches<'a>
 /// where a growth was refused.
 pub fn choice<S: AsStr>(alloc: Global, words: &[S]) -> Result<Choice, WordsFault>
     ensures given { IfOk result (λ c. chosen (map S.text words.entry.now) ≡ Some (meant c)) }
-    ensures usage { IsErrOf result WordsFault.Usage → (is_taken (map S.text words.entry.now) ≡ true → chosen (map S.text words.entry.now) ≡ None) }
+    ensures usage { IsErrOf result WordsFault.Usage → (takes_words (map S.text words.entry.now) ≡ true → chosen (map S.text words.entry.now) ≡ None) }
 {
     let found = match matches(alloc, words) {
         Ok(found) => found,

@@ -1,7 +1,7 @@
 //! A session file of the host, as a disk.
 ghost use Rattle.std.specs.Prelude.{◌≡◌, ◌↔◌, ◌<◌, ◌≤◌, ◌^◌, ◌+◌, ℕ, List, IfOk, OnOk, IsTrue, length, min, vec_len};
 ghost use Rattle.mcs_disk.specs.Disk.{most_faults, part, put, IsCall, Reads, Torn, Writes};
-ghost use Rattle.mcs_host.specs.FileCalls.{bytes_behind};
+ghost use Rattle.mcs_host.specs.FileCalls.{bytes_after};
 
 use crate::call_record::{Call, CallRecord};
 use crate::file_fault::FileFault;
@@ -26,7 +26,7 @@ pub struct FileDisk {
     bytes: Vec<u8>,
     faults: u64,
     history: CallRecord,
-    ghost kept: { bytes.items ≡ bytes_behind history.start history.calls },
+    ghost kept: { bytes.items ≡ bytes_after history.start history.calls },
 }
 
 impl FileDisk {

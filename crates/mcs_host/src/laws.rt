@@ -2,7 +2,7 @@
 //! does nothing.
 ghost use Rattle.std.specs.Prelude.{◌≡◌, ◌↔◌, ℕ, List};
 ghost use Rattle.mcs_disk.specs.PowerCut.{IsLeftByCut};
-ghost use Rattle.mcs_host.specs.Ending.{IsFoundBehindTheEnd, IsFoundWith, IsLeftSince, found_in};
+ghost use Rattle.mcs_host.specs.Ending.{IsFoundAfterTheEnd, IsFoundWith, IsLeftSince, found_in};
 ghost use Rattle.mcs_host.specs.FileDisk.{IsOpened};
 
 use crate::FileDisk;
@@ -25,7 +25,7 @@ pub fn opened_again_is_left_by_cut()
 
 /// A file is honest exactly where what is found in it after the end is an image behind the calls by then.
 pub fn honest_where_an_image_is_found()
-    ensures { (file : FileDisk) → (⟦<FileDisk as Disk>⟧.state file).honest ↔ IsFoundBehindTheEnd file }
+    ensures { (file : FileDisk) → (⟦<FileDisk as Disk>⟧.state file).honest ↔ IsFoundAfterTheEnd file }
 {}
 
 /// The premise can hold, of a file that was just opened and of any other: whatever image its calls have left, there is an honest file

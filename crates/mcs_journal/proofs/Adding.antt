@@ -3,28 +3,28 @@ use Rattle.std.proofs.Common.{◌≡◌, ◌+◌, List, [], ◌∷◌, ◌++◌,
 use Rattle.mcs_disk.specs.Disk.{Torn, part}
 use Rattle.mcs_disk.specs.Moments.{Either}
 use Rattle.mcs_journal.specs.File.{Holds, IsRecord, be16}
-use Rattle.mcs_journal.specs.Writing.{IsGate}
-use Rattle.mcs_journal.proofs.Pairs.{first_torn, second_torn, second_done}
+use Rattle.mcs_journal.specs.Writing.{IsCommitPlace}
+use Rattle.mcs_journal.proofs.Contents.{first_torn, second_torn, second_done}
 
-module _ (f snap r from : List ℕ) (rs : List (List ℕ)) (gate : ℕ) (spells : from ≡ be16 (length r) ++ r ++ 0 ∷ []) (held : Holds f snap rs) (at_gate : IsGate f rs gate (length r)) (good : IsRecord r) where
+module _ (f snap r from : List ℕ) (rs : List (List ℕ)) (commit_byte : ℕ) (spells : from ≡ be16 (length r) ++ r ++ 0 ∷ []) (held : Holds f snap rs) (at_gate : IsCommitPlace f rs commit_byte (length r)) (good : IsRecord r) where
   long : length from ≡ length r + 3
   long = ap length spells ∙ omega (arith, length-append (be16 (length r) ++ r) (0 ∷ []))
 
-  sized : (c : List ℕ) → Torn (gate + 1) (length from) f c → Torn (gate + 1) (length r + 3) f c
-  sized c torn = subst (λ (n : ℕ). Torn (gate + 1) n f c) long torn
+  sized : (c : List ℕ) → Torn (commit_byte + 1) (length from) f c → Torn (commit_byte + 1) (length r + 3) f c
+  sized c torn = subst (λ (n : ℕ). Torn (commit_byte + 1) n f c) long torn
 
   -- any bytes behind the gate leave the pair
-  pub behind_torn : (c : List ℕ) → Torn (gate + 1) (length from) f c → Holds c snap rs
-  behind_torn c torn = first_torn f snap rs gate r held at_gate good c (sized c torn)
+  pub behind_torn : (c : List ℕ) → Torn (commit_byte + 1) (length from) f c → Holds c snap rs
+  behind_torn c torn = first_torn f snap rs commit_byte r held at_gate good c (sized c torn)
 
-  module _ (g : List ℕ) (torn : Torn (gate + 1) (length from) f g) (written : part (gate + 1) (length from) g ≡ from) where
-    here : part (gate + 1) (length r + 3) g ≡ be16 (length r) ++ r ++ 0 ∷ []
-    here = ap (λ (n : ℕ). part (gate + 1) n g) (sym long) ∙ written ∙ spells
+  module _ (g : List ℕ) (torn : Torn (commit_byte + 1) (length from) f g) (written : part (commit_byte + 1) (length from) g ≡ from) where
+    here : part (commit_byte + 1) (length r + 3) g ≡ be16 (length r) ++ r ++ 0 ∷ []
+    here = ap (λ (n : ℕ). part (commit_byte + 1) n g) (sym long) ∙ written ∙ spells
 
     -- any byte at the gate leaves the old records or the new ones
-    pub gate_torn : (c : List ℕ) → Torn gate 1 g c → Either (λ x. Holds x snap rs) (λ x. Holds x snap (rs ++ r ∷ [])) c
-    gate_torn c last = second_torn f snap rs gate r held at_gate good g c (sized g torn) here last
+    pub gate_torn : (c : List ℕ) → Torn commit_byte 1 g c → Either (λ x. Holds x snap rs) (λ x. Holds x snap (rs ++ r ∷ [])) c
+    gate_torn c last = second_torn f snap rs commit_byte r held at_gate good g c (sized g torn) here last
 
     -- an open gate leaves the new ones
-    pub gate_opened : (c : List ℕ) → Torn gate 1 g c → part gate 1 c ≡ 1 ∷ [] → Holds c snap (rs ++ r ∷ [])
-    gate_opened c last one = second_done f snap rs gate r held at_gate good g c (sized g torn) here last one
+    pub gate_opened : (c : List ℕ) → Torn commit_byte 1 g c → part commit_byte 1 c ≡ 1 ∷ [] → Holds c snap (rs ++ r ∷ [])
+    gate_opened c last one = second_done f snap rs commit_byte r held at_gate good g c (sized g torn) here last one

@@ -24,8 +24,8 @@ module _ (f g c snap area : List ℕ) (sized : length f ≡ 163856) (is_area : I
   inner : (j n m : ℕ) → 16385 ≡ j + m → n ≤ m → part j n area ≡ part (16 + j) n g
   inner j n m is le = ap (part j n) (sym there) ∙ part_part 16 16385 j n m g is le
 
-  gate : get_or (part (slot_at c + 16384) 65536 c) 0 0 ≡ 0
-  gate =
+  commit_byte : get_or (part (slot_at c + 16384) 65536 c) 0 0 ≡ 0
+  commit_byte =
       part_at (slot_at c + 16384) 65536 c 0 (omega arith)
       ∙ ap (λ (s : ℕ). get_or c (s + 16384 + 0) 0) slot
       ∙ torn.after 16400 (omega arith)
@@ -40,9 +40,9 @@ module _ (f g c snap area : List ℕ) (sized : length f ≡ 163856) (is_area : I
     snap_length = ap (λ (s : ℕ). part s 4 c) slot ∙ kept 16 4 (omega arith) ∙ sym (inner 0 4 16385 (omega arith) (omega arith)) ∙ is_area.snap_length;
     snap_bytes = ap (λ (s : ℕ). part (s + 4) (length snap) c) slot ∙ kept 20 (length snap) (omega arith) ∙ sym (inner 4 (length snap) 16381 (omega arith) (omega (arith, is_area.short))) ∙ is_area.snap_bytes;
     log = record {
-      gate = 0;
+      commit_byte = 0;
       rest = drop 1 (part (slot_at c + 16384) 65536 c);
-      is = drop_more (part (slot_at c + 16384) 65536 c) 0 0 (omega (arith, length-part (slot_at c + 16384) 65536 c (omega (arith, slot, long)))) ∙ ap (λ (q : ℕ). q ∷ drop 1 (part (slot_at c + 16384) 65536 c)) gate;
+      is = drop_more (part (slot_at c + 16384) 65536 c) 0 0 (omega (arith, length-part (slot_at c + 16384) 65536 c (omega (arith, slot, long)))) ∙ ap (λ (q : ℕ). q ∷ drop 1 (part (slot_at c + 16384) 65536 c)) commit_byte;
       closed = λ no. cc;
       records_ok = tt;
     };

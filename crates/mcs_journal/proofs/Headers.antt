@@ -30,8 +30,8 @@ module _ (f header : List ℕ) (is : header ≡ part 0 16 f) where
   pub back : take 7 (drop 9 header) ≡ part 9 7 f
   back = ap (λ (l : List ℕ). take 7 (drop 9 l)) is ∙ part_part 0 16 9 7 7 f (omega arith) (omega arith)
 
-  pub turn : get_or header 8 0 ≡ get_or f 8 0
-  turn = ap (λ (l : List ℕ). get_or l 8 0) is ∙ part_at 0 16 f 8 (omega arith)
+  pub selector : get_or header 8 0 ≡ get_or f 8 0
+  selector = ap (λ (l : List ℕ). get_or l 8 0) is ∙ part_at 0 16 f 8 (omega arith)
 
   pub header_is : (slot : Slot) → false ≡ not (bytes_eq (take 8 header) NAME) → false ≡ not (bytes_eq (take 7 (drop 9 header)) ZEROS) → slot_named (get_or header 8 0) ≡ slot → IsHeader f slot
-  header_is slot named zeroed at = record { name = sym front ∙ same_bytes _ _ named; zeros = sym back ∙ same_bytes _ _ zeroed; active = ap slot_named (sym turn) ∙ at }
+  header_is slot named zeroed at = record { name = sym front ∙ same_bytes _ _ named; zeros = sym back ∙ same_bytes _ _ zeroed; active = ap slot_named (sym selector) ∙ at }

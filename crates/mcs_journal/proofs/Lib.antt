@@ -4,7 +4,7 @@ pub mod Headers
 pub mod Logs
 pub mod NextRecord
 pub mod OnOk
-pub mod Pairs
+pub mod Contents
 pub mod Parts
 pub mod Refusing
 pub mod Stretch

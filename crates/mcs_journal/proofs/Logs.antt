@@ -20,24 +20,24 @@ AreRecords-push (x ∷ rs) r all ok = (all.0, AreRecords-push rs r all.1 ok)
 -- what stands behind the gate doesn't matter
 pub behind_gate : (rs : List (List ℕ)) (n : ℕ) (log c : List ℕ) → IsLog rs log → Torn (length (spelled rs) + 1) n log c → IsLog rs c
 behind_gate rs n log c old torn =
-    let p = spelled rs ++ old.gate ∷ [] in
-    let as_p : log ≡ p ++ old.rest = old.is ∙ sym (append_assoc (spelled rs) (old.gate ∷ []) old.rest) in
-    let long : length p ≡ length (spelled rs) + 1 = omega (arith, length-append (spelled rs) (old.gate ∷ [])) in
+    let p = spelled rs ++ old.commit_byte ∷ [] in
+    let as_p : log ≡ p ++ old.rest = old.is ∙ sym (append_assoc (spelled rs) (old.commit_byte ∷ []) old.rest) in
+    let long : length p ≡ length (spelled rs) + 1 = omega (arith, length-append (spelled rs) (old.commit_byte ∷ [])) in
     let fits : length p ≤ length c = omega (arith, torn.size, ap length as_p, length-append p old.rest) in
     let is : c ≡ p ++ drop (length p) c = starts_as p old.rest c fits (λ i lt. torn.before i (omega (arith, lt, long)) ∙ ap (λ (l : List ℕ). get_or l i 0) as_p) in
     record {
-      gate = old.gate;
+      commit_byte = old.commit_byte;
       rest = drop (length p) c;
-      is = is ∙ append_assoc (spelled rs) (old.gate ∷ []) (drop (length p) c);
+      is = is ∙ append_assoc (spelled rs) (old.commit_byte ∷ []) (drop (length p) c);
       closed = old.closed;
       records_ok = old.records_ok;
     }
 
 -- a record stands behind the closed gate, and a closed gate behind it
 pub record IsStaged (rs : List (List ℕ)) (r log : List ℕ) : Type 0 where
-  pub gate : ℕ
+  pub commit_byte : ℕ
   pub rest : List ℕ
-  pub is : log ≡ spelled rs ++ gate ∷ ((be16 (length r) ++ r ++ 0 ∷ []) ++ rest)
+  pub is : log ≡ spelled rs ++ commit_byte ∷ ((be16 (length r) ++ r ++ 0 ∷ []) ++ rest)
   pub records_ok : AreRecords rs
 
 pub staged : (rs : List (List ℕ)) (r log c : List ℕ) → IsLog rs log → Torn (length (spelled rs) + 1) (length r + 3) log c → part (length (spelled rs) + 1) (length r + 3) c ≡ be16 (length r) ++ r ++ 0 ∷ [] → IsStaged rs r c
@@ -45,22 +45,22 @@ staged rs r log c old torn here =
     let n = length (spelled rs) + 1 in
     let next = behind_gate rs (length r + 3) log c old torn in
     let bytes = be16 (length r) ++ r ++ 0 ∷ [] in
-    let p = spelled rs ++ next.gate ∷ [] in
-    let long : length p ≡ n = omega (arith, length-append (spelled rs) (next.gate ∷ [])) in
-    let as_p : c ≡ p ++ next.rest = next.is ∙ sym (append_assoc (spelled rs) (next.gate ∷ []) next.rest) in
+    let p = spelled rs ++ next.commit_byte ∷ [] in
+    let long : length p ≡ n = omega (arith, length-append (spelled rs) (next.commit_byte ∷ [])) in
+    let as_p : c ≡ p ++ next.rest = next.is ∙ sym (append_assoc (spelled rs) (next.commit_byte ∷ []) next.rest) in
     let tail : drop n c ≡ next.rest = ap (λ (l : List ℕ). drop n l) as_p ∙ drop_at p next.rest n long in
     let front : take (length r + 3) next.rest ≡ bytes = ap (λ (l : List ℕ). take (length r + 3) l) (sym tail) ∙ here in
     record {
-      gate = next.gate;
+      commit_byte = next.commit_byte;
       rest = drop (length r + 3) next.rest;
-      is = next.is ∙ ap (λ (l : List ℕ). spelled rs ++ next.gate ∷ l) (sym (take-append-drop (length r + 3) next.rest) ∙ ap (λ (l : List ℕ). l ++ drop (length r + 3) next.rest) front);
+      is = next.is ∙ ap (λ (l : List ℕ). spelled rs ++ next.commit_byte ∷ l) (sym (take-append-drop (length r + 3) next.rest) ∙ ap (λ (l : List ℕ). l ++ drop (length r + 3) next.rest) front);
       records_ok = next.records_ok;
     }
 
 -- the gate decides
-pub gate_open : (rs : List (List ℕ)) (r rest : List ℕ) (gate : ℕ) → AreRecords rs → IsRecord r → gate ≡ 1 → IsLog (rs ++ r ∷ []) (spelled rs ++ gate ∷ ((be16 (length r) ++ r ++ 0 ∷ []) ++ rest))
-gate_open rs r rest gate ok good one = record {
-  gate = 0;
+pub gate_open : (rs : List (List ℕ)) (r rest : List ℕ) (commit_byte : ℕ) → AreRecords rs → IsRecord r → commit_byte ≡ 1 → IsLog (rs ++ r ∷ []) (spelled rs ++ commit_byte ∷ ((be16 (length r) ++ r ++ 0 ∷ []) ++ rest))
+gate_open rs r rest commit_byte ok good one = record {
+  commit_byte = 0;
   rest = rest;
   is =
       ap (λ (g : ℕ). spelled rs ++ g ∷ ((be16 (length r) ++ r ++ 0 ∷ []) ++ rest)) one
@@ -75,11 +75,11 @@ pub gate_either : (rs : List (List ℕ)) (r log c : List ℕ) → IsStaged rs r 
 gate_either rs r log c old good torn =
     let bytes = (be16 (length r) ++ r ++ 0 ∷ []) ++ old.rest in
     let g = get_or c (length (spelled rs)) 0 in
-    let is : c ≡ spelled rs ++ g ∷ bytes = but_one (spelled rs) bytes c old.gate (torn.size ∙ ap length old.is)
+    let is : c ≡ spelled rs ++ g ∷ bytes = but_one (spelled rs) bytes c old.commit_byte (torn.size ∙ ap length old.is)
     (λ i lt. torn.before i lt ∙ ap (λ (l : List ℕ). get_or l i 0) old.is)
     (λ i le. torn.after i le ∙ ap (λ (l : List ℕ). get_or l i 0) old.is) in (
       λ one. subst (IsLog (rs ++ r ∷ [])) (sym is) (gate_open rs r old.rest g old.records_ok good one),
-      λ shut. record { gate = g; rest = bytes; is = is; closed = shut; records_ok = old.records_ok },
+      λ shut. record { commit_byte = g; rest = bytes; is = is; closed = shut; records_ok = old.records_ok },
     )
 
 pub gate_torn : (rs : List (List ℕ)) (r log c : List ℕ) → IsStaged rs r log → IsRecord r → Torn (length (spelled rs)) 1 log c → IsLog rs c ⊎ IsLog (rs ++ r ∷ []) c

@@ -21,9 +21,9 @@ one [] long = absurd (omega arith)
 one (a ∷ []) long = refl
 one (a ∷ b ∷ p) long = absurd (omega arith)
 
-pub next_is : (f : List ℕ) (at n : ℕ) (gate prefix r : List ℕ) → gate ≡ part at 1 f → length gate ≡ 1 → get_or gate 0 0 ≡ 1 → prefix ≡ part (at + 1) 2 f → length prefix ≡ 2 → get_or prefix 1 0 < 256
+pub next_is : (f : List ℕ) (at n : ℕ) (commit_byte prefix r : List ℕ) → commit_byte ≡ part at 1 f → length commit_byte ≡ 1 → get_or commit_byte 0 0 ≡ 1 → prefix ≡ part (at + 1) 2 f → length prefix ≡ 2 → get_or prefix 1 0 < 256
     → n ≡ get_or prefix 0 0 * 256 + get_or prefix 1 0 → r ≡ part (at + 3) n f → length r ≡ n → 1 ≤ n → n ≤ 8192 → IsNext f at r
-next_is f at n gate prefix r is_gate gate_long opened is_prefix prefix_long low is is_r r_long some few = record { good = (omega arith, omega arith); is = whole }
+next_is f at n commit_byte prefix r is_gate gate_long opened is_prefix prefix_long low is is_r r_long some few = record { good = (omega arith, omega arith); is = whole }
   where
     a : ℕ
     a = get_or prefix 0 0
@@ -32,7 +32,7 @@ next_is f at n gate prefix r is_gate gate_long opened is_prefix prefix_long low 
     b = get_or prefix 1 0
 
     gate_is : part at 1 f ≡ 1 ∷ []
-    gate_is = sym is_gate ∙ one gate gate_long ∙ ap (λ (x : ℕ). x ∷ []) opened
+    gate_is = sym is_gate ∙ one commit_byte gate_long ∙ ap (λ (x : ℕ). x ∷ []) opened
 
     high_is : get_or prefix 0 0 ≡ length r / 256
     high_is = omega (arith, is, r_long, low)
@@ -57,9 +57,9 @@ next_is f at n gate prefix r is_gate gate_long opened is_prefix prefix_long low 
         ∙ ap (λ (k : ℕ). part at 1 f ++ (part (at + 1) 2 f ++ part k n f)) shift
         ∙ (λ k. gate_is k ++ (prefix_is k ++ sym is_r k))
 
-pub no_record : (f : List ℕ) (at room n : ℕ) (gate prefix : List ℕ) → gate ≡ part at 1 f → get_or gate 0 0 ≡ 1 → prefix ≡ part (at + 1) 2 f
+pub no_record : (f : List ℕ) (at room n : ℕ) (commit_byte prefix : List ℕ) → commit_byte ≡ part at 1 f → get_or commit_byte 0 0 ≡ 1 → prefix ≡ part (at + 1) 2 f
     → n ≡ get_or prefix 0 0 * 256 + get_or prefix 1 0 → (1 ≤ n → n ≤ 8192 → n + 4 ≤ room → ⊥) → IsNoRecord f at room
-no_record f at room n gate prefix is_gate opened is_prefix is not_good = record {
+no_record f at room n commit_byte prefix is_gate opened is_prefix is not_good = record {
   opened = there;
   none = λ r fits next.
       let prefix_is : prefix ≡ be16 (length r) = is_prefix ∙ sym (part_part at (length r + 3) 1 2 (length r + 2) f (omega arith) (omega arith)) ∙ ap (part 1 2) next.is in

@@ -1,7 +1,7 @@
 -- What `create` and `open` answer follows from what their parts answered.
 use Rattle.std.proofs.Common.{◌≡◌, ◌≢◌, inr, ⊎_elim, ◌+◌, ℕ, refl, ◌∙◌, ap, Result, Ok, Err, IsErrOf, min}
 use Rattle.mcs_disk.specs.Disk.{DiskState, IsCall, most_faults, part}
-use Rattle.mcs_disk.specs.Moments.{Counts, Rests}
+use Rattle.mcs_disk.specs.Moments.{CountsFault, AddsNoImage}
 use Rattle.mcs_disk.proofs.Composing.{rests_leave}
 use Rattle.mcs_journal.specs.Answers.{RefusesCreate, RefusesOpen, HoldsNone}
 use Rattle.mcs_journal.specs.File.{IsBlank}
@@ -12,7 +12,7 @@ use Rattle.mcs_journal.specs.declared.fault.CreateFault.{CreateFault}
 use Rattle.mcs_journal.specs.declared.fault.CreateFault.TheVariants as create_fault
 
 -- a count of faults, by another name of the failure
-counts_as : (old new : DiskState) (F G : Type 0) → (F → G) → (G → F) → Counts old new F → Counts old new G
+counts_as : (old new : DiskState) (F G : Type 0) → (F → G) → (G → F) → CountsFault old new F → CountsFault old new G
 counts_as old new F G to from counts = record {
   size = counts.size;
   honest = counts.honest;
@@ -20,20 +20,20 @@ counts_as old new F G to from counts = record {
   no_fault = λ none. counts.no_fault (λ failed. none (to failed));
 }
 
-pub counts_ok : {T E : Type 0} (old new : DiskState) (result : Result T E) (device : E) (x : T) → result ≡ Ok x → Counts old new (IsErrOf result device) → Counts old new ⊥
+pub counts_ok : {T E : Type 0} (old new : DiskState) (result : Result T E) (device : E) (x : T) → result ≡ Ok x → CountsFault old new (IsErrOf result device) → CountsFault old new ⊥
 counts_ok old new result device x is counts = counts_as old new (IsErrOf result device) ⊥ (λ failed. cc) (λ none. absurd none) counts
 
-pub counts_err : {T E : Type 0} (old new : DiskState) (result : Result T E) (device fault : E) → result ≡ Err fault → Counts old new (IsErrOf result device) → Counts old new (fault ≡ device)
+pub counts_err : {T E : Type 0} (old new : DiskState) (result : Result T E) (device fault : E) → result ≡ Err fault → CountsFault old new (IsErrOf result device) → CountsFault old new (fault ≡ device)
 counts_err old new result device fault is counts = counts_as old new (IsErrOf result device) (fault ≡ device) (λ failed. cc) (λ same. is ∙ ap Err same) counts
 
-pub call_counts_ok : {T E : Type 0} (old new : DiskState) (x : T) → IsCall {T = T} {E = E} old new (Ok x) → Counts old new ⊥
+pub call_counts_ok : {T E : Type 0} (old new : DiskState) (x : T) → IsCall {T = T} {E = E} old new (Ok x) → CountsFault old new ⊥
 call_counts_ok old new x call = record { size = call.size; honest = call.honest; fault = λ none. absurd none; no_fault = λ none. call.no_fault }
 
-pub call_counts_err : {T E : Type 0} (old new : DiskState) (e : E) (failed : Type 0) → failed → IsCall {T = T} {E = E} old new (Err e) → Counts old new failed
+pub call_counts_err : {T E : Type 0} (old new : DiskState) (e : E) (failed : Type 0) → failed → IsCall {T = T} {E = E} old new (Err e) → CountsFault old new failed
 call_counts_err old new e failed here call = record { size = call.size; honest = call.honest; fault = λ it. call.fault; no_fault = λ none. absurd (none here) }
 
 -- calls of which none failed, and then some
-pub counts_then : (old mid new : DiskState) (failed : Type 0) → Counts old mid ⊥ → Counts mid new failed → Counts old new failed
+pub counts_then : (old mid new : DiskState) (failed : Type 0) → CountsFault old mid ⊥ → CountsFault mid new failed → CountsFault old new failed
 counts_then old mid new failed first second = record {
   size = second.size ∙ first.size;
   honest = (λ h. first.honest.0 (second.honest.0 h), λ h. second.honest.1 (first.honest.1 h));
@@ -41,7 +41,7 @@ counts_then old mid new failed first second = record {
   no_fault = λ none. second.no_fault none ∙ first.no_fault (λ no. no);
 }
 
-pub refuses_create : (fault : CreateFault) (old new : DiskState) → Rests old new → (fault ≡ create_fault.NotBlank → IsBlank old.size old.bytes → ⊥) → RefusesCreate fault old new
+pub refuses_create : (fault : CreateFault) (old new : DiskState) → AddsNoImage old new → (fault ≡ create_fault.NotBlank → IsBlank old.size old.bytes → ⊥) → RefusesCreate fault old new
 refuses_create create_fault.NotBlank old new rests not_blank = (not_blank refl, rests)
 refuses_create create_fault.Device old new rests not_blank = rests_leave old new rests
 refuses_create create_fault.NoMemory old new rests not_blank = tt

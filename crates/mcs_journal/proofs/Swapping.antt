@@ -7,7 +7,7 @@ use Rattle.mcs_journal.specs.Writing.{IsArea, other_slot}
 use Rattle.mcs_journal.specs.declared.slot.Slot.{Slot}
 use Rattle.mcs_journal.specs.declared.slot.Slot.TheVariants.{A, B}
 use Rattle.mcs_journal.proofs.Parts.{part_same, part_part, part_at, length-part}
-use Rattle.mcs_journal.proofs.Pairs.{start_places, same_slot}
+use Rattle.mcs_journal.proofs.Contents.{start_places, same_slot}
 
 -- where the two slots start
 abbrev pub IsOther : ℕ → ℕ → Type 0
@@ -83,9 +83,9 @@ module _ (f snap fresh area : List ℕ) (rs : List (List ℕ)) (other : ℕ) (ol
       snap_length = ap (λ (s : ℕ). part s 4 c) slot ∙ kept other 4 (omega (arith, beyond)) ∙ ap (λ (p : ℕ). part p 4 g) from_start ∙ sym (inner 0 4 16385 (omega arith) (omega arith)) ∙ is_area.snap_length;
       snap_bytes = ap (λ (s : ℕ). part (s + 4) (length fresh) c) slot ∙ kept (other + 4) (length fresh) (omega (arith, beyond)) ∙ sym (inner 4 (length fresh) 16381 (omega arith) (omega (arith, is_area.short))) ∙ is_area.snap_bytes;
       log = record {
-        gate = 0;
+        commit_byte = 0;
         rest = drop 1 (part (slot_at c + 16384) 65536 c);
-        is = drop_more (part (slot_at c + 16384) 65536 c) 0 0 (omega (arith, long)) ∙ ap (λ (q : ℕ). q ∷ drop 1 (part (slot_at c + 16384) 65536 c)) gate;
+        is = drop_more (part (slot_at c + 16384) 65536 c) 0 0 (omega (arith, long)) ∙ ap (λ (q : ℕ). q ∷ drop 1 (part (slot_at c + 16384) 65536 c)) commit_byte;
         closed = λ no. cc;
         records_ok = tt;
       };
@@ -100,8 +100,8 @@ module _ (f snap fresh area : List ℕ) (rs : List (List ℕ)) (other : ℕ) (ol
         long : length (part (slot_at c + 16384) 65536 c) ≡ 65536
         long = length-part (slot_at c + 16384) 65536 c (omega (arith, slot, bounds, torn.size, held.size))
 
-        gate : get_or (part (slot_at c + 16384) 65536 c) 0 0 ≡ 0
-        gate =
+        commit_byte : get_or (part (slot_at c + 16384) 65536 c) 0 0 ≡ 0
+        commit_byte =
             part_at (slot_at c + 16384) 65536 c 0 (omega arith)
             ∙ ap (λ (s : ℕ). get_or c (s + 16384 + 0) 0) slot
             ∙ torn.after (other + 16384 + 0) (omega (arith, beyond))
@@ -117,5 +117,5 @@ module _ (f snap fresh area : List ℕ) (rs : List (List ℕ)) (other : ℕ) (ol
       | inr high ↦ elim apart_now [ inl a ↦ inr (swaps (high ∙ sym a.1)) | inr b ↦ inl (stays (high ∙ sym b.0)) ]
     ]
 
-    pub turn_done : (turn : ℕ) → part 8 1 c ≡ turn ∷ [] → start_of (slot_named turn) ≡ other → Holds c fresh []
-    turn_done turn one names = swaps (ap (λ (t : ℕ). start_of (slot_named t)) (sym (part_at 8 1 c 0 (omega arith)) ∙ ap (λ (l : List ℕ). get_or l 0 0) one) ∙ names)
+    pub turn_done : (selector : ℕ) → part 8 1 c ≡ selector ∷ [] → start_of (slot_named selector) ≡ other → Holds c fresh []
+    turn_done selector one names = swaps (ap (λ (t : ℕ). start_of (slot_named t)) (sym (part_at 8 1 c 0 (omega arith)) ∙ ap (λ (l : List ℕ). get_or l 0 0) one) ∙ names)

@@ -25,7 +25,7 @@ same_records (r ∷ rs) (s ∷ ss) g h xs ys shut closed same =
     (λ k. head k ∷ more k)
 
 pub same_log : (rs ss : List (List ℕ)) (log : List ℕ) → IsLog rs log → IsLog ss log → rs ≡ ss
-same_log rs ss log a b = same_records rs ss a.gate b.gate a.rest b.rest a.closed b.closed (sym a.is ∙ b.is)
+same_log rs ss log a b = same_records rs ss a.commit_byte b.commit_byte a.rest b.rest a.closed b.closed (sym a.is ∙ b.is)
 
 -- two numbers of the same four bytes
 same_32 : (m n : ℕ) → m ≤ 16380 → n ≤ 16380 → be32 m ≡ be32 n → m ≡ n

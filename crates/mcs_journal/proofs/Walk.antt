@@ -39,7 +39,7 @@ module _ (f : List ℕ) (at : ℕ) (fits : at + 65536 ≤ length f) (rs : List (
 
   pub ends : IsPrefix rs used log → get_or f (at + used) 0 ≢ 1 → used < 65536 → IsLog rs log
   ends so_far shut inside = record {
-    gate = get_or log used 0;
+    commit_byte = get_or log used 0;
     rest = drop (used + 1) log;
     is = so_far.is ∙ ap (λ (l : List ℕ). spelled rs ++ l) (drop_more log used 0 (omega (arith, inside, length-part at 65536 f fits)));
     closed = λ one. shut (sym (part_at at 65536 f used inside) ∙ one);
@@ -57,21 +57,21 @@ module _ (f : List ℕ) (at : ℕ) (fits : at + 65536 ≤ length f) (rs : List (
       long : length (drop used log) ≡ 65536 - used
       long = omega (arith, length-drop used log, length-part at 65536 f fits)
 
-      walk : (ps qs : List (List ℕ)) → AreRecords qs → spelled qs ++ a.gate ∷ a.rest ≡ spelled ps ++ drop used log → ⊥
+      walk : (ps qs : List (List ℕ)) → AreRecords qs → spelled qs ++ a.commit_byte ∷ a.rest ≡ spelled ps ++ drop used log → ⊥
       walk [] [] good same = a.closed (ap (λ (l : List ℕ). get_or l 0 0) same ∙ gate_is)
       walk [] (q ∷ qs) good same =
-          let tail = spelled qs ++ a.gate ∷ a.rest in
-          let apart : framed q ++ tail ≡ drop used log = sym (append_assoc (framed q) (spelled qs) (a.gate ∷ a.rest)) ∙ same in
-          let room : length q + 4 ≤ 65536 - used = omega (arith, long, ap length apart, length-append (framed q) tail, length-append (spelled qs) (a.gate ∷ a.rest), length-framed q) in
+          let tail = spelled qs ++ a.commit_byte ∷ a.rest in
+          let apart : framed q ++ tail ≡ drop used log = sym (append_assoc (framed q) (spelled qs) (a.commit_byte ∷ a.rest)) ∙ same in
+          let room : length q + 4 ≤ 65536 - used = omega (arith, long, ap length apart, length-append (framed q) tail, length-append (spelled qs) (a.commit_byte ∷ a.rest), length-framed q) in
           let here : part (at + used) (length q + 3) f ≡ framed q =
           sym (part_part at 65536 used (length q + 3) (65536 - used) f (omega (arith, inside)) (omega (arith, room)))
           ∙ ap (λ (l : List ℕ). take (length q + 3) l) (sym apart) ∙ take_at (framed q) tail (length q + 3) (length-framed q) in
           no_record.none q room (record { good = good.0; is = here })
-      walk (p ∷ ps) [] good same = let one : a.gate ≡ 1 = cc in a.closed one
+      walk (p ∷ ps) [] good same = let one : a.commit_byte ≡ 1 = cc in a.closed one
       walk (p ∷ ps) (q ∷ qs) good same =
           let high : length q / 256 ≡ length p / 256 = cc in
           let low : length q % 256 ≡ length p % 256 = cc in
           let count : length q ≡ length p = omega (arith, high, low) in
-          let tails : (q ++ spelled qs) ++ a.gate ∷ a.rest ≡ (p ++ spelled ps) ++ drop used log = cc in
-          let apart : q ++ (spelled qs ++ a.gate ∷ a.rest) ≡ p ++ (spelled ps ++ drop used log) = sym (append_assoc q (spelled qs) (a.gate ∷ a.rest)) ∙ tails ∙ append_assoc p (spelled ps) (drop used log) in
-          walk ps qs good.1 (sym (drop_at q (spelled qs ++ a.gate ∷ a.rest) (length q) refl) ∙ ap (λ (l : List ℕ). drop (length q) l) apart ∙ drop_at p (spelled ps ++ drop used log) (length q) (sym count))
+          let tails : (q ++ spelled qs) ++ a.commit_byte ∷ a.rest ≡ (p ++ spelled ps) ++ drop used log = cc in
+          let apart : q ++ (spelled qs ++ a.commit_byte ∷ a.rest) ≡ p ++ (spelled ps ++ drop used log) = sym (append_assoc q (spelled qs) (a.commit_byte ∷ a.rest)) ∙ tails ∙ append_assoc p (spelled ps) (drop used log) in
+          walk ps qs good.1 (sym (drop_at q (spelled qs ++ a.commit_byte ∷ a.rest) (length q) refl) ∙ ap (λ (l : List ℕ). drop (length q) l) apart ∙ drop_at p (spelled ps ++ drop used log) (length q) (sym count))

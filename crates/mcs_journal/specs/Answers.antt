@@ -1,7 +1,7 @@
 -- What `create` and `open` answer, by what the disk holds. (Our own choice.)
 use Rattle.std.specs.Prelude.{◌≡◌, ◌≢◌, ◌⊎◌, ◌+◌, ℕ, List, []}
 use Rattle.mcs_disk.specs.Disk.{DiskState, part}
-use Rattle.mcs_disk.specs.Moments.{IsDurable, Rests, GoesOn}
+use Rattle.mcs_disk.specs.Moments.{IsDurable, AddsNoImage, KeepsEarlierImages}
 use Rattle.mcs_journal.specs.File.{Holds, IsBlank}
 use Rattle.mcs_journal.specs.declared.format.TheConstants.{FILE_SIZE, NAME}
 use Rattle.mcs_journal.specs.declared.fault.OpenFault.{OpenFault}
@@ -27,13 +27,13 @@ RefusesOpen open_fault.NoMemory disk = Unit {0}
 -- the disk held this pair and was not written, and every image holds the pair
 pub record Opens (old new : DiskState) (snap : List ℕ) (records : List (List ℕ)) : Type 0 where
   pub holds : Holds old.bytes snap records
-  pub rests : Rests old new
+  pub rests : AddsNoImage old new
   pub durable : IsDurable new
 
 -- what a refusal of `create` says of the disk, and of what it did there
 abbrev pub RefusesCreate : CreateFault → DiskState → DiskState → Type 0
-RefusesCreate create_fault.NotBlank old new = ¬ (IsBlank old.size old.bytes) × Rests old new
-RefusesCreate create_fault.Device old new = GoesOn old new
+RefusesCreate create_fault.NotBlank old new = ¬ (IsBlank old.size old.bytes) × AddsNoImage old new
+RefusesCreate create_fault.Device old new = KeepsEarlierImages old new
 RefusesCreate create_fault.NoMemory old new = Unit {0}
 
 -- the disk was blank, and now, five steps later, every image holds this snapshot and no records
@@ -42,4 +42,4 @@ pub record Creates (old new : DiskState) (snap : List ℕ) : Type 0 where
   pub holds : Holds new.bytes snap []
   pub durable : IsDurable new
   pub ticks : new.clock ≡ old.clock + 5
-  pub moments : GoesOn old new
+  pub moments : KeepsEarlierImages old new

@@ -2,7 +2,7 @@
 -- the constants of src/format.rt.)
 use Rattle.std.specs.Prelude.{◌≡◌, ◌≢◌, ◌==◌, ℕ, ◌+◌, ◌/◌, ◌%◌, ◌≤◌, List, [], ◌∷◌, ◌++◌, length, slice_index, if◌then◌else◌}
 use Rattle.mcs_disk.specs.Disk.{part}
-use Rattle.mcs_journal.specs.declared.format.TheConstants.{AREA_SIZE, FILE_SIZE, FIRST_SLOT, LOG_SIZE, MOST_RECORD, MOST_SNAP, NAME, SECOND_SLOT, ZEROS}
+use Rattle.mcs_journal.specs.declared.format.TheConstants.{AREA_SIZE, FILE_SIZE, FIRST_SLOT, LOG_SIZE, MOST_RECORD, MOST_SNAPSHOT, NAME, SECOND_SLOT, ZEROS}
 use Rattle.mcs_journal.specs.declared.slot.Slot.{Slot}
 use Rattle.mcs_journal.specs.declared.slot.Slot.TheVariants.{A, B}
 
@@ -13,7 +13,7 @@ start_of B = SECOND_SLOT
 
 -- an even turn names the first slot, an odd one the second
 abbrev pub slot_named : ℕ → Slot
-slot_named turn = if turn % 2 == 0 then A else B
+slot_named selector = if selector % 2 == 0 then A else B
 
 -- the slot that a file's turn names, and where it starts
 abbrev pub slot_of : List ℕ → Slot
@@ -47,10 +47,10 @@ AreRecords (r ∷ rs) = IsRecord r × AreRecords rs
 
 -- a log holds these records: it spells them, then comes a closed gate, then anything
 pub record IsLog (records : List (List ℕ)) (log : List ℕ) : Type 0 where
-  pub gate : ℕ
+  pub commit_byte : ℕ
   pub rest : List ℕ
-  pub is : log ≡ spelled records ++ gate ∷ rest
-  pub closed : gate ≢ 1
+  pub is : log ≡ spelled records ++ commit_byte ∷ rest
+  pub closed : commit_byte ≢ 1
   pub records_ok : AreRecords records
 
 -- a file holds a snapshot and records: the name, a turn, seven zeros, and in the slot that the turn names the snapshot behind its
@@ -59,14 +59,14 @@ pub record Holds (file : List ℕ) (snap : List ℕ) (records : List (List ℕ))
   pub size : length file ≡ FILE_SIZE
   pub name : part 0 8 file ≡ NAME
   pub zeros : part 9 7 file ≡ ZEROS
-  pub short : length snap ≤ MOST_SNAP
+  pub short : length snap ≤ MOST_SNAPSHOT
   pub snap_length : part (slot_at file) 4 file ≡ be32 (length snap)
   pub snap_bytes : part (slot_at file + 4) (length snap) file ≡ snap
   pub log : IsLog records (part (slot_at file + AREA_SIZE) LOG_SIZE file)
 
 -- a file holds at most one pair
-abbrev pub OnePair : Type 0
-OnePair = (file snap other : List ℕ) (records more : List (List ℕ)) → Holds file snap records → Holds file other more → (snap ≡ other) × (records ≡ more)
+abbrev pub ContentsAreUnique : Type 0
+ContentsAreUnique = (file snap other : List ℕ) (records more : List (List ℕ)) → Holds file snap records → Holds file other more → (snap ≡ other) × (records ≡ more)
 
 -- a record of so many bytes has room behind so many bytes of records: gate, length and bytes, and a closed gate behind it
 abbrev pub HasRoom : ℕ → ℕ → Type 0

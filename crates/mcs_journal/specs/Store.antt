@@ -14,7 +14,7 @@ pub record StoreView (D : Type 0) : Type 0 where
   pub used : ℕ
 
 -- an open store on an honest disk: its pair stands on the disk, and the log is as long as is kept
-pub record IsSettled (disk : DiskState) (slot : Slot) (used : ℕ) : Type 0 where
+pub record IsSettledStore (disk : DiskState) (slot : Slot) (used : ℕ) : Type 0 where
   pub durable : IsDurable disk
   pub active : slot_of disk.bytes ≡ slot
   pub snap : List ℕ
@@ -27,4 +27,4 @@ pub record IsStore (disk : DiskState) (live : Bool) (slot : Slot) (used : ℕ) (
   pub disk_size : disk.size ≡ FILE_SIZE
   pub within : used + 1 ≤ LOG_SIZE
   pub room : length buffer ≡ STAGE_SIZE
-  pub settled : IsTrue live → disk.honest → IsSettled disk slot used
+  pub settled : IsTrue live → disk.honest → IsSettledStore disk slot used

@@ -3,7 +3,7 @@ use Rattle.std.specs.Prelude.{◌≡◌, ℕ, ◌+◌, ◌≤◌, List, ◌⊎�
 use Rattle.mcs_disk.specs.Disk.{DiskState, part, Torn}
 use Rattle.mcs_disk.specs.Moments.{IsDurable}
 use Rattle.mcs_journal.specs.File.{IsRecord, framed, spelled, slot_at, be32, slot_of}
-use Rattle.mcs_journal.specs.declared.format.TheConstants.{AREA_SIZE, LOG_SIZE, MOST_SNAP, NAME, STAGE_SIZE, ZEROS}
+use Rattle.mcs_journal.specs.declared.format.TheConstants.{AREA_SIZE, LOG_SIZE, MOST_SNAPSHOT, NAME, STAGE_SIZE, ZEROS}
 use Rattle.mcs_journal.specs.declared.slot.Slot.{Slot}
 use Rattle.mcs_journal.specs.declared.slot.Slot.TheVariants.{A, B}
 
@@ -17,8 +17,8 @@ turn_of A = 0
 turn_of B = 1
 
 -- the gate behind the last record, with room for one more of n bytes
-pub record IsGate (file : List ℕ) (records : List (List ℕ)) (gate n : ℕ) : Type 0 where
-  pub at : gate ≡ slot_at file + AREA_SIZE + length (spelled records)
+pub record IsCommitPlace (file : List ℕ) (records : List (List ℕ)) (commit_byte n : ℕ) : Type 0 where
+  pub at : commit_byte ≡ slot_at file + AREA_SIZE + length (spelled records)
   pub room : length (spelled records) + n + 4 ≤ LOG_SIZE
 
 -- this record stands there behind an open gate
@@ -34,7 +34,7 @@ pub record IsNoRecord (file : List ℕ) (at room : ℕ) : Type 0 where
 -- a snapshot area of these bytes, and a closed gate behind it
 pub record IsArea (snap area : List ℕ) : Type 0 where
   pub long : length area ≡ STAGE_SIZE
-  pub short : length snap ≤ MOST_SNAP
+  pub short : length snap ≤ MOST_SNAPSHOT
   pub snap_length : part 0 4 area ≡ be32 (length snap)
   pub snap_bytes : part 4 (length snap) area ≡ snap
   pub closed : slice_index area AREA_SIZE ≡ 0
@@ -46,8 +46,8 @@ pub record IsHeader (file : List ℕ) (slot : Slot) : Type 0 where
   pub active : slot_of file ≡ slot
 
 -- the snapshot of the slot that starts there
-pub record IsSnap (file : List ℕ) (start : ℕ) (snap : List ℕ) : Type 0 where
-  pub short : length snap ≤ MOST_SNAP
+pub record IsSnapshot (file : List ℕ) (start : ℕ) (snap : List ℕ) : Type 0 where
+  pub short : length snap ≤ MOST_SNAPSHOT
   pub snap_length : part start 4 file ≡ be32 (length snap)
   pub snap_bytes : part (start + 4) (length snap) file ≡ snap
 

@@ -4,7 +4,7 @@
 pub const FILE_SIZE: usize = 163_856;
 
 /// The most bytes of a snapshot.
-pub const MOST_SNAP: usize = 16_380;
+pub const MOST_SNAPSHOT: usize = 16_380;
 
 /// The most bytes of a record.
 pub const MOST_RECORD: usize = 8_192;
@@ -16,7 +16,7 @@ pub const NAME: [u8; 8] = *b"MCS4BEN1";
 
 pub const NAME_SIZE: usize = 8;
 
-pub const TURN_PLACE: usize = 8;
+pub const SELECTOR_PLACE: usize = 8;
 
 pub const ZEROS_PLACE: usize = 9;
 
@@ -33,7 +33,7 @@ pub const SECOND_SLOT: usize = 81_936;
 /// A slot's snapshot area: a length of four bytes, and the snapshot.
 pub const AREA_SIZE: usize = 16_384;
 
-pub const SNAP_PLACE: usize = 4;
+pub const SNAPSHOT_PLACE: usize = 4;
 
 /// A slot's log, behind its snapshot area.
 pub const LOG_SIZE: usize = 65_536;
@@ -41,9 +41,9 @@ pub const LOG_SIZE: usize = 65_536;
 /// A record's gate and its length of two bytes stand before its bytes.
 pub const RECORD_PLACE: usize = 3;
 
-pub const OPEN_GATE: u8 = 1;
+pub const COMMITTED: u8 = 1;
 
-pub const CLOSED_GATE: u8 = 0;
+pub const NOT_COMMITTED: u8 = 0;
 
 /// A snapshot area and the first gate of the log behind it, which are written as one range.
 pub const STAGE_SIZE: usize = AREA_SIZE + 1;

@@ -7,7 +7,7 @@
 mod bytes;
 mod fault;
 mod format;
-mod law;
+mod laws;
 mod reading;
 mod slot;
 mod store;
@@ -15,6 +15,6 @@ mod writing;
 
 pub use bytes::{Bytes, Records};
 pub use fault::{CreateFault, OpenFault};
-pub use format::{FILE_SIZE, MOST_RECORD, MOST_SNAP};
-pub use law::{cut_leaves_a_durable_pair, cut_leaves_one_of_two_pairs, holds_one_pair};
+pub use format::{FILE_SIZE, MOST_RECORD, MOST_SNAPSHOT};
+pub use laws::{cut_leaves_durable_contents, cut_leaves_old_or_new_contents, contents_are_unique};
 pub use store::{Opened, Store};

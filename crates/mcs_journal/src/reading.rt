@@ -1,16 +1,16 @@
 //! Reads the pair that a disk holds. Nothing here writes.
 ghost use Rattle.std.specs.Prelude.{◌≡◌, ◌≢◌, ◌≤◌, ◌<◌, ◌+◌, ◌^◌, List, ℕ, length, slice_index, IfOk, IfSome, IfNone, OnOk, IsErrOf};
 ghost use Rattle.mcs_disk.specs.Disk.{IsCall, part};
-ghost use Rattle.mcs_disk.specs.Moments.{Counts, IsDurable, Rests};
+ghost use Rattle.mcs_disk.specs.Moments.{CountsFault, IsDurable, AddsNoImage};
 ghost use Rattle.mcs_journal.specs.declared.format.TheConstants.{FILE_SIZE};
 ghost use Rattle.mcs_journal.specs.File.{Holds, IsLog, slot_of, spelled, start_of};
-ghost use Rattle.mcs_journal.specs.Writing.{IsHeader, IsNext, IsNoRecord, IsSnap};
+ghost use Rattle.mcs_journal.specs.Writing.{IsHeader, IsNext, IsNoRecord, IsSnapshot};
 
 use crate::bytes::Bytes;
 use crate::fault::OpenFault;
 use crate::format::{
-    AREA_SIZE, HEADER_SIZE, LOG_SIZE, MOST_RECORD, MOST_SNAP, NAME, NAME_SIZE, OPEN_GATE,
-    RECORD_PLACE, SNAP_PLACE, TURN_PLACE, ZEROS, ZEROS_PLACE,
+    AREA_SIZE, HEADER_SIZE, LOG_SIZE, MOST_RECORD, MOST_SNAPSHOT, NAME, NAME_SIZE, COMMITTED,
+    RECORD_PLACE, SNAPSHOT_PLACE, SELECTOR_PLACE, ZEROS, ZEROS_PLACE,
 };
 use crate::slot::Slot;
 use mcs_disk::{Disk, DiskFault};
@@ -20,7 +20,7 @@ use std::alloc::Global;
 pub fn read_at<D: Disk>(disk: &mut D, at: usize, into: &mut [u8]) -> Result<(), DiskFault>
     requires { at + length into.old ≤ (D.state disk.old).size }
     ensures call { IsCall (D.state disk.old) (D.state disk.new) result }
-    ensures rests { (D.state disk.old).honest → Rests (D.state disk.old) (D.state disk.new) }
+    ensures rests { (D.state disk.old).honest → AddsNoImage (D.state disk.old) (D.state disk.new) }
     ensures durable { (D.state disk.old).honest → IsDurable (D.state disk.old)
         → OnOk result (IsDurable (D.state disk.new)) }
     ensures ticks { (D.state disk.old).honest
@@ -41,8 +41,8 @@ pub fn read_record<D: Disk>(
     requires inside { at + room ≤ (D.state disk.old).size }
     requires fits { (D.state disk.old).size < 2 ^ 64 }
     requires some { 1 ≤ room }
-    ensures tells { Counts (D.state disk.old) (D.state disk.new) (IsErrOf result OpenFault.Device) }
-    ensures rests { (D.state disk.old).honest → Rests (D.state disk.old) (D.state disk.new) }
+    ensures tells { CountsFault (D.state disk.old) (D.state disk.new) (IsErrOf result OpenFault.Device) }
+    ensures rests { (D.state disk.old).honest → AddsNoImage (D.state disk.old) (D.state disk.new) }
     ensures durable { (D.state disk.old).honest → IsDurable (D.state disk.old)
         → OnOk result (IsDurable (D.state disk.new)) }
     ensures fits_in { IfOk result (λ o. IfSome o (λ r. length r + 4 ≤ room)) }
@@ -54,9 +54,9 @@ pub fn read_record<D: Disk>(
         → IsNoRecord (D.state disk.old).bytes at room }
     ensures named { IsErrOf result OpenFault.NotASession → ⊥ }
 {
-    let mut gate = [0u8];
-    read_at(disk, at, &mut gate)?;
-    if gate[0] != OPEN_GATE {
+    let mut commit_byte = [0u8];
+    read_at(disk, at, &mut commit_byte)?;
+    if commit_byte[0] != COMMITTED {
         return Ok(None);
     }
     if room < RECORD_PLACE + 2 {
@@ -84,8 +84,8 @@ pub struct Log {
 pub fn read_log<D: Disk>(alloc: Global, disk: &mut D, at: usize) -> Result<Log, OpenFault>
     requires inside { at + LOG_SIZE ≤ (D.state disk.old).size }
     requires fits { (D.state disk.old).size < 2 ^ 64 }
-    ensures tells { Counts (D.state disk.old) (D.state disk.new) (IsErrOf result OpenFault.Device) }
-    ensures rests { (D.state disk.old).honest → Rests (D.state disk.old) (D.state disk.new) }
+    ensures tells { CountsFault (D.state disk.old) (D.state disk.new) (IsErrOf result OpenFault.Device) }
+    ensures rests { (D.state disk.old).honest → AddsNoImage (D.state disk.old) (D.state disk.new) }
     ensures durable { (D.state disk.old).honest → IsDurable (D.state disk.old)
         → OnOk result (IsDurable (D.state disk.new)) }
     ensures within { IfOk result (λ log. log.used + 1 ≤ LOG_SIZE) }
@@ -109,8 +109,8 @@ pub fn read_log<D: Disk>(alloc: Global, disk: &mut D, at: usize) -> Result<Log, 
 /// Reads the header: the slot that its turn names.
 pub fn read_header<D: Disk>(disk: &mut D) -> Result<Slot, OpenFault>
     requires size { (D.state disk.old).size ≡ FILE_SIZE }
-    ensures tells { Counts (D.state disk.old) (D.state disk.new) (IsErrOf result OpenFault.Device) }
-    ensures rests { (D.state disk.old).honest → Rests (D.state disk.old) (D.state disk.new) }
+    ensures tells { CountsFault (D.state disk.old) (D.state disk.new) (IsErrOf result OpenFault.Device) }
+    ensures rests { (D.state disk.old).honest → AddsNoImage (D.state disk.old) (D.state disk.new) }
     ensures durable { (D.state disk.old).honest → IsDurable (D.state disk.old)
         → OnOk result (IsDurable (D.state disk.new)) }
     ensures header { (D.state disk.old).honest
@@ -129,31 +129,31 @@ pub fn read_header<D: Disk>(disk: &mut D) -> Result<Slot, OpenFault>
     if header[ZEROS_PLACE..] != ZEROS[..] {
         return Err(OpenFault::Damaged);
     }
-    Ok(Slot::named(header[TURN_PLACE]))
+    Ok(Slot::named(header[SELECTOR_PLACE]))
 }
 
 /// Reads the snapshot of the slot that starts there.
-pub fn read_snap<D: Disk>(alloc: Global, disk: &mut D, start: usize) -> Result<Bytes, OpenFault>
+pub fn read_snapshot<D: Disk>(alloc: Global, disk: &mut D, start: usize) -> Result<Bytes, OpenFault>
     requires inside { start + AREA_SIZE ≤ (D.state disk.old).size }
     requires fits { (D.state disk.old).size < 2 ^ 64 }
-    ensures tells { Counts (D.state disk.old) (D.state disk.new) (IsErrOf result OpenFault.Device) }
-    ensures rests { (D.state disk.old).honest → Rests (D.state disk.old) (D.state disk.new) }
+    ensures tells { CountsFault (D.state disk.old) (D.state disk.new) (IsErrOf result OpenFault.Device) }
+    ensures rests { (D.state disk.old).honest → AddsNoImage (D.state disk.old) (D.state disk.new) }
     ensures durable { (D.state disk.old).honest → IsDurable (D.state disk.old)
         → OnOk result (IsDurable (D.state disk.new)) }
     ensures snap { (D.state disk.old).honest
-        → IfOk result (λ snap. IsSnap (D.state disk.old).bytes start snap) }
+        → IfOk result (λ snap. IsSnapshot (D.state disk.old).bytes start snap) }
     ensures damaged { (D.state disk.old).honest → IsErrOf result OpenFault.Damaged
-        → (snap : List ℕ) → IsSnap (D.state disk.old).bytes start snap → ⊥ }
+        → (snap : List ℕ) → IsSnapshot (D.state disk.old).bytes start snap → ⊥ }
     ensures named { IsErrOf result OpenFault.NotASession → ⊥ }
 {
-    let mut prefix = [0u8; SNAP_PLACE];
+    let mut prefix = [0u8; SNAPSHOT_PLACE];
     read_at(disk, start, &mut prefix)?;
     let len = prefix[2] as usize * 256 + prefix[3] as usize;
-    if prefix[0] != 0 || prefix[1] != 0 || len > MOST_SNAP {
+    if prefix[0] != 0 || prefix[1] != 0 || len > MOST_SNAPSHOT {
         return Err(OpenFault::Damaged);
     }
     let mut bytes = vec![in alloc; 0u8; len]?;
-    read_at(disk, start + SNAP_PLACE, &mut bytes)?;
+    read_at(disk, start + SNAPSHOT_PLACE, &mut bytes)?;
     Ok(Bytes { bytes })
 }
 
@@ -168,10 +168,10 @@ pub struct Found {
 /// Syncs, and reads the pair that the disk holds.
 ///
 /// Without the sync, what is read may be lost by a power cut that comes after the answer.
-pub fn read_pair<D: Disk>(alloc: Global, disk: &mut D) -> Result<Found, OpenFault>
+pub fn read_contents<D: Disk>(alloc: Global, disk: &mut D) -> Result<Found, OpenFault>
     requires size { (D.state disk.old).size ≡ FILE_SIZE }
-    ensures tells { Counts (D.state disk.old) (D.state disk.new) (IsErrOf result OpenFault.Device) }
-    ensures rests { (D.state disk.old).honest → Rests (D.state disk.old) (D.state disk.new) }
+    ensures tells { CountsFault (D.state disk.old) (D.state disk.new) (IsErrOf result OpenFault.Device) }
+    ensures rests { (D.state disk.old).honest → AddsNoImage (D.state disk.old) (D.state disk.new) }
     ensures within { IfOk result (λ found. found.log.used + 1 ≤ LOG_SIZE) }
     ensures durable { (D.state disk.old).honest → OnOk result (IsDurable (D.state disk.new)) }
     ensures active { (D.state disk.old).honest
@@ -192,7 +192,7 @@ pub fn read_pair<D: Disk>(alloc: Global, disk: &mut D) -> Result<Found, OpenFaul
     disk.sync()?;
     let slot = read_header(disk)?;
     let start = slot.start();
-    let snap = read_snap(alloc, disk, start)?;
+    let snap = read_snapshot(alloc, disk, start)?;
     let log = read_log(alloc, disk, start + AREA_SIZE)?;
     Ok(Found { slot, snap, log })
 }

@@ -15,10 +15,10 @@ impl Slot {
     ghost use Rattle.mcs_journal.specs.Writing.{other_slot, turn_of};
 
     /// The slot that a turn names: the first by an even turn, the second by an odd one.
-    pub fn named(turn: u8) -> Slot
-        ensures { result ≡ slot_named turn }
+    pub fn named(selector: u8) -> Slot
+        ensures { result ≡ slot_named selector }
     {
-        if turn % 2 == 0 { Slot::A } else { Slot::B }
+        if selector % 2 == 0 { Slot::A } else { Slot::B }
     }
 
     /// Where it starts in the file.
@@ -32,7 +32,7 @@ impl Slot {
     }
 
     /// The turn that is written to name it.
-    pub fn turn(self) -> u8
+    pub fn selector(self) -> u8
         ensures { result ≡ turn_of self }
     {
         match self {

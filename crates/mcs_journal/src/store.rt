@@ -1,16 +1,16 @@
 //! A store: a snapshot and records on a disk.
 ghost use Rattle.std.specs.Prelude.{◌≡◌, ◌≢◌, ◌⊎◌, ◌≤◌, ◌+◌, ◌↔◌, List, [], ◌∷◌, ◌++◌, ℕ, length, is_ok, IsTrue, IsErr, IsErrAnd, OnOk, OnErr, IfErr, IfOk};
-ghost use Rattle.mcs_disk.specs.Moments.{Changes, Counts, Rests};
+ghost use Rattle.mcs_disk.specs.Moments.{Changes, CountsFault, AddsNoImage};
 ghost use Rattle.mcs_journal.specs.Answers.{Creates, Opens, RefusesCreate, RefusesOpen};
-ghost use Rattle.mcs_journal.specs.declared.format.TheConstants.{MOST_RECORD, MOST_SNAP};
+ghost use Rattle.mcs_journal.specs.declared.format.TheConstants.{MOST_RECORD, MOST_SNAPSHOT};
 ghost use Rattle.mcs_journal.specs.File.{HasRoom, Holds, IsRecord, spelled};
 
 use crate::bytes::{Bytes, Records};
 use crate::fault::{CreateFault, OpenFault};
 use crate::format::{AREA_SIZE, FILE_SIZE, LOG_SIZE, RECORD_PLACE, STAGE_SIZE};
-use crate::reading::{Found, Log, read_pair};
+use crate::reading::{Found, Log, read_contents};
 use crate::slot::Slot;
-use crate::writing::{add_record, check_blank, replace_pair, write_first};
+use crate::writing::{add_record, check_blank, replace_contents, write_first};
 use mcs_disk::{Disk, DiskFault};
 use std::alloc::Global;
 use std::marker::Model;
@@ -53,13 +53,13 @@ impl<D: Disk + Drop> Store<D> {
     ///
     /// A refusal hands the disk back, and `NotBlank` has written nothing. A power cut inside the call may leave anything.
     pub fn create(alloc: Global, disk: D, snap: &[u8]) -> Result<Store<D>, (CreateFault, D)>
-        requires short { length snap.now ≤ MOST_SNAP }
+        requires short { length snap.now ≤ MOST_SNAPSHOT }
 
         // on any disk
         ensures live { IfOk result (λ store. IsTrue store.live × (store.used ≡ 0)) }
-        ensures counts { IfOk result (λ store. Counts (D.state disk) (D.state store.disk) ⊥) }
+        ensures counts { IfOk result (λ store. CountsFault (D.state disk) (D.state store.disk) ⊥) }
         ensures refusal_counts { IfErr result (λ refused.
-            Counts (D.state disk) (D.state refused.1) (refused.0 ≡ CreateFault.Device)) }
+            CountsFault (D.state disk) (D.state refused.1) (refused.0 ≡ CreateFault.Device)) }
         ensures no_memory { IfErr result (λ refused.
             refused.0 ≡ CreateFault.NoMemory → refused.1 ≡ disk) }
         ensures wrong_size { (D.state disk).size ≢ FILE_SIZE → IsErrAnd result (λ refused.
@@ -101,9 +101,9 @@ impl<D: Disk + Drop> Store<D> {
         // on any disk
         ensures live { IfOk result (λ opened. IsTrue opened.store.live) }
         ensures counts { IfOk result (λ opened.
-            Counts (D.state disk) (D.state opened.store.disk) ⊥) }
+            CountsFault (D.state disk) (D.state opened.store.disk) ⊥) }
         ensures refusal_counts { IfErr result (λ refused.
-            Counts (D.state disk) (D.state refused.1) (refused.0 ≡ OpenFault.Device)) }
+            CountsFault (D.state disk) (D.state refused.1) (refused.0 ≡ OpenFault.Device)) }
         ensures wrong_size { (D.state disk).size ≢ FILE_SIZE → IsErrAnd result (λ refused.
             ((refused.0 ≡ OpenFault.NotASession) ⊎ (refused.0 ≡ OpenFault.NoMemory))
             × (refused.1 ≡ disk)) }
@@ -114,7 +114,7 @@ impl<D: Disk + Drop> Store<D> {
         ensures used { (D.state disk).honest → IfOk result (λ opened.
             opened.store.used ≡ length (spelled opened.records)) }
         ensures refused { (D.state disk).honest → IfErr result (λ refused.
-            RefusesOpen refused.0 (D.state disk) × Rests (D.state disk) (D.state refused.1)) }
+            RefusesOpen refused.0 (D.state disk) × AddsNoImage (D.state disk) (D.state refused.1)) }
     {
         let buffer = match vec![in alloc; 0u8; STAGE_SIZE] {
             Ok(buffer) => buffer,
@@ -124,7 +124,7 @@ impl<D: Disk + Drop> Store<D> {
             return Err((OpenFault::NotASession, disk));
         }
         let mut disk = disk;
-        match read_pair(alloc, &mut disk) {
+        match read_contents(alloc, &mut disk) {
             Ok(Found { slot, snap, log }) => {
                 let Log { records, used } = log;
                 let store = Store {
@@ -171,7 +171,7 @@ impl<D: Disk + Drop> Store<D> {
         ensures live { self.new.live ≡ is_ok result }
         ensures used { OnOk result (self.new.used ≡ self.old.used + 3 + length payload.now) }
         ensures same_used { OnErr result (self.new.used ≡ self.old.used) }
-        ensures counts { Counts (D.state self.old.disk) (D.state self.new.disk) (IsErr result) }
+        ensures counts { CountsFault (D.state self.old.disk) (D.state self.new.disk) (IsErr result) }
         ensures appends { (D.state self.old.disk).honest
             → (snap : List ℕ) (records : List (List ℕ))
             → Holds (D.state self.old.disk).bytes snap records
@@ -179,8 +179,8 @@ impl<D: Disk + Drop> Store<D> {
             (λ c. Holds c snap records)
             (λ c. Holds c snap (records ++ payload.now ∷ [])) result }
     {
-        let gate = self.slot.start() + AREA_SIZE + self.used;
-        match add_record(&mut self.disk, &mut self.buffer, gate, payload) {
+        let commit_byte = self.slot.start() + AREA_SIZE + self.used;
+        match add_record(&mut self.disk, &mut self.buffer, commit_byte, payload) {
             Ok(()) => {
                 self.used += payload.len() + RECORD_PLACE;
                 Ok(())
@@ -196,11 +196,11 @@ impl<D: Disk + Drop> Store<D> {
     /// closed.
     pub fn replace(&mut self, snap: &[u8]) -> Result<(), DiskFault>
         requires live { IsTrue self.old.live }
-        requires short { length snap.now ≤ MOST_SNAP }
+        requires short { length snap.now ≤ MOST_SNAPSHOT }
         ensures live { self.new.live ≡ is_ok result }
         ensures used { OnOk result (self.new.used ≡ 0) }
         ensures same_used { OnErr result (self.new.used ≡ self.old.used) }
-        ensures counts { Counts (D.state self.old.disk) (D.state self.new.disk) (IsErr result) }
+        ensures counts { CountsFault (D.state self.old.disk) (D.state self.new.disk) (IsErr result) }
         ensures replaces { (D.state self.old.disk).honest
             → (old_snap : List ℕ) (records : List (List ℕ))
             → Holds (D.state self.old.disk).bytes old_snap records
@@ -209,7 +209,7 @@ impl<D: Disk + Drop> Store<D> {
             (λ c. Holds c snap.now []) result }
     {
         let other = self.slot.other();
-        match replace_pair(&mut self.disk, &mut self.buffer, other, snap) {
+        match replace_contents(&mut self.disk, &mut self.buffer, other, snap) {
             Ok(()) => {
                 self.slot = other;
                 self.used = 0;

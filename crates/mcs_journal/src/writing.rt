@@ -2,15 +2,15 @@
 //! is a write and a sync, so that the second byte never reaches the disk before the bytes that it speaks of.
 ghost use Rattle.std.specs.Prelude.{◌≡◌, ◌≤◌, ◌+◌, List, [], ◌∷◌, ◌++◌, ℕ, length, take, slice_index, OnOk, IsErrOf};
 ghost use Rattle.mcs_disk.specs.Disk.{IsCall};
-ghost use Rattle.mcs_disk.specs.Moments.{Changes, Counts, GoesOn, IsDurable, Rests};
-ghost use Rattle.mcs_journal.specs.declared.format.TheConstants.{FILE_SIZE, MOST_RECORD, MOST_SNAP, STAGE_SIZE};
+ghost use Rattle.mcs_disk.specs.Moments.{Changes, CountsFault, KeepsEarlierImages, IsDurable, AddsNoImage};
+ghost use Rattle.mcs_journal.specs.declared.format.TheConstants.{FILE_SIZE, MOST_RECORD, MOST_SNAPSHOT, STAGE_SIZE};
 ghost use Rattle.mcs_journal.specs.File.{Holds, IsBlank, IsRecord, be16, slot_of};
-ghost use Rattle.mcs_journal.specs.Writing.{Commits, IsArea, IsGate, other_slot};
+ghost use Rattle.mcs_journal.specs.Writing.{Commits, IsArea, IsCommitPlace, other_slot};
 
 use crate::fault::CreateFault;
 use crate::format::{
-    AREA_SIZE, CLOSED_GATE, FIRST_HEADER, HEADER_SIZE, OPEN_GATE, RECORD_PLACE, SNAP_PLACE,
-    TURN_PLACE,
+    AREA_SIZE, NOT_COMMITTED, FIRST_HEADER, HEADER_SIZE, COMMITTED, RECORD_PLACE, SNAPSHOT_PLACE,
+    SELECTOR_PLACE,
 };
 use crate::reading::read_at;
 use crate::slot::Slot;
@@ -28,7 +28,7 @@ pub fn commit<D: Disk>(disk: &mut D, at: usize, from: &[u8]) -> Result<(), DiskF
 }
 
 /// Spells what stands behind a record's gate: its length, its bytes, and a closed gate.
-pub fn spell_record(buffer: &mut [u8], payload: &[u8])
+pub fn encode_record(buffer: &mut [u8], payload: &[u8])
     requires room { length payload.now + 3 ≤ length buffer.old }
     requires short { length payload.now ≤ MOST_RECORD }
     ensures { take (length payload.now + 3) buffer.new ≡ be16
@@ -38,39 +38,39 @@ pub fn spell_record(buffer: &mut [u8], payload: &[u8])
     buffer[0] = (n / 256) as u8;
     buffer[1] = (n % 256) as u8;
     buffer[2..2 + n].copy_from_slice(payload);
-    buffer[2 + n] = CLOSED_GATE;
+    buffer[2 + n] = NOT_COMMITTED;
 }
 
-/// Adds a record behind the closed gate at `gate`, and opens the gate.
+/// Adds a record behind the closed gate at `commit_byte`, and opens the gate.
 pub fn add_record<D: Disk>(
     disk: &mut D,
     buffer: &mut [u8],
-    gate: usize,
+    commit_byte: usize,
     payload: &[u8],
 ) -> Result<(), DiskFault>
-    requires inside { gate + length payload.now + 4 ≤ (D.state disk.old).size }
+    requires inside { commit_byte + length payload.now + 4 ≤ (D.state disk.old).size }
     requires small { (D.state disk.old).size ≡ FILE_SIZE }
     requires room { length payload.now + 3 ≤ length buffer.old }
     requires good { IsRecord payload.now }
     ensures call { IsCall (D.state disk.old) (D.state disk.new) result }
-    ensures turn { (D.state disk.old).honest → 16 ≤ gate
+    ensures selector { (D.state disk.old).honest → 16 ≤ commit_byte
         → slice_index (D.state disk.new).bytes 8 ≡ slice_index (D.state disk.old).bytes 8 }
     ensures changes { (D.state disk.old).honest → IsDurable (D.state disk.old)
         → (snap : List ℕ) (records : List (List ℕ))
         → Holds (D.state disk.old).bytes snap records
-        → IsGate (D.state disk.old).bytes records gate (length payload.now)
+        → IsCommitPlace (D.state disk.old).bytes records commit_byte (length payload.now)
         → Changes 4 (D.state disk.old) (D.state disk.new) (λ c. Holds c snap records)
         (λ c. Holds c snap (records ++ payload.now ∷ [])) result }
 {
-    spell_record(buffer, payload);
-    commit(disk, gate + 1, &buffer[..payload.len() + RECORD_PLACE])?;
-    commit(disk, gate, &[OPEN_GATE])
+    encode_record(buffer, payload);
+    commit(disk, commit_byte + 1, &buffer[..payload.len() + RECORD_PLACE])?;
+    commit(disk, commit_byte, &[COMMITTED])
 }
 
 /// Spells a snapshot area and a closed gate behind it.
-pub fn spell_snap(buffer: &mut [u8], snap: &[u8])
+pub fn encode_snapshot(buffer: &mut [u8], snap: &[u8])
     requires room { length buffer.old ≡ STAGE_SIZE }
-    requires short { length snap.now ≤ MOST_SNAP }
+    requires short { length snap.now ≤ MOST_SNAPSHOT }
     ensures { IsArea snap.now buffer.new }
 {
     let n = snap.len();
@@ -78,12 +78,12 @@ pub fn spell_snap(buffer: &mut [u8], snap: &[u8])
     buffer[1] = 0;
     buffer[2] = (n / 256) as u8;
     buffer[3] = (n % 256) as u8;
-    buffer[SNAP_PLACE..SNAP_PLACE + n].copy_from_slice(snap);
-    buffer[AREA_SIZE] = CLOSED_GATE;
+    buffer[SNAPSHOT_PLACE..SNAPSHOT_PLACE + n].copy_from_slice(snap);
+    buffer[AREA_SIZE] = NOT_COMMITTED;
 }
 
 /// Writes the pair of a snapshot and no records into the slot that is not named, and then names it.
-pub fn replace_pair<D: Disk>(
+pub fn replace_contents<D: Disk>(
     disk: &mut D,
     buffer: &mut [u8],
     other: Slot,
@@ -91,7 +91,7 @@ pub fn replace_pair<D: Disk>(
 ) -> Result<(), DiskFault>
     requires size { (D.state disk.old).size ≡ FILE_SIZE }
     requires room { length buffer.old ≡ STAGE_SIZE }
-    requires short { length snap.now ≤ MOST_SNAP }
+    requires short { length snap.now ≤ MOST_SNAPSHOT }
     ensures call { IsCall (D.state disk.old) (D.state disk.new) result }
     ensures named { (D.state disk.old).honest
         → OnOk result (slot_of (D.state disk.new).bytes ≡ other) }
@@ -102,17 +102,17 @@ pub fn replace_pair<D: Disk>(
         → Changes 4 (D.state disk.old) (D.state disk.new) (λ c. Holds c old_snap records)
         (λ c. Holds c snap.now []) result }
 {
-    spell_snap(buffer, snap);
+    encode_snapshot(buffer, snap);
     commit(disk, other.start(), buffer)?;
-    commit(disk, TURN_PLACE, &[other.turn()])
+    commit(disk, SELECTOR_PLACE, &[other.selector()])
 }
 
 /// The disk has the size of a session file, and its first 16 bytes are 0.
 pub fn check_blank<D: Disk>(disk: &mut D) -> Result<(), CreateFault>
     requires size { (D.state disk.old).size ≡ FILE_SIZE }
-    ensures tells { Counts (D.state disk.old) (D.state disk.new)
+    ensures tells { CountsFault (D.state disk.old) (D.state disk.new)
         (IsErrOf result CreateFault.Device) }
-    ensures rests { (D.state disk.old).honest → Rests (D.state disk.old) (D.state disk.new) }
+    ensures rests { (D.state disk.old).honest → AddsNoImage (D.state disk.old) (D.state disk.new) }
     ensures ticks { (D.state disk.old).honest
         → OnOk result ((D.state disk.new).clock ≡ (D.state disk.old).clock + 1) }
     ensures blank { (D.state disk.old).honest
@@ -133,10 +133,10 @@ pub fn check_blank<D: Disk>(disk: &mut D) -> Result<(), CreateFault>
 pub fn write_first<D: Disk>(disk: &mut D, buffer: &mut [u8], snap: &[u8]) -> Result<(), DiskFault>
     requires size { (D.state disk.old).size ≡ FILE_SIZE }
     requires room { length buffer.old ≡ STAGE_SIZE }
-    requires short { length snap.now ≤ MOST_SNAP }
+    requires short { length snap.now ≤ MOST_SNAPSHOT }
     ensures call { IsCall (D.state disk.old) (D.state disk.new) result }
     ensures room { length buffer.new ≡ STAGE_SIZE }
-    ensures goes_on { (D.state disk.old).honest → GoesOn (D.state disk.old) (D.state disk.new) }
+    ensures goes_on { (D.state disk.old).honest → KeepsEarlierImages (D.state disk.old) (D.state disk.new) }
     ensures ticks { (D.state disk.old).honest
         → OnOk result ((D.state disk.new).clock ≡ (D.state disk.old).clock + 4) }
     ensures made { (D.state disk.old).honest
@@ -145,7 +145,7 @@ pub fn write_first<D: Disk>(disk: &mut D, buffer: &mut [u8], snap: &[u8]) -> Res
         → OnOk result (slot_of (D.state disk.new).bytes ≡ Slot.A) }
     ensures durable { (D.state disk.old).honest → OnOk result (IsDurable (D.state disk.new)) }
 {
-    spell_snap(buffer, snap);
+    encode_snapshot(buffer, snap);
     commit(disk, Slot::A.start(), buffer)?;
     commit(disk, 0, &FIRST_HEADER)
 }

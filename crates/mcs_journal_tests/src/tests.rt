@@ -3,8 +3,8 @@ use mcs_disk::{
     cut_is_since_an_earlier_time, cut_leaves_what_is_durable, cut_of_what_a_cut_left,
 };
 use mcs_journal::{
-    CreateFault, FILE_SIZE, OpenFault, Opened, Store, cut_leaves_a_durable_pair,
-    cut_leaves_one_of_two_pairs,
+    CreateFault, FILE_SIZE, OpenFault, Opened, Store, cut_leaves_durable_contents,
+    cut_leaves_old_or_new_contents,
 };
 use std::alloc::Global;
 use std::process::Abort;
@@ -12,7 +12,7 @@ use std::test::Fail;
 
 const SNAP: [u8; 3] = [1, 2, 3];
 
-const NEXT_SNAP: [u8; 2] = [8, 9];
+const NEXT_SNAPSHOT: [u8; 2] = [8, 9];
 
 const RECORD: [u8; 4] = [7, 3, 5, 9];
 
@@ -100,10 +100,10 @@ fn writes_the_format(rt: HostRuntime) -> Result<(), Fail> {
 
     let mut store = reopened(alloc, &rt, disk);
     assert!(rt; store.is_open());
-    store.replace(&NEXT_SNAP)?;
+    store.replace(&NEXT_SNAPSHOT)?;
     assert!(rt; store.is_open() && store.has_room(RECORD.len()));
     store.append(&RECORD)?;
-    let mut disk = expect_pair(alloc, &rt, store.into_disk(), &NEXT_SNAP, 1);
+    let mut disk = expect_pair(alloc, &rt, store.into_disk(), &NEXT_SNAPSHOT, 1);
     expect_bytes(&rt, &mut disk, 8, &[1]);
     expect_bytes(&rt, &mut disk, 81_936, &[0, 0, 0, 2, 8, 9]);
     expect_bytes(&rt, &mut disk, 98_320, &[1, 0, 4, 7, 3, 5, 9, 0]);
@@ -129,7 +129,7 @@ fn run_until_fault(alloc: Global, rt: &impl Abort, passed: usize) -> FuseDisk {
     let appended = store.append(&RECORD).is_ok();
     assert_eq!(rt; appended, passed >= 9);
     if store.is_open() {
-        let replaced = store.replace(&NEXT_SNAP).is_ok();
+        let replaced = store.replace(&NEXT_SNAPSHOT).is_ok();
         assert_eq!(rt; replaced, passed >= 13);
         assert_eq!(rt; store.is_open(), replaced);
     }
@@ -161,7 +161,7 @@ fn stops_at_each_device_call(rt: HostRuntime) {
     for passed in [12, 13] {
         let mut disk = run_until_fault(alloc, &rt, passed);
         disk.mend();
-        let _disk = expect_pair(alloc, &rt, disk, &NEXT_SNAP, 0);
+        let _disk = expect_pair(alloc, &rt, disk, &NEXT_SNAPSHOT, 0);
     }
 }
 
@@ -235,6 +235,6 @@ fn laws_of_power_cuts_hold_of_disks_in_memory(_rt: HostRuntime) {
     cut_leaves_what_is_durable::<MemDisk, FuseDisk>();
     cut_is_before_a_stretch_or_since_its_start::<FuseDisk, MemDisk>();
     cut_of_what_a_cut_left::<FuseDisk, MemDisk, MemDisk>();
-    cut_leaves_one_of_two_pairs::<FuseDisk, MemDisk>();
-    cut_leaves_a_durable_pair::<MemDisk, MemDisk>();
+    cut_leaves_old_or_new_contents::<FuseDisk, MemDisk>();
+    cut_leaves_durable_contents::<MemDisk, MemDisk>();
 }

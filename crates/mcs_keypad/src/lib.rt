@@ -256,7 +256,7 @@ impl KeyPad {
     }
 
     /// A law: each key is 0 or 1.
-    pub fn state_is_valid(&self)
+    pub fn show_state_is_valid(&self)
         ensures { All (λ key. key < 2) self.now.down }
     {
         for i in 0..self.down.len() {

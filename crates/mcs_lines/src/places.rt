@@ -6,7 +6,7 @@ ghost use Rattle.mcs_lines.specs.Requests.{or_bad_number, poke_numbered, poke_of
 
 use crate::numbers::{address, bank, bit, byte, is_number, nibble, register, status};
 use crate::requests::{LineFault, Request, in_range};
-use crate::words::{is_word, next_part};
+use crate::words::{equals, next_part};
 use mcs_model::command::{Command, Place};
 
 /// Puts a value into a place.
@@ -58,13 +58,13 @@ fn read_numbered(name: &[u8], value: &[u8]) -> Request
 fn read_plain(name: &[u8], value: &[u8]) -> Option<Request>
     ensures { or_bad_number result ≡ poke_plain name.now value.now }
 {
-    if is_word(name, b"acc") {
+    if equals(name, b"acc") {
         poke(Place::Acc(nibble(value)?))
-    } else if is_word(name, b"cy") {
+    } else if equals(name, b"cy") {
         poke(Place::Cy(bit(value)?))
-    } else if is_word(name, b"pc") {
+    } else if equals(name, b"pc") {
         poke(Place::Pc(address(value)?))
-    } else if is_word(name, b"dcl") {
+    } else if equals(name, b"dcl") {
         poke(Place::Dcl(bank(value)?))
     } else {
         Some(read_numbered(name, value))
@@ -75,7 +75,7 @@ fn read_plain(name: &[u8], value: &[u8]) -> Option<Request>
 fn read_two_parts(name: &[u8], a: &[u8], value: &[u8]) -> Request
     ensures { result ≡ poke_parts (name.now ∷ a.now ∷ []) value.now }
 {
-    if is_word(name, b"rom") && is_number(a) {
+    if equals(name, b"rom") && is_number(a) {
         in_range(read_rom(a, value))
     } else {
         Request::Refused(LineFault::NotACommand)
@@ -86,7 +86,7 @@ fn read_two_parts(name: &[u8], a: &[u8], value: &[u8]) -> Request
 fn read_three_parts(name: &[u8], b: &[u8], s: &[u8], value: &[u8]) -> Request
     ensures { result ≡ poke_parts (name.now ∷ b.now ∷ s.now ∷ []) value.now }
 {
-    if is_word(name, b"ram") && is_number(b) && is_number(s) {
+    if equals(name, b"ram") && is_number(b) && is_number(s) {
         in_range(read_ram(b, s, value))
     } else {
         Request::Refused(LineFault::NotACommand)
@@ -97,7 +97,7 @@ fn read_three_parts(name: &[u8], b: &[u8], s: &[u8], value: &[u8]) -> Request
 fn read_four_parts(name: &[u8], b: &[u8], h: &[u8], k: &[u8], value: &[u8]) -> Request
     ensures { result ≡ poke_parts (name.now ∷ b.now ∷ h.now ∷ k.now ∷ []) value.now }
 {
-    if is_word(name, b"st") && is_number(b) && is_number(h) && is_number(k) {
+    if equals(name, b"st") && is_number(b) && is_number(h) && is_number(k) {
         in_range(read_status(b, h, k, value))
     } else {
         Request::Refused(LineFault::NotACommand)

@@ -7,7 +7,7 @@ ghost use Rattle.mcs_lines.specs.Words.{is_plain_byte, words_of};
 
 use crate::numbers::{address, bank, bit, byte};
 use crate::places::read_poke;
-use crate::words::{is_plain_byte, is_word, next_word};
+use crate::words::{is_plain_byte, equals, next_word};
 use mcs_model::command::Command;
 use mcs_model::limits::LISTING_LINES;
 use mcs_model::numeral::number_within;
@@ -73,23 +73,23 @@ pub enum Request {
 fn read_alone(word: &[u8]) -> Request
     ensures { result ≡ request_alone word.now }
 {
-    if is_word(word, b"step") {
+    if equals(word, b"step") {
         Request::Change(Command::Step)
-    } else if is_word(word, b"reset") {
+    } else if equals(word, b"reset") {
         Request::Change(Command::Reset)
-    } else if is_word(word, b"lamps") {
+    } else if equals(word, b"lamps") {
         Request::Ask(Question::State(Query::Lamps))
-    } else if is_word(word, b"regs") {
+    } else if equals(word, b"regs") {
         Request::Ask(Question::State(Query::Regs))
-    } else if is_word(word, b"breaks") {
+    } else if equals(word, b"breaks") {
         Request::Ask(Question::State(Query::Breaks))
-    } else if is_word(word, b"watches") {
+    } else if equals(word, b"watches") {
         Request::Ask(Question::State(Query::Watches))
-    } else if is_word(word, b"ports") {
+    } else if equals(word, b"ports") {
         Request::Ask(Question::State(Query::Ports))
-    } else if is_word(word, b"seq") {
+    } else if equals(word, b"seq") {
         Request::Ask(Question::State(Query::Seq))
-    } else if is_word(word, b"board") {
+    } else if equals(word, b"board") {
         Request::Ask(Question::Board)
     } else {
         Request::Refused(LineFault::NotACommand)
@@ -110,15 +110,15 @@ pub(crate) fn in_range(request: Option<Request>) -> Request
 fn read_with_one(word: &[u8], a: &[u8]) -> Option<Request>
     ensures { or_bad_number result ≡ request_with_one word.now a.now }
 {
-    let request = if is_word(word, b"run") {
+    let request = if equals(word, b"run") {
         Request::Change(Command::Run(number_within(a, u32::MAX)?))
-    } else if is_word(word, b"test") {
+    } else if equals(word, b"test") {
         Request::Change(Command::Test(bit(a)?))
-    } else if is_word(word, b"break") {
+    } else if equals(word, b"break") {
         Request::Change(Command::Break(address(a)?))
-    } else if is_word(word, b"unbreak") {
+    } else if equals(word, b"unbreak") {
         Request::Change(Command::Unbreak(address(a)?))
-    } else if is_word(word, b"ram") {
+    } else if equals(word, b"ram") {
         Request::Ask(Question::State(Query::Ram(bank(a)?)))
     } else {
         Request::Refused(LineFault::NotACommand)
@@ -142,17 +142,17 @@ fn read_list(a: &[u8], n: &[u8]) -> Option<Request>
 fn read_with_two(word: &[u8], a: &[u8], b: &[u8]) -> Option<Request>
     ensures { or_bad_number result ≡ request_with_two word.now a.now b.now }
 {
-    let request = if is_word(word, b"poke") {
+    let request = if equals(word, b"poke") {
         read_poke(a, b)
-    } else if is_word(word, b"press") {
+    } else if equals(word, b"press") {
         Request::Change(Command::Press(byte(a)?, byte(b)?))
-    } else if is_word(word, b"release") {
+    } else if equals(word, b"release") {
         Request::Change(Command::Release(byte(a)?, byte(b)?))
-    } else if is_word(word, b"watch") {
+    } else if equals(word, b"watch") {
         Request::Change(Command::Watch(bank(a)?, byte(b)?))
-    } else if is_word(word, b"unwatch") {
+    } else if equals(word, b"unwatch") {
         Request::Change(Command::Unwatch(bank(a)?, byte(b)?))
-    } else if is_word(word, b"list") {
+    } else if equals(word, b"list") {
         in_range(read_list(a, b))
     } else {
         Request::Refused(LineFault::NotACommand)

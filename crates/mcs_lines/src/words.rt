@@ -27,7 +27,7 @@ pub fn is_blank(line: &[u8]) -> bool
 }
 
 /// Whether a word is this name.
-pub fn is_word(word: &[u8], name: &[u8]) -> bool
+pub fn equals(word: &[u8], name: &[u8]) -> bool
     ensures { result ≡ bytes_eq word.now name.now }
 {
     word == name

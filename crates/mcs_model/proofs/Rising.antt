@@ -1,6 +1,6 @@
 -- How many pairs an image has.
 use Rattle.std.proofs.Common.{ℕ, zero, suc, ◌<◌, ◌≤◌, List, [], ◌∷◌, length, get_or, arith}
-use Rattle.mcs_model.specs.Pairs.{IsRising, IsImage}
+use Rattle.mcs_model.specs.Images.{IsRising, IsImage}
 
 -- the address at a place is at least the number of places before it
 index_le : (pairs : List (ℕ × ℕ)) (d : ℕ × ℕ) → IsRising pairs → (i : ℕ) → i < length pairs → i ≤ (get_or pairs i d).0

@@ -121,8 +121,8 @@ has_wrong_direction b =
     || any_lamp (is_input_line b) b
 
 -- the first thing that is wrong with the parts, if any
-abbrev pub fault_of : BoardParts → Option BoardFault
-fault_of b =
+abbrev pub board_fault_of : BoardParts → Option BoardFault
+board_fault_of b =
     if has_bad_value b then Some BadValue
     else if lacks_line b then Some NoSuchLine
     else if has_wrong_direction b then Some WrongDirection

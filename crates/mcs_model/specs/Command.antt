@@ -16,7 +16,7 @@ use Rattle.mcs_model.specs.declared.regs.Regs.{Regs}
 use Rattle.mcs_model.specs.Boards.{has_key, masks_on}
 use Rattle.mcs_model.specs.Breakpoints.{is_breakpoint, with_breakpoint, without_breakpoint}
 use Rattle.mcs_model.specs.Bus.{BusState, has_chip, wired_of, with_ram, with_status}
-use Rattle.mcs_model.specs.Flat.{Flat, new_regs}
+use Rattle.mcs_model.specs.BenchState.{BenchState, new_regs}
 use Rattle.mcs_model.specs.Places.{with_rom_byte, with_rom_bytes, with_key, after_reset, after_wire}
 use Rattle.mcs_model.specs.Running.{Machine, Stops, run_length, after_run, run_stop, step_length, after_step, step_stop}
 
@@ -38,7 +38,7 @@ abbrev pub watch_place : ℕ → ℕ → ℕ
 watch_place bank src = bank * 256 + src
 
 -- why a state refuses a command for the command's own sake, if it does
-abbrev pub own_refusal : Flat → Command → Option BenchFault
+abbrev pub own_refusal : BenchState → Command → Option BenchFault
 own_refusal s (Load image) = if list_any (λ p. lacks_rom s.bus.board p.0) image then Some NoRom else None
 own_refusal s (Press row column) = if has_key s.bus.board row column then None else Some NoKey
 own_refusal s (Release row column) = if has_key s.bus.board row column then None else Some NoKey
@@ -49,29 +49,29 @@ own_refusal s (Watch bank src) = if is_breakpoint s.watches (watch_place bank sr
 own_refusal s _ = None
 
 -- why a state refuses a command, if it does: a worn session refuses each of them
-abbrev pub refusal : Flat → Command → Option BenchFault
+abbrev pub refusal : BenchState → Command → Option BenchFault
 refusal s c = if s.seq == ACCEPTED_COMMANDS then Some Worn else own_refusal s c
 
 -- ---- what they do
 
-abbrev pub machine_of : Flat → Machine
+abbrev pub machine_of : BenchState → Machine
 machine_of s = (s.processor, s.bus)
 
 -- what stops a run from it
-abbrev pub stops_of : Flat → Stops
+abbrev pub stops_of : BenchState → Stops
 stops_of s = record { breaks = s.breakpoints; watches = s.watches }
 
-abbrev pub with_machine : Flat → Machine → Flat
+abbrev pub with_machine : BenchState → Machine → BenchState
 with_machine s m = record s { processor = m.0; bus = m.1 }
 
-abbrev pub with_processor : Flat → Regs → Flat
+abbrev pub with_processor : BenchState → Regs → BenchState
 with_processor s p = record s { processor = p }
 
-abbrev pub with_bus : Flat → BusState → Flat
+abbrev pub with_bus : BenchState → BusState → BenchState
 with_bus s b = record s { bus = b }
 
 -- the state with a value put into a place
-abbrev pub with_place : Flat → Place → Flat
+abbrev pub with_place : BenchState → Place → BenchState
 with_place s (Acc n) = with_processor s (record s.processor { acc = n })
 with_place s (Cy bit) = with_processor s (record s.processor { cy = bit })
 with_place s (Pc at) = with_processor s (record s.processor { pc = at })
@@ -82,7 +82,7 @@ with_place s (Ram bank src n) = with_bus s (with_ram s.bus bank src n)
 with_place s (Status bank high k n) = with_bus s (with_status s.bus bank high k n)
 
 -- what a command does, but for the count of commands
-abbrev pub changed : Flat → Command → Flat
+abbrev pub changed : BenchState → Command → BenchState
 changed s (Wire board) = with_machine s (new_regs, after_wire s.bus board)
 changed s (Load image) = with_bus s (with_rom_bytes s.bus image)
 changed s (Press row column) = with_bus s (with_key s.bus row column 1)
@@ -98,13 +98,13 @@ changed s (Watch bank src) = record s { watches = with_breakpoint s.watches (wat
 changed s (Unwatch bank src) = record s { watches = without_breakpoint s.watches (watch_place bank src) }
 
 -- the state after an accepted command: each raises the count by one, also where nothing else changes
-abbrev pub after : Flat → Command → Flat
+abbrev pub after : BenchState → Command → BenchState
 after s c = record (changed s c) { seq = s.seq + 1 }
 
 -- ---- what they answer
 
 -- what an accepted command answers
-abbrev pub reply : Flat → Command → Reply
+abbrev pub reply : BenchState → Command → Reply
 reply s (Load image) = Loaded (length image)
 reply s (Run n) = Ran (run_length (stops_of s) n (machine_of s)) (run_stop (stops_of s) n (machine_of s))
 reply s Step = Ran (step_length (machine_of s)) (step_stop (machine_of s))

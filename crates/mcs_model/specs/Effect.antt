@@ -11,7 +11,7 @@ use Rattle.mcs_model.specs.Numbers.{page_of, word_on_page}
 use Rattle.mcs_model.specs.Registers.{register_of, pair_of, with_register, with_pair}
 use Rattle.mcs_model.specs.Bus.{BusState, fetch_of, after_src, ram_of, after_ram, status_of, after_status}
 use Rattle.mcs_model.specs.Levels.{after_ram_port, after_rom_port, port_of}
-use Rattle.mcs_model.specs.Table.{decoded, words_of, cycles_of}
+use Rattle.mcs_model.specs.Table.{decoded, word_count_of, cycles_of}
 
 -- the accumulator set
 abbrev pub with_acc : Regs → ℕ → Regs
@@ -141,12 +141,12 @@ bus_after Wr3 s m = after_status m s.dcl 3 s.acc
 bus_after _ _ m = m
 
 -- the counter moved behind an instruction's words, with the cycles that it still takes after this one
-abbrev pub behind_words : Op → Regs → Regs
-behind_words op s = record s { pc = (s.pc + words_of op) % 4096; owed = cycles_of op - 1 }
+abbrev pub after_words : Op → Regs → Regs
+after_words op s = record s { pc = (s.pc + word_count_of op) % 4096; owed = cycles_of op - 1 }
 
 -- processor and bus after an instruction
 abbrev pub effect : Op → Regs → BusState → Regs × BusState
-effect op s m = (registers_after op (behind_words op s) m, bus_after op s m)
+effect op s m = (registers_after op (after_words op s) m, bus_after op s m)
 
 -- the instruction at the counter, if its code is in the table; the word behind address 4095 is at 0
 abbrev pub instruction_at : Regs → BusState → Option Op

@@ -74,17 +74,17 @@ chains_clocked before s = record s {
   chains = tabled (chain_count s.board) (λ i. clocked s i (slice_index before i) (slice_index_or s.chains i []));
 }
 
-abbrev pub with_rom_latch : BusState → ℕ → ℕ → BusState
-with_rom_latch s c n = record s { rom_ports = slice_set s.rom_ports c n }
+abbrev pub with_rom_ports_at : BusState → ℕ → ℕ → BusState
+with_rom_ports_at s c n = record s { rom_ports = slice_set s.rom_ports c n }
 
-abbrev pub with_ram_latch : BusState → ℕ → ℕ → BusState
-with_ram_latch s i n = record s { ram_ports = slice_set s.ram_ports i n }
+abbrev pub with_ram_ports_at : BusState → ℕ → ℕ → BusState
+with_ram_ports_at s i n = record s { ram_ports = slice_set s.ram_ports i n }
 
 -- a write to the port of the selected RAM chip of a bank (4002 data sheet, WMP); one to an absent chip is lost (our own choice)
 unfoldable pub after_ram_port : BusState → ℕ → ℕ → BusState
 after_ram_port s bank n =
     if has_chip s bank (src_of s bank)
-    then chains_clocked (clock_levels s) (with_ram_latch s (bank * 4 + src_of s bank / 64) n)
+    then chains_clocked (clock_levels s) (with_ram_ports_at s (bank * 4 + src_of s bank / 64) n)
     else s
 
 -- a write to the port of the selected ROM (4001 data sheet, WRR); its latch keeps 0 at input lines, and a write to an absent
@@ -92,7 +92,7 @@ after_ram_port s bank n =
 unfoldable pub after_rom_port : BusState → ℕ → BusState
 after_rom_port s n =
     elim (masks_on s.board (s.rom_src / 16)) [
-      | Some mask ↦ chains_clocked (clock_levels s) (with_rom_latch s (s.rom_src / 16) (latch_value mask n))
+      | Some mask ↦ chains_clocked (clock_levels s) (with_rom_ports_at s (s.rom_src / 16) (latch_value mask n))
       | None ↦ s
     ]
 

@@ -1,11 +1,11 @@
 pub mod Numbers
 pub mod Numerals
-pub mod Pairs
+pub mod Images
 pub mod Boards
 pub mod Bus
 pub mod Levels
 pub mod Places
-pub mod Flat
+pub mod BenchState
 pub mod Validity
 pub mod Refusal
 pub mod Table

@@ -8,7 +8,7 @@ use Rattle.mcs_model.specs.declared.board.BoardParts.{BoardParts}
 use Rattle.mcs_model.specs.declared.board.ChainPart.{ChainPart}
 use Rattle.mcs_model.specs.Boards.{masks_on, key_count, key_place}
 use Rattle.mcs_model.specs.Bus.{BusState, wired_of}
-use Rattle.mcs_model.specs.Levels.{with_rom_latch, with_ram_latch}
+use Rattle.mcs_model.specs.Levels.{with_rom_ports_at, with_ram_ports_at}
 
 -- the ROM byte at an address; lost where the ROM is absent
 unfoldable pub with_rom_byte : BusState → ℕ → ℕ → BusState
@@ -20,13 +20,13 @@ with_rom_bytes s [] = s
 with_rom_bytes s (p ∷ image) = with_rom_bytes (with_rom_byte s p.0 p.1) image
 
 -- the port latch of a RAM chip, nothing being clocked; lost where the chip is absent
-unfoldable pub with_ram_port : BusState → ℕ → ℕ → ℕ → BusState
-with_ram_port s bank chip n = if nat_lt chip (wired_of s bank) then with_ram_latch s (bank * 4 + chip) n else s
+unfoldable pub with_ram_latch : BusState → ℕ → ℕ → ℕ → BusState
+with_ram_latch s bank chip n = if nat_lt chip (wired_of s bank) then with_ram_ports_at s (bank * 4 + chip) n else s
 
 -- the port latch of a ROM, nothing being clocked: n on its output lines, 0 on its input lines; lost where the ROM is
 -- absent
-unfoldable pub with_rom_port : BusState → ℕ → ℕ → BusState
-with_rom_port s chip n = elim (masks_on s.board chip) [ Some mask ↦ with_rom_latch s chip (latch_value mask n) | None ↦ s ]
+unfoldable pub with_rom_latch : BusState → ℕ → ℕ → BusState
+with_rom_latch s chip n = elim (masks_on s.board chip) [ Some mask ↦ with_rom_ports_at s chip (latch_value mask n) | None ↦ s ]
 
 -- the SRC byte that a bank keeps; one without chips stays at 0
 unfoldable pub with_ram_src : BusState → ℕ → ℕ → BusState

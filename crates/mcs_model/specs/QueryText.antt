@@ -7,7 +7,7 @@ use Rattle.mcs_model.specs.declared.query.Query.TheVariants.{Lamps, Regs, Ram, B
 use Rattle.mcs_model.specs.declared.limits.TheConstants.{BANKS, ROMS}
 use Rattle.mcs_model.specs.Boards.{chain_bits, chain_count, key_place, masks_on}
 use Rattle.mcs_model.specs.Bus.{BusState, wired_of}
-use Rattle.mcs_model.specs.Flat.{Flat}
+use Rattle.mcs_model.specs.BenchState.{BenchState}
 use Rattle.mcs_model.specs.Levels.{chain_bit, level, port_at}
 
 -- a line, ended by its line feed
@@ -36,7 +36,7 @@ abbrev pub stretch : List ℕ → ℕ → ℕ → List ℕ
 stretch items from count = take count (drop from items)
 
 -- `regs`: the registers of the processor and the TEST pin
-abbrev pub regs_text : Flat → List ℕ
+abbrev pub regs_text : BenchState → List ℕ
 regs_text s =
     codes "acc " ++ digit_text s.processor.acc
     ++ codes " cy " ++ digit_text s.processor.cy
@@ -54,7 +54,7 @@ abbrev pub lamp_mark : ℕ → ℕ
 lamp_mark level = if level == 1 then 42 else 46
 
 -- `lamps`: a mark for each lamp of the board, in order
-abbrev pub lamps_text : Flat → List ℕ
+abbrev pub lamps_text : BenchState → List ℕ
 lamps_text s = codes "lamps " ++ or_dash (map (λ line. lamp_mark (level s.bus line)) s.bus.board.lamps.items)
 
 -- register r of a RAM chip, named by bank, chip and register: its 16 characters, and its four status characters
@@ -79,7 +79,7 @@ ram_lines s bank =
     ∷ flat_map (chip_lines s bank) (range_with_len 0 (wired_of s bank))
 
 -- `breaks`: the breakpoints, rising
-abbrev pub breaks_text : Flat → List ℕ
+abbrev pub breaks_text : BenchState → List ℕ
 breaks_text s = codes "breaks " ++ or_dash (join_by address_text (codes " ") s.breakpoints)
 
 -- the two digits of a byte
@@ -91,7 +91,7 @@ abbrev pub watch_text : ℕ → List ℕ
 watch_text w = digit_text (w / 256) ++ codes "." ++ byte_text (w % 256)
 
 -- `watches`: the watched characters, rising
-abbrev pub watches_text : Flat → List ℕ
+abbrev pub watches_text : BenchState → List ℕ
 watches_text s = codes "watches " ++ or_dash (join_by watch_text (codes " ") s.watches)
 
 -- behind a word, texts that each begin with a space; a list of nothing is told as a dash
@@ -149,11 +149,11 @@ ports_lines s =
     ++ key_lines s
 
 -- `seq`: how many commands were accepted
-abbrev pub seq_text : Flat → List ℕ
+abbrev pub seq_text : BenchState → List ℕ
 seq_text s = codes "seq " ++ decimal s.seq
 
 -- the answer to a query
-abbrev pub text : Query → Flat → List ℕ
+abbrev pub text : Query → BenchState → List ℕ
 text Lamps s = lamps_text s
 text Regs s = regs_text s
 text (Ram bank) s = join_with_byte 10 (ram_lines s.bus bank)

@@ -21,7 +21,7 @@ cycled zero s = s
 cycled (suc k) s = unwrap_or (cycle_of (cycled k s).0 (cycled k s).1) (cycled k s)
 
 -- the cycles of one instruction, k of them from s to t, of at most so many as are left: none where no cycle can follow
-pub record Turned (left : ℕ) (s t : Machine) (k : ℕ) : Type 0 where
+pub record InstructionRan (left : ℕ) (s t : Machine) (k : ℕ) : Type 0 where
   pub within : k ≤ left
   pub machine : t ≡ cycled k s
   pub none : k ≡ 0 → is_outside s ≡ true

@@ -103,18 +103,18 @@ unfoldable pub decoded : ℕ → ℕ → Option Op
 decoded first second = option_map (λ (r : Row). r.op first second) (row_of first)
 
 -- the column "words": how many words an instruction has
-abbrev pub words_of : Op → ℕ
-words_of (Jcn _ _) = 2
-words_of (Fim _ _) = 2
-words_of (Jun _ _) = 2
-words_of (Jms _ _) = 2
-words_of (Isz _ _) = 2
-words_of _ = 1
+abbrev pub word_count_of : Op → ℕ
+word_count_of (Jcn _ _) = 2
+word_count_of (Fim _ _) = 2
+word_count_of (Jun _ _) = 2
+word_count_of (Jms _ _) = 2
+word_count_of (Isz _ _) = 2
+word_count_of _ = 1
 
 -- the column "cycles": how many instruction cycles it takes
 abbrev pub cycles_of : Op → ℕ
 cycles_of (Fin _) = 2
-cycles_of op = words_of op
+cycles_of op = word_count_of op
 
 -- the codes that are in no row
 abbrev pub outside_codes : List ℕ

@@ -5,9 +5,9 @@ use Rattle.mcs_nibble.specs.Ports.{latch_value}
 use Rattle.mcs_model.specs.declared.board.BoardParts.{BoardParts}
 use Rattle.mcs_model.specs.declared.limits.TheConstants.{ACCEPTED_COMMANDS, BREAKPOINTS, WATCHES}
 use Rattle.mcs_model.specs.declared.regs.Regs.{Regs}
-use Rattle.mcs_model.specs.Boards.{IsSized, fault_of, masks_on, chain_bits, chain_count, key_count}
+use Rattle.mcs_model.specs.Boards.{IsSized, board_fault_of, masks_on, chain_bits, chain_count, key_count}
 use Rattle.mcs_model.specs.Bus.{BusState, wired_of}
-use Rattle.mcs_model.specs.Flat.{Flat}
+use Rattle.mcs_model.specs.BenchState.{BenchState}
 
 -- so many numbers, each below a limit
 pub record AreBelow (count limit : ℕ) (items : List ℕ) : Type 0 where
@@ -19,7 +19,7 @@ pub record AreBelow (count limit : ℕ) (items : List ℕ) : Type 0 where
 -- parts with which nothing is wrong, of the lengths that their types give
 pub record IsValidBoard (b : BoardParts) : Type 0 where
   pub sized : IsSized b
-  pub valid : fault_of b ≡ None
+  pub valid : board_fault_of b ≡ None
 
 -- ---- what the chips hold
 
@@ -78,7 +78,7 @@ pub record AreWatches (items : List ℕ) : Type 0 where
   pub places : All (λ a. a < 2048) items
   pub rising : IsStrictlyIncreasing items
 
-pub record IsValid (s : Flat) : Type 0 where
+pub record IsValid (s : BenchState) : Type 0 where
   pub processor : IsValidRegs s.processor
   pub bus : IsValidBus s.bus
   pub breakpoints : AreBreakpoints s.breakpoints

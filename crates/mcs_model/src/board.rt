@@ -3,8 +3,8 @@
 ghost use Rattle.std.specs.Prelude.{◌≡◌, ◌<◌, ◌*◌, ◌||◌, ℕ, List, not, MatchOption, Ok, Err, Some, None, nat_lt, nat_le, length, slice_get, slice_index};
 ghost use Rattle.std.specs.List.{list_any};
 ghost use Rattle.mcs_nibble.specs.declared.lines.LineMask.{LineMask};
-ghost use Rattle.mcs_model.specs.Boards.{fault_of, in_range, exists_on, masks_on, is_input_line, is_output_line, is_chain_size, is_matrix_size, has_bad_matrix, has_bad_value, lacks_rows, lacks_line, has_wrong_direction, any_chain_line, any_column, any_lamp, any_line, input_on, chain_bits, chain_count, chain_part, has_key, empty_parts, IsSized};
-ghost use Rattle.mcs_model.specs.Refusal.{board_refusal_number};
+ghost use Rattle.mcs_model.specs.Boards.{board_fault_of, in_range, exists_on, masks_on, is_input_line, is_output_line, is_chain_size, is_matrix_size, has_bad_matrix, has_bad_value, lacks_rows, lacks_line, has_wrong_direction, any_chain_line, any_column, any_lamp, any_line, input_on, chain_bits, chain_count, chain_part, has_key, empty_parts, IsSized};
+ghost use Rattle.mcs_model.specs.Refusal.{board_fault_number};
 
 use crate::limits::{
     BANK_CHIPS, BANKS, CHAIN_BITS, CHAIN_CHIPS, CHAINS, KEY_COLUMNS, KEY_ROWS, LAMPS, ROMS,
@@ -97,7 +97,7 @@ pub enum BoardFault {
 impl BoardFault {
     /// The number that the refusal is told by.
     pub fn number(self) -> u8
-        ensures { result ≡ board_refusal_number self }
+        ensures { result ≡ board_fault_number self }
     {
         match self {
             BoardFault::BadValue => refusal_numbers::BAD_VALUE,
@@ -432,7 +432,7 @@ impl BoardParts {
 
     /// What is wrong with the parts, if anything is.
     fn fault(&self) -> Option<BoardFault>
-        ensures { result ≡ fault_of self.now }
+        ensures { result ≡ board_fault_of self.now }
     {
         if self.has_bad_value() {
             return Some(BoardFault::BadValue);
@@ -492,11 +492,11 @@ impl Model for Board {
     ghost Value = { BoardParts };
 
     ghost use Rattle.std.specs.Prelude.{◌≡◌, None};
-    ghost use Rattle.mcs_model.specs.Boards.{fault_of, IsSized};
+    ghost use Rattle.mcs_model.specs.Boards.{board_fault_of, IsSized};
 
     ghost view = { λ b. b.parts };
 
-    ghost invariant = { λ b. (fault_of b.parts ≡ None) × IsSized b.parts };
+    ghost invariant = { λ b. (board_fault_of b.parts ≡ None) × IsSized b.parts };
 }
 
 impl Board {
@@ -517,7 +517,7 @@ impl Board {
 
     /// The board of these parts, or what is wrong with them.
     pub fn of(parts: BoardParts) -> Result<Board, BoardFault>
-        ensures { MatchOption (fault_of parts) (result ≡ Ok parts) (λ fault. result ≡ Err fault) }
+        ensures { MatchOption (board_fault_of parts) (result ≡ Ok parts) (λ fault. result ≡ Err fault) }
     {
         parts.are_sized();
         match parts.fault() {
@@ -529,7 +529,7 @@ impl Board {
     /// The parts. Nothing is wrong with them.
     pub fn parts(&self) -> &BoardParts
         ensures same { result.now ≡ self.now }
-        ensures valid { fault_of self.now ≡ None }
+        ensures valid { board_fault_of self.now ≡ None }
         ensures sized { IsSized self.now }
     {
         &self.parts

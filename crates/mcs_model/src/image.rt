@@ -1,6 +1,6 @@
 //! The bytes that a program puts into ROM.
 ghost use Rattle.std.specs.Prelude.{◌≡◌, ◌<◌, ◌≤◌, ◌∷◌, ◌++◌, [], All, IfOk, OnOk, OnErr, length};
-ghost use Rattle.mcs_model.specs.Pairs.{IsImage};
+ghost use Rattle.mcs_model.specs.Images.{IsImage};
 
 use mcs_nibble::Addr;
 use std::alloc::{AllocError, Global};
@@ -14,7 +14,7 @@ pub struct Image {
 
 impl Model for Image {
     ghost use Rattle.std.specs.Prelude.{List, ℕ};
-    ghost use Rattle.mcs_model.specs.Pairs.{IsImage};
+    ghost use Rattle.mcs_model.specs.Images.{IsImage};
 
     ghost Value = { List (ℕ × ℕ) };
 

@@ -1,6 +1,6 @@
 //! The refusals of a bench, and their numbers.
 ghost use Rattle.std.specs.Prelude.{◌≡◌};
-ghost use Rattle.mcs_model.specs.Refusal.{bench_refusal_number};
+ghost use Rattle.mcs_model.specs.Refusal.{bench_fault_number};
 
 use crate::refusal_numbers;
 use thiserror::Error;
@@ -34,7 +34,7 @@ pub enum BenchFault {
 impl BenchFault {
     /// The number that the refusal is told by.
     pub fn number(self) -> u8
-        ensures { result ≡ bench_refusal_number self }
+        ensures { result ≡ bench_fault_number self }
     {
         match self {
             BenchFault::NoKey => refusal_numbers::NO_KEY,

@@ -1,6 +1,6 @@
 //! The registers of a 4004.
 ghost use Rattle.std.specs.Prelude.{◌≡◌};
-ghost use Rattle.mcs_model.specs.Flat.{new_regs};
+ghost use Rattle.mcs_model.specs.BenchState.{new_regs};
 ghost use Rattle.mcs_model.specs.Registers.{register_of, pair_of, with_register, with_pair};
 
 use mcs_nibble::{Addr, Bit, Nibble, PairNo, RegNo};

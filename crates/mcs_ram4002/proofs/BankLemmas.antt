@@ -11,7 +11,7 @@ use Rattle.mcs_nibble.proofs.GridLemmas.{get-grid, set-grid, kept-grid, length-g
 use Rattle.mcs_ram4002.specs.declared.BankWrite.{BankWrite}
 use Rattle.mcs_ram4002.specs.declared.BankWrite.TheVariants.{Character, Status, Port, Src}
 use Rattle.mcs_ram4002.specs.declared.Chip.{Chip}
-use Rattle.mcs_ram4002.specs.RamBank.{BankState, ChipState, unpacked, cells_of, no_chip, bank_of, blank_bank, main_of, status_of, status_place, chip_written, chip_after, src_after, with_write, IsInBank, IsSizedChip, IsValidChip, IsWhole, IsValidBank}
+use Rattle.mcs_ram4002.specs.RamBank.{BankState, ChipState, unpacked, cells_of, no_chip, bank_of, blank_bank, main_cells_of, status_cells_of, status_place, chip_written, chip_after, src_after, with_write, IsInBank, IsSizedChip, IsValidChip, IsWhole, IsValidBank}
 use Rattle.mcs_ram4002.proofs.Below.{below-at, grid-below, column-below}
 use Rattle.mcs_ram4002.proofs.Packed.{unpacked-small, unpacked-zeros, unpacked-none}
 
@@ -72,17 +72,17 @@ written wide f chips wired i k p n x d h l at there fits len new =
 -- a bank whose chip that a write goes to did it
 pub stored : (chips : List Chip) (wired src i : ℕ) (x d : Chip) (write : BankWrite) → IsInBank write → i ≡ chip_written write → i < 4 → i < wired → wired ≤ length chips → IsSizedChip (get_or chips i x) → cells_of d ≡ chip_after (cells_of (get_or chips i x)) write → bank_of (slice_set chips i d) wired (src_after write src) ≡ with_write (bank_of chips wired src) write
 stored chips wired src i x d (Character at n) place is h there fits sized new =
-    rw (written 64 main_of chips wired i (at % 64) at n x d h (omega arith) (omega arith) there fits sized.main (ap (λ (c : ChipState). c.main) new), kept 16 status_of chips wired i x d there fits (ap (λ (c : ChipState). c.status) new), kept-ports chips wired i x d there fits (ap (λ (c : ChipState). c.port) new)) refl
+    rw (written 64 main_cells_of chips wired i (at % 64) at n x d h (omega arith) (omega arith) there fits sized.main (ap (λ (c : ChipState). c.main) new), kept 16 status_cells_of chips wired i x d there fits (ap (λ (c : ChipState). c.status) new), kept-ports chips wired i x d there fits (ap (λ (c : ChipState). c.port) new)) refl
 stored chips wired src i x d (Status high k n) place is h there fits sized new =
-    rw (kept 64 main_of chips wired i x d there fits (ap (λ (c : ChipState). c.main) new), written 16 status_of chips wired i (high % 4 * 4 + k) (status_place high k) n x d h (omega arith) (omega arith) there fits sized.status (ap (λ (c : ChipState). c.status) new), kept-ports chips wired i x d there fits (ap (λ (c : ChipState). c.port) new)) refl
+    rw (kept 64 main_cells_of chips wired i x d there fits (ap (λ (c : ChipState). c.main) new), written 16 status_cells_of chips wired i (high % 4 * 4 + k) (status_place high k) n x d h (omega arith) (omega arith) there fits sized.status (ap (λ (c : ChipState). c.status) new), kept-ports chips wired i x d there fits (ap (λ (c : ChipState). c.port) new)) refl
 stored chips wired src i x d (Port chip n) place is h there fits sized new =
     let ports =
     ap (column 4 (λ (c : Chip). c.port) no_chip) (take-set-lt wired chips i d there)
     ∙ set-column 4 (λ (c : Chip). c.port) no_chip (take wired chips) i d n h (within chips wired i there fits) (ap (λ (c : ChipState). c.port) new)
     ∙ ap (λ j. slice_set (column 4 (λ (c : Chip). c.port) no_chip (take wired chips)) j n) is in
-    rw (kept 64 main_of chips wired i x d there fits (ap (λ (c : ChipState). c.main) new), kept 16 status_of chips wired i x d there fits (ap (λ (c : ChipState). c.status) new), ports) refl
+    rw (kept 64 main_cells_of chips wired i x d there fits (ap (λ (c : ChipState). c.main) new), kept 16 status_cells_of chips wired i x d there fits (ap (λ (c : ChipState). c.status) new), ports) refl
 stored chips wired src i x d (Src byte) place is h there fits sized new =
-    rw (kept 64 main_of chips wired i x d there fits (ap (λ (c : ChipState). c.main) new), kept 16 status_of chips wired i x d there fits (ap (λ (c : ChipState). c.status) new), kept-ports chips wired i x d there fits (ap (λ (c : ChipState). c.port) new)) refl
+    rw (kept 64 main_cells_of chips wired i x d there fits (ap (λ (c : ChipState). c.main) new), kept 16 status_cells_of chips wired i x d there fits (ap (λ (c : ChipState). c.status) new), kept-ports chips wired i x d there fits (ap (λ (c : ChipState). c.port) new)) refl
 
 -- ---- what holds of every bank
 
@@ -104,12 +104,12 @@ pub valid_of : (b : BankState) (chips : List Chip) (wired src : ℕ) → bank_of
 valid_of b chips wired src is small unwired valid =
     let at : IsValidBank (bank_of chips wired src) = record {
       whole = whole chips wired src;
-      main = grid-below 4 64 16 main_of no_chip (take wired chips) (λ i k. below-at 16 _ k (omega arith) (chip_valid chips wired i valid).main);
-      status = grid-below 4 16 16 status_of no_chip (take wired chips) (λ i k. below-at 16 _ k (omega arith) (chip_valid chips wired i valid).status);
+      main = grid-below 4 64 16 main_cells_of no_chip (take wired chips) (λ i k. below-at 16 _ k (omega arith) (chip_valid chips wired i valid).main);
+      status = grid-below 4 16 16 status_cells_of no_chip (take wired chips) (λ i k. below-at 16 _ k (omega arith) (chip_valid chips wired i valid).status);
       ports = column-below 4 16 (λ (c : Chip). c.port) no_chip (take wired chips) (λ i. (chip_valid chips wired i valid).port);
       src = small;
-      absent_main = λ at l gone. sym (absent-grid 64 main_of chips wired (at / 64) (at % 64) at (unpacked-none (at % 64)) (omega arith) (omega arith) (omega arith) gone);
-      absent_status = λ high k h l gone. sym (absent-grid 16 status_of chips wired (high / 4) (high % 4 * 4 + k) (status_place high k) (unpacked-none (high % 4 * 4 + k)) (omega arith) (omega arith) (omega arith) gone);
+      absent_main = λ at l gone. sym (absent-grid 64 main_cells_of chips wired (at / 64) (at % 64) at (unpacked-none (at % 64)) (omega arith) (omega arith) (omega arith) gone);
+      absent_status = λ high k h l gone. sym (absent-grid 16 status_cells_of chips wired (high / 4) (high % 4 * 4 + k) (status_place high k) (unpacked-none (high % 4 * 4 + k)) (omega arith) (omega arith) (omega arith) gone);
       absent_port = λ chip l gone. sym (port-absent chips wired src chip l gone);
       absent_src = unwired;
     } in
@@ -132,7 +132,7 @@ zero-cell n k = ap (λ cells. slice_index cells k) (unpacked-zeros n) ∙ slice_
 pub blank : (n wired src : ℕ) → wired ≤ n → bank_of (replicate n (record { main = replicate 32 0; status = replicate 8 0; port = 0 })) wired src ≡ record (blank_bank wired) { src = src }
 blank n wired src l =
     let b : Chip = record { main = replicate 32 0; status = replicate 8 0; port = 0 } in
-    let main = blank-grid 4 64 main_of no_chip (take wired (replicate n b)) (λ i k. equal (λ c. slice_index (main_of c) k) 0 n wired i b l (zero-cell 32 k) (unpacked-none k)) in
-    let status = blank-grid 4 16 status_of no_chip (take wired (replicate n b)) (λ i k. equal (λ c. slice_index (status_of c) k) 0 n wired i b l (zero-cell 8 k) (unpacked-none k)) in
+    let main = blank-grid 4 64 main_cells_of no_chip (take wired (replicate n b)) (λ i k. equal (λ c. slice_index (main_cells_of c) k) 0 n wired i b l (zero-cell 32 k) (unpacked-none k)) in
+    let status = blank-grid 4 16 status_cells_of no_chip (take wired (replicate n b)) (λ i k. equal (λ c. slice_index (status_cells_of c) k) 0 n wired i b l (zero-cell 8 k) (unpacked-none k)) in
     let ports = blank-column 4 (λ (c : Chip). c.port) no_chip (take wired (replicate n b)) (λ i. equal (λ c. c.port) 0 n wired i b l refl refl) in
     rw (main, status, ports) refl

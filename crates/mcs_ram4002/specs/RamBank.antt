@@ -88,11 +88,11 @@ unfoldable pub unpacked : List ℕ → List ℕ
 unpacked bytes = tabled (2 * length bytes) (λ k. half_of (slice_index bytes (k / 2)) (k % 2))
 
 -- the cells of a chip, each list by index: how a chip stores them is said here alone
-abbrev pub main_of : Chip → List ℕ
-main_of c = unpacked c.main
+abbrev pub main_cells_of : Chip → List ℕ
+main_cells_of c = unpacked c.main
 
-abbrev pub status_of : Chip → List ℕ
-status_of c = unpacked c.status
+abbrev pub status_cells_of : Chip → List ℕ
+status_cells_of c = unpacked c.status
 
 -- the cells of a chip and its port, each list by index
 pub record ChipState : Type 0 where
@@ -104,7 +104,7 @@ pub record ChipState : Type 0 where
 
 -- those of a chip as it stores them
 abbrev pub cells_of : Chip → ChipState
-cells_of c = record { main = main_of c; status = status_of c; port = c.port }
+cells_of c = record { main = main_cells_of c; status = status_cells_of c; port = c.port }
 
 abbrev pub no_chip : Chip
 no_chip = record { main = []; status = []; port = 0 }
@@ -114,18 +114,18 @@ abbrev pub bank_of : List Chip → ℕ → ℕ → BankState
 bank_of chips wired src = record {
   wired = wired;
   src = src;
-  main = grid 4 64 main_of no_chip (take wired chips);
-  status = grid 4 16 status_of no_chip (take wired chips);
+  main = grid 4 64 main_cells_of no_chip (take wired chips);
+  status = grid 4 16 status_cells_of no_chip (take wired chips);
   ports = column 4 (λ c. c.port) no_chip (take wired chips);
 }
 
 pub record IsSizedChip (c : Chip) : Type 0 where
-  pub main : length (main_of c) ≡ 64
-  pub status : length (status_of c) ≡ 16
+  pub main : length (main_cells_of c) ≡ 64
+  pub status : length (status_cells_of c) ≡ 16
 
 pub record IsValidChip (c : Chip) : Type 0 where
-  pub main : All (λ n. n < 16) (main_of c)
-  pub status : All (λ n. n < 16) (status_of c)
+  pub main : All (λ n. n < 16) (main_cells_of c)
+  pub status : All (λ n. n < 16) (status_cells_of c)
   pub port : c.port < 16
 
 -- the cells of a chip after a write to its bank that goes to it

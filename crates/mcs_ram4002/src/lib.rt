@@ -2,7 +2,7 @@
 #![tactic(auto)]
 
 ghost use Rattle.std.specs.Prelude.{◌≡◌, ℕ, ◌+◌, ◌-◌, ◌*◌, ◌/◌, ◌%◌, ◌<◌, ◌≤◌, All, slice_index};
-ghost use Rattle.mcs_ram4002.specs.RamBank.{BankState, half_of, cells_of, main_of, status_of, status_place, chip_of, chip_written, src_after, chip_after, after_write, blank_bank, IsInBank, IsSizedChip, IsValidChip, IsWhole, IsValidBank};
+ghost use Rattle.mcs_ram4002.specs.RamBank.{BankState, half_of, cells_of, main_cells_of, status_cells_of, status_place, chip_of, chip_written, src_after, chip_after, after_write, blank_bank, IsInBank, IsSizedChip, IsValidChip, IsWhole, IsValidBank};
 
 use mcs_nibble::Nibble;
 use std::marker::Model;
@@ -82,7 +82,7 @@ impl Chip {
     /// Main character `at`, which is register * 16 + character.
     fn character(&self, at: u8) -> Nibble
         requires { at < 64 }
-        ensures { result ≡ slice_index (main_of self.now) at }
+        ensures { result ≡ slice_index (main_cells_of self.now) at }
     {
         half(self.main[usize::from(at / 2)], at)
     }
@@ -90,7 +90,7 @@ impl Chip {
     /// Status character `at`, which is register * 4 + character.
     fn status_character(&self, at: u8) -> Nibble
         requires { at < 16 }
-        ensures { result ≡ slice_index (status_of self.now) at }
+        ensures { result ≡ slice_index (status_cells_of self.now) at }
     {
         half(self.status[usize::from(at / 2)], at)
     }
@@ -125,7 +125,7 @@ impl Chip {
     }
 
     /// A law: each character, each status character and the port is a nibble.
-    fn state_is_valid(&self)
+    fn show_state_is_valid(&self)
         ensures { IsValidChip self.now }
     {
         let _port = self.port.get();
@@ -137,7 +137,7 @@ fn are_valid(chips: &[Chip])
     ensures { All IsValidChip chips.now }
 {
     for i in 0..chips.len() {
-        chips[i].state_is_valid();
+        chips[i].show_state_is_valid();
     }
 }
 
@@ -317,7 +317,7 @@ impl<const CHIPS: usize> Bank<CHIPS> {
     }
 
     /// A law: there are so many characters, status characters and ports, each a nibble, and what is absent is 0.
-    pub fn state_is_valid(&self)
+    pub fn show_state_is_valid(&self)
         ensures { IsValidBank self.now }
     {
         let _kept = (self.wired, self.src);

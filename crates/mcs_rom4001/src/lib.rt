@@ -169,7 +169,7 @@ impl Rom {
     }
 
     /// A law: there are 256 bytes, each below 256, and the latch holds a nibble, whose bits at input lines are 0.
-    pub fn state_is_valid(&self)
+    pub fn show_state_is_valid(&self)
         ensures { IsValidRom self.now }
     {
         let _latch = self.port.get();

@@ -1,13 +1,13 @@
 -- What a session's disk stands for when it is made and opened.
 use Rattle.std.proofs.Common.{◌≡◌, ◌+◌, min, inl, inr, ⊎_elim, Bool, true, false, None, ap, List, [], ◌∷◌, ℕ, sym, ◌∙◌, subst, refl, arith}
 use Rattle.mcs_disk.specs.Disk.{DiskState, IsLawful, most_faults}
-use Rattle.mcs_disk.specs.Moments.{Counts, IsDurable, Rests}
+use Rattle.mcs_disk.specs.Moments.{CountsFault, IsDurable, AddsNoImage}
 use Rattle.mcs_journal.specs.Answers.{Creates, IsNoSession, Opens, RefusesOpen}
 use Rattle.mcs_journal.specs.File.{Holds}
 use Rattle.mcs_journal.specs.declared.fault.OpenFault.{OpenFault}
 use Rattle.mcs_journal.specs.declared.fault.OpenFault.TheVariants.{NotASession, Damaged, Device, NoMemory}
 use Rattle.mcs_journal.proofs.Unique.{same_snap, same_pair}
-use Rattle.mcs_model.specs.Flat.{Flat, new_flat}
+use Rattle.mcs_model.specs.BenchState.{BenchState, new_bench_state}
 use Rattle.mcs_codec.specs.Codec.{SpellsState, SpellsState1}
 use Rattle.mcs_codec.proofs.StateCodec.{same_state}
 use Rattle.mcs_disk.specs.Moments.{Either, LeavesOnly}
@@ -16,7 +16,7 @@ use Rattle.mcs_model.specs.declared.command.Command.{Command}
 use Rattle.mcs_model.specs.Command.{refusal, after}
 use Rattle.mcs_model.specs.Fold.{fold}
 use Rattle.mcs_version1.specs.Command.{after_1}
-use Rattle.mcs_version1.specs.Flat.{Flat1}
+use Rattle.mcs_version1.specs.BenchState.{BenchState1}
 use Rattle.mcs_version1.specs.Fold.{fold_1}
 use Rattle.mcs_version1.specs.Lift.{lift}
 use Rattle.mcs_version1.proofs.Lifting.{command-lifts}
@@ -27,34 +27,34 @@ use Rattle.mcs_session.specs.Invariant.{IsRecorded, IsReplayed, MayReplace, Repl
 use Rattle.mcs_session.proofs.Records.{same_pair_state}
 
 -- no bytes spell states of both versions
-not_both : (snap : List ℕ) (s : Flat) (first : Flat1) → SpellsState snap s → SpellsState1 snap first → ⊥
+not_both : (snap : List ℕ) (s : BenchState) (first : BenchState1) → SpellsState snap s → SpellsState1 snap first → ⊥
 not_both snap s first a b =
     let versions : false ≡ true = (same_state snap false true s (lift first) a (record { first = first; spells = b; lifted = refl })).0 in
     absurd (cc)
 
-pub stands_by : (snap : List ℕ) (records : List (List ℕ)) (s : Flat) → RecordsStandFor false snap records s → (c : List ℕ) → Holds c snap records → StandsFor c s
+pub stands_by : (snap : List ℕ) (records : List (List ℕ)) (s : BenchState) → RecordsStandFor false snap records s → (c : List ℕ) → Holds c snap records → StandsFor c s
 stands_by snap records s p c held = record { snap = snap; records = records; holds = held; stand = p }
 
-pub at_of : (disk : DiskState) (s : Flat) → IsDurable disk → StandsFor disk.bytes s → IsAt disk s
+pub at_of : (disk : DiskState) (s : BenchState) → IsDurable disk → StandsFor disk.bytes s → IsAt disk s
 at_of disk s durable stands image now = subst (λ (f : List ℕ). StandsFor f s) (sym (durable.fresh image now)) stands
 
 -- a snapshot with no records behind it
-stand_new : (snap : List ℕ) (s : Flat) → SpellsState snap s → RecordsStandFor false snap [] s
+stand_new : (snap : List ℕ) (s : BenchState) → SpellsState snap s → RecordsStandFor false snap [] s
 stand_new snap s spells = record { start = s; snapshot = spells; commands = []; replays = tt; bounded = omega arith; state = refl }
 
-pub stands_new : (file snap : List ℕ) (s : Flat) → SpellsState snap s → Holds file snap [] → StandsFor file s
+pub stands_new : (file snap : List ℕ) (s : BenchState) → SpellsState snap s → Holds file snap [] → StandsFor file s
 stands_new file snap s spells held = record { snap = snap; records = []; holds = held; stand = stand_new snap s spells }
 
-pub recorded_new : (disk : DiskState) (snap : List ℕ) (s : Flat) → SpellsState snap s → Holds disk.bytes snap [] → IsDurable disk → IsRecorded disk 0 s
+pub recorded_new : (disk : DiskState) (snap : List ℕ) (s : BenchState) → SpellsState snap s → Holds disk.bytes snap [] → IsDurable disk → IsRecorded disk 0 s
 unfolding stands_new stand_new
 recorded_new disk snap s spells held durable = record { durable = durable; stands = stands_new disk.bytes snap s spells held; count = refl }
 
-pub created : (old new : DiskState) (snap : List ℕ) (s : Flat) → SpellsState snap s → s ≡ new_flat → Creates old new snap → CreatesSession old new
+pub created : (old new : DiskState) (snap : List ℕ) (s : BenchState) → SpellsState snap s → s ≡ new_bench_state → Creates old new snap → CreatesSession old new
 created old new snap s spells is made =
-    let stands : StandsFor new.bytes new_flat = subst (λ (t : Flat). StandsFor new.bytes t) is (stands_new new.bytes snap s spells made.holds) in
-    record { blank = made.blank; stands = stands; at = at_of new new_flat made.durable stands; ticks = made.ticks; moments = made.moments }
+    let stands : StandsFor new.bytes new_bench_state = subst (λ (t : BenchState). StandsFor new.bytes t) is (stands_new new.bytes snap s spells made.holds) in
+    record { blank = made.blank; stands = stands; at = at_of new new_bench_state made.durable stands; ticks = made.ticks; moments = made.moments }
 
-pub recorded_opened : (old new : DiskState) (snap : List ℕ) (records : List (List ℕ)) (cycles : ℕ) (s : Flat) → Opens old new snap records → IsReplayed false snap records cycles s → IsRecorded new cycles s
+pub recorded_opened : (old new : DiskState) (snap : List ℕ) (records : List (List ℕ)) (cycles : ℕ) (s : BenchState) → Opens old new snap records → IsReplayed false snap records cycles s → IsRecorded new cycles s
 recorded_opened old new snap records cycles s opened replayed =
     let held : Holds new.bytes snap records = subst (λ (f : List ℕ). Holds f snap records) (sym opened.rests.bytes) opened.holds in
     record { durable = opened.durable; stands = record { snap = snap; records = records; holds = held; stand = replayed.stand }; count = replayed.count }
@@ -64,7 +64,7 @@ pub held_on : (old new : DiskState) (snap : List ℕ) (records : List (List ℕ)
 held_on old new snap records opened = subst (λ (f : List ℕ). Holds f snap records) (sym opened.rests.bytes) opened.holds
 
 -- calls that rest leave what there was
-rests_may : (old new : DiskState) (s : Flat) → Rests old new → MayMigrate old new s
+rests_may : (old new : DiskState) (s : BenchState) → AddsNoImage old new → MayMigrate old new s
 rests_may old new s rests = record {
   later = rests.later;
   each = λ c left. inl (rests.nothing_else old.clock c (omega arith) left);
@@ -73,7 +73,7 @@ rests_may old new s rests = record {
 }
 
 -- a file of the last version
-pub opened_session : (old new : DiskState) (snap : List ℕ) (records : List (List ℕ)) (cycles : ℕ) (s : Flat) → Opens old new snap records → IsReplayed false snap records cycles s → OpensSession old new s
+pub opened_session : (old new : DiskState) (snap : List ℕ) (records : List (List ℕ)) (cycles : ℕ) (s : BenchState) → Opens old new snap records → IsReplayed false snap records cycles s → OpensSession old new s
 opened_session old new snap records cycles s opened replayed = record {
   stands = inl (stands_by snap records s replayed.stand old.bytes opened.holds);
   moments = rests_may old new s opened.rests;
@@ -85,28 +85,28 @@ opened_session old new snap records cycles s opened replayed = record {
 -- ---- version 1
 
 -- what version 1 does is what the last version does at the lifted state
-replays_first : (s : Flat) (first : Flat1) (rs : List (List ℕ)) (cs : List Command) → s ≡ lift first → Replays true s rs cs → Replays1 first rs cs × (fold s cs ≡ lift (fold_1 first cs))
+replays_first : (s : BenchState) (first : BenchState1) (rs : List (List ℕ)) (cs : List Command) → s ≡ lift first → Replays true s rs cs → Replays1 first rs cs × (fold s cs ≡ lift (fold_1 first cs))
 replays_first s first [] [] e h = (tt, e)
 replays_first s first [] (c ∷ cs) e h = absurd h
 replays_first s first (r ∷ rs) [] e h = absurd h
 replays_first s first (r ∷ rs) (c ∷ cs) e h =
     let lifts = command-lifts first c h.0.1 in
-    let rest = replays_first (after s c) (after_1 first c) rs cs (ap (λ (x : Flat). after x c) e ∙ sym lifts.after) (h.2) in
-    ((h.0, sym lifts.refusal ∙ subst (λ (x : Flat). refusal x c ≡ None) e h.1, rest.0), rest.1)
+    let rest = replays_first (after s c) (after_1 first c) rs cs (ap (λ (x : BenchState). after x c) e ∙ sym lifts.after) (h.2) in
+    ((h.0, sym lifts.refusal ∙ subst (λ (x : BenchState). refusal x c ≡ None) e h.1, rest.0), rest.1)
 
-first_replays : (first : Flat1) (rs : List (List ℕ)) (cs : List Command) → Replays1 first rs cs → Replays true (lift first) rs cs × (fold (lift first) cs ≡ lift (fold_1 first cs))
+first_replays : (first : BenchState1) (rs : List (List ℕ)) (cs : List Command) → Replays1 first rs cs → Replays true (lift first) rs cs × (fold (lift first) cs ≡ lift (fold_1 first cs))
 first_replays first [] [] h = (tt, refl)
 first_replays first [] (c ∷ cs) h = absurd h
 first_replays first (r ∷ rs) [] h = absurd h
 first_replays first (r ∷ rs) (c ∷ cs) h =
     let lifts = command-lifts first c h.0.1 in
     let rest = first_replays (after_1 first c) rs cs (h.2) in (
-      (h.0, lifts.refusal ∙ h.1, subst (λ (x : Flat). Replays true x rs cs) lifts.after rest.0),
-      ap (λ (x : Flat). fold x cs) (sym lifts.after) ∙ rest.1,
+      (h.0, lifts.refusal ∙ h.1, subst (λ (x : BenchState). Replays true x rs cs) lifts.after rest.0),
+      ap (λ (x : BenchState). fold x cs) (sym lifts.after) ∙ rest.1,
     )
 
 -- records that stand for a state by version 1 as the last version does it stand for it by version 1
-pub by_first : (file snap : List ℕ) (records : List (List ℕ)) (s : Flat) → Holds file snap records → RecordsStandFor true snap records s → StandsForLifted file s
+pub by_first : (file snap : List ℕ) (records : List (List ℕ)) (s : BenchState) → Holds file snap records → RecordsStandFor true snap records s → StandsForLifted file s
 by_first file snap records s holds stand =
     let both = replays_first stand.start stand.snapshot.first records stand.commands stand.snapshot.lifted stand.replays in
     record {
@@ -119,7 +119,7 @@ by_first file snap records s holds stand =
     }
 
 -- and the other way round
-pub first_by : (snap : List ℕ) (records : List (List ℕ)) (first : Flat1) → RecordsStandFor1 snap records first → RecordsStandFor true snap records (lift first)
+pub first_by : (snap : List ℕ) (records : List (List ℕ)) (first : BenchState1) → RecordsStandFor1 snap records first → RecordsStandFor true snap records (lift first)
 first_by snap records first stand =
     let both = first_replays stand.start records stand.commands stand.replays in
     record {
@@ -131,11 +131,11 @@ first_by snap records first stand =
       state = ap lift stand.state ∙ sym both.1;
     }
 
-holds_state : (file : List ℕ) (s : Flat) → HoldsState file s → StandsFor file s
+holds_state : (file : List ℕ) (s : BenchState) → HoldsState file s → StandsFor file s
 holds_state file s held = stands_new file held.snap s held.spells held.holds
 
 -- the store was opened, and what it held was replaced or not
-migrates : (old mid new : DiskState) (snap : List ℕ) (records : List (List ℕ)) (s : Flat) → IsLawful new → Opens old mid snap records → RecordsStandFor true snap records s
+migrates : (old mid new : DiskState) (snap : List ℕ) (records : List (List ℕ)) (s : BenchState) → IsLawful new → Opens old mid snap records → RecordsStandFor true snap records s
     → LeavesOnly mid new (Either (λ c. Holds c snap records) (λ c. HoldsState c s)) → MayMigrate old new s
 migrates old mid new snap records s lawful opened stand moments =
     leaves_then old mid new (Either (old.since old.clock) (λ file. StandsByEither file s)) lawful (rests_may old mid s opened.rests)
@@ -143,7 +143,7 @@ migrates old mid new snap records s lawful opened stand moments =
     (λ c. ⊎_elim (λ there. inr (inr (by_first c snap records s there stand))) (λ here. inr (inl (holds_state c s here)))) moments)
 
 -- a file of version 1, whose lifted state is the only thing on the disk
-pub migrated_session : (old mid new : DiskState) (snap : List ℕ) (records : List (List ℕ)) (cycles : ℕ) (s : Flat) → IsLawful new → Opens old mid snap records → IsReplayed true snap records cycles s
+pub migrated_session : (old mid new : DiskState) (snap : List ℕ) (records : List (List ℕ)) (cycles : ℕ) (s : BenchState) → IsLawful new → Opens old mid snap records → IsReplayed true snap records cycles s
     → LeavesOnly mid new (Either (λ c. Holds c snap records) (λ c. HoldsState c s)) → HoldsState new.bytes s → IsDurable new → OpensSession old new s
 migrated_session old mid new snap records cycles s lawful opened replayed moments held durable = record {
   stands = inr (by_first old.bytes snap records s opened.holds replayed.stand);
@@ -153,7 +153,7 @@ migrated_session old mid new snap records cycles s lawful opened replayed moment
   at = at_of new s durable (holds_state new.bytes s held);
 }
 
-pub fails_migrating : (old mid new : DiskState) (snap : List ℕ) (records : List (List ℕ)) (cycles : ℕ) (s : Flat) → IsLawful new → Opens old mid snap records → IsReplayed true snap records cycles s
+pub fails_migrating : (old mid new : DiskState) (snap : List ℕ) (records : List (List ℕ)) (cycles : ℕ) (s : BenchState) → IsLawful new → Opens old mid snap records → IsReplayed true snap records cycles s
     → LeavesOnly mid new (Either (λ c. Holds c snap records) (λ c. HoldsState c s)) → FailsMigrating old new
 fails_migrating old mid new snap records cycles s lawful opened replayed moments = record {
   state = s;
@@ -164,19 +164,19 @@ fails_migrating old mid new snap records cycles s lawful opened replayed moments
 -- ---- what `open` refuses
 
 -- a file stands for what its one pair stands for
-pub pair_of : (file snap : List ℕ) (records : List (List ℕ)) (s : Flat) → Holds file snap records → StandsFor file s → RecordsStandFor false snap records s
+pub pair_of : (file snap : List ℕ) (records : List (List ℕ)) (s : BenchState) → Holds file snap records → StandsFor file s → RecordsStandFor false snap records s
 pair_of file snap records s held stands =
     subst (λ (x : List (List ℕ)). RecordsStandFor false snap x s) (same_pair _ _ _ _ _ stands.holds held)
     (subst (λ (x : List ℕ). RecordsStandFor false x stands.records s) (same_snap _ _ _ _ _ stands.holds held) stands.stand)
 
-first_of : (file snap : List ℕ) (records : List (List ℕ)) (s : Flat) → Holds file snap records → StandsForLifted file s → RecordsStandFor true snap records s
+first_of : (file snap : List ℕ) (records : List (List ℕ)) (s : BenchState) → Holds file snap records → StandsForLifted file s → RecordsStandFor true snap records s
 first_of file snap records s held first =
-    subst (λ (x : Flat). RecordsStandFor true snap records x) (sym first.lifted)
+    subst (λ (x : BenchState). RecordsStandFor true snap records x) (sym first.lifted)
     (subst (λ (x : List (List ℕ)). RecordsStandFor true snap x (lift first.first)) (same_pair _ _ _ _ _ first.holds held)
     (subst (λ (x : List ℕ). RecordsStandFor true x first.records (lift first.first)) (same_snap _ _ _ _ _ first.holds held) (first_by first.snap first.records first.first first.stand)))
 
 -- a file that stands for a state by version 2 stands for no other
-pub one_state : (file : List ℕ) (s t : Flat) → StandsFor file s → StandsByEither file t → s ≡ t
+pub one_state : (file : List ℕ) (s t : BenchState) → StandsFor file s → StandsByEither file t → s ≡ t
 one_state file s t a (inl b) = same_pair_state false a.snap b.snap a.records b.records s t (same_snap _ _ _ _ _ a.holds b.holds) (same_pair _ _ _ _ _ a.holds b.holds) a.stand b.stand
 one_state file s t a (inr b) = absurd (not_both a.snap a.stand.start b.stand.start a.stand.snapshot (subst (λ (x : List ℕ). SpellsState1 x b.stand.start) (same_snap _ _ _ _ _ b.holds a.holds) b.stand.snapshot))
 
@@ -188,7 +188,7 @@ is_session disk snap records lawful holds other = elim other [
 ]
 
 -- no state behind the pair that was opened
-pub refuses_pair : (old new : DiskState) (snap : List ℕ) (records : List (List ℕ)) → IsLawful old → Opens old new snap records → ((v : Bool) (s : Flat) → RecordsStandFor v snap records s → ⊥) → RefusesSession Damaged old × Rests old new
+pub refuses_pair : (old new : DiskState) (snap : List ℕ) (records : List (List ℕ)) → IsLawful old → Opens old new snap records → ((v : Bool) (s : BenchState) → RecordsStandFor v snap records s → ⊥) → RefusesSession Damaged old × AddsNoImage old new
 refuses_pair old new snap records lawful opened none = (
   (
     is_session old snap records lawful opened.holds,
@@ -203,20 +203,20 @@ refuses_store Damaged disk h = (h.0, λ s. ⊎_elim (λ stands. h.1 stands.snap 
 refuses_store Device disk h = tt
 refuses_store NoMemory disk h = tt
 
-pub left_store : (fault : OpenFault) (old new : DiskState) → Rests old new → LeftRefused fault old new
+pub left_store : (fault : OpenFault) (old new : DiskState) → AddsNoImage old new → LeftRefused fault old new
 left_store NotASession old new h = h
 left_store Damaged old new h = h
 left_store Device old new h = inl h
 left_store NoMemory old new h = h
 
 -- what `begin` did with a log that was opened
-pub opened_by : (v : Bool) (old mid new : DiskState) (snap : List ℕ) (records : List (List ℕ)) (cycles : ℕ) (s : Flat) → IsLawful new → Opens old mid snap records → IsReplayed v snap records cycles s
+pub opened_by : (v : Bool) (old mid new : DiskState) (snap : List ℕ) (records : List (List ℕ)) (cycles : ℕ) (s : BenchState) → IsLawful new → Opens old mid snap records → IsReplayed v snap records cycles s
     → (v ≡ false → OpensSession old mid s → OpensSession old new s) → (v ≡ true → Replaced mid new snap records s) → OpensSession old new s
 opened_by false old mid new snap records cycles s lawful opened replayed same replaced = same refl (opened_session old mid snap records cycles s opened replayed)
 opened_by true old mid new snap records cycles s lawful opened replayed same replaced =
     let now = replaced refl in migrated_session old mid new snap records cycles s lawful opened replayed now.moments now.held now.durable
 
-pub failed_by : (v : Bool) (old mid new : DiskState) (snap : List ℕ) (records : List (List ℕ)) (cycles : ℕ) (s : Flat) → v ≡ true → IsLawful new → Opens old mid snap records → IsReplayed v snap records cycles s
+pub failed_by : (v : Bool) (old mid new : DiskState) (snap : List ℕ) (records : List (List ℕ)) (cycles : ℕ) (s : BenchState) → v ≡ true → IsLawful new → Opens old mid snap records → IsReplayed v snap records cycles s
     → MayReplace mid new snap records s → FailsMigrating old new
 failed_by false old mid new snap records cycles s e lawful opened replayed moments = absurd (cc)
 failed_by true old mid new snap records cycles s e lawful opened replayed moments = fails_migrating old mid new snap records cycles s lawful opened replayed moments
@@ -224,7 +224,7 @@ failed_by true old mid new snap records cycles s e lawful opened replayed moment
 pub refused_by : (fault : OpenFault) (old new : DiskState) → fault ≡ Device → FailsMigrating old new → RefusesSession fault old × LeftRefused fault old new
 refused_by fault old new e fails = rw e (tt, inr fails)
 
-pub counts_both : (old mid new : DiskState) (P : Type 0) → Counts old mid ⊥ → Counts mid new P → Counts old new P
+pub counts_both : (old mid new : DiskState) (P : Type 0) → CountsFault old mid ⊥ → CountsFault mid new P → CountsFault old new P
 counts_both old mid new P a b = record {
   size = b.size ∙ a.size;
   honest = (λ h. a.honest.0 (b.honest.0 h), λ h. b.honest.1 (a.honest.1 h));
@@ -232,32 +232,32 @@ counts_both old mid new P a b = record {
   no_fault = λ no. b.no_fault no ∙ a.no_fault (λ x. x);
 }
 
-pub recorded_by : (v : Bool) (old new : DiskState) (snap : List ℕ) (records : List (List ℕ)) (cycles : ℕ) (s : Flat) → v ≡ false → Opens old new snap records → IsReplayed v snap records cycles s → IsRecorded new cycles s
+pub recorded_by : (v : Bool) (old new : DiskState) (snap : List ℕ) (records : List (List ℕ)) (cycles : ℕ) (s : BenchState) → v ≡ false → Opens old new snap records → IsReplayed v snap records cycles s → IsRecorded new cycles s
 recorded_by false old new snap records cycles s e opened replayed = recorded_opened old new snap records cycles s opened replayed
 recorded_by true old new snap records cycles s e opened replayed = absurd (cc)
 
 -- by version 1 a file stands for at most one state
-pub one_first : (file : List ℕ) (s t : Flat) → StandsForLifted file s → StandsForLifted file t → s ≡ t
+pub one_first : (file : List ℕ) (s t : BenchState) → StandsForLifted file s → StandsForLifted file t → s ≡ t
 one_first file s t a b = same_pair_state true a.snap b.snap a.records b.records s t (same_snap _ _ _ _ _ a.holds b.holds) (same_pair _ _ _ _ _ a.holds b.holds) (first_of file a.snap a.records s a.holds a) (first_of file b.snap b.records t b.holds b)
 
 -- by either version a file stands for at most one state
-pub one_either : (file : List ℕ) (s t : Flat) → StandsByEither file s → StandsByEither file t → s ≡ t
+pub one_either : (file : List ℕ) (s t : BenchState) → StandsByEither file s → StandsByEither file t → s ≡ t
 one_either file s t (inl a) b = one_state file s t a b
 one_either file s t (inr a) (inl b) = sym (one_state file t s b (inr a))
 one_either file s t (inr a) (inr b) = one_first file s t a b
 
 -- a disk whose every image stands for a state by version 1
-pub stays_first : (old new : DiskState) (s u : Flat) → MayMigrate old new u → u ≡ s → ((image : List ℕ) → old.since old.clock image → StandsForLifted image s) → (image : List ℕ) → new.since old.clock image → StandsByEither image s
-stays_first old new s u moments same each image left = ⊎_elim (λ before. inr (each image before)) (λ now. subst (λ (x : Flat). StandsByEither image x) same now) (moments.each image left)
+pub stays_first : (old new : DiskState) (s u : BenchState) → MayMigrate old new u → u ≡ s → ((image : List ℕ) → old.since old.clock image → StandsForLifted image s) → (image : List ℕ) → new.since old.clock image → StandsByEither image s
+stays_first old new s u moments same each image left = ⊎_elim (λ before. inr (each image before)) (λ now. subst (λ (x : BenchState). StandsByEither image x) same now) (moments.each image left)
 
-pub opens_first : (old new : DiskState) (s u : Flat) → IsLawful old → ((image : List ℕ) → old.since old.clock image → StandsForLifted image s) → OpensSession old new u
+pub opens_first : (old new : DiskState) (s u : BenchState) → IsLawful old → ((image : List ℕ) → old.since old.clock image → StandsForLifted image s) → OpensSession old new u
     → (u ≡ s) × (HoldsState new.bytes s × ((image : List ℕ) → new.since old.clock image → StandsByEither image s))
 opens_first old new s u lawful each opens =
     let here : StandsForLifted old.bytes s = each old.bytes (lawful.counts_now old.clock old.bytes (omega arith) lawful.current) in
     let same : u ≡ s = one_either old.bytes u s opens.stands (inr here) in
     (same, (subst (HoldsState new.bytes) same (opens.migrated (subst (StandsForLifted old.bytes) (sym same) here)), stays_first old new s u opens.moments same each))
 
-pub fails_first : (old new : DiskState) (s : Flat) → IsLawful old → ((image : List ℕ) → old.since old.clock image → StandsForLifted image s) → FailsMigrating old new
+pub fails_first : (old new : DiskState) (s : BenchState) → IsLawful old → ((image : List ℕ) → old.since old.clock image → StandsForLifted image s) → FailsMigrating old new
     → (image : List ℕ) → new.since old.clock image → StandsByEither image s
 fails_first old new s lawful each fails =
     let here : StandsForLifted old.bytes s = each old.bytes (lawful.counts_now old.clock old.bytes (omega arith) lawful.current) in

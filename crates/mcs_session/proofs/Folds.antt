@@ -1,12 +1,12 @@
 -- Commands in turn, cut in two.
 use Rattle.std.proofs.Common.{◌≡◌, List, [], ◌∷◌, ◌++◌, ap, sym, ◌∙◌, refl}
 use Rattle.mcs_model.specs.declared.command.Command.{Command}
-use Rattle.mcs_model.specs.Flat.{Flat}
+use Rattle.mcs_model.specs.BenchState.{BenchState}
 use Rattle.mcs_model.specs.Command.{after}
 use Rattle.mcs_model.specs.Fold.{fold}
 use Rattle.mcs_session.specs.Standing.{Standing, standing_after}
 
-pub fold-append : (s : Flat) (cs ds : List Command) → fold s (cs ++ ds) ≡ fold (fold s cs) ds
+pub fold-append : (s : BenchState) (cs ds : List Command) → fold s (cs ++ ds) ≡ fold (fold s cs) ds
 fold-append s [] ds = refl
 fold-append s (c ∷ cs) ds = fold-append (after s c) cs ds
 

@@ -2,10 +2,10 @@
 use Rattle.std.proofs.Common.{◌≡◌, ◌⊎◌, inl, inr, ◌+◌, ◌≤◌, ⊎_elim, ℕ, IsTrue, List, [], ◌∷◌, ◌++◌, length, sym, ap, ◌∙◌, refl, subst, arith, length-append}
 use Rattle.std.proofs.lemmas.Bool.{cases_lt}
 use Rattle.mcs_disk.specs.Disk.{DiskState, IsLawful}
-use Rattle.mcs_disk.specs.Moments.{LeavesOnly, GoesOn, Stays}
+use Rattle.mcs_disk.specs.Moments.{LeavesOnly, KeepsEarlierImages, IsUntouched}
 use Rattle.mcs_disk.proofs.Composing.{leaves_then}
 use Rattle.mcs_model.specs.declared.command.Command.{Command}
-use Rattle.mcs_model.specs.Flat.{Flat}
+use Rattle.mcs_model.specs.BenchState.{BenchState}
 use Rattle.mcs_model.specs.Command.{after}
 use Rattle.mcs_model.specs.Fold.{fold}
 use Rattle.mcs_session.specs.Stands.{StandsFor, IsAt}
@@ -18,7 +18,7 @@ use Rattle.mcs_session.proofs.Prefixes.{acknowledged-append, acknowledged_all, a
 -- ---- two runs
 
 -- the images since a time of the first run, and those since a time of the second
-each_more : (d e f : DiskState) (s t : Flat) (cs done ds : List Command) (a : KeptWhole d e s cs) → t ≡ fold s cs → (b : Kept e f t done ds)
+each_more : (d e f : DiskState) (s t : BenchState) (cs done ds : List Command) (a : KeptWhole d e s cs) → t ≡ fold s cs → (b : Kept e f t done ds)
     → (u : ℕ) (image : List ℕ) → d.clock ≤ u → f.since u image → StandsForPrefix s (cs ++ ds) (acknowledged_by u (a.kept.moments ++ b.moments)) image
 each_more d e f s t cs done ds a same b u image le now =
     let both = acknowledged-append u a.kept.moments b.moments in
@@ -35,7 +35,7 @@ each_more d e f s t cs done ds a same b u image le now =
           ]
     ]
 
-pub kept_more : (d e f : DiskState) (s t : Flat) (cs done ds : List Command) → KeptWhole d e s cs → t ≡ fold s cs → Kept e f t done ds → Kept d f s (cs ++ done) (cs ++ ds)
+pub kept_more : (d e f : DiskState) (s t : BenchState) (cs done ds : List Command) → KeptWhole d e s cs → t ≡ fold s cs → Kept e f t done ds → Kept d f s (cs ++ done) (cs ++ ds)
 kept_more d e f s t cs done ds a same b =
     let last : last_moment d.clock a.kept.moments ≡ e.clock = sym a.now in
     let P : ℕ → Type 0 = λ c. IsSpaced c b.moments in
@@ -51,7 +51,7 @@ kept_more d e f s t cs done ds a same b =
       lawful = b.lawful;
     }
 
-pub whole_more : (d e f : DiskState) (s t : Flat) (cs ds : List Command) → KeptWhole d e s cs → t ≡ fold s cs → KeptWhole e f t ds → KeptWhole d f s (cs ++ ds)
+pub whole_more : (d e f : DiskState) (s t : BenchState) (cs ds : List Command) → KeptWhole d e s cs → t ≡ fold s cs → KeptWhole e f t ds → KeptWhole d f s (cs ++ ds)
 unfolding kept_more
 whole_more d e f s t cs ds a same b = record {
   kept = kept_more d e f s t cs ds ds a same b.kept;
@@ -59,7 +59,7 @@ whole_more d e f s t cs ds a same b = record {
 }
 
 -- after a run in which no call failed
-pub settled_after : (d e : DiskState) (s t : Flat) (cs : List Command) → t ≡ fold s cs → KeptWhole d e s cs → IsSettledAt e t
+pub settled_after : (d e : DiskState) (s t : BenchState) (cs : List Command) → t ≡ fold s cs → KeptWhole d e s cs → IsSettledAt e t
 settled_after d e s t cs same a = record {
   at = λ image now.
       let behind = spaced_le d.clock a.kept.moments a.kept.spaced in
@@ -70,12 +70,12 @@ settled_after d e s t cs same a = record {
   lawful = a.kept.lawful;
 }
 
-pub settle : (d : DiskState) (s : Flat) → IsLawful d → IsAt d s → IsSettledAt d s
+pub settle : (d : DiskState) (s : BenchState) → IsLawful d → IsAt d s → IsSettledAt d s
 settle d s lawful at = record { at = at; lawful = lawful }
 
 -- ---- no command
 
-goes_nowhere : (d e : DiskState) → Stays d e → GoesOn d e
+goes_nowhere : (d e : DiskState) → IsUntouched d e → KeepsEarlierImages d e
 goes_nowhere d e a = record {
   later = omega (arith, a.clock);
   each = λ image now. tt;
@@ -83,10 +83,10 @@ goes_nowhere d e a = record {
   keeps = λ u image early now. (a.since u image).1 now;
 }
 
-stays : (d : DiskState) → Stays d d
+stays : (d : DiskState) → IsUntouched d d
 stays d = record { bytes = refl; clock = refl; images = λ image. (λ now. now, λ now. now); since = λ u image. (λ now. now, λ now. now) }
 
-pub stays_keeps : (d e : DiskState) (s : Flat) → Stays d e → IsSettledAt d s → IsLawful e → KeptWhole d e s []
+pub stays_keeps : (d e : DiskState) (s : BenchState) → IsUntouched d e → IsSettledAt d s → IsLawful e → KeptWhole d e s []
 stays_keeps d e s a h lawful = record {
   kept = record {
     moments = [];
@@ -100,7 +100,7 @@ stays_keeps d e s a h lawful = record {
   now = a.clock;
 }
 
-pub whole_nothing : (d : DiskState) (s : Flat) → IsSettledAt d s → KeptWhole d d s []
+pub whole_nothing : (d : DiskState) (s : BenchState) → IsSettledAt d s → KeptWhole d d s []
 whole_nothing d s h = stays_keeps d d s (stays d) h h.lawful
 
 -- ---- sessions
@@ -127,14 +127,14 @@ carries_more a b c cs ds x y = record {
 -- ---- one command
 
 -- a stretch, whatever it leaves
-goes_on : (d e : DiskState) (P : List ℕ → Type 0) → LeavesOnly d e P → GoesOn d e
+goes_on : (d e : DiskState) (P : List ℕ → Type 0) → LeavesOnly d e P → KeepsEarlierImages d e
 goes_on d e P a = record { later = a.later; each = λ image now. tt; before = a.before; keeps = a.keeps }
 
 -- four or eight steps
 spaced_by : (d e : DiskState) (c : Command) → Ticks d e c → (e.clock ≡ d.clock + 4) ⊎ (e.clock ≡ d.clock + 8)
 spaced_by d e c ticks = elim ticks [ inl room ↦ inl room.1 | inr none ↦ inr none.1 ]
 
-pub acknowledged_keeps : (d e : DiskState) (s : Flat) (c : Command) → Acknowledges d e s c → IsLawful e → KeptWhole d e s (c ∷ [])
+pub acknowledged_keeps : (d e : DiskState) (s : BenchState) (c : Command) → Acknowledges d e s c → IsLawful e → KeptWhole d e s (c ∷ [])
 acknowledged_keeps d e s c a lawful = record {
   kept = record {
     moments = e.clock ∷ [];
@@ -156,7 +156,7 @@ acknowledged_keeps d e s c a lawful = record {
   now = refl;
 }
 
-pub failed_keeps : (d e : DiskState) (s : Flat) (c : Command) → MayLeave d e s (after s c) → IsLawful e → Kept d e s [] (c ∷ [])
+pub failed_keeps : (d e : DiskState) (s : BenchState) (c : Command) → MayLeave d e s (after s c) → IsLawful e → Kept d e s [] (c ∷ [])
 failed_keeps d e s c a lawful = record {
   moments = [];
   count = refl;

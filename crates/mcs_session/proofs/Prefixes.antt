@@ -5,7 +5,7 @@ use Rattle.std.proofs.lemmas.Grind.{common_steps}
 use Rattle.std.proofs.lemmas.List.Sums.{count_by-le-length, sum_by-append, sum_by-cons}
 use Rattle.std.proofs.Math.Seq.{take-append-add}
 use Rattle.mcs_model.specs.declared.command.Command.{Command}
-use Rattle.mcs_model.specs.Flat.{Flat}
+use Rattle.mcs_model.specs.BenchState.{BenchState}
 use Rattle.mcs_model.specs.Fold.{fold}
 use Rattle.mcs_session.specs.Kept.{IsAfterPrefix, IsSpaced, StandsForPrefix, acknowledged_by, last_moment}
 use Rattle.mcs_session.specs.Stands.{StandsFor}
@@ -91,7 +91,7 @@ take_all : (cs : List Command) (n : ℕ) → length cs ≤ n → take n cs ≡ c
 take_all cs n h = grind (arith, common_steps)
 
 -- a prefix of the first commands
-after_more : (s : Flat) (cs ds : List Command) (j : ℕ) (t : Flat) → IsAfterPrefix s cs j t → IsAfterPrefix s (cs ++ ds) j t
+after_more : (s : BenchState) (cs ds : List Command) (j : ℕ) (t : BenchState) → IsAfterPrefix s cs j t → IsAfterPrefix s (cs ++ ds) j t
 after_more s cs ds j t h = record {
   count = h.count;
   at_least = h.at_least;
@@ -100,35 +100,35 @@ after_more s cs ds j t h = record {
 }
 
 -- a prefix of the later ones, after all of the first
-after_past : (s t : Flat) (cs ds : List Command) (i j : ℕ) (u : Flat) → t ≡ fold s cs → i ≤ length cs + j → IsAfterPrefix t ds j u → IsAfterPrefix s (cs ++ ds) i u
+after_past : (s t : BenchState) (cs ds : List Command) (i j : ℕ) (u : BenchState) → t ≡ fold s cs → i ≤ length cs + j → IsAfterPrefix t ds j u → IsAfterPrefix s (cs ++ ds) i u
 after_past s t cs ds i j u e few h = record {
   count = length cs + h.count;
   at_least = omega (arith, few, h.at_least);
   at_most = omega (arith, h.at_most, length-append cs ds);
-  state = h.state ∙ ap (λ (v : Flat). fold v (take h.count ds)) e ∙ sym (fold-append s cs (take h.count ds)) ∙ ap (fold s) (sym (take_past cs ds h.count));
+  state = h.state ∙ ap (λ (v : BenchState). fold v (take h.count ds)) e ∙ sym (fold-append s cs (take h.count ds)) ∙ ap (fold s) (sym (take_past cs ds h.count));
 }
 
-after_fewer : (s : Flat) (cs : List Command) (i j : ℕ) (t : Flat) → i ≤ j → IsAfterPrefix s cs j t → IsAfterPrefix s cs i t
+after_fewer : (s : BenchState) (cs : List Command) (i j : ℕ) (t : BenchState) → i ≤ j → IsAfterPrefix s cs j t → IsAfterPrefix s cs i t
 after_fewer s cs i j t le h = record { count = h.count; at_least = omega (arith, le, h.at_least); at_most = h.at_most; state = h.state }
 
-pub prefix_more : (s : Flat) (cs ds : List Command) (j : ℕ) (file : List ℕ) → StandsForPrefix s cs j file → StandsForPrefix s (cs ++ ds) j file
+pub prefix_more : (s : BenchState) (cs ds : List Command) (j : ℕ) (file : List ℕ) → StandsForPrefix s cs j file → StandsForPrefix s (cs ++ ds) j file
 prefix_more s cs ds j file h = record { state = h.state; stands = h.stands; after = after_more s cs ds j h.state h.after }
 
-pub prefix_past : (s t : Flat) (cs ds : List Command) (i j : ℕ) (file : List ℕ) → t ≡ fold s cs → i ≤ length cs + j → StandsForPrefix t ds j file → StandsForPrefix s (cs ++ ds) i file
+pub prefix_past : (s t : BenchState) (cs ds : List Command) (i j : ℕ) (file : List ℕ) → t ≡ fold s cs → i ≤ length cs + j → StandsForPrefix t ds j file → StandsForPrefix s (cs ++ ds) i file
 prefix_past s t cs ds i j file e few h = record { state = h.state; stands = h.stands; after = after_past s t cs ds i j h.state e few h.after }
 
-pub prefix_fewer : (s : Flat) (cs : List Command) (i j : ℕ) (file : List ℕ) → i ≤ j → StandsForPrefix s cs j file → StandsForPrefix s cs i file
+pub prefix_fewer : (s : BenchState) (cs : List Command) (i j : ℕ) (file : List ℕ) → i ≤ j → StandsForPrefix s cs j file → StandsForPrefix s cs i file
 prefix_fewer s cs i j file le h = record { state = h.state; stands = h.stands; after = after_fewer s cs i j h.state le h.after }
 
 -- a prefix that holds all
-pub prefix_all : (s : Flat) (cs : List Command) (j : ℕ) (file : List ℕ) → length cs ≤ j → StandsForPrefix s cs j file → StandsFor file (fold s cs)
+pub prefix_all : (s : BenchState) (cs : List Command) (j : ℕ) (file : List ℕ) → length cs ≤ j → StandsForPrefix s cs j file → StandsFor file (fold s cs)
 prefix_all s cs j file all h =
     let same : h.state ≡ fold s cs = h.after.state ∙ ap (fold s) (take_all cs h.after.count (omega (arith, all, h.after.at_least))) in
     rw (← same) h.stands
 
 -- the first command was not done yet, or was
-pub prefix_none : (s : Flat) (cs : List Command) (file : List ℕ) → StandsFor file s → StandsForPrefix s cs 0 file
+pub prefix_none : (s : BenchState) (cs : List Command) (file : List ℕ) → StandsFor file s → StandsForPrefix s cs 0 file
 prefix_none s cs file h = record { state = s; stands = h; after = record { count = 0; at_least = omega arith; at_most = omega arith; state = refl } }
 
-pub prefix_one : (s t : Flat) (c : Command) (j : ℕ) (file : List ℕ) → t ≡ fold s (c ∷ []) → j ≤ 1 → StandsFor file t → StandsForPrefix s (c ∷ []) j file
+pub prefix_one : (s t : BenchState) (c : Command) (j : ℕ) (file : List ℕ) → t ≡ fold s (c ∷ []) → j ≤ 1 → StandsFor file t → StandsForPrefix s (c ∷ []) j file
 prefix_one s t c j file e le h = record { state = t; stands = h; after = record { count = 1; at_least = le; at_most = omega arith; state = e } }

@@ -4,7 +4,7 @@ use Rattle.std.proofs.lemmas.List.{take_more}
 use Rattle.std.proofs.lemmas.List.Sums.{sum_by-cons, sum_by_push}
 use Rattle.std.proofs.lemmas.Option.{slice_get_within, get_or_from_slice_get}
 use Rattle.mcs_model.specs.declared.command.Command.{Command}
-use Rattle.mcs_model.specs.Flat.{Flat}
+use Rattle.mcs_model.specs.BenchState.{BenchState}
 use Rattle.mcs_model.specs.Command.{refusal, after}
 use Rattle.mcs_model.specs.Fold.{fold}
 use Rattle.mcs_codec.specs.Codec.{Spells, SpellsBy, SpellsStateBy, is_first}
@@ -22,18 +22,18 @@ spelled false r c h = h
 spelled true r c h = h.0
 
 -- a snapshot spells one state at most
-same_start : (v : Bool) (snap : List ℕ) (s t : Flat) → SpellsStateBy v snap s → SpellsStateBy v snap t → s ≡ t
+same_start : (v : Bool) (snap : List ℕ) (s t : BenchState) → SpellsStateBy v snap s → SpellsStateBy v snap t → s ≡ t
 same_start v snap s t a b = (same_state snap v v s t a b).1
 
 -- one more
-pub replays-more : (v : Bool) (s : Flat) (rs : List (List ℕ)) (cs : List Command) (r : List ℕ) (c : Command) → Replays v s rs cs → SpellsBy v r c → refusal (fold s cs) c ≡ None → Replays v s (rs ++ r ∷ []) (cs ++ c ∷ [])
+pub replays-more : (v : Bool) (s : BenchState) (rs : List (List ℕ)) (cs : List Command) (r : List ℕ) (c : Command) → Replays v s rs cs → SpellsBy v r c → refusal (fold s cs) c ≡ None → Replays v s (rs ++ r ∷ []) (cs ++ c ∷ [])
 replays-more v s [] [] r c h spells accepted = (spells, accepted, tt)
 replays-more v s [] (d ∷ cs) r c h spells accepted = absurd h
 replays-more v s (q ∷ rs) [] r c h spells accepted = absurd h
 replays-more v s (q ∷ rs) (d ∷ cs) r c h spells accepted = (h.0, h.1, replays-more v (after s d) rs cs r c (h.2) spells accepted)
 
 -- where the next record spells no accepted command, no commands are spelled
-pub no_replay : (v : Bool) (s : Flat) (rs : List (List ℕ)) (cs ds : List Command) (r : List ℕ) (more : List (List ℕ)) → Replays v s rs cs
+pub no_replay : (v : Bool) (s : BenchState) (rs : List (List ℕ)) (cs ds : List Command) (r : List ℕ) (more : List (List ℕ)) → Replays v s rs cs
     → ((c : Command) → SpellsBy v r c → refusal (fold s cs) c ≡ None → ⊥) → Replays v s (rs ++ r ∷ more) ds → ⊥
 no_replay v s [] [] [] r more h none k = k
 no_replay v s [] [] (d ∷ ds) r more h none k = none d k.0 k.1
@@ -45,7 +45,7 @@ no_replay v s (q ∷ rs) (c ∷ cs) (d ∷ ds) r more h none k =
     no_replay v (after s c) rs cs ds r more (h.2) none (subst (λ (x : Command). Replays v (after s x) (rs ++ r ∷ more) ds) same (k.2))
 
 -- records spell one list of commands at most
-pub same_commands : (v : Bool) (s : Flat) (rs : List (List ℕ)) (cs ds : List Command) → Replays v s rs cs → Replays v s rs ds → cs ≡ ds
+pub same_commands : (v : Bool) (s : BenchState) (rs : List (List ℕ)) (cs ds : List Command) → Replays v s rs cs → Replays v s rs ds → cs ≡ ds
 same_commands v s [] [] [] h k = refl
 same_commands v s [] [] (d ∷ ds) h k = absurd k
 same_commands v s [] (c ∷ cs) ds h k = absurd h
@@ -57,18 +57,18 @@ same_commands v s (q ∷ rs) (c ∷ cs) (d ∷ ds) h k =
     rw (same, rest) refl
 
 -- the same snapshot and the same records stand for one list of commands
-pub same_list : (v : Bool) (snap other : List ℕ) (records more : List (List ℕ)) (s t : Flat) → snap ≡ other → records ≡ more → (a : RecordsStandFor v snap records s) (b : RecordsStandFor v other more t)
+pub same_list : (v : Bool) (snap other : List ℕ) (records more : List (List ℕ)) (s t : BenchState) → snap ≡ other → records ≡ more → (a : RecordsStandFor v snap records s) (b : RecordsStandFor v other more t)
     → (a.start ≡ b.start) × (a.commands ≡ b.commands)
 same_list v snap other records more s t e f a b =
     let start : a.start ≡ b.start = same_start v snap a.start b.start a.snapshot (subst (λ (x : List ℕ). SpellsStateBy v x b.start) (sym e) b.snapshot) in
-    let replays : Replays v a.start records b.commands = subst (λ (x : Flat). Replays v x records b.commands) (sym start) (subst (λ (x : List (List ℕ)). Replays v b.start x b.commands) (sym f) b.replays) in
+    let replays : Replays v a.start records b.commands = subst (λ (x : BenchState). Replays v x records b.commands) (sym start) (subst (λ (x : List (List ℕ)). Replays v b.start x b.commands) (sym f) b.replays) in
     (start, same_commands v a.start records a.commands b.commands a.replays replays)
 
 -- and so for one state
-pub same_pair_state : (v : Bool) (snap other : List ℕ) (records more : List (List ℕ)) (s t : Flat) → snap ≡ other → records ≡ more → RecordsStandFor v snap records s → RecordsStandFor v other more t → s ≡ t
+pub same_pair_state : (v : Bool) (snap other : List ℕ) (records more : List (List ℕ)) (s t : BenchState) → snap ≡ other → records ≡ more → RecordsStandFor v snap records s → RecordsStandFor v other more t → s ≡ t
 same_pair_state v snap other records more s t e f a b =
     let same = same_list v snap other records more s t e f a b in
-    a.state ∙ ap (fold a.start) same.1 ∙ ap (λ (x : Flat). fold x b.commands) same.0 ∙ sym b.state
+    a.state ∙ ap (fold a.start) same.1 ∙ ap (λ (x : BenchState). fold x b.commands) same.0 ∙ sym b.state
 
 -- the i-th of these, and what follows it
 pub one_at : {A : Type 0} (xs : List A) (r : A) (i : ℕ) → slice_get xs i ≡ Some r → (more : List A) × (xs ≡ take i xs ++ r ∷ more)
@@ -80,20 +80,20 @@ one_at xs r i e =
 pub one_more : {A : Type 0} (xs : List A) (r : A) (i : ℕ) → slice_get xs i ≡ Some r → take (i + 1) xs ≡ take i xs ++ r ∷ []
 one_more xs r i e = take_more xs i r (slice_get_within xs i r e) ∙ ap (λ v. take i xs ++ v ∷ []) (get_or_from_slice_get xs i r r e)
 
-pub no_pair : (v : Bool) (snap : List ℕ) (records : List (List ℕ)) (r : List ℕ) (i : ℕ) (s t : Flat) → slice_get records i ≡ Some r → RecordsStandFor v snap (take i records) s
+pub no_pair : (v : Bool) (snap : List ℕ) (records : List (List ℕ)) (r : List ℕ) (i : ℕ) (s t : BenchState) → slice_get records i ≡ Some r → RecordsStandFor v snap (take i records) s
     → ((c : Command) → SpellsBy v r c → refusal s c ≡ None → ⊥) → RecordsStandFor v snap records t → ⊥
 no_pair v snap records r i s t e a none b =
     let start = same_start v snap b.start a.start b.snapshot a.snapshot in
-    let replays : Replays v a.start records b.commands = subst (λ (x : Flat). Replays v x records b.commands) start b.replays in
+    let replays : Replays v a.start records b.commands = subst (λ (x : BenchState). Replays v x records b.commands) start b.replays in
     let split = one_at records r i e in
     let whole : Replays v a.start (take i records ++ r ∷ split.0) b.commands = subst (λ (x : List (List ℕ)). Replays v a.start x b.commands) split.1 replays in
     no_replay v a.start (take i records) a.commands b.commands r (split.0) a.replays
-    (λ c spells accepted. none c spells (subst (λ (x : Flat). refusal x c ≡ None) (sym a.state) accepted)) whole
+    (λ c spells accepted. none c spells (subst (λ (x : BenchState). refusal x c ≡ None) (sym a.state) accepted)) whole
 
 -- ---- the cycles of a log
 
 -- commands that begin with these and this one count no less
-front_cycles : (v : Bool) (s : Flat) (rs : List (List ℕ)) (cs ds : List Command) (r : List ℕ) (c : Command) (more : List (List ℕ)) → Replays v s rs cs → SpellsBy v r c → Replays v s (rs ++ r ∷ more) ds
+front_cycles : (v : Bool) (s : BenchState) (rs : List (List ℕ)) (cs ds : List Command) (r : List ℕ) (c : Command) (more : List (List ℕ)) → Replays v s rs cs → SpellsBy v r c → Replays v s (rs ++ r ∷ more) ds
     → log_cycles cs + replay_cycles c ≤ log_cycles ds
 front_cycles v s [] [] [] r c more h spells k = absurd k
 front_cycles v s [] [] (d ∷ ds) r c more h spells k =
@@ -110,11 +110,11 @@ front_cycles v s (q ∷ rs) (d ∷ cs) (e ∷ ds) r c more h spells k =
     let right = sum_by-cons replay_cycles e ds in omega (arith, rest, one, left, right)
 
 -- where the cycles of the next command are too many, there is no state behind the records
-pub too_long : (v : Bool) (snap : List ℕ) (records : List (List ℕ)) (r : List ℕ) (i cycles : ℕ) (s t : Flat) (c : Command) → slice_get records i ≡ Some r → IsReplayed v snap (take i records) cycles s
+pub too_long : (v : Bool) (snap : List ℕ) (records : List (List ℕ)) (r : List ℕ) (i cycles : ℕ) (s t : BenchState) (c : Command) → slice_get records i ≡ Some r → IsReplayed v snap (take i records) cycles s
     → SpellsBy v r c → REPLAY_CYCLES < cycles + replay_cycles c → RecordsStandFor v snap records t → ⊥
 too_long v snap records r i cycles s t c e a spells over b =
     let start = same_start v snap b.start a.stand.start b.snapshot a.stand.snapshot in
-    let replays : Replays v a.stand.start records b.commands = subst (λ (x : Flat). Replays v x records b.commands) start b.replays in
+    let replays : Replays v a.stand.start records b.commands = subst (λ (x : BenchState). Replays v x records b.commands) start b.replays in
     let split = one_at records r i e in
     let whole : Replays v a.stand.start (take i records ++ r ∷ split.0) b.commands = subst (λ (x : List (List ℕ)). Replays v a.stand.start x b.commands) split.1 replays in
     let least = front_cycles v a.stand.start (take i records) a.stand.commands b.commands r c (split.0) a.stand.replays spells whole in
@@ -123,18 +123,18 @@ too_long v snap records r i cycles s t c e a spells over b =
     let none : ⊥ = omega (arith, least, count, bounded, over) in none
 
 -- one more record
-pub pair_more : (v : Bool) (snap r : List ℕ) (records : List (List ℕ)) (s : Flat) (c : Command) (p : RecordsStandFor v snap records s) → SpellsBy v r c → refusal s c ≡ None
+pub pair_more : (v : Bool) (snap r : List ℕ) (records : List (List ℕ)) (s : BenchState) (c : Command) (p : RecordsStandFor v snap records s) → SpellsBy v r c → refusal s c ≡ None
     → log_cycles p.commands + replay_cycles c ≤ REPLAY_CYCLES → RecordsStandFor v snap (records ++ r ∷ []) (after s c)
 pair_more v snap r records s c p spells accepted room = record {
   start = p.start;
   snapshot = p.snapshot;
   commands = p.commands ++ c ∷ [];
-  replays = replays-more v p.start records p.commands r c p.replays spells (subst (λ (t : Flat). refusal t c ≡ None) p.state accepted);
+  replays = replays-more v p.start records p.commands r c p.replays spells (subst (λ (t : BenchState). refusal t c ≡ None) p.state accepted);
   bounded = let whole = sum_by_push replay_cycles p.commands c in omega (arith, whole, room);
-  state = ap (λ (t : Flat). after t c) p.state ∙ sym (fold-append p.start p.commands (c ∷ []));
+  state = ap (λ (t : BenchState). after t c) p.state ∙ sym (fold-append p.start p.commands (c ∷ []));
 }
 
-pub replayed_more : (v : Bool) (snap r : List ℕ) (records : List (List ℕ)) (cycles more : ℕ) (s : Flat) (c : Command) → IsReplayed v snap records cycles s → SpellsBy v r c → refusal s c ≡ None
+pub replayed_more : (v : Bool) (snap r : List ℕ) (records : List (List ℕ)) (cycles more : ℕ) (s : BenchState) (c : Command) → IsReplayed v snap records cycles s → SpellsBy v r c → refusal s c ≡ None
     → more ≡ replay_cycles c → cycles + more ≤ REPLAY_CYCLES → IsReplayed v snap (records ++ r ∷ []) (cycles + more) (after s c)
 unfolding pair_more
 replayed_more v snap r records cycles more s c p spells accepted is room =
@@ -145,7 +145,7 @@ replayed_more v snap r records cycles more s c p spells accepted is room =
     }
 
 -- none yet
-pub replayed_none : (v : Bool) (snap : List ℕ) (s : Flat) → SpellsStateBy v snap s → IsReplayed v snap [] 0 s
+pub replayed_none : (v : Bool) (snap : List ℕ) (s : BenchState) → SpellsStateBy v snap s → IsReplayed v snap [] 0 s
 replayed_none v snap s spells = record {
   stand = record { start = s; snapshot = spells; commands = []; replays = tt; bounded = omega arith; state = refl };
   count = refl;
@@ -162,5 +162,5 @@ spells_has false r c h = refl
 spells_has true r c h = h.1
 
 -- records of a version are those of the version that their snapshot tells
-pub at_version : (v first : Bool) (snap : List ℕ) (records : List (List ℕ)) (s : Flat) → first ≡ is_first snap → RecordsStandFor v snap records s → RecordsStandFor first snap records s
+pub at_version : (v first : Bool) (snap : List ℕ) (records : List (List ℕ)) (s : BenchState) → first ≡ is_first snap → RecordsStandFor v snap records s → RecordsStandFor first snap records s
 at_version v first snap records s e pair = subst (λ w. RecordsStandFor w snap records s) (sym (first_told v snap pair.start pair.snapshot) ∙ sym e) pair

@@ -9,11 +9,11 @@ use Rattle.mcs_journal.proofs.Unique.{same_snap, same_pair}
 use Rattle.mcs_model.specs.declared.command.Command.{Command}
 use Rattle.mcs_model.specs.declared.command.Command.TheVariants.{Wire, Load, Press, Release, Run, Step, Poke, Test, Reset, Break, Unbreak, Watch, Unwatch}
 use Rattle.mcs_model.specs.declared.limits.TheConstants.{REPLAY_CYCLES}
-use Rattle.mcs_model.specs.Flat.{Flat}
+use Rattle.mcs_model.specs.BenchState.{BenchState}
 use Rattle.mcs_model.specs.Command.{refusal, after}
 use Rattle.mcs_session.specs.Answers.{Acknowledges, MayLeave, Ticks}
 use Rattle.mcs_codec.specs.Codec.{Spells, SpellsState}
-use Rattle.mcs_codec.specs.CommandText.{command_text}
+use Rattle.mcs_codec.specs.CommandBytes.{command_bytes}
 use Rattle.mcs_session.specs.Invariant.{HasMadeRoom, IsRecorded, IsReplayed}
 use Rattle.mcs_session.specs.Cycles.{log_cycles, replay_cycles}
 use Rattle.mcs_session.specs.Stands.{HasSpace, StandsFor}
@@ -23,7 +23,7 @@ use Rattle.mcs_session.proofs.Records.{pair_more, replayed_more, same_list}
 -- ---- cycles
 
 -- the cycles of an accepted command are few enough for an empty log
-pub few_cycles : (s : Flat) (c : Command) → refusal s c ≡ None → replay_cycles c ≤ REPLAY_CYCLES
+pub few_cycles : (s : BenchState) (c : Command) → refusal s c ≡ None → replay_cycles c ≤ REPLAY_CYCLES
 few_cycles s (Wire board) h = omega arith
 few_cycles s (Load image) h = omega arith
 few_cycles s (Press row column) h = omega arith
@@ -41,7 +41,7 @@ few_cycles s (Unwatch bank src) h = omega arith
 -- ---- where there is room
 
 -- no call on the disk
-pub leaves_same : (disk : DiskState) (cycles : ℕ) (s : Flat) → IsRecorded disk cycles s → LeavesOnly disk disk (λ file. StandsFor file s)
+pub leaves_same : (disk : DiskState) (cycles : ℕ) (s : BenchState) → IsRecorded disk cycles s → LeavesOnly disk disk (λ file. StandsFor file s)
 leaves_same disk cycles s was = record {
   later = omega arith;
   each = at_of disk s was.durable was.stands;
@@ -49,7 +49,7 @@ leaves_same disk cycles s was = record {
   keeps = λ t c le left. left;
 }
 
-pub room_there : (disk : DiskState) (used bytes more cycles : ℕ) (s : Flat) (was : IsRecorded disk cycles s) → used ≡ length (spelled was.stands.records)
+pub room_there : (disk : DiskState) (used bytes more cycles : ℕ) (s : BenchState) (was : IsRecorded disk cycles s) → used ≡ length (spelled was.stands.records)
     → HasRoom used bytes → cycles + more ≤ REPLAY_CYCLES → HasMadeRoom disk disk bytes more cycles s
 room_there disk used bytes more cycles s was is room few =
     let count = was.count in
@@ -61,7 +61,7 @@ room_there disk used bytes more cycles s was is room few =
 -- ---- where there is none
 
 -- what is kept of the log is what the disk holds
-pub no_space : (disk : DiskState) (used bytes more cycles : ℕ) (s : Flat) (was : IsRecorded disk cycles s) → used ≡ length (spelled was.stands.records)
+pub no_space : (disk : DiskState) (used bytes more cycles : ℕ) (s : BenchState) (was : IsRecorded disk cycles s) → used ≡ length (spelled was.stands.records)
     → (HasRoom used bytes → cycles + more ≤ REPLAY_CYCLES → ⊥) → HasSpace disk.bytes bytes more → ⊥
 no_space disk used bytes more cycles s was is none there =
     let snap = same_snap _ _ _ _ _ there.stands.holds was.stands.holds in
@@ -74,7 +74,7 @@ no_space disk used bytes more cycles s was is none there =
     let few = there.replay in
     none (omega (arith, is, log, room)) (omega (arith, count, replay, few))
 
-pub room_made : (old new : DiskState) (used bytes more cycles : ℕ) (s : Flat) (snap : List ℕ) (was : IsRecorded old cycles s) → used ≡ length (spelled was.stands.records)
+pub room_made : (old new : DiskState) (used bytes more cycles : ℕ) (s : BenchState) (snap : List ℕ) (was : IsRecorded old cycles s) → used ≡ length (spelled was.stands.records)
     → (HasRoom used bytes → cycles + more ≤ REPLAY_CYCLES → ⊥) → SpellsState snap s → Holds new.bytes snap [] → IsDurable new → new.clock ≡ old.clock + 4 → HasMadeRoom old new bytes more 0 s
 room_made old new used bytes more cycles s snap was is none spells held durable ticks = record {
   ticks = inr (no_space old used bytes more cycles s was is none, ticks);
@@ -82,7 +82,7 @@ room_made old new used bytes more cycles s snap was is none spells held durable 
 }
 
 -- until the snapshot is there, the records are
-pub leaves_state : (old new : DiskState) (cycles : ℕ) (s : Flat) (snap : List ℕ) (was : IsRecorded old cycles s) → SpellsState snap s
+pub leaves_state : (old new : DiskState) (cycles : ℕ) (s : BenchState) (snap : List ℕ) (was : IsRecorded old cycles s) → SpellsState snap s
     → LeavesOnly old new (Either (λ c. Holds c was.stands.snap was.stands.records) (λ c. Holds c snap [])) → LeavesOnly old new (λ file. StandsFor file s)
 leaves_state old new cycles s snap was spells moments =
     leaves_map old new (Either (λ c. Holds c was.stands.snap was.stands.records) (λ c. Holds c snap [])) (λ file. StandsFor file s)
@@ -91,11 +91,11 @@ leaves_state old new cycles s snap was spells moments =
 -- ---- the record
 
 -- the record was not begun
-pub leaves_before : (old new : DiskState) (s t : Flat) → LeavesOnly old new (λ file. StandsFor file s) → MayLeave old new s t
+pub leaves_before : (old new : DiskState) (s t : BenchState) → LeavesOnly old new (λ file. StandsFor file s) → MayLeave old new s t
 leaves_before old new s t moments = leaves_map old new (λ file. StandsFor file s) (Either (λ file. StandsFor file s) (λ file. StandsFor file t)) (λ c there. inl there) moments
 
 -- a record is written behind those that are there
-pub appended : (old mid new : DiskState) (cycles : ℕ) (s : Flat) (c : Command) (r : List ℕ) (was : IsRecorded mid cycles s) → Spells r c → refusal s c ≡ None
+pub appended : (old mid new : DiskState) (cycles : ℕ) (s : BenchState) (c : Command) (r : List ℕ) (was : IsRecorded mid cycles s) → Spells r c → refusal s c ≡ None
     → cycles + replay_cycles c ≤ REPLAY_CYCLES → IsLawful new → LeavesOnly old mid (λ file. StandsFor file s)
     → LeavesOnly mid new (Either (λ f. Holds f was.stands.snap was.stands.records) (λ f. Holds f was.stands.snap (was.stands.records ++ r ∷ []))) → MayLeave old new s (after s c)
 appended old mid new cycles s c r was spells accepted few lawful first moments =
@@ -106,7 +106,7 @@ appended old mid new cycles s c r was spells accepted few lawful first moments =
     (λ f. ⊎_elim (λ there. inl (stands_by was.stands.snap was.stands.records s was.stands.stand f there)) (λ here. inr (stands_by was.stands.snap (was.stands.records ++ r ∷ []) (after s c) more f here))) moments)
 
 -- what is recorded then
-pub recorded_more : (old new : DiskState) (cycles more : ℕ) (s : Flat) (c : Command) (r : List ℕ) (was : IsRecorded old cycles s) → Spells r c → refusal s c ≡ None → more ≡ replay_cycles c
+pub recorded_more : (old new : DiskState) (cycles more : ℕ) (s : BenchState) (c : Command) (r : List ℕ) (was : IsRecorded old cycles s) → Spells r c → refusal s c ≡ None → more ≡ replay_cycles c
     → cycles + more ≤ REPLAY_CYCLES → IsDurable new → Holds new.bytes was.stands.snap (was.stands.records ++ r ∷ []) → IsRecorded new (cycles + more) (after s c)
 recorded_more old new cycles more s c r was spells accepted is few durable held =
     let so_far : IsReplayed false was.stands.snap was.stands.records cycles s = record { stand = was.stands.stand; count = was.count } in
@@ -114,7 +114,7 @@ recorded_more old new cycles more s c r was spells accepted is few durable held 
     record { durable = durable; stands = record { snap = was.stands.snap; records = was.stands.records ++ r ∷ []; holds = held; stand = replayed.stand }; count = replayed.count }
 
 -- the steps of both
-pub ticked : (old mid new : DiskState) (bytes more cycles : ℕ) (s : Flat) (c : Command) → bytes ≡ length (command_text c) → more ≡ replay_cycles c
+pub ticked : (old mid new : DiskState) (bytes more cycles : ℕ) (s : BenchState) (c : Command) → bytes ≡ length (command_bytes c) → more ≡ replay_cycles c
     → HasMadeRoom old mid bytes more cycles s → new.clock ≡ mid.clock + 4 → Ticks old new c
 ticked old mid new bytes more cycles s c is_long is_more made tick =
     elim made.ticks [
@@ -126,5 +126,5 @@ ticked old mid new bytes more cycles s c is_long is_more made tick =
           inr (λ room. none.0 (subst (λ (n : ℕ). HasSpace old.bytes bytes n) (sym is_more) (subst (λ (n : ℕ). HasSpace old.bytes n (replay_cycles c)) (sym is_long) room)), omega (arith, tick, four))
     ]
 
-pub acknowledged : (old new : DiskState) (cycles : ℕ) (s : Flat) (c : Command) → MayLeave old new s (after s c) → Ticks old new c → IsRecorded new cycles (after s c) → Acknowledges old new s c
+pub acknowledged : (old new : DiskState) (cycles : ℕ) (s : BenchState) (c : Command) → MayLeave old new s (after s c) → Ticks old new c → IsRecorded new cycles (after s c) → Acknowledges old new s c
 acknowledged old new cycles s c moments ticks was = record { moments = moments; ticks = ticks; now = at_of new (after s c) was.durable was.stands }

@@ -1,14 +1,14 @@
 -- What the calls of a session answer, and what they do to the disk.
 use Rattle.std.specs.Prelude.{◌≡◌, ◌⊎◌, ◌+◌, min, Bool, true, false, ℕ, None, Some, Result, Ok, Err}
 use Rattle.mcs_disk.specs.Disk.{DiskState, most_faults}
-use Rattle.mcs_disk.specs.Moments.{Either, GoesOn, LeavesOnly, Rests, Stays}
+use Rattle.mcs_disk.specs.Moments.{Either, KeepsEarlierImages, LeavesOnly, AddsNoImage, IsUntouched}
 use Rattle.mcs_journal.specs.Answers.{IsNoSession}
 use Rattle.mcs_journal.specs.File.{IsBlank}
 use Rattle.mcs_journal.specs.declared.fault.OpenFault.{OpenFault}
 use Rattle.mcs_journal.specs.declared.fault.OpenFault.TheVariants as open_fault
 use Rattle.mcs_model.specs.declared.command.Command.{Command}
 use Rattle.mcs_model.specs.declared.command.Reply.{Reply}
-use Rattle.mcs_model.specs.Flat.{Flat, new_flat}
+use Rattle.mcs_model.specs.BenchState.{BenchState, new_bench_state}
 use Rattle.mcs_model.specs.Command.{refusal, after, reply}
 use Rattle.mcs_session.specs.declared.fault.SessionFault.{SessionFault}
 use Rattle.mcs_session.specs.declared.fault.SessionFault.TheVariants.{Refused, Device, Closed}
@@ -20,27 +20,27 @@ use Rattle.mcs_session.specs.Version1.{StandsForLifted}
 -- the disk was blank, and now, five steps later, every image stands for a new bench
 pub record CreatesSession (old new : DiskState) : Type 0 where
   pub blank : IsBlank old.size old.bytes
-  pub stands : StandsFor new.bytes new_flat
-  pub at : IsAt new new_flat
+  pub stands : StandsFor new.bytes new_bench_state
+  pub at : IsAt new new_bench_state
   pub ticks : new.clock ≡ old.clock + 5
-  pub moments : GoesOn old new
+  pub moments : KeepsEarlierImages old new
 
 -- an image that a power cut may leave of this stretch: one that the disk had before, or one that stands for this state
-abbrev pub MayMigrate : DiskState → DiskState → Flat → Type 0
+abbrev pub MayMigrate : DiskState → DiskState → BenchState → Type 0
 MayMigrate old new s = LeavesOnly old new (Either (old.since old.clock) (λ file. StandsByEither file s))
 
 -- The disk stood for this state, and now every image stands for it. A file of version 2 is not written; one of version 1 is
 -- replaced by a snapshot of version 2.
-pub record OpensSession (old new : DiskState) (s : Flat) : Type 0 where
+pub record OpensSession (old new : DiskState) (s : BenchState) : Type 0 where
   pub stands : StandsByEither old.bytes s
   pub moments : MayMigrate old new s
-  pub rests : StandsFor old.bytes s → Rests old new
+  pub rests : StandsFor old.bytes s → AddsNoImage old new
   pub migrated : StandsForLifted old.bytes s → HoldsState new.bytes s
   pub at : IsAt new s
 
 -- the bytes stand for no state
 abbrev pub StandsForNone : DiskState → Type 0
-StandsForNone disk = (s : Flat) → StandsByEither disk.bytes s → ⊥
+StandsForNone disk = (s : BenchState) → StandsByEither disk.bytes s → ⊥
 
 -- what a refusal of `open` says of the disk
 abbrev pub RefusesSession : OpenFault → DiskState → Type 0
@@ -51,19 +51,19 @@ RefusesSession open_fault.NoMemory disk = Unit {0}
 
 -- a file of version 1 stood for a state, and the disk failed as it was replaced
 pub record FailsMigrating (old new : DiskState) : Type 0 where
-  pub state : Flat
+  pub state : BenchState
   pub stands : StandsForLifted old.bytes state
   pub moments : MayMigrate old new state
 
 -- what a refused `open` did to the disk: nothing, but for a device fault while a file of version 1 was replaced
 abbrev pub LeftRefused : OpenFault → DiskState → DiskState → Type 0
-LeftRefused open_fault.Device old new = Rests old new ⊎ FailsMigrating old new
-LeftRefused fault old new = Rests old new
+LeftRefused open_fault.Device old new = AddsNoImage old new ⊎ FailsMigrating old new
+LeftRefused fault old new = AddsNoImage old new
 
 -- ---- `apply`
 
 -- from this state the command leads to that answer and that state, on a session that is open or is not
-abbrev pub Applied : Bool → Flat → Command → Result Reply SessionFault → Flat → Type 0
+abbrev pub Applied : Bool → BenchState → Command → Result Reply SessionFault → BenchState → Type 0
 Applied true s c (Ok r) t = (refusal s c ≡ None) × (r ≡ reply s c) × (t ≡ after s c)
 Applied true s c (Err (Refused f)) t = (refusal s c ≡ Some f) × (t ≡ s)
 Applied true s c (Err Device) t = (refusal s c ≡ None) × (t ≡ s)
@@ -77,7 +77,7 @@ Closes live faults (Err Device) new_live new_faults = (new_live ≡ false) × (n
 Closes live faults (Err fault) new_live new_faults = (new_live ≡ live) × (new_faults ≡ faults)
 
 -- at every moment of this stretch a power cut leaves the one state or the other
-abbrev pub MayLeave : DiskState → DiskState → Flat → Flat → Type 0
+abbrev pub MayLeave : DiskState → DiskState → BenchState → BenchState → Type 0
 MayLeave old new s t = LeavesOnly old new (Either (λ file. StandsFor file s) (λ file. StandsFor file t))
 
 -- an acknowledged command takes four steps of the clock where there was room for its record, and eight where there was none
@@ -85,13 +85,13 @@ abbrev pub Ticks : DiskState → DiskState → Command → Type 0
 Ticks old new c = (HasRoomFor old.bytes c × (new.clock ≡ old.clock + 4)) ⊎ (¬ (HasRoomFor old.bytes c) × (new.clock ≡ old.clock + 8))
 
 -- Until the command is acknowledged, a power cut leaves the state before or after, and from then on the state after.
-pub record Acknowledges (old new : DiskState) (s : Flat) (c : Command) : Type 0 where
+pub record Acknowledges (old new : DiskState) (s : BenchState) (c : Command) : Type 0 where
   pub moments : MayLeave old new s (after s c)
   pub ticks : Ticks old new c
   pub now : IsAt new (after s c)
 
 -- what the command does to an honest disk
-abbrev pub Recorded : Result Reply SessionFault → DiskState → DiskState → Flat → Command → Type 0
+abbrev pub Recorded : Result Reply SessionFault → DiskState → DiskState → BenchState → Command → Type 0
 Recorded (Ok r) old new s c = Acknowledges old new s c
 Recorded (Err Device) old new s c = MayLeave old new s (after s c)
-Recorded (Err fault) old new s c = Stays old new
+Recorded (Err fault) old new s c = IsUntouched old new

@@ -3,14 +3,14 @@ use Rattle.std.specs.Prelude.{◌≡◌, ◌⊎◌, ◌+◌, ◌≤◌, ℕ, Lis
 use Rattle.mcs_disk.specs.Disk.{DiskState}
 use Rattle.mcs_disk.specs.Moments.{Either, IsDurable, LeavesOnly}
 use Rattle.mcs_journal.specs.File.{Holds}
-use Rattle.mcs_journal.specs.declared.format.TheConstants.{MOST_RECORD, MOST_SNAP}
+use Rattle.mcs_journal.specs.declared.format.TheConstants.{MOST_RECORD, MOST_SNAPSHOT}
 use Rattle.mcs_model.specs.declared.limits.TheConstants.{REPLAY_CYCLES}
-use Rattle.mcs_model.specs.Flat.{Flat}
+use Rattle.mcs_model.specs.BenchState.{BenchState}
 use Rattle.mcs_session.specs.Cycles.{log_cycles}
 use Rattle.mcs_session.specs.Stands.{HoldsState, HasSpace, RecordsStandFor, StandsFor}
 
 -- an honest disk of an open session: whatever a power cut leaves stands for the state of the bench, by a log of so many cycles
-pub record IsRecorded (disk : DiskState) (cycles : ℕ) (s : Flat) : Type 0 where
+pub record IsRecorded (disk : DiskState) (cycles : ℕ) (s : BenchState) : Type 0 where
   pub durable : IsDurable disk
   pub stands : StandsFor disk.bytes s
   pub count : cycles ≡ log_cycles stands.stand.commands
@@ -18,22 +18,22 @@ pub record IsRecorded (disk : DiskState) (cycles : ℕ) (s : Flat) : Type 0 wher
 -- there is room for the bytes of a command and for a snapshot, and the cycles of the log are within their limit
 pub record IsReady (cycles : ℕ) (text snapshot : List ℕ) : Type 0 where
   pub text_lent : length text ≡ MOST_RECORD
-  pub snapshot_lent : length snapshot ≡ MOST_SNAP
+  pub snapshot_lent : length snapshot ≡ MOST_SNAPSHOT
   pub within : cycles ≤ REPLAY_CYCLES
 
 -- what an open session did is recorded on an honest disk
-pub record IsSession (disk : DiskState) (live : Bool) (cycles : ℕ) (s : Flat) (text snapshot : List ℕ) : Type 0 where
+pub record IsSession (disk : DiskState) (live : Bool) (cycles : ℕ) (s : BenchState) (text snapshot : List ℕ) : Type 0 where
   pub ready : IsReady cycles text snapshot
   pub recorded : IsTrue live → disk.honest → IsRecorded disk cycles s
 
 -- a snapshot and records, of version 1 where `first` is true, stand for this state, by commands of so many cycles
-pub record IsReplayed (first : Bool) (snap : List ℕ) (records : List (List ℕ)) (cycles : ℕ) (s : Flat) : Type 0 where
+pub record IsReplayed (first : Bool) (snap : List ℕ) (records : List (List ℕ)) (cycles : ℕ) (s : BenchState) : Type 0 where
   pub stand : RecordsStandFor first snap records s
   pub count : cycles ≡ log_cycles stand.commands
 
 -- Room was made for a record of so many bytes and so many cycles, in no step where there was room and else in four. The disk stands
 -- for the same state still, by a log of so many cycles.
-pub record HasMadeRoom (old new : DiskState) (bytes more cycles : ℕ) (s : Flat) : Type 0 where
+pub record HasMadeRoom (old new : DiskState) (bytes more cycles : ℕ) (s : BenchState) : Type 0 where
   pub ticks : (HasSpace old.bytes bytes more × (new.clock ≡ old.clock)) ⊎ (¬ (HasSpace old.bytes bytes more) × (new.clock ≡ old.clock + 4))
   pub recorded : IsRecorded new cycles s
 
@@ -44,11 +44,11 @@ pub record IsHeld (disk : DiskState) : Type 0 where
   pub holds : Holds disk.bytes snap records
 
 -- until a snapshot of this state is there, the pair of before is
-abbrev pub MayReplace : DiskState → DiskState → List ℕ → List (List ℕ) → Flat → Type 0
+abbrev pub MayReplace : DiskState → DiskState → List ℕ → List (List ℕ) → BenchState → Type 0
 MayReplace old new snap records s = LeavesOnly old new (Either (λ c. Holds c snap records) (λ c. HoldsState c s))
 
 -- and now it is there
-pub record Replaced (old new : DiskState) (snap : List ℕ) (records : List (List ℕ)) (s : Flat) : Type 0 where
+pub record Replaced (old new : DiskState) (snap : List ℕ) (records : List (List ℕ)) (s : BenchState) : Type 0 where
   pub moments : MayReplace old new snap records s
   pub held : HoldsState new.bytes s
   pub durable : IsDurable new

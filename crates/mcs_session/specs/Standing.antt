@@ -2,14 +2,14 @@
 use Rattle.std.specs.Prelude.{Bool, List}
 use Rattle.mcs_disk.specs.Disk.{DiskState}
 use Rattle.mcs_model.specs.declared.command.Command.{Command}
-use Rattle.mcs_model.specs.Flat.{Flat}
+use Rattle.mcs_model.specs.BenchState.{BenchState}
 use Rattle.mcs_model.specs.Fold.{fold}
 
 -- whether a session is open, and the state of its bench
 pub record Standing : Type 0 where
   -- no command was answered with a device fault
   pub live : Bool
-  pub state : Flat
+  pub state : BenchState
 
 -- how a session stands once these commands were accepted and recorded
 abbrev pub standing_after : Standing → List Command → Standing
@@ -19,7 +19,7 @@ standing_after m cs = record { live = m.live; state = fold m.state cs }
 pub record SessionView (D : Type 0) : Type 0 where
   pub disk : D
   pub live : Bool
-  pub state : Flat
+  pub state : BenchState
 
 -- the same with what contracts see of the disk
 pub record SessionState : Type 1 where

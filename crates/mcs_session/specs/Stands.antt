@@ -2,27 +2,27 @@
 -- snapshot and the records are of version 1; what they stand for is then what version 2 makes of them.
 use Rattle.std.specs.Prelude.{◌≡◌, ◌⊎◌, ◌+◌, ◌≤◌, ℕ, Bool, false, List, [], ◌∷◌, None, length}
 use Rattle.mcs_codec.specs.Codec.{SpellsBy, SpellsState, SpellsStateBy}
-use Rattle.mcs_codec.specs.CommandText.{command_text}
+use Rattle.mcs_codec.specs.CommandBytes.{command_bytes}
 use Rattle.mcs_disk.specs.Disk.{DiskState}
 use Rattle.mcs_journal.specs.File.{HasRoom, Holds, spelled}
 use Rattle.mcs_model.specs.declared.command.Command.{Command}
 use Rattle.mcs_session.specs.Cycles.{log_cycles, replay_cycles}
 use Rattle.mcs_session.specs.Version1.{StandsForLifted}
 use Rattle.mcs_model.specs.declared.limits.TheConstants.{REPLAY_CYCLES}
-use Rattle.mcs_model.specs.Flat.{Flat}
+use Rattle.mcs_model.specs.BenchState.{BenchState}
 use Rattle.mcs_model.specs.Command.{refusal, after}
 use Rattle.mcs_model.specs.Fold.{fold}
 
 -- these records spell these commands, accepted in turn from this state
-abbrev pub Replays : Bool → Flat → List (List ℕ) → List Command → Type 0
+abbrev pub Replays : Bool → BenchState → List (List ℕ) → List Command → Type 0
 Replays first s [] [] = Unit {0}
 Replays first s [] (c ∷ cs) = ⊥
 Replays first s (r ∷ rs) [] = ⊥
 Replays first s (r ∷ rs) (c ∷ cs) = SpellsBy first r c × (refusal s c ≡ None) × Replays first (after s c) rs cs
 
 -- a snapshot and the records behind it stand for this state
-pub record RecordsStandFor (first : Bool) (snap : List ℕ) (records : List (List ℕ)) (s : Flat) : Type 0 where
-  pub start : Flat
+pub record RecordsStandFor (first : Bool) (snap : List ℕ) (records : List (List ℕ)) (s : BenchState) : Type 0 where
+  pub start : BenchState
   pub snapshot : SpellsStateBy first snap start
   pub commands : List Command
   pub replays : Replays first start records commands
@@ -30,33 +30,33 @@ pub record RecordsStandFor (first : Bool) (snap : List ℕ) (records : List (Lis
   pub state : s ≡ fold start commands
 
 -- a file of version 2 stands for the state that its snapshot and its records stand for
-pub record StandsFor (file : List ℕ) (s : Flat) : Type 0 where
+pub record StandsFor (file : List ℕ) (s : BenchState) : Type 0 where
   pub snap : List ℕ
   pub records : List (List ℕ)
   pub holds : Holds file snap records
   pub stand : RecordsStandFor false snap records s
 
 -- a file of either version stands for this state
-abbrev pub StandsByEither : List ℕ → Flat → Type 0
+abbrev pub StandsByEither : List ℕ → BenchState → Type 0
 StandsByEither file s = StandsFor file s ⊎ StandsForLifted file s
 
 -- a file holds a snapshot of this state in version 2, and no records
-pub record HoldsState (file : List ℕ) (s : Flat) : Type 0 where
+pub record HoldsState (file : List ℕ) (s : BenchState) : Type 0 where
   pub snap : List ℕ
   pub spells : SpellsState snap s
   pub holds : Holds file snap []
 
 -- whatever a power cut now leaves stands for this state
-abbrev pub IsAt : DiskState → Flat → Type 0
+abbrev pub IsAt : DiskState → BenchState → Type 0
 IsAt disk s = (image : List ℕ) → disk.since disk.clock image → StandsFor image s
 
 -- a file has room for one more record of so many bytes, and for so many more cycles in its log
 pub record HasSpace (file : List ℕ) (bytes cycles : ℕ) : Type 0 where
-  pub state : Flat
+  pub state : BenchState
   pub stands : StandsFor file state
   pub log : HasRoom (length (spelled stands.records)) bytes
   pub replay : log_cycles stands.stand.commands + cycles ≤ REPLAY_CYCLES
 
 -- a file has room for the record of a command
 abbrev pub HasRoomFor : List ℕ → Command → Type 0
-HasRoomFor file c = HasSpace file (length (command_text c)) (replay_cycles c)
+HasRoomFor file c = HasSpace file (length (command_bytes c)) (replay_cycles c)

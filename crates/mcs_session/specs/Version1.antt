@@ -4,23 +4,23 @@ use Rattle.mcs_codec.specs.Codec.{Spells, SpellsState1}
 use Rattle.mcs_journal.specs.File.{Holds}
 use Rattle.mcs_model.specs.declared.command.Command.{Command}
 use Rattle.mcs_model.specs.declared.limits.TheConstants.{REPLAY_CYCLES}
-use Rattle.mcs_model.specs.Flat.{Flat}
+use Rattle.mcs_model.specs.BenchState.{BenchState}
 use Rattle.mcs_version1.specs.Command.{in_version_1, refusal_1, after_1}
-use Rattle.mcs_version1.specs.Flat.{Flat1}
+use Rattle.mcs_version1.specs.BenchState.{BenchState1}
 use Rattle.mcs_version1.specs.Fold.{fold_1}
 use Rattle.mcs_version1.specs.Lift.{lift}
 use Rattle.mcs_session.specs.Cycles.{log_cycles}
 
 -- these records spell these commands of version 1, accepted in turn from this state
-abbrev pub Replays1 : Flat1 → List (List ℕ) → List Command → Type 0
+abbrev pub Replays1 : BenchState1 → List (List ℕ) → List Command → Type 0
 Replays1 s [] [] = Unit {0}
 Replays1 s [] (c ∷ cs) = ⊥
 Replays1 s (r ∷ rs) [] = ⊥
 Replays1 s (r ∷ rs) (c ∷ cs) = (Spells r c × (in_version_1 c ≡ true)) × (refusal_1 s c ≡ None) × Replays1 (after_1 s c) rs cs
 
 -- a snapshot and the records behind it stand for this state of version 1
-pub record RecordsStandFor1 (snap : List ℕ) (records : List (List ℕ)) (s : Flat1) : Type 0 where
-  pub start : Flat1
+pub record RecordsStandFor1 (snap : List ℕ) (records : List (List ℕ)) (s : BenchState1) : Type 0 where
+  pub start : BenchState1
   pub snapshot : SpellsState1 snap start
   pub commands : List Command
   pub replays : Replays1 start records commands
@@ -28,10 +28,10 @@ pub record RecordsStandFor1 (snap : List ℕ) (records : List (List ℕ)) (s : F
   pub state : s ≡ fold_1 start commands
 
 -- a file of version 1 stands for the state that is carried over from the one which it stood for
-pub record StandsForLifted (file : List ℕ) (s : Flat) : Type 0 where
+pub record StandsForLifted (file : List ℕ) (s : BenchState) : Type 0 where
   pub snap : List ℕ
   pub records : List (List ℕ)
   pub holds : Holds file snap records
-  pub first : Flat1
+  pub first : BenchState1
   pub stand : RecordsStandFor1 snap records first
   pub lifted : s ≡ lift first

@@ -1,8 +1,8 @@
 //! The log of a session: the records of its commands, and a snapshot in their place where there is no room for one more.
 ghost use Rattle.std.specs.Prelude.{◌≡◌, ◌+◌, ◌≤◌, ℕ, List, None, IsErr, IsTrue, OnOk, is_ok, length, take};
 ghost use Rattle.mcs_codec.specs.Codec.{Spells, SpellsState};
-ghost use Rattle.mcs_codec.specs.CommandText.{command_text};
-ghost use Rattle.mcs_disk.specs.Moments.{Changes, Counts, LeavesOnly};
+ghost use Rattle.mcs_codec.specs.CommandBytes.{command_bytes};
+ghost use Rattle.mcs_disk.specs.Moments.{Changes, CountsFault, LeavesOnly};
 ghost use Rattle.mcs_journal.specs.File.{HasRoom, Holds};
 ghost use Rattle.mcs_model.specs.Command.{after, refusal};
 ghost use Rattle.mcs_session.specs.Answers.{Acknowledges, MayLeave};
@@ -13,7 +13,7 @@ use crate::replaying::replay_cycles;
 use mcs_bench::Bench;
 use mcs_codec::{command_bytes, state_bytes};
 use mcs_disk::{Disk, DiskFault};
-use mcs_journal::{MOST_RECORD, MOST_SNAP, Store};
+use mcs_journal::{MOST_RECORD, MOST_SNAPSHOT, Store};
 use mcs_model::command::Command;
 use mcs_model::limits::REPLAY_CYCLES;
 
@@ -30,22 +30,22 @@ pub struct CommandLog<D: Disk + Drop> {
 }
 
 /// Spells a command at the front of a buffer, and answers how many bytes it took.
-fn spell_command(text: &mut Vec<u8>, command: &Command) -> usize
+fn encode_command(text: &mut Vec<u8>, command: &Command) -> usize
     requires { length text.old.items ≡ MOST_RECORD }
     ensures lent { length text.new.items ≡ MOST_RECORD }
     ensures spells { Spells (take result text.new.items) command.now }
-    ensures count { result ≡ length (command_text command.now) }
+    ensures count { result ≡ length (command_bytes command.now) }
     ensures record { (1 ≤ result) × (result ≤ MOST_RECORD) }
 {
     command_bytes(command, text.as_mut_slice())
 }
 
 /// Spells the state of a bench at the front of a buffer, and answers how many bytes it took.
-pub(crate) fn spell_state(snapshot: &mut Vec<u8>, bench: &Bench) -> usize
-    requires { length snapshot.old.items ≡ MOST_SNAP }
-    ensures lent { length snapshot.new.items ≡ MOST_SNAP }
+pub(crate) fn encode_state(snapshot: &mut Vec<u8>, bench: &Bench) -> usize
+    requires { length snapshot.old.items ≡ MOST_SNAPSHOT }
+    ensures lent { length snapshot.new.items ≡ MOST_SNAPSHOT }
     ensures spells { SpellsState (take result snapshot.new.items) bench.now }
-    ensures short { result ≤ MOST_SNAP }
+    ensures short { result ≤ MOST_SNAPSHOT }
 {
     state_bytes(bench, snapshot.as_mut_slice())
 }
@@ -56,7 +56,7 @@ impl<D: Disk + Drop> CommandLog<D> {
         requires live { IsTrue self.old.store.live }
         requires ready { IsReady self.old.cycles self.old.text.items self.old.snapshot.items }
         ensures live { self.new.store.live ≡ is_ok result }
-        ensures counts { Counts (D.state self.old.store.disk) (D.state self.new.store.disk) (IsErr result) }
+        ensures counts { CountsFault (D.state self.old.store.disk) (D.state self.new.store.disk) (IsErr result) }
         ensures text { self.new.text ≡ self.old.text }
         ensures used { OnOk result ((self.new.store.used ≡ 0) × (self.new.cycles ≡ 0)) }
         ensures ready { IsReady self.new.cycles self.new.text.items self.new.snapshot.items }
@@ -65,7 +65,7 @@ impl<D: Disk + Drop> CommandLog<D> {
             → Changes 4 (D.state self.old.store.disk) (D.state self.new.store.disk)
             (λ c. Holds c snap records) (λ c. HoldsState c bench.now) result }
     {
-        let length = spell_state(&mut self.snapshot, bench);
+        let length = encode_state(&mut self.snapshot, bench);
         match self.store.replace(&self.snapshot.as_slice()[..length]) {
             Ok(()) => {
                 self.cycles = 0;
@@ -83,7 +83,7 @@ impl<D: Disk + Drop> CommandLog<D> {
         requires more { more ≤ REPLAY_CYCLES }
         requires ready { IsReady self.old.cycles self.old.text.items self.old.snapshot.items }
         ensures live { self.new.store.live ≡ is_ok result }
-        ensures counts { Counts (D.state self.old.store.disk) (D.state self.new.store.disk) (IsErr result) }
+        ensures counts { CountsFault (D.state self.old.store.disk) (D.state self.new.store.disk) (IsErr result) }
         ensures text { self.new.text ≡ self.old.text }
         ensures ready { IsReady self.new.cycles self.new.text.items self.new.snapshot.items }
         ensures room { OnOk result
@@ -100,7 +100,7 @@ impl<D: Disk + Drop> CommandLog<D> {
         if self.store.has_room(count) && more <= REPLAY_CYCLES - self.cycles {
             return Ok(());
         }
-        let length = spell_state(&mut self.snapshot, bench);
+        let length = encode_state(&mut self.snapshot, bench);
         self.store.replace(&self.snapshot.as_slice()[..length])?;
         self.cycles = 0;
         Ok(())
@@ -112,7 +112,7 @@ impl<D: Disk + Drop> CommandLog<D> {
         requires accepted { refusal bench.now command.now ≡ None }
         requires ready { IsReady self.old.cycles self.old.text.items self.old.snapshot.items }
         ensures live { self.new.store.live ≡ is_ok result }
-        ensures counts { Counts (D.state self.old.store.disk) (D.state self.new.store.disk) (IsErr result) }
+        ensures counts { CountsFault (D.state self.old.store.disk) (D.state self.new.store.disk) (IsErr result) }
         ensures ready { IsReady self.new.cycles self.new.text.items self.new.snapshot.items }
         ensures moments { (D.state self.old.store.disk).honest
             → IsRecorded (D.state self.old.store.disk) self.old.cycles bench.now
@@ -127,7 +127,7 @@ impl<D: Disk + Drop> CommandLog<D> {
             → OnOk result (IsRecorded (D.state self.new.store.disk) self.new.cycles
             (after bench.now command.now)) }
     {
-        let count = spell_command(&mut self.text, command);
+        let count = encode_command(&mut self.text, command);
         let more = replay_cycles(command);
         self.make_room(bench, count, more)?;
         self.store.append(&self.text.as_slice()[..count])?;

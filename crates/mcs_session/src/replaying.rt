@@ -1,6 +1,6 @@
 //! What a snapshot and the records behind it stand for.
 ghost use Rattle.std.specs.Prelude.{◌≡◌, ◌||◌, not, Bool, IfOk, IfSome, IfNone};
-ghost use Rattle.mcs_model.specs.Flat.{Flat};
+ghost use Rattle.mcs_model.specs.BenchState.{BenchState};
 ghost use Rattle.mcs_session.specs.Invariant.{IsReplayed};
 ghost use Rattle.mcs_session.specs.Cycles.{replay_cycles};
 ghost use Rattle.mcs_codec.specs.Codec.{is_first};
@@ -57,7 +57,7 @@ pub(crate) fn replay(
     ensures some { IfOk result (λ found.
         IfSome found (λ r. IsReplayed r.first snap.now records.now r.cycles r.bench)) }
     ensures none { IfOk result (λ found.
-        IfNone found ((v : Bool) (s : Flat) → RecordsStandFor v snap.now records.now s → ⊥)) }
+        IfNone found ((v : Bool) (s : BenchState) → RecordsStandFor v snap.now records.now s → ⊥)) }
 {
     let mut bench = match bench_of(alloc, snap) {
         Ok(Some(bench)) => bench,

@@ -1,15 +1,15 @@
 //! A bench whose commands are recorded on a disk.
 ghost use Rattle.std.specs.Prelude.{◌≡◌, ◌≢◌, ◌⊎◌, ◌↔◌, IsTrue, ℕ, List, true, false, IsErrAnd, IfOk, IfErr};
-ghost use Rattle.mcs_disk.specs.Moments.{Counts, Rests};
+ghost use Rattle.mcs_disk.specs.Moments.{CountsFault, AddsNoImage};
 ghost use Rattle.mcs_journal.specs.Answers.{RefusesCreate};
-ghost use Rattle.mcs_model.specs.Flat.{new_flat};
+ghost use Rattle.mcs_model.specs.BenchState.{new_bench_state};
 ghost use Rattle.mcs_session.specs.Stands.{StandsFor, IsAt};
 ghost use Rattle.mcs_journal.specs.File.{Holds};
 ghost use Rattle.mcs_session.specs.Answers.{Applied, Closes, CreatesSession, LeftRefused, OpensSession, Recorded, RefusesSession};
 ghost use Rattle.mcs_session.specs.Invariant.{IsHeld, IsReady, IsRecorded, MayReplace, Replaced};
 
 use crate::fault::SessionFault;
-use crate::recording::{CommandLog, spell_state};
+use crate::recording::{CommandLog, encode_state};
 use crate::replaying::{Replayed, replay};
 use mcs_bench::Bench;
 use mcs_codec::{COMMAND_BYTES, STATE_BYTES};
@@ -49,10 +49,10 @@ impl<D: Disk + Drop> Session<D> {
     pub fn create(alloc: Global, disk: D) -> Result<Session<D>, (CreateFault, D)>
         // on any disk
         ensures open { IfOk result (λ s. IsTrue s.live) }
-        ensures new { IfOk result (λ s. s.state ≡ new_flat) }
-        ensures counts { IfOk result (λ s. Counts (D.state disk) (D.state s.disk) ⊥) }
+        ensures new { IfOk result (λ s. s.state ≡ new_bench_state) }
+        ensures counts { IfOk result (λ s. CountsFault (D.state disk) (D.state s.disk) ⊥) }
         ensures refusal_counts { IfErr result (λ refused.
-            Counts (D.state disk) (D.state refused.1) (refused.0 ≡ CreateFault.Device)) }
+            CountsFault (D.state disk) (D.state refused.1) (refused.0 ≡ CreateFault.Device)) }
         ensures no_memory { IfErr result (λ refused.
             refused.0 ≡ CreateFault.NoMemory → refused.1 ≡ disk) }
         ensures wrong_size { (D.state disk).size ≢ FILE_SIZE → IsErrAnd result (λ refused.
@@ -74,7 +74,7 @@ impl<D: Disk + Drop> Session<D> {
         let Ok(bench) = Bench::new(alloc) else {
             return Err((CreateFault::NoMemory, disk));
         };
-        let length = spell_state(&mut snapshot, &bench);
+        let length = encode_state(&mut snapshot, &bench);
         match Store::create(alloc, disk, &snapshot.as_slice()[..length]) {
             Ok(store) => Ok(Session {
                 log: CommandLog {
@@ -97,9 +97,9 @@ impl<D: Disk + Drop> Session<D> {
     pub fn open(alloc: Global, disk: D) -> Result<Session<D>, (OpenFault, D)>
         // on any disk
         ensures open { IfOk result (λ s. IsTrue s.live) }
-        ensures counts { IfOk result (λ s. Counts (D.state disk) (D.state s.disk) ⊥) }
+        ensures counts { IfOk result (λ s. CountsFault (D.state disk) (D.state s.disk) ⊥) }
         ensures refusal_counts { IfErr result (λ refused.
-            Counts (D.state disk) (D.state refused.1) (refused.0 ≡ OpenFault.Device)) }
+            CountsFault (D.state disk) (D.state refused.1) (refused.0 ≡ OpenFault.Device)) }
         ensures wrong_size { (D.state disk).size ≢ FILE_SIZE → IsErrAnd result (λ refused.
             ((refused.0 ≡ OpenFault.NotASession) ⊎ (refused.0 ≡ OpenFault.NoMemory))
             × (refused.1 ≡ disk)) }
@@ -227,11 +227,11 @@ fn begin<D: Disk + Drop>(
     requires recorded { first ≡ false → (D.state log.store.disk).honest → IsRecorded (D.state log.store.disk) log.cycles bench }
     requires held { (D.state log.store.disk).honest → IsHeld (D.state log.store.disk) }
     ensures open { IfOk result (λ s. IsTrue s.live × (s.state ≡ bench)) }
-    ensures counts { IfOk result (λ s. Counts (D.state log.store.disk) (D.state s.disk) ⊥) }
+    ensures counts { IfOk result (λ s. CountsFault (D.state log.store.disk) (D.state s.disk) ⊥) }
     ensures same { first ≡ false → IfOk result (λ s. s.disk ≡ log.store.disk) }
     ensures first { first ≡ true → (D.state log.store.disk).honest → (snap : List ℕ) (records : List (List ℕ))
         → Holds (D.state log.store.disk).bytes snap records → IfOk result (λ s. Replaced (D.state log.store.disk) (D.state s.disk) snap records bench) }
-    ensures refused { IfErr result (λ r. (r.0 ≡ OpenFault.Device) × ((first ≡ true) × Counts (D.state log.store.disk) (D.state r.1) (Unit {0}))) }
+    ensures refused { IfErr result (λ r. (r.0 ≡ OpenFault.Device) × ((first ≡ true) × CountsFault (D.state log.store.disk) (D.state r.1) (Unit {0}))) }
     ensures failed { (D.state log.store.disk).honest → (snap : List ℕ) (records : List (List ℕ))
         → Holds (D.state log.store.disk).bytes snap records → IfErr result (λ r. MayReplace (D.state log.store.disk) (D.state r.1) snap records bench) }
 {

@@ -67,12 +67,12 @@ fn carried_over(
     expect_told(rt, session.bench(), want);
     let mut disk = session.into_disk();
     expect_bytes(rt, &mut disk, 0, b"MCS4BEN1");
-    let (turn, slot, log) = if was_second {
+    let (selector, slot, log) = if was_second {
         (0, FIRST_SLOT, FIRST_LOG)
     } else {
         (1, SECOND_SLOT, SECOND_LOG)
     };
-    expect_bytes(rt, &mut disk, 8, &[turn, 0, 0, 0, 0, 0, 0, 0]);
+    expect_bytes(rt, &mut disk, 8, &[selector, 0, 0, 0, 0, 0, 0, 0]);
     expect_bytes(rt, &mut disk, slot, &snapshot);
     expect_bytes(rt, &mut disk, log, &[0]);
     let session = opened(alloc, rt, disk);
@@ -285,13 +285,13 @@ fn a_stop_at_each_call(rt: HostRuntime) {
             panic!(rt; "the call {call} did not fail")
         };
         // the last four write the snapshot, sync it, write the turn, and sync it
-        let (length, turn) = match calls - call {
+        let (length, selector) = match calls - call {
             1 => ([0, 0, 0x1A, 0xA8], 1),
             2 | 3 => ([0, 0, 0x1A, 0xA8], 0),
             _ => ([0; 4], 0),
         };
         expect_bytes(&rt, &mut disk, SECOND_SLOT, &length);
-        expect_bytes(&rt, &mut disk, 8, &[turn]);
+        expect_bytes(&rt, &mut disk, 8, &[selector]);
         expect_register(alloc, &rt, disk);
     }
     // the turn may have been left as anything

@@ -3,7 +3,7 @@ use Rattle.std.proofs.Common.{◌≡◌, ℕ, ◌<◌, zero, suc, true, false, L
 use Rattle.std.specs.List.{Contains}
 use Rattle.std.proofs.lemmas.Bool.{cases_lt}
 use Rattle.std.proofs.lemmas.List.Elements.{Contains-append_cases, Contains-append_right}
-use Rattle.mcs_model.specs.Pairs.{IsImageOf, IsRising}
+use Rattle.mcs_model.specs.Images.{IsImageOf, IsRising}
 use Rattle.std.specs.Prelude.{Result, Ok}
 use Rattle.mcs_asm.specs.View.{Assembles}
 use Rattle.mcs_model.specs.declared.command.Command.{Command}

@@ -7,10 +7,10 @@ use Rattle.mcs_model.specs.declared.command.Command.{Command}
 use Rattle.mcs_model.specs.declared.command.Reply.{Reply}
 use Rattle.mcs_model.specs.declared.refusals.BenchFault.{BenchFault}
 use Rattle.mcs_model.specs.Command.{refusal, after, reply}
-use Rattle.mcs_model.specs.Refusal.{bench_refusal_number}
+use Rattle.mcs_model.specs.Refusal.{bench_fault_number}
 use Rattle.mcs_model.specs.declared.limits.TheConstants.{LINE_BYTES}
 use Rattle.mcs_model.specs.declared.refusal_numbers.TheConstants.{CLOSED, DEVICE, LINE_TOO_LONG, NO_MEMORY}
-use Rattle.mcs_model.specs.Flat.{Flat}
+use Rattle.mcs_model.specs.BenchState.{BenchState}
 use Rattle.mcs_session.specs.declared.fault.SessionFault.{SessionFault}
 use Rattle.mcs_session.specs.declared.fault.SessionFault.TheVariants as fault
 use Rattle.mcs_shell.specs.declared.outcome.Outcome.{Outcome}
@@ -25,7 +25,7 @@ use Rattle.mcs_shell.specs.declared.texts.TextFault.{TextFault}
 use Rattle.mcs_shell.specs.declared.outcome.Halt.{Halt}
 use Rattle.mcs_shell.specs.declared.outcome.Halt.TheVariants as halt
 use Rattle.mcs_lines.specs.Words.{is_blank_byte}
-use Rattle.mcs_shell.specs.Inputs.{Input, Blank, TooLong, Line, Text, BadText, fault_of, judged, judged_text, text_or_fault}
+use Rattle.mcs_shell.specs.Inputs.{Input, Blank, TooLong, Line, Text, BadText, text_fault_of, judged, judged_text, text_or_fault}
 use Rattle.mcs_lines.specs.Requests.{request_of}
 use Rattle.mcs_shell.specs.Spelling.{command_of_text, text_refusal}
 use Rattle.mcs_session.specs.Answers.{Applied, Closes, Recorded}
@@ -38,11 +38,11 @@ use Rattle.mcs_session.specs.Kept.{IsSettled, Kept}
 use Rattle.mcs_shell.specs.Serving.{Sent, ServedLine, Answered, Changed, CutShort, Failed, Fares, GotSome, KeptBy, Leaves, RequestDone, WentOn}
 use Rattle.mcs_session.proofs.Keeping.{acknowledged_keeps, failed_keeps, stays_keeps, whole_nothing}
 
-abbrev pub at : Bool → Flat → DiskState → SessionState
+abbrev pub at : Bool → BenchState → DiskState → SessionState
 at live s d = record { standing = record { live = live; state = s }; disk = d }
 
 -- what `apply` says of the session and its disk
-pub record Tried (live : Bool) (s : Flat) (d : DiskState) (c : Command) (result : Result Reply SessionFault) (b : SessionState) : Type 0 where
+pub record Tried (live : Bool) (s : BenchState) (d : DiskState) (c : Command) (result : Result Reply SessionFault) (b : SessionState) : Type 0 where
   pub applied : Applied live s c result b.standing.state
   pub closes : Closes live d.faults result b.standing.live b.disk.faults
   pub size : b.disk.size ≡ d.size
@@ -51,22 +51,22 @@ pub record Tried (live : Bool) (s : Flat) (d : DiskState) (c : Command) (result 
   pub lawful : b.disk.honest → IsLawful b.disk
 
 -- what it says of a known result
-pub known : (q r : Result Reply SessionFault) (live : Bool) (s : Flat) (d : DiskState) (b : SessionState) (c : Command) → q ≡ r → Tried live s d c q b → Tried live s d c r b
+pub known : (q r : Result Reply SessionFault) (live : Bool) (s : BenchState) (d : DiskState) (b : SessionState) (c : Command) → q ≡ r → Tried live s d c q b → Tried live s d c r b
 known q r live s d b c same h = subst (λ x. Tried live s d c x b) same h
 
-accepted_alone : (s : Flat) (c : Command) → refusal s c ≡ None → if_accepted s c ≡ c ∷ []
+accepted_alone : (s : BenchState) (c : Command) → refusal s c ≡ None → if_accepted s c ≡ c ∷ []
 accepted_alone s c e = ap (λ (v : Option BenchFault). unless_refused v c) e
 
-refused_none : (s : Flat) (c : Command) (f : BenchFault) → refusal s c ≡ Some f → if_accepted s c ≡ []
+refused_none : (s : BenchState) (c : Command) (f : BenchFault) → refusal s c ≡ Some f → if_accepted s c ≡ []
 refused_none s c f e = ap (λ (v : Option BenchFault). unless_refused v c) e
 
-text_accepted : (s : Flat) (c : Command) → refusal s c ≡ None → ok_text (reply s c) (after s c) ≡ change_text s c Plain
+text_accepted : (s : BenchState) (c : Command) → refusal s c ≡ None → ok_text (reply s c) (after s c) ≡ change_text s c Plain
 text_accepted s c e = sym (ap (λ (v : Option BenchFault). plain_text v s c) e)
 
-text_refused : (s : Flat) (c : Command) (f : BenchFault) → refusal s c ≡ Some f → no_text (bench_refusal_number f) ≡ change_text s c Plain
+text_refused : (s : BenchState) (c : Command) (f : BenchFault) → refusal s c ≡ Some f → no_text (bench_fault_number f) ≡ change_text s c Plain
 text_refused s c f e = sym (ap (λ (v : Option BenchFault). plain_text v s c) e)
 
-pub ok_changed : (r : Reply) (live : Bool) (s : Flat) (d : DiskState) (b : SessionState) (c : Command) (told : List ℕ) → Tried live s d c (Ok r) b → told ≡ ok_text r b.standing.state → Changed (at live s d) c Plain told b
+pub ok_changed : (r : Reply) (live : Bool) (s : BenchState) (d : DiskState) (b : SessionState) (c : Command) (told : List ℕ) → Tried live s d c (Ok r) b → told ≡ ok_text r b.standing.state → Changed (at live s d) c Plain told b
 ok_changed r false s d b c told h k = absurd (h.applied)
 ok_changed r true s d b c told h k =
     let yes : refusal s c ≡ None = h.applied.0 in
@@ -83,7 +83,7 @@ ok_changed r true s d b c told h k =
       });
     }
 
-pub refused_changed : (f : BenchFault) (live : Bool) (s : Flat) (d : DiskState) (b : SessionState) (c : Command) (told : List ℕ) → Tried live s d c (Err (fault.Refused f)) b → told ≡ no_text (session_fault_number (fault.Refused f)) → Changed (at live s d) c Plain told b
+pub refused_changed : (f : BenchFault) (live : Bool) (s : BenchState) (d : DiskState) (b : SessionState) (c : Command) (told : List ℕ) → Tried live s d c (Err (fault.Refused f)) b → told ≡ no_text (session_fault_number (fault.Refused f)) → Changed (at live s d) c Plain told b
 refused_changed f false s d b c told h k = absurd (h.applied)
 refused_changed f true s d b c told h k =
     let no : refusal s c ≡ Some f = h.applied.0 in
@@ -100,7 +100,7 @@ refused_changed f true s d b c told h k =
       });
     }
 
-pub device_changed : (live : Bool) (s : Flat) (d : DiskState) (b : SessionState) (c : Command) (told : List ℕ) → Tried live s d c (Err fault.Device) b → told ≡ no_text DEVICE → Changed (at live s d) c Device told b
+pub device_changed : (live : Bool) (s : BenchState) (d : DiskState) (b : SessionState) (c : Command) (told : List ℕ) → Tried live s d c (Err fault.Device) b → told ≡ no_text DEVICE → Changed (at live s d) c Device told b
 device_changed false s d b c told h k = absurd (h.applied)
 device_changed true s d b c told h k = record {
   may = h.applied.0;
@@ -108,7 +108,7 @@ device_changed true s d b c told h k = record {
   leaves = record { state = h.applied.1; closes = h.closes; size = h.size; honest = h.honest; kept = λ given. failed_keeps d b.disk s c (h.records given.honest.1) (h.lawful (h.honest.1 given.honest.1)) };
 }
 
-pub closed_changed : (live : Bool) (s : Flat) (d : DiskState) (b : SessionState) (c : Command) (told : List ℕ) → Tried live s d c (Err fault.Closed) b → told ≡ no_text CLOSED → Changed (at live s d) c Closed told b
+pub closed_changed : (live : Bool) (s : BenchState) (d : DiskState) (b : SessionState) (c : Command) (told : List ℕ) → Tried live s d c (Err fault.Closed) b → told ≡ no_text CLOSED → Changed (at live s d) c Closed told b
 closed_changed true s d b c told h k = absurd (h.applied)
 closed_changed false s d b c told h k = record {
   may = tt;
@@ -175,10 +175,10 @@ answered_long a i told e h = let P : Input → Type 0 = λ x. Answered a x Plain
 
 -- ---- a text
 
-pub is_text : (kind : TextKind) (text : List ℕ) → fault_of text ≡ None → judged_text kind text ≡ Text kind text
+pub is_text : (kind : TextKind) (text : List ℕ) → text_fault_of text ≡ None → judged_text kind text ≡ Text kind text
 is_text kind text e = ap (text_or_fault kind text) e
 
-pub is_bad_text : (kind : TextKind) (text : List ℕ) (f : TextFault) → fault_of text ≡ Some f → judged_text kind text ≡ BadText f
+pub is_bad_text : (kind : TextKind) (text : List ℕ) (f : TextFault) → text_fault_of text ≡ Some f → judged_text kind text ≡ BadText f
 is_bad_text kind text f e = ap (text_or_fault kind text) e
 
 -- what came of a text, by what it spells
@@ -216,22 +216,22 @@ answered_bad_text a i f told e h = let P : Input → Type 0 = λ x. Answered a x
 
 -- ---- an input that was answered
 
-of_change : (s : Flat) (c : Command) (o : Outcome) → o ≢ Device → reached_by_change s c o ≡ commands_of_change s c o
+of_change : (s : BenchState) (c : Command) (o : Outcome) → o ≢ Device → reached_by_change s c o ≡ commands_of_change s c o
 of_change s c Plain h = refl
 of_change s c Device h = absurd (h refl)
 of_change s c Closed h = refl
 of_change s c NoMemory h = refl
 
-of_request : (s : Flat) (r : Request) (o : Outcome) → o ≢ Device → reached_by_request s r o ≡ commands_of_request s r o
+of_request : (s : BenchState) (r : Request) (o : Outcome) → o ≢ Device → reached_by_request s r o ≡ commands_of_request s r o
 of_request s (Refused f) o h = refl
 of_request s (Ask q) o h = refl
 of_request s (Change c) o h = of_change s c o h
 
-of_spelled : (s : Flat) (r : Result Command TextRefusal) (o : Outcome) → o ≢ Device → reached_by_spelled s r o ≡ commands_of_spelled s r o
+of_spelled : (s : BenchState) (r : Result Command TextRefusal) (o : Outcome) → o ≢ Device → reached_by_spelled s r o ≡ commands_of_spelled s r o
 of_spelled s (Ok c) o h = of_change s c o h
 of_spelled s (Err f) o h = refl
 
-pub reached_same : (s : Flat) (i : Input) (o : Outcome) → o ≢ Device → reached s i o ≡ commands s i o
+pub reached_same : (s : BenchState) (i : Input) (o : Outcome) → o ≢ Device → reached s i o ≡ commands s i o
 unfolding reached commands
 reached_same s Blank o h = refl
 reached_same s TooLong o h = refl
@@ -239,7 +239,7 @@ reached_same s (BadText f) o h = refl
 reached_same s (Text kind text) o h = of_spelled s (command_of_text kind text) o h
 reached_same s (Line line) o h = of_request s (request_of line) o h
 
-kept_of : (o : Outcome) (d e : DiskState) (s : Flat) (i : Input) → KeptBy o d e s (commands s i o) (reached s i o) → Kept d e s (commands s i o) (reached s i o)
+kept_of : (o : Outcome) (d e : DiskState) (s : BenchState) (i : Input) → KeptBy o d e s (commands s i o) (reached s i o) → Kept d e s (commands s i o) (reached s i o)
 kept_of Device d e s i h = h
 kept_of Plain d e s i h = let P : List Command → Type 0 = λ cs. Kept d e s (commands s i Plain) cs in subst P (sym (reached_same s i Plain (λ x. absurd (cc x)))) h.kept
 kept_of Closed d e s i h = let P : List Command → Type 0 = λ cs. Kept d e s (commands s i Closed) cs in subst P (sym (reached_same s i Closed (λ x. absurd (cc x)))) h.kept

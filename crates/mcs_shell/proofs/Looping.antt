@@ -3,7 +3,7 @@ use Rattle.std.proofs.Common.{◌≡◌, ℕ, ◌+◌, ◌<◌, ◌≤◌, List,
 use Rattle.std.specs.Io.KnownBytes.{Appends, Consumes, Keeps}
 use Rattle.std.proofs.lemmas.Grind.{common_steps}
 use Rattle.mcs_model.specs.declared.command.Command.{Command}
-use Rattle.mcs_model.specs.Flat.{Flat}
+use Rattle.mcs_model.specs.BenchState.{BenchState}
 use Rattle.mcs_model.specs.Fold.{fold}
 use Rattle.mcs_shell.specs.declared.outcome.Halt.{Halt}
 use Rattle.mcs_shell.specs.declared.outcome.Halt.TheVariants as halt
@@ -18,7 +18,7 @@ use Rattle.mcs_session.specs.Standing.{SessionState, Standing, standing_after}
 use Rattle.mcs_shell.specs.Stage.{Stage}
 use Rattle.mcs_shell.specs.Transcript.{Served, Went, all_commands, transcript}
 use Rattle.mcs_answers.specs.AnswerTexts.{session_text}
-use Rattle.mcs_session.specs.Kept.{Carries, IsHonest, IsSettled}
+use Rattle.mcs_session.specs.Kept.{Carries, IsOpenOnHonestDisk, IsSettled}
 use Rattle.mcs_shell.specs.Serving.{CutShort, Failed, LastStep, StopsAt, Stopped, StoppedAt, WentFurther, WentOn}
 use Rattle.mcs_shell.specs.Shell.{Began, EndsBy, InputEnded, IsNear, LoopRan, RanGiven, ReadSome, ServedAll, ServedSome, StoppedNear, Untouched, WasRead, end_of_halt}
 use Rattle.mcs_shell.specs.declared.shell.TheConstants.{CHUNK_BYTES}
@@ -97,7 +97,7 @@ then_all whole a b c l k bytes x y =
     let is = x.carries.standing in
     let state : t ≡ fold s (all_commands s x.progress.served) = ap (λ (v : Standing). v.state) is in
     let went : Went (standing_after a.session.standing (all_commands s x.progress.served)) y.served = subst (λ (v : Standing). Went v y.served) is y.went in
-    let written : Appends b.out c.out (transcript (fold s (all_commands s x.progress.served)) y.served) = subst (λ (v : Flat). Appends b.out c.out (transcript v y.served)) state y.written in
+    let written : Appends b.out c.out (transcript (fold s (all_commands s x.progress.served)) y.served) = subst (λ (v : BenchState). Appends b.out c.out (transcript v y.served)) state y.written in
     let P : List ℕ → Type 0 = λ v. Appends a.out c.out v in
     record {
       served = x.progress.served ++ y.served;
@@ -118,7 +118,7 @@ module _ (Last : LastStep) (back : MovesBack Last) where
       let is = x.carries.standing in
       let state : t ≡ fold s (all_commands s x.progress.served) = ap (λ (v : Standing). v.state) is in
       let went : Went (standing_after a.session.standing (all_commands s x.progress.served)) y.served = subst (λ (v : Standing). Went v y.served) is y.went in
-      let written : Appends b.out y.middle (transcript (fold s (all_commands s x.progress.served)) y.served) = subst (λ (v : Flat). Appends b.out y.middle (transcript v y.served)) state y.written in
+      let written : Appends b.out y.middle (transcript (fold s (all_commands s x.progress.served)) y.served) = subst (λ (v : BenchState). Appends b.out y.middle (transcript v y.served)) state y.written in
       let P : List ℕ → Type 0 = λ v. Appends a.out y.middle v in
       let cs : all_commands s x.progress.served ++ all_commands t y.served ≡ all_commands s (x.progress.served ++ y.served) = all_commands-further s t x.progress.served y.served state in
       let standing : standing_after b.session.standing (all_commands t y.served) ≡ standing_after a.session.standing (all_commands s (x.progress.served ++ y.served)) =
@@ -323,12 +323,12 @@ ran_stop halt.Device r r' r'' a b c line chunk total n most x small little y z =
 
 -- ---- the premise that callers see
 
-carries_under : (a b : SessionState) (cs : List Command) → (IsHonest a → IsSettled a) → Carries IsSettled a b cs → Carries IsHonest a b cs
+carries_under : (a b : SessionState) (cs : List Command) → (IsOpenOnHonestDisk a → IsSettled a) → Carries IsSettled a b cs → Carries IsOpenOnHonestDisk a b cs
 carries_under a b cs settle x = record { standing = x.standing; same_faults = x.same_faults; size = x.size; honest = x.honest; kept = λ given. x.kept (settle given) }
 
 -- a last step under that premise
 abbrev pub MovesUnder : LastStep → Type 1
-MovesUnder Last = (a : SessionState) (cs : List Command) (m : Standing) (i : Input) (p : Option (List ℕ)) (c : Stage) → (IsHonest a → IsSettled a) → Last IsSettled a cs m i p c → Last IsHonest a cs m i p c
+MovesUnder Last = (a : SessionState) (cs : List Command) (m : Standing) (i : Input) (p : Option (List ℕ)) (c : Stage) → (IsOpenOnHonestDisk a → IsSettled a) → Last IsSettled a cs m i p c → Last IsOpenOnHonestDisk a cs m i p c
 
 cut_under : MovesUnder CutShort
 cut_under a cs m i p c settle x = record {
@@ -343,7 +343,7 @@ failed_under a cs m i p c settle x = record {
   written = x.written;
 }
 
-all_under : (given : List Input) (a b : Stage) → (IsHonest a.session → IsSettled a.session) → ServedAll IsSettled given a b → ServedAll IsHonest given a b
+all_under : (given : List Input) (a b : Stage) → (IsOpenOnHonestDisk a.session → IsSettled a.session) → ServedAll IsSettled given a b → ServedAll IsOpenOnHonestDisk given a b
 all_under given a b settle x = record {
   served = x.served;
   spelled = x.spelled;
@@ -353,7 +353,7 @@ all_under given a b settle x = record {
 }
 
 module _ (Last : LastStep) (under : MovesUnder Last) where
-  abbrev some_under : (given : List Input) (a b : Stage) → (IsHonest a.session → IsSettled a.session) → ServedSome IsSettled Last given a b → ServedSome IsHonest Last given a b
+  abbrev some_under : (given : List Input) (a b : Stage) → (IsOpenOnHonestDisk a.session → IsSettled a.session) → ServedSome IsSettled Last given a b → ServedSome IsOpenOnHonestDisk Last given a b
   some_under given a b settle x =
       let cs : List Command = all_commands a.session.standing.state x.served in
       record {
@@ -367,7 +367,7 @@ module _ (Last : LastStep) (under : MovesUnder Last) where
         ended = under a.session cs (standing_after a.session.standing cs) x.last x.middle b settle x.ended;
       }
 
-ends_under : (end : ShellEnd) (bytes : List ℕ) (left : Option (List ℕ)) (a b : Stage) → (IsHonest a.session → IsSettled a.session) → EndsBy IsSettled end bytes left a b → EndsBy IsHonest end bytes left a b
+ends_under : (end : ShellEnd) (bytes : List ℕ) (left : Option (List ℕ)) (a b : Stage) → (IsOpenOnHonestDisk a.session → IsSettled a.session) → EndsBy IsSettled end bytes left a b → EndsBy IsOpenOnHonestDisk end bytes left a b
 ends_under End bytes left a b settle x = (x.0, all_under (inputs bytes true) a b settle x.1)
 ends_under ReadFault bytes left a b settle x = (x.0, all_under (inputs bytes false) a b settle x.1)
 ends_under InputLimit bytes left a b settle x = (x.0, all_under (inputs bytes false) a b settle x.1)
@@ -377,16 +377,16 @@ ends_under NoMemory bytes left a b settle x = absurd x
 
 -- ---- the whole run
 
-began : (end : ShellEnd) (r r' : Option (List ℕ)) (a b : Stage) (started : Option (List ℕ)) → (IsHonest a.session → IsSettled a.session) → Appends a.out started (session_text a.session.standing.state)
-    → LoopRan IsSettled end r r' (record { session = a.session; out = started }) b → Began IsHonest end r r' a b
+began : (end : ShellEnd) (r r' : Option (List ℕ)) (a b : Stage) (started : Option (List ℕ)) → (IsOpenOnHonestDisk a.session → IsSettled a.session) → Appends a.out started (session_text a.session.standing.state)
+    → LoopRan IsSettled end r r' (record { session = a.session; out = started }) b → Began IsOpenOnHonestDisk end r r' a b
 began end r r' a b started settle first x = record {
   started = started;
   first = first;
   ran = record { bytes = x.bytes; consumed = x.consumed; ends = ends_under end x.bytes r' (record { session = a.session; out = started }) b settle x.ends };
 }
 
-pub ran_after : (end : ShellEnd) (r r' : Option (List ℕ)) (a b : Stage) (started : Option (List ℕ)) → (IsHonest a.session → IsSettled a.session) → Appends a.out started (session_text a.session.standing.state)
-    → LoopRan IsSettled end r r' (record { session = a.session; out = started }) b → RanGiven IsHonest end r r' a b
+pub ran_after : (end : ShellEnd) (r r' : Option (List ℕ)) (a b : Stage) (started : Option (List ℕ)) → (IsOpenOnHonestDisk a.session → IsSettled a.session) → Appends a.out started (session_text a.session.standing.state)
+    → LoopRan IsSettled end r r' (record { session = a.session; out = started }) b → RanGiven IsOpenOnHonestDisk end r r' a b
 ran_after End r r' a b started settle first x = began End r r' a b started settle first x
 ran_after ReadFault r r' a b started settle first x = began ReadFault r r' a b started settle first x
 ran_after WriteFault r r' a b started settle first x = inr (began WriteFault r r' a b started settle first x)
@@ -395,5 +395,5 @@ ran_after InputLimit r r' a b started settle first x = began InputLimit r r' a b
 ran_after NoMemory r r' a b started settle first x = absurd x.ends
 
 -- nothing was read or done
-pub untouched : (r : Option (List ℕ)) (a : SessionState) → (IsHonest a → IsSettled a) → Carries IsSettled a a [] → Untouched IsHonest r r a a
+pub untouched : (r : Option (List ℕ)) (a : SessionState) → (IsOpenOnHonestDisk a → IsSettled a) → Carries IsSettled a a [] → Untouched IsOpenOnHonestDisk r r a a
 untouched r a settle x = record { consumed = consumes_nothing r; carries = carries_under a a [] settle x }

@@ -2,14 +2,14 @@
 use Rattle.std.proofs.Common.{◌≡◌, ℕ, take, List, [], ◌∷◌, ◌++◌, Bool, true, false, Option, Some, None, map, ap, sym, append_assoc, ◌∙◌, refl, subst}
 use Rattle.std.specs.Io.KnownBytes.{Appends}
 use Rattle.mcs_model.specs.declared.command.Command.{Command}
-use Rattle.mcs_model.specs.Flat.{Flat}
+use Rattle.mcs_model.specs.BenchState.{BenchState}
 use Rattle.mcs_model.specs.Fold.{fold}
 use Rattle.mcs_shell.specs.declared.outcome.Outcome.{Outcome}
 use Rattle.mcs_shell.specs.declared.outcome.Outcome.TheVariants.{Device}
 use Rattle.mcs_shell.specs.declared.outcome.Halt.{Halt}
 use Rattle.mcs_shell.specs.declared.outcome.Halt.TheVariants as halt
 use Rattle.mcs_shell.specs.Lines.{HasNoFeed, is_line_feed}
-use Rattle.mcs_shell.specs.Inputs.{Input, Pending, Commands, InText, fresh, inputs_after, is_dot, judged, judged_text, opened}
+use Rattle.mcs_shell.specs.Inputs.{Input, Pending, Commands, InText, fresh, inputs_after, is_dot_line, judged, judged_text, opened}
 use Rattle.mcs_shell.specs.Reading.{Gathers, GathersLine}
 use Rattle.mcs_shell.specs.declared.texts.TextKind.{TextKind}
 use Rattle.std.specs.Io.BufRead.{strip_last}
@@ -55,7 +55,7 @@ pub further : (m n : Standing) (o p q : Option (List ℕ)) (l k e : Pending) (by
 further m n o p q l k e bytes rest a is b =
     let state : n.state ≡ fold m.state (all_commands m.state a.served) = ap (λ (v : Standing). v.state) is in
     let went : Went (standing_after m (all_commands m.state a.served)) b.served = subst (λ (v : Standing). Went v b.served) is b.went in
-    let written : Appends p q (transcript (fold m.state (all_commands m.state a.served)) b.served) = subst (λ (v : Flat). Appends p q (transcript v b.served)) state b.written in
+    let written : Appends p q (transcript (fold m.state (all_commands m.state a.served)) b.served) = subst (λ (v : BenchState). Appends p q (transcript v b.served)) state b.written in
     let P : List ℕ → Type 0 = λ v. Appends o q v in
     record {
       served = a.served ++ b.served;
@@ -124,16 +124,16 @@ went_opened a p q line kind f is e some new =
     let some2 : opened (strip_last 13 p.line) ≡ Some kind = ap opened (sym e) ∙ some in
     went_none a p q (10 ∷ []) (subst (λ (x : Pending). HasNoFeed x.line) (sym new) tt) (λ more whole. feed-opened p q more whole kind f is some2 new)
 
-pub went_text : (a b : Stage) (p q : Pending) (line : List ℕ) (kind : TextKind) (text : List ℕ) → HasNoFeed p.line → p.mode ≡ InText kind text → line ≡ strip_last 13 p.line → is_dot line ≡ true → q ≡ fresh
+pub went_text : (a b : Stage) (p q : Pending) (line : List ℕ) (kind : TextKind) (text : List ℕ) → HasNoFeed p.line → p.mode ≡ InText kind text → line ≡ strip_last 13 p.line → is_dot_line line ≡ true → q ≡ fresh
     → WentOn a (judged_text kind text) b → WentFurther a b p q (10 ∷ [])
 went_text a b p q line kind text f is e dot new h =
-    let dot2 : is_dot (strip_last 13 p.line) ≡ true = ap is_dot (sym e) ∙ dot in
+    let dot2 : is_dot_line (strip_last 13 p.line) ≡ true = ap is_dot_line (sym e) ∙ dot in
     went_one a b p q (10 ∷ []) (judged_text kind text) (fresh_feed q new) (λ more whole. feed-dot p q more whole kind text f is dot2 new) h
 
-pub went_line : (a : Stage) (p q : Pending) (line : List ℕ) (kind : TextKind) (text : List ℕ) → HasNoFeed p.line → p.mode ≡ InText kind text → line ≡ strip_last 13 p.line → is_dot line ≡ false
+pub went_line : (a : Stage) (p q : Pending) (line : List ℕ) (kind : TextKind) (text : List ℕ) → HasNoFeed p.line → p.mode ≡ InText kind text → line ≡ strip_last 13 p.line → is_dot_line line ≡ false
     → GathersLine p q → WentFurther a a p q (10 ∷ [])
 went_line a p q line kind text f is e dot h =
-    let dot2 : is_dot (strip_last 13 p.line) ≡ false = ap is_dot (sym e) ∙ dot in
+    let dot2 : is_dot_line (strip_last 13 p.line) ≡ false = ap is_dot_line (sym e) ∙ dot in
     let g : Gathers (InText kind text) p.line q = subst (λ m. Gathers m p.line q) is h in
     went_none a p q (10 ∷ []) (subst (λ (x : Pending). HasNoFeed x.line) (sym (g.2)) tt) (λ more whole. feed-line p q more whole kind text (g.0) f is dot2 (g.1) (g.2))
 
@@ -189,7 +189,7 @@ module _ (Last : LastStep) (back : MovesBack Last) where
       let is = x.carries.standing in
       let state : t ≡ fold s (all_commands s x.progress.served) = ap (λ (v : Standing). v.state) is in
       let went : Went (standing_after a.session.standing (all_commands s x.progress.served)) y.served = subst (λ (v : Standing). Went v y.served) is y.went in
-      let written : Appends b.out y.middle (transcript (fold s (all_commands s x.progress.served)) y.served) = subst (λ (v : Flat). Appends b.out y.middle (transcript v y.served)) state y.written in
+      let written : Appends b.out y.middle (transcript (fold s (all_commands s x.progress.served)) y.served) = subst (λ (v : BenchState). Appends b.out y.middle (transcript v y.served)) state y.written in
       let P : List ℕ → Type 0 = λ v. Appends a.out y.middle v in
       let cs : all_commands s x.progress.served ++ all_commands t y.served ≡ all_commands s (x.progress.served ++ y.served) = all_commands-further s t x.progress.served y.served state in
       let standing : standing_after b.session.standing (all_commands t y.served) ≡ standing_after a.session.standing (all_commands s (x.progress.served ++ y.served)) =
@@ -246,10 +246,10 @@ stopped_command halt a b p line f is e none h =
     let none2 : opened (strip_last 13 p.line) ≡ None = ap opened (sym e) ∙ none in
     stopped_one halt a b p (10 ∷ []) (judged line) (λ more whole. (inputs_after fresh more whole, feed-command p fresh more whole f is none2 refl ∙ ap (λ l. judged l ∷ inputs_after fresh more whole) (sym e))) h
 
-pub stopped_text : (halt : Halt) (a b : Stage) (p : Pending) (line : List ℕ) (kind : TextKind) (text : List ℕ) → HasNoFeed p.line → p.mode ≡ InText kind text → line ≡ strip_last 13 p.line → is_dot line ≡ true
+pub stopped_text : (halt : Halt) (a b : Stage) (p : Pending) (line : List ℕ) (kind : TextKind) (text : List ℕ) → HasNoFeed p.line → p.mode ≡ InText kind text → line ≡ strip_last 13 p.line → is_dot_line line ≡ true
     → StopsAt halt a (judged_text kind text) b → Stopped halt a b p (10 ∷ [])
 stopped_text halt a b p line kind text f is e dot h =
-    let dot2 : is_dot (strip_last 13 p.line) ≡ true = ap is_dot (sym e) ∙ dot in
+    let dot2 : is_dot_line (strip_last 13 p.line) ≡ true = ap is_dot_line (sym e) ∙ dot in
     stopped_one halt a b p (10 ∷ []) (judged_text kind text) (λ more whole. (inputs_after fresh more whole, feed-dot p fresh more whole kind text f is dot2 refl)) h
 
 -- ---- a chunk, line by line

@@ -2,9 +2,9 @@
 use Rattle.std.proofs.Common.{◌≡◌, ℕ, List, [], ◌∷◌, ◌++◌, Option, ap, append_assoc, sym, ◌∙◌, refl, subst, inl, inr}
 use Rattle.mcs_disk.specs.Disk.{DiskState, IsLawful}
 use Rattle.mcs_model.specs.declared.command.Command.{Command}
-use Rattle.mcs_model.specs.Flat.{Flat}
+use Rattle.mcs_model.specs.BenchState.{BenchState}
 use Rattle.mcs_model.specs.Fold.{fold}
-use Rattle.mcs_session.specs.Kept.{Carries, IsHonest, Kept}
+use Rattle.mcs_session.specs.Kept.{Carries, IsOpenOnHonestDisk, Kept}
 use Rattle.mcs_session.specs.Standing.{SessionState, Standing, standing_after}
 use Rattle.mcs_session.proofs.Folds.{fold-append}
 use Rattle.mcs_session.proofs.Reopening.{found_is_opened, reopened}
@@ -29,16 +29,16 @@ all_reached-went m (p ∷ rest) h =
     let n = standing_after m (commands m.state p.0 p.1) in
     ap (λ cs. cs ++ all_reached n.state rest) (reached_same m.state p.0 p.1 h.0.0) ∙ ap (λ cs. commands m.state p.0 p.1 ++ cs) (all_reached-went n rest h.1)
 
-all_reached-append : (s : Flat) (xs ys : Served) → all_reached s (xs ++ ys) ≡ all_reached s xs ++ all_reached (state_after s xs) ys
+all_reached-append : (s : BenchState) (xs ys : Served) → all_reached s (xs ++ ys) ≡ all_reached s xs ++ all_reached (state_after s xs) ys
 unfolding all_reached all_commands
 all_reached-append s [] ys = refl
 all_reached-append s (p ∷ xs) ys =
     let t = fold s (commands s p.0 p.1) in
     ap (λ v. reached s p.0 p.1 ++ v) (all_reached-append t xs ys)
     ∙ sym (append_assoc (reached s p.0 p.1) (all_reached t xs) (all_reached (state_after t xs) ys))
-    ∙ ap (λ (u : Flat). (reached s p.0 p.1 ++ all_reached t xs) ++ all_reached u ys) (sym (fold-append s (commands s p.0 p.1) (all_commands t xs)))
+    ∙ ap (λ (u : BenchState). (reached s p.0 p.1 ++ all_reached t xs) ++ all_reached u ys) (sym (fold-append s (commands s p.0 p.1) (all_commands t xs)))
 
-all_reached-alone : (s : Flat) (i : Input) (o : Outcome) → all_reached s (alone i o) ≡ reached s i o
+all_reached-alone : (s : BenchState) (i : Input) (o : Outcome) → all_reached s (alone i o) ≡ reached s i o
 unfolding all_reached
 all_reached-alone s i o = nil_right (reached s i o)
 
@@ -49,7 +49,7 @@ all_reached-last m served i o went = all_reached-append m.state served (alone i 
     ∙ ap (λ cs. cs ++ all_reached (state_after m.state served) (alone i o)) (all_reached-went m served went)
     ∙ ap (λ cs. all_commands m.state served ++ cs) (all_reached-alone (state_after m.state served) i o)
 
-all_commands-last : (s : Flat) (served : Served) (i : Input) (o : Outcome) → all_commands s (served ++ (i, o) ∷ []) ≡ all_commands s served ++ commands (state_after s served) i o
+all_commands-last : (s : BenchState) (served : Served) (i : Input) (o : Outcome) → all_commands s (served ++ (i, o) ∷ []) ≡ all_commands s served ++ commands (state_after s served) i o
 all_commands-last s served i o = all_commands-append s served (alone i o) ∙ ap (λ cs. all_commands s served ++ cs) (all_commands-alone (state_after s served) i o)
 
 kept_all : (d e : DiskState) (m : Standing) (served : Served) → Went m served → Kept d e m.state (all_commands m.state served) (all_commands m.state served)
@@ -65,7 +65,7 @@ kept_last d e m served i o went kept =
     let Q : List Command → Type 0 = λ ds. Kept d e m.state ds (all_reached m.state (served ++ (i, o) ∷ [])) in
     subst Q (sym (all_commands-last m.state served i o)) (subst P (sym (all_reached-last m served i o went)) kept)
 
-kept_nothing : (a b : SessionState) → IsHonest a → Carries IsHonest a b [] → Kept a.disk b.disk a.standing.state (all_commands a.standing.state []) (all_reached a.standing.state [])
+kept_nothing : (a b : SessionState) → IsOpenOnHonestDisk a → Carries IsOpenOnHonestDisk a b [] → Kept a.disk b.disk a.standing.state (all_commands a.standing.state []) (all_reached a.standing.state [])
 unfolding all_commands all_reached
 kept_nothing a b given carries = (carries.kept given).kept
 
@@ -74,7 +74,7 @@ kept_nothing a b given carries = (carries.kept given).kept
 abbrev KeptMet : Stage → Stage → Served → Type 0
 KeptMet a b met = Kept a.session.disk b.session.disk a.session.standing.state (all_commands a.session.standing.state met) (all_reached a.session.standing.state met)
 
-kept_by_end : (end : ShellEnd) (bytes : List ℕ) (left : Option (List ℕ)) (a b : Stage) → IsHonest a.session → (h : EndsBy IsHonest end bytes left a b) → KeptMet a b (met_by_end end bytes left a b h)
+kept_by_end : (end : ShellEnd) (bytes : List ℕ) (left : Option (List ℕ)) (a b : Stage) → IsOpenOnHonestDisk a.session → (h : EndsBy IsOpenOnHonestDisk end bytes left a b) → KeptMet a b (met_by_end end bytes left a b h)
 kept_by_end End bytes left a b given h = kept_all a.session.disk b.session.disk a.session.standing h.1.served h.1.went (h.1.carries.kept given).kept
 kept_by_end ReadFault bytes left a b given h = kept_all a.session.disk b.session.disk a.session.standing h.1.served h.1.went (h.1.carries.kept given).kept
 kept_by_end InputLimit bytes left a b given h = kept_all a.session.disk b.session.disk a.session.standing h.1.served h.1.went (h.1.carries.kept given).kept
@@ -85,7 +85,7 @@ kept_by_end NoMemory bytes left a b given h = absurd h
 abbrev started_at : Stage → Option (List ℕ) → Stage
 started_at a out = record { session = a.session; out = out }
 
-kept_of_run : (end : ShellEnd) (r r' : Option (List ℕ)) (a b : Stage) (ran : Ran end r r' a b) → IsHonest a.session → KeptMet a b (inputs_met end r r' a b ran)
+kept_of_run : (end : ShellEnd) (r r' : Option (List ℕ)) (a b : Stage) (ran : Ran end r r' a b) → IsOpenOnHonestDisk a.session → KeptMet a b (inputs_met end r r' a b ran)
 kept_of_run NoMemory r r' a b ran given = kept_nothing a.session b.session given ran.0.carries
 kept_of_run WriteFault r r' a b (inl x) given = kept_nothing a.session b.session given x.0.carries
 kept_of_run WriteFault r r' a b (inr x) given = kept_by_end WriteFault x.ran.bytes r' (started_at a x.started) b given x.ran.ends
@@ -112,5 +112,5 @@ survives_as_kept state_of lawful a b met kept =
     }
 
 pub survives : {E : Type 0} (state_of : E → DiskState) → ((e : E) → (state_of e).honest → IsLawful (state_of e)) → (end : ShellEnd) (r r' : Option (List ℕ)) (a b : Stage) (ran : Ran end r r' a b)
-    → IsHonest a.session → SurvivesPowerCuts state_of a.session b.session.disk (inputs_met end r r' a b ran)
+    → IsOpenOnHonestDisk a.session → SurvivesPowerCuts state_of a.session b.session.disk (inputs_met end r r' a b ran)
 survives state_of lawful end r r' a b ran given = survives_as_kept state_of lawful a b (inputs_met end r r' a b ran) (kept_of_run end r r' a b ran given)

@@ -5,9 +5,9 @@ use Rattle.mcs_disk.specs.Disk.{DiskState}
 use Rattle.mcs_disk.specs.PowerCut.{IsLeftByCut}
 use Rattle.mcs_journal.specs.declared.fault.OpenFault.{OpenFault}
 use Rattle.mcs_journal.specs.declared.fault.OpenFault.TheVariants as open_fault
-use Rattle.mcs_model.specs.Flat.{Flat}
+use Rattle.mcs_model.specs.BenchState.{BenchState}
 use Rattle.mcs_session.specs.Answers.{RefusesSession}
-use Rattle.mcs_session.specs.Kept.{IsAfterPrefix, IsHonest, IsReopened, IsSpaced, acknowledged_by, last_moment}
+use Rattle.mcs_session.specs.Kept.{IsAfterPrefix, IsOpenOnHonestDisk, IsReopened, IsSpaced, acknowledged_by, last_moment}
 use Rattle.mcs_session.specs.Standing.{SessionState}
 use Rattle.mcs_shell.specs.declared.ends.ShellEnd.{ShellEnd}
 use Rattle.mcs_shell.specs.declared.ends.ShellEnd.TheVariants.{End, ReadFault, WriteFault, DeviceFault, InputLimit, NoMemory}
@@ -17,7 +17,7 @@ use Rattle.mcs_shell.specs.Stage.{Stage}
 use Rattle.mcs_shell.specs.Transcript.{Served, all_commands, all_reached}
 
 -- the inputs that a run met, in turn, each with what came of it; the last one may have been answered in part
-abbrev pub met_by_end : (end : ShellEnd) (bytes : List ℕ) (left : Option (List ℕ)) (a b : Stage) → EndsBy IsHonest end bytes left a b → Served
+abbrev pub met_by_end : (end : ShellEnd) (bytes : List ℕ) (left : Option (List ℕ)) (a b : Stage) → EndsBy IsOpenOnHonestDisk end bytes left a b → Served
 met_by_end End bytes left a b h = h.1.served
 met_by_end ReadFault bytes left a b h = h.1.served
 met_by_end InputLimit bytes left a b h = h.1.served
@@ -25,7 +25,7 @@ met_by_end WriteFault bytes left a b h = h.2.some.served ++ (h.2.some.last, h.2.
 met_by_end DeviceFault bytes left a b h = h.2.some.served ++ (h.2.some.last, Device) ∷ []
 met_by_end NoMemory bytes left a b h = []
 
-abbrev pub met_in_loop : (end : ShellEnd) (reader reader' : Option (List ℕ)) (a b : Stage) → LoopRan IsHonest end reader reader' a b → Served
+abbrev pub met_in_loop : (end : ShellEnd) (reader reader' : Option (List ℕ)) (a b : Stage) → LoopRan IsOpenOnHonestDisk end reader reader' a b → Served
 met_in_loop end reader reader' a b h = met_by_end end h.bytes reader' a b h.ends
 
 abbrev pub inputs_met : (end : ShellEnd) (reader reader' : Option (List ℕ)) (a b : Stage) → Ran end reader reader' a b → Served
@@ -46,7 +46,7 @@ pub record SurvivesPowerCuts {E : Type 0} (state_of : E → DiskState) (a : Sess
   pub count : length moments ≡ length (all_commands a.standing.state met)
   pub spaced : IsSpaced a.disk.clock moments
   pub within : last_moment a.disk.clock moments ≤ ran.clock
-  pub reopened : (t : ℕ) (found opened : E) (u : Flat) → a.disk.clock ≤ t → IsReopened t ran (state_of found) (state_of opened) u
+  pub reopened : (t : ℕ) (found opened : E) (u : BenchState) → a.disk.clock ≤ t → IsReopened t ran (state_of found) (state_of opened) u
       → IsAfterPrefix a.standing.state (all_reached a.standing.state met) (acknowledged_by t moments) u
   pub not_refused : (t : ℕ) (found : E) (fault : OpenFault) → a.disk.clock ≤ t → IsLeftByCut t ran (state_of found) → RefusesSession fault (state_of found)
       → (fault ≡ open_fault.Device) ⊎ (fault ≡ open_fault.NoMemory)

@@ -38,8 +38,8 @@ opened line = if nat_lt LINE_BYTES (length line) then None else opener (words_of
 -- ---- a text
 
 -- the line that ends a text
-abbrev pub is_dot : List ℕ → Bool
-is_dot line = bytes_eq line (codes ".")
+abbrev pub is_dot_line : List ℕ → Bool
+is_dot_line line = bytes_eq line (codes ".")
 
 -- a line, or a byte, that a text may have
 abbrev pub is_short : List ℕ → Bool
@@ -49,8 +49,8 @@ abbrev pub is_text_byte : ℕ → Bool
 is_text_byte b = (b == 10) || is_plain_byte b
 
 -- why a text that has an end is refused whatever its lines say, if it is: the first of these
-unfoldable pub fault_of : List ℕ → Option TextFault
-fault_of text =
+unfoldable pub text_fault_of : List ℕ → Option TextFault
+text_fault_of text =
     if nat_lt TEXT_BYTES (length text) then Some TextTooLong
     else if list_all is_short (cut_at is_line_feed text) then (if list_all is_text_byte text then None else Some HasBadByte)
     else Some HasLongLine
@@ -60,7 +60,7 @@ text_or_fault kind text None = Text kind text
 text_or_fault kind text (Some fault) = BadText fault
 
 abbrev pub judged_text : TextKind → List ℕ → Input
-judged_text kind text = text_or_fault kind text (fault_of text)
+judged_text kind text = text_or_fault kind text (text_fault_of text)
 
 -- ---- groups of lines
 
@@ -76,7 +76,7 @@ group whole Commands [] = []
 group whole (InText kind text) [] = if whole then BadText NoEnd ∷ [] else []
 group whole Commands (l ∷ ls) = elim (opened l) [ None ↦ judged l ∷ group whole Commands ls | Some kind ↦ group whole (InText kind []) ls ]
 group whole (InText kind text) (l ∷ ls) =
-    if is_dot l then judged_text kind text ∷ group whole Commands ls else group whole (InText kind (text ++ (l ++ 10 ∷ []))) ls
+    if is_dot_line l then judged_text kind text ∷ group whole Commands ls else group whole (InText kind (text ++ (l ++ 10 ∷ []))) ls
 
 -- the inputs that the bytes spell; `whole` says that input ended there, else it was cut
 unfoldable pub inputs : List ℕ → Bool → List Input

@@ -3,7 +3,7 @@ use Rattle.std.specs.Prelude.{◌≡◌, ◌≢◌, ◌↔◌, ◌<◌, ◌+◌,
 use Rattle.std.specs.Io.KnownBytes.{Appends}
 use Rattle.mcs_disk.specs.Disk.{DiskState, most_faults}
 use Rattle.mcs_model.specs.declared.command.Command.{Command}
-use Rattle.mcs_model.specs.Flat.{Flat}
+use Rattle.mcs_model.specs.BenchState.{BenchState}
 use Rattle.mcs_model.specs.Fold.{fold}
 use Rattle.mcs_shell.specs.declared.outcome.Outcome.{Outcome}
 use Rattle.mcs_shell.specs.declared.outcome.Outcome.TheVariants.{Device}
@@ -31,7 +31,7 @@ ClosesAt Device live faults new_live new_faults = (new_live ≡ false) × (new_f
 ClosesAt o live faults new_live new_faults = (new_live ≡ live) × (new_faults ≡ faults)
 
 -- what the disk keeps of a command that met this outcome
-abbrev pub KeptBy : Outcome → DiskState → DiskState → Flat → List Command → List Command → Type 0
+abbrev pub KeptBy : Outcome → DiskState → DiskState → BenchState → List Command → List Command → Type 0
 KeptBy Device old new s done reached_too = Kept old new s done reached_too
 KeptBy o old new s done reached_too = KeptWhole old new s done
 

@@ -12,7 +12,7 @@ use Rattle.mcs_session.specs.Standing.{SessionState, standing_after}
 use Rattle.mcs_shell.specs.Stage.{Stage}
 use Rattle.mcs_shell.specs.Transcript.{Served, Went, all_commands, transcript}
 use Rattle.mcs_answers.specs.AnswerTexts.{session_text}
-use Rattle.mcs_session.specs.Kept.{Carries, IsHonest, IsSettled}
+use Rattle.mcs_session.specs.Kept.{Carries, IsOpenOnHonestDisk, IsSettled}
 use Rattle.mcs_shell.specs.Serving.{CutShort, Failed, GotSome, LastStep}
 
 -- every one of these inputs was served
@@ -97,7 +97,7 @@ RanGiven Given end reader reader' a b = Began Given end reader reader' a b
 
 -- the same under the premise that the session is open and its disk honest
 abbrev pub Ran : ShellEnd → Option (List ℕ) → Option (List ℕ) → Stage → Stage → Type 0
-Ran = RanGiven IsHonest
+Ran = RanGiven IsOpenOnHonestDisk
 
 -- a read gave these n bytes, none only at the end
 pub record ReadSome (n most : ℕ) (old new : Option (List ℕ)) (bytes : List ℕ) : Type 0 where

@@ -4,9 +4,9 @@ use Rattle.mcs_model.specs.declared.board.BoardParts.{BoardParts}
 use Rattle.mcs_model.specs.declared.command.Command.{Command}
 use Rattle.mcs_model.specs.declared.command.Command.TheVariants as command
 use Rattle.mcs_source.specs.Assembly.{assembled}
-use Rattle.mcs_source.specs.Refusal.{source_refusal_number}
+use Rattle.mcs_source.specs.Refusal.{source_fault_number}
 use Rattle.mcs_source.specs.declared.fault.SourceFault.{SourceFault}
-use Rattle.mcs_wiring.specs.Refusals.{wiring_refusal_number}
+use Rattle.mcs_wiring.specs.Refusals.{wiring_fault_number}
 use Rattle.mcs_wiring.specs.Wiring.{board_of_text}
 use Rattle.mcs_wiring.specs.declared.fault.WiringFault.{WiringFault}
 use Rattle.mcs_shell.specs.declared.spelling.TextRefusal.{TextRefusal}
@@ -42,5 +42,5 @@ command_of_text Asm text = load_command (assembled text)
 
 -- the answer to a text that spells nothing
 abbrev pub text_refusal : TextRefusal → List ℕ
-text_refusal (Wiring fault) = no_text (wiring_refusal_number fault)
-text_refusal (Program line fault) = no_line_text (source_refusal_number fault) line
+text_refusal (Wiring fault) = no_text (wiring_fault_number fault)
+text_refusal (Program line fault) = no_line_text (source_fault_number fault) line

@@ -2,7 +2,7 @@
 use Rattle.std.specs.Prelude.{◌≡◌, Bool, true, false, ℕ, List, [], ◌∷◌, ◌++◌, codes, Some}
 use Rattle.mcs_shell.specs.declared.texts.TextKind.{TextKind}
 use Rattle.mcs_shell.specs.declared.texts.TextFault.TheVariants.{NoEnd}
-use Rattle.mcs_shell.specs.Inputs.{BadText, Commands, group, is_dot, judged_text, opened}
+use Rattle.mcs_shell.specs.Inputs.{BadText, Commands, group, is_dot_line, judged_text, opened}
 
 -- these lines, each followed by a line feed
 abbrev pub with_feeds : List (List ℕ) → List ℕ
@@ -12,12 +12,12 @@ with_feeds (l ∷ ls) = (l ++ 10 ∷ []) ++ with_feeds ls
 -- none of these lines ends a text
 abbrev pub HasNoDot : List (List ℕ) → Type 0
 HasNoDot [] = Unit {0}
-HasNoDot (l ∷ ls) = (is_dot l ≡ false) × HasNoDot ls
+HasNoDot (l ∷ ls) = (is_dot_line l ≡ false) × HasNoDot ls
 
 -- a line that opens a text, lines of which none is a dot, and a dot: they are one input, and the lines behind are judged as
 -- if nothing had come before
-abbrev pub EndsAtDot : Type 0
-EndsAtDot = (whole : Bool) (kind : TextKind) (line : List ℕ) (text rest : List (List ℕ)) → opened line ≡ Some kind → HasNoDot text
+abbrev pub TextEndsAtDot : Type 0
+TextEndsAtDot = (whole : Bool) (kind : TextKind) (line : List ℕ) (text rest : List (List ℕ)) → opened line ≡ Some kind → HasNoDot text
     → group whole Commands (line ∷ (text ++ codes "." ∷ rest)) ≡ judged_text kind (with_feeds text) ∷ group whole Commands rest
 
 -- the same without a dot, where input ended

@@ -2,10 +2,10 @@
 use Rattle.std.specs.Prelude.{◌≡◌, ◌≢◌, Bool, true, false, ℕ, List, [], ◌∷◌, ◌++◌, Option, Some, None, Result, Ok, Err}
 use Rattle.mcs_model.specs.declared.command.Command.{Command}
 use Rattle.mcs_model.specs.declared.refusals.BenchFault.{BenchFault}
-use Rattle.mcs_model.specs.Flat.{Flat}
+use Rattle.mcs_model.specs.BenchState.{BenchState}
 use Rattle.mcs_model.specs.Command.{refusal, after, reply}
 use Rattle.mcs_model.specs.Fold.{fold}
-use Rattle.mcs_model.specs.Refusal.{bench_refusal_number}
+use Rattle.mcs_model.specs.Refusal.{bench_fault_number}
 use Rattle.mcs_model.specs.declared.refusal_numbers.TheConstants.{CLOSED, DEVICE, LINE_TOO_LONG, NO_MEMORY}
 use Rattle.mcs_lines.specs.declared.requests.Request.{Request}
 use Rattle.mcs_lines.specs.declared.requests.Request.TheVariants.{Refused, Ask, Change}
@@ -23,32 +23,32 @@ use Rattle.mcs_session.specs.Standing.{Standing, standing_after}
 -- ---- one input
 
 -- the answer to a command on an open session, by why the state refuses it
-abbrev pub plain_text : Option BenchFault → Flat → Command → List ℕ
+abbrev pub plain_text : Option BenchFault → BenchState → Command → List ℕ
 plain_text None s c = ok_text (reply s c) (after s c)
-plain_text (Some f) s c = no_text (bench_refusal_number f)
+plain_text (Some f) s c = no_text (bench_fault_number f)
 
 -- the answer to a command
-abbrev pub change_text : Flat → Command → Outcome → List ℕ
+abbrev pub change_text : BenchState → Command → Outcome → List ℕ
 change_text s c Plain = plain_text (refusal s c) s c
 change_text s c Device = no_text DEVICE
 change_text s c Closed = no_text CLOSED
 change_text s c NoMemory = no_text NO_MEMORY
 
 -- the answer to what a line asks for
-abbrev pub request_text : Flat → Request → Outcome → List ℕ
+abbrev pub request_text : BenchState → Request → Outcome → List ℕ
 request_text s r NoMemory = no_text NO_MEMORY
 request_text s (Refused f) o = no_text (line_fault_number f)
 request_text s (Ask q) o = answer_text q s
 request_text s (Change c) o = change_text s c o
 
 -- the answer to a text, by the command that it spells or why it spells none
-abbrev pub spelled_text : Flat → Result Command TextRefusal → Outcome → List ℕ
+abbrev pub spelled_text : BenchState → Result Command TextRefusal → Outcome → List ℕ
 spelled_text s r NoMemory = no_text NO_MEMORY
 spelled_text s (Ok c) o = change_text s c o
 spelled_text s (Err f) o = text_refusal f
 
 -- the answer to an input
-unfoldable pub answer : Flat → Input → Outcome → List ℕ
+unfoldable pub answer : BenchState → Input → Outcome → List ℕ
 answer s Blank o = []
 answer s TooLong o = no_text LINE_TOO_LONG
 answer s (Line line) o = request_text s (request_of line) o
@@ -60,49 +60,49 @@ abbrev pub unless_refused : Option BenchFault → Command → List Command
 unless_refused None c = c ∷ []
 unless_refused (Some f) c = []
 
-abbrev pub if_accepted : Flat → Command → List Command
+abbrev pub if_accepted : BenchState → Command → List Command
 if_accepted s c = unless_refused (refusal s c) c
 
-abbrev pub commands_of_change : Flat → Command → Outcome → List Command
+abbrev pub commands_of_change : BenchState → Command → Outcome → List Command
 commands_of_change s c Plain = if_accepted s c
 commands_of_change s c o = []
 
-abbrev pub commands_of_request : Flat → Request → Outcome → List Command
+abbrev pub commands_of_request : BenchState → Request → Outcome → List Command
 commands_of_request s (Change c) o = commands_of_change s c o
 commands_of_request s r o = []
 
-abbrev pub commands_of_spelled : Flat → Result Command TextRefusal → Outcome → List Command
+abbrev pub commands_of_spelled : BenchState → Result Command TextRefusal → Outcome → List Command
 commands_of_spelled s (Ok c) o = commands_of_change s c o
 commands_of_spelled s (Err f) o = []
 
 -- the command that was answered `ok`, if any
-unfoldable pub commands : Flat → Input → Outcome → List Command
+unfoldable pub commands : BenchState → Input → Outcome → List Command
 commands s (Line line) o = commands_of_request s (request_of line) o
 commands s (Text kind text) o = commands_of_spelled s (command_of_text kind text) o
 commands s i o = []
 
-abbrev pub reached_by_change : Flat → Command → Outcome → List Command
+abbrev pub reached_by_change : BenchState → Command → Outcome → List Command
 reached_by_change s c Plain = if_accepted s c
 reached_by_change s c Device = c ∷ []
 reached_by_change s c o = []
 
-abbrev pub reached_by_request : Flat → Request → Outcome → List Command
+abbrev pub reached_by_request : BenchState → Request → Outcome → List Command
 reached_by_request s (Change c) o = reached_by_change s c o
 reached_by_request s r o = []
 
-abbrev pub reached_by_spelled : Flat → Result Command TextRefusal → Outcome → List Command
+abbrev pub reached_by_spelled : BenchState → Result Command TextRefusal → Outcome → List Command
 reached_by_spelled s (Ok c) o = reached_by_change s c o
 reached_by_spelled s (Err f) o = []
 
 -- the command that may have reached the disk, if any: it was answered `ok` or `no 53`
-unfoldable pub reached : Flat → Input → Outcome → List Command
+unfoldable pub reached : BenchState → Input → Outcome → List Command
 reached s (Line line) o = reached_by_request s (request_of line) o
 reached s (Text kind text) o = reached_by_spelled s (command_of_text kind text) o
 reached s i o = []
 
 -- What may come of a command. On an open session it is refused as the state refuses it; else it is done where the device
 -- does not fail. On a closed session nothing is done.
-abbrev pub ChangeMayEnd : Bool → Flat → Command → Outcome → Type 0
+abbrev pub ChangeMayEnd : Bool → BenchState → Command → Outcome → Type 0
 ChangeMayEnd true s c Plain = Unit {0}
 ChangeMayEnd true s c Device = refusal s c ≡ None
 ChangeMayEnd false s c Closed = Unit {0}
@@ -136,17 +136,17 @@ abbrev pub Served : Type 0
 Served = List (Input × Outcome)
 
 -- the answers, in turn
-unfoldable pub transcript : Flat → Served → List ℕ
+unfoldable pub transcript : BenchState → Served → List ℕ
 transcript s [] = []
 transcript s (p ∷ rest) = answer s p.0 p.1 ++ transcript (fold s (commands s p.0 p.1)) rest
 
 -- the commands answered `ok`, in turn
-unfoldable pub all_commands : Flat → Served → List Command
+unfoldable pub all_commands : BenchState → Served → List Command
 all_commands s [] = []
 all_commands s (p ∷ rest) = commands s p.0 p.1 ++ all_commands (fold s (commands s p.0 p.1)) rest
 
 -- the commands that may have reached the disk, in turn
-unfoldable pub all_reached : Flat → Served → List Command
+unfoldable pub all_reached : BenchState → Served → List Command
 all_reached s [] = []
 all_reached s (p ∷ rest) = reached s p.0 p.1 ++ all_reached (fold s (commands s p.0 p.1)) rest
 

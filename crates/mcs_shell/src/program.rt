@@ -1,7 +1,7 @@
 //! The program: its words, its file, its session, its shell, its exit status.
 ghost use Rattle.std.specs.Prelude.{◌≡◌, ◌⊎◌, IfOk, IfErr, OnErr, None, true, map};
 ghost use Rattle.std.specs.Process.{exit_status};
-ghost use Rattle.mcs_host.specs.CommandLine.{chosen, is_taken};
+ghost use Rattle.mcs_host.specs.CommandLine.{chosen, takes_words};
 ghost use Rattle.mcs_host.specs.FileDisk.{IsOpened};
 ghost use Rattle.mcs_host.specs.declared.file_disk.FileDisk.{FileDisk};
 ghost use Rattle.mcs_host.specs.declared.file_fault.FileFault.{FileFault};
@@ -130,7 +130,7 @@ pub fn serve<R: Read, W: Write, D: Disk + Drop>(
 
 /// Runs the bench by these words, the program's name first: session, shell, exit status.
 pub fn run_words<S: AsStr>(rt: &HostRuntime, words: &[S]) -> io::Result<ExitCode>
-    ensures usage { IfOk result (λ code. exit_status code ≡ WRONG_WORDS → is_taken (map S.text words.entry.now) ≡ true → chosen (map S.text words.entry.now) ≡ None) }
+    ensures usage { IfOk result (λ code. exit_status code ≡ WRONG_WORDS → takes_words (map S.text words.entry.now) ≡ true → chosen (map S.text words.entry.now) ≡ None) }
     ensures status { IfOk result (λ code. (exit_status code ≡ WRONG_WORDS) ⊎ ((exit_status code ≡ REFUSED)
         ⊎ ServedAsChosen ⟦<FileDisk as Disk>⟧.state (chosen (map S.text words.entry.now)) (exit_status code))) }
 {

@@ -3,10 +3,10 @@ ghost use Rattle.std.specs.Prelude.{◌≡◌, None};
 ghost use Rattle.std.specs.List.{list_all};
 ghost use Rattle.mcs_lines.specs.Cutting.{cut_at};
 ghost use Rattle.mcs_shell.specs.Lines.{is_line_feed};
-ghost use Rattle.mcs_shell.specs.Inputs.{fault_of, is_dot, is_short, is_text_byte, opened};
+ghost use Rattle.mcs_shell.specs.Inputs.{text_fault_of, is_dot_line, is_short, is_text_byte, opened};
 ghost use Rattle.mcs_shell.specs.RefusalNumbers.{text_fault_number};
 
-use mcs_lines::words::{is_plain_byte, is_word, next_word};
+use mcs_lines::words::{is_plain_byte, equals, next_word};
 use mcs_model::limits::{LINE_BYTES, TEXT_BYTES};
 use mcs_model::refusal_numbers;
 use std::str;
@@ -65,9 +65,9 @@ pub fn opens(line: &[u8]) -> Option<TextKind>
     };
     if next_word(rest).is_some() {
         None
-    } else if is_word(word, b"wire") {
+    } else if equals(word, b"wire") {
         Some(TextKind::Wire)
-    } else if is_word(word, b"asm") {
+    } else if equals(word, b"asm") {
         Some(TextKind::Asm)
     } else {
         None
@@ -76,9 +76,9 @@ pub fn opens(line: &[u8]) -> Option<TextKind>
 
 /// Whether a line ends a text.
 pub fn ends_text(line: &[u8]) -> bool
-    ensures { result ≡ is_dot line.now }
+    ensures { result ≡ is_dot_line line.now }
 {
-    is_word(line, b".")
+    equals(line, b".")
 }
 
 fn has_short_lines(text: &[u8]) -> bool
@@ -104,9 +104,9 @@ fn has_text_bytes(text: &[u8]) -> bool
 }
 
 /// Why a text that has an end is refused whatever its lines say, if it is.
-#[tactic(auto, unfolding(crate::specs::Inputs::fault_of))]
+#[tactic(auto, unfolding(crate::specs::Inputs::text_fault_of))]
 pub fn text_fault(text: &[u8]) -> Option<TextFault>
-    ensures { result ≡ fault_of text.now }
+    ensures { result ≡ text_fault_of text.now }
 {
     if text.len() > TEXT_BYTES {
         Some(TextFault::TextTooLong)
@@ -121,7 +121,7 @@ pub fn text_fault(text: &[u8]) -> Option<TextFault>
 
 /// The bytes of a text that is not refused, as text.
 pub fn as_text(text: &[u8]) -> &str
-    requires { fault_of text.now ≡ None }
+    requires { text_fault_of text.now ≡ None }
     ensures { result.now ≡ text.now }
 {
     match str::from_utf8(text) {

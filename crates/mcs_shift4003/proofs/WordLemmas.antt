@@ -14,7 +14,7 @@ use Rattle.std.proofs.lemmas.Nat.Bits.{bit_at_lowest, bit_at-suc, bit_at-zero, b
 use Rattle.std.proofs.lemmas.Option.{slice_get-get_or, slice_get_past}
 use Rattle.mcs_nibble.specs.Bits.{bit_of}
 use Rattle.mcs_nibble.proofs.TabledLemmas.{length-tabled, get_or-tabled, tabled_from, set-tabled}
-use Rattle.mcs_shift4003.specs.Packing.{packed_bit, bit_before, row_of, IsPacked}
+use Rattle.mcs_shift4003.specs.Packing.{packed_bit, bit_before, chain_bits_of, IsPacked}
 
 -- ---- one word
 
@@ -137,31 +137,31 @@ trimmed bits level old new last p len ten len2 moved zero-there others = record 
 
 -- ---- the row
 
-pub length-row : (bits : ℕ) (words : List ℕ) → length (row_of bits words) ≡ bits
-unfolding row_of
+pub length-row : (bits : ℕ) (words : List ℕ) → length (chain_bits_of bits words) ≡ bits
+unfolding chain_bits_of
 length-row bits words = length-tabled bits (packed_bit words)
 
-pub row-bit : (bits : ℕ) (words : List ℕ) (i d : ℕ) → i < bits → get_or (row_of bits words) i d ≡ packed_bit words i
-unfolding row_of
+pub row-bit : (bits : ℕ) (words : List ℕ) (i d : ℕ) → i < bits → get_or (chain_bits_of bits words) i d ≡ packed_bit words i
+unfolding chain_bits_of
 row-bit bits words i d h = get_or-tabled bits (packed_bit words) i d h
 
 -- a bit of the row, or 0 beyond its end
-pub any-bit : (bits : ℕ) (words : List ℕ) (i : ℕ) → IsPacked bits words → slice_index (row_of bits words) i ≡ packed_bit words i
+pub any-bit : (bits : ℕ) (words : List ℕ) (i : ℕ) → IsPacked bits words → slice_index (chain_bits_of bits words) i ≡ packed_bit words i
 any-bit bits words i p =
     elim (cases_lt i bits) [
       | inl h ↦ row-bit bits words i 0 h
-      | inr gone ↦ get_or_past (row_of bits words) i 0 (let e = length-row bits words in omega arith) ∙ sym (p.past i gone)
+      | inr gone ↦ get_or_past (chain_bits_of bits words) i 0 (let e = length-row bits words in omega arith) ∙ sym (p.past i gone)
     ]
 
-pub got : (bits : ℕ) (words : List ℕ) (i : ℕ) → i < bits → Some (packed_bit words i) ≡ slice_get (row_of bits words) i
-got bits words i h = ap Some (sym (row-bit bits words i 0 h)) ∙ sym (slice_get-get_or (row_of bits words) i 0 (let e = length-row bits words in omega arith))
+pub got : (bits : ℕ) (words : List ℕ) (i : ℕ) → i < bits → Some (packed_bit words i) ≡ slice_get (chain_bits_of bits words) i
+got bits words i h = ap Some (sym (row-bit bits words i 0 h)) ∙ sym (slice_get-get_or (chain_bits_of bits words) i 0 (let e = length-row bits words in omega arith))
 
-pub not-got : (bits : ℕ) (words : List ℕ) (i : ℕ) → bits ≤ i → None ≡ slice_get (row_of bits words) i
-not-got bits words i h = sym (slice_get_past (row_of bits words) i (let e = length-row bits words in omega arith))
+pub not-got : (bits : ℕ) (words : List ℕ) (i : ℕ) → bits ≤ i → None ≡ slice_get (chain_bits_of bits words) i
+not-got bits words i h = sym (slice_get_past (chain_bits_of bits words) i (let e = length-row bits words in omega arith))
 
-pub row-small : (bits : ℕ) (words : List ℕ) → All (λ bit. bit < 2) (row_of bits words)
+pub row-small : (bits : ℕ) (words : List ℕ) → All (λ bit. bit < 2) (chain_bits_of bits words)
 row-small bits words =
-    All-from_get_or (λ bit. bit < 2) (row_of bits words) 0 (λ i l.
+    All-from_get_or (λ bit. bit < 2) (chain_bits_of bits words) 0 (λ i l.
     subst (λ bit. bit < 2) (sym (row-bit bits words i 0 (let e = length-row bits words in omega arith))) (bit_at-lt (slice_index words (i / 10)) (i % 10)))
 
 -- a row of zeros
@@ -172,13 +172,13 @@ zeros n i =
       | inr gone ↦ ap (λ w. bit_of w (i % 10)) (get_or_past (replicate n 0) (i / 10) 0 (let e = length-replicate {A = ℕ} n 0 in omega arith)) ∙ bit_at-zero (i % 10)
     ]
 
-pub blank : (bits n : ℕ) → row_of bits (replicate n 0) ≡ replicate bits 0
-unfolding row_of
+pub blank : (bits n : ℕ) → chain_bits_of bits (replicate n 0) ≡ replicate bits 0
+unfolding chain_bits_of
 blank bits n = sym (tabled_from bits (packed_bit (replicate n 0)) (replicate bits 0) 0 (length-replicate {A = ℕ} bits 0) (λ k l. get_or-replicate bits k 0 0 l ∙ sym (zeros n k)))
 
 -- a row with one bit replaced
-pub set-row : (bits : ℕ) (words new : List ℕ) (i level : ℕ) → i < bits → packed_bit new i ≡ level → ((k : ℕ) → k ≢ i → packed_bit new k ≡ packed_bit words k) → row_of bits new ≡ slice_set (row_of bits words) i level
-unfolding row_of
+pub set-row : (bits : ℕ) (words new : List ℕ) (i level : ℕ) → i < bits → packed_bit new i ≡ level → ((k : ℕ) → k ≢ i → packed_bit new k ≡ packed_bit words k) → chain_bits_of bits new ≡ slice_set (chain_bits_of bits words) i level
+unfolding chain_bits_of
 set-row bits words new i level h at others = sym (set-tabled bits (packed_bit words) (packed_bit new) i level h at (λ k _ ne. others k ne))
 
 pub set-packed : (bits : ℕ) (words new : List ℕ) (i : ℕ) → IsPacked bits words → i < bits → length new ≡ length words → ((k : ℕ) → slice_index new k < 1024) → ((k : ℕ) → k ≢ i → packed_bit new k ≡ packed_bit words k) → IsPacked bits new
@@ -189,17 +189,17 @@ set-packed bits words new i p h len ten others = record {
 }
 
 -- a row that was moved
-row-before : (bits level : ℕ) (words : List ℕ) (k : ℕ) → k < bits → get_or (level ∷ row_of bits words) k 0 ≡ bit_before level words k
+row-before : (bits level : ℕ) (words : List ℕ) (k : ℕ) → k < bits → get_or (level ∷ chain_bits_of bits words) k 0 ≡ bit_before level words k
 row-before bits level words zero h = refl
 row-before bits level words (suc k) h = row-bit bits words k 0 (omega arith)
 
-pub shifted-row : (bits level : ℕ) (old new : List ℕ) → ((i : ℕ) → i < bits → packed_bit new i ≡ bit_before level old i) → row_of bits new ≡ take (length (row_of bits old)) (level ∷ row_of bits old)
-unfolding row_of
+pub shifted-row : (bits level : ℕ) (old new : List ℕ) → ((i : ℕ) → i < bits → packed_bit new i ≡ bit_before level old i) → chain_bits_of bits new ≡ take (length (chain_bits_of bits old)) (level ∷ chain_bits_of bits old)
+unfolding chain_bits_of
 shifted-row bits level old new moved =
     let len = length-row bits old in
-    let taken : length (take (length (row_of bits old)) (level ∷ row_of bits old)) ≡ bits = grind (arith, common_steps) in
-    sym (tabled_from bits (packed_bit new) (take (length (row_of bits old)) (level ∷ row_of bits old)) 0 taken (λ k l.
-    get_or-take (length (row_of bits old)) (level ∷ row_of bits old) k 0 (omega arith) ∙ row-before bits level old k l ∙ sym (moved k l)))
+    let taken : length (take (length (chain_bits_of bits old)) (level ∷ chain_bits_of bits old)) ≡ bits = grind (arith, common_steps) in
+    sym (tabled_from bits (packed_bit new) (take (length (chain_bits_of bits old)) (level ∷ chain_bits_of bits old)) 0 taken (λ k l.
+    get_or-take (length (chain_bits_of bits old)) (level ∷ chain_bits_of bits old) k 0 (omega arith) ∙ row-before bits level old k l ∙ sym (moved k l)))
 
 -- ---- ten bits from a place on
 

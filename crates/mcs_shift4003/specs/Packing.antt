@@ -13,8 +13,8 @@ bit_before level words zero = level
 bit_before level words (suc i) = packed_bit words i
 
 -- the first `bits` bits
-unfoldable pub row_of : ℕ → List ℕ → List ℕ
-row_of bits words = tabled bits (packed_bit words)
+unfoldable pub chain_bits_of : ℕ → List ℕ → List ℕ
+chain_bits_of bits words = tabled bits (packed_bit words)
 
 -- words that hold so many bits and nothing else
 pub record IsPacked (bits : ℕ) (words : List ℕ) : Type 0 where

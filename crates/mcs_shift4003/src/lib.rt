@@ -26,11 +26,11 @@ pub struct Chain<const MAX: usize> {
 
 impl<const MAX: usize> Model for Chain<MAX> {
     ghost use Rattle.std.specs.Prelude.{List, ℕ, ◌≤◌};
-    ghost use Rattle.mcs_shift4003.specs.Packing.{row_of, IsPacked};
+    ghost use Rattle.mcs_shift4003.specs.Packing.{chain_bits_of, IsPacked};
 
     ghost Value = { List ℕ };
 
-    ghost view = { λ c. row_of c.bits c.words.items };
+    ghost view = { λ c. chain_bits_of c.bits c.words.items };
 
     ghost invariant = { λ c. record { fits : c.bits ≤ MAX; packed : IsPacked c.bits c.words.items } };
 }
@@ -182,7 +182,7 @@ impl<const MAX: usize> Chain<MAX> {
     }
 
     /// A law: each bit is 0 or 1.
-    pub fn state_is_valid(&self)
+    pub fn show_state_is_valid(&self)
         ensures { All (λ bit. bit < 2) self.now }
     {
         let _bits = self.bits;

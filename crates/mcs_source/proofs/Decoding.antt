@@ -6,12 +6,12 @@ use Rattle.std.specs.List.{AllByRecursion}
 use Rattle.std.proofs.lemmas.Bool.{eqb-true, and_parts, true≢false}
 use Rattle.mcs_model.specs.declared.op.Op.{Op}
 use Rattle.mcs_model.specs.declared.op.Op.TheVariants.{Jcn, Fim, Jun, Jms, Isz}
-use Rattle.mcs_model.specs.Table.{words_of, Row, rows, covers, row_of, decoded}
+use Rattle.mcs_model.specs.Table.{word_count_of, Row, rows, covers, row_of, decoded}
 use Rattle.mcs_source.specs.Spelling.{IsOp, spelling, IsSpelledBy}
 
 -- the words of an instruction are these two, or the first; where the second is a byte, its operands are in their ranges
 abbrev pub Spells : ℕ → ℕ → Op → Type 0
-Spells first second o = (second < 256 → IsOp o) × (spelling o ≡ take (words_of o) (first ∷ second ∷ []))
+Spells first second o = (second < 256 → IsOp o) × (spelling o ≡ take (word_count_of o) (first ∷ second ∷ []))
 
 abbrev pub RowSpells : ℕ → ℕ → Row → Type 0
 RowSpells first second r = covers (first / 16) (first % 16) r ≡ true → Spells first second (r.op first second)
@@ -200,7 +200,7 @@ decoded_words first second o e =
 pub decoded_spells : (first second : ℕ) (o : Op) → second < 256 → decoded first second ≡ Some o → IsSpelledBy first second o
 decoded_spells first second o lt e = let s = decoded_words first second o e in (s.0 lt, s.1)
 
-pub one_or_two : (o : Op) → (words_of o ≡ 1) ⊎ (words_of o ≡ 2)
+pub one_or_two : (o : Op) → (word_count_of o ≡ 1) ⊎ (word_count_of o ≡ 2)
 one_or_two (Jcn _ _) = inr refl
 one_or_two (Fim _ _) = inr refl
 one_or_two (Jun _ _) = inr refl
@@ -209,11 +209,11 @@ one_or_two (Isz _ _) = inr refl
 one_or_two _ = inl refl
 
 -- words that are read as an instruction, and are as many as it has, spell it
-pub words_spell : (first : ℕ) (second : Option ℕ) (o : Op) → decoded first (unwrap_or second 0) ≡ Some o → IsSome second ↔ (words_of o ≡ 2) → first ∷ option_to_list second ≡ spelling o
+pub words_spell : (first : ℕ) (second : Option ℕ) (o : Op) → decoded first (unwrap_or second 0) ≡ Some o → IsSome second ↔ (word_count_of o ≡ 2) → first ∷ option_to_list second ≡ spelling o
 words_spell first None o e both = elim (one_or_two o) [
   | inl one ↦ sym ((decoded_words first 0 o e).1 ∙ rw one refl)
   | inr two ↦ absurd (true≢false (sym (both.1 two)))
 ]
 words_spell first (Some second) o e both =
-    let two : words_of o ≡ 2 = both.0 refl in
+    let two : word_count_of o ≡ 2 = both.0 refl in
     sym ((decoded_words first second o e).1 ∙ rw two refl)

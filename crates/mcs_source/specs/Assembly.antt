@@ -9,10 +9,10 @@ use Rattle.mcs_source.specs.declared.fault.SourceFault.{SourceFault}
 use Rattle.mcs_source.specs.declared.fault.SourceFault.TheVariants.{BadStatement, DoubleName, UnknownName, OutOfRange, WrongPage, Overlap, PastEnd, TooManyNames}
 use Rattle.mcs_source.specs.Lexical.{tokens}
 use Rattle.mcs_source.specs.Lines.{◌>>=◌, Operand, Number, Name, Statement, Origin, Data, Whole, Ldm, Bbl, Jun, Jms, Fim, Jcn, Isz, Line, Code, Define, line_of}
-use Rattle.mcs_model.specs.Pairs.{from_address, overlaps}
+use Rattle.mcs_model.specs.Images.{from_address, overlaps}
 use Rattle.mcs_source.specs.Spelling.{spelling}
 use Rattle.mcs_model.specs.Numbers.{page_of}
-use Rattle.mcs_model.specs.Table.{words_of}
+use Rattle.mcs_model.specs.Table.{word_count_of}
 
 -- ---- the lines of a text: up to LF, or up to the end where something is left
 
@@ -53,7 +53,7 @@ nothing_before = record { at = 0; names = [] }
 abbrev pub size : Statement → ℕ
 size (Origin n) = 0
 size (Data vs) = length vs
-size (Whole o) = words_of o
+size (Whole o) = word_count_of o
 size (Ldm v) = 1
 size (Bbl v) = 1
 size (Jun t) = 2

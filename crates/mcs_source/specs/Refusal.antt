@@ -4,12 +4,12 @@ use Rattle.mcs_model.specs.declared.refusal_numbers.TheConstants.{BAD_STATEMENT,
 use Rattle.mcs_source.specs.declared.fault.SourceFault.{SourceFault}
 use Rattle.mcs_source.specs.declared.fault.SourceFault.TheVariants.{BadStatement, DoubleName, UnknownName, OutOfRange, WrongPage, Overlap, PastEnd, TooManyNames}
 
-abbrev pub source_refusal_number : SourceFault → ℕ
-source_refusal_number BadStatement = BAD_STATEMENT
-source_refusal_number DoubleName = DOUBLE_NAME
-source_refusal_number UnknownName = UNKNOWN_NAME
-source_refusal_number OutOfRange = OUT_OF_RANGE
-source_refusal_number WrongPage = WRONG_PAGE
-source_refusal_number Overlap = OVERLAP
-source_refusal_number PastEnd = PAST_END
-source_refusal_number TooManyNames = TOO_MANY_NAMES
+abbrev pub source_fault_number : SourceFault → ℕ
+source_fault_number BadStatement = BAD_STATEMENT
+source_fault_number DoubleName = DOUBLE_NAME
+source_fault_number UnknownName = UNKNOWN_NAME
+source_fault_number OutOfRange = OUT_OF_RANGE
+source_fault_number WrongPage = WRONG_PAGE
+source_fault_number Overlap = OVERLAP
+source_fault_number PastEnd = PAST_END
+source_fault_number TooManyNames = TOO_MANY_NAMES

@@ -1,7 +1,7 @@
 -- The words of an instruction, in the order of the code table. (MCS-4 Users Manual, instruction set.)
 use Rattle.std.specs.Prelude.{◌≡◌, take, ℕ, ◌+◌, ◌*◌, ◌<◌, List, [], ◌∷◌}
 use Rattle.mcs_model.specs.declared.op.Op.{Op}
-use Rattle.mcs_model.specs.Table.{words_of}
+use Rattle.mcs_model.specs.Table.{word_count_of}
 use Rattle.mcs_model.specs.declared.op.Op.TheVariants.{Nop, Jcn, Fim, Src, Fin, Jin, Jun, Jms, Inc, Isz, Add, Sub, Ld, Xch, Bbl, Ldm, Wrm, Wmp, Wrr, Wr0, Wr1, Wr2, Wr3, Sbm, Rdm, Rdr, Adm, Rd0, Rd1, Rd2, Rd3, Clb, Clc, Iac, Cmc, Cma, Ral, Rar, Tcc, Dac, Tcs, Stc, Daa, Kbp, Dcl}
 
 abbrev pub one : ℕ → List ℕ
@@ -79,4 +79,4 @@ IsOp o = Unit {0}
 
 -- two words spell an instruction: its operands are in their ranges, and its words are the first of the two, or both
 abbrev pub IsSpelledBy : ℕ → ℕ → Op → Type 0
-IsSpelledBy first second o = IsOp o × (spelling o ≡ take (words_of o) (first ∷ second ∷ []))
+IsSpelledBy first second o = IsOp o × (spelling o ≡ take (word_count_of o) (first ∷ second ∷ []))

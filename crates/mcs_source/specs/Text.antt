@@ -8,8 +8,8 @@ use Rattle.mcs_model.specs.declared.op.Op.{Op}
 use Rattle.mcs_model.specs.declared.op.Op.TheVariants.{Jcn, Fim, Src, Fin, Jin, Jun, Jms, Inc, Isz, Add, Sub, Ld, Xch, Bbl, Ldm}
 use Rattle.mcs_model.specs.Numbers.{page_of}
 use Rattle.mcs_model.specs.QueryText.{as_line, hex_digit}
-use Rattle.mcs_model.specs.Table.{decoded, words_of}
-use Rattle.mcs_model.specs.Pairs.{from_address}
+use Rattle.mcs_model.specs.Table.{decoded, word_count_of}
+use Rattle.mcs_model.specs.Images.{from_address}
 use Rattle.mcs_source.specs.Assembly.{assembled}
 use Rattle.mcs_source.specs.Names.{name}
 
@@ -59,7 +59,7 @@ text_of at o = name o ++ operands at o
 -- lies past the end, is a byte
 abbrev pub whole_or_byte : Option Op → ℕ → List ℕ → Option Op
 whole_or_byte None b rest = None
-whole_or_byte (Some o) b rest = if nat_le (words_of o) (1 + length rest) then Some o else None
+whole_or_byte (Some o) b rest = if nat_le (word_count_of o) (1 + length rest) then Some o else None
 
 abbrev pub second_word : List ℕ → ℕ
 second_word [] = 0
@@ -76,7 +76,7 @@ piece_text at b (Some o) = text_of at o
 
 abbrev pub piece_size : Option Op → ℕ
 piece_size None = 1
-piece_size (Some o) = words_of o
+piece_size (Some o) = word_count_of o
 
 -- the text of one instruction: its first word, and its second if there is one before the end
 abbrev pub line_text : ℕ → ℕ → Option ℕ → List ℕ

@@ -1,6 +1,6 @@
 //! What can be wrong with a line of a source text.
 ghost use Rattle.std.specs.Prelude.{◌≡◌};
-ghost use Rattle.mcs_source.specs.Refusal.{source_refusal_number};
+ghost use Rattle.mcs_source.specs.Refusal.{source_fault_number};
 
 use mcs_model::refusal_numbers;
 use thiserror::Error;
@@ -37,7 +37,7 @@ pub enum SourceFault {
 impl SourceFault {
     /// The number that the refusal is told by.
     pub fn number(self) -> u8
-        ensures { result ≡ source_refusal_number self }
+        ensures { result ≡ source_fault_number self }
     {
         match self {
             SourceFault::BadStatement => refusal_numbers::BAD_STATEMENT,

@@ -5,13 +5,13 @@ use Rattle.mcs_model.specs.declared.command.Command.TheVariants.{Wire, Load, Pre
 use Rattle.mcs_model.specs.declared.command.Place.TheVariants.{Acc, Cy, Pc, Register, Dcl, Rom, Ram, Status}
 use Rattle.mcs_model.specs.Fold.{fold}
 use Rattle.mcs_version1.specs.Command.{in_version_1, after_1}
-use Rattle.mcs_version1.specs.Flat.{Flat1}
+use Rattle.mcs_version1.specs.BenchState.{BenchState1}
 use Rattle.mcs_version1.specs.Fold.{fold_1, AreAccepted1}
 use Rattle.mcs_version1.specs.Lift.{lift, IsLifted, lift_query}
 use Rattle.mcs_version1.specs.QueryText.{Query1, text_1, Lamps, Regs, Ram, Breaks, Seq}
 use Rattle.mcs_model.specs.QueryText.{text}
 
-pub command-lifts : (s : Flat1) (c : Command) → IsTrue (in_version_1 c) → IsLifted s c
+pub command-lifts : (s : BenchState1) (c : Command) → IsTrue (in_version_1 c) → IsLifted s c
 command-lifts s (Wire board) h = record { refusal = refl; after = refl; reply = refl }
 command-lifts s (Load image) h = record { refusal = refl; after = refl; reply = refl }
 command-lifts s (Press row column) h = record { refusal = refl; after = refl; reply = refl }
@@ -33,13 +33,13 @@ command-lifts s (Unbreak at) h = record { refusal = refl; after = refl; reply = 
 command-lifts s (Watch bank src) h = absurd (cc)
 command-lifts s (Unwatch bank src) h = absurd (cc)
 
-pub query-lifts : (s : Flat1) (q : Query1) → text (lift_query q) (lift s) ≡ text_1 q s
+pub query-lifts : (s : BenchState1) (q : Query1) → text (lift_query q) (lift s) ≡ text_1 q s
 query-lifts s Lamps = refl
 query-lifts s Regs = refl
 query-lifts s (Ram bank) = refl
 query-lifts s Breaks = refl
 query-lifts s Seq = refl
 
-pub fold-lifts : (s : Flat1) (cs : List Command) → AreAccepted1 s cs → lift (fold_1 s cs) ≡ fold (lift s) cs
+pub fold-lifts : (s : BenchState1) (cs : List Command) → AreAccepted1 s cs → lift (fold_1 s cs) ≡ fold (lift s) cs
 fold-lifts s [] _ = refl
 fold-lifts s (c ∷ cs) h = fold-lifts (after_1 s c) cs h.1.1 ∙ ap (λ t. fold t cs) (command-lifts s c h.0).after

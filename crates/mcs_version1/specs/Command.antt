@@ -15,11 +15,11 @@ use Rattle.mcs_model.specs.Boards.{has_key}
 use Rattle.mcs_model.specs.Breakpoints.{is_breakpoint, with_breakpoint, without_breakpoint}
 use Rattle.mcs_model.specs.Bus.{BusState, with_ram, with_status}
 use Rattle.mcs_model.specs.Command.{lacks_rom, place_refusal}
-use Rattle.mcs_model.specs.Flat.{new_regs}
+use Rattle.mcs_model.specs.BenchState.{new_regs}
 use Rattle.mcs_model.specs.Places.{with_rom_byte, with_rom_bytes, with_key, after_reset, after_wire}
 use Rattle.mcs_model.specs.Running.{Machine, step_length, after_step, step_stop}
 use Rattle.mcs_version1.specs.Boards.{is_small}
-use Rattle.mcs_version1.specs.Flat.{Flat1}
+use Rattle.mcs_version1.specs.BenchState.{BenchState1}
 use Rattle.mcs_version1.specs.Running.{run_length_1, after_run_1, run_stop_1}
 
 -- which commands version 1 has
@@ -32,7 +32,7 @@ in_version_1 _ = true
 -- ---- which commands are accepted
 
 -- why a state refuses a command for the command's own sake, if it does
-abbrev pub own_refusal_1 : Flat1 → Command → Option BenchFault
+abbrev pub own_refusal_1 : BenchState1 → Command → Option BenchFault
 own_refusal_1 s (Load image) = if list_any (λ p. lacks_rom s.bus.board p.0) image then Some NoRom else None
 own_refusal_1 s (Press row column) = if has_key s.bus.board row column then None else Some NoKey
 own_refusal_1 s (Release row column) = if has_key s.bus.board row column then None else Some NoKey
@@ -42,25 +42,25 @@ own_refusal_1 s (Break at) = if is_breakpoint s.breakpoints at || nat_lt (length
 own_refusal_1 s _ = None
 
 -- why a state refuses a command, if it does: a worn session refuses each of them
-abbrev pub refusal_1 : Flat1 → Command → Option BenchFault
+abbrev pub refusal_1 : BenchState1 → Command → Option BenchFault
 refusal_1 s c = if s.seq == ACCEPTED_COMMANDS then Some Worn else own_refusal_1 s c
 
 -- ---- what they do
 
-abbrev pub machine_of_1 : Flat1 → Machine
+abbrev pub machine_of_1 : BenchState1 → Machine
 machine_of_1 s = (s.processor, s.bus)
 
-abbrev pub with_machine_1 : Flat1 → Machine → Flat1
+abbrev pub with_machine_1 : BenchState1 → Machine → BenchState1
 with_machine_1 s m = record s { processor = m.0; bus = m.1 }
 
-abbrev pub with_processor_1 : Flat1 → Regs → Flat1
+abbrev pub with_processor_1 : BenchState1 → Regs → BenchState1
 with_processor_1 s p = record s { processor = p }
 
-abbrev pub with_bus_1 : Flat1 → BusState → Flat1
+abbrev pub with_bus_1 : BenchState1 → BusState → BenchState1
 with_bus_1 s b = record s { bus = b }
 
 -- the state with a value put into a place
-abbrev pub with_place_1 : Flat1 → Place → Flat1
+abbrev pub with_place_1 : BenchState1 → Place → BenchState1
 with_place_1 s (Acc n) = with_processor_1 s (record s.processor { acc = n })
 with_place_1 s (Cy bit) = with_processor_1 s (record s.processor { cy = bit })
 with_place_1 s (Pc at) = with_processor_1 s (record s.processor { pc = at })
@@ -71,7 +71,7 @@ with_place_1 s (Ram bank src n) = with_bus_1 s (with_ram s.bus bank src n)
 with_place_1 s (Status bank high k n) = with_bus_1 s (with_status s.bus bank high k n)
 
 -- what a command does, but for the count of commands
-abbrev pub changed_1 : Flat1 → Command → Flat1
+abbrev pub changed_1 : BenchState1 → Command → BenchState1
 changed_1 s (Wire board) = with_machine_1 s (new_regs, after_wire s.bus board)
 changed_1 s (Load image) = with_bus_1 s (with_rom_bytes s.bus image)
 changed_1 s (Press row column) = with_bus_1 s (with_key s.bus row column 1)
@@ -86,13 +86,13 @@ changed_1 s (Unbreak at) = record s { breakpoints = without_breakpoint s.breakpo
 changed_1 s _ = s
 
 -- the state after an accepted command: each raises the count by one, also where nothing else changes
-abbrev pub after_1 : Flat1 → Command → Flat1
+abbrev pub after_1 : BenchState1 → Command → BenchState1
 after_1 s c = record (changed_1 s c) { seq = s.seq + 1 }
 
 -- ---- what they answer
 
 -- what an accepted command answers
-abbrev pub reply_1 : Flat1 → Command → Reply
+abbrev pub reply_1 : BenchState1 → Command → Reply
 reply_1 s (Load image) = Loaded (length image)
 reply_1 s (Run n) = Ran (run_length_1 s.breakpoints n (machine_of_1 s)) (run_stop_1 s.breakpoints n (machine_of_1 s))
 reply_1 s Step = Ran (step_length (machine_of_1 s)) (step_stop (machine_of_1 s))

@@ -1,15 +1,15 @@
 -- Version 1 of commands in turn.
 use Rattle.std.specs.Prelude.{◌≡◌, List, [], ◌∷◌, None, IsTrue}
 use Rattle.mcs_model.specs.declared.command.Command.{Command}
-use Rattle.mcs_version1.specs.Flat.{Flat1}
+use Rattle.mcs_version1.specs.BenchState.{BenchState1}
 use Rattle.mcs_version1.specs.Command.{refusal_1, after_1, in_version_1}
 
 -- the state after these commands
-abbrev pub fold_1 : Flat1 → List Command → Flat1
+abbrev pub fold_1 : BenchState1 → List Command → BenchState1
 fold_1 s [] = s
 fold_1 s (c ∷ cs) = fold_1 (after_1 s c) cs
 
 -- each of these commands is one of version 1 and accepted in its turn
-abbrev pub AreAccepted1 : Flat1 → List Command → Type 0
+abbrev pub AreAccepted1 : BenchState1 → List Command → Type 0
 AreAccepted1 s [] = Unit {0}
 AreAccepted1 s (c ∷ cs) = IsTrue (in_version_1 c) × ((refusal_1 s c ≡ None) × AreAccepted1 (after_1 s c) cs)

@@ -1,5 +1,5 @@
 pub mod Boards
-pub mod Flat
+pub mod BenchState
 pub mod Validity
 pub mod Running
 pub mod Command

@@ -4,16 +4,16 @@ use Rattle.mcs_model.specs.declared.command.Command.{Command}
 use Rattle.mcs_model.specs.declared.query.Query.{Query}
 use Rattle.mcs_model.specs.declared.query.Query.TheVariants as asked
 use Rattle.mcs_model.specs.Command.{refusal, after, reply}
-use Rattle.mcs_model.specs.Flat.{Flat}
+use Rattle.mcs_model.specs.BenchState.{BenchState}
 use Rattle.mcs_model.specs.Fold.{fold}
 use Rattle.mcs_model.specs.QueryText.{text}
 use Rattle.mcs_version1.specs.Command.{in_version_1, refusal_1, after_1, reply_1}
-use Rattle.mcs_version1.specs.Flat.{Flat1}
+use Rattle.mcs_version1.specs.BenchState.{BenchState1}
 use Rattle.mcs_version1.specs.Fold.{fold_1, AreAccepted1}
 use Rattle.mcs_version1.specs.QueryText.{Query1, text_1, Lamps, Regs, Ram, Breaks, Seq}
 
 -- the same fields, and nothing is watched; the board and what its chips hold are the same
-abbrev pub lift : Flat1 → Flat
+abbrev pub lift : BenchState1 → BenchState
 lift s = record { processor = s.processor; bus = s.bus; breakpoints = s.breakpoints; watches = []; seq = s.seq }
 
 abbrev pub lift_query : Query1 → Query
@@ -24,16 +24,16 @@ lift_query Breaks = asked.Breaks
 lift_query Seq = asked.Seq
 
 -- a command of version 1 on a state of version 1
-pub record IsLifted (s : Flat1) (c : Command) : Type 0 where
+pub record IsLifted (s : BenchState1) (c : Command) : Type 0 where
   pub refusal : refusal (lift s) c ≡ refusal_1 s c
   pub after : lift (after_1 s c) ≡ after (lift s) c
   pub reply : reply (lift s) c ≡ reply_1 s c
 
 abbrev pub CommandsLift : Type 0
-CommandsLift = (s : Flat1) (c : Command) → IsTrue (in_version_1 c) → IsLifted s c
+CommandsLift = (s : BenchState1) (c : Command) → IsTrue (in_version_1 c) → IsLifted s c
 
 abbrev pub QueriesLift : Type 0
-QueriesLift = (s : Flat1) (q : Query1) → text (lift_query q) (lift s) ≡ text_1 q s
+QueriesLift = (s : BenchState1) (q : Query1) → text (lift_query q) (lift s) ≡ text_1 q s
 
 abbrev pub FoldsLift : Type 0
-FoldsLift = (s : Flat1) (cs : List Command) → AreAccepted1 s cs → lift (fold_1 s cs) ≡ fold (lift s) cs
+FoldsLift = (s : BenchState1) (cs : List Command) → AreAccepted1 s cs → lift (fold_1 s cs) ≡ fold (lift s) cs

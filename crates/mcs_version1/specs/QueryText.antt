@@ -4,7 +4,7 @@ use Rattle.std.specs.Fmt.{decimal}
 use Rattle.std.specs.List.{join_by, join_with_byte}
 use Rattle.mcs_model.specs.Levels.{level}
 use Rattle.mcs_model.specs.QueryText.{address_text, digit_text, hex_digit, or_dash, lamp_mark, ram_lines}
-use Rattle.mcs_version1.specs.Flat.{Flat1}
+use Rattle.mcs_version1.specs.BenchState.{BenchState1}
 
 -- what version 1 is asked of a state
 pub data Query1 : Type 0 where
@@ -14,7 +14,7 @@ pub data Query1 : Type 0 where
   Breaks : Query1
   Seq : Query1
 
-abbrev pub regs_text_1 : Flat1 → List ℕ
+abbrev pub regs_text_1 : BenchState1 → List ℕ
 regs_text_1 s =
     codes "acc " ++ digit_text s.processor.acc
     ++ codes " cy " ++ digit_text s.processor.cy
@@ -28,7 +28,7 @@ regs_text_1 s =
     ++ codes " " ++ address_text (slice_index s.processor.ret 2)
 
 -- the answer to a query
-abbrev pub text_1 : Query1 → Flat1 → List ℕ
+abbrev pub text_1 : Query1 → BenchState1 → List ℕ
 text_1 Lamps s = codes "lamps " ++ or_dash (map (λ line. lamp_mark (level s.bus line)) s.bus.board.lamps.items)
 text_1 Regs s = regs_text_1 s
 text_1 (Ram bank) s = join_with_byte 10 (ram_lines s.bus bank)

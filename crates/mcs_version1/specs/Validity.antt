@@ -4,7 +4,7 @@ use Rattle.mcs_model.specs.declared.limits.TheConstants.{ACCEPTED_COMMANDS}
 use Rattle.mcs_model.specs.Bus.{BusState}
 use Rattle.mcs_model.specs.Validity.{IsValidRegs, IsInRange, IsAbsentZero, AreBreakpoints}
 use Rattle.mcs_version1.specs.Boards.{IsValidBoard1}
-use Rattle.mcs_version1.specs.Flat.{Flat1}
+use Rattle.mcs_version1.specs.BenchState.{BenchState1}
 
 -- a board and what its chips hold
 pub record IsValidBus1 (s : BusState) : Type 0 where
@@ -12,7 +12,7 @@ pub record IsValidBus1 (s : BusState) : Type 0 where
   pub in_range : IsInRange s
   pub absent : IsAbsentZero s
 
-pub record IsValid1 (s : Flat1) : Type 0 where
+pub record IsValid1 (s : BenchState1) : Type 0 where
   pub processor : IsValidRegs s.processor
   pub bus : IsValidBus1 s.bus
   pub breakpoints : AreBreakpoints s.breakpoints

@@ -269,7 +269,7 @@ judged_tests b false false true h = refl
 judged_tests b false false false h = refl
 
 -- nothing but 25 and 26 can be wrong with the parts
-pub judged_parts : (ms : Members) → has_bad_value ms ≡ false → judgement_of (parts_of ms) (boards.fault_of (parts_of ms)) ≡ board_of_parts (parts_of ms)
+pub judged_parts : (ms : Members) → has_bad_value ms ≡ false → judgement_of (parts_of ms) (boards.board_fault_of (parts_of ms)) ≡ board_of_parts (parts_of ms)
 judged_parts ms h =
     let b = parts_of ms in
     judged_tests b (boards.has_bad_value b) (boards.lacks_line b) (boards.has_wrong_direction b) (in_range ms h)

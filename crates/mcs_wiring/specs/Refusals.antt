@@ -6,16 +6,16 @@ use Rattle.mcs_model.specs.declared.refusal_numbers.TheConstants.{BAD_TOML, UNKN
 use Rattle.mcs_wiring.specs.declared.fault.WiringFault.{WiringFault}
 use Rattle.mcs_wiring.specs.declared.fault.WiringFault.TheVariants.{BadToml, UnknownKey, MissingKey, BadValue, DoubleChip, NoSuchLine, WrongDirection, TooManyParts, NoMemory}
 
-abbrev pub wiring_refusal_number : WiringFault → ℕ
-wiring_refusal_number BadToml = BAD_TOML
-wiring_refusal_number UnknownKey = UNKNOWN_KEY
-wiring_refusal_number MissingKey = MISSING_KEY
-wiring_refusal_number BadValue = BAD_VALUE
-wiring_refusal_number TooManyParts = TOO_MANY_PARTS
-wiring_refusal_number DoubleChip = DOUBLE_CHIP
-wiring_refusal_number NoSuchLine = NO_SUCH_LINE
-wiring_refusal_number WrongDirection = WRONG_DIRECTION
-wiring_refusal_number NoMemory = NO_MEMORY
+abbrev pub wiring_fault_number : WiringFault → ℕ
+wiring_fault_number BadToml = BAD_TOML
+wiring_fault_number UnknownKey = UNKNOWN_KEY
+wiring_fault_number MissingKey = MISSING_KEY
+wiring_fault_number BadValue = BAD_VALUE
+wiring_fault_number TooManyParts = TOO_MANY_PARTS
+wiring_fault_number DoubleChip = DOUBLE_CHIP
+wiring_fault_number NoSuchLine = NO_SUCH_LINE
+wiring_fault_number WrongDirection = WRONG_DIRECTION
+wiring_fault_number NoMemory = NO_MEMORY
 
 -- what is wrong with the parts of a board, as a refusal of its text
 abbrev pub refusal_of : BoardFault → WiringFault

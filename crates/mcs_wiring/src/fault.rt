@@ -1,6 +1,6 @@
 //! Why a text has no board.
 ghost use Rattle.std.specs.Prelude.{◌≡◌};
-ghost use Rattle.mcs_wiring.specs.Refusals.{wiring_refusal_number};
+ghost use Rattle.mcs_wiring.specs.Refusals.{wiring_fault_number};
 
 use mcs_model::board::BoardFault;
 use mcs_model::refusal_numbers;
@@ -42,7 +42,7 @@ pub enum WiringFault {
 impl WiringFault {
     /// The number that the refusal is told by.
     pub fn number(self) -> u8
-        ensures { result ≡ wiring_refusal_number self }
+        ensures { result ≡ wiring_fault_number self }
     {
         match self {
             WiringFault::BadToml => refusal_numbers::BAD_TOML,

@@ -5,7 +5,7 @@ ghost use Rattle.std.specs.BTreeMap.{keys};
 ghost use Rattle.toml.specs.Errors.{IsBlank};
 ghost use Rattle.toml.specs.View.{view, table_view};
 ghost use Rattle.mcs_nibble.specs.Tabled.{tabled};
-ghost use Rattle.mcs_model.specs.Boards.{fault_of};
+ghost use Rattle.mcs_model.specs.Boards.{board_fault_of};
 ghost use Rattle.mcs_wiring.specs.Format.{sections, section_key, table_keys, is_board_key, is_section_key};
 ghost use Rattle.mcs_wiring.specs.Wiring.{has_unknown_key, has_missing_key, has_bad_value, has_too_many, has_double, has_double_chip, has_other_key, lacks_one_of, lacks_key, is_malformed, lacks_array, values_at, section_values, any_section, column_values, keys_table, matrix_in, roms_of, rams_of, parts_of, part_at, board_of_table, board_of_text, Answers};
 ghost use Rattle.mcs_wiring.specs.Flaws.{has_flaw, judgement_of, board_within_limits, IsWithinLimits};
@@ -299,7 +299,7 @@ fn parts_of(
 
 /// The board of parts, or what is wrong with them.
 fn board_of_parts(parts: BoardParts) -> Result<Board, WiringFault>
-    ensures { result ≡ judgement_of parts (fault_of parts) }
+    ensures { result ≡ judgement_of parts (board_fault_of parts) }
 {
     Ok(Board::of(parts)?)
 }

@@ -1,5 +1,5 @@
 use Rattle.std.proofs.Common.{◌≡◌, ◌∙◌, sym, subst, ap, ℕ, List, Bor, Ok}
-use Rattle.mcs_model.specs.Pairs.{IsImageOf}
+use Rattle.mcs_model.specs.Images.{IsImageOf}
 use Rattle.mcs_source.specs.Assembly.{class_one, nothing_before, lines_of}
 use Rattle.mcs_asm.proofs.CellPairs.{image_of_kept}
 use Rattle.mcs_asm.proofs.PassLists.{texts, assembled_is}

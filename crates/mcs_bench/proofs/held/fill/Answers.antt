@@ -4,13 +4,13 @@ use Rattle.mcs_bench.proofs.held.fill.Goals as goal
 
 pub loop-i-init : goal.loop-i-init
 loop-i-init c =
-    fills-none c.args.rig.now c.args.held c.args.numbers.now (count-of c.args.rig.now c.state_is_valid.ensures.in_range c.args.held ∙ sym c.requires.fit.count_is)
+    fills-none c.args.rig.now c.args.held c.args.numbers.now (count-of c.args.rig.now c.show_state_is_valid.ensures.in_range c.args.held ∙ sym c.requires.fit.count_is)
 
 pub loop-i-preserved : goal.loop-i-preserved
 loop-i-preserved c =
     let i = c.loop-i.i in
     fills-next c.args.rig.now c.loop-i.rig c.set.new.rig c.args.held c.args.numbers.now i _ (omega arith) refl
-    (λ e. absent-of c.args.rig.now c.state_is_valid.ensures.absent c.args.held i (let r = c.requires in omega arith) e ∙ sym (c.requires.absent i (let r = c.requires in omega arith) e))
+    (λ e. absent-of c.args.rig.now c.show_state_is_valid.ensures.absent c.args.held i (let r = c.requires in omega arith) e ∙ sym (c.requires.absent i (let r = c.requires in omega arith) e))
     c.loop-i.invariant c.set.ensures
 
 pub returns : goal.returns

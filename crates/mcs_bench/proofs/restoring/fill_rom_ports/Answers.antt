@@ -7,7 +7,7 @@ use Rattle.mcs_bench.proofs.restoring.fill_rom_ports.Goals as goal
 pub loop-chip-init : goal.loop-chip-init
 loop-chip-init c = record {
   others = refl;
-  filled = filled-none c.args.rig.now.rom_ports c.args.ports.now (c.state_is_valid.ensures.in_range.rom_ports.count_is ∙ sym c.requires.fit.count_is);
+  filled = filled-none c.args.rig.now.rom_ports c.args.ports.now (c.show_state_is_valid.ensures.in_range.rom_ports.count_is ∙ sym c.requires.fit.count_is);
 }
 
 pub loop-chip-preserved : goal.loop-chip-preserved
@@ -17,7 +17,7 @@ loop-chip-preserved c =
     let small = All-get_or (λ n. n < 16) c.args.ports.now i 0 (let r = c.requires.fit.count_is in omega arith) c.requires.fit.below in
     let at = ap (λ (j : ℕ). get_or c.args.ports.now j 0) c.from.ensures in
     let same : c.low_of.result ≡ get_or c.args.ports.now i 0 = omega arith in
-    ports-next c.args.rig.now c.loop-chip.rig c.set_rom_latch.new.self c.args.ports.now i c.low_of.result (let r = c.requires.fit.count_is in omega arith) same (c.requires.kept i) (c.state_is_valid.ensures.absent.rom_ports i) c.loop-chip.invariant c.set_rom_latch.ensures
+    ports-next c.args.rig.now c.loop-chip.rig c.set_rom_latch.new.self c.args.ports.now i c.low_of.result (let r = c.requires.fit.count_is in omega arith) same (c.requires.kept i) (c.show_state_is_valid.ensures.absent.rom_ports i) c.loop-chip.invariant c.set_rom_latch.ensures
 
 pub returns : goal.returns
 returns c =

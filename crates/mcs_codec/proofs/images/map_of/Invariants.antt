@@ -1,5 +1,5 @@
 use Rattle.std.proofs.Common.{◌≡◌, ℕ, ◌+◌, ◌*◌, ◌<◌, length, get_or}
-use Rattle.mcs_codec.specs.CommandText.{mark, byte_of}
+use Rattle.mcs_codec.specs.CommandBytes.{mark, byte_of}
 use Rattle.mcs_codec.proofs.images.map_of.Given as goal
 
 -- the bytes so far are those of the map

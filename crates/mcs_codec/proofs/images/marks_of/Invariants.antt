@@ -1,5 +1,5 @@
 use Rattle.std.proofs.Common.{◌≡◌, ℕ, ◌<◌, get_or, take}
-use Rattle.mcs_codec.specs.CommandText.{mark}
+use Rattle.mcs_codec.specs.CommandBytes.{mark}
 use Rattle.mcs_codec.proofs.images.marks_of.Given as goal
 
 -- the marks are those of the pairs so far

@@ -6,11 +6,11 @@ use Rattle.mcs_codec.proofs.ImageLoops.{pairs_done, pairs_none, pairs_skip, pair
 use Rattle.mcs_codec.proofs.images.read_pairs.Goals as goal
 
 pub returns-in_default : goal.returns-in_default
-returns-in_default c = pairs_none c.args.marks.now c.loop-at.image 4096 c.loop-at.at c.loop-at.reader (pairs_at c.args.marks.now 4096 0 c.args.reader.now) c.loop-at-test.true (sym c.mark_at.ensures ∙ c.if-mark_at-ne1.false) c.in_default.ensures c.loop-at.invariant.all
+returns-in_default c = pairs_none c.args.marks.now c.loop-at.image 4096 c.loop-at.at c.loop-at.reader (pairs_at c.args.marks.now 4096 0 c.args.reader.now) c.loop-at-test.true (sym c.map_bit_at.ensures ∙ c.if-map_bit_at-ne1.false) c.in_default.ensures c.loop-at.invariant.all
 
-pub loop-at-preserved-then-mark_at-ne1 : goal.loop-at-preserved-then-mark_at-ne1
-loop-at-preserved-then-mark_at-ne1 c = record {
-  all = pairs_skip c.args.marks.now c.loop-at.image 4096 c.loop-at.at c.loop-at.reader (pairs_at c.args.marks.now 4096 0 c.args.reader.now) c.loop-at-test.true (λ one. c.if-mark_at-ne1.true (c.mark_at.ensures ∙ one)) c.loop-at.invariant.all;
+pub loop-at-preserved-then-map_bit_at-ne1 : goal.loop-at-preserved-then-map_bit_at-ne1
+loop-at-preserved-then-map_bit_at-ne1 c = record {
+  all = pairs_skip c.args.marks.now c.loop-at.image 4096 c.loop-at.at c.loop-at.reader (pairs_at c.args.marks.now 4096 0 c.args.reader.now) c.loop-at-test.true (λ one. c.if-map_bit_at-ne1.true (c.map_bit_at.ensures ∙ one)) c.loop-at.invariant.all;
   below = λ i d lt. omega (arith, c.loop-at.invariant.below i d lt);
 }
 
@@ -20,7 +20,7 @@ loop-at-preserved c =
     let added : c.push.new.self ≡ c.loop-at.image ++ (c.loop-at.at, c.in-Some.byte) ∷ [] = c.in_ok-push.ensures.added ∙ ap (λ (a : ℕ). c.loop-at.image ++ (a, c.in-Some.byte) ∷ []) address in
     let weaker : All (λ p. p.0 < c.loop-at.at + 1) c.loop-at.image = λ i d lt. omega (arith, c.loop-at.invariant.below i d lt) in
     rw added (record {
-      all = pairs_some c.args.marks.now c.loop-at.image 4096 c.loop-at.at c.loop-at.reader c.in-Some.byte c.byte.new.self (pairs_at c.args.marks.now 4096 0 c.args.reader.now) c.loop-at-test.true (sym c.mark_at.ensures ∙ c.if-mark_at-ne1.false) c.in-Some.ensures c.loop-at.invariant.all;
+      all = pairs_some c.args.marks.now c.loop-at.image 4096 c.loop-at.at c.loop-at.reader c.in-Some.byte c.byte.new.self (pairs_at c.args.marks.now 4096 0 c.args.reader.now) c.loop-at-test.true (sym c.map_bit_at.ensures ∙ c.if-map_bit_at-ne1.false) c.in-Some.ensures c.loop-at.invariant.all;
       below = All-push (λ p. p.0 < c.loop-at.at + 1) c.loop-at.image (c.loop-at.at, c.in-Some.byte) weaker (omega arith);
     })
 

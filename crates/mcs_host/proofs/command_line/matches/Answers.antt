@@ -2,7 +2,7 @@ use Rattle.std.proofs.Common.{rules, ap, ap₂, refl, codes, true, map, ◌≡�
 use Rattle.std.proofs.lemmas.Result.{IfErr-weaker, IfOk-weaker}
 use Rattle.clap.specs.Words.{App, app_of, is_simple, rule_of, subcommand_of, takes, with_rule, with_subcommand}
 use Rattle.clap.proofs.OnLiterals.{clap_on_literals}
-use Rattle.mcs_host.specs.CommandLine.{file_rule, is_taken, over_file, program}
+use Rattle.mcs_host.specs.CommandLine.{file_rule, takes_words, over_file, program}
 use Rattle.mcs_host.proofs.command_line.matches.Goals as goal
 
 is_simple_program : is_simple program ≡ true
@@ -10,7 +10,7 @@ unfolding clap_on_literals
 is_simple_program = refl
 
 pub returns : goal.returns
-unfolding is_taken
+unfolding takes_words
 returns g c =
     let new_file_is : rule_of c.required-new_file.result ≡ file_rule = search rules in
     let open_file_is : rule_of c.required-open_file.result ≡ file_rule = search rules in

@@ -1,7 +1,7 @@
 use Rattle.std.proofs.Common.{List, ℕ, length, sym, ◌∙◌, ap, subst}
 use Rattle.mcs_host.specs.Ending.{found_in}
-use Rattle.mcs_host.specs.FileCalls.{since_behind}
-use Rattle.mcs_host.specs.FileLaws.{length-bytes_behind, sized}
+use Rattle.mcs_host.specs.FileCalls.{since_after}
+use Rattle.mcs_host.specs.FileLaws.{length-bytes_after, sized}
 use Rattle.mcs_host.proofs.Leaving.{found_since}
 use Rattle.mcs_host.proofs.laws.opened_again_is_left_by_cut.Goals as goal
 
@@ -11,7 +11,7 @@ returns c = λ t file again honest left still opened same.
     let found = found_since start file.history.calls left.never_made left.made file.history.calls_by_the_end t (found_in file) left.all left.by_the_end left.late honest in
     record {
       honest = still;
-      size = ap length same ∙ sized start file.history.calls_by_the_end (found_in file) honest ∙ sym (length-bytes_behind start file.history.calls) ∙ ap length (sym file.kept);
-      found = subst (λ (bytes : List ℕ). since_behind start file.history.calls t bytes) (sym same) found;
+      size = ap length same ∙ sized start file.history.calls_by_the_end (found_in file) honest ∙ sym (length-bytes_after start file.history.calls) ∙ ap length (sym file.kept);
+      found = subst (λ (bytes : List ℕ). since_after start file.history.calls t bytes) (sym same) found;
       durable = opened.durable;
     }

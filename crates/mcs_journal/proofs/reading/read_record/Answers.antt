@@ -8,10 +8,10 @@ use Rattle.mcs_journal.proofs.reading.read_record.Goals.{then-len-eq0-via-then-l
 pub returns-then-len-eq0-clause-damaged : goal.returns-then-len-eq0-clause-damaged
 returns-then-len-eq0-clause-damaged g c = λ h told.
     let f = (g.D.Disk.state c.args.disk.now).bytes in
-    let gate = c.in_ok-read_at.ensures.given h in
+    let commit_byte = c.in_ok-read_at.ensures.given h in
     let first = c.read_at.ensures.rests h in
     let prefix = c.in_ok-read_at-2.ensures.given (c.read_at.ensures.call.honest.1 h) ∙ ap (part (c.args.at + 1) 2) first.bytes in
-    no_record f c.args.at c.args.room _ _ _ gate (search rules) prefix refl (λ some few fits. elim c.then-len-eq0.branch [
+    no_record f c.args.at c.args.room _ _ _ commit_byte (search rules) prefix refl (λ some few fits. elim c.then-len-eq0.branch [
       | then-len-eq0-via-then-len-eq0 w ↦ omega arith
       | then-len-eq0-via-else-len-eq0+then-len-gt-MOST_RECORD w ↦ omega arith
       | then-len-eq0-via-else-len-eq0+else-len-gt-MOST_RECORD+then-room-len w ↦ omega arith
@@ -20,7 +20,7 @@ returns-then-len-eq0-clause-damaged g c = λ h told.
 pub returns-clause-next : goal.returns-clause-next
 returns-clause-next g c = λ h.
     let f = (g.D.Disk.state c.args.disk.now).bytes in
-    let gate = c.in_ok-read_at.ensures.given h in
+    let commit_byte = c.in_ok-read_at.ensures.given h in
     let first = c.read_at.ensures.rests h in
     let h1 = c.read_at.ensures.call.honest.1 h in
     let second = c.read_at-2.ensures.rests h1 in
@@ -33,4 +33,4 @@ returns-clause-next g c = λ h.
     let is_r : take c.in_ok-bytes.bytes.len (c.read_at-3.new.into ++ drop (length c.read_at-3.new.into) c.in_ok-bytes.bytes.items) ≡ c.read_at-3.new.into = take_at c.read_at-3.new.into _ _ long in
     let same : (g.D.Disk.state c.read_at-2.new.disk).bytes ≡ f = second.bytes ∙ first.bytes in
     let given : c.read_at-3.new.into ≡ part (c.args.at + 3) n f = payload ∙ ap (λ (k : ℕ). part (c.args.at + 3) k (g.D.Disk.state c.read_at-2.new.disk).bytes) (c.deref_mut.ensures.len ∙ count) ∙ ap (part (c.args.at + 3) n) same in
-    next_is f c.args.at n c.read_at.new.into c.read_at-2.new.into _ gate (search rules) (search rules) prefix (search rules) (search rules) refl (is_r ∙ given) (ap length is_r ∙ long ∙ count) (omega arith) (omega arith)
+    next_is f c.args.at n c.read_at.new.into c.read_at-2.new.into _ commit_byte (search rules) (search rules) prefix (search rules) (search rules) refl (is_r ∙ given) (ap length is_r ∙ long ∙ count) (omega arith) (omega arith)

@@ -14,12 +14,12 @@ returns-clause-made g c = λ h.
     let mid = g.D.Disk.state c.commit.new.disk in
     let new = g.D.Disk.state c.commit-2.new.disk in
     let law = g.met.D.Disk.lawful c.args.disk.now h in
-    let area = c.spell_snap.ensures in
+    let area = c.encode_snapshot.ensures in
     let step = c.in_ok-commit.ensures.commits h in
     let last = c.commit-2.ensures.commits (c.commit.ensures.call.honest.1 h) in
     let sized : length old.bytes ≡ 163856 = law.sized old.bytes law.current ∙ c.requires.size in
-    let there : part 16 16385 mid.bytes ≡ c.spell_snap.new.buffer = (λ k. part (sym c.start.ensures k) (sym area.long k) mid.bytes) ∙ step.written in
-    ok_map _ (λ (here : part 0 16 new.bytes ≡ FIRST_HEADER). made old.bytes mid.bytes new.bytes c.args.snap.now c.spell_snap.new.buffer sized area (resize _ _ _ _ _ _ c.start.ensures area.long step.outside) there last.outside here) last.written
+    let there : part 16 16385 mid.bytes ≡ c.encode_snapshot.new.buffer = (λ k. part (sym c.start.ensures k) (sym area.long k) mid.bytes) ∙ step.written in
+    ok_map _ (λ (here : part 0 16 new.bytes ≡ FIRST_HEADER). made old.bytes mid.bytes new.bytes c.args.snap.now c.encode_snapshot.new.buffer sized area (resize _ _ _ _ _ _ c.start.ensures area.long step.outside) there last.outside here) last.written
 
 pub returns-clause-named : goal.returns-clause-named
 returns-clause-named g c = λ h.
@@ -27,9 +27,9 @@ returns-clause-named g c = λ h.
     let mid = g.D.Disk.state c.commit.new.disk in
     let new = g.D.Disk.state c.commit-2.new.disk in
     let law = g.met.D.Disk.lawful c.args.disk.now h in
-    let area = c.spell_snap.ensures in
+    let area = c.encode_snapshot.ensures in
     let step = c.in_ok-commit.ensures.commits h in
     let last = c.commit-2.ensures.commits (c.commit.ensures.call.honest.1 h) in
     let sized : length old.bytes ≡ 163856 = law.sized old.bytes law.current ∙ c.requires.size in
-    let there : part 16 16385 mid.bytes ≡ c.spell_snap.new.buffer = (λ k. part (sym c.start.ensures k) (sym area.long k) mid.bytes) ∙ step.written in
-    ok_map _ (λ (here : part 0 16 new.bytes ≡ FIRST_HEADER). named old.bytes mid.bytes new.bytes c.args.snap.now c.spell_snap.new.buffer sized area (resize _ _ _ _ _ _ c.start.ensures area.long step.outside) there last.outside here) last.written
+    let there : part 16 16385 mid.bytes ≡ c.encode_snapshot.new.buffer = (λ k. part (sym c.start.ensures k) (sym area.long k) mid.bytes) ∙ step.written in
+    ok_map _ (λ (here : part 0 16 new.bytes ≡ FIRST_HEADER). named old.bytes mid.bytes new.bytes c.args.snap.now c.encode_snapshot.new.buffer sized area (resize _ _ _ _ _ _ c.start.ensures area.long step.outside) there last.outside here) last.written

@@ -1,6 +1,6 @@
 use Rattle.std.proofs.Common.{rules, sym, ◌∙◌, ◌≡◌, None, Some, true, false}
 use Rattle.std.specs.Io.BufRead.{strip_last}
-use Rattle.mcs_shell.specs.Inputs.{InText, is_dot, opened}
+use Rattle.mcs_shell.specs.Inputs.{InText, is_dot_line, opened}
 use Rattle.mcs_shell.proofs.Steps.{stopped_command, stopped_text, went_command, went_line, went_opened, went_text}
 use Rattle.mcs_shell.proofs.serving.end_line.Goals as goal
 
@@ -26,19 +26,19 @@ pub returns-in-Ok-serve_text-clause-ok : goal.returns-in-Ok-serve_text-clause-ok
 returns-in-Ok-serve_text-clause-ok g c =
     let line : c.without_return-line.result.now ≡ strip_last 13 c.args.unfinished.now.line = search rules in
     let mode : c.args.unfinished.now.mode ≡ InText c.in-Some.kind c.in-Some.text.now = search rules in
-    let dot : is_dot c.without_return-line.result.now ≡ true = sym c.ends_text.ensures ∙ c.if-ends_text.true in
+    let dot : is_dot_line c.without_return-line.result.now ≡ true = sym c.ends_text.ensures ∙ c.if-ends_text.true in
     went_text _ _ _ _ _ _ _ c.requires mode line dot c.clear-in-Ok-serve_text.ensures c.in-Ok-serve_text.ensures
 
 pub returns-in-Err-serve_text-clause-err : goal.returns-in-Err-serve_text-clause-err
 returns-in-Err-serve_text-clause-err g c =
     let line : c.without_return-line.result.now ≡ strip_last 13 c.args.unfinished.now.line = search rules in
     let mode : c.args.unfinished.now.mode ≡ InText c.in-Some.kind c.in-Some.text.now = search rules in
-    let dot : is_dot c.without_return-line.result.now ≡ true = sym c.ends_text.ensures ∙ c.if-ends_text.true in
+    let dot : is_dot_line c.without_return-line.result.now ≡ true = sym c.ends_text.ensures ∙ c.if-ends_text.true in
     stopped_text c.in-Err-serve_text.halt _ _ _ _ _ _ c.requires mode line dot c.in-Err-serve_text.ensures
 
 pub returns-else-ends_text-clause-ok : goal.returns-else-ends_text-clause-ok
 returns-else-ends_text-clause-ok g c =
     let line : c.without_return-line.result.now ≡ strip_last 13 c.args.unfinished.now.line = search rules in
     let mode : c.args.unfinished.now.mode ≡ InText c.in-Some.kind c.in-Some.text.now = search rules in
-    let dot : is_dot c.without_return-line.result.now ≡ false = sym c.ends_text.ensures ∙ c.if-ends_text.false in
+    let dot : is_dot_line c.without_return-line.result.now ≡ false = sym c.ends_text.ensures ∙ c.if-ends_text.false in
     went_line _ _ _ _ _ _ c.requires mode line dot c.end_line.ensures

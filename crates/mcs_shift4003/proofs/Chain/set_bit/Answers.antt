@@ -1,5 +1,5 @@
 use Rattle.std.proofs.Common.{◌≡◌, ◌≢◌, ◌<◌, ap, ◌∙◌, arith, List, ℕ, length, slice_set}
-use Rattle.mcs_shift4003.specs.Packing.{packed_bit, row_of}
+use Rattle.mcs_shift4003.specs.Packing.{packed_bit, chain_bits_of}
 use Rattle.mcs_shift4003.proofs.WordLemmas.{length-row, set-row, set-packed, back}
 use Rattle.mcs_shift4003.proofs.Chain.set_bit.Goals as goal
 
@@ -33,6 +33,6 @@ returns g c =
     let words = c.deref_mut.ensures.value in
     let len : length c.put.new.words ≡ length i.words.items = put.len ∙ ap length words in
     let within : c.args.i < i.bits = let h = c.requires in let e = length-row i.bits i.words.items in let same = ap length c.self.view_is in omega arith in
-    ap (row_of i.bits) (back i.words.items c.put.new.words len)
+    ap (chain_bits_of i.bits) (back i.words.items c.put.new.words len)
     ∙ set-row i.bits i.words.items c.put.new.words c.args.i c.args.bit within put.set (λ k ne. put.others k ne ∙ ap (λ (ws : List ℕ). packed_bit ws k) words)
     ∙ ap (λ (row : List ℕ). slice_set row c.args.i c.args.bit) c.self.view_is

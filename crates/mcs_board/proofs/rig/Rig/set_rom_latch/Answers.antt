@@ -5,21 +5,21 @@ use Rattle.mcs_nibble.specs.Ports.{latch_value}
 use Rattle.mcs_rom4001.specs.Roms.{RomState}
 use Rattle.mcs_model.specs.Bus.{BusState}
 use Rattle.mcs_model.specs.Boards.{masks_on}
-use Rattle.mcs_model.specs.Levels.{with_rom_latch}
-use Rattle.mcs_model.specs.Places.{with_rom_port}
+use Rattle.mcs_model.specs.Levels.{with_rom_ports_at}
+use Rattle.mcs_model.specs.Places.{with_rom_latch}
 use Rattle.mcs_board.specs.RigFields.{parts_of}
 use Rattle.mcs_board.specs.RigState.{masks_of_rom, rig_of}
 use Rattle.mcs_board.proofs.FittedLemmas.{fitted-rom}
 use Rattle.mcs_board.proofs.RigLemmas.{rom_here, rom_absent, rom_latch-grid, rom_latch-write}
 use Rattle.mcs_board.proofs.rig.Rig.set_rom_latch.Goals as goal
 
-written : (s : BusState) (chip n : ℕ) (mask : List LineMask) → masks_on s.board chip ≡ Some mask → with_rom_latch s chip (latch_value mask n) ≡ with_rom_port s chip n
-unfolding with_rom_port
-written s chip n mask is = rw (is, with_rom_port) refl
+written : (s : BusState) (chip n : ℕ) (mask : List LineMask) → masks_on s.board chip ≡ Some mask → with_rom_ports_at s chip (latch_value mask n) ≡ with_rom_latch s chip n
+unfolding with_rom_latch
+written s chip n mask is = rw (is, with_rom_latch) refl
 
-lost : (s : BusState) (chip n : ℕ) → masks_on s.board chip ≡ None → s ≡ with_rom_port s chip n
-unfolding with_rom_port
-lost s chip n is = rw (is, with_rom_port) refl
+lost : (s : BusState) (chip n : ℕ) → masks_on s.board chip ≡ None → s ≡ with_rom_latch s chip n
+unfolding with_rom_latch
+lost s chip n is = rw (is, with_rom_latch) refl
 
 pub returns-in-Some : goal.returns-in-Some
 returns-in-Some g c =
@@ -28,7 +28,7 @@ returns-in-Some g c =
     let here = rom_here i.roms.items c.args.chip c.from-at.result c.index_mut.result.now c.from-at.ensures (omega arith) c.index_mut.ensures.value in
     let mask = ap (λ (t : BusState). masks_on t.board c.args.chip) (sym c.self.view_is) ∙ sym (c.self.invariant.masks c.args.chip) ∙ ap masks_of_rom (here ∙ c.in-Some.is) in
     rom_latch-write (parts_of i) c.args.chip c.from-at.result (latch_value c.in-Some.rom.mask c.args.n) c.in-Some.rom c.set_port.new.self c.requires c.from-at.ensures (omega arith) (here ∙ c.in-Some.is) c.set_port.ensures
-    ∙ ap (λ t. with_rom_latch t c.args.chip (latch_value c.in-Some.rom.mask c.args.n)) c.self.view_is
+    ∙ ap (λ t. with_rom_ports_at t c.args.chip (latch_value c.in-Some.rom.mask c.args.n)) c.self.view_is
     ∙ written s c.args.chip c.args.n c.in-Some.rom.mask mask
 
 pub returns-in-None : goal.returns-in-None

@@ -1,16 +1,16 @@
 use Rattle.std.proofs.Common.{◌≡◌, ◌+◌, List, [], ◌∷◌, ◌++◌, ℕ, length, sym, ◌∙◌, ap, subst, arith, IsTrue, length-take, length-append, length-drop}
 use Rattle.mcs_disk.specs.Disk.{DiskState}
-use Rattle.mcs_journal.specs.Store.{StoreView, IsSettled}
+use Rattle.mcs_journal.specs.Store.{StoreView, IsSettledStore}
 use Rattle.mcs_journal.specs.File.{Holds, HasRoom, slot_named, spelled, framed, start_of}
-use Rattle.mcs_journal.specs.Writing.{IsGate}
+use Rattle.mcs_journal.specs.Writing.{IsCommitPlace}
 use Rattle.mcs_journal.specs.declared.slot.Slot.{Slot}
 use Rattle.mcs_journal.proofs.Unique.{same_pair}
-use Rattle.mcs_journal.proofs.Pairs.{start_bounds}
+use Rattle.mcs_journal.proofs.Contents.{start_bounds}
 use Rattle.mcs_journal.proofs.Logs.{spelled-push, length-framed}
 use Rattle.mcs_journal.proofs.store.Store.append.Goals as goal
 
 -- where the gate stands
-gate_of : (disk : DiskState) (slot : Slot) (start used n : ℕ) (snap : List ℕ) (records : List (List ℕ)) → start ≡ start_of slot → IsSettled disk slot used → HasRoom used n → Holds disk.bytes snap records → IsGate disk.bytes records (start + 16384 + used) n
+gate_of : (disk : DiskState) (slot : Slot) (start used n : ℕ) (snap : List ℕ) (records : List (List ℕ)) → start ≡ start_of slot → IsSettledStore disk slot used → HasRoom used n → Holds disk.bytes snap records → IsCommitPlace disk.bytes records (start + 16384 + used) n
 gate_of disk slot start used n snap records at settled room held =
     let same : length (spelled settled.records) ≡ length (spelled records) = ap (λ (l : List (List ℕ)). length (spelled l)) (same_pair _ _ _ _ _ settled.holds held) in
     let place = at ∙ sym (ap start_of settled.active) in
@@ -47,7 +47,7 @@ invariant_of-self g c =
           let changes = c.in-Ok.ensures.changes was settled.durable settled.snap settled.records settled.holds (gate_of _ _ _ _ _ settled.snap settled.records c.start.ensures settled room settled.holds) in
           record {
             durable = changes.durable;
-            active = ap slot_named (c.add_record.ensures.turn was (omega (arith, beyond.0, c.start.ensures))) ∙ settled.active;
+            active = ap slot_named (c.add_record.ensures.selector was (omega (arith, beyond.0, c.start.ensures))) ∙ settled.active;
             snap = settled.snap;
             records = settled.records ++ c.args.payload.now ∷ [];
             holds = changes.after;

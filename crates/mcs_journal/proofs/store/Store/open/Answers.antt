@@ -8,38 +8,38 @@ use Rattle.mcs_journal.proofs.store.Store.open.Goals as goal
 pub returns-then-size-ne-FILE_SIZE-clause-refused : goal.returns-then-size-ne-FILE_SIZE-clause-refused
 returns-then-size-ne-FILE_SIZE-clause-refused g c = λ h. (inl (λ same. c.if-size-ne-FILE_SIZE.true (c.size.ensures ∙ same)), rests_still _)
 
-pub returns-in-Err-read_pair-clause-refusal_counts : goal.returns-in-Err-read_pair-clause-refusal_counts
-returns-in-Err-read_pair-clause-refusal_counts g c = counts_err _ _ _ Device _ c.in-Err-read_pair.is c.read_pair.ensures.tells
+pub returns-in-Err-read_contents-clause-refusal_counts : goal.returns-in-Err-read_contents-clause-refusal_counts
+returns-in-Err-read_contents-clause-refusal_counts g c = counts_err _ _ _ Device _ c.in-Err-read_contents.is c.read_contents.ensures.tells
 
-pub returns-in-Err-read_pair-clause-refused : goal.returns-in-Err-read_pair-clause-refused
-returns-in-Err-read_pair-clause-refused g c = λ h. (
+pub returns-in-Err-read_contents-clause-refused : goal.returns-in-Err-read_contents-clause-refused
+returns-in-Err-read_contents-clause-refused g c = λ h. (
   refuses_open _ _ (sym c.size.ensures ∙ c.if-size-ne-FILE_SIZE.false)
-      (λ fault. c.read_pair.ensures.no_session h (c.in-Err-read_pair.is ∙ ap Err fault))
-      (λ fault. c.read_pair.ensures.session h (c.in-Err-read_pair.is ∙ ap Err fault))
-      (λ fault. c.read_pair.ensures.damaged h (c.in-Err-read_pair.is ∙ ap Err fault)),
-  c.read_pair.ensures.rests h,
+      (λ fault. c.read_contents.ensures.no_session h (c.in-Err-read_contents.is ∙ ap Err fault))
+      (λ fault. c.read_contents.ensures.session h (c.in-Err-read_contents.is ∙ ap Err fault))
+      (λ fault. c.read_contents.ensures.damaged h (c.in-Err-read_contents.is ∙ ap Err fault)),
+  c.read_contents.ensures.rests h,
 )
 
-pub returns-in-Ok-read_pair-clause-counts : goal.returns-in-Ok-read_pair-clause-counts
-returns-in-Ok-read_pair-clause-counts g c = counts_ok _ _ _ Device _ c.in-Ok-read_pair.is c.read_pair.ensures.tells
+pub returns-in-Ok-read_contents-clause-counts : goal.returns-in-Ok-read_contents-clause-counts
+returns-in-Ok-read_contents-clause-counts g c = counts_ok _ _ _ Device _ c.in-Ok-read_contents.is c.read_contents.ensures.tells
 
-pub returns-in-Ok-read_pair-clause-opened : goal.returns-in-Ok-read_pair-clause-opened
-returns-in-Ok-read_pair-clause-opened g c = λ h. record { holds = c.in-Ok-read_pair.ensures.holds h; rests = c.read_pair.ensures.rests h; durable = c.in-Ok-read_pair.ensures.durable h }
+pub returns-in-Ok-read_contents-clause-opened : goal.returns-in-Ok-read_contents-clause-opened
+returns-in-Ok-read_contents-clause-opened g c = λ h. record { holds = c.in-Ok-read_contents.ensures.holds h; rests = c.read_contents.ensures.rests h; durable = c.in-Ok-read_contents.ensures.durable h }
 
 pub invariant_of-store : goal.invariant_of-store
 invariant_of-store g c = record {
-  disk_size = c.read_pair.ensures.tells.size ∙ sym c.size.ensures ∙ c.if-size-ne-FILE_SIZE.false;
-  within = c.in-Ok-read_pair.ensures.within;
+  disk_size = c.read_contents.ensures.tells.size ∙ sym c.size.ensures ∙ c.if-size-ne-FILE_SIZE.false;
+  within = c.in-Ok-read_contents.ensures.within;
   room = search rules;
   settled = λ live h.
-      let was = c.read_pair.ensures.tells.honest.0 h in
-      let same = (c.read_pair.ensures.rests was).bytes in
+      let was = c.read_contents.ensures.tells.honest.0 h in
+      let same = (c.read_contents.ensures.rests was).bytes in
       record {
-        durable = c.in-Ok-read_pair.ensures.durable was;
-        active = ap slot_of same ∙ c.in-Ok-read_pair.ensures.active was;
-        snap = c.in-Ok-read_pair.field-0.snap;
-        records = c.in-Ok-read_pair.field-0.log.records.items;
-        holds = subst (λ (f : List ℕ). Holds f c.in-Ok-read_pair.field-0.snap c.in-Ok-read_pair.field-0.log.records.items) (sym same) (c.in-Ok-read_pair.ensures.holds was);
-        count = c.in-Ok-read_pair.ensures.count was;
+        durable = c.in-Ok-read_contents.ensures.durable was;
+        active = ap slot_of same ∙ c.in-Ok-read_contents.ensures.active was;
+        snap = c.in-Ok-read_contents.field-0.snap;
+        records = c.in-Ok-read_contents.field-0.log.records.items;
+        holds = subst (λ (f : List ℕ). Holds f c.in-Ok-read_contents.field-0.snap c.in-Ok-read_contents.field-0.log.records.items) (sym same) (c.in-Ok-read_contents.ensures.holds was);
+        count = c.in-Ok-read_contents.ensures.count was;
       };
 }

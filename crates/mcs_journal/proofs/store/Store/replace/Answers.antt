@@ -14,17 +14,17 @@ pub returns-in-Err-clause-replaces : goal.returns-in-Err-clause-replaces
 returns-in-Err-clause-replaces g c = rw (← c.self.view_is) (λ h snap records held.
     let live : IsTrue c.self.inside.live = subst (λ (v : StoreView g.row.D.Denot). IsTrue v.live) (sym c.self.view_is) c.requires.live in
     let settled = c.self.invariant.settled live h in
-    let changes = c.replace_pair.ensures.changes h settled.durable snap records held (c.other-other.ensures ∙ sym (ap other_slot settled.active)) in
+    let changes = c.replace_contents.ensures.changes h settled.durable snap records held (c.other-other.ensures ∙ sym (ap other_slot settled.active)) in
     record { after = tt; durable = tt; ticks = tt; moments = changes.moments })
 
 pub invariant_of-self : goal.invariant_of-self
 invariant_of-self g c = record {
-  disk_size = c.replace_pair.ensures.call.size ∙ c.self.invariant.disk_size;
+  disk_size = c.replace_contents.ensures.call.size ∙ c.self.invariant.disk_size;
   within = omega arith;
-  room = simp (length-take, length-append, length-drop) (omega (arith, c.deref_mut.ensures.len, ap length c.deref_mut.ensures.value, c.replace_pair.auto.buffer, c.self.invariant.room));
+  room = simp (length-take, length-append, length-drop) (omega (arith, c.deref_mut.ensures.len, ap length c.deref_mut.ensures.value, c.replace_contents.auto.buffer, c.self.invariant.room));
   settled = λ alive h.
       let live : IsTrue c.self.inside.live = subst (λ (v : StoreView g.row.D.Denot). IsTrue v.live) (sym c.self.view_is) c.requires.live in
-      let was = c.replace_pair.ensures.call.honest.0 h in
+      let was = c.replace_contents.ensures.call.honest.0 h in
       let settled = c.self.invariant.settled live was in
       let changes = c.in-Ok.ensures.changes was settled.durable settled.snap settled.records settled.holds (c.other-other.ensures ∙ sym (ap other_slot settled.active)) in
       record {

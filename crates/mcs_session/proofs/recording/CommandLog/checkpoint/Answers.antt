@@ -7,9 +7,9 @@ use Rattle.std.proofs.Common.{List, ℕ}
 pub returns-in-Err-clause-replaces : goal.returns-in-Err-clause-replaces
 returns-in-Err-clause-replaces g c = λ honest snap records held.
     changes_map 4 _ _ _ _ (λ (f : List ℕ). Holds f snap records) (λ (f : List ℕ). HoldsState f c.args.bench.now) _ (λ f h. h)
-    (λ f h. record { snap = _; spells = rw c.as_slice.ensures.value c.spell_state-length.ensures.spells; holds = h }) (c.in-Err.ensures.replaces honest snap records held)
+    (λ f h. record { snap = _; spells = rw c.as_slice.ensures.value c.encode_state-length.ensures.spells; holds = h }) (c.in-Err.ensures.replaces honest snap records held)
 
 pub returns-in-Ok-clause-replaces : goal.returns-in-Ok-clause-replaces
 returns-in-Ok-clause-replaces g c = λ honest snap records held.
     changes_map 4 _ _ _ _ (λ (f : List ℕ). Holds f snap records) (λ (f : List ℕ). HoldsState f c.args.bench.now) _ (λ f h. h)
-    (λ f h. record { snap = _; spells = rw c.as_slice.ensures.value c.spell_state-length.ensures.spells; holds = h }) (c.in-Ok.ensures.replaces honest snap records held)
+    (λ f h. record { snap = _; spells = rw c.as_slice.ensures.value c.encode_state-length.ensures.spells; holds = h }) (c.in-Ok.ensures.replaces honest snap records held)

@@ -13,11 +13,11 @@ returns-then-more-self-clause-made g c = λ honest was.
 
 pub returns-in_err-replace-clause-moments : goal.returns-in_err-replace-clause-moments
 returns-in_err-replace-clause-moments g c = λ honest was.
-    leaves_state _ _ _ _ _ was (rw c.as_slice.ensures.value c.spell_state-length.ensures.spells) (c.in_err-replace.ensures.replaces honest was.stands.snap was.stands.records was.stands.holds).moments
+    leaves_state _ _ _ _ _ was (rw c.as_slice.ensures.value c.encode_state-length.ensures.spells) (c.in_err-replace.ensures.replaces honest was.stands.snap was.stands.records was.stands.holds).moments
 
 pub returns-clause-moments : goal.returns-clause-moments
 returns-clause-moments g c = λ honest was.
-    leaves_state _ _ _ _ _ was (rw c.as_slice.ensures.value c.spell_state-length.ensures.spells) (c.in_ok-replace.ensures.replaces honest was.stands.snap was.stands.records was.stands.holds).moments
+    leaves_state _ _ _ _ _ was (rw c.as_slice.ensures.value c.encode_state-length.ensures.spells) (c.in_ok-replace.ensures.replaces honest was.stands.snap was.stands.records was.stands.holds).moments
 
 pub returns-clause-made : goal.returns-clause-made
 returns-clause-made g c = λ honest was.
@@ -27,4 +27,4 @@ returns-clause-made g c = λ honest was.
       | else-has_room-via-then-has_room+else-more-self w ↦ let over = w.if-more-self.false in let none : ⊥ = omega (arith, over, few, c.requires.ready.within) in none
       | else-has_room-via-else-has_room w ↦ let there = c.has_room.ensures.room.1 room in let none : ⊥ = search rules in none
     ])
-    (rw c.as_slice.ensures.value c.spell_state-length.ensures.spells) changes.after changes.durable changes.ticks
+    (rw c.as_slice.ensures.value c.encode_state-length.ensures.spells) changes.after changes.durable changes.ticks

@@ -7,9 +7,9 @@ invariant_of-result g c = record {
   ready = search rules;
   recorded = λ alive honest.
       let made = c.in-Ok-create.ensures.created (c.in-Ok-create.ensures.counts.honest.0 honest) in
-      recorded_new _ _ _ (rw c.as_slice.ensures.value c.spell_state-length.ensures.spells) made.holds made.durable;
+      recorded_new _ _ _ (rw c.as_slice.ensures.value c.encode_state-length.ensures.spells) made.holds made.durable;
 }
 
 pub returns-in-Ok-create-clause-created : goal.returns-in-Ok-create-clause-created
 returns-in-Ok-create-clause-created g c = λ honest.
-    created _ _ _ _ (rw c.as_slice.ensures.value c.spell_state-length.ensures.spells) c.in-Ok-new.ensures (c.in-Ok-create.ensures.created honest)
+    created _ _ _ _ (rw c.as_slice.ensures.value c.encode_state-length.ensures.spells) c.in-Ok-new.ensures (c.in-Ok-create.ensures.created honest)

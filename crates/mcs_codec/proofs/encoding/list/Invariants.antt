@@ -1,0 +1,11 @@
+use Rattle.std.proofs.Common.{◌≡◌, ◌-◌, length}
+use Rattle.mcs_codec.specs.Reading.{many}
+use Rattle.mcs_codec.proofs.Loops.{with_front}
+use Rattle.mcs_codec.proofs.encoding.list.Given as goal
+
+-- the values so far, and those that are still read, are all
+abbrev pub invariant-loop : goal.invariant-loop
+invariant-loop g l = record {
+  count : length l.items.items ≡ l.counter;
+  all : with_front l.items.items (many (l.count - l.counter) g.T.Decode.reading l.reader) ≡ many l.count g.T.Decode.reading l.fn.reader;
+}

@@ -1,8 +1,0 @@
-use Rattle.std.proofs.Common.{◌≡◌, ◌-◌, length, take}
-use Rattle.mcs_codec.specs.Reading.{many}
-use Rattle.mcs_codec.proofs.Loops.{with_front}
-use Rattle.mcs_codec.proofs.field.fill.Given as goal
-
--- the values so far, and those that are still read, are all
-abbrev pub invariant-loop-i : goal.invariant-loop-i
-invariant-loop-i g l = with_front (take l.i l.items) (many (length l.items - l.i) g.T.Field.reading l.reader) ≡ many (length l.fn.items) g.T.Field.reading l.fn.reader

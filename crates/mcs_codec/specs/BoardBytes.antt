@@ -1,0 +1,42 @@
+-- The bytes that spell a board. (Our own choice.)
+use Rattle.std.specs.Prelude.{ℕ, List, [], ◌∷◌, ◌++◌, length, Option, Some, None}
+use Rattle.std.specs.List.{flat_map}
+use Rattle.mcs_nibble.specs.declared.lines.LineMask.{LineMask}
+use Rattle.mcs_nibble.specs.Ports.{mask_at, mask_character}
+use Rattle.mcs_model.specs.declared.board.BoardParts.{BoardParts}
+use Rattle.mcs_model.specs.declared.board.ChainPart.{ChainPart}
+use Rattle.mcs_model.specs.declared.board.KeyMatrix.{KeyMatrix}
+use Rattle.mcs_model.specs.declared.board.Line.{Line}
+use Rattle.mcs_model.specs.declared.board.Line.TheVariants.{Rom, Ram, Chain}
+
+-- the four port lines of a ROM, lines 3, 2, 1, 0 in this order, or `----` where it is absent
+abbrev pub rom_bytes : Option (List LineMask) → List ℕ
+rom_bytes (Some mask) = mask_character (mask_at mask 3) ∷ mask_character (mask_at mask 2) ∷ mask_character (mask_at mask 1) ∷ mask_character (mask_at mask 0) ∷ []
+rom_bytes None = 45 ∷ 45 ∷ 45 ∷ 45 ∷ []
+
+-- four bytes: the kind of line, and its numbers
+abbrev pub line_bytes : Line → List ℕ
+line_bytes (Rom chip k) = 0 ∷ chip ∷ k ∷ 0 ∷ []
+line_bytes (Ram bank chip k) = 1 ∷ bank ∷ chip ∷ k ∷ []
+line_bytes (Chain n i) = 2 ∷ n ∷ i ∷ 0 ∷ []
+
+abbrev pub chain_bytes : ChainPart → List ℕ
+chain_bytes c = line_bytes c.clock ++ (line_bytes c.data_in ++ c.chips ∷ [])
+
+-- how many there are, and each of them
+abbrev pub counted : {A : Type 0} → (A → List ℕ) → List A → List ℕ
+counted text items = length items ∷ flat_map text items
+
+-- 0 without keys, or 1 and the matrix
+abbrev pub keys_bytes : Option KeyMatrix → List ℕ
+keys_bytes None = 0 ∷ []
+keys_bytes (Some m) = 1 ∷ m.chain ∷ m.first ∷ m.rows ∷ counted line_bytes m.columns.items
+
+-- the ROMs, the number of chips of each bank, the chains, the keys, the lamps
+abbrev pub board_bytes : BoardParts → List ℕ
+board_bytes b =
+    flat_map rom_bytes b.roms
+    ++ (b.banks
+    ++ (counted chain_bytes b.chains.items
+    ++ (keys_bytes b.keys
+    ++ counted line_bytes b.lamps.items)))

@@ -1,0 +1,92 @@
+-- The bytes that spell a command: a tag, and what the command tells. (Our own choice.)
+use Rattle.std.specs.Prelude.{ℕ, ◌+◌, ◌*◌, ◌^◌, ◌<◌, ◌==◌, List, [], ◌∷◌, ◌++◌, map, if◌then◌else◌}
+use Rattle.std.specs.List.{list_any}
+use Rattle.std.specs.Int.{w16, w32, to_be_bytes}
+use Rattle.mcs_nibble.specs.Tabled.{tabled}
+use Rattle.mcs_model.specs.Images.{IsImage}
+use Rattle.mcs_model.specs.Validity.{IsValidBoard}
+use Rattle.mcs_model.specs.declared.command.Place.{Place}
+use Rattle.mcs_model.specs.declared.command.Place.TheVariants.{Acc, Cy, Pc, Register, Dcl, Rom, Ram, Status}
+use Rattle.mcs_model.specs.declared.command.Command.{Command}
+use Rattle.mcs_model.specs.declared.command.Command.TheVariants.{Wire, Load, Press, Release, Run, Step, Poke, Test, Reset, Break, Unbreak, Watch, Unwatch}
+use Rattle.mcs_codec.specs.BoardBytes.{board_bytes}
+
+-- ---- spelling
+
+-- an address: two bytes, the high one first
+abbrev pub address : ℕ → List ℕ
+address at = to_be_bytes w16 at
+
+-- a place, and the value that it is to hold
+abbrev pub place_bytes : Place → List ℕ
+place_bytes (Acc n) = 0 ∷ n ∷ []
+place_bytes (Cy b) = 1 ∷ b ∷ []
+place_bytes (Pc at) = 2 ∷ address at
+place_bytes (Register r n) = 3 ∷ r ∷ n ∷ []
+place_bytes (Dcl bank) = 4 ∷ bank ∷ []
+place_bytes (Rom at byte) = 5 ∷ (address at ++ byte ∷ [])
+place_bytes (Ram bank src n) = 6 ∷ bank ∷ src ∷ n ∷ []
+place_bytes (Status bank high k n) = 7 ∷ bank ∷ high ∷ k ∷ n ∷ []
+
+-- 1 where an image has a byte at an address
+abbrev pub mark : List (ℕ × ℕ) → ℕ → ℕ
+mark image at = if list_any (λ p. p.0 == at) image then 1 else 0
+
+-- the byte whose bit k is f k
+abbrev pub byte_of : (ℕ → ℕ) → ℕ
+byte_of f = f 0 + 2 * f 1 + 4 * f 2 + 8 * f 3 + 16 * f 4 + 32 * f 5 + 64 * f 6 + 128 * f 7
+
+-- the map of an image: bit k of byte i is 1 where the image has a byte at address 8 * i + k
+unfoldable pub map_bytes : List (ℕ × ℕ) → List ℕ
+map_bytes image = tabled 512 (λ i. byte_of (λ k. mark image (8 * i + k)))
+
+abbrev pub values : List (ℕ × ℕ) → List ℕ
+values image = map (λ p. p.1) image
+
+-- the map, and the bytes by rising address
+abbrev pub image_bytes : List (ℕ × ℕ) → List ℕ
+image_bytes image = map_bytes image ++ values image
+
+abbrev pub command_bytes : Command → List ℕ
+command_bytes (Wire board) = 1 ∷ board_bytes board
+command_bytes (Load image) = 2 ∷ image_bytes image
+command_bytes (Press row column) = 3 ∷ row ∷ column ∷ []
+command_bytes (Release row column) = 4 ∷ row ∷ column ∷ []
+command_bytes (Run cycles) = 5 ∷ to_be_bytes w32 cycles
+command_bytes Step = 6 ∷ []
+command_bytes (Poke place) = 7 ∷ place_bytes place
+command_bytes (Test bit) = 8 ∷ bit ∷ []
+command_bytes Reset = 9 ∷ []
+command_bytes (Break at) = 10 ∷ address at
+command_bytes (Unbreak at) = 11 ∷ address at
+command_bytes (Watch bank src) = 12 ∷ bank ∷ src ∷ []
+command_bytes (Unwatch bank src) = 13 ∷ bank ∷ src ∷ []
+
+-- ---- range
+
+-- each number of a place is in its range
+abbrev pub IsPlace : Place → Type 0
+IsPlace (Acc n) = n < 16
+IsPlace (Cy b) = b < 2
+IsPlace (Pc at) = at < 4096
+IsPlace (Register r n) = (r < 16) × (n < 16)
+IsPlace (Dcl bank) = bank < 8
+IsPlace (Rom at byte) = (at < 4096) × (byte < 256)
+IsPlace (Ram bank src n) = (bank < 8) × ((src < 256) × (n < 16))
+IsPlace (Status bank high k n) = (bank < 8) × ((high < 16) × ((k < 4) × (n < 16)))
+
+-- each part of a command is in its range
+abbrev pub IsCommand : Command → Type 0
+IsCommand (Wire board) = IsValidBoard board
+IsCommand (Load image) = IsImage image
+IsCommand (Press row column) = (row < 256) × (column < 256)
+IsCommand (Release row column) = (row < 256) × (column < 256)
+IsCommand (Run cycles) = cycles < 2 ^ 32
+IsCommand Step = Unit {0}
+IsCommand (Poke place) = IsPlace place
+IsCommand (Test bit) = bit < 2
+IsCommand Reset = Unit {0}
+IsCommand (Break at) = at < 4096
+IsCommand (Unbreak at) = at < 4096
+IsCommand (Watch bank src) = (bank < 8) × (src < 256)
+IsCommand (Unwatch bank src) = (bank < 8) × (src < 256)

@@ -1,0 +1,49 @@
+-- The bytes that spell a state, by groups. Each number of a list, and each single number of no other width, is one byte.
+-- (Our own choice.)
+use Rattle.std.specs.Prelude.{ℕ, Bool, List, [], ◌∷◌, ◌++◌}
+use Rattle.std.specs.List.{flat_map}
+use Rattle.std.specs.Int.{w32, to_be_bytes}
+use Rattle.mcs_model.specs.declared.regs.Regs.{Regs}
+use Rattle.mcs_model.specs.Bus.{BusState}
+use Rattle.mcs_model.specs.BenchState.{BenchState}
+use Rattle.mcs_codec.specs.BoardBytes.{board_bytes, counted}
+use Rattle.mcs_codec.specs.CommandBytes.{address}
+use Rattle.mcs_codec.specs.Marked.{marked_bytes, watches_bytes}
+use Rattle.mcs_version1.specs.BenchState.{BenchState1}
+
+-- the bytes of the ROMs, the characters and the status characters of the RAM chips, the port latches of both
+abbrev pub memory_bytes : BusState → List ℕ
+memory_bytes b = b.rom ++ (b.ram ++ (b.status ++ (b.ram_ports ++ b.rom_ports)))
+
+-- the accumulator, the carry, the index registers, the counter, the return addresses
+abbrev pub registers_bytes : Regs → List ℕ
+registers_bytes p = p.acc ∷ p.cy ∷ (p.r ++ (address p.pc ++ flat_map address p.ret))
+
+-- the command register, the SRC bytes of the ROMs and of the banks, the owed cycles
+abbrev pub sources_bytes : ℕ → ℕ → List ℕ → ℕ → List ℕ
+sources_bytes dcl rom_src ram_src owed = dcl ∷ rom_src ∷ (ram_src ++ owed ∷ [])
+
+-- the bits of the chains, the keys, TEST, the breakpoints
+abbrev pub wiring_bytes : List (List ℕ) → List ℕ → ℕ → List ℕ → List ℕ
+wiring_bytes chains keys test breakpoints = flat_map (λ row. row) chains ++ (keys ++ (test ∷ counted address breakpoints))
+
+-- the groups behind the board, and what comes after the breakpoints
+abbrev pub groups_bytes : Regs → BusState → List ℕ → List ℕ → List ℕ
+groups_bytes p b breakpoints rest =
+    memory_bytes b
+    ++ (registers_bytes p
+    ++ (sources_bytes p.dcl b.rom_src b.ram_src p.owed
+    ++ (wiring_bytes b.chains b.keys b.test breakpoints
+    ++ rest)))
+
+-- a state in version 2: the count of accepted commands, 02, the board, the groups, the watches
+abbrev pub state_bytes : BenchState → List ℕ
+state_bytes s = to_be_bytes w32 s.seq ++ (2 ∷ (board_bytes s.bus.board ++ groups_bytes s.processor s.bus s.breakpoints (counted address s.watches)))
+
+-- a state in version 1: the count of accepted commands, the board, the groups
+abbrev pub state_bytes_1 : BenchState1 → List ℕ
+state_bytes_1 s = to_be_bytes w32 s.seq ++ (board_bytes s.bus.board ++ groups_bytes s.processor s.bus s.breakpoints [])
+
+-- a state in the one or the other: in version 1 where `first` is true
+abbrev pub bytes_by : Bool × BenchState → List ℕ
+bytes_by x = to_be_bytes w32 x.1.seq ++ (marked_bytes (x.0, x.1.bus.board) ++ groups_bytes x.1.processor x.1.bus x.1.breakpoints (watches_bytes x.0 x.1.watches))

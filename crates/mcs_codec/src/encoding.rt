@@ -1,0 +1,144 @@
+//! Values that are written and read one after another.
+ghost use Rattle.std.specs.Prelude.{◌≡◌, ℕ, ◌+◌, ◌≤◌, ◌<◌, ◌∷◌, ◌++◌, List, [], length, take, option_map, Option, Some, None, if◌then◌else◌};
+ghost use Rattle.std.specs.List.{flat_map};
+ghost use Rattle.mcs_codec.specs.Reading.{small_at, many, counted_at};
+ghost use Rattle.mcs_codec.specs.BoardBytes.{counted as counted_text};
+
+use crate::reader::Reader;
+use arrayvec::ArrayVec;
+use mcs_nibble::{Addr, Bit, Nibble};
+
+/// A value with one spelling.
+pub trait Encode {
+    /// Its spelling.
+    ghost spelling: { Self → List ℕ };
+
+    /// Puts it at a place of the buffer, and answers the place after it.
+    fn put(&self, out: &mut [u8], at: usize) -> usize
+        requires { at + length (spelling self.now) ≤ length out.old }
+        ensures end { result ≡ at + length (spelling self.now) }
+        ensures front { take result out.new ≡ take at out.old ++ spelling self.now };
+}
+
+/// A value that is read at the front of some bytes.
+pub trait Decode: Sized + Drop {
+    /// The value and the bytes after it, if there is one.
+    ghost reading: { List ℕ → Option (Self × List ℕ) };
+
+    fn read(reader: &mut Reader<'_>) -> Option<Self>
+        ensures { option_map (λ x. (x, reader.new)) result ≡ reading reader.old };
+}
+
+/// Puts bytes at a place of the buffer, and answers the place after them.
+pub fn put(out: &mut [u8], at: usize, bytes: &[u8]) -> usize
+    requires { at + length bytes.now ≤ length out.old }
+    ensures end { result ≡ at + length bytes.now }
+    ensures front { take result out.new ≡ take at out.old ++ bytes.now }
+{
+    let end = at + bytes.len();
+    out[at..end].copy_from_slice(bytes);
+    end
+}
+
+/// Puts one value after the other.
+pub fn put_all<T: Encode>(items: &[T], out: &mut [u8], at: usize) -> usize
+    requires { at + length (flat_map T.spelling items.now) ≤ length out.old }
+    ensures end { result ≡ at + length (flat_map T.spelling items.now) }
+    ensures front { take result out.new ≡ take at out.old ++ flat_map T.spelling items.now }
+{
+    let mut end = at;
+    for item in items {
+        end = item.put(out, end);
+    }
+    end
+}
+
+/// Reads a value into each place.
+pub fn fill<T: Decode>(reader: &mut Reader<'_>, items: &mut [T]) -> Option<()>
+    ensures { option_map (λ _. (items.new, reader.new)) result ≡ many (length items.old) T.reading reader.old }
+{
+    for i in 0..items.len() {
+        items[i] = T::read(reader)?;
+    }
+    Some(())
+}
+
+/// Reads so many values.
+pub fn list<T: Decode + Default, const CAP: usize>(
+    reader: &mut Reader<'_>,
+    count: usize,
+) -> Option<ArrayVec<T, CAP>>
+    requires { count ≤ CAP }
+    ensures { option_map (λ v. (v.items, reader.new)) result ≡ many count T.reading reader.old }
+{
+    let mut items = ArrayVec::new();
+    for _ in 0..count {
+        items.push(T::read(reader)?);
+    }
+    Some(items)
+}
+
+impl Decode for Nibble {
+    ghost reading = { small_at 16 };
+
+    fn read(reader: &mut Reader<'_>) -> Option<Nibble> {
+        let value = reader.byte()?;
+        Nibble::of(value)
+    }
+}
+
+impl Decode for Bit {
+    ghost reading = { small_at 2 };
+
+    fn read(reader: &mut Reader<'_>) -> Option<Bit> {
+        let value = reader.byte()?;
+        Bit::of(value)
+    }
+}
+
+impl Encode for Addr {
+    ghost use Rattle.mcs_codec.specs.CommandBytes.{address};
+
+    ghost spelling = { address };
+
+    fn put(&self, out: &mut [u8], at: usize) -> usize {
+        put(out, at, &self.get().to_be_bytes())
+    }
+}
+
+impl Decode for Addr {
+    ghost use Rattle.mcs_codec.specs.Reading.{address_at};
+
+    ghost reading = { address_at };
+
+    fn read(reader: &mut Reader<'_>) -> Option<Addr> {
+        let value = reader.number()?;
+        Addr::of(value)
+    }
+}
+
+/// Reads a count, and so many values.
+#[tactic(auto, unfolding(crate::specs::Reading::counted_at))]
+pub fn counted<T: Decode + Default, const CAP: usize>(
+    reader: &mut Reader<'_>,
+) -> Option<ArrayVec<T, CAP>>
+    ensures { option_map (λ v. (v.items, reader.new)) result ≡ counted_at CAP T.reading reader.old }
+{
+    let count = usize::from(reader.byte()?);
+    if count <= CAP {
+        list(reader, count)
+    } else {
+        None
+    }
+}
+
+/// Puts a count, and each value.
+pub fn put_counted<T: Encode>(items: &[T], out: &mut [u8], at: usize) -> usize
+    requires few { length items.now < 256 }
+    requires room { at + length (counted_text T.spelling items.now) ≤ length out.old }
+    ensures end { result ≡ at + length (counted_text T.spelling items.now) }
+    ensures front { take result out.new ≡ take at out.old ++ counted_text T.spelling items.now }
+{
+    let at = put(out, at, &[items.len() as u8]);
+    put_all(items, out, at)
+}

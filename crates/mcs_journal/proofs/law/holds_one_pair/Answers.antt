@@ -1,5 +1,0 @@
-use Rattle.mcs_journal.proofs.Unique.{same_snap, same_pair}
-use Rattle.mcs_journal.proofs.law.holds_one_pair.Goals as goal
-
-pub returns : goal.returns
-returns c = λ file snap other records more a b. (same_snap file snap other records more a b, same_pair file snap other records more a b)

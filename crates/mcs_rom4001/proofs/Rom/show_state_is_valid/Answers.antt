@@ -1,0 +1,12 @@
+use Rattle.std.proofs.Common.{subst, arith}
+use Rattle.mcs_rom4001.specs.Roms.{IsValidRom}
+use Rattle.mcs_rom4001.proofs.Rom.show_state_is_valid.Goals as goal
+
+pub returns : goal.returns
+returns c =
+    subst IsValidRom c.self.view_is (record {
+      length_is = c.are_bytes.ensures.count;
+      bytes = c.are_bytes.ensures.range;
+      latch = omega (arith, c.get-latch.ensures.value, c.get-latch.ensures.in_range);
+      inputs = c.self.invariant;
+    })
