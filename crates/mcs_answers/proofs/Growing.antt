@@ -6,11 +6,11 @@ use Rattle.std.specs.List.{flat_map, join_with_byte, range_with_len}
 use Rattle.mcs_wiring.proofs.PartTexts.{one_more}
 use Rattle.mcs_model.specs.QueryText.{as_line, or_dash, stretch}
 
--- a piece behind what was written already
+-- a piece after what was written already
 pub behind : (a p b x c : List ℕ) → b ≡ a ++ p → c ≡ b ++ x → c ≡ a ++ (p ++ x)
 behind a p b x c so_far here = here ∙ ap (λ v. v ++ x) so_far ∙ append_assoc a p x
 
--- two pieces behind it
+-- two pieces after it
 pub behind_two : (a p b x y c : List ℕ) → b ≡ a ++ p → c ≡ b ++ x ++ y → c ≡ a ++ (p ++ x ++ y)
 behind_two a p b x y c so_far here = here ∙ ap (λ v. v ++ x ++ y) so_far ∙ ap (λ v. v ++ y) (append_assoc a p x) ∙ append_assoc a (p ++ x) y
 

@@ -26,7 +26,7 @@ stop_name Breakpoint = codes "break"
 stop_name Watched = codes "watch"
 stop_name Ended = codes "end"
 
--- what a reply tells behind the count of commands: how many bytes were loaded, or how many cycles were run and why no more
+-- what a reply tells after the count of commands: how many bytes were loaded, or how many cycles were run and why no more
 abbrev pub reply_text : Reply → List ℕ
 reply_text Done = []
 reply_text (Loaded bytes) = codes " bytes " ++ decimal bytes

@@ -1,4 +1,4 @@
-//! Bytes, digits and numbers behind a text of an answer.
+//! Bytes, digits and numbers after a text of an answer.
 ghost use Rattle.std.specs.Prelude.{◌≡◌, ◌+◌, ◌++◌, ◌<◌, ◌≤◌, length, map};
 ghost use Rattle.std.specs.Fmt.{decimal};
 ghost use Rattle.arrayvec.specs.ArrayVec.{array_vec_len};

@@ -46,7 +46,7 @@ pub fn put_lamps(answer: &mut ArrayVec<u8, ANSWER_BYTES>, bench: &Bench)
     put(answer, b"\n");
 }
 
-/// Adds addresses, each behind a space.
+/// Adds addresses, each after a space.
 fn put_addresses(answer: &mut ArrayVec<u8, ANSWER_BYTES>, list: &[Addr])
     requires room { array_vec_len answer.old + 4 * length list.now ≤ ANSWER_BYTES }
     ensures text { answer.new.items ≡ answer.old.items ++ flat_map (λ at. codes " " ++ address_text at) list.now }
@@ -83,7 +83,7 @@ fn put_watch(answer: &mut ArrayVec<u8, ANSWER_BYTES>, word: &[u8], watch: Addr)
     put_byte(answer, b".", (place % 256) as u8);
 }
 
-/// Adds watched characters, each behind a space.
+/// Adds watched characters, each after a space.
 fn put_places(answer: &mut ArrayVec<u8, ANSWER_BYTES>, list: &[Addr])
     requires room { array_vec_len answer.old + 5 * length list.now ≤ ANSWER_BYTES }
     ensures text { answer.new.items ≡ answer.old.items ++ flat_map (λ watch. codes " " ++ watch_text watch) list.now }

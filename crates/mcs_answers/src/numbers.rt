@@ -54,7 +54,7 @@ fn stop_name(stop: Stop) -> &'static [u8]
     }
 }
 
-/// Adds what a reply tells behind the count of commands.
+/// Adds what a reply tells after the count of commands.
 fn put_told(answer: &mut ArrayVec<u8, ANSWER_BYTES>, reply: &Reply)
     requires { array_vec_len answer.old ≤ 100 }
     ensures text { answer.new.items ≡ answer.old.items ++ reply_text reply.now }

@@ -91,7 +91,7 @@ fn put_roms(answer: &mut ArrayVec<u8, ANSWER_BYTES>, bench: &Bench)
     }
 }
 
-/// Adds bit `i` of a chain, the first of ten behind a space.
+/// Adds bit `i` of a chain, the first of ten after a space.
 fn put_bit(answer: &mut ArrayVec<u8, ANSWER_BYTES>, bench: &Bench, n: u8, i: u8)
     requires { array_vec_len answer.old + 2 ≤ ANSWER_BYTES }
     ensures text { answer.new.items ≡ answer.old.items ++ bit_text bench.now.bus n i }

@@ -46,7 +46,7 @@ fn listed(alloc: Global, bench: &Bench, from: Addr, lines: u16) -> Result<Vec<u8
 }
 
 /// Tells what a question asks: a short text is put into an empty answer, and a long one, which takes memory, is handed
-/// back, to stand behind it. It fails where memory is refused, and then the short text counts for nothing.
+/// back, to stand after it. It fails where memory is refused, and then the short text counts for nothing.
 pub fn put_answer(
     alloc: Global,
     short: &mut ArrayVec<u8, ANSWER_BYTES>,

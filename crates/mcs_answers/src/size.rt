@@ -11,7 +11,7 @@ pub(crate) const SRC_BYTES: usize = 7 + 5 * BANKS;
 /// Bytes of the longest line of a ROM.
 pub(crate) const ROM_BYTES: usize = 18;
 
-/// Bytes of the longest line of a chain: its head, and of each chip ten bits behind a space.
+/// Bytes of the longest line of a chain: its head, and of each chip ten bits after a space.
 pub(crate) const CHAIN_BYTES: usize = 8 + 11 * CHAIN_CHIPS as usize;
 
 /// Bytes of the longest line of keys: its head, and of each key four.

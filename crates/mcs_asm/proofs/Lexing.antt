@@ -1,4 +1,4 @@
--- Where a word ends, and what is behind it.
+-- Where a word ends, and what is after it.
 use Rattle.std.proofs.Common.{◌≡◌, ℕ, suc, ◌+◌, ◌<◌, ◌≤◌, Bool, true, false, cond, eqb, List, [], ◌∷◌, ◌++◌, length, take, drop, refl, sym, ap, ◌⊎◌, ◌||◌, ◌≢◌, ◌∙◌, append_assoc, arith, inl, inr}
 use Rattle.std.specs.List.{prefix_len}
 use Rattle.std.proofs.lemmas.Bool.{eqb-true}
@@ -6,7 +6,7 @@ use Rattle.std.proofs.lemmas.Bool.Decides.{eqb_tells}
 use Rattle.std.proofs.lemmas.List.{append-nil, length-take}
 use Rattle.mcs_source.specs.Lexical.{Token, Word, Other, is_word, is_blank, symbol, word_then, tokens_after, tokens}
 
--- what stands behind the end of a word
+-- what stands after the end of a word
 abbrev pub behind_word : List ℕ → List Token
 behind_word [] = []
 behind_word (b ∷ bytes) = cond (is_blank b) (tokens bytes) (cond (eqb b 59) [] (symbol b ∷ tokens bytes))
@@ -47,7 +47,7 @@ blanks_before (b ∷ bytes) =
       | false ↦ λ no. refl
     ]) refl
 
--- with no word in front, the tokens are those behind the empty word
+-- with no word in front, the tokens are those after the empty word
 pub none_in_front : (bytes : List ℕ) → prefix_len is_word bytes ≡ 0 → tokens bytes ≡ behind_word bytes
 none_in_front bytes e = word_ends [] bytes ∙ rw e refl
 
@@ -70,11 +70,11 @@ stops p (x ∷ xs) =
       | false ↦ λ no. rw no refl
     ]) refl
 
--- behind the longest word comes no word
+-- after the longest word comes no word
 pub behind_is : (bytes : List ℕ) → behind_word (drop (prefix_len is_word bytes) bytes) ≡ tokens (drop (prefix_len is_word bytes) bytes)
 behind_is bytes = sym (none_in_front (drop (prefix_len is_word bytes) bytes) (stops is_word bytes))
 
--- a word, and what is behind it
+-- a word, and what is after it
 pub word_first : (word rest bytes : List ℕ) (n : ℕ) → n ≡ prefix_len is_word bytes → 0 < n → word ≡ take n bytes → rest ≡ drop n bytes → n ≤ length bytes → tokens bytes ≡ Word word ∷ tokens rest
 word_first [] rest bytes n len some front back within = absurd (omega (arith, ap length front, length-take n bytes))
 word_first (b ∷ word) rest bytes n len some front back within =

@@ -81,7 +81,7 @@ at_next : (s : Spelt) (next : ℕ) (r : Result (List ℕ) SourceFault) (t : Spel
 at_next s next (Err f) t e = absurd (cc)
 at_next s next (Ok bytes) t e = ap (λ (x : Spelt). x.at) (one_of (overlaps s.pairs s.at (length bytes)) (record { at = next; pairs = s.pairs ++ from_address s.at bytes }) t e)
 
--- where class one goes on behind a line that class two lets pass
+-- where class one goes on after a line that class two lets pass
 abbrev pub GoesOn : Before → Option Line → (Before → Result Before (ℕ × SourceFault)) → Before → Type 0
 GoesOn b line next all = (names : Names) (s t : Spelt) → s.at ≡ b.at → spelt_with_line names s line ≡ Ok t → (c : Before) × (c.at ≡ t.at) × (next c ≡ Ok all)
 

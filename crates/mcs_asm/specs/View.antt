@@ -53,7 +53,7 @@ abbrev pub line_view : Line → lines.Line
 line_view (line.Code label s) = lines.Code (option_copied label) (option_map statement_view s)
 line_view (line.Define w n) = lines.Define w.now n
 
--- ---- what a step and a pass answer; want of memory says nothing of the text
+-- ---- what a step and a pass answer; lack of memory says nothing of the text
 
 abbrev pub FailsAs : FaultKind → ℕ → {A : Type 0} → Result A (ℕ × SourceFault) → Type 0
 FailsAs NoMemory line wanted = line ≡ 0

@@ -101,7 +101,7 @@ fn target(value: u64) -> Result<Addr, SourceFault>
         .ok_or(SourceFault::OutOfRange)
 }
 
-/// The low byte of a target on the page behind two words.
+/// The low byte of a target on the page after two words.
 fn near(at: u16, target: Addr) -> Result<u8, SourceFault>
     requires { at ≤ 4096 }
     ensures { result ≡ if_on_page (is_near at target) (Ok (target % 256)) }

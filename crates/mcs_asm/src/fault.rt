@@ -19,7 +19,7 @@ pub enum FaultKind {
 }
 
 impl FaultKind {
-    /// The number that the refusal is told by.
+    /// The number that the refusal is reported as.
     pub fn number(self) -> u8
         ensures { result ≡ assembler_fault_number self }
     {

@@ -227,7 +227,7 @@ fn next_statement(statement: &Option<Statement<'_>>, at: u16) -> u16
     }
 }
 
-/// Where the statement of the next line stands, behind a line without a fault of class one.
+/// Where the statement of the next line stands, after a line without a fault of class one.
 pub fn next_at(line: &Line<'_>, at: u16) -> u16
     requires start { at ≤ 4096 }
     requires place { is_bad_place (line_view line.now) ≡ false }

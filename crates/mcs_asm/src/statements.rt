@@ -256,7 +256,7 @@ fn read_statement<'a>(
     behind(alloc, mnemonic, tokens)
 }
 
-/// What stands behind a label, or in front where there is none.
+/// What stands after a label, or in front where there is none.
 fn rest<'a>(
     alloc: Global,
     label: Option<&'a [u8]>,

@@ -165,7 +165,7 @@ each-held s a b c d e BankSrcs = e
 
 -- ---- a list filled
 
--- of `start`, all is as it was but for one list, whose first i numbers are those of `goal`
+-- of `start`, all is as it was except for one list, whose first i numbers are those of `goal`
 pub record Fills (start s : BusState) (h : Held) (goal : List ℕ) (i : ℕ) : Type 0 where
   pub others : s ≡ with_list start h (list_of s h)
   pub filled : IsFilled (list_of start h) goal i (list_of s h)

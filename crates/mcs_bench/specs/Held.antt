@@ -51,7 +51,7 @@ IsZeroWhereAbsent s h = (i : ℕ) → i < count_of h → is_absent s.board h i �
 abbrev pub with_number : BusState → Held → ℕ → ℕ → BusState
 with_number s h i n = if is_absent s.board h i then s else with_list s h (slice_set (list_of s h) i n)
 
--- key i, row by row, of a board whose keys have so many columns
+-- key i, row by row, of a board whose keys have that many columns
 pub record IsKeyAt (b : BoardParts) (columns i : ℕ) : Type 0 where
   pub some : 0 < columns
   pub there : has_key b (i / columns) (i % columns) ≡ true

@@ -11,7 +11,7 @@ use Rattle.mcs_model.specs.Bus.{src_of, after_ram}
 use Rattle.mcs_model.specs.Effect.{instruction_at}
 use Rattle.mcs_model.specs.Running.{Machine, Stops, is_outside, cycled, at_break, has_changed, stop_after, run_length, after_run, run_stop, step_length, after_step, step_stop}
 
--- why a run stops behind a cycle, but for a code outside and its end
+-- why a run stops after a cycle, except for a code outside and its end
 abbrev pub mark_of : Bool → Bool → Option Stop
 mark_of broken changed = if broken then Some Breakpoint else if changed then Some Watched else None
 
@@ -20,7 +20,7 @@ abbrev pub mark_at : Stops → ℕ → Machine → Machine → Option Stop
 mark_at stops k s t = mark_of (at_break stops.breaks k t) (has_changed stops.watches s t)
 
 -- a run of at most n cycles from s, which did k of them and came to t: no reason to stop was passed, and it stopped at a
--- breakpoint, behind a change of a watched character, at its end, or where no cycle can follow
+-- breakpoint, after a change of a watched character, at its end, or where no cycle can follow
 pub record RanOn (stops : Stops) (n : ℕ) (s t : Machine) (k : ℕ) (mark : Option Stop) : Type 0 where
   pub machine : t ≡ cycled k s
   pub within : k ≤ n

@@ -29,7 +29,7 @@ impl Model for Breaks {
     ghost invariant = { λ b. IsMarked b.marks b.list.items };
 }
 
-/// Where the first address above another one stands; behind the last one where there is none.
+/// Where the first address above another one stands; after the last one where there is none.
 fn place_of(list: &[Addr], at: Addr) -> usize
     ensures place { insert list.now result at ≡ inserted list.now at }
     ensures within { result ≤ length list.now }
@@ -109,7 +109,7 @@ impl Breaks {
         self.marks[usize::from(at.get())] = false;
     }
 
-    /// A law: they are at most so many, each an address, rising.
+    /// A law: they are at most that many, each an address, rising.
     pub(crate) fn show_state_is_valid(&self)
         ensures { AreBreakpoints self.now }
     {

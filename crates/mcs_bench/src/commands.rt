@@ -185,7 +185,7 @@ impl Bench {
         Reply::Ran { cycles, stop }
     }
 
-    /// Does what a command does, but for the count of commands.
+    /// Does what a command does, except for the count of commands.
     fn change(&mut self, command: &Command) -> Reply
         requires { own_refusal self.old command.now ≡ None }
         ensures state { self.new ≡ changed self.old command.now }

@@ -9,7 +9,7 @@ use mcs_model::limits::{BREAKPOINTS, CHAIN_PLACES, CHAINS, KEYS, WATCHES};
 use std::alloc::{AllocError, Global};
 use std::marker::Model;
 
-/// So many bytes. Contracts see them as their list.
+/// That many bytes. Contracts see them as their list.
 #[derive(Drop)]
 pub struct Cells {
     bytes: Vec<u8>,
@@ -24,7 +24,7 @@ impl Model for Cells {
 }
 
 impl Cells {
-    /// So many bytes, all 0.
+    /// That many bytes, all 0.
     fn zeros(alloc: Global, count: usize) -> Result<Cells, AllocError>
         ensures { IfOk result (λ cells. cells ≡ replicate count 0) }
     {

@@ -15,7 +15,7 @@ use mcs_model::limits::CHAIN_PLACES;
 use mcs_nibble::Nibble;
 use mcs_rom4001::held_port;
 
-/// Whether there are so many numbers, each below a limit.
+/// Whether there are that many numbers, each below a limit.
 fn are_below(numbers: &[u8], count: usize, limit: u8) -> bool
     ensures { IsTrue result ↔ AreBelow count limit numbers.now }
 {
@@ -30,7 +30,7 @@ fn are_below(numbers: &[u8], count: usize, limit: u8) -> bool
     true
 }
 
-/// Whether there are so many bytes.
+/// Whether there are that many bytes.
 fn are_bytes(numbers: &[u8], count: usize) -> bool
     ensures { IsTrue result ↔ AreBelow count 256 numbers.now }
 {
@@ -79,7 +79,7 @@ fn key_count(board: &Board) -> usize
     }
 }
 
-/// Whether there are so many bits for each chain of a board.
+/// Whether there are that many bits for each chain of a board.
 fn are_chains(board: &Board, rows: &[ArrayVec<u8, CHAIN_PLACES>]) -> bool
     ensures { IsTrue result ↔ ((length rows.now ≡ chain_count board.now) × ((i : ℕ) → i < chain_count board.now → AreBelow (chain_bits board.now i) 2 (slice_index_or (rows_of rows.now) i []))) }
 {

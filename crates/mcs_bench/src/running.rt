@@ -20,7 +20,7 @@ fn is_outside(cpu: &Cpu, rig: &BenchRig) -> bool
     cpu.is_outside(rig)
 }
 
-/// Why a run stops behind a cycle, where the processor's counter is at an address, but for a code outside and its end.
+/// Why a run stops after a cycle, where the processor's counter is at an address, except for a code outside and its end.
 #[inline(always)]
 fn mark_at(cpu: &Cpu, at: Addr, breaks: &Breaks, changed: bool) -> Option<Stop>
     ensures { result ≡ mark_of (cpu.now.owed == 0 && is_breakpoint breaks.now at) changed }

@@ -96,7 +96,7 @@ impl Watches {
         self.places.clear(place_of(bank, src));
     }
 
-    /// A law: they are at most so many, each a place, rising.
+    /// A law: they are at most that many, each a place, rising.
     pub(crate) fn show_state_is_valid(&self)
         ensures { AreWatches self.now }
     {

@@ -66,7 +66,7 @@ rig_of p = record {
   test = p.test;
 }
 
--- the chips are those of the board: so many places for each kind of chip, the board's ROMs with their masks, so many
+-- the chips are those of the board: that many places for each kind of chip, the board's ROMs with their masks, that many
 -- chips in each bank, each of the board's chains with its bits, and a place for each key; the program is what the ROMs
 -- hold
 pub record Fitted (p : RigParts) (rom_places bank_places chain_places : ℕ) : Type 0 where

@@ -17,7 +17,7 @@ use mcs_rom4001::Rom;
 use mcs_shift4003::Chain;
 use std::alloc::{AllocError, Global};
 
-/// So many places for ROMs, none of them there.
+/// That many places for ROMs, none of them there.
 pub(crate) fn no_roms(alloc: Global, count: usize) -> Result<Vec<Option<Rom>>, AllocError>
     ensures { IfOk result (λ roms. roms.items ≡ replicate count None) }
 {
@@ -28,7 +28,7 @@ pub(crate) fn no_roms(alloc: Global, count: usize) -> Result<Vec<Option<Rom>>, A
     Ok(roms)
 }
 
-/// So many bytes, all 0.
+/// That many bytes, all 0.
 pub(crate) fn no_program(alloc: Global, count: usize) -> Result<Vec<u8>, AllocError>
     ensures { IfOk result (λ program. program.items ≡ replicate count 0) }
 {
@@ -39,7 +39,7 @@ pub(crate) fn no_program(alloc: Global, count: usize) -> Result<Vec<u8>, AllocEr
     Ok(program)
 }
 
-/// So many banks without chips.
+/// That many banks without chips.
 pub(crate) fn no_banks(alloc: Global, count: usize) -> Result<Vec<Bank<4>>, AllocError>
     ensures { IfOk result (λ banks. banks.items ≡ replicate count (blank_bank 0)) }
 {
@@ -50,7 +50,7 @@ pub(crate) fn no_banks(alloc: Global, count: usize) -> Result<Vec<Bank<4>>, Allo
     Ok(banks)
 }
 
-/// So many chains without bits.
+/// That many chains without bits.
 pub(crate) fn no_chains<const MAX: usize>(
     alloc: Global,
     count: usize,

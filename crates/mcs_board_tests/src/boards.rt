@@ -33,7 +33,7 @@ fn board_of(rt: &impl Abort, parts: BoardParts) -> Board {
     }
 }
 
-/// Chains of so many chips, chain `n` clocked by line 0 of ROM `n`, which takes in line 1.
+/// Chains of that many chips, chain `n` clocked by line 0 of ROM `n`, which takes in line 1.
 fn chains(rt: &impl Abort, count: u8, chips: u8) -> ArrayVec<ChainPart, CHAINS> {
     let mut chains = ArrayVec::new();
     for n in 0..count {

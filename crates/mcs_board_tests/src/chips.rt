@@ -27,7 +27,7 @@ fn port_of_mixed_lines(rt: HostRuntime) -> Result<(), Fail> {
     Ok(())
 }
 
-/// Writes every place of a bank of so many chips, selected or by name, and reads it back in another order, beside plain
+/// Writes every place of a bank of that many chips, selected or by name, and reads it back in another order, beside plain
 /// lists.
 fn compare_bank<const CHIPS: usize>(rt: &impl Abort, bank: &mut Bank<CHIPS>, wired: usize) {
     let mut main = [0u8; 256];

@@ -11,7 +11,7 @@ fn nibble(n: u8) -> Nibble {
     Nibble::low_of(n)
 }
 
-/// A rig on a board, with a program that runs over it for so many cycles, and the processor behind it.
+/// A rig on a board, with a program that runs over it for that many cycles, and the processor after it.
 fn ran<const ROMS: usize, const BANKS: usize, const CHAINS: usize, const MAX: usize>(
     alloc: Global,
     rt: &impl Abort,

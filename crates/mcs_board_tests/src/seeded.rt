@@ -201,7 +201,7 @@ fn compare_bank<const CHIPS: usize>(rt: &impl Abort, bank: &Bank<CHIPS>, plain: 
     }
 }
 
-/// Two rounds of 1,500 calls, a comparison after every thirty, and a clear behind each round.
+/// Two rounds of 1,500 calls, a comparison after every thirty, and a clear after each round.
 fn run_bank<const CHIPS: usize>(rt: &impl Abort, bank: &mut Bank<CHIPS>, wired: usize) {
     let mut numbers = Numbers { state: 4002 };
     for _ in 0..2 {
@@ -247,7 +247,7 @@ impl PlainChain {
         ten
     }
 
-    /// Each of so many bits one place up, where bit 0 takes in a level.
+    /// Each of that many bits one place up, where bit 0 takes in a level.
     fn shift(&mut self, bits: usize, level: Bit)
         requires { bits ≤ 80 }
     {

@@ -1,6 +1,6 @@
 //! The list of the instructions, and what the functions of this crate make of a row.
 
-/// Hands the rows of the code table to another macro, behind `$head`.
+/// Hands the rows of the code table to another macro, after `$head`.
 ///
 /// A row is: the upper and the lower nibble of its codes as patterns, the instruction, the kind of
 /// its operands, the number of its words, the number of its instruction cycles, the group in which its name is looked

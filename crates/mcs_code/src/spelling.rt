@@ -6,6 +6,6 @@ pub struct Words {
     /// The code.
     pub first: u8,
 
-    /// The word behind it, of an instruction of two words.
+    /// The word after it, of an instruction of two words.
     pub second: Option<u8>,
 }

@@ -150,7 +150,7 @@ pub chain_codec : IsCodec chain_bytes (λ _. Unit {0}) chain_at
 unfolding chain_at
 chain_codec = giving_codec _ (λ c. (c.clock, (c.data_in, c.chips))) chain_bytes (λ _. Unit {0}) (both_codec line_codec (both_codec line_codec any_codec)) (λ p h. (refl, tt)) (λ c h. (refl, (tt, (tt, tt))))
 
--- the spelling of a key matrix, behind its flag
+-- the spelling of a key matrix, after its flag
 abbrev matrix_text : KeyMatrix → List ℕ
 matrix_text m = m.chain ∷ m.first ∷ m.rows ∷ counted line_bytes m.columns.items
 

@@ -114,12 +114,12 @@ word_codec = record { takes = number_takes w16 (2 ^ 16) wide16; again = number_a
 pub long_codec : IsCodec (to_be_bytes w32) (λ n. n < 2 ^ 32) (number_at w32)
 long_codec = record { takes = number_takes w32 (2 ^ 32) wide32; again = number_again w32 (2 ^ 32) wide32 }
 
--- so many numbers, each below a limit
+-- that many numbers, each below a limit
 pub record AreCells (count limit : ℕ) (items : List ℕ) : Type 0 where
   pub len : length items ≡ count
   pub small : AllByRecursion (λ n. n < limit) items
 
--- so many bytes
+-- that many bytes
 bytes_below : (front rest : List ℕ) → IsBytes (front ++ rest) → AllByRecursion (λ n. n < 256) front
 bytes_below [] rest h = tt
 bytes_below (b ∷ front) rest h = (h 0, bytes_below front rest (IsBytes-rest b (front ++ rest) h))
@@ -170,7 +170,7 @@ pub both_codec : {A B : Type 0} {s : A → List ℕ} {f : A → Type 0} {r : Lis
     → IsCodec (λ (p : A × B). s p.0 ++ t p.1) (λ p. f p.0 × g p.1) (both r q)
 both_codec first second = depending_codec first (λ _ _. second)
 
--- so many values
+-- that many values
 many_takes : {A : Type 0} {s : A → List ℕ} {f : A → Type 0} {r : List ℕ → Option (A × List ℕ)} → IsCodec s f r → (n : ℕ) (bytes : List ℕ) (x : List A × List ℕ) → IsBytes bytes → many n r bytes ≡ Some x
     → (bytes ≡ flat_map s x.0 ++ x.1) × ((length x.0 ≡ n) × AllByRecursion f x.0)
 unfolding many
@@ -246,7 +246,7 @@ address_codec = refit_codec (λ n. n < 4096) (λ n h. ltb-true _ _ h.1) (λ n h.
 pub done_codec : IsCodec (λ (u : Unit {0}). []) (λ _. Unit {0}) done_at
 done_codec = record { takes = λ bytes x all e. let same : (tt, bytes) ≡ x = cc in subst (λ (y : Unit {0} × List ℕ). (bytes ≡ y.1) × Unit {0}) same (refl, tt); again = λ a rest h. refl }
 
--- a count, and so many values
+-- a count, and that many values
 pub counted_codec : {A : Type 0} {s : A → List ℕ} {f : A → Type 0} {r : List ℕ → Option (A × List ℕ)} (limit : ℕ) → limit < 256 → IsCodec s f r → IsCodec (counted s) (λ l. (length l ≤ limit) × AllByRecursion f l) (counted_at limit r)
 unfolding counted_at
 counted_codec {A} {s} {f} {r} limit lt codec = giving_codec (λ (p : ℕ × List A). p.1) (λ l. (length l, l)) (counted s) (λ l. (length l ≤ limit) × AllByRecursion f l)

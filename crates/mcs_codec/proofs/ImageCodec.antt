@@ -23,7 +23,7 @@ abbrev pub AreFrom : ℕ → ℕ → List (ℕ × ℕ) → Type 0
 AreFrom low limit [] = Unit {0}
 AreFrom low limit (p ∷ image) = (low ≤ p.0) × (p.0 < limit) × (p.1 < 256) × AreFrom (p.0 + 1) limit image
 
--- the map has exactly the addresses of the image, from one on, so many
+-- the map has exactly the addresses of the image, from one on, that many
 abbrev pub IsMarked : List ℕ → ℕ → ℕ → List (ℕ × ℕ) → Type 0
 IsMarked marks at limit image = (x : ℕ) → at ≤ x → x < limit → mark image x ≡ map_bit_at marks x
 

@@ -46,7 +46,7 @@ abbrev pub SpellsStateBy : Bool → List ℕ → BenchState → Type 0
 SpellsStateBy false bytes s = SpellsState bytes s
 SpellsStateBy true bytes s = SpellsLifted bytes s
 
--- the version that the byte behind the count of commands tells: a port character (`i`, `0`, `1` or `-`) stands there in
+-- the version that the byte after the count of commands tells: a port character (`i`, `0`, `1` or `-`) stands there in
 -- version 1, and 02 in version 2
 abbrev pub version_told : List ℕ → Option ℕ
 version_told [] = None

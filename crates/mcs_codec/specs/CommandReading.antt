@@ -27,7 +27,7 @@ place_at bytes = byte_at bytes >>= λ tag. place_behind tag.0 tag.1
 unfoldable pub map_bit_at : List ℕ → ℕ → ℕ
 map_bit_at marks at = bit_of (slice_index marks (at / 8)) (at % 8)
 
--- the bytes of the addresses that a map has, so many addresses from one on
+-- the bytes of the addresses that a map has, that many addresses from one on
 unfoldable pub pairs_at : List ℕ → ℕ → ℕ → List ℕ → Option (List (ℕ × ℕ) × List ℕ)
 pairs_at marks zero at bytes = Some ([], bytes)
 pairs_at marks (suc n) at bytes =
@@ -38,7 +38,7 @@ pairs_at marks (suc n) at bytes =
 unfoldable pub image_at : List ℕ → Option (List (ℕ × ℕ) × List ℕ)
 image_at bytes = giving (λ p. p.1) (depending (bytes_at 512) (λ marks. pairs_at marks 4096 0) bytes)
 
--- behind a tag, where reading takes no memory
+-- after a tag, where reading takes no memory
 abbrev pub command_behind : ℕ → List ℕ → Option (Command × List ℕ)
 command_behind tag bytes =
     if tag == 1 then giving Wire (board_at bytes) else
@@ -54,7 +54,7 @@ command_behind tag bytes =
     if tag == 12 then giving (λ p. Watch p.0 p.1) (both (small_at 8) byte_at bytes) else
     if tag == 13 then giving (λ p. Unwatch p.0 p.1) (both (small_at 8) byte_at bytes) else None
 
--- behind any tag, the one whose reading takes memory among them
+-- after any tag, the one whose reading takes memory among them
 unfoldable pub all_behind : ℕ → List ℕ → Option (Command × List ℕ)
 all_behind tag bytes = if tag == 2 then giving Load (image_at bytes) else command_behind tag bytes
 

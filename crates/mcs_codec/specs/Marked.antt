@@ -1,5 +1,5 @@
--- The version of a state's bytes. A state of version 1 has its board behind the count of commands and ends with its
--- breakpoints; one of version 2 has the byte 02 before its board, and its watches behind the breakpoints. (Our own choice.)
+-- The version of a state's bytes. A state of version 1 has its board after the count of commands and ends with its
+-- breakpoints; one of version 2 has the byte 02 before its board, and its watches after the breakpoints. (Our own choice.)
 -- Here `first` is true of version 1.
 use Rattle.std.specs.Prelude.{ℕ, Bool, true, false, ◌==◌, List, [], ◌∷◌, Option, Some, drop, if◌then◌else◌}
 use Rattle.std.specs.Int.{w16}

@@ -20,7 +20,7 @@ byte_at (b ∷ bytes) = Some (b, bytes)
 abbrev pub number_at : Width → List ℕ → Option (ℕ × List ℕ)
 number_at w bytes = if nat_lt (length bytes) (byte_len w) then None else Some (from_be_bytes w (take (byte_len w) bytes), drop (byte_len w) bytes)
 
--- so many bytes
+-- that many bytes
 unfoldable pub bytes_at : ℕ → List ℕ → Option (List ℕ × List ℕ)
 bytes_at count bytes = if nat_lt (length bytes) count then None else Some (take count bytes, drop count bytes)
 
@@ -39,7 +39,7 @@ depending first second bytes = first bytes >>= λ a. giving (λ b. (a.0, b)) (se
 abbrev pub both : {A B : Type 0} → (List ℕ → Option (A × List ℕ)) → (List ℕ → Option (B × List ℕ)) → List ℕ → Option ((A × B) × List ℕ)
 both first second = depending first (λ _. second)
 
--- so many values
+-- that many values
 unfoldable pub many : {A : Type 0} → ℕ → (List ℕ → Option (A × List ℕ)) → List ℕ → Option (List A × List ℕ)
 many zero read bytes = Some ([], bytes)
 many (suc n) read bytes = read bytes >>= λ a. giving (λ rest. a.0 ∷ rest) (many n read a.1)
@@ -67,7 +67,7 @@ decoded decode x = giving_rest x.1 (decode x.0)
 abbrev pub decoding : {A B : Type 0} → (A → Option B) → (List ℕ → Option (A × List ℕ)) → List ℕ → Option (B × List ℕ)
 decoding decode read bytes = read bytes >>= decoded decode
 
--- a count up to a limit, and so many values
+-- a count up to a limit, and that many values
 unfoldable pub counted_at : {A : Type 0} → ℕ → (List ℕ → Option (A × List ℕ)) → List ℕ → Option (List A × List ℕ)
 counted_at limit read bytes = giving (λ p. p.1) (depending (only (λ n. nat_le n limit) byte_at) (λ n. many n read) bytes)
 

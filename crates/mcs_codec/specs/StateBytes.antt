@@ -27,7 +27,7 @@ sources_bytes dcl rom_src ram_src owed = dcl ∷ rom_src ∷ (ram_src ++ owed �
 abbrev pub wiring_bytes : List (List ℕ) → List ℕ → ℕ → List ℕ → List ℕ
 wiring_bytes chains keys test breakpoints = flat_map (λ row. row) chains ++ (keys ++ (test ∷ counted address breakpoints))
 
--- the groups behind the board, and what comes after the breakpoints
+-- the groups after the board, and what comes after the breakpoints
 abbrev pub groups_bytes : Regs → BusState → List ℕ → List ℕ → List ℕ
 groups_bytes p b breakpoints rest =
     memory_bytes b

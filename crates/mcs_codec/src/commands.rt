@@ -90,7 +90,7 @@ fn put_command(command: &Command, out: &mut [u8], at: usize) -> usize
     }
 }
 
-/// Spells a command at the front of these bytes, and answers how many it took: 1 to 4,609. Nothing is said of those behind.
+/// Spells a command at the front of these bytes, and answers how many it took: 1 to 4,609. Nothing is said of those after.
 pub fn command_bytes(command: &Command, into: &mut [u8]) -> usize
     requires lent { COMMAND_BYTES ≤ length into.old }
     ensures spells { Spells (take result into.new) command.now }
@@ -102,7 +102,7 @@ pub fn command_bytes(command: &Command, into: &mut [u8]) -> usize
     put_command(command, into, 0)
 }
 
-/// Reads what stands behind a tag, where reading it takes no memory.
+/// Reads what stands after a tag, where reading it takes no memory.
 fn read_behind(tag: u8, reader: &mut Reader<'_>) -> Option<Command>
     ensures { option_map (λ x. (x, reader.new)) result ≡ command_behind tag reader.old }
 {
@@ -135,7 +135,7 @@ fn read_behind(tag: u8, reader: &mut Reader<'_>) -> Option<Command>
     }
 }
 
-/// Reads what stands behind a tag.
+/// Reads what stands after a tag.
 #[tactic(auto, unfolding(crate::specs::CommandReading::all_behind))]
 fn read_any(alloc: Global, tag: u8, reader: &mut Reader<'_>) -> Result<Option<Command>, AllocError>
     ensures read { IfOk result (λ found. option_map (λ x. (x, reader.new)) found ≡ all_behind tag reader.old) }

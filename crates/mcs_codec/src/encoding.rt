@@ -63,7 +63,7 @@ pub fn fill<T: Decode>(reader: &mut Reader<'_>, items: &mut [T]) -> Option<()>
     Some(())
 }
 
-/// Reads so many values.
+/// Reads that many values.
 pub fn list<T: Decode + Default, const CAP: usize>(
     reader: &mut Reader<'_>,
     count: usize,
@@ -117,7 +117,7 @@ impl Decode for Addr {
     }
 }
 
-/// Reads a count, and so many values.
+/// Reads a count, and that many values.
 #[tactic(auto, unfolding(crate::specs::Reading::counted_at))]
 pub fn counted<T: Decode + Default, const CAP: usize>(
     reader: &mut Reader<'_>,

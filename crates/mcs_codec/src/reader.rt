@@ -85,7 +85,7 @@ impl<'a> Reader<'a> {
         Some(u32::from_be_bytes([front[0], front[1], front[2], front[3]]))
     }
 
-    /// So many bytes.
+    /// That many bytes.
     #[tactic(auto, unfolding(crate::specs::Reading::bytes_at))]
     pub fn bytes(&mut self, count: usize) -> Option<&'a [u8]>
         ensures read { option_map (λ bytes. (bytes.now, self.new)) result ≡ bytes_at count self.old }
@@ -99,7 +99,7 @@ impl<'a> Reader<'a> {
         Some(front)
     }
 
-    /// So many bytes as there are cells, into the cells.
+    /// That many bytes as there are cells, into the cells.
     #[tactic(auto, unfolding(crate::specs::Reading::bytes_at))]
     pub fn fill(&mut self, cells: &mut [u8]) -> Option<()>
         ensures { option_map (λ _. (cells.new, self.new)) result ≡ bytes_at (length cells.old) self.old }

@@ -54,7 +54,7 @@ fn read_cells(reader: &mut Reader<'_>, cells: &mut Cells) -> Option<()>
     Some(())
 }
 
-/// Reads so many bytes.
+/// Reads that many bytes.
 fn read_bytes<const CAP: usize>(reader: &mut Reader<'_>, count: usize) -> Option<ArrayVec<u8, CAP>>
     requires { count ≤ CAP }
     ensures { option_map (λ v. (v.items, reader.new)) result ≡ bytes_at count reader.old }
@@ -194,7 +194,7 @@ fn read_wiring(reader: &mut Reader<'_>, board: &Board) -> Option<Wiring>
     Some((chains, keys, test, breakpoints))
 }
 
-/// Reads the board behind the count of commands, and whether the bytes are of version 1: they have no mark then.
+/// Reads the board after the count of commands, and whether the bytes are of version 1: they have no mark then.
 #[tactic(auto, unfolding(crate::specs::Marked::marked_at))]
 fn read_marked(reader: &mut Reader<'_>) -> Option<(bool, Board)>
     ensures { option_map (λ x. ((x.0, x.1), reader.new)) result ≡ marked_at reader.old }

@@ -185,7 +185,7 @@ fn put_wiring(bench: &Bench, out: &mut [u8], at: usize) -> usize
     put_counted(bench.breaks(), out, at)
 }
 
-/// Puts the groups behind the board, and the watches.
+/// Puts the groups after the board, and the watches.
 fn put_groups(bench: &Bench, out: &mut [u8], at: usize) -> usize
     requires valid { IsValid bench.now }
     requires room { at + length (groups_bytes bench.now.processor bench.now.bus bench.now.breakpoints (counted address bench.now.watches)) ≤ length out.old }
@@ -213,7 +213,7 @@ fn put_state(bench: &Bench, into: &mut [u8]) -> usize
 }
 
 /// Spells the state of a bench at the front of these bytes, and answers how many it took: at most 7,632. Nothing is said of
-/// those behind.
+/// those after.
 pub fn state_bytes(bench: &Bench, into: &mut [u8]) -> usize
     requires lent { STATE_BYTES ≤ length into.old }
     ensures spells { SpellsState (take result into.new) bench.now }

@@ -22,7 +22,7 @@ fn board_of(rt: &impl Abort, parts: BoardParts) -> Board {
     }
 }
 
-/// So many times a line.
+/// That many times a line.
 fn lines<const CAP: usize>(rt: &impl Abort, line: Line, count: usize) -> ArrayVec<Line, CAP> {
     let mut list = ArrayVec::new();
     for _ in 0..count {
@@ -32,7 +32,7 @@ fn lines<const CAP: usize>(rt: &impl Abort, line: Line, count: usize) -> ArrayVe
     list
 }
 
-/// So many chains, clocked by line 1 of ROM 0, which take in line 3.
+/// That many chains, clocked by line 1 of ROM 0, which take in line 3.
 fn chains(rt: &impl Abort, count: usize, chips: u8) -> ArrayVec<ChainPart, CHAINS> {
     let mut list = ArrayVec::new();
     for _ in 0..count {
@@ -46,7 +46,7 @@ fn chains(rt: &impl Abort, count: usize, chips: u8) -> ArrayVec<ChainPart, CHAIN
     list
 }
 
-/// A board with ROM 0, and so many chains of so many chips.
+/// A board with ROM 0, and that many chains of that many chips.
 pub(crate) fn chained(rt: &impl Abort, count: usize, chips: u8) -> Board {
     let mut roms = [None; 16];
     roms[0] = Some(OUTPUTS);

@@ -46,7 +46,7 @@ pub(crate) fn buffer(rt: &impl Abort, alloc: Global) -> Vec<u8>
     bytes
 }
 
-/// The first bytes, so many.
+/// The first bytes, that many.
 pub(crate) fn front<'a>(rt: &impl Abort, bytes: &'a [u8], count: usize) -> &'a [u8] {
     bytes.get(..count).expect(rt, "so many bytes")
 }
@@ -190,7 +190,7 @@ fn breakpoints_rise(rt: HostRuntime) {
     assert!(rt; !is_read(&rt, alloc, front(&rt, &bytes, 6_828)));
 }
 
-/// Watches stand behind the breakpoints, each as its bank and its SRC byte.
+/// Watches stand after the breakpoints, each as its bank and its SRC byte.
 #[test]
 fn watches_rise(rt: HostRuntime) {
     let alloc = rt.alloc();
@@ -202,7 +202,7 @@ fn watches_rise(rt: HostRuntime) {
     assert_eq!(rt; count, PLAIN_STATE + 4);
     expect_bytes(&rt, &bytes[6_822..6_828], &[0, 2, 0, 1, 5, 0x3F]);
     assert!(rt; is_read(&rt, alloc, front(&rt, &bytes, 6_828)));
-    // The first one behind the second, the same as the second, and of a bank that is not there.
+    // The first one after the second, the same as the second, and of a bank that is not there.
     for (first_bank, first_src) in [(5, 0x40), (5, 0x3F), (8, 0)] {
         bytes[6_824] = first_bank;
         bytes[6_825] = first_src;

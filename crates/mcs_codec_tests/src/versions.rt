@@ -31,7 +31,7 @@ fn add_zeros(rt: &impl Abort, bytes: &mut Vec<u8>, count: usize) {
     }
 }
 
-/// The state of a bench behind `wire` of a board with ROM 0 and chains alone, by hand; the mark of version 2 is left out,
+/// The state of a bench after `wire` of a board with ROM 0 and chains alone, by hand; the mark of version 2 is left out,
 /// and so is the number of watches.
 fn chained_state(rt: &impl Abort, alloc: Global, first: bool, count: u8, chips: u8) -> Vec<u8> {
     let mut bytes = Vec::new(alloc);

@@ -30,7 +30,7 @@ fn takes_jump(condition: Nibble, regs: &Regs, test: Bit) -> bool
     if c / 8 % 2 == 1 { !holds } else { holds }
 }
 
-/// Where JCN goes on, at that level of TEST; `next` is the address behind its words.
+/// Where JCN goes on, at that level of TEST; `next` is the address after its words.
 #[inline(always)]
 fn after_condition(regs: &Regs, condition: Nibble, word: u8, test: Bit, next: Addr) -> Addr
     ensures { record regs.now { pc = result } ≡ after_jcn condition word (record regs.now { pc = next }) test }
@@ -42,7 +42,7 @@ fn after_condition(regs: &Regs, condition: Nibble, word: u8, test: Bit, next: Ad
     }
 }
 
-/// FIN; `next` is the address behind its word.
+/// FIN; `next` is the address after its word.
 #[inline(always)]
 fn fetch_indirect<B: Bus>(regs: &mut Regs, bus: &B, pair: PairNo, next: Addr)
     ensures { regs.new ≡ with_pair regs.old pair (fetch_of (B.flat bus.now) (address_beside next (pair_of regs.old 0))) }
@@ -51,7 +51,7 @@ fn fetch_indirect<B: Bus>(regs: &mut Regs, bus: &B, pair: PairNo, next: Addr)
     regs.set_pair(pair, bus.fetch(from));
 }
 
-/// The list of return addresses after JMS; `next` is the address behind its words.
+/// The list of return addresses after JMS; `next` is the address after its words.
 #[inline(always)]
 fn push(regs: &mut Regs, next: Addr)
     ensures { regs.new ≡ record regs.old { ret = next ∷ slice_index regs.old.ret 0 ∷ slice_index regs.old.ret 1 ∷ [] } }
@@ -60,7 +60,7 @@ fn push(regs: &mut Regs, next: Addr)
     regs.ret = ret;
 }
 
-/// The list of return addresses after BBL; `next` is the address behind its word.
+/// The list of return addresses after BBL; `next` is the address after its word.
 #[inline(always)]
 fn pop(regs: &mut Regs, next: Addr)
     ensures { regs.new ≡ record regs.old { ret = slice_index regs.old.ret 1 ∷ slice_index regs.old.ret 2 ∷ next ∷ [] } }
@@ -88,7 +88,7 @@ fn clear_register(regs: &mut Regs, r: RegNo)
     regs.set_register(r, Nibble::ZERO);
 }
 
-/// ISZ, but for the counter: where the processor goes on; `next` is the address behind its words.
+/// ISZ, except for the counter: where the processor goes on; `next` is the address after its words.
 #[inline(always)]
 fn count_to_zero(regs: &mut Regs, r: RegNo, word: u8, next: Addr) -> Addr
     ensures counted { record regs.new { pc = result } ≡ after_isz r word (record regs.old { pc = next }) }
@@ -175,7 +175,7 @@ fn adjust(regs: &mut Regs)
     }
 }
 
-/// Where the processor goes on after an instruction, by the name of its row: at `$next`, behind its words, but for the
+/// Where the processor goes on after an instruction, by the name of its row: at `$next`, after its words, except for the
 /// jumps. It is told before the effect; ISZ counts here, since what it counts to tells where it goes on. The operands are
 /// `$a` and `$b`.
 macro_rules! goes_on {
@@ -202,8 +202,8 @@ macro_rules! goes_on {
     };
 }
 
-/// What an instruction does to the bus and to the registers but for the counter, by the name of its row; its operands
-/// are `$a` and `$b`, and `$next` is the address behind its words.
+/// What an instruction does to the bus and to the registers except for the counter, by the name of its row; its operands
+/// are `$a` and `$b`, and `$next` is the address after its words.
 macro_rules! effect {
     (Nop $regs:ident $bus:ident $next:ident $a:ident $b:ident) => {
         ()
@@ -369,7 +369,7 @@ macro_rules! work_rows {
     };
 }
 
-/// Does the instruction at an address, but for the counter and the cycles owed: the address where the processor goes on,
+/// Does the instruction at an address, except for the counter and the cycles owed: the address where the processor goes on,
 /// and how many cycles it takes. Each row does all of its work, and the counter passes by value, so that a processor
 /// that has decoded a code takes one jump to it.
 #[inline(always)]

@@ -39,7 +39,7 @@ pub two_is : (o : Option Op) (b : ℕ) → 1 < option_map_or word_count_of o 1 �
 two_is None b lt = refl
 two_is (Some o) b lt = rw (lt-leb (word_count_of o) 1 lt) refl
 
--- with a second word behind it, each code of the table is an instruction
+-- with a second word after it, each code of the table is an instruction
 pub both_is : (o : Option Op) (b c : ℕ) (rest : List ℕ) → whole_or_byte o b (c ∷ rest) ≡ o
 both_is None b c rest = refl
 both_is (Some o) b c rest =

@@ -9,7 +9,7 @@ use mcs_nibble::Addr;
 use std::alloc::{AllocError, Global};
 
 /// The text of the instruction that stands at an address, by its words. A code outside the table,
-/// and a first word whose second word is past the end (None), is `DB 0xHH`. A second word behind an
+/// and a first word whose second word is past the end (None), is `DB 0xHH`. A second word after an
 /// instruction of one word counts for nothing.
 pub fn line_of(alloc: Global, at: Addr, first: u8, second: Option<u8>) -> Result<String, AllocError>
     ensures { IfOk result (λ s. string_bytes s ≡ line_text at first second) }
@@ -50,7 +50,7 @@ fn push_listed_line(out: &mut String, at: Addr, bytes: &[u8]) -> Result<usize, A
     Ok(size)
 }
 
-/// The listing of a ROM from an address on: so many lines `AAA BB BB TEXT`, each ended by LF, or
+/// The listing of a ROM from an address on: that many lines `AAA BB BB TEXT`, each ended by LF, or
 /// fewer where the last address comes first. An instruction of one word has two spaces in place of
 /// the second word.
 pub fn listing(alloc: Global, rom: &[u8], from: Addr, lines: usize) -> Result<String, AllocError>

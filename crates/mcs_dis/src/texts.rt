@@ -25,14 +25,14 @@ fn name(op: &Op) -> &'static str
     instructions!(name_rows!(op))
 }
 
-/// Writes a decimal number behind a text.
+/// Writes a decimal number after a text.
 fn push_number(out: &mut String, front: &str, n: u8) -> Result<(), AllocError>
     ensures { OnOk result (string_bytes out.new ≡ string_bytes out.old ++ (front.now ++ decimal n)) }
 {
     write!(out, "{front}{n}")
 }
 
-/// Writes an address as `0xHHH` behind a text.
+/// Writes an address as `0xHHH` after a text.
 #[tactic(auto, using(std::proofs::lemmas::Fmt::hex_one_digit, std::proofs::lemmas::Fmt::hex_byte))]
 fn push_address(out: &mut String, front: &str, page: Nibble, word: u8) -> Result<(), AllocError>
     ensures { OnOk result (string_bytes out.new ≡ string_bytes out.old ++ (front.now ++ address page word)) }
@@ -49,7 +49,7 @@ fn push_pair_and_byte(out: &mut String, pair: u8, byte: u8) -> Result<(), AllocE
     write!(out, " P{pair}, 0x{byte:02X}")
 }
 
-/// Writes a number behind a text, and an address on the page that JCN and ISZ at `at` reach.
+/// Writes a number after a text, and an address on the page that JCN and ISZ at `at` reach.
 fn push_near(out: &mut String, front: &str, n: u8, at: Addr, word: u8) -> Result<(), AllocError>
     ensures { OnOk result (string_bytes out.new ≡ string_bytes out.old ++ (front.now ++ (decimal n ++ (codes ", " ++ address (near_page at) word)))) }
 {
@@ -127,7 +127,7 @@ pub fn push_piece(
     }
 }
 
-/// Writes the line that says where the bytes behind it stand.
+/// Writes the line that says where the bytes after it stand.
 pub fn push_origin(out: &mut String, at: Addr) -> Result<(), AllocError>
     ensures { OnOk result (string_bytes out.new ≡ string_bytes out.old ++ as_line (origin_text at)) }
 {
@@ -146,7 +146,7 @@ fn push_digits(out: &mut String, at: Addr) -> Result<(), AllocError>
     write!(out, "{page:X}{word:02X}")
 }
 
-/// Writes the words that stand before a listed text, behind the address.
+/// Writes the words that stand before a listed text, after the address.
 #[tactic(auto, using(std::proofs::lemmas::Fmt::hex_byte))]
 fn push_words(out: &mut String, first: u8, second: Option<u8>) -> Result<(), AllocError>
     ensures { OnOk result (string_bytes out.new ≡ string_bytes out.old ++ word_columns first second) }

@@ -5,13 +5,13 @@ use Rattle.mcs_disk.specs.declared.fuse.Fuse.TheVariants.{Whole, AllAfter, OneAf
 use Rattle.mcs_disk.specs.declared.fuse.FuseDisk.{FuseDisk}
 use Rattle.mcs_disk.specs.declared.memory.MemDisk.{MemDisk}
 
--- the call behind n more calls fails
+-- the call after n more calls fails
 abbrev pub Fails : Fuse → ℕ → Type 0
 Fails Whole n = ⊥
 Fails (AllAfter passed) n = passed ≤ n
 Fails (OneAfter passed) n = n ≡ passed
 
--- the disk fails the call behind n more calls, and does not pass it on
+-- the disk fails the call after n more calls, and does not pass it on
 abbrev pub FailsAfter : FuseDisk → ℕ → Type 0
 FailsAfter disk n = Fails disk.fuse n
 

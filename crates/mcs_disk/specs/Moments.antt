@@ -1,5 +1,5 @@
 -- Stretches of calls on a disk, from one of its states to a later one: what stays, what a power cut at any moment may leave, and what is
--- safe behind them. (Our own choice.)
+-- safe after them. (Our own choice.)
 use Rattle.std.specs.Prelude.{◌≡◌, ◌⊎◌, ◌↔◌, ℕ, ◌+◌, ◌≤◌, min, List, replicate, Result, OnOk}
 use Rattle.mcs_disk.specs.Disk.{DiskState, Only, most_faults}
 
@@ -38,7 +38,7 @@ pub record IsNew (n : ℕ) (disk : DiskState) : Type 0 where
   pub clock : disk.clock ≡ 0
   pub durable : IsDurable disk
 
--- calls that changed no byte and left nothing else behind (reads and syncs)
+-- calls that changed no byte and left nothing else after (reads and syncs)
 pub record AddsNoImage (old new : DiskState) : Type 0 where
   pub bytes : new.bytes ≡ old.bytes
   pub images : (c : List ℕ) → new.images c → old.images c
@@ -53,7 +53,7 @@ pub record LeavesOnly (old new : DiskState) (P : List ℕ → Type 0) : Type 0 w
   pub before : (t : ℕ) (c : List ℕ) → t ≤ old.clock → new.since t c → old.since t c ⊎ new.since old.clock c
   pub keeps : (t : ℕ) (c : List ℕ) → t ≤ old.clock → old.since t c → new.since t c
 
--- nothing is said of what the stretch left behind
+-- nothing is said of what the stretch left after
 abbrev pub KeepsEarlierImages : DiskState → DiskState → Type 0
 KeepsEarlierImages old new = LeavesOnly old new (λ c. Unit {0})
 
@@ -61,7 +61,7 @@ KeepsEarlierImages old new = LeavesOnly old new (λ c. Unit {0})
 abbrev pub Either : (List ℕ → Type 0) → (List ℕ → Type 0) → List ℕ → Type 0
 Either P Q c = P c ⊎ Q c
 
--- A change in so many steps. Until Ok, a power cut leaves what has Before or what has After; from then on what has After alone.
+-- A change in that many steps. Until Ok, a power cut leaves what has Before or what has After; from then on what has After alone.
 pub record Changes {T E : Type 0} (steps : ℕ) (old new : DiskState) (Before After : List ℕ → Type 0) (result : Result T E) : Type 0 where
   pub after : OnOk result (After new.bytes)
   pub durable : OnOk result (IsDurable new)

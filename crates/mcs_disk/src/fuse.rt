@@ -12,9 +12,9 @@ use crate::{Disk, DiskFault, MemDisk};
 enum Fuse {
     /// None.
     Whole,
-    /// All but so many that come first.
+    /// All but that many that come first.
     AllAfter(usize),
-    /// The one behind so many.
+    /// The one after that many.
     OneAfter(usize),
 }
 
@@ -73,7 +73,7 @@ impl FuseDisk {
         }
     }
 
-    /// The call behind the first `calls` fails; all others go through.
+    /// The call after the first `calls` fails; all others go through.
     pub fn once(disk: MemDisk, calls: usize) -> FuseDisk
         ensures disk { IsSame (⟦<MemDisk as Disk>⟧.state disk) (⟦<FuseDisk as Disk>⟧.state result) }
         ensures inner { inner_disk result ≡ disk }

@@ -18,7 +18,7 @@ pub fn cut_leaves_what_is_durable<D: Disk, E: Disk>()
         → (E.state e).bytes ≡ (D.state d).bytes }
 {}
 
-/// A power cut behind a stretch of calls, since a time before it, is one before the stretch, or one since its start.
+/// A power cut after a stretch of calls, since a time before it, is one before the stretch, or one since its start.
 pub fn cut_is_before_a_stretch_or_since_its_start<D: Disk, E: Disk>()
     ensures { (t : ℕ) (old new : D) (e : E) → t ≤ (D.state old).clock
         → (D.state new).size ≡ (D.state old).size → KeepsEarlierImages (D.state old) (D.state new)

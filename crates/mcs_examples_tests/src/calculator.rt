@@ -40,7 +40,7 @@ fn place(key: u8) -> &'static str {
     }
 }
 
-/// How many cycles a key is up before the next: behind an operator until it is worked out.
+/// How many cycles a key is up before the next: after an operator until it is worked out.
 fn rest(key: u8) -> u32 {
     match key {
         b'+' | b'-' | b'*' | b'/' | b'=' => 16_000,
@@ -123,7 +123,7 @@ impl Talk {
         self.accept(more.as_str())
     }
 
-    /// Presses keys one after the other, each long enough and with a rest behind it.
+    /// Presses keys one after the other, each long enough and with a rest after it.
     fn keys(&mut self, keys: &str) -> Result<(), Fail> {
         for key in keys.as_bytes() {
             self.press(*key)?;
@@ -186,7 +186,7 @@ fn the_keys_one_after_the_other(rt: HostRuntime) -> Result<(), Fail> {
         ("C0/9=", "   0 0 0 0 0 0 0 0."),
         // the greatest product
         ("C99999999*99999999=", " ! 0 0 0 0 0 0 0 0."),
-        // all keys but C are dead behind it
+        // all keys but C are dead after it
         ("+5ES~.=", " ! 0 0 0 0 0 0 0 0."),
         // C takes it away
         ("C5", "   0 0 0 0 0 0 0 5."),
@@ -220,7 +220,7 @@ fn the_keys_one_after_the_other(rt: HostRuntime) -> Result<(), Fail> {
         ("C6~*7~=", "   0 0 0 0 0 0 4 2."),
         // and others
         ("C8~/16=", "-  0 0 0 0 0 0 0.5 "),
-        // zeros behind the point go
+        // zeros after the point go
         ("C1.50=", "   0 0 0 0 0 0 1.5 "),
         // they stay while they are keyed
         ("C1.50", "   0 0 0 0 0 1.5 0 "),
@@ -230,9 +230,9 @@ fn the_keys_one_after_the_other(rt: HostRuntime) -> Result<(), Fail> {
         ("C.", "   0 0 0 0 0 0 0 0."),
         // digits beyond eight
         ("C123456789", "   1 2 3 4 5 6 7 8."),
-        // and beyond seven behind the point
+        // and beyond seven after the point
         ("C.12345678", "   0.1 2 3 4 5 6 7 "),
-        // a point behind eight
+        // a point after eight
         ("C12345678.9", "   1 2 3 4 5 6 7 8."),
         // = without an operator
         ("C5==", "   0 0 0 0 0 0 0 5."),
@@ -256,7 +256,7 @@ fn the_keys_one_after_the_other(rt: HostRuntime) -> Result<(), Fail> {
         ("C7-7=~", "   0 0 0 0 0 0 0 0."),
         // but on a zero that is keyed
         ("C~", "-  0 0 0 0 0 0 0 0."),
-        // which is none behind an operator
+        // which is none after an operator
         ("+", "   0 0 0 0 0 0 0 0."),
     ];
     let mut talk = Talk::new(alloc)?;

@@ -1,7 +1,7 @@
 //! Chains of sums, differences, products and quotients of a seeded generator, with what the display shows, worked out with whole
 //! numbers outside of the bench.
 
-/// Texts of twenty rows: keys, a colon, and the display behind them: minus, `!` for an overflow, `?` for a division by zero, and
+/// Texts of twenty rows: keys, a colon, and the display after them: minus, `!` for an overflow, `?` for a division by zero, and
 /// eight digits, each with its point or a blank.
 pub(crate) const CHAINS: [&str; 2] = [
     r#"C578~/6=:-  9 6.3 3 3 3 3 3 

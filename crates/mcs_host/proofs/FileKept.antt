@@ -8,7 +8,7 @@ use Rattle.mcs_host.specs.FileDisk.{file_state}
 use Rattle.mcs_host.specs.FileLaws.{current, untorn}
 use Rattle.mcs_host.specs.declared.call_record.CallRecord.{CallRecord}
 
--- the record before and behind a call; how many faults there are and which bytes does not matter to the times
+-- the record before and after a call; how many faults there are and which bytes does not matter to the times
 module _ (f g : ℕ) (b d : List ℕ) (h h' : CallRecord) (call : FileCall) (noted : h' ≡ record h { calls = call ∷ h.calls }) where
   pub images_are : (c : List ℕ) → images_after h'.start h'.calls c ≡ images_after h.start (call ∷ h.calls) c
   images_are c = λ k. images_after (noted k).start (noted k).calls c
@@ -97,6 +97,6 @@ was_failed f g b h h' at from e noted = record {
   time = failed f g b b h h' (Failed at from) noted e refl;
 }
 
--- the bytes that are kept stay those behind the calls
+-- the bytes that are kept stay those after the calls
 pub still_kept : (b d : List ℕ) (h h' : CallRecord) (at : ℕ) (from : List ℕ) → h' ≡ record h { calls = Wrote at from ∷ h.calls } → d ≡ put at from b → b ≡ bytes_after h.start h.calls → d ≡ bytes_after h'.start h'.calls
 still_kept b d h h' at from noted is kept = is ∙ ap (put at from) kept ∙ sym (ap (λ (r : CallRecord). bytes_after r.start r.calls) noted)

@@ -1,4 +1,4 @@
--- What is found in a file that was left behind some first part of its calls.
+-- What is found in a file that was left after some first part of its calls.
 use Rattle.std.proofs.Common.{◌≡◌, ◌⊎◌, inl, inr, ℕ, ◌≤◌, List, [], ◌∷◌, ◌++◌, sym, subst, arith}
 use Rattle.mcs_host.specs.FileCalls.{FileCall, WasRead, Wrote, Failed, Synced, images_after, clock_of, since_after}
 use Rattle.mcs_host.specs.FileLaws.{counts_now}
@@ -12,7 +12,7 @@ clock_of-more (Wrote at from ∷ more) calls = omega (arith, clock_of-more more 
 clock_of-more (Failed at from ∷ more) calls = omega (arith, clock_of-more more calls)
 clock_of-more (Synced ∷ more) calls = omega (arith, clock_of-more more calls)
 
--- what was an image behind the calls that were made is one since then, whatever comes behind them
+-- what was an image after the calls that were made is one since then, whatever comes after them
 pub image_since : (start : List ℕ) (more calls : List FileCall) (t : ℕ) (c : List ℕ) → t ≤ clock_of calls → images_after start calls c → since_after start (more ++ calls) t c
 image_since start [] calls t c le now = counts_now start calls t c now
 image_since start (call ∷ more) calls t c le now = inr (omega (arith, le, clock_of-more more calls), image_since start more calls t c le now)

@@ -31,7 +31,7 @@ bytes_after start (Wrote at from ∷ calls) = put at from (bytes_after start cal
 bytes_after start (Failed at from ∷ calls) = bytes_after start calls
 bytes_after start (Synced ∷ calls) = bytes_after start calls
 
--- what a power cut behind these calls may leave
+-- what a power cut after these calls may leave
 abbrev pub images_after : List ℕ → List FileCall → List ℕ → Type 0
 images_after start [] c = c ≡ start
 images_after start (WasRead ∷ calls) c = images_after start calls c
@@ -47,7 +47,7 @@ clock_of (Wrote at from ∷ calls) = clock_of calls + 1
 clock_of (Failed at from ∷ calls) = clock_of calls
 clock_of (Synced ∷ calls) = clock_of calls + 1
 
--- what a power cut behind these calls, or when t or more of them had answered Ok, may leave
+-- what a power cut after these calls, or when t or more of them had answered Ok, may leave
 abbrev pub since_after : List ℕ → List FileCall → ℕ → List ℕ → Type 0
 since_after start [] t c = images_after start [] c
 since_after start (call ∷ calls) t c = images_after start (call ∷ calls) c ⊎ ((t ≤ clock_of calls) × since_after start calls t c)

@@ -6,11 +6,11 @@ use Rattle.mcs_host.specs.FileCalls.{clock_of, images_after, since_after}
 use Rattle.mcs_host.specs.declared.call_record.CallRecord.{CallRecord}
 
 -- The premise on the host, and on programs that write the file without asking for its lock: what is found in the file after the end is an
--- image behind the calls by then, of which a write that was under way is one that failed.
+-- image after the calls by then, of which a write that was under way is one that failed.
 abbrev pub IsHonest : CallRecord → Type 0
 IsHonest history = images_after history.start history.calls_by_the_end history.found
 
--- what contracts see of a file that has so many faults, these bytes and this record of calls
+-- what contracts see of a file that has that many faults, these bytes and this record of calls
 abbrev pub file_state : ℕ → List ℕ → CallRecord → DiskState
 file_state faults bytes history = record {
   size = length bytes;

@@ -77,7 +77,7 @@ impl FileDisk {
     }
 }
 
-// So many zero bytes.
+// That many zero bytes.
 fn zeros(alloc: Global, size: usize) -> Result<Vec<u8>, AllocError>
     ensures { IfOk result (λ bytes. vec_len bytes ≡ size) }
 {

@@ -8,7 +8,7 @@ ghost use Rattle.mcs_host.specs.FileDisk.{IsOpened};
 use crate::FileDisk;
 use mcs_disk::Disk;
 
-/// Where an honest file was left behind some first part of its calls, at a clock of t or later, what is found in it is an image since t.
+/// Where an honest file was left after some first part of its calls, at a clock of t or later, what is found in it is an image since t.
 pub fn what_is_found_is_an_image()
     ensures { (t : ℕ) (file : FileDisk) → (⟦<FileDisk as Disk>⟧.state file).honest
         → IsLeftSince t file → (⟦<FileDisk as Disk>⟧.state file).since t (found_in file) }
@@ -23,7 +23,7 @@ pub fn opened_again_is_left_by_cut()
         → IsLeftByCut t (⟦<FileDisk as Disk>⟧.state file) (⟦<FileDisk as Disk>⟧.state again) }
 {}
 
-/// A file is honest exactly where what is found in it after the end is an image behind the calls by then.
+/// A file is honest exactly where what is found in it after the end is an image after the calls by then.
 pub fn honest_where_an_image_is_found()
     ensures { (file : FileDisk) → (⟦<FileDisk as Disk>⟧.state file).honest ↔ IsFoundAfterTheEnd file }
 {}

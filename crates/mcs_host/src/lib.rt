@@ -1,6 +1,6 @@
 //! The host's side of the program: what the words of its command line choose, and a session file as a disk.
 //!
-//! [`choice`] reads the command line. [`FileDisk`] is a file of the host behind the trait `Disk` of mcs_disk; that it keeps what
+//! [`choice`] reads the command line. [`FileDisk`] is a file of the host after the trait `Disk` of mcs_disk; that it keeps what
 //! it was given over a power cut is a premise on the host and no theorem.
 #![tactic(auto)]
 

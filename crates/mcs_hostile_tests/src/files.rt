@@ -17,9 +17,9 @@ pub(crate) type Change = (usize, &'static [u8]);
 /// A change that leaves a state, what is asked then, and the answers.
 pub(crate) type Told = (usize, &'static [u8], &'static [u8], &'static [u8]);
 
-/// Changes of the turn, of the length of the snapshot, and of a state of version 2, that leave no state.
+/// Changes of the selector, of the length of the snapshot, and of a state of version 2, that leave no state.
 const DAMAGES: [Change; 21] = [
-    // the turn, of a slot without a snapshot
+    // the selector, of a slot without a snapshot
     (8, &[1]),
     // the length of the snapshot
     (16, &[0, 0, 0, 0]),
@@ -147,7 +147,7 @@ pub(crate) fn changed(
     other
 }
 
-/// A file of a new bench with one change: behind its name, of those that leave no state, of those that leave one.
+/// A file of a new bench with one change: after its name, of those that leave no state, of those that leave one.
 pub(crate) fn expect_changes(
     alloc: Global,
     rt: &impl Abort,
@@ -226,7 +226,7 @@ fn of_another_size(rt: HostRuntime) {
 #[test]
 fn with_too_much_in_the_log(rt: HostRuntime) {
     let alloc = rt.alloc();
-    // a gate behind the last place where a record has room
+    // a commit byte after the last place where a record has room
     let full = file_of(alloc, &rt, &[], 9_361, b"run 1\n");
     let file = changed(alloc, &rt, full.as_slice(), 81_935, &[1]);
     expect_refused(alloc, &rt, file.as_slice(), OpenFault::Damaged, 81_935);
@@ -257,7 +257,7 @@ pub(crate) fn expect_most_cycles(alloc: Global, rt: &impl Abort, mut file: Vec<u
     expect_refused(alloc, rt, file.as_slice(), OpenFault::Damaged, 41);
 }
 
-/// The place of one of the first gates of a log, from its begin on.
+/// The place of one of the first commit bytes of a log, from its begin on.
 fn commit_byte(file: &[u8], log: usize, number: usize) -> usize {
     let mut at = log;
     for _ in 0..number {
@@ -297,9 +297,9 @@ fn range_of(right: &[u8], numbers: &mut Numbers) -> (usize, usize) {
         // the length of the snapshot, or of a record
         4 => (snapshot.saturating_add(2), 2),
         5 => (commit_byte.saturating_add(1), 2),
-        // a gate
+        // a commit byte
         6 => (commit_byte, 1),
-        // all behind the name, or behind some of the snapshot
+        // all after the name, or after some of the snapshot
         _ => (8usize.saturating_add(numbers.below(20)), FILE_SIZE),
     }
 }

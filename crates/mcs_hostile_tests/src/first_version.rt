@@ -46,7 +46,7 @@ pub(crate) fn file_of_inputs(alloc: Global, rt: &impl Abort) -> Vec<u8> {
     file
 }
 
-/// Changes of the turn, of the length of the snapshot, of a state of version 1, and records that it has not. They leave no state.
+/// Changes of the selector, of the length of the snapshot, of a state of version 1, and records that it has not. They leave no state.
 const DAMAGES: [Change; 18] = [
     (8, &[1]),
     (16, &[0, 0, 0, 0]),
@@ -173,7 +173,7 @@ fn opened_and_told(rt: HostRuntime) {
     }
 }
 
-/// The file that a stop behind so many calls of the disk leaves, where it keeps a file from opening.
+/// The file that a stop after that many calls of the disk leaves, where it keeps a file from opening.
 fn left_by_a_stop(alloc: Global, rt: &impl Abort, file: &[u8], calls: usize) -> Option<Vec<u8>> {
     match Session::open(alloc, FuseDisk::after(disk_of(alloc, rt, file), calls)) {
         Ok(_) => None,
@@ -223,6 +223,6 @@ fn torn_while_carried_over(rt: HostRuntime) {
         states.as_slice(),
         pace,
     );
-    // 20 places of the snapshot, in 5 ways; the turn has 256 values
+    // 20 places of the snapshot, in 5 ways; the selector has 256 values
     assert_eq!(rt; images, 5 * 20 + 256);
 }

@@ -12,7 +12,7 @@ use std::alloc::Global;
 use std::io::{self, Write};
 use std::process::Abort;
 
-/// Takes so many bytes, without memory of its own.
+/// Takes that many bytes, without memory of its own.
 #[derive(Drop)]
 struct FixedWriter {
     held: ArrayVec<u8, 1_024>,
@@ -87,7 +87,7 @@ fn board_lines() -> &'static [u8] {
     }
 }
 
-/// The output is these answers, or so many first ones of them and then a device fault.
+/// The output is these answers, or that many first ones of them and then a device fault.
 fn is_told(output: &[u8], answers: &[&[u8]], is_device: bool) -> bool {
     let mut rest = output;
     for answer in answers {

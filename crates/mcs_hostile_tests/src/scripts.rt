@@ -75,7 +75,7 @@ lamps
 regs
 ";
 
-/// How the answers end behind all commands: two lamps are lit, and line 1 of the second ROM's port was read as 1.
+/// How the answers end after all commands: two lamps are lit, and line 1 of the second ROM's port was read as 1.
 pub(crate) const LAST: &[u8] = b"
 lamps **.
 acc 2 cy 0 pc 00A owed 0 dcl 0 test 1 r 1000090000000000 ret 000 000 000
@@ -84,5 +84,5 @@ acc 2 cy 0 pc 00A owed 0 dcl 0 test 1 r 1000090000000000 ret 000 000 000
 /// A command whose record is seven bytes.
 pub(crate) const POKE: &[u8] = b"poke r0 1\n";
 
-/// So many pokes leave no room for another, behind the commands: their records take 136, 527, 6, 8 and 7 of 65,535 bytes.
+/// That many pokes leave no room for another, after the commands: their records take 136, 527, 6, 8 and 7 of 65,535 bytes.
 pub(crate) const POKES: usize = 9_264;

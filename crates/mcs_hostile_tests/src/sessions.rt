@@ -42,7 +42,7 @@ pub(crate) fn put(rt: &impl Abort, file: &mut [u8], at: usize, bytes: &[u8]) {
     file[at..at + bytes.len()].copy_from_slice(bytes);
 }
 
-/// The pieces, one behind the other.
+/// The pieces, one after the other.
 pub(crate) fn joined(alloc: Global, rt: &impl Abort, pieces: &[&[u8]]) -> Vec<u8> {
     let mut bytes = Vec::new(alloc);
     for piece in pieces {
@@ -97,7 +97,7 @@ pub(crate) fn expect_state(
     }
 }
 
-/// What a new session tells of its state, and then behind each of these commands.
+/// What a new session tells of its state, and then after each of these commands.
 pub(crate) fn states_behind<D: Disk + Drop>(
     alloc: Global,
     rt: &impl Abort,
@@ -117,7 +117,7 @@ pub(crate) fn states_behind<D: Disk + Drop>(
     states
 }
 
-/// Puts the first register to 1, so many times.
+/// Puts the first register to 1, that many times.
 fn poke<D: Disk + Drop>(rt: &impl Abort, session: &mut Session<D>, times: usize) {
     let command = Command::Poke(Place::Register(RegNo::ZERO, Nibble::ONE));
     for i in 0..times {
@@ -125,7 +125,7 @@ fn poke<D: Disk + Drop>(rt: &impl Abort, session: &mut Session<D>, times: usize)
     }
 }
 
-/// The file of a session after these commands, so many pokes, and a last command.
+/// The file of a session after these commands, that many pokes, and a last command.
 pub(crate) fn file_of(
     alloc: Global,
     rt: &impl Abort,

@@ -16,7 +16,7 @@ use std::alloc::Global;
 use std::io::{self, Read, Write};
 use std::process::Abort;
 
-/// Gives these bytes; each read behind the first `left` of them fails.
+/// Gives these bytes; each read after the first `left` of them fails.
 #[derive(Drop)]
 struct CutReader<'a> {
     bytes: &'a [u8],
@@ -35,7 +35,7 @@ impl Read for CutReader<'_> {
     }
 }
 
-/// Takes bytes; each write behind the first `left` of them fails.
+/// Takes bytes; each write after the first `left` of them fails.
 #[derive(Drop)]
 struct CutWriter {
     held: Vec<u8>,
@@ -61,7 +61,7 @@ impl Write for CutWriter {
 /// The first line of the answers of a new session.
 const FIRST: &[u8] = b"session 0\n";
 
-/// What a new session answers where the device refuses the command behind these.
+/// What a new session answers where the device refuses the command after these.
 fn answers_before_a_fault(alloc: Global, rt: &impl Abort, done: usize) -> Vec<u8> {
     let mut answers = joined(alloc, rt, &[FIRST]);
     for answer in ANSWERS.iter().take(done) {
@@ -73,7 +73,7 @@ fn answers_before_a_fault(alloc: Global, rt: &impl Abort, done: usize) -> Vec<u8
     answers
 }
 
-/// A disk that fails each call behind so many, or that one alone.
+/// A disk that fails each call after that many, or that one alone.
 fn failing(alloc: Global, rt: &impl Abort, calls: usize, is_once: bool) -> FuseDisk {
     let disk = blank(alloc, rt);
     if is_once {
@@ -150,7 +150,7 @@ fn at_each_call_of_the_disk(rt: HostRuntime) {
     }
 }
 
-/// Whether a stop behind so many calls of the disk keeps a file from opening. The disk is handed back then, with the same bytes.
+/// Whether a stop after that many calls of the disk keeps a file from opening. The disk is handed back then, with the same bytes.
 fn is_stopped_opening(alloc: Global, rt: &impl Abort, file: &[u8], calls: usize) -> bool {
     match Session::open(alloc, FuseDisk::after(disk_of(alloc, rt, file), calls)) {
         Ok(_) => false,

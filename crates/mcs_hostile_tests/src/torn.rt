@@ -24,7 +24,7 @@ const CUTS: [(Left, Left); 5] = [
     (Left::Old, Left::Other),
 ];
 
-/// Writes of up to so many bytes are cut at each byte.
+/// Writes of up to that many bytes are cut at each byte.
 const SMALL: usize = 1_024;
 
 /// The file that is found after a write of these bytes from `at` on was cut.
@@ -119,7 +119,7 @@ fn tear(
     places.len().saturating_mul(CUTS.len())
 }
 
-/// When commands are acknowledged: behind so many first syncs, and each by so many.
+/// When commands are acknowledged: after that many first syncs, and each by that many.
 #[derive(Clone, Copy)]
 pub(crate) struct Pace {
     pub(crate) first: usize,
@@ -204,7 +204,7 @@ fn writes_of_a_new_session_and_its_commands(rt: HostRuntime) {
         pace,
     );
     // Making the session: 20 places of the snapshot and 17 of the name. The records: 137, 528, 7, 9 and 8 places. Each in 5 ways; and
-    // each of the five gates has 256 values.
+    // each of the five commit bytes has 256 values.
     assert_eq!(rt; images, 5 * (20 + 17 + 137 + 528 + 7 + 9 + 8) + 5 * 256);
 }
 
@@ -225,6 +225,6 @@ fn writes_of_a_checkpoint(rt: HostRuntime) {
         states.as_slice(),
         pace,
     );
-    // 20 places of the snapshot, in 5 ways; the turn has 256 values; 8 places of the record; the gate.
+    // 20 places of the snapshot, in 5 ways; the selector has 256 values; 8 places of the record; the commit byte.
     assert_eq!(rt; images, 5 * 20 + 256 + 5 * 8 + 256);
 }

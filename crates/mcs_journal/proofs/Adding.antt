@@ -13,7 +13,7 @@ module _ (f snap r from : List ℕ) (rs : List (List ℕ)) (commit_byte : ℕ) (
   sized : (c : List ℕ) → Torn (commit_byte + 1) (length from) f c → Torn (commit_byte + 1) (length r + 3) f c
   sized c torn = subst (λ (n : ℕ). Torn (commit_byte + 1) n f c) long torn
 
-  -- any bytes behind the gate leave the pair
+  -- any bytes after the commit byte leave the pair
   pub behind_torn : (c : List ℕ) → Torn (commit_byte + 1) (length from) f c → Holds c snap rs
   behind_torn c torn = first_torn f snap rs commit_byte r held at_gate good c (sized c torn)
 
@@ -21,10 +21,10 @@ module _ (f snap r from : List ℕ) (rs : List (List ℕ)) (commit_byte : ℕ) (
     here : part (commit_byte + 1) (length r + 3) g ≡ be16 (length r) ++ r ++ 0 ∷ []
     here = ap (λ (n : ℕ). part (commit_byte + 1) n g) (sym long) ∙ written ∙ spells
 
-    -- any byte at the gate leaves the old records or the new ones
+    -- any byte at the commit byte leaves the old records or the new ones
     pub gate_torn : (c : List ℕ) → Torn commit_byte 1 g c → Either (λ x. Holds x snap rs) (λ x. Holds x snap (rs ++ r ∷ [])) c
     gate_torn c last = second_torn f snap rs commit_byte r held at_gate good g c (sized g torn) here last
 
-    -- an open gate leaves the new ones
+    -- a commit byte of 1 leaves the new ones
     pub gate_opened : (c : List ℕ) → Torn commit_byte 1 g c → part commit_byte 1 c ≡ 1 ∷ [] → Holds c snap (rs ++ r ∷ [])
     gate_opened c last one = second_done f snap rs commit_byte r held at_gate good g c (sized g torn) here last one

@@ -19,7 +19,7 @@ start_bounds B = (omega arith, omega arith)
 pub slot_bounds : (file : List ℕ) → (16 ≤ slot_at file) × (slot_at file ≤ 81936)
 slot_bounds file = start_bounds (slot_of file)
 
--- files of the same turn have the same slot
+-- files of the same selector have the same slot
 pub same_slot : (f c : List ℕ) → get_or c 8 0 ≡ get_or f 8 0 → slot_at c ≡ slot_at f
 same_slot f c selector = ap (λ (t : ℕ). start_of (slot_named t)) selector
 
@@ -52,7 +52,7 @@ module _ (f snap : List ℕ) (rs : List (List ℕ)) (commit_byte : ℕ) (r : Lis
   log_torn : (c : List ℕ) → Torn (commit_byte + 1) (length r + 3) f c → Torn (length (spelled rs) + 1) (length r + 3) (part lo 65536 f) (part lo 65536 c)
   log_torn c torn = part_torn (commit_byte + 1) (length r + 3) lo 65536 (length (spelled rs) + 1) f c torn fits (omega (arith, at_gate.at)) (omega (arith, at_gate.room))
 
-  -- any bytes behind the gate leave the pair
+  -- any bytes after the commit byte leave the pair
   pub first_torn : (c : List ℕ) → Torn (commit_byte + 1) (length r + 3) f c → Holds c snap rs
   first_torn c torn =
       kept_outside f c snap rs rs (commit_byte + 1) (length r + 3) old torn (omega (arith, at_gate.at)) (omega (arith, at_gate.at, at_gate.room))
@@ -65,7 +65,7 @@ module _ (f snap : List ℕ) (rs : List (List ℕ)) (commit_byte : ℕ) (r : Lis
       staged rs r _ _ old.log (log_torn c torn)
       (part_part lo 65536 (length (spelled rs) + 1) (length r + 3) m c (omega (arith, at_gate.room)) (omega (arith, at_gate.room)) ∙ ap (λ (p : ℕ). part p (length r + 3) c) place ∙ here)
 
-  -- any byte at the gate then leaves the old pair or the new one, and 1 the new one
+  -- any byte at the commit byte then leaves the old pair or the new one, and 1 the new one
   module _ (g c : List ℕ) (first : Torn (commit_byte + 1) (length r + 3) f g) (here : part (commit_byte + 1) (length r + 3) g ≡ be16 (length r) ++ r ++ 0 ∷ []) (torn : Torn commit_byte 1 g c) where
     held : Holds g snap rs
     held = first_torn g first

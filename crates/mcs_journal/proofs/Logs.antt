@@ -17,7 +17,7 @@ pub AreRecords-push : (rs : List (List ℕ)) (r : List ℕ) → AreRecords rs �
 AreRecords-push [] r all ok = (ok, tt)
 AreRecords-push (x ∷ rs) r all ok = (all.0, AreRecords-push rs r all.1 ok)
 
--- what stands behind the gate doesn't matter
+-- what stands after the commit byte doesn't matter
 pub behind_gate : (rs : List (List ℕ)) (n : ℕ) (log c : List ℕ) → IsLog rs log → Torn (length (spelled rs) + 1) n log c → IsLog rs c
 behind_gate rs n log c old torn =
     let p = spelled rs ++ old.commit_byte ∷ [] in
@@ -33,7 +33,7 @@ behind_gate rs n log c old torn =
       records_ok = old.records_ok;
     }
 
--- a record stands behind the closed gate, and a closed gate behind it
+-- a record stands after the commit byte of 0, and a commit byte of 0 after it
 pub record IsStaged (rs : List (List ℕ)) (r log : List ℕ) : Type 0 where
   pub commit_byte : ℕ
   pub rest : List ℕ
@@ -57,7 +57,7 @@ staged rs r log c old torn here =
       records_ok = next.records_ok;
     }
 
--- the gate decides
+-- the commit byte decides
 pub gate_open : (rs : List (List ℕ)) (r rest : List ℕ) (commit_byte : ℕ) → AreRecords rs → IsRecord r → commit_byte ≡ 1 → IsLog (rs ++ r ∷ []) (spelled rs ++ commit_byte ∷ ((be16 (length r) ++ r ++ 0 ∷ []) ++ rest))
 gate_open rs r rest commit_byte ok good one = record {
   commit_byte = 0;

@@ -46,7 +46,7 @@ module _ (f snap fresh area : List ℕ) (rs : List (List ℕ)) (other : ℕ) (ol
       here : (lo k : ℕ) → slot_at f ≤ lo → lo + k ≤ slot_at f + 81920 → part lo k c ≡ part lo k f
       here lo k from to = part_same other 16385 lo k f c torn (outside lo k from to)
 
-  -- any turn then names the old pair or the new one
+  -- any selector then names the old pair or the new one
   module _ (g c : List ℕ) (first : Torn other 16385 f g) (there : part other 16385 g ≡ area) (torn : Torn 8 1 g c) where
     held : Holds g snap rs
     held = other_torn g first

@@ -1,4 +1,4 @@
--- What a session file holds: a snapshot and the records behind it. (Our own choice; the layout is told in docs/FORMAT.md, its sizes are
+-- What a session file holds: a snapshot and the records after it. (Our own choice; the layout is told in docs/FORMAT.md, its sizes are
 -- the constants of src/format.rt.)
 use Rattle.std.specs.Prelude.{◌≡◌, ◌≢◌, ◌==◌, ℕ, ◌+◌, ◌/◌, ◌%◌, ◌≤◌, List, [], ◌∷◌, ◌++◌, length, slice_index, if◌then◌else◌}
 use Rattle.mcs_disk.specs.Disk.{part}
@@ -11,11 +11,11 @@ abbrev pub start_of : Slot → ℕ
 start_of A = FIRST_SLOT
 start_of B = SECOND_SLOT
 
--- an even turn names the first slot, an odd one the second
+-- an even selector names the first slot, an odd one the second
 abbrev pub slot_named : ℕ → Slot
 slot_named selector = if selector % 2 == 0 then A else B
 
--- the slot that a file's turn names, and where it starts
+-- the slot that a file's selector names, and where it starts
 abbrev pub slot_of : List ℕ → Slot
 slot_of file = slot_named (slice_index file 8)
 
@@ -29,11 +29,11 @@ be16 n = n / 256 ∷ n % 256 ∷ []
 abbrev pub be32 : ℕ → List ℕ
 be32 n = n / 16777216 ∷ n / 65536 % 256 ∷ n / 256 % 256 ∷ n % 256 ∷ []
 
--- a record in a log: an open gate, its length, its bytes
+-- a record in a log: a commit byte of 1, its length, its bytes
 abbrev pub framed : List ℕ → List ℕ
 framed record_bytes = 1 ∷ (be16 (length record_bytes) ++ record_bytes)
 
--- records in a log, one behind another
+-- records in a log, one after another
 abbrev pub spelled : List (List ℕ) → List ℕ
 spelled [] = []
 spelled (r ∷ rs) = framed r ++ spelled rs
@@ -45,7 +45,7 @@ abbrev pub AreRecords : List (List ℕ) → Type 0
 AreRecords [] = Unit {0}
 AreRecords (r ∷ rs) = IsRecord r × AreRecords rs
 
--- a log holds these records: it spells them, then comes a closed gate, then anything
+-- a log holds these records: it spells them, then comes a commit byte of 0, then anything
 pub record IsLog (records : List (List ℕ)) (log : List ℕ) : Type 0 where
   pub commit_byte : ℕ
   pub rest : List ℕ
@@ -53,7 +53,7 @@ pub record IsLog (records : List (List ℕ)) (log : List ℕ) : Type 0 where
   pub closed : commit_byte ≢ 1
   pub records_ok : AreRecords records
 
--- a file holds a snapshot and records: the name, a turn, seven zeros, and in the slot that the turn names the snapshot behind its
+-- a file holds a snapshot and records: the name, a selector, seven zeros, and in the slot that the selector names the snapshot after its
 -- length, and the log of the records
 pub record Holds (file : List ℕ) (snap : List ℕ) (records : List (List ℕ)) : Type 0 where
   pub size : length file ≡ FILE_SIZE
@@ -68,7 +68,7 @@ pub record Holds (file : List ℕ) (snap : List ℕ) (records : List (List ℕ))
 abbrev pub ContentsAreUnique : Type 0
 ContentsAreUnique = (file snap other : List ℕ) (records more : List (List ℕ)) → Holds file snap records → Holds file other more → (snap ≡ other) × (records ≡ more)
 
--- a record of so many bytes has room behind so many bytes of records: gate, length and bytes, and a closed gate behind it
+-- a record of that many bytes has room after that many bytes of records: commit byte, length and bytes, and a commit byte of 0 after it
 abbrev pub HasRoom : ℕ → ℕ → Type 0
 HasRoom used len = used + 3 + len + 1 ≤ LOG_SIZE
 

@@ -11,27 +11,27 @@ abbrev pub other_slot : Slot → Slot
 other_slot A = B
 other_slot B = A
 
--- the turn that is written to name a slot
+-- the selector that is written to name a slot
 abbrev pub turn_of : Slot → ℕ
 turn_of A = 0
 turn_of B = 1
 
--- the gate behind the last record, with room for one more of n bytes
+-- the commit byte after the last record, with room for one more of n bytes
 pub record IsCommitPlace (file : List ℕ) (records : List (List ℕ)) (commit_byte n : ℕ) : Type 0 where
   pub at : commit_byte ≡ slot_at file + AREA_SIZE + length (spelled records)
   pub room : length (spelled records) + n + 4 ≤ LOG_SIZE
 
--- this record stands there behind an open gate
+-- this record stands there after a commit byte of 1
 pub record IsNext (file : List ℕ) (at : ℕ) (r : List ℕ) : Type 0 where
   pub good : IsRecord r
   pub is : part at (length r + 3) file ≡ framed r
 
--- the gate is open, and no record with room behind it follows
+-- the commit byte is 1, and no record with room after it follows
 pub record IsNoRecord (file : List ℕ) (at room : ℕ) : Type 0 where
   pub opened : slice_index file at ≡ 1
   pub none : (r : List ℕ) → length r + 4 ≤ room → IsNext file at r → ⊥
 
--- a snapshot area of these bytes, and a closed gate behind it
+-- a snapshot area of these bytes, and a commit byte of 0 after it
 pub record IsArea (snap area : List ℕ) : Type 0 where
   pub long : length area ≡ STAGE_SIZE
   pub short : length snap ≤ MOST_SNAPSHOT

@@ -9,7 +9,7 @@ pub const MOST_SNAPSHOT: usize = 16_380;
 /// The most bytes of a record.
 pub const MOST_RECORD: usize = 8_192;
 
-/// The header: the name, the turn, and zeros.
+/// The header: the name, the selector, and zeros.
 pub const HEADER_SIZE: usize = 16;
 
 pub const NAME: [u8; 8] = *b"MCS4BEN1";
@@ -35,15 +35,15 @@ pub const AREA_SIZE: usize = 16_384;
 
 pub const SNAPSHOT_PLACE: usize = 4;
 
-/// A slot's log, behind its snapshot area.
+/// A slot's log, after its snapshot area.
 pub const LOG_SIZE: usize = 65_536;
 
-/// A record's gate and its length of two bytes stand before its bytes.
+/// A record's commit byte and its length of two bytes stand before its bytes.
 pub const RECORD_PLACE: usize = 3;
 
 pub const COMMITTED: u8 = 1;
 
 pub const NOT_COMMITTED: u8 = 0;
 
-/// A snapshot area and the first gate of the log behind it, which are written as one range.
+/// A snapshot area and the first commit byte of the log after it, which are written as one range.
 pub const STAGE_SIZE: usize = AREA_SIZE + 1;

@@ -31,7 +31,7 @@ pub fn read_at<D: Disk>(disk: &mut D, at: usize, into: &mut [u8]) -> Result<(), 
     disk.read(at, into)
 }
 
-/// Reads the record at `at`, of which `room` bytes of the log are left. None: its gate is closed.
+/// Reads the record at `at`, of which `room` bytes of the log are left. None: its commit byte is 0.
 pub fn read_record<D: Disk>(
     alloc: Global,
     disk: &mut D,
@@ -80,7 +80,7 @@ pub struct Log {
     pub used: usize,
 }
 
-/// Reads the log at `at`, up to its first closed gate.
+/// Reads the log at `at`, up to its first commit byte of 0.
 pub fn read_log<D: Disk>(alloc: Global, disk: &mut D, at: usize) -> Result<Log, OpenFault>
     requires inside { at + LOG_SIZE ≤ (D.state disk.old).size }
     requires fits { (D.state disk.old).size < 2 ^ 64 }
@@ -106,7 +106,7 @@ pub fn read_log<D: Disk>(alloc: Global, disk: &mut D, at: usize) -> Result<Log, 
     Ok(Log { records, used })
 }
 
-/// Reads the header: the slot that its turn names.
+/// Reads the header: the slot that its selector names.
 pub fn read_header<D: Disk>(disk: &mut D) -> Result<Slot, OpenFault>
     requires size { (D.state disk.old).size ≡ FILE_SIZE }
     ensures tells { CountsFault (D.state disk.old) (D.state disk.new) (IsErrOf result OpenFault.Device) }

@@ -14,7 +14,7 @@ impl Slot {
     ghost use Rattle.mcs_journal.specs.File.{slot_named, start_of};
     ghost use Rattle.mcs_journal.specs.Writing.{other_slot, turn_of};
 
-    /// The slot that a turn names: the first by an even turn, the second by an odd one.
+    /// The slot that a selector names: the first by an even selector, the second by an odd one.
     pub fn named(selector: u8) -> Slot
         ensures { result ≡ slot_named selector }
     {
@@ -31,7 +31,7 @@ impl Slot {
         }
     }
 
-    /// The turn that is written to name it.
+    /// The selector that is written to name it.
     pub fn selector(self) -> u8
         ensures { result ≡ turn_of self }
     {

@@ -15,7 +15,7 @@ use mcs_disk::{Disk, DiskFault};
 use std::alloc::Global;
 use std::marker::Model;
 
-/// A snapshot and the records behind it, on a disk.
+/// A snapshot and the records after it, on a disk.
 ///
 /// Once a call on it has answered a device fault, it is closed: what the disk then holds is the pair of before that call or of
 /// after it, and opening it again tells which.
@@ -44,7 +44,7 @@ pub struct Opened<D: Disk + Drop> {
     pub store: Store<D>,
     /// The snapshot, of at most 16,380 bytes.
     pub snap: Bytes,
-    /// The records behind it, the oldest first.
+    /// The records after it, the oldest first.
     pub records: Records,
 }
 
@@ -151,7 +151,7 @@ impl<D: Disk + Drop> Store<D> {
         self.live
     }
 
-    /// A record of `len` bytes fits behind the records of its log.
+    /// A record of `len` bytes fits after the records of its log.
     pub fn has_room(&self, len: usize) -> bool
         requires { len ≤ MOST_RECORD }
         ensures room { IsTrue result ↔ HasRoom self.now.used len }
@@ -163,7 +163,7 @@ impl<D: Disk + Drop> Store<D> {
         self.used + RECORD_PLACE + len + 1 <= LOG_SIZE
     }
 
-    /// Adds a record of 1 to 8,192 bytes behind the others. At a device fault the store is closed.
+    /// Adds a record of 1 to 8,192 bytes after the others. At a device fault the store is closed.
     pub fn append(&mut self, payload: &[u8]) -> Result<(), DiskFault>
         requires live { IsTrue self.old.live }
         requires good { IsRecord payload.now }

@@ -42,7 +42,7 @@ fn damage(rt: &impl Abort, disk: &mut MemDisk, at: usize, bytes: &[u8]) {
     disk.write(at, bytes).expect(rt, "a write");
 }
 
-/// The disk holds this snapshot, and so many times the record.
+/// The disk holds this snapshot, and that many times the record.
 fn expect_pair<D: Disk + Drop>(
     alloc: Global,
     rt: &impl Abort,

@@ -34,7 +34,7 @@ pub enum LineFault {
 }
 
 impl LineFault {
-    /// The number that the refusal is told by.
+    /// The number that the refusal is reported as.
     pub fn number(self) -> u8
         ensures { result ≡ line_fault_number self }
     {

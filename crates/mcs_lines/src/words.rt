@@ -84,7 +84,7 @@ fn part_at_front(word: &[u8]) -> usize
     word.len()
 }
 
-/// The first part of a word, and what follows the dot behind it, if there is one.
+/// The first part of a word, and what follows the dot after it, if there is one.
 pub fn next_part(word: &[u8]) -> (&[u8], Option<&[u8]>)
     ensures { MatchOption result.1 (cut_at is_dot word.now ≡ result.0.now ∷ []) (λ rest. cut_at is_dot word.now ≡ result.0.now ∷ cut_at is_dot rest.now) }
 {

@@ -109,7 +109,7 @@ cycle-does : (op : Op) (s : Machine) → s.0.owed ≢ 1 → instruction_at s.0 s
 unfolding cycle_of
 cycle-does op s free at = let e : eqb s.0.owed 1 ≡ false = grind (arith, nat_tests) in rw (e, at) refl
 
--- the idle cycle behind it
+-- the idle cycle after it
 cycle-idles : (s : Regs) (m : BusState) → cycle_of (record s { owed = 1 }) m ≡ Some (record s { owed = 0 }, m)
 unfolding cycle_of
 cycle-idles s m = refl
@@ -121,7 +121,7 @@ turned-idle left s m counter l owed same =
     let there : (record s { owed = 0 }, m) ≡ (record s { pc = counter; owed = 0 }, m) = ap (λ p. (record s { pc = p; owed = 0 }, m)) (sym same) in
     turned-one left (s, m) (record s { pc = counter; owed = 0 }, m) l (ap (λ (r : Regs). cycle_of r m) begun ∙ cycle-idles s m ∙ ap Some there)
 
--- an instruction done whole: its registers and its bus, but for the counter, and with no cycle owed any more
+-- an instruction done whole: its registers and its bus, except for the counter, and with no cycle owed any more
 pub turned-whole : (left : ℕ) (op : Op) (s : Machine) (regs : Regs) (m : BusState) (counter cycles : ℕ) → cycles ≤ left → s.0.owed ≢ 1 → instruction_at s.0 s.1 ≡ Some op → (record regs { pc = counter; owed = cycles - 1 }, m) ≡ effect op s.0 s.1 → 0 < cycles → cycles < 3 → regs.owed ≡ 0 → InstructionRan left s (record regs { pc = counter }, m) cycles
 turned-whole left op s regs m counter cycles l free at done some few none =
     let t : Machine = (record regs { pc = counter; owed = cycles - 1 }, m) in

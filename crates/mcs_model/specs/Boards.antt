@@ -50,7 +50,7 @@ in_range (Rom chip k) = nat_lt chip ROMS && nat_lt k 4
 in_range (Ram bank chip k) = nat_lt bank BANKS && nat_lt chip BANK_CHIPS && nat_lt k 4
 in_range (Chain n i) = nat_lt n CHAINS && nat_lt i CHAIN_BITS
 
--- whether the board has a line: its ROM, its RAM chip, or its chain with so many bits
+-- whether the board has a line: its ROM, its RAM chip, or its chain with that many bits
 abbrev pub exists_on : BoardParts → Line → Bool
 exists_on b (Rom chip k) = is_some (masks_on b chip) && nat_lt k 4
 exists_on b (Ram bank chip k) = nat_lt chip (slice_index b.banks bank) && nat_lt k 4

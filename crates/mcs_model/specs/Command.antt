@@ -81,7 +81,7 @@ with_place s (Rom at byte) = with_bus s (with_rom_byte s.bus at byte)
 with_place s (Ram bank src n) = with_bus s (with_ram s.bus bank src n)
 with_place s (Status bank high k n) = with_bus s (with_status s.bus bank high k n)
 
--- what a command does, but for the count of commands
+-- what a command does, except for the count of commands
 abbrev pub changed : BenchState → Command → BenchState
 changed s (Wire board) = with_machine s (new_regs, after_wire s.bus board)
 changed s (Load image) = with_bus s (with_rom_bytes s.bus image)

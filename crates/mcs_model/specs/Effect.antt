@@ -25,7 +25,7 @@ with_sum s x = record s { acc = x % 16; cy = x / 16 }
 abbrev pub address_beside : ℕ → ℕ → ℕ
 address_beside address w = word_on_page (page_of address) w
 
--- the counter set to a word on its own page: behind an instruction's words that is the page of the next
+-- the counter set to a word on its own page: after an instruction's words that is the page of the next
 -- instruction (Manual, JCN, ISZ, FIN and JIN at the end of a page)
 abbrev pub with_word : Regs → ℕ → Regs
 with_word s w = record s { pc = address_beside s.pc w }
@@ -77,7 +77,7 @@ key_of n =
     else if n == 8 then 4
     else 15
 
--- The registers after an instruction on a bus, where the counter already stands behind its words: first
+-- The registers after an instruction on a bus, where the counter already stands after its words: first
 -- the machine instructions (NOP to LDM), then those for RAM and ports (WRM to RD3), then the
 -- accumulator group (CLB to DCL).
 abbrev pub registers_after : Op → Regs → BusState → Regs
@@ -140,7 +140,7 @@ bus_after Wr2 s m = after_status m s.dcl 2 s.acc
 bus_after Wr3 s m = after_status m s.dcl 3 s.acc
 bus_after _ _ m = m
 
--- the counter moved behind an instruction's words, with the cycles that it still takes after this one
+-- the counter moved after an instruction's words, with the cycles that it still takes after this one
 abbrev pub after_words : Op → Regs → Regs
 after_words op s = record s { pc = (s.pc + word_count_of op) % 4096; owed = cycles_of op - 1 }
 
@@ -148,7 +148,7 @@ after_words op s = record s { pc = (s.pc + word_count_of op) % 4096; owed = cycl
 abbrev pub effect : Op → Regs → BusState → Regs × BusState
 effect op s m = (registers_after op (after_words op s) m, bus_after op s m)
 
--- the instruction at the counter, if its code is in the table; the word behind address 4095 is at 0
+-- the instruction at the counter, if its code is in the table; the word after address 4095 is at 0
 abbrev pub instruction_at : Regs → BusState → Option Op
 instruction_at s m = decoded (fetch_of m s.pc) (fetch_of m ((s.pc + 1) % 4096))
 

@@ -59,7 +59,7 @@ level s (Chain n i) = chain_bit s n i
 unfoldable pub clock_levels : BusState → List ℕ
 clock_levels s = tabled (chain_count s.board) (λ i. level s (chain_part s.board i).clock)
 
--- the bits of chain i behind a port write that left s and found its clock line at `was`: where that
+-- the bits of chain i after a port write that left s and found its clock line at `was`: where that
 -- rose, each bit moves one place up, the data line's level becomes bit 0, and the last bit is lost
 -- (4003 data sheet: a shift register with a serial input; edge, order and data level are our own choice)
 unfoldable pub clocked : BusState → ℕ → ℕ → List ℕ → List ℕ

@@ -31,7 +31,7 @@ abbrev pub or_dash : List ℕ → List ℕ
 or_dash [] = codes "-"
 or_dash text = text
 
--- so many numbers from a place on
+-- that many numbers from a place on
 abbrev pub stretch : List ℕ → ℕ → ℕ → List ℕ
 stretch items from count = take count (drop from items)
 
@@ -94,7 +94,7 @@ watch_text w = digit_text (w / 256) ++ codes "." ++ byte_text (w % 256)
 abbrev pub watches_text : BenchState → List ℕ
 watches_text s = codes "watches " ++ or_dash (join_by watch_text (codes " ") s.watches)
 
--- behind a word, texts that each begin with a space; a list of nothing is told as a dash
+-- after a word, texts that each begin with a space; a list of nothing is told as a dash
 abbrev pub spaced_or_dash : List ℕ → List ℕ
 spaced_or_dash [] = codes " -"
 spaced_or_dash text = text

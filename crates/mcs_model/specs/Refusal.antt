@@ -1,4 +1,4 @@
--- The numbers that refusals are told by (our own choice).
+-- The numbers that refusals are reported as (our own choice).
 use Rattle.std.specs.Prelude.{ℕ}
 use Rattle.mcs_model.specs.declared.board.BoardFault.{BoardFault}
 use Rattle.mcs_model.specs.declared.board.BoardFault.TheVariants.{BadValue, NoSuchLine, WrongDirection}

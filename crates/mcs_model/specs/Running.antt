@@ -20,7 +20,7 @@ abbrev pub cycled : ℕ → Machine → Machine
 cycled zero s = s
 cycled (suc k) s = unwrap_or (cycle_of (cycled k s).0 (cycled k s).1) (cycled k s)
 
--- the cycles of one instruction, k of them from s to t, of at most so many as are left: none where no cycle can follow
+-- the cycles of one instruction, k of them from s to t, of at most that many as are left: none where no cycle can follow
 pub record InstructionRan (left : ℕ) (s t : Machine) (k : ℕ) : Type 0 where
   pub within : k ≤ left
   pub machine : t ≡ cycled k s
@@ -72,7 +72,7 @@ abbrev pub no_stops : Stops
 no_stops = record { breaks = []; watches = [] }
 
 -- whether a step stops after k cycles, at the machine s, and why: at its start where no cycle can
--- follow, else behind the instruction
+-- follow, else after the instruction
 abbrev pub step_at : ℕ → Machine → Option Stop
 step_at zero s = if is_outside s then Some Outside else None
 step_at (suc k) s = if s.0.owed == 0 then Some Ended else None

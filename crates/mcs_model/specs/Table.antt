@@ -15,7 +15,7 @@ pub data Lower : Type 0 where
   Only : ℕ → Lower
 
 -- a row: the upper nibble of its codes, their lower nibbles, and the instruction that such a code
--- spells with the word behind it
+-- spells with the word after it
 pub record Row : Type 0 where
   pub upper : ℕ
   pub lower : Lower

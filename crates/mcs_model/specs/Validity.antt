@@ -9,7 +9,7 @@ use Rattle.mcs_model.specs.Boards.{IsSized, board_fault_of, masks_on, chain_bits
 use Rattle.mcs_model.specs.Bus.{BusState, wired_of}
 use Rattle.mcs_model.specs.BenchState.{BenchState}
 
--- so many numbers, each below a limit
+-- that many numbers, each below a limit
 pub record AreBelow (count limit : ℕ) (items : List ℕ) : Type 0 where
   pub count_is : length items ≡ count
   pub below : All (λ n. n < limit) items

@@ -95,7 +95,7 @@ pub enum BoardFault {
 }
 
 impl BoardFault {
-    /// The number that the refusal is told by.
+    /// The number that the refusal is reported as.
     pub fn number(self) -> u8
         ensures { result ≡ board_fault_number self }
     {

@@ -38,7 +38,7 @@ pub enum Command {
     Press(u8, u8),
     /// Releases the key of a row and a column.
     Release(u8, u8),
-    /// Runs for so many instruction cycles, 1 to 100,000, or up to an earlier reason to stop.
+    /// Runs for that many instruction cycles, 1 to 100,000, or up to an earlier reason to stop.
     Run(u32),
     /// Does one instruction, or the idle cycle that is owed.
     Step,
@@ -64,8 +64,8 @@ pub enum Command {
 pub enum Reply {
     /// It is done, and there is nothing to tell.
     Done,
-    /// So many bytes were loaded, 0 to 4,096.
+    /// That many bytes were loaded, 0 to 4,096.
     Loaded(u16),
-    /// A run or a step did so many instruction cycles, and stopped for a reason.
+    /// A run or a step did that many instruction cycles, and stopped for a reason.
     Ran { cycles: u32, stop: Stop },
 }

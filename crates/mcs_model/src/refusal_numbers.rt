@@ -1,4 +1,4 @@
-//! The numbers that refusals are told by, each in this one place.
+//! The numbers that refusals are reported as, each in this one place.
 
 /// An unknown first word, a wrong number of words, or a place word of no known form.
 pub const NOT_A_COMMAND: u8 = 10;

@@ -32,7 +32,7 @@ pub enum BenchFault {
 }
 
 impl BenchFault {
-    /// The number that the refusal is told by.
+    /// The number that the refusal is reported as.
     pub fn number(self) -> u8
         ensures { result ≡ bench_fault_number self }
     {

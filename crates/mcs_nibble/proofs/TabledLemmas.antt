@@ -22,7 +22,7 @@ tabled_from n f xs d l h = fill_by_all f xs n d l h
 pub same_tabled : {A : Type 0} (n : ℕ) (f g : ℕ → A) → ((k : ℕ) → k < n → f k ≡ g k) → tabled n f ≡ tabled n g
 same_tabled n f g h = tabled_from n g (tabled n f) (f 0) (length-tabled n f) (λ k l. get_or-tabled n f k (f 0) l ∙ h k l)
 
--- a write at i, where g is f but for v at i
+-- a write at i, where g is f except for v at i
 pub set-tabled : {A : Type 0} (n : ℕ) (f g : ℕ → A) (i : ℕ) (v : A) → i < n → g i ≡ v → ((k : ℕ) → k < n → k ≢ i → g k ≡ f k) → slice_set (tabled n f) i v ≡ tabled n g
 set-tabled n f g i v h at others =
     tabled_from n g (slice_set (tabled n f) i v) v (length-set (tabled n f) i v ∙ length-tabled n f)

@@ -72,7 +72,7 @@ impl Addr {
         (self.value % 256) as u8
     }
 
-    /// The address `n` words on; behind the last address comes the first.
+    /// The address `n` words on; after the last address comes the first.
     pub fn plus(self, n: u16) -> Addr
         ensures { result ≡ (self + n) % 4096 }
     {

@@ -316,7 +316,7 @@ impl<const CHIPS: usize> Bank<CHIPS> {
         *self = Bank::new(wired);
     }
 
-    /// A law: there are so many characters, status characters and ports, each a nibble, and what is absent is 0.
+    /// A law: there are that many characters, status characters and ports, each a nibble, and what is absent is 0.
     pub fn show_state_is_valid(&self)
         ensures { IsValidBank self.now }
     {

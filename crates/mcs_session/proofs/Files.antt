@@ -38,7 +38,7 @@ stands_by snap records s p c held = record { snap = snap; records = records; hol
 pub at_of : (disk : DiskState) (s : BenchState) → IsDurable disk → StandsFor disk.bytes s → IsAt disk s
 at_of disk s durable stands image now = subst (λ (f : List ℕ). StandsFor f s) (sym (durable.fresh image now)) stands
 
--- a snapshot with no records behind it
+-- a snapshot with no records after it
 stand_new : (snap : List ℕ) (s : BenchState) → SpellsState snap s → RecordsStandFor false snap [] s
 stand_new snap s spells = record { start = s; snapshot = spells; commands = []; replays = tt; bounded = omega arith; state = refl }
 
@@ -187,7 +187,7 @@ is_session disk snap records lawful holds other = elim other [
   | inr unnamed ↦ unnamed holds.name
 ]
 
--- no state behind the pair that was opened
+-- no state after the pair that was opened
 pub refuses_pair : (old new : DiskState) (snap : List ℕ) (records : List (List ℕ)) → IsLawful old → Opens old new snap records → ((v : Bool) (s : BenchState) → RecordsStandFor v snap records s → ⊥) → RefusesSession Damaged old × AddsNoImage old new
 refuses_pair old new snap records lawful opened none = (
   (

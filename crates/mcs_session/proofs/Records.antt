@@ -109,7 +109,7 @@ front_cycles v s (q ∷ rs) (d ∷ cs) (e ∷ ds) r c more h spells k =
     let left = sum_by-cons replay_cycles d cs in
     let right = sum_by-cons replay_cycles e ds in omega (arith, rest, one, left, right)
 
--- where the cycles of the next command are too many, there is no state behind the records
+-- where the cycles of the next command are too many, there is no state after the records
 pub too_long : (v : Bool) (snap : List ℕ) (records : List (List ℕ)) (r : List ℕ) (i cycles : ℕ) (s t : BenchState) (c : Command) → slice_get records i ≡ Some r → IsReplayed v snap (take i records) cycles s
     → SpellsBy v r c → REPLAY_CYCLES < cycles + replay_cycles c → RecordsStandFor v snap records t → ⊥
 too_long v snap records r i cycles s t c e a spells over b =

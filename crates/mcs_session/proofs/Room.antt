@@ -1,4 +1,4 @@
--- Room for a record, a snapshot where there is none, and the record behind it.
+-- Room for a record, a snapshot where there is none, and the record after it.
 use Rattle.std.proofs.Common.{◌≡◌, ◌+◌, ◌≤◌, inl, inr, ⊎_elim, List, [], ◌∷◌, ◌++◌, ℕ, false, None, sym, ap, subst, refl, arith, length}
 use Rattle.std.proofs.lemmas.Grind.{common_steps}
 use Rattle.mcs_disk.specs.Disk.{DiskState, IsLawful}
@@ -94,7 +94,7 @@ leaves_state old new cycles s snap was spells moments =
 pub leaves_before : (old new : DiskState) (s t : BenchState) → LeavesOnly old new (λ file. StandsFor file s) → MayLeave old new s t
 leaves_before old new s t moments = leaves_map old new (λ file. StandsFor file s) (Either (λ file. StandsFor file s) (λ file. StandsFor file t)) (λ c there. inl there) moments
 
--- a record is written behind those that are there
+-- a record is written after those that are there
 pub appended : (old mid new : DiskState) (cycles : ℕ) (s : BenchState) (c : Command) (r : List ℕ) (was : IsRecorded mid cycles s) → Spells r c → refusal s c ≡ None
     → cycles + replay_cycles c ≤ REPLAY_CYCLES → IsLawful new → LeavesOnly old mid (λ file. StandsFor file s)
     → LeavesOnly mid new (Either (λ f. Holds f was.stands.snap was.stands.records) (λ f. Holds f was.stands.snap (was.stands.records ++ r ∷ []))) → MayLeave old new s (after s c)

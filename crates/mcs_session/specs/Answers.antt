@@ -55,7 +55,7 @@ pub record FailsMigrating (old new : DiskState) : Type 0 where
   pub stands : StandsForLifted old.bytes state
   pub moments : MayMigrate old new state
 
--- what a refused `open` did to the disk: nothing, but for a device fault while a file of version 1 was replaced
+-- what a refused `open` did to the disk: nothing, except for a device fault while a file of version 1 was replaced
 abbrev pub LeftRefused : OpenFault → DiskState → DiskState → Type 0
 LeftRefused open_fault.Device old new = AddsNoImage old new ⊎ FailsMigrating old new
 LeftRefused fault old new = AddsNoImage old new

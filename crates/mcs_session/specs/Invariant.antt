@@ -9,7 +9,7 @@ use Rattle.mcs_model.specs.BenchState.{BenchState}
 use Rattle.mcs_session.specs.Cycles.{log_cycles}
 use Rattle.mcs_session.specs.Stands.{HoldsState, HasSpace, RecordsStandFor, StandsFor}
 
--- an honest disk of an open session: whatever a power cut leaves stands for the state of the bench, by a log of so many cycles
+-- an honest disk of an open session: whatever a power cut leaves stands for the state of the bench, by a log of that many cycles
 pub record IsRecorded (disk : DiskState) (cycles : ℕ) (s : BenchState) : Type 0 where
   pub durable : IsDurable disk
   pub stands : StandsFor disk.bytes s
@@ -26,13 +26,13 @@ pub record IsSession (disk : DiskState) (live : Bool) (cycles : ℕ) (s : BenchS
   pub ready : IsReady cycles text snapshot
   pub recorded : IsTrue live → disk.honest → IsRecorded disk cycles s
 
--- a snapshot and records, of version 1 where `first` is true, stand for this state, by commands of so many cycles
+-- a snapshot and records, of version 1 where `first` is true, stand for this state, by commands of that many cycles
 pub record IsReplayed (first : Bool) (snap : List ℕ) (records : List (List ℕ)) (cycles : ℕ) (s : BenchState) : Type 0 where
   pub stand : RecordsStandFor first snap records s
   pub count : cycles ≡ log_cycles stand.commands
 
--- Room was made for a record of so many bytes and so many cycles, in no step where there was room and else in four. The disk stands
--- for the same state still, by a log of so many cycles.
+-- Room was made for a record of that many bytes and that many cycles, in no step where there was room and else in four. The disk stands
+-- for the same state still, by a log of that many cycles.
 pub record HasMadeRoom (old new : DiskState) (bytes more cycles : ℕ) (s : BenchState) : Type 0 where
   pub ticks : (HasSpace old.bytes bytes more × (new.clock ≡ old.clock)) ⊎ (¬ (HasSpace old.bytes bytes more) × (new.clock ≡ old.clock + 4))
   pub recorded : IsRecorded new cycles s

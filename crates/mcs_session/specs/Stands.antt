@@ -20,7 +20,7 @@ Replays first s [] (c ∷ cs) = ⊥
 Replays first s (r ∷ rs) [] = ⊥
 Replays first s (r ∷ rs) (c ∷ cs) = SpellsBy first r c × (refusal s c ≡ None) × Replays first (after s c) rs cs
 
--- a snapshot and the records behind it stand for this state
+-- a snapshot and the records after it stand for this state
 pub record RecordsStandFor (first : Bool) (snap : List ℕ) (records : List (List ℕ)) (s : BenchState) : Type 0 where
   pub start : BenchState
   pub snapshot : SpellsStateBy first snap start
@@ -50,7 +50,7 @@ pub record HoldsState (file : List ℕ) (s : BenchState) : Type 0 where
 abbrev pub IsAt : DiskState → BenchState → Type 0
 IsAt disk s = (image : List ℕ) → disk.since disk.clock image → StandsFor image s
 
--- a file has room for one more record of so many bytes, and for so many more cycles in its log
+-- a file has room for one more record of that many bytes, and for that many more cycles in its log
 pub record HasSpace (file : List ℕ) (bytes cycles : ℕ) : Type 0 where
   pub state : BenchState
   pub stands : StandsFor file state

@@ -27,7 +27,7 @@ pub fn reopened_bench_holds_what_was_acknowledged<D: Disk, E: Disk>()
         → IsAfterPrefix s reached (acknowledged_by t kept.moments) u }
 {}
 
-/// What a power cut leaves of a run is opened, but for want of memory and a device fault.
+/// What a power cut leaves of a run is opened, except for lack of memory and a device fault.
 pub fn what_a_power_cut_left_is_opened<D: Disk, E: Disk>()
     ensures { (t : ℕ) (old new : D) (found : E) (s : BenchState) (done reached : List Command) (fault : OpenFault)
         → Kept (D.state old) (D.state new) s done reached → (D.state old).clock ≤ t

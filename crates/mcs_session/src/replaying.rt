@@ -1,4 +1,4 @@
-//! What a snapshot and the records behind it stand for.
+//! What a snapshot and the records after it stand for.
 ghost use Rattle.std.specs.Prelude.{◌≡◌, ◌||◌, not, Bool, IfOk, IfSome, IfNone};
 ghost use Rattle.mcs_model.specs.BenchState.{BenchState};
 ghost use Rattle.mcs_session.specs.Invariant.{IsReplayed};
@@ -48,7 +48,7 @@ fn may_stand(first: bool, command: &Command) -> bool
     !first || in_version_1(command)
 }
 
-/// The bench that a snapshot and the records behind it stand for, or none. All are of the version that the snapshot tells.
+/// The bench that a snapshot and the records after it stand for, or none. All are of the version that the snapshot tells.
 pub(crate) fn replay(
     alloc: Global,
     snap: &[u8],

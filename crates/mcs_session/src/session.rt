@@ -44,7 +44,7 @@ impl<D: Disk + Drop> Model for Session<D> {
 impl<D: Disk + Drop> Session<D> {
     /// Makes the session of a new bench on a blank disk.
     ///
-    /// It is refused for want of memory (90), where the disk is not blank (55; nothing is written then), and where a call on
+    /// It is refused for lack of memory (90), where the disk is not blank (55; nothing is written then), and where a call on
     /// it failed (53; what the disk then holds is not said). A refusal hands the disk back.
     pub fn create(alloc: Global, disk: D) -> Result<Session<D>, (CreateFault, D)>
         // on any disk
@@ -92,7 +92,7 @@ impl<D: Disk + Drop> Session<D> {
     /// Opens the session that a disk holds. Nothing is written to a file of version 2. In a file of version 1 a snapshot of
     /// version 2 takes the place of what it holds, once all memory was taken: it stands for the same state at every moment.
     ///
-    /// It is refused for want of memory (90), where size or name is not that of a session file (50), where the bytes stand
+    /// It is refused for lack of memory (90), where size or name is not that of a session file (50), where the bytes stand
     /// for no state otherwise (51), and where a call on the disk failed (53). A refusal hands the disk back.
     pub fn open(alloc: Global, disk: D) -> Result<Session<D>, (OpenFault, D)>
         // on any disk

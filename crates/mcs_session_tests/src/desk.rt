@@ -40,7 +40,7 @@ pub(crate) fn opened<D: Disk + Drop>(alloc: Global, rt: &impl Abort, disk: D) ->
     }
 }
 
-/// The disk holds a session that has accepted so many commands.
+/// The disk holds a session that has accepted that many commands.
 pub(crate) fn expect_seq<D: Disk + Drop>(alloc: Global, rt: &impl Abort, disk: D, seq: u32) {
     assert_eq!(rt; opened(alloc, rt, disk).bench().seq(), seq);
 }

@@ -9,7 +9,7 @@ use std::process::Abort;
 pub(crate) struct File {
     /// Where the bytes of the worked board stand.
     pub(crate) boards: &'static [usize],
-    /// Bytes at a place, one behind the other so many times. All other bytes of the file are 0.
+    /// Bytes at a place, one after the other that many times. All other bytes of the file are 0.
     pub(crate) runs: &'static [(usize, &'static [u8], usize)],
 }
 
@@ -89,7 +89,7 @@ pub(crate) const BREAKPOINTS: File = File {
     ],
 };
 
-/// 9,361 times `poke r0 1`, `run 1`, and `poke r0 2` behind a snapshot in the second slot.
+/// 9,361 times `poke r0 1`, `run 1`, and `poke r0 2` after a snapshot in the second slot.
 pub(crate) const FULL_LOG: File = File {
     boards: &[],
     runs: &[
@@ -114,8 +114,8 @@ pub(crate) const MANY_CYCLES: File = File {
     ],
 };
 
-/// The program of the keys with `WRM` and `JUN 0x123` behind it, both keys, `break 0x200`, `test 0`, `run 13`, 9,263 times
-/// `poke r5 9`, the last of them behind a snapshot in the second slot, and `poke r6 4`.
+/// The program of the keys with `WRM` and `JUN 0x123` after it, both keys, `break 0x200`, `test 0`, `run 13`, 9,263 times
+/// `poke r5 9`, the last of them after a snapshot in the second slot, and `poke r6 4`.
 pub(crate) const ALL_PLACES: File = File {
     boards: &[16_404, 81_944],
     runs: &[
@@ -148,7 +148,7 @@ pub(crate) const ALL_PLACES: File = File {
     ],
 };
 
-/// Puts these bytes into a disk, each run so far behind its place.
+/// Puts these bytes into a disk, each run so far after its place.
 fn put(rt: &impl Abort, disk: &mut MemDisk, from: usize, runs: &[(usize, &[u8], usize)]) {
     for (at, bytes, times) in runs {
         let mut place = from.saturating_add(*at);

@@ -248,7 +248,7 @@ fn all_places_of_a_snapshot(rt: HostRuntime) {
     expect_told(&rt, session.bench(), &want);
 }
 
-/// A stop behind so many calls of the disk keeps the file of one register from opening. The disk is handed back then.
+/// A stop after that many calls of the disk keeps the file of one register from opening. The disk is handed back then.
 fn stopped(alloc: Global, rt: &impl Abort, calls: usize) -> Option<FuseDisk> {
     match Session::open(
         alloc,
@@ -284,7 +284,7 @@ fn a_stop_at_each_call(rt: HostRuntime) {
         let Some(mut disk) = stopped(alloc, &rt, call) else {
             panic!(rt; "the call {call} did not fail")
         };
-        // the last four write the snapshot, sync it, write the turn, and sync it
+        // the last four write the snapshot, sync it, write the selector, and sync it
         let (length, selector) = match calls - call {
             1 => ([0, 0, 0x1A, 0xA8], 1),
             2 | 3 => ([0, 0, 0x1A, 0xA8], 0),
@@ -294,7 +294,7 @@ fn a_stop_at_each_call(rt: HostRuntime) {
         expect_bytes(&rt, &mut disk, 8, &[selector]);
         expect_register(alloc, &rt, disk);
     }
-    // the turn may have been left as anything
+    // the selector may have been left as anything
     for left in [0x7F, 0x40] {
         let Some(mut disk) = stopped(alloc, &rt, calls - 2) else {
             panic!(rt; "the turn was written")
@@ -322,7 +322,7 @@ fn a_watch_is_of_version_2(rt: HostRuntime) {
     assert_eq!(rt; session.bench().watches(), [Addr::ZERO].as_slice());
 }
 
-/// A snapshot of version 1 of a board with a ROM and so many chains of so many chips, all 0 but TEST.
+/// A snapshot of version 1 of a board with a ROM and that many chains of that many chips, all 0 but TEST.
 fn with_chains(alloc: Global, rt: &impl Abort, count: u8, chips: u8) -> MemDisk {
     let mut disk = disk_of(
         alloc,

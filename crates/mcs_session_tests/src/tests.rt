@@ -43,7 +43,7 @@ fn a_stop_inside_a_record_leaves_it_there_or_not(rt: HostRuntime) {
     expect_seq(alloc, &rt, disk, 1);
 }
 
-/// A log with one byte left for a closed gate: 9,361 records of seven bytes, and one of eight.
+/// A log with one byte left for a commit byte of 0: 9,361 records of seven bytes, and one of eight.
 fn fill_log<D: Disk + Drop>(rt: &impl Abort, session: &mut Session<D>) {
     let one = poke(rt, 0, 1);
     for _ in 0..9_361 {
@@ -68,7 +68,7 @@ fn a_full_log_gives_way_to_a_snapshot(rt: HostRuntime) {
         &[0, 0, 0x1A, 0xA8, 0, 0, 0x24, 0x92, 2],
     );
     expect_bytes(&rt, &mut disk, SECOND_LOG, &[1, 0, 4, 7, 3, 0, 2, 0]);
-    // the last byte of the first log is a closed gate
+    // the last byte of the first log is a commit byte of 0
     expect_bytes(&rt, &mut disk, 81_935, &[0]);
     let session = opened(alloc, &rt, disk);
     assert_eq!(rt; session.bench().seq(), 9_363);
@@ -120,7 +120,7 @@ fn a_log_of_many_cycles_gives_way_to_a_snapshot(rt: HostRuntime) {
     assert_eq!(rt; session.bench().regs().pc.get(), 0x901);
 }
 
-/// So many runs that count 100,000 cycles each in the log. They stop at the breakpoint 0, once round the addresses.
+/// That many runs that count 100,000 cycles each in the log. They stop at the breakpoint 0, once round the addresses.
 fn run_round<D: Disk + Drop>(rt: &impl Abort, session: &mut Session<D>, runs: u32) {
     let round = Reply::Ran {
         cycles: 4_096,
@@ -232,7 +232,7 @@ fn a_worn_session_refuses_each_command(rt: HostRuntime) {
 #[test]
 fn a_session_is_closed_after_a_fault(rt: HostRuntime) {
     let alloc = rt.alloc();
-    // the gate write fails, or the sync behind it
+    // the commit byte write fails, or the sync after it
     for (calls, seq) in [(7, 0), (8, 1)] {
         let mut session = made(alloc, &rt, fused(alloc, &rt, calls));
         assert_eq!(rt; session.apply(&poke(&rt, 5, 9)), Err(SessionFault::Device));

@@ -32,7 +32,7 @@ in_none q h = omega (arith, h.1)
 
 -- ---- lists that rise
 
--- each pair lies below those behind it
+-- each pair lies below those after it
 abbrev Rises : List (ℕ × ℕ) → Type 0
 Rises [] = Unit {0}
 Rises (p ∷ ps) = ((q : ℕ × ℕ) → Contains ps q → p.0 < q.0) × Rises ps

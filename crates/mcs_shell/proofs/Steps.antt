@@ -108,7 +108,7 @@ pub went_kept : (a : Stage) (p q : Pending) (bytes : List ℕ) → HasNoFeed p.l
 went_kept a p q bytes f g e = let P : Pending → Type 0 = λ x. WentFurther a a p x bytes in subst P (sym e)
     (went_none a p (record { mode = p.mode; line = take 16386 (p.line ++ bytes) }) bytes (HasNone-take is_line_feed 16386 (p.line ++ bytes) (HasNone-append is_line_feed p.line bytes f g)) (λ more whole. after-kept p bytes more whole f g))
 
--- nothing is unfinished behind a line feed
+-- nothing is unfinished after a line feed
 fresh_feed : (q : Pending) → q ≡ fresh → HasNoFeed q.line
 fresh_feed q e = subst (λ (x : Pending). HasNoFeed x.line) (sym e) tt
 
@@ -181,7 +181,7 @@ module _ (Last : LastStep) (back : MovesBack Last) where
     spelled = e;
   }
 
-  -- behind bytes that were served
+  -- after bytes that were served
   abbrev pub stopped_after : (a b c : Stage) (l k : Pending) (bytes more_bytes : List ℕ) → WentFurther a b l k bytes → StoppedAt Last b c k more_bytes → StoppedAt Last a c l (bytes ++ more_bytes)
   stopped_after a b c l k bytes more_bytes x y =
       let s = a.session.standing.state in
@@ -214,7 +214,7 @@ module _ (Last : LastStep) (back : MovesBack Last) where
         );
       }
 
-  -- whatever comes behind
+  -- whatever comes after
   pub stopped_before : (a b : Stage) (p : Pending) (bytes more_bytes : List ℕ) → StoppedAt Last a b p bytes → StoppedAt Last a b p (bytes ++ more_bytes)
   stopped_before a b p bytes more_bytes x = record {
     served = x.served;

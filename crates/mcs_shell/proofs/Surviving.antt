@@ -42,7 +42,7 @@ all_reached-alone : (s : BenchState) (i : Input) (o : Outcome) → all_reached s
 unfolding all_reached
 all_reached-alone s i o = nil_right (reached s i o)
 
--- one more input behind those
+-- one more input after those
 all_reached-last : (m : Standing) (served : Served) (i : Input) (o : Outcome) → Went m served
     → all_reached m.state (served ++ (i, o) ∷ []) ≡ all_commands m.state served ++ reached (state_after m.state served) i o
 all_reached-last m served i o went = all_reached-append m.state served (alone i o)

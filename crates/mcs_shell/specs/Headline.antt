@@ -40,7 +40,7 @@ inputs_met InputLimit reader reader' a b began = met_in_loop InputLimit reader r
 -- A run met these inputs, from one session to the disk that it left. Each command that it answered `ok` was acknowledged at
 -- its moment. A power cut at any time of the run left a disk (`state_of` is what contracts see of one): opened, it gives the
 -- bench as it is after a prefix of the commands answered `ok` and the one answered `no 53`, and the prefix holds each one
--- acknowledged by that time. It is refused for want of memory and for a device fault alone.
+-- acknowledged by that time. It is refused for lack of memory and for a device fault alone.
 pub record SurvivesPowerCuts {E : Type 0} (state_of : E → DiskState) (a : SessionState) (ran : DiskState) (met : Served) : Type 0 where
   pub moments : List ℕ
   pub count : length moments ≡ length (all_commands a.standing.state met)

@@ -31,7 +31,7 @@ abbrev pub opener : List (List ℕ) → Option TextKind
 opener (w ∷ []) = if bytes_eq w (codes "wire") then Some Wire else (if bytes_eq w (codes "asm") then Some Asm else None)
 opener ws = None
 
--- the text that begins behind a line, if any
+-- the text that begins after a line, if any
 unfoldable pub opened : List ℕ → Option TextKind
 opened line = if nat_lt LINE_BYTES (length line) then None else opener (words_of line)
 
@@ -64,12 +64,12 @@ judged_text kind text = text_or_fault kind text (text_fault_of text)
 
 -- ---- groups of lines
 
--- where a line stands: outside a text, or in one, behind these bytes of it
+-- where a line stands: outside a text, or in one, after these bytes of it
 pub data Mode : Type 0 where
   Commands : Mode
   InText : TextKind → List ℕ → Mode
 
--- A text is the lines behind the one that opened it, up to one that is a dot, each followed by a line feed. It has no end
+-- A text is the lines after the one that opened it, up to one that is a dot, each followed by a line feed. It has no end
 -- where input ended before that.
 unfoldable pub group : Bool → Mode → List (List ℕ) → List Input
 group whole Commands [] = []

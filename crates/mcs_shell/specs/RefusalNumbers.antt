@@ -1,4 +1,4 @@
--- The numbers that refusals are told by.
+-- The numbers that refusals are reported as.
 use Rattle.std.specs.Prelude.{ℕ}
 use Rattle.mcs_host.specs.declared.file_fault.FileFault.{FileFault}
 use Rattle.mcs_host.specs.declared.file_fault.FileFault.TheVariants as file_fault
@@ -15,20 +15,20 @@ use Rattle.mcs_shell.specs.declared.refusal.Refusal.TheVariants as refusal
 use Rattle.mcs_shell.specs.declared.texts.TextFault.{TextFault}
 use Rattle.mcs_shell.specs.declared.texts.TextFault.TheVariants as text_fault
 
--- the numbers that texts are told by that are refused whatever their lines say
+-- the numbers that texts are reported as that are refused whatever their lines say
 abbrev pub text_fault_number : TextFault → ℕ
 text_fault_number text_fault.NoEnd = NO_END
 text_fault_number text_fault.TextTooLong = TEXT_TOO_LONG
 text_fault_number text_fault.HasLongLine = LINE_TOO_LONG
 text_fault_number text_fault.HasBadByte = NOT_ASCII
 
--- the numbers that refusals to record a command are told by
+-- the numbers that refusals to record a command are reported as
 abbrev pub session_fault_number : SessionFault → ℕ
 session_fault_number (session_fault.Refused f) = bench_fault_number f
 session_fault_number session_fault.Device = DEVICE
 session_fault_number session_fault.Closed = CLOSED
 
--- the numbers that refusals to make and to open a session are told by
+-- the numbers that refusals to make and to open a session are reported as
 abbrev pub create_fault_number : CreateFault → ℕ
 create_fault_number create_fault.NotBlank = NOT_BLANK
 create_fault_number create_fault.Device = DEVICE
@@ -40,7 +40,7 @@ open_fault_number open_fault.Damaged = DAMAGED
 open_fault_number open_fault.Device = DEVICE
 open_fault_number open_fault.NoMemory = NO_MEMORY
 
--- the numbers that refusals to open a file are told by: whatever the host has against it, there is no device to work on
+-- the numbers that refusals to open a file are reported as: whatever the host has against it, there is no device to work on
 abbrev pub file_fault_number : FileFault → ℕ
 file_fault_number file_fault.InUse = DEVICE
 file_fault_number file_fault.NoLock = DEVICE
@@ -52,7 +52,7 @@ file_fault_number file_fault.NoSpace = DEVICE
 file_fault_number file_fault.Device = DEVICE
 file_fault_number file_fault.NoMemory = NO_MEMORY
 
--- the number that a refused session is told by
+-- the number that a refused session is reported as
 abbrev pub refusal_number : Refusal → ℕ
 refusal_number (refusal.File f) = file_fault_number f
 refusal_number (refusal.Create f) = create_fault_number f

@@ -34,17 +34,17 @@ pub record ServedSome (Given : SessionState → Type 0) (Last : LastStep) (given
   pub written : Appends a.out middle (transcript a.session.standing.state served)
   pub ended : Last Given a.session (all_commands a.session.standing.state served) (standing_after a.session.standing (all_commands a.session.standing.state served)) last middle b
 
--- input ended behind these bytes: the reader has nothing left, and more would have been read
+-- input ended after these bytes: the reader has nothing left, and more would have been read
 pub record InputEnded (bytes : List ℕ) (left : Option (List ℕ)) : Type 0 where
   pub below_limit : length bytes < INPUT_BYTES
   pub at_end : IsAtEnd left
 
--- the bytes that were read are no more than the limit, and whole only where input ended behind them
+-- the bytes that were read are no more than the limit, and whole only where input ended after them
 pub record WasRead (whole : Bool) (bytes : List ℕ) (left : Option (List ℕ)) : Type 0 where
   pub within_limit : length bytes ≤ INPUT_BYTES
   pub ended : whole ≡ true → InputEnded bytes left
 
--- no more than so many bytes were read ahead of what was answered: these inputs are those of the bytes before, and maybe more
+-- no more than that many bytes were read ahead of what was answered: these inputs are those of the bytes before, and maybe more
 pub record IsNear (bytes : List ℕ) (answered : List Input) : Type 0 where
   pub before : List ℕ
   pub ahead : List ℕ

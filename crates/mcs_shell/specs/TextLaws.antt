@@ -14,7 +14,7 @@ abbrev pub HasNoDot : List (List ℕ) → Type 0
 HasNoDot [] = Unit {0}
 HasNoDot (l ∷ ls) = (is_dot_line l ≡ false) × HasNoDot ls
 
--- a line that opens a text, lines of which none is a dot, and a dot: they are one input, and the lines behind are judged as
+-- a line that opens a text, lines of which none is a dot, and a dot: they are one input, and the lines after are judged as
 -- if nothing had come before
 abbrev pub TextEndsAtDot : Type 0
 TextEndsAtDot = (whole : Bool) (kind : TextKind) (line : List ℕ) (text rest : List (List ℕ)) → opened line ≡ Some kind → HasNoDot text

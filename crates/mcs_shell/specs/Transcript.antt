@@ -108,7 +108,7 @@ ChangeMayEnd true s c Device = refusal s c ≡ None
 ChangeMayEnd false s c Closed = Unit {0}
 ChangeMayEnd live s c o = ⊥
 
--- a question may want memory for its answer
+-- a question may need memory for its answer
 abbrev pub RequestMayEnd : Standing → Request → Outcome → Type 0
 RequestMayEnd m (Change c) o = ChangeMayEnd m.live m.state c o
 RequestMayEnd m (Ask q) NoMemory = takes_memory q ≡ true

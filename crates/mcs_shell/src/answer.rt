@@ -17,7 +17,7 @@ use std::alloc::{AllocError, Global};
 use std::io::Write;
 use std::marker::Model;
 
-/// The answer to one input: a short text, and where it takes memory a long one behind it.
+/// The answer to one input: a short text, and where it takes memory a long one after it.
 #[derive(Drop)]
 pub struct Answer {
     short: ArrayVec<u8, ANSWER_BYTES>,

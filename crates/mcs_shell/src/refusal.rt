@@ -18,7 +18,7 @@ pub enum Refusal {
 }
 
 impl Refusal {
-    /// The number that it is told by.
+    /// The number that it is reported as.
     pub fn number(self) -> u8
         ensures { result ≡ refusal_number self }
     {

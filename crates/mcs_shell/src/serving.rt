@@ -75,7 +75,7 @@ pub(crate) fn serve_no_end<W: Write, D: Disk + Drop>(
     deliver(Outcome::Plain, &answer, writer)
 }
 
-/// Ends the unfinished line, as a line feed behind it does.
+/// Ends the unfinished line, as a line feed after it does.
 pub(crate) fn end_line<W: Write, D: Disk + Drop>(
     alloc: Global,
     unfinished: &mut Unfinished,
@@ -121,7 +121,7 @@ pub(crate) fn end_line<W: Write, D: Disk + Drop>(
     }
 }
 
-/// The bytes before the first line feed, and those behind it; or none, where there is no line feed.
+/// The bytes before the first line feed, and those after it; or none, where there is no line feed.
 fn split_line(bytes: &[u8]) -> Option<(&[u8], &[u8])>
     ensures { MatchOption result (HasNoFeed bytes.now) (λ p. HasNoFeed p.0.now × (bytes.now ≡ p.0.now ++ 10 ∷ p.1.now)) }
 {

@@ -47,7 +47,7 @@ fn end_of(halt: Halt) -> ShellEnd
     }
 }
 
-/// Refuses the text that is open where input has ended behind a whole line.
+/// Refuses the text that is open where input has ended after a whole line.
 fn finish_text<W: Write, D: Disk + Drop>(
     unfinished: &Unfinished,
     writer: &mut W,

@@ -39,7 +39,7 @@ pub enum TextFault {
 }
 
 impl TextFault {
-    /// The number that the refusal is told by.
+    /// The number that the refusal is reported as.
     pub fn number(self) -> u8
         ensures { result ≡ text_fault_number self }
     {
@@ -52,7 +52,7 @@ impl TextFault {
     }
 }
 
-/// The text that begins behind a line, if any.
+/// The text that begins after a line, if any.
 #[tactic(auto, unfolding(crate::specs::Inputs::opened))]
 pub fn opens(line: &[u8]) -> Option<TextKind>
     ensures { result ≡ opened line.now }

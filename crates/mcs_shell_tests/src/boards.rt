@@ -11,7 +11,7 @@ const CHIPS: &[u8] =
 /// Its chain, up to the number of chips.
 const CHAIN: &[u8] = b"[[chain]]\nclock = \"rom0.0\"\ndata = \"rom0.1\"\nchips = ";
 
-/// Its keys, up to their first row in the chain, and behind it.
+/// Its keys, up to their first row in the chain, and after it.
 const KEYS: &[u8] = b"[keys]\nchain = 0\nfirst = ";
 
 const COLUMNS: &[u8] =

@@ -14,7 +14,7 @@ use std::alloc::Global;
 use std::io::{self, Read, Write};
 use std::test::Fail;
 
-/// Takes all bytes, but for so many writes that fail behind the first of them.
+/// Takes all bytes, except for that many writes that fail after the first of them.
 #[derive(Drop)]
 struct CutWriter {
     held: Vec<u8>,
@@ -72,7 +72,7 @@ fn the_reader_fails_after_each_count_of_bytes(rt: HostRuntime) -> Result<(), Fai
             let (end, written) = run(alloc, reader)?;
             assert_eq!(rt; end, ShellEnd::ReadFault);
             assert_eq!(rt; status(end), 1);
-            // the lines end behind 10, 14 and 19 bytes, and their answers behind 15, 21 and all
+            // the lines end after 10, 14 and 19 bytes, and their answers after 15, 21 and all
             let told = match left {
                 0..10 => 10,
                 10..14 => 15,

@@ -61,7 +61,7 @@ fn a_full_log_makes_room(rt: HostRuntime) -> Result<(), Fail> {
     let alloc = rt.alloc();
     let mut session = new_session(alloc)?;
     let poke = Command::Poke(Place::Register(RegNo::ZERO, Nibble::ONE));
-    // the records of so many have room in the first log
+    // the records of that many have room in the first log
     for _ in 0..9_362 {
         assert_eq!(rt; session.apply(&poke), Ok(Reply::Done));
     }

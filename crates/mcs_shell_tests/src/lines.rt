@@ -40,7 +40,7 @@ const LINES: [(&[u8], &[u8]); 29] = [
     (b"poke r0 0", b"ok 1\n"),
 ];
 
-/// Each line is answered so where it ends with a line feed, and where input ends behind it.
+/// Each line is answered so where it ends with a line feed, and where input ends after it.
 fn expect_each(
     rt: &impl Abort,
     alloc: Global,

@@ -11,7 +11,7 @@ use std::io::{self, Read};
 use std::process::Abort;
 use std::test::Fail;
 
-/// Gives these bytes, but for so many reads that fail behind the first of them.
+/// Gives these bytes, except for that many reads that fail after the first of them.
 #[derive(Drop)]
 pub(crate) struct CutReader<'a> {
     pub(crate) bytes: &'a [u8],
@@ -71,7 +71,7 @@ pub(crate) fn run<R: Read + Drop>(
     Ok(serve(alloc, &mut reader, &mut session))
 }
 
-/// The pieces, one behind the other.
+/// The pieces, one after the other.
 fn joined(alloc: Global, pieces: &[&[u8]]) -> Result<Vec<u8>, AllocError> {
     let mut bytes = Vec::new(alloc);
     for piece in pieces {

@@ -42,7 +42,7 @@ fn texts_are_judged(rt: HostRuntime) -> Result<(), Fail> {
     expect_each(&rt, rt.alloc(), &JUDGED)
 }
 
-/// A program of 63 lines of 256 bytes with their line feeds, and one of so many bytes behind them, is answered so.
+/// A program of 63 lines of 256 bytes with their line feeds, and one of that many bytes after them, is answered so.
 fn expect_of_size(rt: &impl Abort, alloc: Global, last: &[u8], answers: &[u8]) -> Result<(), Fail> {
     let mut lines = Vec::new(alloc);
     for _ in 0..63 {
@@ -76,7 +76,7 @@ const CUT: &[u8] = b"seq\nasm\n;ab\n.\nseq\n";
 
 const CUT_ANSWERED: &[u8] = b"session 0\nseq 0\nok 1 bytes 0\nseq 1\n";
 
-/// The reader gives the text in two pieces, or fails behind the first one, where so many of the answers are told.
+/// The reader gives the text in two pieces, or fails after the first one, where that many of the answers are told.
 fn expect_cut(rt: &impl Abort, alloc: Global, left: usize, told: usize) -> Result<(), Fail> {
     for failures in 0..2 {
         let reader = CutReader {

@@ -9,7 +9,7 @@ const WRITES: &[u8] =
 
 #[test]
 fn a_run_stops_where_a_watched_character_changes(rt: HostRuntime) -> Result<(), Fail> {
-    // so many cycles, or just those that the change takes
+    // that many cycles, or just those that the change takes
     for first in [b"run 10\n".as_slice(), b"run 2\n"] {
         expect_answers(
             &rt,

@@ -12,7 +12,7 @@ use std::test::Fail;
 const WORKED_BOARD: &[u8] =
     b"wire\n[[rom]]\nchip = 0\nport = \"0000\"\n[[rom]]\nchip = 1\nport = \"iiii\"\n[[rom]]\nchip = 2\nport = \"iiii\"\n[[ram]]\nbank = 0\nchips = 1\n[[ram]]\nbank = 1\nchips = 1\n[[chain]]\nclock = \"rom0.0\"\ndata = \"rom0.1\"\nchips = 1\n[keys]\nchain = 0\nfirst = 0\nrows = 10\ncolumns = [\"rom1.0\", \"rom1.1\", \"rom1.2\", \"rom1.3\", \"rom2.0\", \"rom2.1\", \"rom2.2\", \"rom2.3\"]\n[[lamp]]\nline = \"chain0.0\"\n[[lamp]]\nline = \"chain0.1\"\n[[lamp]]\nline = \"ram0.0.3\"\n.\n";
 
-/// Runs each script in a session of its own, behind some lines and their answers.
+/// Runs each script in a session of its own, after some lines and their answers.
 fn run_all(
     rt: &impl Abort,
     alloc: Global,

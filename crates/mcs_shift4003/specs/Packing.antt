@@ -16,7 +16,7 @@ bit_before level words (suc i) = packed_bit words i
 unfoldable pub chain_bits_of : ℕ → List ℕ → List ℕ
 chain_bits_of bits words = tabled bits (packed_bit words)
 
--- words that hold so many bits and nothing else
+-- words that hold that many bits and nothing else
 pub record IsPacked (bits : ℕ) (words : List ℕ) : Type 0 where
   pub used : length words ≡ (bits + 9) / 10
   pub ten : (k : ℕ) → slice_index words k < 1024

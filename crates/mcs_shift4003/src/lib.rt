@@ -89,7 +89,7 @@ fn shift_words(words: &mut [u16], level: Bit)
     }
 }
 
-/// Moves each of so many bits one place up, where bit 0 takes in a level and the last bit is lost.
+/// Moves each of that many bits one place up, where bit 0 takes in a level and the last bit is lost.
 fn shift_bits(words: &mut [u16], bits: usize, level: Bit)
     requires { IsPacked bits words.old }
     ensures len { length words.new ≡ length words.old }

@@ -130,7 +130,7 @@ abbrev pub before_with_line : Before → Option Line → Result Before SourceFau
 before_with_line b None = Err BadStatement
 before_with_line b (Some line) = unless_fault (fault_one b line) (before_next b line)
 
--- a fault with the number of its line, or what comes of the lines behind
+-- a fault with the number of its line, or what comes of the lines after
 abbrev pub then_lines : {A B : Type 0} → ℕ → Result A SourceFault → (A → Result B (ℕ × SourceFault)) → Result B (ℕ × SourceFault)
 then_lines k (Err f) next = Err (k, f)
 then_lines k (Ok b) next = next b
@@ -170,7 +170,7 @@ abbrev pub if_on_page : {B : Type 0} → Bool → Result B SourceFault → Resul
 if_on_page false next = Err WrongPage
 if_on_page true next = next
 
--- JCN and ISZ reach the page of the address behind their two words (MCS-4 Users Manual, JCN and ISZ)
+-- JCN and ISZ reach the page of the address after their two words (MCS-4 Users Manual, JCN and ISZ)
 abbrev pub is_near : ℕ → ℕ → Bool
 is_near at t = t / 256 == page_of (at + 2)
 

@@ -157,7 +157,7 @@ pub data Line : Type 0 where
   Code : Option (List ℕ) → Option Statement → Line
   Define : List ℕ → ℕ → Line
 
--- what stands behind a label, or in front where there is none
+-- what stands after a label, or in front where there is none
 abbrev pub rest_of : Option (List ℕ) → List Token → Option Line
 rest_of label [] = Some (Code label None)
 rest_of label (t ∷ ts) = statement_of (t ∷ ts) >>= λ s. Some (Code label (Some s))

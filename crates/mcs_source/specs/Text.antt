@@ -139,6 +139,6 @@ listing_lines (suc most) at [] = []
 listing_lines (suc most) at (b ∷ rest) =
     listed_line at b rest (op_at b rest) ∷ listing_lines most (at + piece_size (op_at b rest)) (drop (piece_size (op_at b rest) - 1) rest)
 
--- the listing of a ROM from an address on: so many lines, or fewer where address FFF comes first; each ends with LF
+-- the listing of a ROM from an address on: that many lines, or fewer where address FFF comes first; each ends with LF
 abbrev pub listing_text : List ℕ → ℕ → ℕ → List ℕ
 listing_text rom from lines = flat_map as_line (listing_lines lines from (drop from rom))

@@ -35,7 +35,7 @@ pub enum SourceFault {
 }
 
 impl SourceFault {
-    /// The number that the refusal is told by.
+    /// The number that the refusal is reported as.
     pub fn number(self) -> u8
         ensures { result ≡ source_fault_number self }
     {

@@ -135,12 +135,12 @@ const PROGRAMS: [ImageRow; 22] = [
     ),
     // Lines without a statement, CR at their ends.
     ("\r\n\t \n;only \u{e4}\r\n a:\r\nLDM 00015\r", &[(0, 0xDF)]),
-    // A lower address behind a higher one.
+    // A lower address after a higher one.
     (
         "ORG 2\nNOP\nORG 0\nLDM 1\nCLC\n",
         &[(0, 0xD1), (1, 0xF1), (2, 0)],
     ),
-    // The last addresses; behind them stands page 0.
+    // The last addresses; after them stands page 0.
     ("ORG 4094\nJUN 0\nORG 0\n", &[(0xFFE, 0x40), (0xFFF, 0)]),
     (
         "ORG 0xFFE\nJCN 10, 0x0BC\n",
@@ -316,7 +316,7 @@ fn lines_without_a_form_are_refused(rt: HostRuntime) -> Result<(), Fail> {
     Ok(())
 }
 
-/// The definitions of so many names, one a line, and a last line.
+/// The definitions of that many names, one a line, and a last line.
 fn names_and(alloc: Global, count: u32, last: &str) -> Result<String, AllocError> {
     let mut text = String::new(alloc);
     for n in 0..count {

@@ -1,4 +1,4 @@
--- Version 1 of what commands do: the commands but for those that watch.
+-- Version 1 of what commands do: the commands except for those that watch.
 use Rattle.std.specs.Prelude.{Bool, true, false, ◌+◌, ◌==◌, ◌&&◌, ◌||◌, length, Option, Some, None, nat_lt, nat_le, slice_set, if◌then◌else◌}
 use Rattle.std.specs.List.{list_any}
 use Rattle.mcs_model.specs.declared.command.Command.{Command}
@@ -70,7 +70,7 @@ with_place_1 s (Rom at byte) = with_bus_1 s (with_rom_byte s.bus at byte)
 with_place_1 s (Ram bank src n) = with_bus_1 s (with_ram s.bus bank src n)
 with_place_1 s (Status bank high k n) = with_bus_1 s (with_status s.bus bank high k n)
 
--- what a command does, but for the count of commands
+-- what a command does, except for the count of commands
 abbrev pub changed_1 : BenchState1 → Command → BenchState1
 changed_1 s (Wire board) = with_machine_1 s (new_regs, after_wire s.bus board)
 changed_1 s (Load image) = with_bus_1 s (with_rom_bytes s.bus image)

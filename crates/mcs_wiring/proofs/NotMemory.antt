@@ -1,4 +1,4 @@
--- No board of a table is refused for want of memory.
+-- No board of a table is refused for lack of memory.
 use Rattle.std.proofs.Common.{◌≡◌, Bool, true, false, Result, Err, if◌then◌else◌}
 use Rattle.toml.specs.Data.{Members}
 use Rattle.mcs_model.specs.declared.board.BoardParts.{BoardParts}

@@ -30,11 +30,11 @@ number_below limit text = None
 
 -- ---- lines: `romC.K`, `ramB.C.K`, `chainN.I`
 
--- what stands behind a word, if the text begins with it
+-- what stands after a word, if the text begins with it
 abbrev pub rest_behind : List ℕ → List ℕ → Option (List ℕ)
 rest_behind word text = if bytes_eq (take (length word) text) word then Some (drop (length word) text) else None
 
--- what stands before and behind the first dot
+-- what stands before and after the first dot
 abbrev pub parts_around_dot : List ℕ → Option (List ℕ × List ℕ)
 parts_around_dot text =
     if nat_lt (position_or_len (λ b. b == 46) text) (length text)

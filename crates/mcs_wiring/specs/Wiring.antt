@@ -107,7 +107,7 @@ chain_in ms =
     number_at (codes "chips") 1 CHAIN_CHIPS ms >>= (λ chips.
     Some (record { clock = clock; data_in = data_in; chips = chips }))))
 
--- a key matrix, but for columns that are no line
+-- a key matrix, except for columns that are no line
 abbrev pub matrix_in : Members → Option KeyMatrix
 matrix_in ms =
     number_at (codes "chain") 0 (CHAINS - 1) ms >>= (λ chain.

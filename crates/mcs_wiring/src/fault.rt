@@ -40,7 +40,7 @@ pub enum WiringFault {
 }
 
 impl WiringFault {
-    /// The number that the refusal is told by.
+    /// The number that the refusal is reported as.
     pub fn number(self) -> u8
         ensures { result ≡ wiring_fault_number self }
     {

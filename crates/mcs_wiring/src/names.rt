@@ -18,7 +18,7 @@ fn number_below(text: &str, limit: u8) -> Option<u8>
     if n < limit { Some(n) } else { None }
 }
 
-/// Behind `rom`: the chip, a dot and the line.
+/// After `rom`: the chip, a dot and the line.
 fn rom_line(text: &str) -> Option<Line>
     ensures { result ≡ rom_line text.now }
 {
@@ -28,7 +28,7 @@ fn rom_line(text: &str) -> Option<Line>
     Some(Line::Rom(chip, k))
 }
 
-/// Behind `ram`: the bank, a dot, the chip, a dot and the line.
+/// After `ram`: the bank, a dot, the chip, a dot and the line.
 fn ram_line(text: &str) -> Option<Line>
     ensures { result ≡ ram_line text.now }
 {
@@ -40,7 +40,7 @@ fn ram_line(text: &str) -> Option<Line>
     Some(Line::Ram(bank, chip, k))
 }
 
-/// Behind `chain`: the chain, a dot and the bit.
+/// After `chain`: the chain, a dot and the bit.
 fn chain_line(text: &str) -> Option<Line>
     ensures { result ≡ chain_line text.now }
 {

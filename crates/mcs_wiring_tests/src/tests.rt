@@ -23,7 +23,7 @@ fn joined(alloc: Global, first: &str, second: &str) -> Result<String, Fail> {
     Ok(text)
 }
 
-/// A piece so many times.
+/// A piece that many times.
 fn repeated(alloc: Global, piece: &str, times: u8) -> Result<String, Fail> {
     let mut text = String::new(alloc);
     for _ in 0..times {
@@ -101,7 +101,7 @@ fn worked_refusals(rt: HostRuntime) -> Result<(), Fail> {
     Ok(())
 }
 
-/// The text of the board with a matrix and lamps, its chain of so many chips and its first row at a bit of that.
+/// The text of the board with a matrix and lamps, its chain of that many chips and its first row at a bit of that.
 fn long_chain(alloc: Global, chips: u8, first: u8) -> Result<String, Fail> {
     let (before, after) = MATRIX_AND_LAMPS
         .split_once("chips = 1\n[keys]\nchain = 0\nfirst = 0\n")
@@ -370,7 +370,7 @@ fn parts_of_a_board(rt: HostRuntime) -> Result<(), Fail> {
             "{times} times {piece}"
         );
     }
-    // A fault behind the limit is seen too.
+    // A fault after the limit is seen too.
     for (last, number) in [
         ("[[rom]]\nchip = 16\nport = \"0000\"", 23),
         ("[[rom]]\nchip = 0", 22),

@@ -2,7 +2,7 @@ use Rattle.std.proofs.Common.{refl, List, ℕ}
 use Rattle.mcs_host.specs.declared.file_disk.FileDisk.{FileDisk}
 use Rattle.mcs_host.proofs.laws.each_image_may_be_found.Goals as goal
 
--- what was told of a file, left behind all of its calls, with these bytes found
+-- what was told of a file, left after all of its calls, with these bytes found
 abbrev left_with : FileDisk → List ℕ → FileDisk
 left_with file c = record file { history = record file.history { calls_by_the_end = file.history.calls; found = c } }
 

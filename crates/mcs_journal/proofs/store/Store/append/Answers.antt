@@ -9,7 +9,7 @@ use Rattle.mcs_journal.proofs.Contents.{start_bounds}
 use Rattle.mcs_journal.proofs.Logs.{spelled-push, length-framed}
 use Rattle.mcs_journal.proofs.store.Store.append.Goals as goal
 
--- where the gate stands
+-- where the commit byte stands
 gate_of : (disk : DiskState) (slot : Slot) (start used n : ℕ) (snap : List ℕ) (records : List (List ℕ)) → start ≡ start_of slot → IsSettledStore disk slot used → HasRoom used n → Holds disk.bytes snap records → IsCommitPlace disk.bytes records (start + 16384 + used) n
 gate_of disk slot start used n snap records at settled room held =
     let same : length (spelled settled.records) ≡ length (spelled records) = ap (λ (l : List (List ℕ)). length (spelled l)) (same_pair _ _ _ _ _ settled.holds held) in
