@@ -9,8 +9,8 @@ ghost use Rattle.mcs_journal.specs.Writing.{IsHeader, IsNext, IsNoRecord, IsSnap
 use crate::bytes::Bytes;
 use crate::fault::OpenFault;
 use crate::format::{
-    AREA_SIZE, HEADER_SIZE, LOG_SIZE, MOST_RECORD, MOST_SNAPSHOT, NAME, NAME_SIZE, COMMITTED,
-    RECORD_PLACE, SNAPSHOT_PLACE, SELECTOR_PLACE, ZEROS, ZEROS_PLACE,
+    AREA_SIZE, COMMITTED, HEADER_SIZE, LOG_SIZE, MOST_RECORD, MOST_SNAPSHOT, NAME, NAME_SIZE,
+    RECORD_PLACE, SELECTOR_PLACE, SNAPSHOT_PLACE, ZEROS, ZEROS_PLACE,
 };
 use crate::slot::Slot;
 use mcs_disk::{Disk, DiskFault};

@@ -9,8 +9,8 @@ ghost use Rattle.mcs_journal.specs.Writing.{Commits, IsArea, IsCommitPlace, othe
 
 use crate::fault::CreateFault;
 use crate::format::{
-    AREA_SIZE, NOT_COMMITTED, FIRST_HEADER, HEADER_SIZE, COMMITTED, RECORD_PLACE, SNAPSHOT_PLACE,
-    SELECTOR_PLACE,
+    AREA_SIZE, COMMITTED, FIRST_HEADER, HEADER_SIZE, NOT_COMMITTED, RECORD_PLACE, SELECTOR_PLACE,
+    SNAPSHOT_PLACE,
 };
 use crate::reading::read_at;
 use crate::slot::Slot;
@@ -63,7 +63,11 @@ pub fn add_record<D: Disk>(
         (λ c. Holds c snap (records ++ payload.now ∷ [])) result }
 {
     encode_record(buffer, payload);
-    commit(disk, commit_byte + 1, &buffer[..payload.len() + RECORD_PLACE])?;
+    commit(
+        disk,
+        commit_byte + 1,
+        &buffer[..payload.len() + RECORD_PLACE],
+    )?;
     commit(disk, commit_byte, &[COMMITTED])
 }
 

@@ -14,13 +14,14 @@ ghost use Rattle.mcs_keypad.specs.Keys.{KeyState, no_matrix, IsByteOf, is_down};
 
 use arrayvec::ArrayVec;
 use mcs_model::board::{KeyMatrix, Line};
-use mcs_model::limits::{KEYS, KEY_COLUMNS, KEY_ROWS, ROMS};
+use mcs_model::limits::{KEY_COLUMNS, KEY_ROWS, KEYS, ROMS};
 use mcs_nibble::{Bit, Nibble};
 use mcs_shift4003::Chain;
 use std::marker::Model;
 
 // A byte for each row, and one for each line of each ROM.
 const ROW_BYTES: usize = KEY_ROWS as usize;
+
 const LINE_BYTES: usize = 4 * ROMS;
 
 /// The keys of a matrix. A board without keys has a matrix of no rows and no columns. Contracts see the matrix and its

@@ -7,7 +7,7 @@ ghost use Rattle.mcs_lines.specs.Words.{is_plain_byte, words_of};
 
 use crate::numbers::{address, bank, bit, byte};
 use crate::places::read_poke;
-use crate::words::{is_plain_byte, equals, next_word};
+use crate::words::{equals, is_plain_byte, next_word};
 use mcs_model::command::Command;
 use mcs_model::limits::LISTING_LINES;
 use mcs_model::numeral::number_within;

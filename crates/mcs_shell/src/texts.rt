@@ -6,7 +6,7 @@ ghost use Rattle.mcs_shell.specs.Lines.{is_line_feed};
 ghost use Rattle.mcs_shell.specs.Inputs.{text_fault_of, is_dot_line, is_short, is_text_byte, opened};
 ghost use Rattle.mcs_shell.specs.RefusalNumbers.{text_fault_number};
 
-use mcs_lines::words::{is_plain_byte, equals, next_word};
+use mcs_lines::words::{equals, is_plain_byte, next_word};
 use mcs_model::limits::{LINE_BYTES, TEXT_BYTES};
 use mcs_model::refusal_numbers;
 use std::str;
