@@ -20,8 +20,8 @@ use Rattle.mcs_bench.proofs.Filling.{IsFilled, filled-none, filled-set, filled-k
 
 -- ---- a number set
 
-turned : {A : Type 0} (a b : ℕ) (x y : A) → cond (nat_lt a b) x y ≡ cond (nat_le b a) y x
-turned a b x y =
+ran : {A : Type 0} (a b : ℕ) (x y : A) → cond (nat_lt a b) x y ≡ cond (nat_le b a) y x
+ran a b x y =
     elim (cases_lt a b) [
       | inl l ↦ (let lt : nat_lt a b ≡ true = grind (arith, nat_tests) in let le : nat_le b a ≡ false = grind (arith, nat_tests) in rw (lt, le) refl)
       | inr g ↦ (let lt : nat_lt a b ≡ false = grind (arith, nat_tests) in let le : nat_le b a ≡ true = grind (arith, nat_tests) in rw (lt, le) refl)
@@ -39,24 +39,24 @@ pub set-ram : (s : BusState) (i bank src m n : ℕ) → bank ≡ i / 256 → src
 unfolding with_ram
 set-ram s i bank src m n b c e =
     let place : i / 256 * 256 + i % 256 ≡ i = omega arith in
-    rw (b, c, e, place) (turned (i % 256 / 64) (slice_index s.board.banks (i / 256)) (record s { ram = slice_set s.ram i n }) s)
+    rw (b, c, e, place) (ran (i % 256 / 64) (slice_index s.board.banks (i / 256)) (record s { ram = slice_set s.ram i n }) s)
 
 pub set-status : (s : BusState) (i bank high k m n : ℕ) → bank ≡ i / 64 → high ≡ i % 64 / 4 → k ≡ i % 4 → m ≡ n → with_status s bank high k m ≡ with_number s StatusCharacters i n
 unfolding with_status
 set-status s i bank high k m n b h c e =
     let place : i / 64 * 64 + (i % 64 / 4 * 4 + i % 4) ≡ i = omega arith in
     let chip : i % 64 / 4 / 4 ≡ i % 64 / 16 = omega arith in
-    rw (b, h, c, e, place, chip) (turned (i % 64 / 16) (slice_index s.board.banks (i / 64)) (record s { status = slice_set s.status i n }) s)
+    rw (b, h, c, e, place, chip) (ran (i % 64 / 16) (slice_index s.board.banks (i / 64)) (record s { status = slice_set s.status i n }) s)
 
 pub set-port : (s : BusState) (i bank chip m n : ℕ) → bank ≡ i / 4 → chip ≡ i % 4 → m ≡ n → with_ram_latch s bank chip m ≡ with_number s RamPorts i n
 unfolding with_ram_latch
 set-port s i bank chip m n b c e =
     let place : i / 4 * 4 + i % 4 ≡ i = omega arith in
-    rw (b, c, e, place) (turned (i % 4) (slice_index s.board.banks (i / 4)) (record s { ram_ports = slice_set s.ram_ports i n }) s)
+    rw (b, c, e, place) (ran (i % 4) (slice_index s.board.banks (i / 4)) (record s { ram_ports = slice_set s.ram_ports i n }) s)
 
 pub set-src : (s : BusState) (i bank n : ℕ) → bank ≡ i → with_ram_src s bank n ≡ with_number s BankSrcs i n
 unfolding with_ram_src
-set-src s i bank n b = rw b (turned 0 (slice_index s.board.banks i) (record s { ram_src = slice_set s.ram_src i n }) s)
+set-src s i bank n b = rw b (ran 0 (slice_index s.board.banks i) (record s { ram_src = slice_set s.ram_src i n }) s)
 
 -- ---- lists in the place of others
 

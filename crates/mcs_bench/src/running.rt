@@ -70,7 +70,7 @@ fn run_instruction<const WATCHED: bool>(
     requires free { cpu.old.owed ≢ 1 }
     requires some { 0 < left }
     requires watched { WATCHED ≡ false → watches.now ≡ [] }
-    ensures turned { InstructionRan left (record cpu.old { pc = at }, rig.old) (record cpu.new { pc = result.0 }, rig.new) result.1 }
+    ensures ran { InstructionRan left (record cpu.old { pc = at }, rig.old) (record cpu.new { pc = result.0 }, rig.new) result.1 }
     ensures owes { cpu.new.owed ≡ 1 → result.1 ≡ left }
     ensures seen { Seen watches.now (record cpu.old { pc = at }, rig.old) result.1 result.2 }
 {

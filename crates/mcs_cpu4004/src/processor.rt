@@ -94,7 +94,7 @@ impl Cpu {
     pub fn run_instruction<B: Bus>(&mut self, bus: &mut B, at: Addr, left: u32) -> (Addr, u32)
         requires free { self.old.owed ≢ 1 }
         requires some { 0 < left }
-        ensures turned { InstructionRan left (record self.old { pc = at }, B.flat bus.old) (record self.new { pc = result.0 }, B.flat bus.new) result.1 }
+        ensures ran { InstructionRan left (record self.old { pc = at }, B.flat bus.old) (record self.new { pc = result.0 }, B.flat bus.new) result.1 }
         ensures owes { self.new.owed ≡ 1 → result.1 ≡ left }
         ensures counter { self.new.pc ≡ self.old.pc }
     {

@@ -258,7 +258,7 @@ pub(crate) fn expect_most_cycles(alloc: Global, rt: &impl Abort, mut file: Vec<u
 }
 
 /// The place of one of the first commit bytes of a log, from its begin on.
-fn commit_byte(file: &[u8], log: usize, number: usize) -> usize {
+fn commit_at(file: &[u8], log: usize, number: usize) -> usize {
     let mut at = log;
     for _ in 0..number {
         match file.get(at..) {
@@ -283,7 +283,7 @@ fn range_of(right: &[u8], numbers: &mut Numbers) -> (usize, usize) {
     };
     let log = snapshot.saturating_add(16_384);
     let number = numbers.below(8);
-    let commit_byte = commit_byte(right, log, number);
+    let commit_at = commit_at(right, log, number);
     match numbers.below(8) {
         // a byte of the snapshot, of the log, or any
         0 => (snapshot.saturating_add(numbers.below(7_000)), 1),
@@ -296,9 +296,9 @@ fn range_of(right: &[u8], numbers: &mut Numbers) -> (usize, usize) {
         ),
         // the length of the snapshot, or of a record
         4 => (snapshot.saturating_add(2), 2),
-        5 => (commit_byte.saturating_add(1), 2),
+        5 => (commit_at.saturating_add(1), 2),
         // a commit byte
-        6 => (commit_byte, 1),
+        6 => (commit_at, 1),
         // all after the name, or after some of the snapshot
         _ => (8usize.saturating_add(numbers.below(20)), FILE_SIZE),
     }

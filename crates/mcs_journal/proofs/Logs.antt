@@ -18,8 +18,8 @@ AreRecords-push [] r all ok = (ok, tt)
 AreRecords-push (x ∷ rs) r all ok = (all.0, AreRecords-push rs r all.1 ok)
 
 -- what stands after the commit byte doesn't matter
-pub behind_gate : (rs : List (List ℕ)) (n : ℕ) (log c : List ℕ) → IsLog rs log → Torn (length (spelled rs) + 1) n log c → IsLog rs c
-behind_gate rs n log c old torn =
+pub after_commit : (rs : List (List ℕ)) (n : ℕ) (log c : List ℕ) → IsLog rs log → Torn (length (spelled rs) + 1) n log c → IsLog rs c
+after_commit rs n log c old torn =
     let p = spelled rs ++ old.commit_byte ∷ [] in
     let as_p : log ≡ p ++ old.rest = old.is ∙ sym (append_assoc (spelled rs) (old.commit_byte ∷ []) old.rest) in
     let long : length p ≡ length (spelled rs) + 1 = omega (arith, length-append (spelled rs) (old.commit_byte ∷ [])) in
@@ -43,7 +43,7 @@ pub record IsStaged (rs : List (List ℕ)) (r log : List ℕ) : Type 0 where
 pub staged : (rs : List (List ℕ)) (r log c : List ℕ) → IsLog rs log → Torn (length (spelled rs) + 1) (length r + 3) log c → part (length (spelled rs) + 1) (length r + 3) c ≡ be16 (length r) ++ r ++ 0 ∷ [] → IsStaged rs r c
 staged rs r log c old torn here =
     let n = length (spelled rs) + 1 in
-    let next = behind_gate rs (length r + 3) log c old torn in
+    let next = after_commit rs (length r + 3) log c old torn in
     let bytes = be16 (length r) ++ r ++ 0 ∷ [] in
     let p = spelled rs ++ next.commit_byte ∷ [] in
     let long : length p ≡ n = omega (arith, length-append (spelled rs) (next.commit_byte ∷ [])) in
@@ -58,8 +58,8 @@ staged rs r log c old torn here =
     }
 
 -- the commit byte decides
-pub gate_open : (rs : List (List ℕ)) (r rest : List ℕ) (commit_byte : ℕ) → AreRecords rs → IsRecord r → commit_byte ≡ 1 → IsLog (rs ++ r ∷ []) (spelled rs ++ commit_byte ∷ ((be16 (length r) ++ r ++ 0 ∷ []) ++ rest))
-gate_open rs r rest commit_byte ok good one = record {
+pub commit_set : (rs : List (List ℕ)) (r rest : List ℕ) (commit_byte : ℕ) → AreRecords rs → IsRecord r → commit_byte ≡ 1 → IsLog (rs ++ r ∷ []) (spelled rs ++ commit_byte ∷ ((be16 (length r) ++ r ++ 0 ∷ []) ++ rest))
+commit_set rs r rest commit_byte ok good one = record {
   commit_byte = 0;
   rest = rest;
   is =
@@ -71,18 +71,18 @@ gate_open rs r rest commit_byte ok good one = record {
   records_ok = AreRecords-push rs r ok good;
 }
 
-pub gate_either : (rs : List (List ℕ)) (r log c : List ℕ) → IsStaged rs r log → IsRecord r → Torn (length (spelled rs)) 1 log c → (get_or c (length (spelled rs)) 0 ≡ 1 → IsLog (rs ++ r ∷ []) c) × (get_or c (length (spelled rs)) 0 ≢ 1 → IsLog rs c)
-gate_either rs r log c old good torn =
+pub commit_either : (rs : List (List ℕ)) (r log c : List ℕ) → IsStaged rs r log → IsRecord r → Torn (length (spelled rs)) 1 log c → (get_or c (length (spelled rs)) 0 ≡ 1 → IsLog (rs ++ r ∷ []) c) × (get_or c (length (spelled rs)) 0 ≢ 1 → IsLog rs c)
+commit_either rs r log c old good torn =
     let bytes = (be16 (length r) ++ r ++ 0 ∷ []) ++ old.rest in
     let g = get_or c (length (spelled rs)) 0 in
     let is : c ≡ spelled rs ++ g ∷ bytes = but_one (spelled rs) bytes c old.commit_byte (torn.size ∙ ap length old.is)
     (λ i lt. torn.before i lt ∙ ap (λ (l : List ℕ). get_or l i 0) old.is)
     (λ i le. torn.after i le ∙ ap (λ (l : List ℕ). get_or l i 0) old.is) in (
-      λ one. subst (IsLog (rs ++ r ∷ [])) (sym is) (gate_open rs r old.rest g old.records_ok good one),
+      λ one. subst (IsLog (rs ++ r ∷ [])) (sym is) (commit_set rs r old.rest g old.records_ok good one),
       λ shut. record { commit_byte = g; rest = bytes; is = is; closed = shut; records_ok = old.records_ok },
     )
 
-pub gate_torn : (rs : List (List ℕ)) (r log c : List ℕ) → IsStaged rs r log → IsRecord r → Torn (length (spelled rs)) 1 log c → IsLog rs c ⊎ IsLog (rs ++ r ∷ []) c
-gate_torn rs r log c old good torn =
-    let by = gate_either rs r log c old good torn in
+pub commit_torn : (rs : List (List ℕ)) (r log c : List ℕ) → IsStaged rs r log → IsRecord r → Torn (length (spelled rs)) 1 log c → IsLog rs c ⊎ IsLog (rs ++ r ∷ []) c
+commit_torn rs r log c old good torn =
+    let by = commit_either rs r log c old good torn in
     elim (cases_eq (get_or c (length (spelled rs)) 0) 1) [ inl one ↦ inr (by.0 one) | inr shut ↦ inl (by.1 shut) ]

@@ -23,7 +23,7 @@ one (a ∷ b ∷ p) long = absurd (omega arith)
 
 pub next_is : (f : List ℕ) (at n : ℕ) (commit_byte prefix r : List ℕ) → commit_byte ≡ part at 1 f → length commit_byte ≡ 1 → get_or commit_byte 0 0 ≡ 1 → prefix ≡ part (at + 1) 2 f → length prefix ≡ 2 → get_or prefix 1 0 < 256
     → n ≡ get_or prefix 0 0 * 256 + get_or prefix 1 0 → r ≡ part (at + 3) n f → length r ≡ n → 1 ≤ n → n ≤ 8192 → IsNext f at r
-next_is f at n commit_byte prefix r is_gate gate_long opened is_prefix prefix_long low is is_r r_long some few = record { good = (omega arith, omega arith); is = whole }
+next_is f at n commit_byte prefix r is_commit commit_long opened is_prefix prefix_long low is is_r r_long some few = record { good = (omega arith, omega arith); is = whole }
   where
     a : ℕ
     a = get_or prefix 0 0
@@ -31,8 +31,8 @@ next_is f at n commit_byte prefix r is_gate gate_long opened is_prefix prefix_lo
     b : ℕ
     b = get_or prefix 1 0
 
-    gate_is : part at 1 f ≡ 1 ∷ []
-    gate_is = sym is_gate ∙ one commit_byte gate_long ∙ ap (λ (x : ℕ). x ∷ []) opened
+    commit_is : part at 1 f ≡ 1 ∷ []
+    commit_is = sym is_commit ∙ one commit_byte commit_long ∙ ap (λ (x : ℕ). x ∷ []) opened
 
     high_is : get_or prefix 0 0 ≡ length r / 256
     high_is = omega (arith, is, r_long, low)
@@ -55,11 +55,11 @@ next_is f at n commit_byte prefix r is_gate gate_long opened is_prefix prefix_lo
         ∙ part_add at 1 (2 + n) f
         ∙ ap (λ (l : List ℕ). part at 1 f ++ l) (part_add (at + 1) 2 n f)
         ∙ ap (λ (k : ℕ). part at 1 f ++ (part (at + 1) 2 f ++ part k n f)) shift
-        ∙ (λ k. gate_is k ++ (prefix_is k ++ sym is_r k))
+        ∙ (λ k. commit_is k ++ (prefix_is k ++ sym is_r k))
 
 pub no_record : (f : List ℕ) (at room n : ℕ) (commit_byte prefix : List ℕ) → commit_byte ≡ part at 1 f → get_or commit_byte 0 0 ≡ 1 → prefix ≡ part (at + 1) 2 f
     → n ≡ get_or prefix 0 0 * 256 + get_or prefix 1 0 → (1 ≤ n → n ≤ 8192 → n + 4 ≤ room → ⊥) → IsNoRecord f at room
-no_record f at room n commit_byte prefix is_gate opened is_prefix is not_good = record {
+no_record f at room n commit_byte prefix is_commit opened is_prefix is not_good = record {
   opened = there;
   none = λ r fits next.
       let prefix_is : prefix ≡ be16 (length r) = is_prefix ∙ sym (part_part at (length r + 3) 1 2 (length r + 2) f (omega arith) (omega arith)) ∙ ap (part 1 2) next.is in
@@ -73,4 +73,4 @@ no_record f at room n commit_byte prefix is_gate opened is_prefix is not_good = 
     there : get_or f at 0 ≡ 1
     there =
         let place : at ≡ at + 0 = omega arith in
-        ap (λ (i : ℕ). get_or f i 0) place ∙ sym (part_at at 1 f 0 (omega arith)) ∙ ap (λ (l : List ℕ). get_or l 0 0) (sym is_gate) ∙ opened
+        ap (λ (i : ℕ). get_or f i 0) place ∙ sym (part_at at 1 f 0 (omega arith)) ∙ ap (λ (l : List ℕ). get_or l 0 0) (sym is_commit) ∙ opened

@@ -111,11 +111,11 @@ module _ (f snap fresh area : List ℕ) (rs : List (List ℕ)) (other : ℕ) (ol
             flat : other + 16384 + 0 ≡ other + 16384
             flat = omega arith
 
-    pub turn_torn : Holds c snap rs ⊎ Holds c fresh []
-    turn_torn = elim (start_places (slot_of c)) [
+    pub selector_torn : Holds c snap rs ⊎ Holds c fresh []
+    selector_torn = elim (start_places (slot_of c)) [
       | inl low ↦ elim apart_now [ inl a ↦ inl (stays (low ∙ sym a.0)) | inr b ↦ inr (swaps (low ∙ sym b.1)) ]
       | inr high ↦ elim apart_now [ inl a ↦ inr (swaps (high ∙ sym a.1)) | inr b ↦ inl (stays (high ∙ sym b.0)) ]
     ]
 
-    pub turn_done : (selector : ℕ) → part 8 1 c ≡ selector ∷ [] → start_of (slot_named selector) ≡ other → Holds c fresh []
-    turn_done selector one names = swaps (ap (λ (t : ℕ). start_of (slot_named t)) (sym (part_at 8 1 c 0 (omega arith)) ∙ ap (λ (l : List ℕ). get_or l 0 0) one) ∙ names)
+    pub selector_done : (selector : ℕ) → part 8 1 c ≡ selector ∷ [] → start_of (slot_named selector) ≡ other → Holds c fresh []
+    selector_done selector one names = swaps (ap (λ (t : ℕ). start_of (slot_named t)) (sym (part_at 8 1 c 0 (omega arith)) ∙ ap (λ (l : List ℕ). get_or l 0 0) one) ∙ names)

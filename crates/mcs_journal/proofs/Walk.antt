@@ -49,8 +49,8 @@ module _ (f : List ℕ) (at : ℕ) (fits : at + 65536 ≤ length f) (rs : List (
   pub no_log : IsPrefix rs used log → used < 65536 → IsNoRecord f (at + used) (65536 - used) → (ss : List (List ℕ)) → IsLog ss log → ⊥
   no_log so_far inside no_record ss a = walk rs ss a.records_ok (sym a.is ∙ so_far.is)
     where
-      gate_is : get_or (drop used log) 0 0 ≡ 1
-      gate_is =
+      commit_is : get_or (drop used log) 0 0 ≡ 1
+      commit_is =
           ap (λ (l : List ℕ). get_or l 0 0) (drop_more log used 0 (omega (arith, inside, length-part at 65536 f fits)))
           ∙ part_at at 65536 f used inside ∙ no_record.opened
 
@@ -58,7 +58,7 @@ module _ (f : List ℕ) (at : ℕ) (fits : at + 65536 ≤ length f) (rs : List (
       long = omega (arith, length-drop used log, length-part at 65536 f fits)
 
       walk : (ps qs : List (List ℕ)) → AreRecords qs → spelled qs ++ a.commit_byte ∷ a.rest ≡ spelled ps ++ drop used log → ⊥
-      walk [] [] good same = a.closed (ap (λ (l : List ℕ). get_or l 0 0) same ∙ gate_is)
+      walk [] [] good same = a.closed (ap (λ (l : List ℕ). get_or l 0 0) same ∙ commit_is)
       walk [] (q ∷ qs) good same =
           let tail = spelled qs ++ a.commit_byte ∷ a.rest in
           let apart : framed q ++ tail ≡ drop used log = sym (append_assoc (framed q) (spelled qs) (a.commit_byte ∷ a.rest)) ∙ same in

@@ -12,13 +12,13 @@ other_slot A = B
 other_slot B = A
 
 -- the selector that is written to name a slot
-abbrev pub turn_of : Slot → ℕ
-turn_of A = 0
-turn_of B = 1
+abbrev pub selector_of : Slot → ℕ
+selector_of A = 0
+selector_of B = 1
 
 -- the commit byte after the last record, with room for one more of n bytes
-pub record IsCommitPlace (file : List ℕ) (records : List (List ℕ)) (commit_byte n : ℕ) : Type 0 where
-  pub at : commit_byte ≡ slot_at file + AREA_SIZE + length (spelled records)
+pub record IsCommitPlace (file : List ℕ) (records : List (List ℕ)) (commit_at n : ℕ) : Type 0 where
+  pub at : commit_at ≡ slot_at file + AREA_SIZE + length (spelled records)
   pub room : length (spelled records) + n + 4 ≤ LOG_SIZE
 
 -- this record stands there after a commit byte of 1

@@ -12,7 +12,7 @@ pub enum Slot {
 
 impl Slot {
     ghost use Rattle.mcs_journal.specs.File.{slot_named, start_of};
-    ghost use Rattle.mcs_journal.specs.Writing.{other_slot, turn_of};
+    ghost use Rattle.mcs_journal.specs.Writing.{other_slot, selector_of};
 
     /// The slot that a selector names: the first by an even selector, the second by an odd one.
     pub fn named(selector: u8) -> Slot
@@ -33,7 +33,7 @@ impl Slot {
 
     /// The selector that is written to name it.
     pub fn selector(self) -> u8
-        ensures { result ≡ turn_of self }
+        ensures { result ≡ selector_of self }
     {
         match self {
             Slot::A => 0,

@@ -179,8 +179,8 @@ impl<D: Disk + Drop> Store<D> {
             (λ c. Holds c snap records)
             (λ c. Holds c snap (records ++ payload.now ∷ [])) result }
     {
-        let commit_byte = self.slot.start() + AREA_SIZE + self.used;
-        match add_record(&mut self.disk, &mut self.buffer, commit_byte, payload) {
+        let commit_at = self.slot.start() + AREA_SIZE + self.used;
+        match add_record(&mut self.disk, &mut self.buffer, commit_at, payload) {
             Ok(()) => {
                 self.used += payload.len() + RECORD_PLACE;
                 Ok(())

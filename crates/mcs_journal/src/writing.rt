@@ -41,34 +41,30 @@ pub fn encode_record(buffer: &mut [u8], payload: &[u8])
     buffer[2 + n] = NOT_COMMITTED;
 }
 
-/// Adds a record after the commit byte of 0 at `commit_byte`, and sets it to 1.
+/// Adds a record after the commit byte of 0 at `commit_at`, and sets it to 1.
 pub fn add_record<D: Disk>(
     disk: &mut D,
     buffer: &mut [u8],
-    commit_byte: usize,
+    commit_at: usize,
     payload: &[u8],
 ) -> Result<(), DiskFault>
-    requires inside { commit_byte + length payload.now + 4 ≤ (D.state disk.old).size }
+    requires inside { commit_at + length payload.now + 4 ≤ (D.state disk.old).size }
     requires small { (D.state disk.old).size ≡ FILE_SIZE }
     requires room { length payload.now + 3 ≤ length buffer.old }
     requires good { IsRecord payload.now }
     ensures call { IsCall (D.state disk.old) (D.state disk.new) result }
-    ensures selector { (D.state disk.old).honest → 16 ≤ commit_byte
+    ensures selector { (D.state disk.old).honest → 16 ≤ commit_at
         → slice_index (D.state disk.new).bytes 8 ≡ slice_index (D.state disk.old).bytes 8 }
     ensures changes { (D.state disk.old).honest → IsDurable (D.state disk.old)
         → (snap : List ℕ) (records : List (List ℕ))
         → Holds (D.state disk.old).bytes snap records
-        → IsCommitPlace (D.state disk.old).bytes records commit_byte (length payload.now)
+        → IsCommitPlace (D.state disk.old).bytes records commit_at (length payload.now)
         → Changes 4 (D.state disk.old) (D.state disk.new) (λ c. Holds c snap records)
         (λ c. Holds c snap (records ++ payload.now ∷ [])) result }
 {
     encode_record(buffer, payload);
-    commit(
-        disk,
-        commit_byte + 1,
-        &buffer[..payload.len() + RECORD_PLACE],
-    )?;
-    commit(disk, commit_byte, &[COMMITTED])
+    commit(disk, commit_at + 1, &buffer[..payload.len() + RECORD_PLACE])?;
+    commit(disk, commit_at, &[COMMITTED])
 }
 
 /// Spells a snapshot area and a commit byte of 0 after it.

@@ -70,8 +70,8 @@ pub goes-to : (s t : Machine) → cycle_of s.0 s.1 ≡ Some t → (is_outside s 
 goes-to s t e = (ap is_none e, sym (ap (λ o. unwrap_or o s) e))
 
 -- no cycle of an instruction
-pub turned-none : (left : ℕ) (s : Machine) → is_outside s ≡ true → InstructionRan left s s 0
-turned-none left s out = record {
+pub ran-none : (left : ℕ) (s : Machine) → is_outside s ≡ true → InstructionRan left s s 0
+ran-none left s out = record {
   within = omega arith;
   machine = refl;
   none = λ _. out;
@@ -80,8 +80,8 @@ turned-none left s out = record {
 }
 
 -- one cycle of an instruction
-pub turned-one : (left : ℕ) (s t : Machine) → 0 < left → cycle_of s.0 s.1 ≡ Some t → InstructionRan left s t 1
-turned-one left s t l e = record {
+pub ran-one : (left : ℕ) (s t : Machine) → 0 < left → cycle_of s.0 s.1 ≡ Some t → InstructionRan left s t 1
+ran-one left s t l e = record {
   within = omega arith;
   machine = (goes-to s t e).1;
   none = λ z. absurd (omega arith);
@@ -90,8 +90,8 @@ turned-one left s t l e = record {
 }
 
 -- both cycles of an instruction
-pub turned-two : (left : ℕ) (s t u : Machine) → 1 < left → cycle_of s.0 s.1 ≡ Some t → t.0.owed ≡ 1 → cycle_of t.0 t.1 ≡ Some u → InstructionRan left s u 2
-turned-two left s t u l e owed f =
+pub ran-two : (left : ℕ) (s t u : Machine) → 1 < left → cycle_of s.0 s.1 ≡ Some t → t.0.owed ≡ 1 → cycle_of t.0 t.1 ≡ Some u → InstructionRan left s u 2
+ran-two left s t u l e owed f =
     let new = (goes-to s t e).1 in
     record {
       within = omega arith;
@@ -115,25 +115,25 @@ unfolding cycle_of
 cycle-idles s m = refl
 
 -- the idle cycle of an instruction that was begun
-pub turned-idle : (left : ℕ) (s : Regs) (m : BusState) (counter : ℕ) → 0 < left → s.owed ≡ 1 → counter ≡ s.pc → InstructionRan left (s, m) (record s { pc = counter; owed = 0 }, m) 1
-turned-idle left s m counter l owed same =
+pub ran-idle : (left : ℕ) (s : Regs) (m : BusState) (counter : ℕ) → 0 < left → s.owed ≡ 1 → counter ≡ s.pc → InstructionRan left (s, m) (record s { pc = counter; owed = 0 }, m) 1
+ran-idle left s m counter l owed same =
     let begun : s ≡ record s { owed = 1 } = ap (λ o. record s { owed = o }) owed in
     let there : (record s { owed = 0 }, m) ≡ (record s { pc = counter; owed = 0 }, m) = ap (λ p. (record s { pc = p; owed = 0 }, m)) (sym same) in
-    turned-one left (s, m) (record s { pc = counter; owed = 0 }, m) l (ap (λ (r : Regs). cycle_of r m) begun ∙ cycle-idles s m ∙ ap Some there)
+    ran-one left (s, m) (record s { pc = counter; owed = 0 }, m) l (ap (λ (r : Regs). cycle_of r m) begun ∙ cycle-idles s m ∙ ap Some there)
 
 -- an instruction done whole: its registers and its bus, except for the counter, and with no cycle owed any more
-pub turned-whole : (left : ℕ) (op : Op) (s : Machine) (regs : Regs) (m : BusState) (counter cycles : ℕ) → cycles ≤ left → s.0.owed ≢ 1 → instruction_at s.0 s.1 ≡ Some op → (record regs { pc = counter; owed = cycles - 1 }, m) ≡ effect op s.0 s.1 → 0 < cycles → cycles < 3 → regs.owed ≡ 0 → InstructionRan left s (record regs { pc = counter }, m) cycles
-turned-whole left op s regs m counter cycles l free at done some few none =
+pub ran-whole : (left : ℕ) (op : Op) (s : Machine) (regs : Regs) (m : BusState) (counter cycles : ℕ) → cycles ≤ left → s.0.owed ≢ 1 → instruction_at s.0 s.1 ≡ Some op → (record regs { pc = counter; owed = cycles - 1 }, m) ≡ effect op s.0 s.1 → 0 < cycles → cycles < 3 → regs.owed ≡ 0 → InstructionRan left s (record regs { pc = counter }, m) cycles
+ran-whole left op s regs m counter cycles l free at done some few none =
     let t : Machine = (record regs { pc = counter; owed = cycles - 1 }, m) in
     let u : Machine = (record regs { pc = counter }, m) in
     let step : cycle_of s.0 s.1 ≡ Some t = cycle-does op s free at ∙ ap Some (sym done) in
     elim (cases_eq cycles 1) [
       | inl one ↦ (
           let same : t ≡ u = ap (λ o. (record regs { pc = counter; owed = o }, m)) (let e : cycles - 1 ≡ regs.owed = omega arith in e) in
-          subst (InstructionRan left s u) (sym one) (turned-one left s u (omega arith) (step ∙ ap Some same)))
+          subst (InstructionRan left s u) (sym one) (ran-one left s u (omega arith) (step ∙ ap Some same)))
       | inr more ↦ (
           let two : cycles ≡ 2 = omega arith in
           let owing : t ≡ (record regs { pc = counter; owed = 1 }, m) = ap (λ o. (record regs { pc = counter; owed = o }, m)) (let e : cycles - 1 ≡ 1 = omega arith in e) in
           let same : (record regs { pc = counter; owed = 0 }, m) ≡ u = ap (λ o. (record regs { pc = counter; owed = o }, m)) (sym none) in
-          subst (InstructionRan left s u) (sym two) (turned-two left s (record regs { pc = counter; owed = 1 }, m) u (omega arith) (step ∙ ap Some owing) refl (cycle-idles (record regs { pc = counter }) m ∙ ap Some same)))
+          subst (InstructionRan left s u) (sym two) (ran-two left s (record regs { pc = counter; owed = 1 }, m) u (omega arith) (step ∙ ap Some owing) refl (cycle-idles (record regs { pc = counter }) m ∙ ap Some same)))
     ]

@@ -297,7 +297,7 @@ fn a_stop_at_each_call(rt: HostRuntime) {
     // the selector may have been left as anything
     for left in [0x7F, 0x40] {
         let Some(mut disk) = stopped(alloc, &rt, calls - 2) else {
-            panic!(rt; "the turn was written")
+            panic!(rt; "the selector was written")
         };
         leave(&rt, &mut disk, 8, &[left]);
         expect_register(alloc, &rt, disk);

@@ -15,4 +15,4 @@ pub returns-clause-seen : goal.returns-clause-seen
 returns-clause-seen g c =
     let t : Machine = (record c.args.cpu.now { pc = c.args.at }, c.args.rig.now) in
     let u : Machine = (record c.run_instruction-next-2.new.cpu { pc = c.run_instruction-next-2.result.0 }, c.run_instruction-next-2.new.rig) in
-    told-seen c.args.watches.now c.args.left c.run_instruction-next-2.result.1 t u c.will_change-changed.result c.run_instruction-next-2.ensures.turned c.requires.free c.will_change-changed.ensures
+    told-seen c.args.watches.now c.args.left c.run_instruction-next-2.result.1 t u c.will_change-changed.result c.run_instruction-next-2.ensures.ran c.requires.free c.will_change-changed.ensures

@@ -47,9 +47,9 @@ returns-in-Some-mark_at g c =
     let t : Machine = (record c.loop-left.cpu { pc = c.loop-left.at }, c.loop-left.rig) in
     let u : Machine = (record c.run_instruction-next.new.cpu { pc = c.run_instruction-next.result.0 }, c.run_instruction-next.new.rig) in
     let some : 0 < c.run_instruction-next.result.1 = (let none = c.if-cycles-eq0.false in omega arith) in
-    let later : 0 < c.args.n - (c.loop-left.left - c.run_instruction-next.result.1) = (let within = c.run_instruction-next.ensures.turned.within in let fits = c.loop-left.invariant.fits in omega arith) in
+    let later : 0 < c.args.n - (c.loop-left.left - c.run_instruction-next.result.1) = (let within = c.run_instruction-next.ensures.ran.within in let fits = c.loop-left.invariant.fits in omega arith) in
     let at = ap (λ b. mark_of b c.run_instruction-next.result.2) (watched-at c.args.breaks.now (c.args.n - (c.loop-left.left - c.run_instruction-next.result.1)) u later) in
-    left-marks stops c.args.n c.loop-left.left c.run_instruction-next.result.1 s t u c.run_instruction-next.result.2 c.in-Some-mark_at.why c.loop-left.invariant c.run_instruction-next.ensures.turned c.run_instruction-next.ensures.seen c.loop-left-test.true some (at ∙ sym c.mark_at-in-loop-left.ensures ∙ c.in-Some-mark_at.is)
+    left-marks stops c.args.n c.loop-left.left c.run_instruction-next.result.1 s t u c.run_instruction-next.result.2 c.in-Some-mark_at.why c.loop-left.invariant c.run_instruction-next.ensures.ran c.run_instruction-next.ensures.seen c.loop-left-test.true some (at ∙ sym c.mark_at-in-loop-left.ensures ∙ c.in-Some-mark_at.is)
 
 pub loop-left-preserved : goal.loop-left-preserved
 loop-left-preserved g c =
@@ -58,6 +58,6 @@ loop-left-preserved g c =
     let t : Machine = (record c.loop-left.cpu { pc = c.loop-left.at }, c.loop-left.rig) in
     let u : Machine = (record c.run_instruction-next.new.cpu { pc = c.run_instruction-next.result.0 }, c.run_instruction-next.new.rig) in
     let some : 0 < c.run_instruction-next.result.1 = (let none = c.if-cycles-eq0.false in omega arith) in
-    let later : 0 < c.args.n - (c.loop-left.left - c.run_instruction-next.result.1) = (let within = c.run_instruction-next.ensures.turned.within in let fits = c.loop-left.invariant.fits in omega arith) in
+    let later : 0 < c.args.n - (c.loop-left.left - c.run_instruction-next.result.1) = (let within = c.run_instruction-next.ensures.ran.within in let fits = c.loop-left.invariant.fits in omega arith) in
     let at = ap (λ b. mark_of b c.run_instruction-next.result.2) (watched-at c.args.breaks.now (c.args.n - (c.loop-left.left - c.run_instruction-next.result.1)) u later) in
-    left-goes stops c.args.n c.loop-left.left c.run_instruction-next.result.1 s t u c.run_instruction-next.result.2 c.loop-left.invariant c.run_instruction-next.ensures.turned c.run_instruction-next.ensures.seen c.loop-left-test.true some c.run_instruction-next.ensures.owes (at ∙ sym c.mark_at-in-loop-left.ensures ∙ c.in_default-mark_at.is)
+    left-goes stops c.args.n c.loop-left.left c.run_instruction-next.result.1 s t u c.run_instruction-next.result.2 c.loop-left.invariant c.run_instruction-next.ensures.ran c.run_instruction-next.ensures.seen c.loop-left-test.true some c.run_instruction-next.ensures.owes (at ∙ sym c.mark_at-in-loop-left.ensures ∙ c.in_default-mark_at.is)

@@ -1,21 +1,21 @@
 use Rattle.std.proofs.Common.{rules, ◌≡◌, List, [], ◌∷◌, ℕ, length, get_or, refl, sym, ◌∙◌, ap, subst, arith}
 use Rattle.mcs_disk.specs.Disk.{Torn, part}
 use Rattle.mcs_journal.specs.File.{Holds, slot_named, start_of}
-use Rattle.mcs_journal.specs.Writing.{other_slot, turn_of}
+use Rattle.mcs_journal.specs.Writing.{other_slot, selector_of}
 use Rattle.mcs_journal.specs.declared.slot.Slot.{Slot}
 use Rattle.mcs_journal.specs.declared.slot.Slot.TheVariants.{A, B}
 use Rattle.mcs_journal.proofs.Stretch.{first_step, second_step}
 use Rattle.mcs_journal.proofs.OnOk.{ok_map}
 use Rattle.mcs_journal.proofs.Parts.{part_at}
-use Rattle.mcs_journal.proofs.Swapping.{IsOther, are_other, other_torn, turn_torn, turn_done}
+use Rattle.mcs_journal.proofs.Swapping.{IsOther, are_other, other_torn, selector_torn, selector_done}
 use Rattle.mcs_journal.proofs.writing.replace_contents.Goals as goal
 
 resize : (at m n : ℕ) (f c : List ℕ) → m ≡ n → Torn at m f c → Torn at n f c
 resize at m n f c same torn = subst (λ (k : ℕ). Torn at k f c) same torn
 
-turn_names : (slot : Slot) → slot_named (turn_of slot) ≡ slot
-turn_names A = refl
-turn_names B = refl
+selector_names : (slot : Slot) → slot_named (selector_of slot) ≡ slot
+selector_names A = refl
+selector_names B = refl
 
 apart : (slot other : Slot) (start : ℕ) → other ≡ other_slot slot → start ≡ start_of other → IsOther (start_of slot) start
 apart slot other start is at = subst (IsOther (start_of slot)) (sym (ap start_of is) ∙ sym at) (are_other slot)
@@ -34,7 +34,7 @@ pub returns-clause-named : goal.returns-clause-named
 returns-clause-named g c = λ h.
     let new = g.D.Disk.state c.commit-2.new.disk in
     let last = c.commit-2.ensures.commits (c.commit.ensures.call.honest.1 h) in
-    ok_map _ (λ (here : part 8 1 new.bytes ≡ c.selector.result ∷ []). ap slot_named (sym (part_at 8 1 new.bytes 0 (omega arith)) ∙ ap (λ (l : List ℕ). get_or l 0 0) here ∙ c.selector.ensures) ∙ turn_names c.args.other) last.written
+    ok_map _ (λ (here : part 8 1 new.bytes ≡ c.selector.result ∷ []). ap slot_named (sym (part_at 8 1 new.bytes 0 (omega arith)) ∙ ap (λ (l : List ℕ). get_or l 0 0) here ∙ c.selector.ensures) ∙ selector_names c.args.other) last.written
 
 pub returns-clause-changes : goal.returns-clause-changes
 returns-clause-changes g c = λ h durable old_snap records held other.
@@ -52,9 +52,9 @@ returns-clause-changes g c = λ h durable old_snap records held other.
     let so_far = first_step old mid (λ x. Holds x old_snap records) (λ x. Holds x c.args.snap.now []) c.start.result c.encode_snapshot.new.buffer durable held law_mid tears _ (c.commit.ensures.commits h) in
     let first = resize _ _ _ _ _ area.long step.outside in
     let there : part c.start.result 16385 mid.bytes ≡ c.encode_snapshot.new.buffer = ap (λ (n : ℕ). part c.start.result n mid.bytes) (sym area.long) ∙ step.written in
-    let names : start_of (slot_named c.selector.result) ≡ c.start.result = ap start_of (ap slot_named c.selector.ensures ∙ turn_names c.args.other) ∙ sym c.start.ensures in
+    let names : start_of (slot_named c.selector.result) ≡ c.start.result = ap start_of (ap slot_named c.selector.ensures ∙ selector_names c.args.other) ∙ sym c.start.ensures in
     second_step old mid (λ x. Holds x old_snap records) (λ x. Holds x c.args.snap.now []) c.start.result c.encode_snapshot.new.buffer durable held law_mid tears
     new 8 (c.selector.result ∷ []) _ law so_far step.durable step.ticks
-    (λ x torn. turn_torn old.bytes old_snap c.args.snap.now c.encode_snapshot.new.buffer records c.start.result held far area mid.bytes x first there torn)
-    (λ here torn. turn_done old.bytes old_snap c.args.snap.now c.encode_snapshot.new.buffer records c.start.result held far area mid.bytes _ first there torn _ here names)
+    (λ x torn. selector_torn old.bytes old_snap c.args.snap.now c.encode_snapshot.new.buffer records c.start.result held far area mid.bytes x first there torn)
+    (λ here torn. selector_done old.bytes old_snap c.args.snap.now c.encode_snapshot.new.buffer records c.start.result held far area mid.bytes _ first there torn _ here names)
     (c.commit-2.ensures.commits h_mid)

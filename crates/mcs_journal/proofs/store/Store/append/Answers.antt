@@ -10,8 +10,8 @@ use Rattle.mcs_journal.proofs.Logs.{spelled-push, length-framed}
 use Rattle.mcs_journal.proofs.store.Store.append.Goals as goal
 
 -- where the commit byte stands
-gate_of : (disk : DiskState) (slot : Slot) (start used n : ℕ) (snap : List ℕ) (records : List (List ℕ)) → start ≡ start_of slot → IsSettledStore disk slot used → HasRoom used n → Holds disk.bytes snap records → IsCommitPlace disk.bytes records (start + 16384 + used) n
-gate_of disk slot start used n snap records at settled room held =
+commit_of : (disk : DiskState) (slot : Slot) (start used n : ℕ) (snap : List ℕ) (records : List (List ℕ)) → start ≡ start_of slot → IsSettledStore disk slot used → HasRoom used n → Holds disk.bytes snap records → IsCommitPlace disk.bytes records (start + 16384 + used) n
+commit_of disk slot start used n snap records at settled room held =
     let same : length (spelled settled.records) ≡ length (spelled records) = ap (λ (l : List (List ℕ)). length (spelled l)) (same_pair _ _ _ _ _ settled.holds held) in
     let place = at ∙ sym (ap start_of settled.active) in
     record { at = omega (arith, same, settled.count, place); room = omega (arith, same, settled.count, room) }
@@ -21,7 +21,7 @@ returns-in-Ok-clause-appends g c = rw (← c.self.view_is) (λ h snap records he
     let live : IsTrue c.self.inside.live = subst (λ (v : StoreView g.row.D.Denot). IsTrue v.live) (sym c.self.view_is) c.requires.live in
     let room : HasRoom c.self.inside.used (length c.args.payload.now) = subst (λ (v : StoreView g.row.D.Denot). HasRoom v.used (length c.args.payload.now)) (sym c.self.view_is) c.requires.room in
     let settled = c.self.invariant.settled live h in
-    let changes = c.in-Ok.ensures.changes h settled.durable snap records held (gate_of _ _ _ _ _ snap records c.start.ensures settled room held) in
+    let changes = c.in-Ok.ensures.changes h settled.durable snap records held (commit_of _ _ _ _ _ snap records c.start.ensures settled room held) in
     record { after = changes.after; durable = changes.durable; ticks = changes.ticks; moments = changes.moments })
 
 pub returns-in-Err-clause-appends : goal.returns-in-Err-clause-appends
@@ -29,7 +29,7 @@ returns-in-Err-clause-appends g c = rw (← c.self.view_is) (λ h snap records h
     let live : IsTrue c.self.inside.live = subst (λ (v : StoreView g.row.D.Denot). IsTrue v.live) (sym c.self.view_is) c.requires.live in
     let room : HasRoom c.self.inside.used (length c.args.payload.now) = subst (λ (v : StoreView g.row.D.Denot). HasRoom v.used (length c.args.payload.now)) (sym c.self.view_is) c.requires.room in
     let settled = c.self.invariant.settled live h in
-    let changes = c.add_record.ensures.changes h settled.durable snap records held (gate_of _ _ _ _ _ snap records c.start.ensures settled room held) in
+    let changes = c.add_record.ensures.changes h settled.durable snap records held (commit_of _ _ _ _ _ snap records c.start.ensures settled room held) in
     record { after = tt; durable = tt; ticks = tt; moments = changes.moments })
 
 pub invariant_of-self : goal.invariant_of-self
@@ -44,7 +44,7 @@ invariant_of-self g c =
           let beyond = start_bounds c.self.inside.slot in
           let was = c.add_record.ensures.call.honest.0 h in
           let settled = c.self.invariant.settled live was in
-          let changes = c.in-Ok.ensures.changes was settled.durable settled.snap settled.records settled.holds (gate_of _ _ _ _ _ settled.snap settled.records c.start.ensures settled room settled.holds) in
+          let changes = c.in-Ok.ensures.changes was settled.durable settled.snap settled.records settled.holds (commit_of _ _ _ _ _ settled.snap settled.records c.start.ensures settled room settled.holds) in
           record {
             durable = changes.durable;
             active = ap slot_named (c.add_record.ensures.selector was (omega (arith, beyond.0, c.start.ensures))) ∙ settled.active;
