@@ -24,20 +24,20 @@ pub struct CommandLog<D: Disk + Drop> {
     /// The instruction cycles that the commands of the log count.
     pub cycles: u32,
     /// Room for the bytes of a command.
-    pub text: Vec<u8>,
+    pub payload: Vec<u8>,
     /// Room for a snapshot.
     pub snapshot: Vec<u8>,
 }
 
 /// Spells a command at the front of a buffer, and answers how many bytes it took.
-fn encode_command(text: &mut Vec<u8>, command: &Command) -> usize
-    requires { length text.old.items ≡ MOST_RECORD }
-    ensures lent { length text.new.items ≡ MOST_RECORD }
-    ensures spells { Spells (take result text.new.items) command.now }
+fn encode_command(payload: &mut Vec<u8>, command: &Command) -> usize
+    requires { length payload.old.items ≡ MOST_RECORD }
+    ensures lent { length payload.new.items ≡ MOST_RECORD }
+    ensures spells { Spells (take result payload.new.items) command.now }
     ensures count { result ≡ length (command_bytes command.now) }
     ensures record { (1 ≤ result) × (result ≤ MOST_RECORD) }
 {
-    command_bytes(command, text.as_mut_slice())
+    command_bytes(command, payload.as_mut_slice())
 }
 
 /// Spells the state of a bench at the front of a buffer, and answers how many bytes it took.
@@ -54,12 +54,12 @@ impl<D: Disk + Drop> CommandLog<D> {
     /// A snapshot of the bench takes the place of all that the store holds.
     pub(crate) fn checkpoint(&mut self, bench: &Bench) -> Result<(), DiskFault>
         requires live { IsTrue self.old.store.live }
-        requires ready { IsReady self.old.cycles self.old.text.items self.old.snapshot.items }
+        requires ready { IsReady self.old.cycles self.old.payload.items self.old.snapshot.items }
         ensures live { self.new.store.live ≡ is_ok result }
         ensures counts { CountsFault (D.state self.old.store.disk) (D.state self.new.store.disk) (IsErr result) }
-        ensures text { self.new.text ≡ self.old.text }
+        ensures payload { self.new.payload ≡ self.old.payload }
         ensures used { OnOk result ((self.new.store.used ≡ 0) × (self.new.cycles ≡ 0)) }
-        ensures ready { IsReady self.new.cycles self.new.text.items self.new.snapshot.items }
+        ensures ready { IsReady self.new.cycles self.new.payload.items self.new.snapshot.items }
         ensures replaces { (D.state self.old.store.disk).honest
             → (snap : List ℕ) (records : List (List ℕ)) → Holds (D.state self.old.store.disk).bytes snap records
             → Changes 4 (D.state self.old.store.disk) (D.state self.new.store.disk)
@@ -81,11 +81,11 @@ impl<D: Disk + Drop> CommandLog<D> {
         requires live { IsTrue self.old.store.live }
         requires count { count ≤ MOST_RECORD }
         requires more { more ≤ REPLAY_CYCLES }
-        requires ready { IsReady self.old.cycles self.old.text.items self.old.snapshot.items }
+        requires ready { IsReady self.old.cycles self.old.payload.items self.old.snapshot.items }
         ensures live { self.new.store.live ≡ is_ok result }
         ensures counts { CountsFault (D.state self.old.store.disk) (D.state self.new.store.disk) (IsErr result) }
-        ensures text { self.new.text ≡ self.old.text }
-        ensures ready { IsReady self.new.cycles self.new.text.items self.new.snapshot.items }
+        ensures payload { self.new.payload ≡ self.old.payload }
+        ensures ready { IsReady self.new.cycles self.new.payload.items self.new.snapshot.items }
         ensures room { OnOk result
             (HasRoom self.new.store.used count × (self.new.cycles + more ≤ REPLAY_CYCLES)) }
         ensures moments { (D.state self.old.store.disk).honest
@@ -110,10 +110,10 @@ impl<D: Disk + Drop> CommandLog<D> {
     pub(crate) fn record(&mut self, bench: &Bench, command: &Command) -> Result<(), DiskFault>
         requires live { IsTrue self.old.store.live }
         requires accepted { refusal bench.now command.now ≡ None }
-        requires ready { IsReady self.old.cycles self.old.text.items self.old.snapshot.items }
+        requires ready { IsReady self.old.cycles self.old.payload.items self.old.snapshot.items }
         ensures live { self.new.store.live ≡ is_ok result }
         ensures counts { CountsFault (D.state self.old.store.disk) (D.state self.new.store.disk) (IsErr result) }
-        ensures ready { IsReady self.new.cycles self.new.text.items self.new.snapshot.items }
+        ensures ready { IsReady self.new.cycles self.new.payload.items self.new.snapshot.items }
         ensures moments { (D.state self.old.store.disk).honest
             → IsRecorded (D.state self.old.store.disk) self.old.cycles bench.now
             → MayLeave (D.state self.old.store.disk) (D.state self.new.store.disk)
@@ -127,10 +127,10 @@ impl<D: Disk + Drop> CommandLog<D> {
             → OnOk result (IsRecorded (D.state self.new.store.disk) self.new.cycles
             (after bench.now command.now)) }
     {
-        let count = encode_command(&mut self.text, command);
+        let count = encode_command(&mut self.payload, command);
         let more = replay_cycles(command);
         self.make_room(bench, count, more)?;
-        self.store.append(&self.text.as_slice()[..count])?;
+        self.store.append(&self.payload.as_slice()[..count])?;
         self.cycles += more;
         Ok(())
     }

@@ -38,7 +38,7 @@ impl<D: Disk + Drop> Model for Session<D> {
     ghost view = { λ s. record { disk = s.log.store.disk; live = s.log.store.live; state = s.bench } };
 
     ghost invariant = { λ s. IsSession (D.state s.log.store.disk) s.log.store.live s.log.cycles s.bench
-        s.log.text.items s.log.snapshot.items };
+        s.log.payload.items s.log.snapshot.items };
 }
 
 impl<D: Disk + Drop> Session<D> {
@@ -65,7 +65,7 @@ impl<D: Disk + Drop> Session<D> {
         ensures refused { (D.state disk).honest → IfErr result (λ refused.
             RefusesCreate refused.0 (D.state disk) (D.state refused.1)) }
     {
-        let Ok(text) = vec![in alloc; 0u8; COMMAND_BYTES] else {
+        let Ok(payload) = vec![in alloc; 0u8; COMMAND_BYTES] else {
             return Err((CreateFault::NoMemory, disk));
         };
         let Ok(mut snapshot) = vec![in alloc; 0u8; STATE_BYTES] else {
@@ -80,7 +80,7 @@ impl<D: Disk + Drop> Session<D> {
                 log: CommandLog {
                     store,
                     cycles: 0,
-                    text,
+                    payload,
                     snapshot,
                 },
                 bench,
@@ -110,7 +110,7 @@ impl<D: Disk + Drop> Session<D> {
         ensures refused { (D.state disk).honest → IfErr result (λ refused.
             RefusesSession refused.0 (D.state disk) × LeftRefused refused.0 (D.state disk) (D.state refused.1)) }
     {
-        let Ok(text) = vec![in alloc; 0u8; COMMAND_BYTES] else {
+        let Ok(payload) = vec![in alloc; 0u8; COMMAND_BYTES] else {
             return Err((OpenFault::NoMemory, disk));
         };
         let Ok(snapshot) = vec![in alloc; 0u8; STATE_BYTES] else {
@@ -136,7 +136,7 @@ impl<D: Disk + Drop> Session<D> {
                     let log = CommandLog {
                         store,
                         cycles,
-                        text,
+                        payload,
                         snapshot,
                     };
                     match begin(log, bench, first) {
@@ -208,7 +208,7 @@ impl<D: Disk + Drop> Session<D> {
         let CommandLog {
             store,
             cycles: _,
-            text: _,
+            payload: _,
             snapshot: _,
         } = log;
         store.into_disk()
@@ -223,7 +223,7 @@ fn begin<D: Disk + Drop>(
     first: bool,
 ) -> Result<Session<D>, (OpenFault, D)>
     requires live { IsTrue log.store.live }
-    requires ready { IsReady log.cycles log.text.items log.snapshot.items }
+    requires ready { IsReady log.cycles log.payload.items log.snapshot.items }
     requires recorded { first ≡ false → (D.state log.store.disk).honest → IsRecorded (D.state log.store.disk) log.cycles bench }
     requires held { (D.state log.store.disk).honest → IsHeld (D.state log.store.disk) }
     ensures open { IfOk result (λ s. IsTrue s.live × (s.state ≡ bench)) }

@@ -11,7 +11,7 @@ returns-in_err-append-clause-moments g c = λ honest was.
     let now = made.recorded in
     let still = c.in_ok-make_room.ensures.counts.honest.1 honest in
     let changes = c.in_err-append.ensures.appends still now.stands.snap now.stands.records now.stands.holds in
-    appended _ _ _ _ _ _ _ now (rw (c.as_slice.ensures.value, c.in_ok-make_room.ensures.text) c.encode_command-count.ensures.spells) c.requires.accepted (omega (arith, c.in_ok-make_room.ensures.room.1, c.replay_cycles-more.ensures))
+    appended _ _ _ _ _ _ _ now (rw (c.as_slice.ensures.value, c.in_ok-make_room.ensures.payload) c.encode_command-count.ensures.spells) c.requires.accepted (omega (arith, c.in_ok-make_room.ensures.room.1, c.replay_cycles-more.ensures))
     (g.met.D.Disk.lawful c.append.new.self.disk (c.in_err-append.ensures.counts.honest.1 still)) (c.in_ok-make_room.ensures.moments honest was) changes.moments
 
 pub returns-clause-moments : goal.returns-clause-moments
@@ -20,7 +20,7 @@ returns-clause-moments g c = λ honest was.
     let now = made.recorded in
     let still = c.in_ok-make_room.ensures.counts.honest.1 honest in
     let changes = c.in_ok-append.ensures.appends still now.stands.snap now.stands.records now.stands.holds in
-    appended _ _ _ _ _ _ _ now (rw (c.as_slice.ensures.value, c.in_ok-make_room.ensures.text) c.encode_command-count.ensures.spells) c.requires.accepted (omega (arith, c.in_ok-make_room.ensures.room.1, c.replay_cycles-more.ensures))
+    appended _ _ _ _ _ _ _ now (rw (c.as_slice.ensures.value, c.in_ok-make_room.ensures.payload) c.encode_command-count.ensures.spells) c.requires.accepted (omega (arith, c.in_ok-make_room.ensures.room.1, c.replay_cycles-more.ensures))
     (g.met.D.Disk.lawful c.append.new.self.disk (c.in_ok-append.ensures.counts.honest.1 still)) (c.in_ok-make_room.ensures.moments honest was) changes.moments
 
 pub returns-clause-recorded : goal.returns-clause-recorded
@@ -28,7 +28,7 @@ returns-clause-recorded g c = λ honest was.
     let now = (c.in_ok-make_room.ensures.made honest was).recorded in
     let still = c.in_ok-make_room.ensures.counts.honest.1 honest in
     let changes = c.in_ok-append.ensures.appends still now.stands.snap now.stands.records now.stands.holds in
-    recorded_more _ _ _ _ _ _ _ now (rw (c.as_slice.ensures.value, c.in_ok-make_room.ensures.text) c.encode_command-count.ensures.spells) c.requires.accepted c.replay_cycles-more.ensures c.in_ok-make_room.ensures.room.1 changes.durable changes.after
+    recorded_more _ _ _ _ _ _ _ now (rw (c.as_slice.ensures.value, c.in_ok-make_room.ensures.payload) c.encode_command-count.ensures.spells) c.requires.accepted c.replay_cycles-more.ensures c.in_ok-make_room.ensures.room.1 changes.durable changes.after
 
 pub returns-clause-acknowledges : goal.returns-clause-acknowledges
 returns-clause-acknowledges g c = λ honest was.
