@@ -28,7 +28,7 @@ use denote.Steps.{nothing}
 use denote.Triple.Entry.{on_entry}
 use denote.Triple.Spec.{Meets, triple_of}
 use denote.Triple.Table.{entered}
-use denote.Triple.Walked.{says, IsUntouched, stay_dropped, walk_of, AllGo, Goes-dropped, Walks, ends_at, walked, walk_Meets}
+use denote.Triple.Walked.{says, Stays, stay_dropped, walk_of, AllGo, Goes-dropped, Walks, ends_at, walked, walk_Meets}
 use Rattle.mcs_host.specs.declared.call_record.CallRecord.{CallRecord}
 use Rattle.mcs_host.specs.contracts.call_record.CallRecord as T
 use Rattle.mcs_host.specs.contracts.call_record.CallRecord.new.Key.{name as #it}
@@ -39,7 +39,7 @@ use Rattle.mcs_host.proofs.call_record.CallRecord.new.Code as code
 abbrev v : Val
 v = vstruct (vcons (vstruct vnil) vnil)
 
-abbrev stayed : IsUntouched (it.ended).signature.params (it.ended).kept
+abbrev stayed : Stays (it.ended).signature.params (it.ended).kept
 stayed = (stay_dropped (shr_slice_of (0 ∷ []) tt (plain (λ _. u8))) yes, tt)
 
 module _ {M : Type 1} {𝓤 : Ura M} (𝓛 : Logic 𝓤) (at_mem : Memory → SProp 𝓤) (run : Routine → Fun 𝓤) (κ : Lft) (q : Share) (s : Bor (List ℕ)) where

@@ -27,7 +27,7 @@ use denote.Steps.{opens, closes}
 use denote.Triple.Entry.{on_entry}
 use denote.Triple.Spec.{Meets, triple_of}
 use denote.Triple.Table.{entered}
-use denote.Triple.Walked.{says, IsUntouched, stay_ref, stay_none_ref, stay_none_slice, walk_of, AllGo, Goes-ref, Goes-none_ref, Goes-none_slice, Walks, ends_at, walked, walk_Meets}
+use denote.Triple.Walked.{says, Stays, stay_ref, stay_none_ref, stay_none_slice, walk_of, AllGo, Goes-ref, Goes-none_ref, Goes-none_slice, Walks, ends_at, walked, walk_Meets}
 use Rattle.mcs_host.specs.FileCalls.{call_of}
 use Rattle.mcs_host.specs.declared.call_record.Call.{Call}
 use Rattle.mcs_host.specs.declared.call_record.CallRecord.{CallRecord}
@@ -41,7 +41,7 @@ use Rattle.mcs_host.proofs.call_record.CallRecord.note.Code as code
 abbrev Arg : Type 0
 Arg = MutBor CallRecord × (Bor Call × (Bor (List ℕ) × Unit {0}))
 
-abbrev stayed : IsUntouched (it.ended).signature.params (it.ended).kept
+abbrev stayed : Stays (it.ended).signature.params (it.ended).kept
 stayed = (stay_ref (0 ∷ []) tt (plain (λ _. T.the_row)), (stay_none_ref (1 ∷ []) tt (plain (λ _. K.the_row)) yes, (stay_none_slice (2 ∷ []) tt (plain (λ _. u8)) yes, tt)))
 
 module _ {M : Type 1} {𝓤 : Ura M} (𝓛 : Logic 𝓤) (at_mem : Memory → SProp 𝓤) (run : Routine → Fun 𝓤) (κ κ' κ'' : Lft) (q q' q'' : Share) (b o : ℕ) (γ : GName) (h : CallRecord) (k : Bor Call) (s : Bor (List ℕ)) where
