@@ -33,7 +33,7 @@ after_commit rs n log c old torn =
       records_ok = old.records_ok;
     }
 
--- a record stands after the commit byte of 0, and a commit byte of 0 after it
+-- a record stands after the commit byte that ends the log, and a commit byte of 0 after it
 pub record IsStaged (rs : List (List ℕ)) (r log : List ℕ) : Type 0 where
   pub commit_byte : ℕ
   pub rest : List ℕ

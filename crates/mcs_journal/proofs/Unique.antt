@@ -8,7 +8,7 @@ use Rattle.mcs_journal.specs.File.{Holds, IsLog, spelled, be32, slot_at}
 same_16 : (m n : ℕ) → m / 256 ≡ n / 256 → m % 256 ≡ n % 256 → m ≡ n
 same_16 m n high low = omega (arith, high, low)
 
--- records of the same bytes, up to a commit byte of 0
+-- records of the same bytes, up to a commit byte that is not 1
 pub same_records : (rs ss : List (List ℕ)) (g h : ℕ) (xs ys : List ℕ) → g ≢ 1 → h ≢ 1 → spelled rs ++ g ∷ xs ≡ spelled ss ++ h ∷ ys → rs ≡ ss
 same_records [] [] g h xs ys shut closed same = refl
 same_records [] (s ∷ ss) g h xs ys shut closed same = let one : g ≡ 1 = cc in absurd (shut one)

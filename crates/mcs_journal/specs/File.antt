@@ -45,7 +45,7 @@ abbrev pub AreRecords : List (List ℕ) → Type 0
 AreRecords [] = Unit {0}
 AreRecords (r ∷ rs) = IsRecord r × AreRecords rs
 
--- a log holds these records: it spells them, then comes a commit byte of 0, then anything
+-- a log holds these records: it spells them, then comes a commit byte that is not 1, then anything
 pub record IsLog (records : List (List ℕ)) (log : List ℕ) : Type 0 where
   pub commit_byte : ℕ
   pub rest : List ℕ
@@ -53,8 +53,8 @@ pub record IsLog (records : List (List ℕ)) (log : List ℕ) : Type 0 where
   pub closed : commit_byte ≢ 1
   pub records_ok : AreRecords records
 
--- a file holds a snapshot and records: the name, a selector, seven zeros, and in the slot that the selector names the snapshot after its
--- length, and the log of the records
+-- a file holds a snapshot and records: the name, the selector, seven zeros, and in the slot that the selector names the
+-- snapshot after its length, and the log of the records
 pub record Holds (file : List ℕ) (snap : List ℕ) (records : List (List ℕ)) : Type 0 where
   pub size : length file ≡ FILE_SIZE
   pub name : part 0 8 file ≡ NAME
@@ -68,7 +68,7 @@ pub record Holds (file : List ℕ) (snap : List ℕ) (records : List (List ℕ))
 abbrev pub ContentsAreUnique : Type 0
 ContentsAreUnique = (file snap other : List ℕ) (records more : List (List ℕ)) → Holds file snap records → Holds file other more → (snap ≡ other) × (records ≡ more)
 
--- a record of that many bytes has room after that many bytes of records: commit byte, length and bytes, and a commit byte of 0 after it
+-- a record of that many bytes has room after that many bytes of records: commit byte, length and bytes, and one more commit byte after it
 abbrev pub HasRoom : ℕ → ℕ → Type 0
 HasRoom used len = used + 3 + len + 1 ≤ LOG_SIZE
 

@@ -31,7 +31,7 @@ pub fn read_at<D: Disk>(disk: &mut D, at: usize, into: &mut [u8]) -> Result<(), 
     disk.read(at, into)
 }
 
-/// Reads the record at `at`, of which `room` bytes of the log are left. None: its commit byte is 0.
+/// Reads the record at `at`, of which `room` bytes of the log are left. None: its commit byte is not 1.
 pub fn read_record<D: Disk>(
     alloc: Global,
     disk: &mut D,
@@ -80,7 +80,7 @@ pub struct Log {
     pub used: usize,
 }
 
-/// Reads the log at `at`, up to its first commit byte of 0.
+/// Reads the log at `at`, up to the first commit byte that is not 1.
 pub fn read_log<D: Disk>(alloc: Global, disk: &mut D, at: usize) -> Result<Log, OpenFault>
     requires inside { at + LOG_SIZE ≤ (D.state disk.old).size }
     requires fits { (D.state disk.old).size < 2 ^ 64 }

@@ -27,7 +27,7 @@ pub fn commit<D: Disk>(disk: &mut D, at: usize, from: &[u8]) -> Result<(), DiskF
     disk.sync()
 }
 
-/// Spells what stands after a record's commit byte: its length, its bytes, and a commit byte of 0.
+/// Encodes what stands after a record's commit byte: its length, its bytes, and a commit byte of 0.
 pub fn encode_record(buffer: &mut [u8], payload: &[u8])
     requires room { length payload.now + 3 ≤ length buffer.old }
     requires short { length payload.now ≤ MOST_RECORD }
@@ -41,7 +41,7 @@ pub fn encode_record(buffer: &mut [u8], payload: &[u8])
     buffer[2 + n] = NOT_COMMITTED;
 }
 
-/// Adds a record after the commit byte of 0 at `commit_at`, and sets it to 1.
+/// Writes a record after the commit byte at `commit_at`, and then sets that to 1.
 pub fn add_record<D: Disk>(
     disk: &mut D,
     buffer: &mut [u8],
@@ -67,7 +67,7 @@ pub fn add_record<D: Disk>(
     commit(disk, commit_at, &[COMMITTED])
 }
 
-/// Spells a snapshot area and a commit byte of 0 after it.
+/// Encodes a snapshot area and a commit byte of 0 after it.
 pub fn encode_snapshot(buffer: &mut [u8], snap: &[u8])
     requires room { length buffer.old ≡ STAGE_SIZE }
     requires short { length snap.now ≤ MOST_SNAPSHOT }

@@ -232,7 +232,7 @@ fn a_worn_session_refuses_each_command(rt: HostRuntime) {
 #[test]
 fn a_session_is_closed_after_a_fault(rt: HostRuntime) {
     let alloc = rt.alloc();
-    // the commit byte write fails, or the sync after it
+    // the write of the commit byte fails, or the sync after it
     for (calls, seq) in [(7, 0), (8, 1)] {
         let mut session = made(alloc, &rt, fused(alloc, &rt, calls));
         assert_eq!(rt; session.apply(&poke(&rt, 5, 9)), Err(SessionFault::Device));
