@@ -1,29 +1,29 @@
--- Where a word ends, and what is after it.
+-- Where a word ends, and what comes after it.
 use Rattle.std.proofs.Common.{◌≡◌, ℕ, suc, ◌+◌, ◌<◌, ◌≤◌, Bool, true, false, cond, eqb, List, [], ◌∷◌, ◌++◌, length, take, drop, refl, sym, ap, ◌⊎◌, ◌||◌, ◌≢◌, ◌∙◌, append_assoc, arith, inl, inr}
 use Rattle.std.specs.List.{prefix_len}
 use Rattle.std.proofs.lemmas.Bool.{eqb-true}
 use Rattle.std.proofs.lemmas.Bool.Decides.{eqb_tells}
 use Rattle.std.proofs.lemmas.List.{append-nil, length-take}
-use Rattle.mcs_source.specs.Lexical.{Token, Word, Other, is_word, is_blank, symbol, word_then, tokens_after, tokens}
+use Rattle.mcs_source.specs.Lexical.{Token, Word, Other, is_word_byte, is_blank, symbol, word_then, tokens_after, tokens}
 
--- what stands after the end of a word
-abbrev pub behind_word : List ℕ → List Token
-behind_word [] = []
-behind_word (b ∷ bytes) = cond (is_blank b) (tokens bytes) (cond (eqb b 59) [] (symbol b ∷ tokens bytes))
+-- what comes after the end of a word
+abbrev pub after_word : List ℕ → List Token
+after_word [] = []
+after_word (b ∷ bytes) = cond (is_blank b) (tokens bytes) (cond (eqb b 59) [] (symbol b ∷ tokens bytes))
 
-pub word_ends : (word bytes : List ℕ) → tokens_after word bytes ≡ word_then (word ++ take (prefix_len is_word bytes) bytes) (behind_word (drop (prefix_len is_word bytes) bytes))
+pub word_ends : (word bytes : List ℕ) → tokens_after word bytes ≡ word_then (word ++ take (prefix_len is_word_byte bytes) bytes) (after_word (drop (prefix_len is_word_byte bytes) bytes))
 unfolding tokens_after
 word_ends word [] = ap (λ w. word_then w []) (sym (append-nil word))
 word_ends word (b ∷ bytes) =
-    let n : ℕ = prefix_len is_word bytes in
+    let n : ℕ = prefix_len is_word_byte bytes in
     let up : 1 + n ≡ suc n = omega arith in
-    let Q : Bool → Type 0 = λ t. cond t (tokens_after (word ++ b ∷ []) bytes) (word_then word (behind_word (b ∷ bytes))) ≡ word_then (word ++ take (cond t (1 + n) 0) (b ∷ bytes)) (behind_word (drop (cond t (1 + n) 0) (b ∷ bytes))) in
-    elim (is_word b) as Q [
+    let Q : Bool → Type 0 = λ t. cond t (tokens_after (word ++ b ∷ []) bytes) (word_then word (after_word (b ∷ bytes))) ≡ word_then (word ++ take (cond t (1 + n) 0) (b ∷ bytes)) (after_word (drop (cond t (1 + n) 0) (b ∷ bytes))) in
+    elim (is_word_byte b) as Q [
       | true ↦ word_ends (word ++ b ∷ []) bytes ∙ rw (up, append_assoc word (b ∷ []) (take n bytes)) refl
       | false ↦ rw (append-nil word) refl
     ]
 
-in_no_word : (b : ℕ) → (b ≡ 32) ⊎ (b ≡ 9) → is_word b ≡ false
+in_no_word : (b : ℕ) → (b ≡ 32) ⊎ (b ≡ 9) → is_word_byte b ≡ false
 in_no_word b (inl e) = rw e refl
 in_no_word b (inr e) = rw e refl
 
@@ -32,7 +32,7 @@ either_blank true t b p q e = inl (eqb-true _ _ p)
 either_blank false true b p q e = inr (eqb-true _ _ q)
 either_blank false false b p q e = absurd cc
 
-pub no_word : (b : ℕ) → is_blank b ≡ true → is_word b ≡ false
+pub no_word : (b : ℕ) → is_blank b ≡ true → is_word_byte b ≡ false
 no_word b e = in_no_word b (either_blank (eqb b 32) (eqb b 9) b refl refl e)
 
 pub blanks_before : (bytes : List ℕ) → tokens bytes ≡ tokens (drop (prefix_len is_blank bytes) bytes)
@@ -48,7 +48,7 @@ blanks_before (b ∷ bytes) =
     ]) refl
 
 -- with no word in front, the tokens are those after the empty word
-pub none_in_front : (bytes : List ℕ) → prefix_len is_word bytes ≡ 0 → tokens bytes ≡ behind_word bytes
+pub none_in_front : (bytes : List ℕ) → prefix_len is_word_byte bytes ≡ 0 → tokens bytes ≡ after_word bytes
 none_in_front bytes e = word_ends [] bytes ∙ rw e refl
 
 pub not_first : (p : ℕ → Bool) (x : ℕ) (xs : List ℕ) → prefix_len p (x ∷ xs) ≡ 0 → p x ≡ false
@@ -71,18 +71,18 @@ stops p (x ∷ xs) =
     ]) refl
 
 -- after the longest word comes no word
-pub behind_is : (bytes : List ℕ) → behind_word (drop (prefix_len is_word bytes) bytes) ≡ tokens (drop (prefix_len is_word bytes) bytes)
-behind_is bytes = sym (none_in_front (drop (prefix_len is_word bytes) bytes) (stops is_word bytes))
+pub after_word_is : (bytes : List ℕ) → after_word (drop (prefix_len is_word_byte bytes) bytes) ≡ tokens (drop (prefix_len is_word_byte bytes) bytes)
+after_word_is bytes = sym (none_in_front (drop (prefix_len is_word_byte bytes) bytes) (stops is_word_byte bytes))
 
--- a word, and what is after it
-pub word_first : (word rest bytes : List ℕ) (n : ℕ) → n ≡ prefix_len is_word bytes → 0 < n → word ≡ take n bytes → rest ≡ drop n bytes → n ≤ length bytes → tokens bytes ≡ Word word ∷ tokens rest
+-- a word, and what comes after it
+pub word_first : (word rest bytes : List ℕ) (n : ℕ) → n ≡ prefix_len is_word_byte bytes → 0 < n → word ≡ take n bytes → rest ≡ drop n bytes → n ≤ length bytes → tokens bytes ≡ Word word ∷ tokens rest
 word_first [] rest bytes n len some front back within = absurd (omega (arith, ap length front, length-take n bytes))
 word_first (b ∷ word) rest bytes n len some front back within =
-    let front' : take (prefix_len is_word bytes) bytes ≡ b ∷ word = rw (← len) (sym front) in
-    word_ends [] bytes ∙ rw (front', behind_is bytes, ← len, ← back) refl
+    let front' : take (prefix_len is_word_byte bytes) bytes ≡ b ∷ word = rw (← len) (sym front) in
+    word_ends [] bytes ∙ rw (front', after_word_is bytes, ← len, ← back) refl
 
 -- a byte of no kind
-pub other_first : (b : ℕ) (rest : List ℕ) → prefix_len is_word (b ∷ rest) ≡ 0 → prefix_len is_blank (b ∷ rest) ≡ 0 → b ≢ 59 → b ≢ 44 → b ≢ 58 → b ≢ 61 → tokens (b ∷ rest) ≡ Other ∷ tokens rest
+pub other_first : (b : ℕ) (rest : List ℕ) → prefix_len is_word_byte (b ∷ rest) ≡ 0 → prefix_len is_blank (b ∷ rest) ≡ 0 → b ≢ 59 → b ≢ 44 → b ≢ 58 → b ≢ 61 → tokens (b ∷ rest) ≡ Other ∷ tokens rest
 other_first b rest no_w no_b comment comma colon equals =
     none_in_front (b ∷ rest) no_w ∙ rw (not_first is_blank b rest no_b, no_eq b 59 comment, no_eq b 44 comma, no_eq b 58 colon, no_eq b 61 equals) refl
 

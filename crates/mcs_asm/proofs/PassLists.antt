@@ -1,67 +1,108 @@
--- One line after the other, as a loop does.
-use Rattle.std.proofs.Common.{◌≡◌, ℕ, ◌+◌, ◌<◌, ◌≤◌, Bool, true, false, cond, leb, ◌&&◌, List, [], ◌++◌, length, get_or, drop, map, Bor, Option, Some, None, Result, Ok, Err, refl, sym, ap, subst, ◌∙◌}
-use Rattle.std.specs.Prelude.{is_some}
-use Rattle.std.proofs.lemmas.List.{drop_more, drop_all}
+-- One line after the other, as the loops of the passes do.
+use Rattle.std.proofs.Common.{◌≡◌, ℕ, suc, ◌+◌, ◌<◌, ◌≤◌, Bool, true, false, cond, leb, ◌&&◌, List, [], ◌∷◌, ◌++◌, length, get_or, map, Bor, Option, Some, None, Result, Ok, Err, is_some, refl, sym, ap, subst, ◌∙◌, append-nil, arith}
+use Rattle.std.specs.List.{cons_option}
+use Rattle.std.proofs.lemmas.List.{get_or-map, length-map}
 use lib.ListN.{replicate}
 use Rattle.mcs_asm.specs.declared.fault.FaultKind.{FaultKind}
 use Rattle.mcs_asm.specs.declared.fault.FaultKind.TheVariants.{NoMemory, Refused}
 use Rattle.mcs_source.specs.declared.fault.SourceFault.{SourceFault}
 use Rattle.mcs_source.specs.declared.fault.SourceFault.TheVariants.{DoubleName, OutOfRange, Overlap, PastEnd, TooManyNames}
 use Rattle.mcs_source.specs.Lexical.{tokens}
-use Rattle.mcs_source.specs.Lines.{Line, line_of}
+use Rattle.mcs_source.specs.Lines.{Line, Code, Define, line_of}
 use Rattle.mcs_model.specs.Images.{from_address, overlaps}
-use Rattle.mcs_source.specs.Assembly.{assembled, lines_of, then_class_two, Before, Names, Spelt, nothing_before, nothing_spelt, before_with_line, spelt_with_line, spelt_with_bytes, unless_fault, fault_one, before_next, next_at, line_bytes, defined_name, is_known_name, is_bad_place, passes_end, pairs_of, then_lines, class_one, class_two}
+use Rattle.mcs_source.specs.Assembly.{assembled, spelt, lines_of, read, ith_line, Names, definition, address_of, names_before, all_names, pairs_before, unless_fault, first_fault, fault_one, fault_two, class_one_fault, class_two_fault, first_of_class_one, first_of_class_two, next_at, line_bytes, bytes_or_none, defined_name, is_known_name, is_bad_place, passes_end}
+use Rattle.mcs_source.proofs.LineByLine.{address_next, names_next, pairs_next, NoneBefore, none_before_next, none_first, first_at, none_below}
 use Rattle.mcs_asm.specs.Cells.{IsKept}
-use Rattle.mcs_asm.specs.View.{Steps, FailsAs, NumbersLine, Adds, HasNoFault}
+use Rattle.mcs_asm.specs.View.{FailsAs}
+use Rattle.mcs_asm.specs.Passes.{Before, nothing_before, before, before_next, before_with_line, with_names, Spelt, spelt_before, spelt_with_bytes, spelt_with_line, Steps, IsFirst, NumbersLine, Adds, HasNoFault}
 use Rattle.mcs_asm.proofs.CellPairs.{none_kept}
 
 abbrev pub texts : List (Bor (List ℕ)) → List (List ℕ)
 texts ls = map (λ l. l.now) ls
 
-one_line : (k : ℕ) (b : Before) (ls : List (Bor (List ℕ))) (i : ℕ) (d : Bor (List ℕ)) → i < length ls
-    → class_one k b (texts (drop i ls)) ≡ then_lines k (before_with_line b (line_of (tokens (get_or ls i d).now))) (λ c. class_one (k + 1) c (texts (drop (i + 1) ls)))
-unfolding class_one
-one_line k b ls i d lt = ap (λ l. class_one k b (texts l)) (drop_more ls i d lt)
+-- what the lines say
+abbrev pub said : List (Bor (List ℕ)) → List (Option Line)
+said ls = read (texts ls)
 
-pub goes_on : (b new : Before) (ls : List (Bor (List ℕ))) (i : ℕ) (d : Bor (List ℕ)) (total : Result Before (ℕ × SourceFault)) → i < length ls → before_with_line b (line_of (tokens (get_or ls i d).now)) ≡ Ok new
-    → class_one (i + 1) b (texts (drop i ls)) ≡ total → class_one (i + 1 + 1) new (texts (drop (i + 1) ls)) ≡ total
-goes_on b new ls i d total lt step so_far = ap (λ (r : Result Before SourceFault). then_lines (i + 1) r (λ c. class_one (i + 1 + 1) c (texts (drop (i + 1) ls)))) (sym step) ∙ (sym (one_line (i + 1) b ls i d lt) ∙ so_far)
+said_at : (ls : List (Bor (List ℕ))) (i : ℕ) (d : Bor (List ℕ)) → i < length ls → ith_line (said ls) i ≡ line_of (tokens (get_or ls i d).now)
+said_at ls i d lt =
+    let within : i < length (texts ls) = omega (arith, length-map ls (λ (l : Bor (List ℕ)). l.now), lt) in
+    get_or-map (λ (l : List ℕ). line_of (tokens l)) (texts ls) i d.now None within ∙ ap (λ (l : List ℕ). line_of (tokens l)) (get_or-map (λ (l : Bor (List ℕ)). l.now) ls i d d.now lt)
 
-fails : {A : Type 0} (kind : FaultKind) (i line : ℕ) (wanted : Result A SourceFault) (next : A → Result A (ℕ × SourceFault)) (new : A) → Steps {B = Unit {0}} (Err kind) new wanted → NumbersLine kind i line → FailsAs kind line (then_lines (i + 1) wanted next)
-fails NoMemory i line wanted next new h is = is
-fails (Refused f) i line wanted next new h is = rw (h, is) refl
+said_length : (ls : List (Bor (List ℕ))) → length (said ls) ≡ length ls
+said_length ls = length-map (texts ls) (λ (l : List ℕ). line_of (tokens l)) ∙ length-map ls (λ (l : Bor (List ℕ)). l.now)
 
-pub stops_there : (kind : FaultKind) (line : ℕ) (b new : Before) (ls : List (Bor (List ℕ))) (i : ℕ) (d : Bor (List ℕ)) (total : Result Before (ℕ × SourceFault)) → i < length ls → Steps {B = Unit {0}} (Err kind) new (before_with_line b (line_of (tokens (get_or ls i d).now)))
-    → NumbersLine kind i line → class_one (i + 1) b (texts (drop i ls)) ≡ total → FailsAs kind line total
-stops_there kind line b new ls i d total lt step is so_far =
-    let e : total ≡ then_lines (i + 1) (before_with_line b (line_of (tokens (get_or ls i d).now))) (λ c. class_one (i + 1 + 1) c (texts (drop (i + 1) ls))) = sym so_far ∙ one_line (i + 1) b ls i d lt in
-    rw e (fails kind i line (before_with_line b (line_of (tokens (get_or ls i d).now))) (λ c. class_one (i + 1 + 1) c (texts (drop (i + 1) ls))) new step is)
+-- ---- the first pass
 
-pub is_done : (k : ℕ) (b : Before) (ls : List (Bor (List ℕ))) (i : ℕ) (total : Result Before (ℕ × SourceFault)) → length ls ≤ i → class_one k b (texts (drop i ls)) ≡ total → total ≡ Ok b
-unfolding class_one
-is_done k b ls i total le so_far = sym so_far ∙ ap (λ l. class_one k b (texts l)) (drop_all i ls le)
+-- before line i, where no line before it has a fault of class one
+pub record IsBeforeFirst (ls : List (Bor (List ℕ))) (i : ℕ) (b : Before) : Type 0 where
+  pub within : i ≤ length ls
+  pub here : b ≡ before (said ls) i
+  pub none : NoneBefore (class_one_fault (said ls)) i
 
--- ---- the second pass, along the first
+pub first_begins : (ls : List (Bor (List ℕ))) → IsBeforeFirst ls 0 nothing_before
+unfolding address_of names_before
+first_begins ls = record { within = omega arith; here = refl; none = λ j lt. absurd (omega (arith, lt)) }
 
-abbrev pub spelt_at : ℕ → List (ℕ × ℕ) → Spelt
-spelt_at at pairs = record { at = at; pairs = pairs }
+with_names_is : (line : Option Line) (at : ℕ) (names : Names) → with_names line at names ≡ names ++ cons_option (definition line at) []
+with_names_is None at names = sym (append-nil names)
+with_names_is (Some (Define w n)) at names = refl
+with_names_is (Some (Code None s)) at names = sym (append-nil names)
+with_names_is (Some (Code (Some w) s)) at names = refl
 
--- before the line with this index, where all names are known: what the first pass had found stands beside what is spelled
-pub record IsBefore (ls : List (Bor (List ℕ))) (i : ℕ) (all : Before) (at : ℕ) (cells : List (Option ℕ)) : Type 0 where
-  pub before : Before
-  pub here : before.at ≡ at
-  pub first : class_one (i + 1) before (texts (drop i ls)) ≡ Ok all
-  pub pairs : List (ℕ × ℕ)
-  pub kept : IsKept cells pairs
-  pub second : class_two (i + 1) all.names (spelt_at at pairs) (texts (drop i ls)) ≡ class_two 1 all.names nothing_spelt (texts ls)
+before_more : (lines : List (Option Line)) (i : ℕ) → before_next (before lines i) (ith_line lines i) ≡ before lines (i + 1)
+before_more lines i =
+    let names : with_names (ith_line lines i) (address_of lines i) (names_before lines i) ≡ names_before lines (i + 1) = with_names_is (ith_line lines i) (address_of lines i) (names_before lines i) ∙ sym (names_next lines i) in
+    ap (λ (n : Names). record { at = next_at (ith_line lines i) (address_of lines i); names = n }) names ∙ ap (λ (a : ℕ). record { at = a; names = names_before lines (i + 1) }) (sym (address_next lines i))
 
-pub first_line : (ls : List (Bor (List ℕ))) (all : Before) → class_one 1 nothing_before (texts ls) ≡ Ok all → IsBefore ls 0 all 0 (replicate 4096 None)
-first_line ls all one = record { before = nothing_before; here = refl; first = one; pairs = []; kept = none_kept; second = refl }
+line_passed : {A : Type 0} (fault : Option SourceFault) (next new : A) → unless_fault fault (Ok next) ≡ Ok new → (fault ≡ None) × (new ≡ next)
+line_passed {A} None next new e = (refl, cc)
+line_passed {A} (Some f) next new e = absurd (cc)
 
-two_line : (k : ℕ) (names : Names) (s : Spelt) (ls : List (Bor (List ℕ))) (i : ℕ) (d : Bor (List ℕ)) → i < length ls
-    → class_two k names s (texts (drop i ls)) ≡ then_lines k (spelt_with_line names s (line_of (tokens (get_or ls i d).now))) (λ t. class_two (k + 1) names t (texts (drop (i + 1) ls)))
-unfolding class_two
-two_line k names s ls i d lt = ap (λ l. class_two k names s (texts l)) (drop_more ls i d lt)
+line_refused : {A : Type 0} (fault : Option SourceFault) (next : A) (f : SourceFault) → unless_fault fault (Ok next) ≡ Err f → fault ≡ Some f
+line_refused {A} None next f e = absurd (cc)
+line_refused {A} (Some g) next f e = cc
+
+-- a step from what the lines before line i say
+step_is : (b : Before) (ls : List (Bor (List ℕ))) (i : ℕ) (d : Bor (List ℕ)) (wanted : Result Before SourceFault) → i < length ls → b ≡ before (said ls) i → before_with_line b (line_of (tokens (get_or ls i d).now)) ≡ wanted
+    → before_with_line (before (said ls) i) (ith_line (said ls) i) ≡ wanted
+step_is b ls i d wanted lt here step =
+    ap (λ (c : Before). before_with_line c (ith_line (said ls) i)) (sym here) ∙ (ap (λ (l : Option Line). before_with_line b l) (said_at ls i d lt) ∙ step)
+
+pub goes_on : (b new : Before) (ls : List (Bor (List ℕ))) (i : ℕ) (d : Bor (List ℕ)) → i < length ls → before_with_line b (line_of (tokens (get_or ls i d).now)) ≡ Ok new → IsBeforeFirst ls i b → IsBeforeFirst ls (i + 1) new
+unfolding class_one_fault
+goes_on b new ls i d lt step h =
+    let p = line_passed (class_one_fault (said ls) i) (before_next (before (said ls) i) (ith_line (said ls) i)) new (step_is b ls i d (Ok new) lt h.here step) in
+    record { within = omega (arith, lt); here = p.1 ∙ before_more (said ls) i; none = none_before_next (class_one_fault (said ls)) i h.none p.0 }
+
+first_of_line : (fault : ℕ → Option SourceFault) (ls : List (Bor (List ℕ))) (i line : ℕ) (f : SourceFault) → i < length ls → NoneBefore fault i → fault i ≡ Some f → line ≡ i + 1 → IsFirst (Refused f) line (first_fault fault (length (said ls)))
+first_of_line fault ls i line f lt none here is =
+    first_at fault (length (said ls)) i f (omega (arith, said_length ls, lt)) none here ∙ ap (λ (n : ℕ). Some (n, f)) (sym is)
+
+pub stops_there : (kind : FaultKind) (line : ℕ) (b new : Before) (ls : List (Bor (List ℕ))) (i : ℕ) (d : Bor (List ℕ)) → i < length ls → Steps {B = Unit {0}} (Err kind) new (before_with_line b (line_of (tokens (get_or ls i d).now)))
+    → NumbersLine kind i line → IsBeforeFirst ls i b → IsFirst kind line (first_of_class_one (said ls))
+unfolding class_one_fault
+stops_there NoMemory line b new ls i d lt step is h = is
+stops_there (Refused f) line b new ls i d lt step is h =
+    first_of_line (class_one_fault (said ls)) ls i line f lt h.none (line_refused (class_one_fault (said ls) i) (before_next (before (said ls) i) (ith_line (said ls) i)) f (step_is b ls i d (Err f) lt h.here step)) is
+
+pub is_done : (b : Before) (ls : List (Bor (List ℕ))) (i : ℕ) → length ls ≤ i → IsBeforeFirst ls i b → (first_of_class_one (said ls) ≡ None) × (b ≡ before (said ls) (length (said ls)))
+is_done b ls i le h =
+    let all : i ≡ length (said ls) = omega (arith, said_length ls, le, h.within) in
+    (none_first (class_one_fault (said ls)) (length (said ls)) (λ j lt. h.none j (omega (arith, lt, all))), h.here ∙ ap (before (said ls)) all)
+
+-- ---- the second pass
+
+-- before line i, where all names are `names` and no line before it has a fault of class two
+pub record IsBeforeSecond (ls : List (Bor (List ℕ))) (names : Names) (i at : ℕ) (cells : List (Option ℕ)) : Type 0 where
+  pub within : i ≤ length ls
+  pub here : at ≡ address_of (said ls) i
+  pub kept : IsKept cells (pairs_before (said ls) names i)
+  pub none : NoneBefore (class_two_fault (said ls) names) i
+
+pub second_begins : (ls : List (Bor (List ℕ))) (names : Names) → IsBeforeSecond ls names 0 0 (replicate 4096 None)
+unfolding address_of pairs_before
+second_begins ls names = record { within = omega arith; here = refl; kept = none_kept; none = λ j lt. absurd (omega (arith, lt)) }
 
 four_false : (p q r w : Bool) (a b c d : SourceFault) → cond p (Some a) (cond q (Some b) (cond r (Some c) (cond w (Some d) None))) ≡ None → (p ≡ false) × (w ≡ false)
 four_false true q r w a b c d e = absurd (cc)
@@ -70,73 +111,101 @@ four_false false false true w a b c d e = absurd (cc)
 four_false false false false true a b c d e = absurd (cc)
 four_false false false false false a b c d e = (refl, refl)
 
-no_fault : (b : Before) (line : Line) → fault_one b line ≡ None → (is_bad_place line ≡ false) × (passes_end line b.at ≡ false)
-no_fault b line e = four_false (is_bad_place line) (is_known_name (defined_name line) b.names) (is_some (defined_name line) && leb 512 (length b.names)) (passes_end line b.at) OutOfRange DoubleName TooManyNames PastEnd e
+no_fault : (at : ℕ) (names : Names) (line : Option Line) → fault_one at names line ≡ None → HasNoFault at line
+no_fault at names None e = absurd (cc)
+no_fault at names (Some line) e = four_false (is_bad_place line) (is_known_name (defined_name line) names) (is_some (defined_name line) && leb 512 (length names)) (passes_end line at) OutOfRange DoubleName TooManyNames PastEnd e
 
-one_of : (o : Bool) (x t : Spelt) → cond o (Err Overlap) (Ok x) ≡ Ok t → t ≡ x
-one_of true x t e = absurd (cc)
-one_of false x t e = cc
+-- a line of a text without a fault of class one
+pub line_passes : (ls : List (Bor (List ℕ))) (names : Names) (i at : ℕ) (cells : List (Option ℕ)) (d : Bor (List ℕ)) → i < length ls → first_of_class_one (said ls) ≡ None → IsBeforeSecond ls names i at cells → HasNoFault at (line_of (tokens (get_or ls i d).now))
+unfolding class_one_fault
+line_passes ls names i at cells d lt one h =
+    let none : class_one_fault (said ls) i ≡ None = none_below (class_one_fault (said ls)) (length (said ls)) one i (omega (arith, said_length ls, lt)) in
+    let passes : HasNoFault (address_of (said ls) i) (ith_line (said ls) i) = no_fault (address_of (said ls) i) (names_before (said ls) i) (ith_line (said ls) i) none in
+    subst (λ (n : ℕ). HasNoFault n (line_of (tokens (get_or ls i d).now))) (sym h.here) (subst (HasNoFault (address_of (said ls) i)) (said_at ls i d lt) passes)
 
-at_next : (s : Spelt) (next : ℕ) (r : Result (List ℕ) SourceFault) (t : Spelt) → spelt_with_bytes s next r ≡ Ok t → t.at ≡ next
-at_next s next (Err f) t e = absurd (cc)
-at_next s next (Ok bytes) t e = ap (λ (x : Spelt). x.at) (one_of (overlaps s.pairs s.at (length bytes)) (record { at = next; pairs = s.pairs ++ from_address s.at bytes }) t e)
+bytes_passed : (s : Spelt) (next : ℕ) (r : Result (List ℕ) SourceFault) (t : Spelt) → spelt_with_bytes s next r ≡ Ok t → (fault_two s.at s.pairs r ≡ None) × (t ≡ record { at = next; pairs = s.pairs ++ from_address s.at (bytes_or_none r) })
+bytes_passed s next (Err f) t e = absurd (cc)
+bytes_passed s next (Ok bytes) t e =
+    let new : Spelt = record { at = next; pairs = s.pairs ++ from_address s.at bytes } in
+    let Q : Bool → Type 0 = λ o. cond o (Err Overlap) (Ok new) ≡ Ok t → (cond o (Some Overlap) None ≡ None) × (t ≡ new) in
+    (elim (overlaps s.pairs s.at (length bytes)) as Q [
+      | true ↦ λ h. absurd (cc)
+      | false ↦ λ h. (refl, cc)
+    ]) e
 
--- where class one goes on after a line that class two lets pass
-abbrev pub GoesOn : Before → Option Line → (Before → Result Before (ℕ × SourceFault)) → Before → Type 0
-GoesOn b line next all = (names : Names) (s t : Spelt) → s.at ≡ b.at → spelt_with_line names s line ≡ Ok t → (c : Before) × (c.at ≡ t.at) × (next c ≡ Ok all)
+bytes_refused : (s : Spelt) (next : ℕ) (r : Result (List ℕ) SourceFault) (f : SourceFault) → spelt_with_bytes s next r ≡ Err f → fault_two s.at s.pairs r ≡ Some f
+bytes_refused s next (Err g) f e = cc
+bytes_refused s next (Ok bytes) f e =
+    let new : Spelt = record { at = next; pairs = s.pairs ++ from_address s.at bytes } in
+    let Q : Bool → Type 0 = λ o. cond o (Err Overlap) (Ok new) ≡ Err f → cond o (Some Overlap) None ≡ Some f in
+    (elim (overlaps s.pairs s.at (length bytes)) as Q [
+      | true ↦ λ h. cc
+      | false ↦ λ h. absurd (cc)
+    ]) e
 
--- a line that class one lets pass has none of its faults
-passed : (k : ℕ) (b : Before) (line : Option Line) (next : Before → Result Before (ℕ × SourceFault)) (all : Before) → then_lines k (before_with_line b line) next ≡ Ok all → HasNoFault b.at line × GoesOn b line next all
-passed k b None next all e = absurd (cc)
-passed k b (Some line) next all e =
-    let Q : Option SourceFault → Type 0 = λ f. fault_one b line ≡ f → then_lines k (unless_fault f (before_next b line)) next ≡ Ok all → HasNoFault b.at (Some line) × GoesOn b (Some line) next all in
-    (elim (fault_one b line) as Q [
-      | Some f ↦ λ is h. absurd (cc)
-      | None ↦ λ is h. (no_fault b line is, λ names s t here step. (before_next b line, sym (at_next s (next_at line s.at) (line_bytes s.at names line) t step ∙ ap (next_at line) here), h))
-    ]) refl e
+spelt_more : (lines : List (Option Line)) (names : Names) (i : ℕ)
+    → record { at = next_at (ith_line lines i) (address_of lines i); pairs = pairs_before lines names i ++ from_address (address_of lines i) (bytes_or_none (line_bytes (address_of lines i) names (ith_line lines i))) } ≡ spelt_before lines names (i + 1)
+spelt_more lines names i =
+    ap (λ (n : ℕ). record { at = n; pairs = pairs_before lines names i ++ from_address (address_of lines i) (bytes_or_none (line_bytes (address_of lines i) names (ith_line lines i))) }) (sym (address_next lines i))
+    ∙ ap (λ (ps : List (ℕ × ℕ)). record { at = address_of lines (i + 1); pairs = ps }) (sym (pairs_next lines names i))
 
-pub line_passes : (ls : List (Bor (List ℕ))) (i : ℕ) (all : Before) (at : ℕ) (cells : List (Option ℕ)) (d : Bor (List ℕ)) → i < length ls → IsBefore ls i all at cells → HasNoFault at (line_of (tokens (get_or ls i d).now))
-line_passes ls i all at cells d lt h =
-    let p = passed (i + 1) h.before (line_of (tokens (get_or ls i d).now)) (λ c. class_one (i + 1 + 1) c (texts (drop (i + 1) ls))) all (sym (one_line (i + 1) h.before ls i d lt) ∙ h.first) in
-    subst (λ (n : ℕ). HasNoFault n (line_of (tokens (get_or ls i d).now))) h.here p.0
+abbrev pub spelt_at : ℕ → List (ℕ × ℕ) → Spelt
+spelt_at at pairs = record { at = at; pairs = pairs }
+
+spell_is : (ls : List (Bor (List ℕ))) (names : Names) (i at : ℕ) (d : Bor (List ℕ)) (wanted : Result Spelt SourceFault) → i < length ls → at ≡ address_of (said ls) i
+    → spelt_with_line names (spelt_at at (pairs_before (said ls) names i)) (line_of (tokens (get_or ls i d).now)) ≡ wanted → spelt_with_line names (spelt_before (said ls) names i) (ith_line (said ls) i) ≡ wanted
+spell_is ls names i at d wanted lt here step =
+    ap (λ (n : ℕ). spelt_with_line names (spelt_at n (pairs_before (said ls) names i)) (ith_line (said ls) i)) (sym here)
+    ∙ (ap (λ (l : Option Line). spelt_with_line names (spelt_at at (pairs_before (said ls) names i)) l) (said_at ls i d lt) ∙ step)
 
 -- one more line is spelled
-pub next_line : (ls : List (Bor (List ℕ))) (i : ℕ) (all : Before) (at now : ℕ) (cells new : List (Option ℕ)) (d : Bor (List ℕ)) → i < length ls → (h : IsBefore ls i all at cells) → (t : Spelt)
-    → spelt_with_line all.names (spelt_at at h.pairs) (line_of (tokens (get_or ls i d).now)) ≡ Ok t → t.at ≡ now → IsKept new t.pairs → IsBefore ls (i + 1) all now new
-next_line ls i all at now cells new d lt h t step is kept =
-    let line : Option Line = line_of (tokens (get_or ls i d).now) in
-    let p = passed (i + 1) h.before (line_of (tokens (get_or ls i d).now)) (λ c. class_one (i + 1 + 1) c (texts (drop (i + 1) ls))) all (sym (one_line (i + 1) h.before ls i d lt) ∙ h.first) in
-    let c = p.1 all.names (spelt_at at h.pairs) t (sym h.here) step in
-    let goes : class_two (i + 1) all.names (spelt_at at h.pairs) (texts (drop i ls)) ≡ class_two (i + 1 + 1) all.names t (texts (drop (i + 1) ls)) =
-    two_line (i + 1) all.names (spelt_at at h.pairs) ls i d lt ∙ ap (λ (r : Result Spelt SourceFault). then_lines (i + 1) r (λ x. class_two (i + 1 + 1) all.names x (texts (drop (i + 1) ls)))) step in
+pub next_line : (ls : List (Bor (List ℕ))) (names : Names) (i at now : ℕ) (cells new : List (Option ℕ)) (d : Bor (List ℕ)) → i < length ls → IsBeforeSecond ls names i at cells → (t : Spelt)
+    → spelt_with_line names (spelt_at at (pairs_before (said ls) names i)) (line_of (tokens (get_or ls i d).now)) ≡ Ok t → t.at ≡ now → IsKept new t.pairs → IsBeforeSecond ls names (i + 1) now new
+unfolding class_two_fault
+next_line ls names i at now cells new d lt h t step is kept =
+    let lines : List (Option Line) = said ls in
+    let p = bytes_passed (spelt_before lines names i) (next_at (ith_line lines i) (address_of lines i)) (line_bytes (address_of lines i) names (ith_line lines i)) t (spell_is ls names i at d (Ok t) lt h.here step) in
+    let t_is : t ≡ spelt_before lines names (i + 1) = p.1 ∙ spelt_more lines names i in
     record {
-      before = c.0;
-      here = c.1 ∙ is;
-      first = c.2;
-      pairs = t.pairs;
-      kept = kept;
-      second = ap (λ (n : ℕ). class_two (i + 1 + 1) all.names (spelt_at n t.pairs) (texts (drop (i + 1) ls))) (sym is) ∙ (sym goes ∙ h.second);
+      within = omega (arith, lt);
+      here = sym is ∙ ap (λ (s : Spelt). s.at) t_is;
+      kept = subst (λ (s : Spelt). IsKept new s.pairs) t_is kept;
+      none = none_before_next (class_two_fault lines names) i h.none p.0;
     }
 
 -- a line is refused
-pub line_stops : (kind : FaultKind) (line : ℕ) (ls : List (Bor (List ℕ))) (i : ℕ) (all : Before) (at now : ℕ) (cells new : List (Option ℕ)) (d : Bor (List ℕ)) → i < length ls → (h : IsBefore ls i all at cells)
-    → Adds (Err kind) now new (spelt_with_line all.names (spelt_at at h.pairs) (line_of (tokens (get_or ls i d).now))) → NumbersLine kind i line → FailsAs kind line (pairs_of (class_two 1 all.names nothing_spelt (texts ls)))
-line_stops NoMemory line ls i all at now cells new d lt h refused is = is
-line_stops (Refused f) line ls i all at now cells new d lt h refused is =
-    let goes : class_two (i + 1) all.names (spelt_at at h.pairs) (texts (drop i ls)) ≡ Err (i + 1, f) =
-    two_line (i + 1) all.names (spelt_at at h.pairs) ls i d lt ∙ ap (λ (r : Result Spelt SourceFault). then_lines (i + 1) r (λ x. class_two (i + 1 + 1) all.names x (texts (drop (i + 1) ls)))) refused in
-    ap pairs_of (sym h.second ∙ goes) ∙ rw is refl
+pub line_stops : (kind : FaultKind) (line : ℕ) (ls : List (Bor (List ℕ))) (names : Names) (i at now : ℕ) (cells new : List (Option ℕ)) (d : Bor (List ℕ)) → i < length ls → IsBeforeSecond ls names i at cells
+    → Adds (Err kind) now new (spelt_with_line names (spelt_at at (pairs_before (said ls) names i)) (line_of (tokens (get_or ls i d).now))) → NumbersLine kind i line → IsFirst kind line (first_of_class_two (said ls) names)
+unfolding class_two_fault
+line_stops NoMemory line ls names i at now cells new d lt h refused is = is
+line_stops (Refused f) line ls names i at now cells new d lt h refused is =
+    let lines : List (Option Line) = said ls in
+    first_of_line (class_two_fault lines names) ls i line f lt h.none
+    (bytes_refused (spelt_before lines names i) (next_at (ith_line lines i) (address_of lines i)) (line_bytes (address_of lines i) names (ith_line lines i)) f (spell_is ls names i at d (Err f) lt h.here refused)) is
 
 -- all lines are spelled
-pub all_spelt : (ls : List (Bor (List ℕ))) (i : ℕ) (all : Before) (at : ℕ) (cells : List (Option ℕ)) → length ls ≤ i → IsBefore ls i all at cells
-    → (pairs : List (ℕ × ℕ)) × (pairs_of (class_two 1 all.names nothing_spelt (texts ls)) ≡ Ok pairs) × IsKept cells pairs
-unfolding class_two
-all_spelt ls i all at cells le h =
-    let none : class_two (i + 1) all.names (spelt_at at h.pairs) (texts (drop i ls)) ≡ Ok (spelt_at at h.pairs) = ap (λ l. class_two (i + 1) all.names (spelt_at at h.pairs) (texts l)) (drop_all i ls le) in
-    (h.pairs, ap pairs_of (sym h.second ∙ none), h.kept)
+pub all_spelt : (ls : List (Bor (List ℕ))) (names : Names) (i at : ℕ) (cells : List (Option ℕ)) → length ls ≤ i → IsBeforeSecond ls names i at cells
+    → (first_of_class_two (said ls) names ≡ None) × IsKept cells (pairs_before (said ls) names (length (said ls)))
+all_spelt ls names i at cells le h =
+    let all : i ≡ length (said ls) = omega (arith, said_length ls, le, h.within) in
+    (none_first (class_two_fault (said ls) names) (length (said ls)) (λ j lt. h.none j (omega (arith, lt, all))), subst (λ (n : ℕ). IsKept cells (pairs_before (said ls) names n)) all h.kept)
 
 -- ---- both passes
 
-pub assembled_is : (text : List ℕ) (ls : List (List ℕ)) (all : Before) (pairs : List (ℕ × ℕ)) → ls ≡ lines_of text → class_one 1 nothing_before ls ≡ Ok all → pairs_of (class_two 1 all.names nothing_spelt ls) ≡ Ok pairs → assembled text ≡ Ok pairs
-assembled_is text ls all pairs is one two =
-    subst (λ (l : List (List ℕ)). then_class_two l (class_one 1 nothing_before l) ≡ Ok pairs) is (ap (then_class_two ls) one ∙ two)
+-- a fault of class one is that of the text
+pub one_fails : (kind : FaultKind) (line : ℕ) (text : List ℕ) (ls : List (List ℕ)) → ls ≡ lines_of text → IsFirst kind line (first_of_class_one (read ls)) → FailsAs kind line (assembled text)
+unfolding spelt
+one_fails NoMemory line text ls is fails = fails
+one_fails (Refused f) line text ls is fails =
+    let whole : spelt (read ls) ≡ Err (line, f) = rw fails refl in
+    ap (λ (l : List (List ℕ)). spelt (read l)) (sym is) ∙ whole
+
+-- a fault of class two is that of a text without one of class one
+pub two_fails : (kind : FaultKind) (line : ℕ) (text : List ℕ) (ls : List (List ℕ)) (names : Names) → ls ≡ lines_of text → first_of_class_one (read ls) ≡ None → names ≡ all_names (read ls) → IsFirst kind line (first_of_class_two (read ls) names)
+    → FailsAs kind line (assembled text)
+unfolding spelt
+two_fails NoMemory line text ls names is one same fails = fails
+two_fails (Refused f) line text ls names is one same fails =
+    let fails' : first_of_class_two (read ls) (all_names (read ls)) ≡ Some (line, f) = subst (λ (n : Names). first_of_class_two (read ls) n ≡ Some (line, f)) same fails in
+    let whole : spelt (read ls) ≡ Err (line, f) = rw (one, fails') refl in
+    ap (λ (l : List (List ℕ)). spelt (read l)) (sym is) ∙ whole

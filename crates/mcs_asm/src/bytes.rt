@@ -1,5 +1,5 @@
 //! The bytes that a statement spells.
-ghost use Rattle.std.specs.Prelude.{◌≡◌, ◌<◌, ◌≤◌, ◌/◌, ◌%◌, Bool, true, false, map, IfOk, length, nat_lt, Ok, Err, option_map};
+ghost use Rattle.std.specs.Prelude.{◌≡◌, ◌<◌, ◌≤◌, ◌/◌, ◌%◌, Bool, true, false, map, IfOk, length, nat_lt, Ok, Err, Some, option_map};
 ghost use Rattle.std.specs.List.{list_all};
 ghost use Rattle.mcs_source.specs.Spelling.{spelling};
 ghost use Rattle.mcs_source.specs.Assembly.{value_in, values_in, bytes_at, line_bytes, is_near, if_known, if_in_range, if_on_page};
@@ -190,7 +190,7 @@ pub fn line_bytes<'a>(
     line: &Line<'a>,
 ) -> Result<Vec<u8>, FaultKind>
     requires { at ≤ 4096 }
-    ensures { StepsTo (λ v. v.items) result (line_bytes at names.now.names (line_view line.now)) }
+    ensures { StepsTo (λ v. v.items) result (line_bytes at names.now.names (Some (line_view line.now))) }
 {
     match line {
         Line::Code(_, Some(statement)) => statement_bytes(alloc, at, names, statement),

@@ -1,5 +1,5 @@
 //! The names of a text, and the addresses of its statements.
-ghost use Rattle.std.specs.Prelude.{◌≡◌, ◌<◌, ◌≤◌, ◌^◌, ◌&&◌, ◌++◌, ◌∷◌, length, map, option_map, is_some, IfSome, OnOk, OnErr, [], None, false, nat_le, ◌+◌};
+ghost use Rattle.std.specs.Prelude.{◌≡◌, ◌<◌, ◌≤◌, ◌^◌, ◌&&◌, ◌++◌, ◌∷◌, length, map, option_map, is_some, IfSome, OnOk, OnErr, [], None, Some, false, nat_le, ◌+◌};
 ghost use Rattle.std.specs.Option.{option_copied};
 ghost use Rattle.std.specs.List.{list_any};
 ghost use Rattle.std.specs.Str.{bytes_eq};
@@ -7,7 +7,8 @@ ghost use Rattle.std.specs.Ordering.{nat_cmp};
 ghost use Rattle.std.specs.Cmp.Lexicographic.{slice_cmp};
 ghost use Rattle.std.specs.BTreeMap.{get_by};
 ghost use Rattle.mcs_asm.specs.View.{statement_view, line_view, operand_view};
-ghost use Rattle.mcs_source.specs.Assembly.{Before, nothing_before, size, statement_size, is_known, is_known_name, defined_name, is_bad_statement, is_bad_place, next_statement, next_at, passes_end, fault_one, before_next, value_in};
+ghost use Rattle.mcs_source.specs.Assembly.{size, statement_size, is_known, is_known_name, defined_name, is_bad_statement, is_bad_place, next_statement, next_at, passes_end, fault_one, value_in};
+ghost use Rattle.mcs_asm.specs.Passes.{nothing_before, before_next};
 
 use crate::fault::SourceFault;
 use crate::statements::{Line, Operand, Statement};
@@ -28,9 +29,8 @@ pub struct Names<'a> {
 }
 
 impl<'a> Model for Names<'a> {
-    //! The names of a text, and the addresses of its statements.
     ghost use Rattle.std.specs.Prelude.{map, ◌≤◌};
-    ghost use Rattle.mcs_source.specs.Assembly.{Before};
+    ghost use Rattle.mcs_asm.specs.Passes.{Before};
     ghost use Rattle.mcs_asm.specs.View.{Tells};
 
     ghost Value = { Before };
@@ -106,7 +106,7 @@ impl<'a> Names<'a> {
 
     /// The first fault of class one that a line has, of those that a line with a form can have.
     pub fn fault(&self, line: &Line<'a>) -> Option<SourceFault>
-        ensures { result ≡ fault_one self.now (line_view line.now) }
+        ensures { result ≡ fault_one self.now.at self.now.names (Some (line_view line.now)) }
     {
         let name = defined_name(line);
         if is_bad_place(line) {
@@ -124,8 +124,8 @@ impl<'a> Names<'a> {
 
     /// Adds what a line without such a fault says. Where memory is refused nothing is added.
     pub fn add(&mut self, line: &Line<'a>) -> Result<(), AllocError>
-        requires { fault_one self.old (line_view line.now) ≡ None }
-        ensures added { OnOk result (self.new ≡ before_next self.old (line_view line.now)) }
+        requires { fault_one self.old.at self.old.names (Some (line_view line.now)) ≡ None }
+        ensures added { OnOk result (self.new ≡ before_next self.old (Some (line_view line.now))) }
         ensures unchanged { OnErr result (self.new ≡ self.old) }
     {
         match line {
@@ -232,7 +232,7 @@ pub fn next_at(line: &Line<'_>, at: u16) -> u16
     requires start { at ≤ 4096 }
     requires place { is_bad_place (line_view line.now) ≡ false }
     requires room { passes_end (line_view line.now) at ≡ false }
-    ensures at { result ≡ next_at (line_view line.now) at }
+    ensures at { result ≡ next_at (Some (line_view line.now)) at }
     ensures within { result ≤ 4096 }
 {
     match line {

@@ -1,9 +1,10 @@
 //! The two passes over the lines of a text: first the names, then the bytes.
-ghost use Rattle.std.specs.Prelude.{List, ℕ, ◌+◌, length, Ok, ◌≡◌, ◌<◌, ◌≤◌, ◌^◌, map};
+ghost use Rattle.std.specs.Prelude.{List, ℕ, ◌+◌, length, Ok, ◌≡◌, ◌<◌, ◌≤◌, ◌^◌, map, None};
 ghost use Rattle.mcs_source.specs.Lexical.{tokens};
 ghost use Rattle.mcs_source.specs.Lines.{line_of};
-ghost use Rattle.mcs_source.specs.Assembly.{nothing_before, before_with_line, class_one, class_two, nothing_spelt, pairs_of, assembled, spelt_with_bytes, spelt_with_line};
-ghost use Rattle.mcs_asm.specs.View.{Steps, Passes, Assembles, NumbersLine, ComesOf, Keeps, Adds, Spells, HasNoFault};
+ghost use Rattle.mcs_source.specs.Assembly.{read, first_of_class_one, all_names, assembled};
+ghost use Rattle.mcs_asm.specs.View.{Assembles};
+ghost use Rattle.mcs_asm.specs.Passes.{before_with_line, spelt_with_bytes, spelt_with_line, HasNoFault, Steps, PassesFirst, PassesSecond, NumbersLine, ComesOf, Keeps, Adds};
 ghost use Rattle.mcs_asm.specs.Cells.{IsKept};
 
 use crate::bytes::line_bytes;
@@ -55,7 +56,7 @@ fn at_line(index: usize, came: Result<(), FaultKind>) -> Result<(), AsmFault>
 
 /// What all lines say of names and addresses, or the first fault of class one.
 fn first_pass<'a>(alloc: Global, lines: &[&'a [u8]]) -> Result<Names<'a>, AsmFault>
-    ensures { Passes result (class_one 1 nothing_before (map (λ l. l.now) lines.now)) }
+    ensures { PassesFirst result (read (map (λ l. l.now) lines.now)) }
 {
     let mut names = Names::new(alloc);
     for i in 0..lines.len() {
@@ -111,8 +112,9 @@ impl Spelt {
 
 /// What all lines spell, or the first fault of class two.
 fn second_pass<'a>(alloc: Global, names: &Names<'a>, lines: &[&'a [u8]]) -> Result<Cells, AsmFault>
-    requires { class_one 1 nothing_before (map (λ l. l.now) lines.now) ≡ Ok names.now }
-    ensures { Spells result (pairs_of (class_two 1 names.now.names nothing_spelt (map (λ l. l.now) lines.now))) }
+    requires no_fault { first_of_class_one (read (map (λ l. l.now) lines.now)) ≡ None }
+    requires names { names.now.names ≡ all_names (read (map (λ l. l.now) lines.now)) }
+    ensures { PassesSecond result (read (map (λ l. l.now) lines.now)) names.now.names }
 {
     let mut spelt = Spelt {
         at: 0,

@@ -2,7 +2,7 @@
 ghost use Rattle.std.specs.Prelude.{◌≡◌, ◌&&◌, map, option_map, IfOk, MatchOption, ◌∷◌, Some, None};
 ghost use Rattle.std.specs.Option.{option_copied};
 ghost use Rattle.mcs_source.specs.Lexical.{Word, Colon, Equals, tokens, Token};
-ghost use Rattle.mcs_source.specs.Lines.{Whole, word_only, word_first, name_of, operand_of, one_operand, one_number, one_register, one_pair, first_operand, first_register, first_pair, rest_if, list_item, operands_of, behind_mnemonic, statement_of, nothing, rest_of, unlabelled, line_of};
+ghost use Rattle.mcs_source.specs.Lines.{Whole, word_only, word_first, name_of, operand_of, one_operand, one_number, one_register, one_pair, first_operand, first_register, first_pair, rest_if, list_item, operands_of, after_mnemonic, statement_of, nothing, rest_of, unlabelled, line_of};
 ghost use Rattle.mcs_source.specs.declared.mnemonic.Mnemonic.TheVariants.{Org, Jcn, Fim, Isz};
 ghost use Rattle.mcs_asm.specs.View.{operand_view, statement_view, line_view, NoLabel, NoDefinition};
 
@@ -67,7 +67,7 @@ fn only<'a>(tokens: &mut Tokens<'a>) -> Option<&'a [u8]>
     Some(word)
 }
 
-/// The word in front of a comma.
+/// The word before a comma.
 fn first<'a>(tokens: &mut Tokens<'a>) -> Option<&'a [u8]>
     ensures { option_map (λ w. (w, tokens.new)) (option_copied result) ≡ word_first tokens.old }
 {
@@ -133,7 +133,7 @@ fn nothing<'a>(op: Op, tokens: &mut Tokens<'a>) -> Option<Statement<'a>>
     }
 }
 
-/// The operand in front, and whether a comma follows it.
+/// The first operand, and whether a comma follows it.
 fn list_item<'a>(tokens: &mut Tokens<'a>) -> Option<(Operand<'a>, bool)>
     ensures { option_map (λ x. (operand_view x.0, rest_if x.1 tokens.new)) result ≡ list_item tokens.old }
 {
@@ -169,7 +169,7 @@ fn operands<'a>(
 
 /// The operands of JCN.
 fn jump_if<'a>(tokens: &mut Tokens<'a>) -> Option<Statement<'a>>
-    ensures { option_map statement_view result ≡ behind_mnemonic Jcn tokens.old }
+    ensures { option_map statement_view result ≡ after_mnemonic Jcn tokens.old }
 {
     let condition = first_operand(tokens)?;
     let target = one_operand(tokens)?;
@@ -178,7 +178,7 @@ fn jump_if<'a>(tokens: &mut Tokens<'a>) -> Option<Statement<'a>>
 
 /// The operands of FIM.
 fn fetch<'a>(tokens: &mut Tokens<'a>) -> Option<Statement<'a>>
-    ensures { option_map statement_view result ≡ behind_mnemonic Fim tokens.old }
+    ensures { option_map statement_view result ≡ after_mnemonic Fim tokens.old }
 {
     let pair = first_pair(tokens)?;
     let value = one_operand(tokens)?;
@@ -187,7 +187,7 @@ fn fetch<'a>(tokens: &mut Tokens<'a>) -> Option<Statement<'a>>
 
 /// The operands of ISZ.
 fn count<'a>(tokens: &mut Tokens<'a>) -> Option<Statement<'a>>
-    ensures { option_map statement_view result ≡ behind_mnemonic Isz tokens.old }
+    ensures { option_map statement_view result ≡ after_mnemonic Isz tokens.old }
 {
     let register = first_register(tokens)?;
     let target = one_operand(tokens)?;
@@ -196,7 +196,7 @@ fn count<'a>(tokens: &mut Tokens<'a>) -> Option<Statement<'a>>
 
 /// The operand of `ORG`.
 fn origin<'a>(tokens: &mut Tokens<'a>) -> Option<Statement<'a>>
-    ensures { option_map statement_view result ≡ behind_mnemonic Org tokens.old }
+    ensures { option_map statement_view result ≡ after_mnemonic Org tokens.old }
 {
     let at = one_number(tokens)?;
     Some(Statement::Origin(at))
@@ -210,12 +210,12 @@ fn whole<'a>(op: Option<Op>) -> Option<Statement<'a>>
 }
 
 /// The statement that a mnemonic begins, from what follows it.
-fn behind<'a>(
+fn statement_after<'a>(
     alloc: Global,
     mnemonic: Mnemonic,
     tokens: &mut Tokens<'a>,
 ) -> Result<Option<Statement<'a>>, AllocError>
-    ensures { IfOk result (λ s. option_map statement_view s ≡ behind_mnemonic mnemonic tokens.old) }
+    ensures { IfOk result (λ s. option_map statement_view s ≡ after_mnemonic mnemonic tokens.old) }
 {
     match mnemonic {
         Mnemonic::Org => Ok(origin(tokens)),
@@ -253,10 +253,10 @@ fn read_statement<'a>(
     let Some(mnemonic) = mnemonic_in(word) else {
         return Ok(None);
     };
-    behind(alloc, mnemonic, tokens)
+    statement_after(alloc, mnemonic, tokens)
 }
 
-/// What stands after a label, or in front where there is none.
+/// What follows a label, or the whole line where there is none.
 fn rest<'a>(
     alloc: Global,
     label: Option<&'a [u8]>,
@@ -273,7 +273,7 @@ fn rest<'a>(
     }
 }
 
-/// The word in front of a colon, and what follows.
+/// The word before a colon, and what follows.
 fn label_of<'a>(line: &'a [u8]) -> Option<(&'a [u8], Tokens<'a>)>
     ensures { MatchOption result (NoLabel (tokens line.now)) (λ x. tokens line.now ≡ Word x.0.now ∷ Colon ∷ x.1) }
 {
@@ -284,7 +284,7 @@ fn label_of<'a>(line: &'a [u8]) -> Option<(&'a [u8], Tokens<'a>)>
     }
 }
 
-/// The word in front of a `=`, and what follows.
+/// The word before a `=`, and what follows.
 fn definition_of<'a>(line: &'a [u8]) -> Option<(&'a [u8], Tokens<'a>)>
     ensures { MatchOption result (NoDefinition (tokens line.now)) (λ x. tokens line.now ≡ Word x.0.now ∷ Equals ∷ x.1) }
 {

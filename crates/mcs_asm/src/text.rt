@@ -1,4 +1,4 @@
-//! The lines of a text.
+//! The lines of a source text.
 ghost use Rattle.std.specs.Prelude.{◌≡◌, ◌≤◌, ◌<◌, map, length, IfOk, MatchOption, ◌∷◌, ◌++◌, [], take, drop};
 ghost use Rattle.std.specs.List.{prefix_len};
 ghost use Rattle.mcs_source.specs.Assembly.{without_cr, lines_of};
@@ -12,17 +12,17 @@ fn no_lf(b: u8) -> bool
     b != b'\n'
 }
 
-/// How many bytes stand before the first LF.
-fn line_len(text: &[u8]) -> usize
-    ensures len { result ≡ prefix_len no_lf text.now }
-    ensures within { result ≤ length text.now }
+/// How many bytes come before the first LF.
+fn line_len(bytes: &[u8]) -> usize
+    ensures len { result ≡ prefix_len no_lf bytes.now }
+    ensures within { result ≤ length bytes.now }
 {
-    for (i, b) in text.iter().enumerate() {
+    for (i, b) in bytes.iter().enumerate() {
         if !no_lf(*b) {
             return i;
         }
     }
-    text.len()
+    bytes.len()
 }
 
 /// A line without the CR that ends it.
@@ -35,30 +35,30 @@ fn cut_cr(line: &[u8]) -> &[u8]
     }
 }
 
-/// The first line of a text, without its end, and what follows it.
+/// The first line, without its end, and what follows it.
 #[tactic(auto, using(crate::proofs::LineLists::no_lines, crate::proofs::LineLists::last_front, crate::proofs::LineLists::more_front))]
-fn front(text: &[u8]) -> Option<(&[u8], &[u8])>
-    ensures { MatchOption result (lines_of text.now ≡ []) (λ x. (lines_of text.now ≡ x.0.now ∷ lines_of x.1.now) × (length x.1.now < length text.now)) }
+fn front(bytes: &[u8]) -> Option<(&[u8], &[u8])>
+    ensures { MatchOption result (lines_of bytes.now ≡ []) (λ x. (lines_of bytes.now ≡ x.0.now ∷ lines_of x.1.now) × (length x.1.now < length bytes.now)) }
 {
-    if text.is_empty() {
+    if bytes.is_empty() {
         return None;
     }
-    let (line, rest) = text.split_at(line_len(text));
+    let (line, rest) = bytes.split_at(line_len(bytes));
     match rest {
         [] => Some((cut_cr(line), rest)),
         [_, rest @ ..] => Some((cut_cr(line), rest)),
     }
 }
 
-/// The lines of a text, without their ends.
-pub fn lines(alloc: Global, text: &[u8]) -> Result<Vec<&[u8]>, AllocError>
-    ensures { IfOk result (λ v. map (λ l. l.now) v.items ≡ lines_of text.now) }
+/// The lines, without their ends.
+pub fn lines(alloc: Global, bytes: &[u8]) -> Result<Vec<&[u8]>, AllocError>
+    ensures { IfOk result (λ v. map (λ l. l.now) v.items ≡ lines_of bytes.now) }
 {
     let mut found = Vec::new(alloc);
-    let mut rest = text;
-    while let Some((line, behind)) = front(rest) {
+    let mut rest = bytes;
+    while let Some((line, after)) = front(rest) {
         found.push(line)?;
-        rest = behind;
+        rest = after;
     }
     Ok(found)
 }

@@ -1,12 +1,12 @@
 //! The tokens of a line.
 ghost use Rattle.std.specs.Prelude.{◌≡◌, ◌≤◌, ◌∷◌, [], length, drop, IsTrue, ◌↔◌, MatchOption};
 ghost use Rattle.std.specs.List.{prefix_len};
-ghost use Rattle.mcs_source.specs.Lexical.{is_word, is_blank, tokens};
+ghost use Rattle.mcs_source.specs.Lexical.{is_word_byte, is_blank, tokens};
 ghost use Rattle.mcs_asm.specs.View.{token_view};
 
 use std::marker::Model;
 
-/// A piece of a line; `Other` is a byte that is in no form.
+/// A token; `Other` is a byte that belongs to no form of a line.
 #[derive(Clone, Copy)]
 pub enum Token<'a> {
     Word(&'a [u8]),
@@ -16,8 +16,9 @@ pub enum Token<'a> {
     Other,
 }
 
-fn is_word(b: u8) -> bool
-    ensures { result ≡ is_word b }
+/// Whether a byte is part of a word: a letter, a digit or `_`.
+fn is_word_byte(b: u8) -> bool
+    ensures { result ≡ is_word_byte b }
 {
     b.is_ascii_digit() || b.is_ascii_uppercase() || b.is_ascii_lowercase() || b == b'_'
 }
@@ -28,20 +29,20 @@ fn is_blank(b: u8) -> bool
     b == b' ' || b == b'\t'
 }
 
-/// How many bytes the word in front has.
+/// How many bytes the word at the front has, 0 where there is none.
 fn word_len(bytes: &[u8]) -> usize
-    ensures len { result ≡ prefix_len is_word bytes.now }
+    ensures len { result ≡ prefix_len is_word_byte bytes.now }
     ensures within { result ≤ length bytes.now }
 {
     for (i, b) in bytes.iter().enumerate() {
-        if !is_word(*b) {
+        if !is_word_byte(*b) {
             return i;
         }
     }
     bytes.len()
 }
 
-/// How many spaces and tabs stand in front.
+/// How many spaces and tabs the line begins with.
 fn blank_len(bytes: &[u8]) -> usize
     ensures len { result ≡ prefix_len is_blank bytes.now }
     ensures within { result ≤ length bytes.now }
@@ -54,7 +55,7 @@ fn blank_len(bytes: &[u8]) -> usize
     bytes.len()
 }
 
-/// A line without the spaces and tabs in front.
+/// A line without the spaces and tabs that it begins with.
 #[tactic(auto, using(crate::proofs::Lexing::trimmed_rules))]
 fn trimmed(line: &[u8]) -> &[u8]
     ensures same { tokens result.now ≡ tokens line.now }
@@ -64,10 +65,10 @@ fn trimmed(line: &[u8]) -> &[u8]
     bytes
 }
 
-/// The token of the byte in front.
+/// The first token of a line that begins with neither a word nor a blank.
 #[tactic(auto, using(crate::proofs::Lexing::other_first), unfolding(mcs_source::specs::Lexical::tokens_after))]
 fn symbol(bytes: &[u8]) -> Option<(Token<'_>, &[u8])>
-    requires no_word { prefix_len is_word bytes.now ≡ 0 }
+    requires no_word { prefix_len is_word_byte bytes.now ≡ 0 }
     requires no_blank { prefix_len is_blank bytes.now ≡ 0 }
     ensures { MatchOption result (tokens bytes.now ≡ []) (λ x. tokens bytes.now ≡ token_view x.0 ∷ tokens x.1.now) }
 {
@@ -101,7 +102,6 @@ pub struct Tokens<'a> {
 }
 
 impl<'a> Model for Tokens<'a> {
-    //! The tokens of a line.
     ghost use Rattle.std.specs.Prelude.{List};
     ghost use Rattle.mcs_source.specs.Lexical.{Token, tokens};
 

@@ -10,8 +10,8 @@ use mcs_model::op::Op;
 use mcs_nibble::{PairNo, RegNo};
 use mcs_source::mnemonic::Mnemonic;
 
-/// Whether a word is a name, in either case.
-fn is_word(word: &[u8], name: &str) -> bool
+/// Whether a word is this name, in upper or lower case.
+fn equals_ignoring_case(word: &[u8], name: &str) -> bool
     ensures { result ≡ str_eq_ignore_ascii_case word.now name.now }
 {
     word.eq_ignore_ascii_case(name.as_bytes())
@@ -27,16 +27,19 @@ macro_rules! asked {
     };
 }
 
-/// Answers with what a row's name asks for, where the word is that name.
+/// Returns what a row's name asks for, where the word is that name.
 macro_rules! answered {
     ($word:ident $name:ident $kind:ident $text:literal) => {
-        if is_word($word, $text) {
+        if equals_ignoring_case($word, $text) {
             return Some(asked!($name $kind));
         }
     };
 }
 
-/// The same for a row of the group that is wanted; nothing for another row.
+/// The same for a row of the wanted group; nothing for another row.
+///
+/// The rows are looked up in six groups, since a proof about one list of 45 names takes far longer
+/// than six proofs about eight names each.
 macro_rules! tried {
     (addressing addressing $word:ident $name:ident $kind:ident $text:literal) => {
         answered!($word $name $kind $text)
@@ -67,19 +70,21 @@ macro_rules! group_rows {
     }};
 }
 
+/// `ORG`, `DB` and the instructions that name a condition, a pair or an address.
 #[tactic(auto, unfolding(mcs_source::specs::Mnemonics::orders))]
 fn order(w: &[u8]) -> Option<Mnemonic>
     ensures { result ≡ orders w.now }
 {
-    if is_word(w, "ORG") {
+    if equals_ignoring_case(w, "ORG") {
         return Some(Mnemonic::Org);
     }
-    if is_word(w, "DB") {
+    if equals_ignoring_case(w, "DB") {
         return Some(Mnemonic::Db);
     }
     instructions!(group_rows!(addressing, w))
 }
 
+/// `NOP` and the instructions that name a register or a value.
 #[tactic(auto, unfolding(mcs_source::specs::Mnemonics::on_registers))]
 fn on_register(w: &[u8]) -> Option<Mnemonic>
     ensures { result ≡ on_registers w.now }
@@ -87,6 +92,7 @@ fn on_register(w: &[u8]) -> Option<Mnemonic>
     instructions!(group_rows!(registers, w))
 }
 
+/// The instructions that write to RAM and to ports.
 #[tactic(auto, unfolding(mcs_source::specs::Mnemonics::on_ports))]
 fn on_port(w: &[u8]) -> Option<Mnemonic>
     ensures { result ≡ on_ports w.now }
@@ -94,6 +100,7 @@ fn on_port(w: &[u8]) -> Option<Mnemonic>
     instructions!(group_rows!(ports, w))
 }
 
+/// The instructions that read RAM and ports.
 #[tactic(auto, unfolding(mcs_source::specs::Mnemonics::on_memory))]
 fn on_memory_word(w: &[u8]) -> Option<Mnemonic>
     ensures { result ≡ on_memory w.now }
@@ -101,6 +108,7 @@ fn on_memory_word(w: &[u8]) -> Option<Mnemonic>
     instructions!(group_rows!(memory, w))
 }
 
+/// The instructions on the accumulator.
 #[tactic(auto, unfolding(mcs_source::specs::Mnemonics::on_accumulator))]
 fn on_accumulator_word(w: &[u8]) -> Option<Mnemonic>
     ensures { result ≡ on_accumulator w.now }
@@ -108,6 +116,7 @@ fn on_accumulator_word(w: &[u8]) -> Option<Mnemonic>
     instructions!(group_rows!(accumulator, w))
 }
 
+/// The instructions on the carry, and the conversions.
 #[tactic(auto, unfolding(mcs_source::specs::Mnemonics::on_carry))]
 fn on_carry_word(w: &[u8]) -> Option<Mnemonic>
     ensures { result ≡ on_carry w.now }
@@ -170,17 +179,18 @@ pub fn pair_named(word: &[u8]) -> Option<PairNo>
     }
 }
 
-/// Whether a word is no name, whatever its case.
+/// Whether a word is reserved, in upper or lower case, so that it cannot be a name.
 #[tactic(auto, unfolding(mcs_source::specs::Lines::is_reserved))]
 fn is_reserved(word: &[u8]) -> bool
     ensures { result ≡ is_reserved word.now }
 {
     mnemonic_in(word).is_some()
-        || is_word(word, "WPM")
+        || equals_ignoring_case(word, "WPM")
         || register_named(word).is_some()
         || pair_named(word).is_some()
 }
 
+/// Whether a word begins as a name does: with a letter or `_`.
 fn begins_name(word: &[u8]) -> bool
     ensures { result ≡ begins_name word.now }
 {

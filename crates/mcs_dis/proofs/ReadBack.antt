@@ -7,7 +7,7 @@ use Rattle.mcs_model.specs.QueryText.{hex_digit}
 use Rattle.std.specs.Char.{digit_value}
 use Rattle.mcs_model.specs.declared.op.Op.{Op}
 use Rattle.mcs_model.specs.declared.op.Op.TheVariants.{Nop, Jcn, Fim, Src, Fin, Jin, Jun, Jms, Inc, Isz, Add, Sub, Ld, Xch, Bbl, Ldm, Wrm, Wmp, Wrr, Wr0, Wr1, Wr2, Wr3, Sbm, Rdm, Rdr, Adm, Rd0, Rd1, Rd2, Rd3, Clb, Clc, Iac, Cmc, Cma, Ral, Rar, Tcc, Dac, Tcs, Stc, Daa, Kbp, Dcl}
-use Rattle.mcs_source.specs.Lexical.{Token, Word, Comma, tokens, tokens_after, word_then, is_word}
+use Rattle.mcs_source.specs.Lexical.{Token, Word, Comma, tokens, tokens_after, word_then, is_word_byte}
 use Rattle.mcs_model.specs.Numerals.{capped, number_written}
 use Rattle.mcs_source.specs.Mnemonics.{mnemonic_of, orders, on_registers, on_ports, on_memory, on_accumulator, on_carry}
 use Rattle.mcs_source.specs.Lines as asm
@@ -31,30 +31,30 @@ one_below p (suc n) all d lt =
       | inr ne ↦ one_below p n more d (omega arith)
     ]
 
-glyph_word : (d : ℕ) → d < 16 → is_word (hex_digit d) ≡ true
-glyph_word d lt = one_below (λ d. is_word (hex_digit d)) 16 refl d lt
+glyph_word : (d : ℕ) → d < 16 → is_word_byte (hex_digit d) ≡ true
+glyph_word d lt = one_below (λ d. is_word_byte (hex_digit d)) 16 refl d lt
 
 glyph_value : (d : ℕ) → d < 16 → digit_value (hex_digit d) ≡ d
 glyph_value d lt = eqb-true _ _ (one_below (λ d. eqb (digit_value (hex_digit d)) d) 16 refl d lt)
 
-decimal_word : (d : ℕ) → d < 16 → list_all is_word (decimal d) ≡ true
+decimal_word : (d : ℕ) → d < 16 → list_all is_word_byte (decimal d) ≡ true
 unfolding digits
-decimal_word d lt = one_below (λ d. list_all is_word (decimal d)) 16 refl d lt
+decimal_word d lt = one_below (λ d. list_all is_word_byte (decimal d)) 16 refl d lt
 
 -- a word to the end
-word_end : (w bs : List ℕ) → list_all is_word bs ≡ true → tokens_after w bs ≡ word_then (w ++ bs) []
+word_end : (w bs : List ℕ) → list_all is_word_byte bs ≡ true → tokens_after w bs ≡ word_then (w ++ bs) []
 unfolding tokens_after
 word_end w [] all = ap (λ l. word_then l []) (sym (append-nil w))
 word_end w (b ∷ bs) all =
-    let (here, more) = and_parts (is_word b) (list_all is_word bs) all in
+    let (here, more) = and_parts (is_word_byte b) (list_all is_word_byte bs) all in
     rw here (word_end (w ++ b ∷ []) bs more ∙ ap (λ l. word_then l []) (append_assoc w (b ∷ []) bs))
 
 -- a word to a comma
-word_comma : (w bs rest : List ℕ) → list_all is_word bs ≡ true → tokens_after w (bs ++ 44 ∷ rest) ≡ word_then (w ++ bs) (Comma ∷ tokens rest)
+word_comma : (w bs rest : List ℕ) → list_all is_word_byte bs ≡ true → tokens_after w (bs ++ 44 ∷ rest) ≡ word_then (w ++ bs) (Comma ∷ tokens rest)
 unfolding tokens_after
 word_comma w [] rest all = ap (λ l. word_then l (Comma ∷ tokens rest)) (sym (append-nil w))
 word_comma w (b ∷ bs) rest all =
-    let (here, more) = and_parts (is_word b) (list_all is_word bs) all in
+    let (here, more) = and_parts (is_word_byte b) (list_all is_word_byte bs) all in
     rw here (word_comma (w ++ b ∷ []) bs rest more ∙ ap (λ l. word_then l (Comma ∷ tokens rest)) (append_assoc w (b ∷ []) bs))
 
 is_nat : ℕ → Option ℕ → Bool

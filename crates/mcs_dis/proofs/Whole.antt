@@ -1,13 +1,15 @@
 -- The lines of some bytes, read again, spell exactly these bytes.
-use Rattle.std.proofs.Common.{◌≡◌, ℕ, suc, zero, ◌+◌, ◌-◌, ◌/◌, ◌%◌, ◌<◌, ◌≤◌, false, List, [], ◌∷◌, ◌++◌, length, take, drop, Option, Ok, refl, sym, ap, ◌∙◌, arith, append_assoc, append-nil}
+use Rattle.std.proofs.Common.{◌≡◌, ℕ, suc, zero, ◌+◌, ◌-◌, ◌/◌, ◌%◌, ◌<◌, ◌≤◌, false, List, [], ◌∷◌, ◌++◌, length, take, drop, Option, Some, None, Result, Ok, refl, sym, ap, subst, ◌∙◌, arith, append_assoc, append-nil}
 use Rattle.std.proofs.lemmas.Bool.{le-ltb, lt-ltb, lt-leb}
 use Rattle.std.proofs.lemmas.List.{length-take, length-drop, take-append-drop}
-use Rattle.std.specs.List.{AllByRecursion}
+use Rattle.std.specs.List.{AllByRecursion, cons_option}
 use Rattle.mcs_model.specs.declared.op.Op.{Op}
 use Rattle.mcs_source.specs.Lexical.{tokens}
 use Rattle.mcs_source.specs.Lines as asm
 use Rattle.mcs_model.specs.Images.{from_address, overlaps}
-use Rattle.mcs_source.specs.Assembly.{assembled, lines_of, nothing_before, nothing_spelt, Before, Spelt, before_with_line, spelt_with_line, class_one, class_two}
+use Rattle.mcs_source.specs.declared.fault.SourceFault.{SourceFault}
+use Rattle.mcs_source.specs.Assembly.{assembled, lines_of, read, ith_line, Names, definition, address_of, names_before, pairs_before, next_at, fault_one, fault_two, line_bytes, bytes_or_none, class_one_fault, class_two_fault}
+use Rattle.mcs_source.proofs.LineByLine.{NoneBefore, address_next, names_next, pairs_next, none_before_next, none_first, first_of_rest, all_passed}
 use Rattle.mcs_source.specs.Text.{SpellsItself, origin_text, source_of, op_at, second_word, piece_text, piece_size, piece_texts}
 use Rattle.mcs_dis.proofs.Clean.{line_is, address_clean}
 use Rattle.mcs_dis.proofs.LinesAgain.{IsLine, lines_again}
@@ -48,42 +50,107 @@ placed at (x ∷ xs) ys =
     let e : at + 1 + length xs ≡ at + length (x ∷ xs) = omega arith in
     ap (λ (l : List (ℕ × ℕ)). (at, x) ∷ l) (placed (at + 1) xs ys ∙ ap (λ k. from_address (at + 1) xs ++ from_address k ys) e)
 
-abbrev pub before : ℕ → Before
-before at = record { at = at; names = [] }
+-- ---- class one
 
-abbrev pub spelt : ℕ → List (ℕ × ℕ) → Spelt
-spelt at pairs = record { at = at; pairs = pairs }
+-- before line i, whose statement stands at an address, where the lines before it define no name and have no fault of class one
+record IsFineTo (lines : List (Option asm.Line)) (i at : ℕ) : Type 0 where
+  within : i ≤ length lines
+  address : address_of lines i ≡ at
+  names : names_before lines i ≡ []
+  none : NoneBefore (class_one_fault lines) i
 
-one_step : (at b : ℕ) (rest : List ℕ) (x : Option Op) → IsPiece at b rest x → at + piece_size x ≤ 4096 → before_with_line (before at) (asm.line_of (tokens (piece_text at b x))) ≡ Ok (before (at + piece_size x))
-one_step at b rest x p le = rw (p.reads) (rw (p.fine, p.size_of, le-ltb 4096 (at + piece_size x) le, p.next) refl)
+fine_next : (lines : List (Option asm.Line)) (i at next : ℕ) (line : Option asm.Line) → i < length lines → ith_line lines i ≡ line → fault_one at [] line ≡ None → definition line at ≡ None → next_at line at ≡ next → IsFineTo lines i at → IsFineTo lines (i + 1) next
+unfolding class_one_fault
+fine_next lines i at next line lt is fine no_name goes h = record {
+  within = omega (arith, lt);
+  address = address_next lines i ∙ (ap (λ (l : Option asm.Line). next_at l (address_of lines i)) is ∙ (ap (next_at line) h.address ∙ goes));
+  names = names_next lines i
+  ∙ (ap (λ (l : Option asm.Line). names_before lines i ++ cons_option (definition l (address_of lines i)) []) is
+  ∙ (ap (λ (n : ℕ). names_before lines i ++ cons_option (definition line n) []) h.address
+  ∙ (ap (λ (o : Option (List ℕ × ℕ)). names_before lines i ++ cons_option o []) no_name ∙ (append-nil (names_before lines i) ∙ h.names))));
+  none = none_before_next (class_one_fault lines) i h.none
+  (ap (λ (l : Option asm.Line). fault_one (address_of lines i) (names_before lines i) l) is ∙ (ap (λ (n : Names). fault_one (address_of lines i) n line) h.names ∙ (ap (λ (n : ℕ). fault_one n [] line) h.address ∙ fine)));
+}
 
-two_step : (at b : ℕ) (rest : List ℕ) (x : Option Op) (pairs : List (ℕ × ℕ)) → IsPiece at b rest x → AreBelow at pairs
-    → spelt_with_line [] (spelt at pairs) (asm.line_of (tokens (piece_text at b x))) ≡ Ok (spelt (at + piece_size x) (pairs ++ from_address at (take (piece_size x) (b ∷ rest))))
-two_step at b rest x pairs p below = rw (p.reads) (rw (p.bytes, below_free at (length (take (piece_size x) (b ∷ rest))) pairs below, p.next) refl)
+piece_fine : (at b : ℕ) (rest : List ℕ) (x : Option Op) → IsPiece at b rest x → at + piece_size x ≤ 4096 → fault_one at [] (asm.line_of (tokens (piece_text at b x))) ≡ None
+piece_fine at b rest x p le = rw (p.reads) (rw (p.fine, p.size_of, le-ltb 4096 (at + piece_size x) le) refl)
+
+piece_names : (at b : ℕ) (rest : List ℕ) (x : Option Op) → IsPiece at b rest x → definition (asm.line_of (tokens (piece_text at b x))) at ≡ None
+piece_names at b rest x p = rw (p.reads) refl
+
+piece_next : (at b : ℕ) (rest : List ℕ) (x : Option Op) → IsPiece at b rest x → next_at (asm.line_of (tokens (piece_text at b x))) at ≡ at + piece_size x
+piece_next at b rest x p = rw (p.reads) (p.next)
+
+last_is : (lines : List (Option asm.Line)) (i : ℕ) → i ≤ length lines → drop i lines ≡ [] → i ≡ length lines
+last_is lines i le e = omega (arith, le, length-drop i lines, ap length e)
+
+-- ---- class two
+
+-- before line i, whose statement stands at an address, where the lines before it spell these pairs and have no fault of class two
+record IsSpeltTo (lines : List (Option asm.Line)) (i at : ℕ) (pairs : List (ℕ × ℕ)) : Type 0 where
+  within : i ≤ length lines
+  address : address_of lines i ≡ at
+  spelt : pairs_before lines [] i ≡ pairs
+  none : NoneBefore (class_two_fault lines []) i
+
+spelt_next : (lines : List (Option asm.Line)) (i at next : ℕ) (line : Option asm.Line) (pairs : List (ℕ × ℕ)) (bytes : List ℕ) → i < length lines → ith_line lines i ≡ line → line_bytes at [] line ≡ Ok bytes → overlaps pairs at (length bytes) ≡ false → next_at line at ≡ next
+    → IsSpeltTo lines i at pairs → IsSpeltTo lines (i + 1) next (pairs ++ from_address at bytes)
+unfolding class_two_fault
+spelt_next lines i at next line pairs bytes lt is spells free goes h =
+    let bytes_are : line_bytes (address_of lines i) [] (ith_line lines i) ≡ Ok bytes = ap (λ (l : Option asm.Line). line_bytes (address_of lines i) [] l) is ∙ (ap (λ (n : ℕ). line_bytes n [] line) h.address ∙ spells) in
+    record {
+      within = omega (arith, lt);
+      address = address_next lines i ∙ (ap (λ (l : Option asm.Line). next_at l (address_of lines i)) is ∙ (ap (next_at line) h.address ∙ goes));
+      spelt = pairs_next lines [] i
+      ∙ (ap (λ (r : Result (List ℕ) SourceFault). pairs_before lines [] i ++ from_address (address_of lines i) (bytes_or_none r)) bytes_are
+      ∙ (ap (λ (n : ℕ). pairs_before lines [] i ++ from_address n bytes) h.address ∙ ap (λ (ps : List (ℕ × ℕ)). ps ++ from_address at bytes) h.spelt));
+      none = none_before_next (class_two_fault lines []) i h.none
+      (ap (λ (r : Result (List ℕ) SourceFault). fault_two (address_of lines i) (pairs_before lines [] i) r) bytes_are
+      ∙ (ap (λ (ps : List (ℕ × ℕ)). fault_two (address_of lines i) ps (Ok bytes)) h.spelt ∙ (ap (λ (n : ℕ). fault_two n pairs (Ok bytes)) h.address ∙ rw free refl)));
+    }
+
+piece_bytes : (at b : ℕ) (rest : List ℕ) (x : Option Op) → IsPiece at b rest x → line_bytes at [] (asm.line_of (tokens (piece_text at b x))) ≡ Ok (take (piece_size x) (b ∷ rest))
+piece_bytes at b rest x p = rw (p.reads) (p.bytes)
+
+-- ---- all pieces
 
 rest_is : (n b : ℕ) (rest : List ℕ) → 1 ≤ n → drop n (b ∷ rest) ≡ drop (n - 1) rest
 rest_is zero b rest le = absurd (omega (arith, le))
 rest_is (suc n) b rest le = ap (λ k. drop k rest) (omega arith)
 
-pub one_all : (fuel at k : ℕ) (bytes : List ℕ) → length bytes ≤ fuel → at + length bytes ≤ 4096 → AreBytes bytes → class_one k (before at) (piece_texts fuel at bytes) ≡ Ok (before (at + length bytes))
-unfolding class_one piece_texts
-one_all zero at k [] short le all = ap (λ (n : ℕ). Ok (before n)) (omega arith)
-one_all zero at k (b ∷ rest) short le all = absurd (omega (arith, short))
-one_all (suc fuel) at k [] short le all = ap (λ (n : ℕ). Ok (before n)) (omega arith)
-one_all (suc fuel) at k (b ∷ rest) short le all =
+one_end : (at i : ℕ) (lines : List (Option asm.Line)) → drop i lines ≡ [] → IsFineTo lines i at → IsFineTo lines (length lines) (at + 0)
+one_end at i lines is h =
+    let e : at ≡ at + 0 = omega arith in
+    subst (λ (n : ℕ). IsFineTo lines n (at + 0)) (last_is lines i h.within is) (subst (IsFineTo lines i) e h)
+
+two_end : (at i : ℕ) (lines : List (Option asm.Line)) (pairs : List (ℕ × ℕ)) → drop i lines ≡ [] → IsSpeltTo lines i at pairs → IsSpeltTo lines (length lines) (at + 0) (pairs ++ [])
+two_end at i lines pairs is h =
+    let e : at ≡ at + 0 = omega arith in
+    subst (λ (n : ℕ). IsSpeltTo lines n (at + 0) (pairs ++ [])) (last_is lines i h.within is) (subst (λ (n : ℕ). IsSpeltTo lines i n (pairs ++ [])) e (subst (IsSpeltTo lines i at) (sym (append-nil pairs)) h))
+
+one_all : (fuel at i : ℕ) (bytes : List ℕ) (lines : List (Option asm.Line)) → length bytes ≤ fuel → at + length bytes ≤ 4096 → AreBytes bytes → drop i lines ≡ read (piece_texts fuel at bytes) → IsFineTo lines i at → IsFineTo lines (length lines) (at + length bytes)
+unfolding piece_texts
+one_all zero at i [] lines short le all is h = one_end at i lines is h
+one_all zero at i (b ∷ rest) lines short le all is h = absurd (omega (arith, short))
+one_all (suc fuel) at i [] lines short le all is h = one_end at i lines is h
+one_all (suc fuel) at i (b ∷ rest) lines short le all is h =
     let x : Option Op = op_at b rest in
     let p : IsPiece at b rest (op_at b rest) = piece_is at b rest all.0 (second_small rest all.1) in
-    let len : length (drop (piece_size x - 1) rest) ≡ length rest - (piece_size x - 1) = length-drop (piece_size x - 1) rest in
-    let more = one_all fuel (at + piece_size x) (k + 1) (drop (piece_size x - 1) rest) (omega (arith, len, short, p.some)) (omega (arith, len, le, p.some, p.fits)) (drop_bytes (piece_size x - 1) rest all.1) in
-    let end : at + piece_size x + length (drop (piece_size x - 1) rest) ≡ at + length (b ∷ rest) = omega (arith, len, p.some, p.fits) in
-    rw (one_step at b rest x p (omega (arith, le, p.fits))) (more ∙ ap (λ (n : ℕ). Ok (before n)) end)
+    let n : ℕ = piece_size x in
+    let len : length (drop (n - 1) rest) ≡ length rest - (n - 1) = length-drop (n - 1) rest in
+    let f = first_of_rest lines i (asm.line_of (tokens (piece_text at b x))) (read (piece_texts fuel (at + n) (drop (n - 1) rest))) is in
+    let next : IsFineTo lines (i + 1) (at + n) = fine_next lines i at (at + n) (asm.line_of (tokens (piece_text at b x))) f.0 f.1 (piece_fine at b rest x p (omega (arith, le, p.fits))) (piece_names at b rest x p) (piece_next at b rest x p) h in
+    let more = one_all fuel (at + n) (i + 1) (drop (n - 1) rest) lines (omega (arith, len, short, p.some)) (omega (arith, len, le, p.some, p.fits)) (drop_bytes (n - 1) rest all.1) f.2 next in
+    let end : at + n + length (drop (n - 1) rest) ≡ at + length (b ∷ rest) = omega (arith, len, p.some, p.fits) in
+    subst (IsFineTo lines (length lines)) end more
 
-pub two_all : (fuel at k : ℕ) (bytes : List ℕ) (pairs : List (ℕ × ℕ)) → length bytes ≤ fuel → AreBytes bytes → AreBelow at pairs → class_two k [] (spelt at pairs) (piece_texts fuel at bytes) ≡ Ok (spelt (at + length bytes) (pairs ++ from_address at bytes))
-unfolding class_two piece_texts
-two_all zero at k [] pairs short all below = rw (append-nil pairs) (ap (λ (n : ℕ). Ok (spelt n pairs)) (omega arith))
-two_all zero at k (b ∷ rest) pairs short all below = absurd (omega (arith, short))
-two_all (suc fuel) at k [] pairs short all below = rw (append-nil pairs) (ap (λ (n : ℕ). Ok (spelt n pairs)) (omega arith))
-two_all (suc fuel) at k (b ∷ rest) pairs short all below =
+two_all : (fuel at i : ℕ) (bytes : List ℕ) (lines : List (Option asm.Line)) (pairs : List (ℕ × ℕ)) → length bytes ≤ fuel → AreBytes bytes → AreBelow at pairs → drop i lines ≡ read (piece_texts fuel at bytes) → IsSpeltTo lines i at pairs
+    → IsSpeltTo lines (length lines) (at + length bytes) (pairs ++ from_address at bytes)
+unfolding piece_texts
+two_all zero at i [] lines pairs short all below is h = two_end at i lines pairs is h
+two_all zero at i (b ∷ rest) lines pairs short all below is h = absurd (omega (arith, short))
+two_all (suc fuel) at i [] lines pairs short all below is h = two_end at i lines pairs is h
+two_all (suc fuel) at i (b ∷ rest) lines pairs short all below is h =
     let x : Option Op = op_at b rest in
     let p : IsPiece at b rest (op_at b rest) = piece_is at b rest all.0 (second_small rest all.1) in
     let n : ℕ = piece_size x in
@@ -92,13 +159,15 @@ two_all (suc fuel) at k (b ∷ rest) pairs short all below =
     let front_len : length front ≡ n = length-take n (b ∷ rest) ∙ omega (arith, p.fits) in
     let now : List (ℕ × ℕ) = pairs ++ from_address at front in
     let below' : AreBelow (at + n) now = below_more at (at + n) pairs (from_address at front) (omega arith) below (below_placed at (at + n) front (omega (arith, front_len))) in
-    let more = two_all fuel (at + n) (k + 1) (drop (n - 1) rest) now (omega (arith, len, short, p.some)) (drop_bytes (n - 1) rest all.1) below' in
+    let f = first_of_rest lines i (asm.line_of (tokens (piece_text at b x))) (read (piece_texts fuel (at + n) (drop (n - 1) rest))) is in
+    let next : IsSpeltTo lines (i + 1) (at + n) now = spelt_next lines i at (at + n) (asm.line_of (tokens (piece_text at b x))) pairs front f.0 f.1 (piece_bytes at b rest x p) (below_free at (length front) pairs below) (piece_next at b rest x p) h in
+    let more = two_all fuel (at + n) (i + 1) (drop (n - 1) rest) lines now (omega (arith, len, short, p.some)) (drop_bytes (n - 1) rest all.1) below' f.2 next in
     let end : at + n + length (drop (n - 1) rest) ≡ at + length (b ∷ rest) = omega (arith, len, p.some, p.fits) in
     let whole : front ++ drop (n - 1) rest ≡ b ∷ rest = ap (λ (l : List ℕ). front ++ l) (sym (rest_is n b rest p.some)) ∙ take-append-drop n (b ∷ rest) in
     let pairs_are : now ++ from_address (at + n) (drop (n - 1) rest) ≡ pairs ++ from_address at (b ∷ rest) =
     append_assoc pairs (from_address at front) (from_address (at + n) (drop (n - 1) rest))
     ∙ ap (λ (l : List (ℕ × ℕ)). pairs ++ l) (ap (λ (m : ℕ). from_address at front ++ from_address (at + m) (drop (n - 1) rest)) (sym front_len) ∙ (sym (placed at front (drop (n - 1) rest)) ∙ ap (from_address at) whole)) in
-    rw (two_step at b rest x pairs p below) (more ∙ rw (end, pairs_are) refl)
+    subst (λ (m : ℕ). IsSpeltTo lines (length lines) m (pairs ++ from_address at (b ∷ rest))) end (subst (IsSpeltTo lines (length lines) (at + n + length (drop (n - 1) rest))) pairs_are more)
 
 texts_clean : (fuel at : ℕ) (bytes : List ℕ) → AreBytes bytes → AllByRecursion IsLine (piece_texts fuel at bytes)
 unfolding piece_texts
@@ -110,16 +179,21 @@ texts_clean (suc fuel) at (b ∷ rest) all =
 
 -- the source of some bytes assembles to exactly these bytes
 pub source_again : (from : ℕ) (bytes : List ℕ) → from < 4096 → from + length bytes ≤ 4096 → AreBytes bytes → assembled (source_of from bytes) ≡ Ok (from_address from bytes)
-unfolding class_one class_two
+unfolding address_of names_before pairs_before
 source_again from bytes lt le all =
     let ts : List (List ℕ) = piece_texts (length bytes) from bytes in
-    let lines : lines_of (source_of from bytes) ≡ origin_text from ∷ ts =
+    let texts : lines_of (source_of from bytes) ≡ origin_text from ∷ ts =
     lines_again (origin_text from ∷ ts) (line_is (origin_text from) (address_clean (from / 256) (from % 256) (omega arith) (omega arith)), texts_clean (length bytes) from bytes all) in
-    let first : class_one 1 nothing_before (origin_text from ∷ ts) ≡ Ok (before (from + length bytes)) =
-    rw (origin_back from lt) (rw (lt-ltb from 4096 lt) (one_all (length bytes) from 2 bytes (omega arith) le all)) in
-    let second : class_two 1 [] nothing_spelt (origin_text from ∷ ts) ≡ Ok (spelt (from + length bytes) (from_address from bytes)) =
-    rw (origin_back from lt) (two_all (length bytes) from 2 bytes [] (omega arith) all tt) in
-    rw (lines, first, second) refl
+    let lines : List (Option asm.Line) = read (origin_text from ∷ ts) in
+    let origin : Option asm.Line = Some (asm.Code None (Some (asm.Origin from))) in
+    let some : 0 < length lines = omega arith in
+    let fine_start : IsFineTo lines 0 0 = record { within = omega arith; address = refl; names = refl; none = λ j less. absurd (omega (arith, less)) } in
+    let fine_first : IsFineTo lines (0 + 1) from = fine_next lines 0 0 from origin some (origin_back from lt) (rw (lt-ltb from 4096 lt) refl) refl refl fine_start in
+    let fine : IsFineTo lines (length lines) (from + length bytes) = one_all (length bytes) from 1 bytes lines (omega arith) le all refl fine_first in
+    let spelt_start : IsSpeltTo lines 0 0 [] = record { within = omega arith; address = refl; spelt = refl; none = λ j less. absurd (omega (arith, less)) } in
+    let spelt_first : IsSpeltTo lines (0 + 1) from [] = spelt_next lines 0 0 from origin [] [] some (origin_back from lt) refl refl refl spelt_start in
+    let spelt : IsSpeltTo lines (length lines) (from + length bytes) (from_address from bytes) = two_all (length bytes) from 1 bytes lines [] (omega arith) all tt refl spelt_first in
+    all_passed (source_of from bytes) (origin_text from ∷ ts) [] (sym texts) (none_first (class_one_fault lines) (length lines) fine.none) (sym fine.names) (none_first (class_two_fault lines []) (length lines) spelt.none) ∙ ap Ok spelt.spelt
 
 take_bytes : (n : ℕ) (bytes : List ℕ) → AreBytes bytes → AreBytes (take n bytes)
 take_bytes zero bytes all = tt

@@ -1,7 +1,7 @@
--- What a source text assembles to: the (address, byte) pairs that its lines spell, or its first fault.
--- Both are told on the list of all lines of the text, and know no pass and no table of a program. (Our own choice.)
-use Rattle.std.specs.Prelude.{ℕ, ◌+◌, ◌-◌, take, slice_index, ◌/◌, ◌%◌, Bool, true, false, not, ◌&&◌, ◌||◌, List, [], ◌∷◌, ◌++◌, length, Option, Some, None, is_some, Result, Ok, Err, nat_lt, nat_le, ◌==◌, if◌then◌else◌}
-use Rattle.std.specs.List.{list_any, list_all}
+-- What a source text assembles to: the (address, byte) pairs that its lines spell, or its first fault. (Our own choice.)
+-- Each definition speaks of line i in the list of all lines. Lines count from 0 here, and from 1 in a fault.
+use Rattle.std.specs.Prelude.{ℕ, zero, suc, ◌+◌, ◌-◌, take, slice_index, slice_index_or, ◌/◌, ◌%◌, Bool, true, false, not, ◌&&◌, ◌||◌, List, [], ◌∷◌, ◌++◌, length, map, find, Option, Some, None, is_some, option_map, Result, Ok, Err, nat_lt, nat_le, ◌==◌, if◌then◌else◌}
+use Rattle.std.specs.List.{list_any, list_all, flat_map, filter_map, range_with_len}
 use Rattle.std.specs.Str.{bytes_eq}
 use Rattle.mcs_model.specs.declared.limits.TheConstants.{NAMES}
 use Rattle.mcs_model.specs.declared.op.Op.TheVariants as op
@@ -35,19 +35,15 @@ lines_after line (b ∷ bytes) = if b == 10 then without_cr line ∷ lines_after
 abbrev pub lines_of : List ℕ → List (List ℕ)
 lines_of text = lines_after [] text
 
--- ---- faults of class one, and the names: a line is judged by itself and by the lines before it
+-- what each line says; None where it has no form
+abbrev pub read : List (List ℕ) → List (Option Line)
+read lines = map (λ line. line_of (tokens line)) lines
 
--- names with their values, in the order of their lines
-abbrev pub Names : Type 0
-Names = List (List ℕ × ℕ)
+-- what line i says
+abbrev pub ith_line : List (Option Line) → ℕ → Option Line
+ith_line lines i = slice_index_or lines i None
 
--- what the lines before say: the address of the next statement, and the names
-pub record Before : Type 0 where
-  pub at : ℕ
-  pub names : Names
-
-abbrev pub nothing_before : Before
-nothing_before = record { at = 0; names = [] }
+-- ---- addresses
 
 -- how many bytes a statement spells, whatever its names are
 abbrev pub size : Statement → ℕ
@@ -66,10 +62,47 @@ abbrev pub statement_size : Option Statement → ℕ
 statement_size None = 0
 statement_size (Some s) = size s
 
+-- the address after a statement: an `ORG` sets it, any other statement adds its size
+abbrev pub next_statement : Option Statement → ℕ → ℕ
+next_statement (Some (Origin n)) at = n
+next_statement s at = at + statement_size s
+
+-- the address after a line whose statement stands at `at`
+abbrev pub next_at : Option Line → ℕ → ℕ
+next_at (Some (Code label s)) at = next_statement s at
+next_at (Some (Define w n)) at = at
+next_at None at = at
+
+-- the address of the statement of line i
+unfoldable pub address_of : List (Option Line) → ℕ → ℕ
+address_of lines zero = 0
+address_of lines (suc i) = next_at (ith_line lines i) (address_of lines i)
+
+-- ---- names
+
+-- names with their values, in the order of the lines that define them
+abbrev pub Names : Type 0
+Names = List (List ℕ × ℕ)
+
+-- the name that a line defines, with its value: a label has the address of its own line's statement, also before an `ORG`
+abbrev pub definition : Option Line → ℕ → Option (List ℕ × ℕ)
+definition (Some (Code label s)) at = option_map (λ w. (w, at)) label
+definition (Some (Define w n)) at = Some (w, n)
+definition None at = None
+
+-- the names that the lines before line i define
+unfoldable pub names_before : List (Option Line) → ℕ → Names
+names_before lines i = filter_map (λ j. definition (ith_line lines j) (address_of lines j)) (range_with_len 0 i)
+
+-- the names of all lines
+abbrev pub all_names : List (Option Line) → Names
+all_names lines = names_before lines (length lines)
+
+-- ---- faults of class one: a line is judged by itself and by the lines before it
+
 abbrev pub is_known : List ℕ → Names → Bool
 is_known w names = list_any (λ n. bytes_eq n.0 w) names
 
--- the name that a line defines
 abbrev pub defined_name : Line → Option (List ℕ)
 defined_name (Code label s) = label
 defined_name (Define w n) = Some w
@@ -92,55 +125,20 @@ abbrev pub passes_end : Line → ℕ → Bool
 passes_end (Define w n) at = false
 passes_end (Code label s) at = (is_some label && nat_le 4096 at) || nat_lt 4096 (at + statement_size s)
 
--- the first of no 33, 31, 37 and 36 that a line has, if any
-abbrev pub fault_one : Before → Line → Option SourceFault
-fault_one b line =
+-- the first of no 30, 33, 31, 37 and 36 that a line has, if any; its statement stands at `at`, and the lines before it define `names`
+abbrev pub fault_one : ℕ → Names → Option Line → Option SourceFault
+fault_one at names None = Some BadStatement
+fault_one at names (Some line) =
     if is_bad_place line then Some OutOfRange else
-    if is_known_name (defined_name line) b.names then Some DoubleName else
-    if is_some (defined_name line) && nat_le NAMES (length b.names) then Some TooManyNames else
-    if passes_end line b.at then Some PastEnd else None
+    if is_known_name (defined_name line) names then Some DoubleName else
+    if is_some (defined_name line) && nat_le NAMES (length names) then Some TooManyNames else
+    if passes_end line at then Some PastEnd else None
 
-abbrev pub next_statement : Option Statement → ℕ → ℕ
-next_statement (Some (Origin n)) at = n
-next_statement s at = at + statement_size s
+-- the fault of class one of line i, if it has one
+unfoldable pub class_one_fault : List (Option Line) → ℕ → Option SourceFault
+class_one_fault lines i = fault_one (address_of lines i) (names_before lines i) (ith_line lines i)
 
--- where the statement of the next line stands
-abbrev pub next_at : Line → ℕ → ℕ
-next_at (Code label s) at = next_statement s at
-next_at (Define w n) at = at
-
-abbrev pub with_label : Option (List ℕ) → ℕ → Names → Names
-with_label None at names = names
-with_label (Some w) at names = names ++ (w, at) ∷ []
-
--- the names with that of a line: a label has the address of its own line's statement, before an `ORG`
-abbrev pub with_names : Line → ℕ → Names → Names
-with_names (Code label s) at names = with_label label at names
-with_names (Define w n) at names = names ++ (w, n) ∷ []
-
-abbrev pub before_next : Before → Line → Before
-before_next b line = record { at = next_at line b.at; names = with_names line b.at b.names }
-
-abbrev pub unless_fault : {A : Type 0} → Option SourceFault → A → Result A SourceFault
-unless_fault (Some f) b = Err f
-unless_fault None b = Ok b
-
--- what the lines say with one more, or its fault; no 30 where it has no form
-abbrev pub before_with_line : Before → Option Line → Result Before SourceFault
-before_with_line b None = Err BadStatement
-before_with_line b (Some line) = unless_fault (fault_one b line) (before_next b line)
-
--- a fault with the number of its line, or what comes of the lines after
-abbrev pub then_lines : {A B : Type 0} → ℕ → Result A SourceFault → (A → Result B (ℕ × SourceFault)) → Result B (ℕ × SourceFault)
-then_lines k (Err f) next = Err (k, f)
-then_lines k (Ok b) next = next b
-
--- the first line with a fault of class one, or what all lines say; `k` is the number of the first
-unfoldable pub class_one : ℕ → Before → List (List ℕ) → Result Before (ℕ × SourceFault)
-class_one k b [] = Ok b
-class_one k b (line ∷ lines) = then_lines k (before_with_line b (line_of (tokens line))) (λ c. class_one (k + 1) c lines)
-
--- ---- faults of class two, and the pairs: a line is judged by the lines before it and by all names
+-- ---- the bytes of a line: they depend on its address and on the values of all names
 
 -- the value of a name, if a line defines it
 abbrev pub value_of : List ℕ → Names → Option ℕ
@@ -188,43 +186,55 @@ bytes_at at names (Jcn v w) = if_known (value_in names v) (λ n. if_known (value
 bytes_at at names (Isz r w) = if_known (value_in names w) (λ t. if_in_range (nat_lt t 4096) (if_on_page (is_near at t) (Ok (spelling (op.Isz r (t % 256))))))
 
 -- the bytes of a line whose statement stands at an address
-abbrev pub line_bytes : ℕ → Names → Line → Result (List ℕ) SourceFault
-line_bytes at names (Code label (Some s)) = bytes_at at names s
+abbrev pub line_bytes : ℕ → Names → Option Line → Result (List ℕ) SourceFault
+line_bytes at names (Some (Code label (Some s))) = bytes_at at names s
 line_bytes at names line = Ok []
 
--- what the lines before spell: the address of the next statement, and the pairs in order of lines
-pub record Spelt : Type 0 where
-  pub at : ℕ
-  pub pairs : List (ℕ × ℕ)
+abbrev pub bytes_or_none : Result (List ℕ) SourceFault → List ℕ
+bytes_or_none (Ok bytes) = bytes
+bytes_or_none (Err f) = []
 
-abbrev pub nothing_spelt : Spelt
-nothing_spelt = record { at = 0; pairs = [] }
+-- the pairs of line i, where all names are `names`; none where it has one of these faults
+abbrev pub line_pairs : List (Option Line) → Names → ℕ → List (ℕ × ℕ)
+line_pairs lines names i = from_address (address_of lines i) (bytes_or_none (line_bytes (address_of lines i) names (ith_line lines i)))
 
--- the pairs with those of one more line; no 35 where an earlier line spells one of its addresses
-abbrev pub spelt_with_bytes : Spelt → ℕ → Result (List ℕ) SourceFault → Result Spelt SourceFault
-spelt_with_bytes s next (Err f) = Err f
-spelt_with_bytes s next (Ok bytes) = if overlaps s.pairs s.at (length bytes) then Err Overlap else Ok (record { at = next; pairs = s.pairs ++ from_address s.at bytes })
+-- the pairs of the lines before line i, in the order of these lines
+unfoldable pub pairs_before : List (Option Line) → Names → ℕ → List (ℕ × ℕ)
+pairs_before lines names i = flat_map (line_pairs lines names) (range_with_len 0 i)
 
-abbrev pub spelt_with_line : Names → Spelt → Option Line → Result Spelt SourceFault
-spelt_with_line names s None = Err BadStatement
-spelt_with_line names s (Some line) = spelt_with_bytes s (next_at line s.at) (line_bytes s.at names line)
+-- ---- faults of class two: a line is judged by itself, by the lines before it, and by the values of all names
 
--- the first line with a fault of class two, or what all lines spell; `k` is the number of the first
-unfoldable pub class_two : ℕ → Names → Spelt → List (List ℕ) → Result Spelt (ℕ × SourceFault)
-class_two k names s [] = Ok s
-class_two k names s (line ∷ lines) = then_lines k (spelt_with_line names s (line_of (tokens line))) (λ t. class_two (k + 1) names t lines)
+-- the first of no 32, 33, 34 and 35 that a line has, if any; 35 where `pairs`, those of the lines before it, have one of its addresses
+abbrev pub fault_two : ℕ → List (ℕ × ℕ) → Result (List ℕ) SourceFault → Option SourceFault
+fault_two at pairs (Err f) = Some f
+fault_two at pairs (Ok bytes) = if overlaps pairs at (length bytes) then Some Overlap else None
+
+-- the fault of class two of line i, if it has one
+unfoldable pub class_two_fault : List (Option Line) → Names → ℕ → Option SourceFault
+class_two_fault lines names i = fault_two (address_of lines i) (pairs_before lines names i) (line_bytes (address_of lines i) names (ith_line lines i))
 
 -- ---- the whole
 
-abbrev pub pairs_of : Result Spelt (ℕ × SourceFault) → Result (List (ℕ × ℕ)) (ℕ × SourceFault)
-pairs_of (Err f) = Err f
-pairs_of (Ok s) = Ok s.pairs
+-- the least of n lines that has a fault: its number, from 1, and the fault
+abbrev pub first_fault : (ℕ → Option SourceFault) → ℕ → Option (ℕ × SourceFault)
+first_fault fault n = find (λ i. is_some (fault i)) (range_with_len 0 n) >>= λ i. fault i >>= λ f. Some (i + 1, f)
 
-abbrev pub then_class_two : List (List ℕ) → Result Before (ℕ × SourceFault) → Result (List (ℕ × ℕ)) (ℕ × SourceFault)
-then_class_two lines (Err f) = Err f
-then_class_two lines (Ok b) = pairs_of (class_two 1 b.names nothing_spelt lines)
+abbrev pub first_of_class_one : List (Option Line) → Option (ℕ × SourceFault)
+first_of_class_one lines = first_fault (class_one_fault lines) (length lines)
 
--- the pairs that a text spells, in order of lines, or its first fault with the number of its line from 1: of class one if
--- there is one, else of class two
+abbrev pub first_of_class_two : List (Option Line) → Names → Option (ℕ × SourceFault)
+first_of_class_two lines names = first_fault (class_two_fault lines names) (length lines)
+
+abbrev pub unless_fault : {A E : Type 0} → Option E → Result A E → Result A E
+unless_fault (Some f) answer = Err f
+unless_fault None answer = answer
+
+-- the first fault of class one if there is one, else the first one of class two, else the pairs of all lines
+unfoldable pub spelt : List (Option Line) → Result (List (ℕ × ℕ)) (ℕ × SourceFault)
+spelt lines =
+    unless_fault (first_of_class_one lines)
+    (unless_fault (first_of_class_two lines (all_names lines)) (Ok (pairs_before lines (all_names lines) (length lines))))
+
+-- the pairs that a text spells, in the order of its lines, or its first fault with the number of its line
 abbrev pub assembled : List ℕ → Result (List (ℕ × ℕ)) (ℕ × SourceFault)
-assembled text = then_class_two (lines_of text) (class_one 1 nothing_before (lines_of text))
+assembled text = spelt (read (lines_of text))

@@ -1,7 +1,7 @@
 -- The tokens of a line of a source text. (Our own choice.)
 use Rattle.std.specs.Prelude.{ℕ, Bool, ◌&&◌, ◌||◌, List, [], ◌∷◌, ◌++◌, nat_le, ◌==◌, if◌then◌else◌}
 
--- a word is a run of letters, digits and `_`; `Other` is a byte that is in no form, as one that is not ASCII
+-- a word is a run of letters, digits and `_`; `Other` is a byte that no form of a line has, as one that is not ASCII
 pub data Token : Type 0 where
   Word : List ℕ → Token
   Comma : Token
@@ -13,14 +13,14 @@ abbrev pub is_within : ℕ → ℕ → ℕ → Bool
 is_within low high b = nat_le low b && nat_le b high
 
 -- a letter, a digit or `_`
-abbrev pub is_word : ℕ → Bool
-is_word b = ((is_within 48 57 b || is_within 65 90 b) || is_within 97 122 b) || b == 95
+abbrev pub is_word_byte : ℕ → Bool
+is_word_byte b = ((is_within 48 57 b || is_within 65 90 b) || is_within 97 122 b) || b == 95
 
 -- a space or a tab
 abbrev pub is_blank : ℕ → Bool
 is_blank b = b == 32 || b == 9
 
--- the token of a byte that is in no word
+-- the token of a byte that is not in a word
 abbrev pub symbol : ℕ → Token
 symbol b = if b == 44 then Comma else if b == 58 then Colon else if b == 61 then Equals else Other
 
@@ -33,7 +33,7 @@ word_then (b ∷ word) more = Word (b ∷ word) ∷ more
 unfoldable pub tokens_after : List ℕ → List ℕ → List Token
 tokens_after word [] = word_then word []
 tokens_after word (b ∷ bytes) =
-    if is_word b then tokens_after (word ++ b ∷ []) bytes else
+    if is_word_byte b then tokens_after (word ++ b ∷ []) bytes else
     word_then word (if is_blank b then tokens_after [] bytes else if b == 59 then [] else symbol b ∷ tokens_after [] bytes)
 
 -- the tokens of a line; a `;` begins a comment

@@ -52,7 +52,7 @@ abbrev pub pair_named : List ℕ → Option ℕ
 pair_named (b ∷ d ∷ []) = if (b == 80 || b == 112) && is_within 48 55 d then Some (d - 48) else None
 pair_named word = None
 
--- a word that is no name, in either case: a mnemonic, `ORG`, `DB`, `WPM`, a register or a pair
+-- a word that cannot be a name, in upper or lower case: a mnemonic, `ORG`, `DB`, `WPM`, a register or a pair
 unfoldable pub is_reserved : List ℕ → Bool
 is_reserved w = is_some (mnemonic_of w) || (str_eq_ignore_ascii_case w (codes "WPM") || (is_some (register_named w) || is_some (pair_named w)))
 
@@ -63,7 +63,7 @@ is_name w = (begins_name w && nat_le (length w) NAME_BYTES) && not (is_reserved 
 abbrev pub name_of : List ℕ → Option Operand
 name_of w = if is_name w then Some (Name w) else None
 
--- a number is no name, and a name no number
+-- no word is both a number and a name
 abbrev pub number_or : Option ℕ → Option Operand → Option Operand
 number_or (Some n) name = Some (Number (capped n))
 number_or None name = name
@@ -71,17 +71,17 @@ number_or None name = name
 abbrev pub operand_of : List ℕ → Option Operand
 operand_of w = number_or (number_written w) (name_of w)
 
--- the word that is all
+-- the word, where nothing else is there
 abbrev pub word_only : List Token → Option (List ℕ)
 word_only (Word w ∷ []) = Some w
 word_only ts = None
 
--- the word in front of a comma, and what follows the comma
+-- the word before a comma, and what follows the comma
 abbrev pub word_first : List Token → Option (List ℕ × List Token)
 word_first (Word w ∷ Comma ∷ ts) = Some (w, ts)
 word_first ts = None
 
--- the one operand that is all
+-- the operand, where nothing else is there
 abbrev pub one_operand : List Token → Option Operand
 one_operand ts = word_only ts >>= operand_of
 
@@ -94,7 +94,7 @@ one_register ts = word_only ts >>= register_named
 abbrev pub one_pair : List Token → Option ℕ
 one_pair ts = word_only ts >>= pair_named
 
--- the operand in front of a comma, and what follows the comma
+-- the operand before a comma, and what follows the comma
 abbrev pub first_operand : List Token → Option (Operand × List Token)
 first_operand ts = word_first ts >>= λ x. operand_of x.0 >>= λ v. Some (v, x.1)
 
@@ -109,7 +109,7 @@ abbrev pub rest_if : Bool → List Token → Option (List Token)
 rest_if true ts = Some ts
 rest_if false ts = None
 
--- the operand in front, and what follows its comma
+-- the first operand, and what follows its comma
 abbrev pub list_item : List Token → Option (Operand × Option (List Token))
 list_item (Word w ∷ []) = operand_of w >>= λ v. Some (v, None)
 list_item (Word w ∷ Comma ∷ more) = operand_of w >>= λ v. Some (v, Some more)
@@ -127,29 +127,29 @@ nothing o [] = Some (Whole o)
 nothing o (t ∷ ts) = None
 
 -- the statement that a mnemonic begins, from what follows it
-abbrev pub behind_mnemonic : Mnemonic → List Token → Option Statement
-behind_mnemonic m.Org ts = one_number ts >>= λ n. Some (Origin n)
-behind_mnemonic m.Db ts = operands_of ts >>= λ vs. Some (Data vs)
-behind_mnemonic m.Jcn ts = first_operand ts >>= λ x. one_operand x.1 >>= λ t. Some (Jcn x.0 t)
-behind_mnemonic m.Fim ts = first_pair ts >>= λ x. one_operand x.1 >>= λ v. Some (Fim x.0 v)
-behind_mnemonic m.Src ts = one_pair ts >>= λ p. Some (Whole (op.Src p))
-behind_mnemonic m.Fin ts = one_pair ts >>= λ p. Some (Whole (op.Fin p))
-behind_mnemonic m.Jin ts = one_pair ts >>= λ p. Some (Whole (op.Jin p))
-behind_mnemonic m.Jun ts = one_operand ts >>= λ t. Some (Jun t)
-behind_mnemonic m.Jms ts = one_operand ts >>= λ t. Some (Jms t)
-behind_mnemonic m.Inc ts = one_register ts >>= λ r. Some (Whole (op.Inc r))
-behind_mnemonic m.Isz ts = first_register ts >>= λ x. one_operand x.1 >>= λ t. Some (Isz x.0 t)
-behind_mnemonic m.Add ts = one_register ts >>= λ r. Some (Whole (op.Add r))
-behind_mnemonic m.Sub ts = one_register ts >>= λ r. Some (Whole (op.Sub r))
-behind_mnemonic m.Ld ts = one_register ts >>= λ r. Some (Whole (op.Ld r))
-behind_mnemonic m.Xch ts = one_register ts >>= λ r. Some (Whole (op.Xch r))
-behind_mnemonic m.Bbl ts = one_operand ts >>= λ v. Some (Bbl v)
-behind_mnemonic m.Ldm ts = one_operand ts >>= λ v. Some (Ldm v)
-behind_mnemonic (m.Bare o) ts = nothing o ts
+abbrev pub after_mnemonic : Mnemonic → List Token → Option Statement
+after_mnemonic m.Org ts = one_number ts >>= λ n. Some (Origin n)
+after_mnemonic m.Db ts = operands_of ts >>= λ vs. Some (Data vs)
+after_mnemonic m.Jcn ts = first_operand ts >>= λ x. one_operand x.1 >>= λ t. Some (Jcn x.0 t)
+after_mnemonic m.Fim ts = first_pair ts >>= λ x. one_operand x.1 >>= λ v. Some (Fim x.0 v)
+after_mnemonic m.Src ts = one_pair ts >>= λ p. Some (Whole (op.Src p))
+after_mnemonic m.Fin ts = one_pair ts >>= λ p. Some (Whole (op.Fin p))
+after_mnemonic m.Jin ts = one_pair ts >>= λ p. Some (Whole (op.Jin p))
+after_mnemonic m.Jun ts = one_operand ts >>= λ t. Some (Jun t)
+after_mnemonic m.Jms ts = one_operand ts >>= λ t. Some (Jms t)
+after_mnemonic m.Inc ts = one_register ts >>= λ r. Some (Whole (op.Inc r))
+after_mnemonic m.Isz ts = first_register ts >>= λ x. one_operand x.1 >>= λ t. Some (Isz x.0 t)
+after_mnemonic m.Add ts = one_register ts >>= λ r. Some (Whole (op.Add r))
+after_mnemonic m.Sub ts = one_register ts >>= λ r. Some (Whole (op.Sub r))
+after_mnemonic m.Ld ts = one_register ts >>= λ r. Some (Whole (op.Ld r))
+after_mnemonic m.Xch ts = one_register ts >>= λ r. Some (Whole (op.Xch r))
+after_mnemonic m.Bbl ts = one_operand ts >>= λ v. Some (Bbl v)
+after_mnemonic m.Ldm ts = one_operand ts >>= λ v. Some (Ldm v)
+after_mnemonic (m.Bare o) ts = nothing o ts
 
 -- the statement that some tokens are, if they have the form of one
 unfoldable pub statement_of : List Token → Option Statement
-statement_of (Word w ∷ ts) = mnemonic_of w >>= λ k. behind_mnemonic k ts
+statement_of (Word w ∷ ts) = mnemonic_of w >>= λ k. after_mnemonic k ts
 statement_of ts = None
 
 -- a line that has a form: `Code` with its label and its statement, if any, or `NAME = NUMBER`
@@ -157,7 +157,7 @@ pub data Line : Type 0 where
   Code : Option (List ℕ) → Option Statement → Line
   Define : List ℕ → ℕ → Line
 
--- what stands after a label, or in front where there is none
+-- what follows a label, or the whole line where there is none
 abbrev pub rest_of : Option (List ℕ) → List Token → Option Line
 rest_of label [] = Some (Code label None)
 rest_of label (t ∷ ts) = statement_of (t ∷ ts) >>= λ s. Some (Code label (Some s))

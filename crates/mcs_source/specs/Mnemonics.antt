@@ -45,6 +45,6 @@ abbrev pub otherwise : Option Mnemonic → Option Mnemonic → Option Mnemonic
 otherwise None o = o
 otherwise (Some x) o = Some x
 
--- what a word that begins a statement asks for; none where it is no such word
+-- what a word that begins a statement asks for; None where no statement begins with it
 unfoldable pub mnemonic_of : List ℕ → Option Mnemonic
 mnemonic_of w = otherwise (orders w) (otherwise (on_registers w) (otherwise (on_ports w) (otherwise (on_memory w) (otherwise (on_accumulator w) (on_carry w)))))

@@ -69,7 +69,7 @@ second_word (c ∷ rest) = c
 unfoldable pub op_at : ℕ → List ℕ → Option Op
 op_at b rest = whole_or_byte (decoded b (second_word rest)) b rest
 
--- a piece is an instruction, or a byte that is none
+-- a piece is an instruction, or a byte that is not one
 abbrev pub piece_text : ℕ → ℕ → Option Op → List ℕ
 piece_text at b None = byte_text b
 piece_text at b (Some o) = text_of at o
@@ -111,7 +111,7 @@ SpellsItself rom from to = assembled (source_text rom from to) ≡ Ok (from_addr
 
 -- ---- the listing
 
--- a second word as it is listed: two digits, or two spaces where there is none
+-- a second word as it is listed: two digits, or two spaces where a piece has none
 abbrev pub second_column : Option ℕ → List ℕ
 second_column (Some second) = hex_2 second
 second_column None = codes "  "

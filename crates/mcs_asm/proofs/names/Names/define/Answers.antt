@@ -1,5 +1,6 @@
 use Rattle.std.proofs.Common.{◌∙◌, ap}
-use Rattle.mcs_source.specs.Assembly.{Before, is_known}
+use Rattle.mcs_source.specs.Assembly.{is_known}
+use Rattle.mcs_asm.specs.Passes.{Before}
 use Rattle.mcs_asm.proofs.NameLists.{tells_pushed}
 use Rattle.mcs_asm.proofs.names.Names.define.Goals as goal
 

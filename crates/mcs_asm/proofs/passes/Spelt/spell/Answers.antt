@@ -2,7 +2,8 @@ use Rattle.std.proofs.Common.{◌≡◌, ◌∙◌, ◌+◌, ◌≤◌, sym, sub
 use Rattle.std.specs.Prelude.{option_map}
 use Rattle.mcs_source.specs.Lexical.{tokens}
 use Rattle.mcs_source.specs.Lines.{line_of}
-use Rattle.mcs_asm.specs.View.{line_view, HasNoFault}
+use Rattle.mcs_asm.specs.View.{line_view}
+use Rattle.mcs_asm.specs.Passes.{HasNoFault}
 use Rattle.mcs_asm.proofs.SpeltLists.{fits, second_is}
 use Rattle.mcs_asm.proofs.passes.Spelt.spell.Goals as goal
 

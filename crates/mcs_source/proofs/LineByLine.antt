@@ -1,0 +1,114 @@
+-- What is said of line i, one line further, and the least line with a fault.
+use Rattle.std.proofs.Common.{◌≡◌, ℕ, zero, suc, ◌+◌, ◌<◌, ◌≤◌, Bool, true, false, cond, List, [], ◌∷◌, ◌++◌, length, drop, get_or, find, filter_map, flat_map, Option, Some, None, is_some, inl, inr, refl, sym, ap, subst, ◌∙◌, append-nil, arith, Ok}
+use Rattle.std.specs.List.{range_with_len, cons_option}
+use Rattle.std.proofs.lemmas.Bool.{cases_eq}
+use Rattle.std.proofs.lemmas.List.{length-drop, drop_more}
+use Rattle.std.proofs.lemmas.List.Concat.{flat_map-append}
+use Rattle.std.proofs.lemmas.List.Elements.{filter_map-append}
+use Rattle.mcs_source.specs.declared.fault.SourceFault.{SourceFault}
+use Rattle.mcs_source.specs.Lines.{◌>>=◌, Line}
+use Rattle.mcs_source.specs.Assembly.{Names, lines_of, read, ith_line, next_at, address_of, definition, names_before, all_names, line_pairs, pairs_before, first_fault, first_of_class_one, first_of_class_two, spelt, assembled}
+
+-- ---- one line further
+
+range_more : (a n : ℕ) → range_with_len a (suc n) ≡ range_with_len a n ++ (a + n) ∷ []
+range_more a zero = ap (λ (k : ℕ). k ∷ []) (omega arith)
+range_more a (suc n) =
+    let e : a + 1 + n ≡ a + suc n = omega arith in
+    ap (λ (l : List ℕ). a ∷ l) (range_more (a + 1) n ∙ ap (λ (k : ℕ). range_with_len (a + 1) n ++ k ∷ []) e)
+
+range_next : (i : ℕ) → range_with_len 0 (i + 1) ≡ range_with_len 0 i ++ i ∷ []
+range_next i =
+    let up : i + 1 ≡ suc i = omega arith in
+    let e : 0 + i ≡ i = omega arith in
+    ap (range_with_len 0) up ∙ (range_more 0 i ∙ ap (λ (k : ℕ). range_with_len 0 i ++ k ∷ []) e)
+
+pub address_next : (lines : List (Option Line)) (i : ℕ) → address_of lines (i + 1) ≡ next_at (ith_line lines i) (address_of lines i)
+unfolding address_of
+address_next lines i =
+    let up : i + 1 ≡ suc i = omega arith in
+    ap (address_of lines) up
+
+pub names_next : (lines : List (Option Line)) (i : ℕ) → names_before lines (i + 1) ≡ names_before lines i ++ cons_option (definition (ith_line lines i) (address_of lines i)) []
+unfolding names_before
+names_next lines i =
+    let define : ℕ → Option (List ℕ × ℕ) = λ j. definition (ith_line lines j) (address_of lines j) in
+    ap (filter_map define) (range_next i) ∙ filter_map-append define (range_with_len 0 i) (i ∷ [])
+
+pub pairs_next : (lines : List (Option Line)) (names : Names) (i : ℕ) → pairs_before lines names (i + 1) ≡ pairs_before lines names i ++ line_pairs lines names i
+unfolding pairs_before
+pairs_next lines names i =
+    ap (flat_map (line_pairs lines names)) (range_next i)
+    ∙ (flat_map-append (line_pairs lines names) (range_with_len 0 i) (i ∷ []) ∙ ap (λ (l : List (ℕ × ℕ)). flat_map (line_pairs lines names) (range_with_len 0 i) ++ l) (append-nil (line_pairs lines names i)))
+
+-- ---- the least line with a fault
+
+-- no line before line i has a fault
+abbrev pub NoneBefore : (ℕ → Option SourceFault) → ℕ → Type 0
+NoneBefore fault i = (j : ℕ) → j < i → fault j ≡ None
+
+pub none_before_next : (fault : ℕ → Option SourceFault) (i : ℕ) → NoneBefore fault i → fault i ≡ None → NoneBefore fault (i + 1)
+none_before_next fault i before here j lt = elim (cases_eq j i) [
+  | inl same ↦ rw same here
+  | inr other ↦ before j (omega (arith, lt, other))
+]
+
+find_none : (p : ℕ → Bool) (a n : ℕ) → ((j : ℕ) → j < a + n → p j ≡ false) → find p (range_with_len a n) ≡ None
+find_none p a zero h = refl
+find_none p a (suc n) h =
+    let here : p a ≡ false = h a (omega arith) in
+    rw here (find_none p (a + 1) n (λ j lt. h j (omega (arith, lt))))
+
+find_at : (p : ℕ → Bool) (a n i : ℕ) → a ≤ i → i < a + n → ((j : ℕ) → j < i → p j ≡ false) → p i ≡ true → find p (range_with_len a n) ≡ Some i
+find_at p a zero i low high before here = absurd (omega (arith, low, high))
+find_at p a (suc n) i low high before here = elim (cases_eq i a) [
+  | inl same ↦ (let t : p a ≡ true = rw (← same) here in rw (t, same) refl)
+  | inr other ↦ (let t : p a ≡ false = before a (omega (arith, low, other)) in rw t (find_at p (a + 1) n i (omega (arith, low, other)) (omega (arith, high)) before here))
+]
+
+abbrev with_number : (ℕ → Option SourceFault) → ℕ → Option (ℕ × SourceFault)
+with_number fault i = fault i >>= λ f. Some (i + 1, f)
+
+pub none_first : (fault : ℕ → Option SourceFault) (n : ℕ) → NoneBefore fault n → first_fault fault n ≡ None
+none_first fault n none =
+    let e : find (λ i. is_some (fault i)) (range_with_len 0 n) ≡ None = find_none (λ i. is_some (fault i)) 0 n (λ j lt. ap is_some (none j (omega (arith, lt)))) in
+    ap (λ (o : Option ℕ). o >>= with_number fault) e
+
+pub first_at : (fault : ℕ → Option SourceFault) (n i : ℕ) (f : SourceFault) → i < n → NoneBefore fault i → fault i ≡ Some f → first_fault fault n ≡ Some (i + 1, f)
+first_at fault n i f lt before here =
+    let e : find (λ i. is_some (fault i)) (range_with_len 0 n) ≡ Some i = find_at (λ i. is_some (fault i)) 0 n i (omega arith) (omega (arith, lt)) (λ j less. ap is_some (before j less)) (ap is_some here) in
+    ap (λ (o : Option ℕ). o >>= with_number fault) e ∙ ap (λ (o : Option SourceFault). o >>= λ g. Some (i + 1, g)) here
+
+none_from : (fault : ℕ → Option SourceFault) (a n : ℕ) → (find (λ i. is_some (fault i)) (range_with_len a n) >>= with_number fault) ≡ None → (j : ℕ) → a ≤ j → j < a + n → fault j ≡ None
+none_from fault a zero e j low high = absurd (omega (arith, low, high))
+none_from fault a (suc n) e j low high =
+    let Q : Option SourceFault → Type 0 = λ o. fault a ≡ o → (cond (is_some o) (Some a) (find (λ i. is_some (fault i)) (range_with_len (a + 1) n)) >>= with_number fault) ≡ None → fault j ≡ None in
+    (elim (fault a) as Q [
+      | Some f ↦ λ is h. absurd (let more : Some (a + 1, f) ≡ None = ap (λ (o : Option SourceFault). o >>= λ g. Some (a + 1, g)) (sym is) ∙ h in cc)
+      | None ↦ λ is h. elim (cases_eq j a) [
+        | inl same ↦ rw same is
+        | inr other ↦ none_from fault (a + 1) n h j (omega (arith, low, other)) (omega (arith, high))
+      ]
+    ]) refl e
+
+-- where no line is the least with a fault, none has one
+pub none_below : (fault : ℕ → Option SourceFault) (n : ℕ) → first_fault fault n ≡ None → NoneBefore fault n
+none_below fault n e j lt = none_from fault 0 n e j (omega arith) (omega (arith, lt))
+
+-- ---- the whole
+
+-- line i, where the lines from it on are given
+pub first_of_rest : (lines : List (Option Line)) (i : ℕ) (line : Option Line) (more : List (Option Line)) → drop i lines ≡ line ∷ more → (i < length lines) × (ith_line lines i ≡ line) × (drop (i + 1) lines ≡ more)
+first_of_rest lines i line more e =
+    let lt : i < length lines = omega (arith, length-drop i lines, ap length e) in
+    let parts : ith_line lines i ∷ drop (i + 1) lines ≡ line ∷ more = sym (drop_more lines i None lt) ∙ e in
+    (lt, cc, cc)
+
+-- a text without faults
+pub all_passed : (text : List ℕ) (ls : List (List ℕ)) (names : Names) → ls ≡ lines_of text → first_of_class_one (read ls) ≡ None → names ≡ all_names (read ls) → first_of_class_two (read ls) names ≡ None
+    → assembled text ≡ Ok (pairs_before (read ls) names (length (read ls)))
+unfolding spelt
+all_passed text ls names is one same two =
+    let two' : first_of_class_two (read ls) (all_names (read ls)) ≡ None = subst (λ (n : Names). first_of_class_two (read ls) n ≡ None) same two in
+    let whole : spelt (read ls) ≡ Ok (pairs_before (read ls) (all_names (read ls)) (length (read ls))) = rw (one, two') refl in
+    ap (λ (l : List (List ℕ)). spelt (read l)) (sym is) ∙ (whole ∙ ap (λ (n : Names). Ok (pairs_before (read ls) n (length (read ls)))) (sym same))
