@@ -26,7 +26,7 @@ pub record BusState : Type 0 where
   pub chains : List (List ℕ)
   -- the keys, row by row: 1 where one is down
   pub keys : List ℕ
-  -- the level of the TEST pin, set by a command (our own choice: 1 on a new board)
+  -- the level of the TEST pin, set by a command (our own choice: 1 in a new session)
   pub test : ℕ
 
 -- the empty board, all 0
