@@ -1,8 +1,8 @@
 -- Room for a record, a snapshot where there is none, and the record after it.
-use Rattle.std.proofs.Common.{◌≡◌, ◌+◌, ◌≤◌, inl, inr, ⊎_elim, List, [], ◌∷◌, ◌++◌, ℕ, false, None, sym, ap, subst, refl, arith, length}
+use Rattle.std.proofs.Common.{◌≡◌, ◌+◌, ◌≤◌, inl, inr, ⊎_elim, IsTrue, Result, Ok, Err, OnOk, is_ok, List, [], ◌∷◌, ◌++◌, ℕ, false, None, sym, ap, subst, refl, arith, length}
 use Rattle.std.proofs.lemmas.Grind.{common_steps}
 use Rattle.mcs_disk.specs.Disk.{DiskState, IsLawful}
-use Rattle.mcs_disk.specs.Moments.{Either, IsDurable, LeavesOnly}
+use Rattle.mcs_disk.specs.Moments.{Changes, Either, IsDurable, LeavesOnly}
 use Rattle.mcs_disk.proofs.Composing.{leaves_map, leaves_then}
 use Rattle.mcs_journal.specs.File.{HasRoom, Holds, spelled}
 use Rattle.mcs_journal.proofs.Unique.{same_snap, same_pair}
@@ -11,12 +11,12 @@ use Rattle.mcs_model.specs.declared.command.Command.TheVariants.{Wire, Load, Pre
 use Rattle.mcs_model.specs.declared.limits.TheConstants.{REPLAY_CYCLES}
 use Rattle.mcs_model.specs.BenchState.{BenchState}
 use Rattle.mcs_model.specs.Command.{refusal, after}
-use Rattle.mcs_session.specs.Answers.{Acknowledges, MayLeave, Ticks}
-use Rattle.mcs_codec.specs.Codec.{Spells, SpellsState}
+use Rattle.mcs_session.specs.Answers.{Acknowledges, MayLeave, Settles, Ticks}
+use Rattle.mcs_codec.specs.Codec.{Spells}
 use Rattle.mcs_codec.specs.CommandBytes.{command_bytes}
 use Rattle.mcs_session.specs.Invariant.{HasMadeRoom, IsRecorded, IsReplayed}
 use Rattle.mcs_session.specs.Cycles.{log_cycles, replay_cycles}
-use Rattle.mcs_session.specs.Stands.{HasSpace, StandsFor}
+use Rattle.mcs_session.specs.Stands.{HasSpace, HoldsState, StandsFor}
 use Rattle.mcs_session.proofs.Files.{at_of, recorded_new, stands_by, stands_new}
 use Rattle.mcs_session.proofs.Records.{pair_more, replayed_more, same_list}
 
@@ -74,19 +74,40 @@ no_space disk used bytes more cycles s was is none there =
     let few = there.replay in
     none (omega (arith, is, log, room)) (omega (arith, count, replay, few))
 
-pub room_made : (old new : DiskState) (used bytes more cycles : ℕ) (s : BenchState) (snap : List ℕ) (was : IsRecorded old cycles s) → used ≡ length (spelled was.stands.records)
-    → (HasRoom used bytes → cycles + more ≤ REPLAY_CYCLES → ⊥) → SpellsState snap s → Holds new.bytes snap [] → IsDurable new → new.clock ≡ old.clock + 4 → HasMadeRoom old new bytes more 0 s
-room_made old new used bytes more cycles s snap was is none spells held durable ticks = record {
-  ticks = inr (no_space old used bytes more cycles s was is none, ticks);
-  recorded = recorded_new new snap s spells held durable;
+-- what is recorded after a snapshot in the place of the records
+pub recorded_there : {T E : Type 0} (result : Result T E) (old new : DiskState) (used' cycles cycles' : ℕ) (s : BenchState) (was : IsRecorded old cycles s) → IsTrue (is_ok result)
+    → Changes 4 old new (λ c. Holds c was.stands.snap was.stands.records) (λ c. HoldsState c s) result → OnOk result ((used' ≡ 0) × (cycles' ≡ 0)) → IsRecorded new cycles' s
+recorded_there (Ok x) old new used' cycles cycles' s was ok changes empty =
+    subst (λ (n : ℕ). IsRecorded new n s) (sym empty.1) (recorded_new new changes.after.snap s changes.after.spells changes.after.holds changes.durable)
+recorded_there (Err e) old new used' cycles cycles' s was ok changes empty = absurd (cc ok)
+
+-- a snapshot took the place of the records, or the disk failed
+pub room_made : {T E : Type 0} (result : Result T E) (old new : DiskState) (used used' bytes more cycles cycles' : ℕ) (s : BenchState) (was : IsRecorded old cycles s) → used ≡ length (spelled was.stands.records)
+    → (HasRoom used bytes → cycles + more ≤ REPLAY_CYCLES → ⊥) → Changes 4 old new (λ c. Holds c was.stands.snap was.stands.records) (λ c. HoldsState c s) result
+    → OnOk result ((used' ≡ 0) × (cycles' ≡ 0)) → OnOk result (HasMadeRoom old new bytes more cycles' s)
+room_made (Ok x) old new used used' bytes more cycles cycles' s was is none changes empty = record {
+  ticks = inr (no_space old used bytes more cycles s was is none, changes.ticks);
+  recorded = recorded_there (Ok x) old new used' cycles cycles' s was refl changes empty;
 }
+room_made (Err e) old new used used' bytes more cycles cycles' s was is none changes empty = tt
 
 -- until the snapshot is there, the records are
-pub leaves_state : (old new : DiskState) (cycles : ℕ) (s : BenchState) (snap : List ℕ) (was : IsRecorded old cycles s) → SpellsState snap s
-    → LeavesOnly old new (Either (λ c. Holds c was.stands.snap was.stands.records) (λ c. Holds c snap [])) → LeavesOnly old new (λ file. StandsFor file s)
-leaves_state old new cycles s snap was spells moments =
-    leaves_map old new (Either (λ c. Holds c was.stands.snap was.stands.records) (λ c. Holds c snap [])) (λ file. StandsFor file s)
-    (λ c. ⊎_elim (λ there. stands_by was.stands.snap was.stands.records s was.stands.stand c there) (λ here. stands_new c snap s spells here)) moments
+pub leaves_state : (old new : DiskState) (cycles : ℕ) (s : BenchState) (was : IsRecorded old cycles s)
+    → LeavesOnly old new (Either (λ c. Holds c was.stands.snap was.stands.records) (λ c. HoldsState c s)) → LeavesOnly old new (λ file. StandsFor file s)
+leaves_state old new cycles s was moments =
+    leaves_map old new (Either (λ c. Holds c was.stands.snap was.stands.records) (λ c. HoldsState c s)) (λ file. StandsFor file s)
+    (λ c. ⊎_elim (λ there. stands_by was.stands.snap was.stands.records s was.stands.stand c there) (λ here. stands_new c here.snap s here.spells here.holds)) moments
+
+-- the snapshot is there, in the place of the records
+pub settles : (old new : DiskState) (cycles : ℕ) (s : BenchState) (was : IsRecorded old cycles s)
+    → LeavesOnly old new (Either (λ c. Holds c was.stands.snap was.stands.records) (λ c. HoldsState c s)) → HoldsState new.bytes s → IsDurable new → new.clock ≡ old.clock + 4 → Settles old new s
+settles old new cycles s was moments held durable ticks = record {
+  stood = was.stands;
+  holds = held;
+  moments = leaves_state old new cycles s was moments;
+  ticks = ticks;
+  now = at_of new s durable (stands_new new.bytes held.snap s held.spells held.holds);
+}
 
 -- ---- the record
 

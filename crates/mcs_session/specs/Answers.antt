@@ -60,7 +60,7 @@ abbrev pub LeftRefused : OpenFault → DiskState → DiskState → Type 0
 LeftRefused open_fault.Device old new = AddsNoImage old new ⊎ FailsMigrating old new
 LeftRefused fault old new = AddsNoImage old new
 
--- ---- `apply`
+-- ---- `apply` and `settle`
 
 -- from this state the command leads to that answer and that state, on a session that is open or is not
 abbrev pub Applied : Bool → BenchState → Command → Result Reply SessionFault → BenchState → Type 0
@@ -71,7 +71,7 @@ Applied false s c (Err Closed) t = t ≡ s
 Applied live s c result t = ⊥
 
 -- the session is closed where the device failed, and the count of faults rose there alone
-abbrev pub Closes : Bool → ℕ → Result Reply SessionFault → Bool → ℕ → Type 0
+abbrev pub Closes : {T : Type 0} → Bool → ℕ → Result T SessionFault → Bool → ℕ → Type 0
 Closes live faults (Ok r) new_live new_faults = (new_live ≡ live) × (new_faults ≡ faults)
 Closes live faults (Err Device) new_live new_faults = (new_live ≡ false) × (new_faults ≡ min (faults + 1) most_faults)
 Closes live faults (Err fault) new_live new_faults = (new_live ≡ live) × (new_faults ≡ faults)
@@ -95,3 +95,29 @@ abbrev pub Recorded : Result Reply SessionFault → DiskState → DiskState → 
 Recorded (Ok r) old new s c = Acknowledges old new s c
 Recorded (Err Device) old new s c = MayLeave old new s (after s c)
 Recorded (Err fault) old new s c = IsUntouched old new
+
+-- an open session settles or meets a device fault, and a closed one is refused
+abbrev pub MaySettle : {T : Type 0} → Bool → Result T SessionFault → Type 0
+MaySettle true (Ok x) = Unit {0}
+MaySettle true (Err Device) = Unit {0}
+MaySettle false (Err Closed) = Unit {0}
+MaySettle live result = ⊥
+
+-- at every moment of this stretch a power cut leaves this state
+abbrev pub KeepsState : DiskState → DiskState → BenchState → Type 0
+KeepsState old new s = LeavesOnly old new (λ file. StandsFor file s)
+
+-- The disk stood for this state, and now, four steps later, it holds a snapshot of it and no records. At every moment between it stood
+-- for this state.
+pub record Settles (old new : DiskState) (s : BenchState) : Type 0 where
+  pub stood : StandsFor old.bytes s
+  pub holds : HoldsState new.bytes s
+  pub moments : KeepsState old new s
+  pub ticks : new.clock ≡ old.clock + 4
+  pub now : IsAt new s
+
+-- what settling does to an honest disk
+abbrev pub Settled : {T : Type 0} → Result T SessionFault → DiskState → DiskState → BenchState → Type 0
+Settled (Ok x) old new s = Settles old new s
+Settled (Err Device) old new s = StandsFor old.bytes s × KeepsState old new s
+Settled (Err fault) old new s = IsUntouched old new

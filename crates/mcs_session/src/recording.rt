@@ -100,10 +100,7 @@ impl<D: Disk + Drop> CommandLog<D> {
         if self.store.has_room(count) && more <= REPLAY_CYCLES - self.cycles {
             return Ok(());
         }
-        let length = encode_state(&mut self.snapshot, bench);
-        self.store.replace(&self.snapshot.as_slice()[..length])?;
-        self.cycles = 0;
-        Ok(())
+        self.checkpoint(bench)
     }
 
     /// Records a command that the bench accepts. It is on the disk once this answers Ok.

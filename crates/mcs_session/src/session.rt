@@ -5,7 +5,7 @@ ghost use Rattle.mcs_journal.specs.Answers.{RefusesCreate};
 ghost use Rattle.mcs_model.specs.BenchState.{new_bench_state};
 ghost use Rattle.mcs_session.specs.Stands.{StandsFor, IsAt};
 ghost use Rattle.mcs_journal.specs.File.{Holds};
-ghost use Rattle.mcs_session.specs.Answers.{Applied, Closes, CreatesSession, LeftRefused, OpensSession, Recorded, RefusesSession};
+ghost use Rattle.mcs_session.specs.Answers.{Applied, Closes, CreatesSession, LeftRefused, MaySettle, OpensSession, Recorded, RefusesSession, Settled};
 ghost use Rattle.mcs_session.specs.Invariant.{IsHeld, IsReady, IsRecorded, MayReplace, Replaced};
 
 use crate::fault::SessionFault;
@@ -194,6 +194,34 @@ impl<D: Disk + Drop> Session<D> {
         self.bench.check(command).map_err(SessionFault::Refused)?;
         match self.log.record(&self.bench, command) {
             Ok(()) => Ok(self.bench.apply(command)),
+            Err(DiskFault) => Err(SessionFault::Device),
+        }
+    }
+
+    /// Puts a snapshot of the bench in the place of all that the disk holds: opening it then has no command to do again. The
+    /// state stays, and at every moment the disk stands for it.
+    ///
+    /// It is refused on a closed session (54), and where a call on the disk failed (53).
+    pub fn settle(&mut self) -> Result<(), SessionFault>
+        // on any disk
+        ensures state { self.new.state ≡ self.old.state }
+        ensures answers { MaySettle self.old.live result }
+        ensures closes { Closes self.old.live (D.state self.old.disk).faults result
+            self.new.live (D.state self.new.disk).faults }
+        ensures size { (D.state self.new.disk).size ≡ (D.state self.old.disk).size }
+        ensures honest { (D.state self.new.disk).honest ↔ (D.state self.old.disk).honest }
+        ensures untouched { IfErr result (λ fault.
+            fault ≢ SessionFault.Device → self.new.disk ≡ self.old.disk) }
+
+        // on an honest disk
+        ensures settles { (D.state self.old.disk).honest
+            → Settled result (D.state self.old.disk) (D.state self.new.disk) self.old.state }
+    {
+        if !self.log.store.is_open() {
+            return Err(SessionFault::Closed);
+        }
+        match self.log.checkpoint(&self.bench) {
+            Ok(()) => Ok(()),
             Err(DiskFault) => Err(SessionFault::Device),
         }
     }

@@ -11,20 +11,15 @@ returns-then-more-self-clause-made g c = λ honest was.
     let few : c.args.self.now.cycles + c.args.more ≤ REPLAY_CYCLES = omega (arith, c.if-more-self.true, c.requires.ready.within) in
     room_there _ _ _ _ _ _ was (c.has_room.ensures.used c.requires.live honest was.stands.snap was.stands.records was.stands.holds) room few
 
-pub returns-in_err-replace-clause-moments : goal.returns-in_err-replace-clause-moments
-returns-in_err-replace-clause-moments g c = λ honest was.
-    leaves_state _ _ _ _ _ was (rw c.as_slice.ensures.value c.encode_state-length.ensures.spells) (c.in_err-replace.ensures.replaces honest was.stands.snap was.stands.records was.stands.holds).moments
-
 pub returns-clause-moments : goal.returns-clause-moments
 returns-clause-moments g c = λ honest was.
-    leaves_state _ _ _ _ _ was (rw c.as_slice.ensures.value c.encode_state-length.ensures.spells) (c.in_ok-replace.ensures.replaces honest was.stands.snap was.stands.records was.stands.holds).moments
+    leaves_state _ _ _ _ was (c.checkpoint.ensures.replaces honest was.stands.snap was.stands.records was.stands.holds).moments
 
 pub returns-clause-made : goal.returns-clause-made
 returns-clause-made g c = λ honest was.
-    let changes = c.in_ok-replace.ensures.replaces honest was.stands.snap was.stands.records was.stands.holds in
-    room_made _ _ _ _ _ _ _ _ was (c.has_room.ensures.used c.requires.live honest was.stands.snap was.stands.records was.stands.holds)
+    room_made _ _ _ _ _ _ _ _ _ _ was (c.has_room.ensures.used c.requires.live honest was.stands.snap was.stands.records was.stands.holds)
     (λ room few. elim c.else-has_room.branch [
       | else-has_room-via-then-has_room+else-more-self w ↦ let over = w.if-more-self.false in let none : ⊥ = omega (arith, over, few, c.requires.ready.within) in none
       | else-has_room-via-else-has_room w ↦ let there = c.has_room.ensures.room.1 room in let none : ⊥ = search rules in none
     ])
-    (rw c.as_slice.ensures.value c.encode_state-length.ensures.spells) changes.after changes.durable changes.ticks
+    (c.checkpoint.ensures.replaces honest was.stands.snap was.stands.records was.stands.holds) c.checkpoint.ensures.used

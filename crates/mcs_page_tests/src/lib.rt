@@ -1,0 +1,9 @@
+//! Tests of the calls of the page.
+#![tactic(auto)]
+
+#[cfg(test)]
+mod calls;
+#[cfg(test)]
+mod files;
+#[cfg(test)]
+mod refused;

@@ -1,0 +1,29 @@
+use Rattle.std.proofs.Common.{rules, IsTrue}
+use Rattle.mcs_session.proofs.Room.{leaves_state, recorded_there, settles}
+use Rattle.mcs_session.proofs.session.Session.settle.Goals as goal
+use Rattle.mcs_session.proofs.session.Session.settle.Goals.{in-Ok, in-Err}
+
+pub invariant_of-self : goal.invariant_of-self
+invariant_of-self g c =
+    let live : IsTrue c.self.inside.log.store.live = search rules in
+    record {
+      ready = c.checkpoint.ensures.ready;
+      recorded = λ alive h.
+          let honest = c.checkpoint.ensures.counts.honest.0 h in
+          let was = c.self.invariant.recorded live honest in
+          recorded_there _ _ _ _ _ _ _ was (rw c.checkpoint.ensures.live at alive) (c.checkpoint.ensures.replaces honest was.stands.snap was.stands.records was.stands.holds) c.checkpoint.ensures.used;
+    }
+
+pub returns-clause-settles : goal.returns-clause-settles
+returns-clause-settles g c = λ h.
+    let live : IsTrue c.self.inside.log.store.live = search rules in
+    let honest = rw (← c.self.view_is) at h in
+    let was = c.self.invariant.recorded live honest in
+    elim c.match-checkpoint.branch [
+      | in-Ok w ↦
+          let changes = w.in-Ok.ensures.replaces honest was.stands.snap was.stands.records was.stands.holds in
+          rw (w.result-is, ← c.self.view_is) (settles _ _ _ _ was changes.moments changes.after changes.durable changes.ticks)
+      | in-Err w ↦
+          let changes = w.in-Err.ensures.replaces honest was.stands.snap was.stands.records was.stands.holds in
+          rw (w.result-is, ← c.self.view_is) (was.stands, leaves_state _ _ _ _ was changes.moments)
+    ]

@@ -1,0 +1,31 @@
+-- What a call of the page tells.
+use Rattle.std.specs.Prelude.{◌≡◌, ℕ, List, length}
+use Rattle.mcs_page.specs.Page.{Answers, IsWhyNot}
+use Rattle.mcs_page.specs.declared.fault.NotServed.{NotServed}
+use Rattle.mcs_page.specs.declared.fault.NotServed.TheVariants.{Refused, NoRoom}
+use Rattle.mcs_shell.specs.RefusalNumbers.{open_fault_number}
+use Rattle.mcs_shell.specs.Shell.{exit_status_of}
+use Rattle.mcs_shell.specs.declared.ends.ShellEnd.{ShellEnd}
+
+-- the input was served on the session of the file, the number is the exit status of the shell's end, and that many bytes at the front of
+-- the buffer are the answers
+pub record TellsOf (file input : List ℕ) (number count : ℕ) (buffer buffer' after : List ℕ) : Type 0 where
+  pub end : ShellEnd
+  pub told : number ≡ exit_status_of end
+  pub answers : Answers file input end count buffer buffer' after
+
+-- the number that tells why input was not served, and the count beside it
+abbrev pub number_of : NotServed → ℕ
+number_of (Refused fault) = open_fault_number fault
+number_of (NoRoom count) = 0
+
+abbrev pub count_of : NotServed → ℕ
+count_of (Refused fault) = 0
+count_of (NoRoom count) = count
+
+-- the input was not served, and the number and the count tell why
+pub record TellsWhyNot (file input : List ℕ) (number count room : ℕ) : Type 0 where
+  pub why : NotServed
+  pub told : number ≡ number_of why
+  pub counted : count ≡ count_of why
+  pub is : IsWhyNot why file input room

@@ -1,0 +1,88 @@
+//! What a page in a browser calls: the bench over the bytes of a session file that the page keeps.
+#![tactic(auto)]
+
+ghost use Rattle.std.specs.Prelude.{◌≡◌, length, true, false};
+ghost use Rattle.mcs_journal.specs.declared.format.TheConstants.{FILE_SIZE};
+ghost use Rattle.mcs_page.specs.Page.{IsNewFile, StandsForTheSame};
+ghost use Rattle.page.specs.Told.{TellsOf, TellsWhyNot};
+
+use mcs_page::fault::NotServed;
+use mcs_page::page::{Served, begin, serve, settle};
+use mcs_shell::ends::status;
+use mcs_shell::faults::open_number;
+use std::alloc::Global;
+
+/// What came of a call.
+#[derive(Clone, Copy)]
+#[repr(C)]
+pub struct Told {
+    /// Where input was served the exit status of the shell's end, and else the number of the refusal, or 0 where the answers have
+    /// no room.
+    pub number: u32,
+    /// How many bytes of answers there are, or would be where they have no room.
+    pub count: usize,
+}
+
+/// How many bytes a session file has.
+#[unsafe(no_mangle)]
+pub extern "C" fn page_file_size() -> usize
+    ensures { result ≡ FILE_SIZE }
+{
+    mcs_journal::FILE_SIZE
+}
+
+/// Makes the file of a new session. Where it answers false, there was no memory, and the bytes stay.
+#[unsafe(no_mangle)]
+pub extern "C" fn page_begin(alloc: Global, file: &mut [u8]) -> bool
+    requires size { length file.old ≡ FILE_SIZE }
+    ensures made { result ≡ true → IsNewFile file.new }
+    ensures stays { result ≡ false → file.new ≡ file.old }
+{
+    begin(alloc, file).is_ok()
+}
+
+/// Goes on with the session that the bytes of a file hold, serves the lines of an input on it, and puts the bytes that its disk has
+/// then in their place. Where it answers false, nothing was done, and `told` tells why.
+#[unsafe(no_mangle)]
+pub extern "C" fn page_serve(
+    alloc: Global,
+    file: &mut [u8],
+    input: &[u8],
+    answers: &mut [u8],
+    told: &mut Told,
+) -> bool
+    ensures served { result ≡ true → TellsOf file.old input.now told.new.number told.new.count answers.old answers.new file.new }
+    ensures refused { result ≡ false → TellsWhyNot file.old input.now told.new.number told.new.count (length answers.old) }
+    ensures stays { result ≡ false → (file.new ≡ file.old) × (answers.new ≡ answers.old) }
+{
+    match serve(alloc, file, input, answers) {
+        Ok(Served { end, count }) => {
+            *told = Told {
+                number: u32::from(status(end)),
+                count,
+            };
+            true
+        }
+        Err(NotServed::Refused(fault)) => {
+            *told = Told {
+                number: u32::from(open_number(fault)),
+                count: 0,
+            };
+            false
+        }
+        Err(NotServed::NoRoom(count)) => {
+            *told = Told { number: 0, count };
+            false
+        }
+    }
+}
+
+/// Puts a snapshot in the place of the records of a session's file. Where it answers false, the bytes hold no session or there was
+/// no memory, and they stay.
+#[unsafe(no_mangle)]
+pub extern "C" fn page_settle(alloc: Global, file: &mut [u8]) -> bool
+    ensures settled { result ≡ true → StandsForTheSame file.old file.new }
+    ensures stays { result ≡ false → file.new ≡ file.old }
+{
+    settle(alloc, file).is_ok()
+}
