@@ -5,7 +5,7 @@ use Rattle.mcs_disk.specs.declared.memory.MemDisk.{MemDisk}
 use Rattle.mcs_disk.specs.Memory.{memory_state}
 use Rattle.mcs_journal.specs.declared.fault.OpenFault.{OpenFault}
 use Rattle.mcs_journal.specs.declared.fault.OpenFault.TheVariants as open_fault
-use Rattle.mcs_model.specs.BenchState.{Flat, new_bench_state}
+use Rattle.mcs_model.specs.BenchState.{BenchState, new_bench_state}
 use Rattle.mcs_page.specs.declared.fault.NotServed.{NotServed}
 use Rattle.mcs_page.specs.declared.fault.NotServed.TheVariants.{Refused, NoRoom}
 use Rattle.mcs_session.specs.Answers.{RefusesSession}
@@ -81,6 +81,6 @@ IsWhyNot (NoRoom count) file input room = LacksRoom file input count room
 
 -- the file stood for a state, and now it holds a snapshot of that state and no records
 pub record StandsForTheSame (old new : List ℕ) : Type 0 where
-  pub state : Flat
+  pub state : BenchState
   pub before : StandsByEither old state
   pub after : HoldsState new state
