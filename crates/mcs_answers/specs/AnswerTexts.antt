@@ -1,16 +1,15 @@
 -- The texts of answers, each line with its line feed. (Our own choice.)
-use Rattle.std.specs.Prelude.{ℕ, Bool, true, false, List, [], ◌∷◌, ◌++◌, codes}
+use Rattle.std.specs.Prelude.{ℕ, List, [], ◌∷◌, ◌++◌, codes}
 use Rattle.std.specs.Fmt.{decimal}
 use Rattle.mcs_model.specs.declared.command.Reply.{Reply}
 use Rattle.mcs_model.specs.declared.command.Reply.TheVariants.{Done, Loaded, Ran}
 use Rattle.mcs_model.specs.declared.stop.Stop.{Stop}
 use Rattle.mcs_model.specs.declared.stop.Stop.TheVariants.{Outside, Breakpoint, Watched, Ended}
+use Rattle.mcs_model.specs.declared.query.Query.{Query}
 use Rattle.mcs_model.specs.BenchState.{BenchState}
 use Rattle.mcs_model.specs.QueryText.{text}
 use Rattle.mcs_source.specs.Text.{listing_text}
 use Rattle.mcs_wiring.specs.BoardText.{query_lines, text_of}
-use Rattle.mcs_lines.specs.declared.requests.Question.{Question}
-use Rattle.mcs_lines.specs.declared.requests.Question.TheVariants.{State, Listing, Board}
 
 abbrev pub line_feed : List ℕ
 line_feed = 10 ∷ []
@@ -44,14 +43,14 @@ no_text number = codes "no " ++ (decimal number ++ line_feed)
 abbrev pub no_line_text : ℕ → ℕ → List ℕ
 no_line_text number line = codes "no " ++ (decimal number ++ (codes " line " ++ (decimal line ++ line_feed)))
 
--- the answer to a question
-abbrev pub answer_text : Question → BenchState → List ℕ
-answer_text (State q) s = text q s ++ line_feed
-answer_text (Listing at lines) s = listing_text s.bus.rom at lines
-answer_text Board s = text_of (query_lines s.bus.board)
+-- the answer to a query
+abbrev pub query_answer : Query → BenchState → List ℕ
+query_answer q s = text q s ++ line_feed
 
--- whether an answer takes memory, which may be refused
-abbrev pub takes_memory : Question → Bool
-takes_memory (State q) = false
-takes_memory (Listing at lines) = true
-takes_memory Board = true
+-- the answer to `list`
+abbrev pub listing_answer : ℕ → ℕ → BenchState → List ℕ
+listing_answer at lines s = listing_text s.bus.rom at lines
+
+-- the answer to `board`
+abbrev pub board_answer : BenchState → List ℕ
+board_answer s = text_of (query_lines s.bus.board)

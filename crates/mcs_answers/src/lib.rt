@@ -6,11 +6,11 @@ pub mod laws;
 mod lists;
 mod numbers;
 mod ports;
-mod questions;
+mod queries;
 mod ram;
 mod registers;
 mod size;
 
 pub use numbers::{put_number, put_refusal_at, put_reply};
-pub use questions::put_answer;
+pub use queries::{listing_answer, put_board, put_query};
 pub use size::ANSWER_BYTES;

@@ -1,17 +1,17 @@
 -- What a command line asks for: the table of lines. (Our own choice.)
-use Rattle.std.specs.Prelude.{◌==◌, ◌&&◌, Bool, ℕ, List, [], ◌∷◌, codes, nat_lt, is_some, if◌then◌else◌, Option, Some, None}
+use Rattle.std.specs.Prelude.{◌==◌, ◌&&◌, Bool, ℕ, List, [], ◌∷◌, codes, length, nat_lt, is_some, if◌then◌else◌, Option, Some, None}
 use Rattle.std.specs.List.{list_all}
 use Rattle.std.specs.Str.{bytes_eq}
 use Rattle.mcs_model.specs.Numerals.{number_written, number_up_to}
 use Rattle.mcs_model.specs.declared.command.Command.TheVariants.{Press, Release, Run, Step, Poke, Test, Reset, Break, Unbreak, Watch, Unwatch}
 use Rattle.mcs_model.specs.declared.command.Place.{Place}
 use Rattle.mcs_model.specs.declared.command.Place.TheVariants.{Acc, Cy, Pc, Register, Dcl, Rom, Ram, Status}
-use Rattle.mcs_model.specs.declared.limits.TheConstants.{LISTING_LINES}
+use Rattle.mcs_model.specs.declared.limits.TheConstants.{LINE_BYTES, LISTING_LINES}
 use Rattle.mcs_model.specs.declared.query.Query.TheVariants as query
-use Rattle.mcs_lines.specs.declared.requests.Question.TheVariants.{State, Listing, Board}
 use Rattle.mcs_lines.specs.declared.requests.Request.{Request}
-use Rattle.mcs_lines.specs.declared.requests.Request.TheVariants.{Refused, Ask, Change}
-use Rattle.mcs_lines.specs.declared.requests.LineFault.TheVariants.{NotACommand, BadNumber, NotAscii}
+use Rattle.mcs_lines.specs.declared.requests.Request.TheVariants.{Nothing, Refused, Ask, Listing, Board, Change, Begin}
+use Rattle.mcs_lines.specs.declared.requests.TextKind.TheVariants.{Wire, Asm}
+use Rattle.mcs_lines.specs.declared.requests.LineFault.TheVariants.{NotACommand, BadNumber, LineTooLong, NotAscii}
 use Rattle.mcs_lines.specs.Cutting.{cut_at}
 use Rattle.mcs_lines.specs.Words.{is_dot, is_plain_byte, words_of}
 
@@ -85,13 +85,15 @@ abbrev pub request_alone : List ℕ → Request
 request_alone word =
     if bytes_eq word (codes "step") then Change Step
     else if bytes_eq word (codes "reset") then Change Reset
-    else if bytes_eq word (codes "lamps") then Ask (State query.Lamps)
-    else if bytes_eq word (codes "regs") then Ask (State query.Regs)
-    else if bytes_eq word (codes "breaks") then Ask (State query.Breaks)
-    else if bytes_eq word (codes "watches") then Ask (State query.Watches)
-    else if bytes_eq word (codes "ports") then Ask (State query.Ports)
-    else if bytes_eq word (codes "seq") then Ask (State query.Seq)
-    else if bytes_eq word (codes "board") then Ask Board
+    else if bytes_eq word (codes "lamps") then Ask query.Lamps
+    else if bytes_eq word (codes "regs") then Ask query.Regs
+    else if bytes_eq word (codes "breaks") then Ask query.Breaks
+    else if bytes_eq word (codes "watches") then Ask query.Watches
+    else if bytes_eq word (codes "ports") then Ask query.Ports
+    else if bytes_eq word (codes "seq") then Ask query.Seq
+    else if bytes_eq word (codes "board") then Board
+    else if bytes_eq word (codes "wire") then Begin Wire
+    else if bytes_eq word (codes "asm") then Begin Asm
     else Refused NotACommand
 
 -- a line of two words
@@ -101,12 +103,12 @@ request_with_one word a =
     else if bytes_eq word (codes "test") then with_number 1 a (λ bit. Change (Test bit))
     else if bytes_eq word (codes "break") then with_number 4095 a (λ at. Change (Break at))
     else if bytes_eq word (codes "unbreak") then with_number 4095 a (λ at. Change (Unbreak at))
-    else if bytes_eq word (codes "ram") then with_number 7 a (λ bank. Ask (State (query.Ram bank)))
+    else if bytes_eq word (codes "ram") then with_number 7 a (λ bank. Ask (query.Ram bank))
     else Refused NotACommand
 
 -- a listing is of 1 to 256 lines
 abbrev pub listing : ℕ → ℕ → Request
-listing at lines = if nat_lt 0 lines then Ask (Listing at lines) else Refused BadNumber
+listing at lines = if nat_lt 0 lines then Listing at lines else Refused BadNumber
 
 -- `list`
 abbrev pub list_of : List ℕ → List ℕ → Request
@@ -125,11 +127,15 @@ request_with_two word a b =
 
 -- by the number of words
 abbrev pub request_of_words : List (List ℕ) → Request
+request_of_words [] = Nothing
 request_of_words (word ∷ []) = request_alone word
 request_of_words (word ∷ a ∷ []) = request_with_one word a
 request_of_words (word ∷ a ∷ b ∷ []) = request_with_two word a b
 request_of_words words = Refused NotACommand
 
--- a byte that no command line may have is told first
+-- What a line asks for. That it is too long is told first, and then that it has a byte that no command line may have.
 unfoldable pub request_of : List ℕ → Request
-request_of line = if list_all is_plain_byte line then request_of_words (words_of line) else Refused NotAscii
+request_of line =
+    if nat_lt LINE_BYTES (length line) then Refused LineTooLong
+    else if list_all is_plain_byte line then request_of_words (words_of line)
+    else Refused NotAscii

@@ -9,7 +9,7 @@ use crate::numbers::{address, bank, bit, byte};
 use crate::places::read_poke;
 use crate::words::{equals, is_plain_byte, next_word};
 use mcs_model::command::Command;
-use mcs_model::limits::LISTING_LINES;
+use mcs_model::limits::{LINE_BYTES, LISTING_LINES};
 use mcs_model::numeral::number_within;
 use mcs_model::query::Query;
 use mcs_model::refusal_numbers;
@@ -47,26 +47,32 @@ impl LineFault {
     }
 }
 
-/// What a line asks to be told. Asking changes nothing.
+/// What a text describes.
 #[derive(Clone, Copy, Debug, PartialEq, Eq)]
-pub enum Question {
-    /// What a bench tells of its state.
-    State(Query),
-    /// A listing of the ROM: from an address on, of 1 to `LISTING_LINES` lines.
-    Listing(Addr, u16),
-    /// The wiring of the board.
-    Board,
+pub enum TextKind {
+    /// A board.
+    Wire,
+    /// A program.
+    Asm,
 }
 
 /// What a command line asks for.
 #[derive(Debug, Drop)]
 pub enum Request {
+    /// Nothing: the line has no word.
+    Nothing,
     /// Nothing: the line is refused.
     Refused(LineFault),
-    /// To be told of the bench.
-    Ask(Question),
+    /// What a query tells of the state of the bench. Asking changes nothing.
+    Ask(Query),
+    /// A listing of the ROM: from an address on, of 1 to 256 lines.
+    Listing(Addr, u16),
+    /// The wiring of the board.
+    Board,
     /// A command on the bench.
     Change(Command),
+    /// A text, which the next lines are.
+    Begin(TextKind),
 }
 
 /// What a line of one word asks for.
@@ -78,19 +84,23 @@ fn read_alone(word: &[u8]) -> Request
     } else if equals(word, b"reset") {
         Request::Change(Command::Reset)
     } else if equals(word, b"lamps") {
-        Request::Ask(Question::State(Query::Lamps))
+        Request::Ask(Query::Lamps)
     } else if equals(word, b"regs") {
-        Request::Ask(Question::State(Query::Regs))
+        Request::Ask(Query::Regs)
     } else if equals(word, b"breaks") {
-        Request::Ask(Question::State(Query::Breaks))
+        Request::Ask(Query::Breaks)
     } else if equals(word, b"watches") {
-        Request::Ask(Question::State(Query::Watches))
+        Request::Ask(Query::Watches)
     } else if equals(word, b"ports") {
-        Request::Ask(Question::State(Query::Ports))
+        Request::Ask(Query::Ports)
     } else if equals(word, b"seq") {
-        Request::Ask(Question::State(Query::Seq))
+        Request::Ask(Query::Seq)
     } else if equals(word, b"board") {
-        Request::Ask(Question::Board)
+        Request::Board
+    } else if equals(word, b"wire") {
+        Request::Begin(TextKind::Wire)
+    } else if equals(word, b"asm") {
+        Request::Begin(TextKind::Asm)
     } else {
         Request::Refused(LineFault::NotACommand)
     }
@@ -119,7 +129,7 @@ fn read_with_one(word: &[u8], a: &[u8]) -> Option<Request>
     } else if equals(word, b"unbreak") {
         Request::Change(Command::Unbreak(address(a)?))
     } else if equals(word, b"ram") {
-        Request::Ask(Question::State(Query::Ram(bank(a)?)))
+        Request::Ask(Query::Ram(bank(a)?))
     } else {
         Request::Refused(LineFault::NotACommand)
     };
@@ -135,7 +145,7 @@ fn read_list(a: &[u8], n: &[u8]) -> Option<Request>
     if lines == 0 {
         return None;
     }
-    Some(Request::Ask(Question::Listing(at, lines as u16)))
+    Some(Request::Listing(at, lines as u16))
 }
 
 /// What a line of three words asks for; none where a number is none, or out of its range.
@@ -165,7 +175,7 @@ fn read_words(line: &[u8]) -> Request
     ensures { result ≡ request_of_words (words_of line.now) }
 {
     let Some((word, rest)) = next_word(line) else {
-        return Request::Refused(LineFault::NotACommand);
+        return Request::Nothing;
     };
     let Some((first, rest)) = next_word(rest) else {
         return read_alone(word);
@@ -186,12 +196,14 @@ fn is_plain(line: &[u8]) -> bool
     line.iter().all(|b| is_plain_byte(*b))
 }
 
-/// What a line asks for. It is to come without its end, and with at most 255 bytes.
+/// What a line asks for. It is to come without its end.
 #[tactic(auto, unfolding(crate::specs::Requests::request_of))]
 pub fn read_request(line: &[u8]) -> Request
     ensures { result ≡ request_of line.now }
 {
-    if is_plain(line) {
+    if line.len() > LINE_BYTES {
+        Request::Refused(LineFault::LineTooLong)
+    } else if is_plain(line) {
         read_words(line)
     } else {
         Request::Refused(LineFault::NotAscii)

@@ -1,6 +1,5 @@
 //! The words of a line, and the parts of a word.
 ghost use Rattle.std.specs.Prelude.{◌≡◌, ◌≤◌, ◌∷◌, [], MatchOption, length, take, drop};
-ghost use Rattle.std.specs.List.{list_all};
 ghost use Rattle.std.specs.Str.{bytes_eq};
 ghost use Rattle.mcs_lines.specs.Cutting.{HasNone, cut_at};
 ghost use Rattle.mcs_lines.specs.Words.{BeginsWord, EndsPart, EndsWord, is_blank_byte, is_dot, is_plain_byte, words_of};
@@ -17,13 +16,6 @@ pub fn is_plain_byte(byte: u8) -> bool
     ensures { result ≡ is_plain_byte byte }
 {
     byte == b'\t' || (31 < byte && byte < 127)
-}
-
-/// Whether a line has no word.
-pub fn is_blank(line: &[u8]) -> bool
-    ensures { result ≡ list_all is_blank_byte line.now }
-{
-    line.iter().all(|b| is_blank_byte(*b))
 }
 
 /// Whether a word is this name.

@@ -12,7 +12,11 @@ fn refusal(line: &[u8]) -> u8 {
 
 #[test]
 fn lines_in_range(rt: HostRuntime) -> Result<(), Fail> {
-    let lines: [&[u8]; 38] = [
+    let lines: [&[u8]; 42] = [
+        b"",
+        b" \t ",
+        b"wire",
+        b"\tasm ",
         b"step",
         b"  reset\t",
         b"lamps",
@@ -60,8 +64,7 @@ fn lines_in_range(rt: HostRuntime) -> Result<(), Fail> {
 
 #[test]
 fn lines_that_are_no_commands(rt: HostRuntime) -> Result<(), Fail> {
-    let lines: [&[u8]; 42] = [
-        b"",
+    let lines: [&[u8]; 41] = [
         b"foo",
         b"STEP",
         b"steps",
@@ -176,14 +179,29 @@ fn bytes_that_no_line_has(rt: HostRuntime) -> Result<(), Fail> {
 }
 
 #[test]
+fn lines_of_too_many_bytes(rt: HostRuntime) -> Result<(), Fail> {
+    assert_eq!(rt; refusal(&[b'a'; 255]), 10);
+    assert_eq!(rt; refusal(&[b' '; 255]), 0);
+    assert_eq!(rt; refusal(&[b'a'; 256]), 12);
+    assert_eq!(rt; refusal(&[b' '; 256]), 12);
+    assert_eq!(rt; refusal(&[0; 256]), 12);
+    Ok(())
+}
+
+#[test]
 fn what_lines_ask_for(rt: HostRuntime) -> Result<(), Fail> {
-    let rows: [(&[u8], &str); 9] = [
+    let rows: [(&[u8], &str); 14] = [
+        (b"", "Nothing"),
+        (b"\t ", "Nothing"),
+        (b"wire", "Begin(Wire)"),
+        (b" asm\t", "Begin(Asm)"),
+        (b"board", "Board"),
         (b"press 9 7", "Change(Press(9, 7))"),
         (b"run 100001", "Change(Run(100001))"),
-        (b"list 0x100 3", "Ask(Listing(Addr { value: 256 }, 3))"),
-        (b"ram 5", "Ask(State(Ram(BankNo { value: 5 })))"),
-        (b"watches", "Ask(State(Watches))"),
-        (b"ports", "Ask(State(Ports))"),
+        (b"list 0x100 3", "Listing(Addr { value: 256 }, 3)"),
+        (b"ram 5", "Ask(Ram(BankNo { value: 5 }))"),
+        (b"watches", "Ask(Watches)"),
+        (b"ports", "Ask(Ports)"),
         (b"watch 5 63", "Change(Watch(BankNo { value: 5 }, 63))"),
         (
             b"unwatch 0x6 0x3F",

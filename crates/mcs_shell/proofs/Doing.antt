@@ -1,41 +1,35 @@
--- What a command leaves, by its answer, and what a line leaves.
-use Rattle.std.proofs.Common.{◌≡◌, ◌≢◌, ◌↔◌, ℕ, ◌<◌, ◌≤◌, Bool, true, false, List, [], ◌∷◌, Option, Some, None, Result, Ok, Err, length, nat_lt, sym, ap, ◌∙◌, refl, rules, subst}
+-- What an input leaves, by its answer.
+use Rattle.std.proofs.Common.{◌≡◌, ◌≢◌, ◌⊎◌, ◌↔◌, ℕ, Bool, true, false, List, [], ◌∷◌, Option, Some, None, Result, Ok, Err, OnErr, OnOk, inl, inr, sym, ap, ◌∙◌, refl, subst}
+use Rattle.std.specs.Result.{result_ok}
 use Rattle.std.specs.Io.KnownBytes.{Appends}
-use Rattle.std.specs.List.{list_all}
 use Rattle.mcs_disk.specs.Disk.{DiskState, IsLawful}
 use Rattle.mcs_model.specs.declared.command.Command.{Command}
 use Rattle.mcs_model.specs.declared.command.Reply.{Reply}
 use Rattle.mcs_model.specs.declared.refusals.BenchFault.{BenchFault}
 use Rattle.mcs_model.specs.Command.{refusal, after, reply}
 use Rattle.mcs_model.specs.Refusal.{bench_fault_number}
-use Rattle.mcs_model.specs.declared.limits.TheConstants.{LINE_BYTES}
-use Rattle.mcs_model.specs.declared.refusal_numbers.TheConstants.{CLOSED, DEVICE, LINE_TOO_LONG, NO_MEMORY}
+use Rattle.mcs_model.specs.declared.refusal_numbers.TheConstants.{CLOSED, DEVICE, NO_MEMORY}
 use Rattle.mcs_model.specs.BenchState.{BenchState}
 use Rattle.mcs_session.specs.declared.fault.SessionFault.{SessionFault}
 use Rattle.mcs_session.specs.declared.fault.SessionFault.TheVariants as fault
 use Rattle.mcs_shell.specs.declared.outcome.Outcome.{Outcome}
 use Rattle.mcs_shell.specs.declared.outcome.Outcome.TheVariants.{Plain, Device, Closed, NoMemory}
-use Rattle.mcs_lines.specs.declared.requests.LineFault.{LineFault}
-use Rattle.mcs_lines.specs.declared.requests.Request.{Request}
-use Rattle.mcs_lines.specs.declared.requests.Request.TheVariants.{Refused, Ask, Change}
-use Rattle.mcs_lines.specs.declared.requests.Question.{Question}
+use Rattle.mcs_lines.specs.declared.requests.Request.TheVariants.{Change}
 use Rattle.mcs_shell.specs.declared.spelling.TextRefusal.{TextRefusal}
-use Rattle.mcs_shell.specs.declared.texts.TextKind.{TextKind}
+use Rattle.mcs_lines.specs.declared.requests.TextKind.{TextKind}
 use Rattle.mcs_shell.specs.declared.texts.TextFault.{TextFault}
 use Rattle.mcs_shell.specs.declared.outcome.Halt.{Halt}
 use Rattle.mcs_shell.specs.declared.outcome.Halt.TheVariants as halt
-use Rattle.mcs_lines.specs.Words.{is_blank_byte}
-use Rattle.mcs_shell.specs.Inputs.{Input, Blank, TooLong, Line, Text, BadText, text_fault_of, judged, judged_text, text_or_fault}
-use Rattle.mcs_lines.specs.Requests.{request_of}
+use Rattle.mcs_shell.specs.Inputs.{Input, Line, Text, BadText, text_fault_of, judged_text, text_or_fault}
 use Rattle.mcs_shell.specs.Spelling.{command_of_text, text_refusal}
 use Rattle.mcs_session.specs.Answers.{Applied, Closes, Recorded}
 use Rattle.mcs_session.specs.Standing.{SessionState}
 use Rattle.mcs_shell.specs.Stage.{Stage}
-use Rattle.mcs_shell.specs.RefusalNumbers.{session_fault_number, text_fault_number}
-use Rattle.mcs_answers.specs.AnswerTexts.{no_text, ok_text, takes_memory}
-use Rattle.mcs_shell.specs.Transcript.{MayEnd, SpelledMayEnd, answer, change_text, commands, commands_of_change, commands_of_request, commands_of_spelled, if_accepted, plain_text, unless_refused, reached, reached_by_change, reached_by_request, reached_by_spelled, request_text, spelled_text}
+use Rattle.mcs_shell.specs.RefusalNumbers.{session_fault_number}
+use Rattle.mcs_answers.specs.AnswerTexts.{no_text, ok_text}
+use Rattle.mcs_shell.specs.Transcript.{MayEnd, accepted, answer, asked, change_answer, commands, plain_answer, reached, spelled_answer, takes_memory}
 use Rattle.mcs_session.specs.Kept.{IsSettled, Kept}
-use Rattle.mcs_shell.specs.Serving.{Sent, ServedLine, Answered, Changed, CutShort, Failed, Fares, GotSome, KeptBy, Leaves, RequestDone, WentOn}
+use Rattle.mcs_shell.specs.Serving.{Sent, ServedLine, Answered, CutShort, Failed, Fares, GotSome, KeptBy, Leaves, WentOn, outcome_of}
 use Rattle.mcs_session.proofs.Keeping.{acknowledged_keeps, failed_keeps, stays_keeps, whole_nothing}
 
 abbrev pub at : Bool → BenchState → DiskState → SessionState
@@ -54,26 +48,29 @@ pub record Tried (live : Bool) (s : BenchState) (d : DiskState) (c : Command) (r
 pub known : (q r : Result Reply SessionFault) (live : Bool) (s : BenchState) (d : DiskState) (b : SessionState) (c : Command) → q ≡ r → Tried live s d c q b → Tried live s d c r b
 known q r live s d b c same h = subst (λ x. Tried live s d c x b) same h
 
-accepted_alone : (s : BenchState) (c : Command) → refusal s c ≡ None → if_accepted s c ≡ c ∷ []
-accepted_alone s c e = ap (λ (v : Option BenchFault). unless_refused v c) e
+accepted_alone : (s : BenchState) (c : Command) → refusal s c ≡ None → accepted s (Some c) ≡ c ∷ []
+accepted_alone s c e = ap (λ (v : Option BenchFault). elim v [ None ↦ c ∷ [] | Some f ↦ [] ]) e
 
-refused_none : (s : BenchState) (c : Command) (f : BenchFault) → refusal s c ≡ Some f → if_accepted s c ≡ []
-refused_none s c f e = ap (λ (v : Option BenchFault). unless_refused v c) e
+refused_none : (s : BenchState) (c : Command) (f : BenchFault) → refusal s c ≡ Some f → accepted s (Some c) ≡ []
+refused_none s c f e = ap (λ (v : Option BenchFault). elim v [ None ↦ c ∷ [] | Some g ↦ [] ]) e
 
-text_accepted : (s : BenchState) (c : Command) → refusal s c ≡ None → ok_text (reply s c) (after s c) ≡ change_text s c Plain
-text_accepted s c e = sym (ap (λ (v : Option BenchFault). plain_text v s c) e)
+text_accepted : (s : BenchState) (c : Command) → refusal s c ≡ None → change_answer s c ≡ ok_text (reply s c) (after s c)
+text_accepted s c e = ap (λ (v : Option BenchFault). elim v [ None ↦ ok_text (reply s c) (after s c) | Some f ↦ no_text (bench_fault_number f) ]) e
 
-text_refused : (s : BenchState) (c : Command) (f : BenchFault) → refusal s c ≡ Some f → no_text (bench_fault_number f) ≡ change_text s c Plain
-text_refused s c f e = sym (ap (λ (v : Option BenchFault). plain_text v s c) e)
+text_refused : (s : BenchState) (c : Command) (f : BenchFault) → refusal s c ≡ Some f → change_answer s c ≡ no_text (bench_fault_number f)
+text_refused s c f e = ap (λ (v : Option BenchFault). elim v [ None ↦ ok_text (reply s c) (after s c) | Some g ↦ no_text (bench_fault_number g) ]) e
 
-pub ok_changed : (r : Reply) (live : Bool) (s : BenchState) (d : DiskState) (b : SessionState) (c : Command) (told : List ℕ) → Tried live s d c (Ok r) b → told ≡ ok_text r b.standing.state → Changed (at live s d) c Plain told b
+-- ---- a command
+
+pub ok_changed : (r : Reply) (live : Bool) (s : BenchState) (d : DiskState) (b : SessionState) (c : Command) (told : List ℕ) → Tried live s d c (Ok r) b → told ≡ ok_text r b.standing.state → Answered (at live s d) (Line (Change c)) Plain told b
+unfolding answer commands reached MayEnd
 ok_changed r false s d b c told h k = absurd (h.applied)
 ok_changed r true s d b c told h k =
     let yes : refusal s c ≡ None = h.applied.0 in
     let P : List Command → Type 0 = λ cs. Leaves (at true s d) Plain cs cs b in
     record {
-      may = tt;
-      told_is = k ∙ ap (λ v. ok_text v b.standing.state) (h.applied.1) ∙ ap (ok_text (reply s c)) (h.applied.2) ∙ text_accepted s c yes;
+      may = inr refl;
+      told_is = k ∙ ap (λ v. ok_text v b.standing.state) (h.applied.1) ∙ ap (ok_text (reply s c)) (h.applied.2) ∙ sym (text_accepted s c yes);
       leaves = subst P (sym (accepted_alone s c yes)) (record {
         state = h.applied.2;
         closes = h.closes;
@@ -83,14 +80,15 @@ ok_changed r true s d b c told h k =
       });
     }
 
-pub refused_changed : (f : BenchFault) (live : Bool) (s : BenchState) (d : DiskState) (b : SessionState) (c : Command) (told : List ℕ) → Tried live s d c (Err (fault.Refused f)) b → told ≡ no_text (session_fault_number (fault.Refused f)) → Changed (at live s d) c Plain told b
+refused_changed : (f : BenchFault) (live : Bool) (s : BenchState) (d : DiskState) (b : SessionState) (c : Command) (told : List ℕ) → Tried live s d c (Err (fault.Refused f)) b → told ≡ no_text (session_fault_number (fault.Refused f)) → Answered (at live s d) (Line (Change c)) Plain told b
+unfolding answer commands reached MayEnd
 refused_changed f false s d b c told h k = absurd (h.applied)
 refused_changed f true s d b c told h k =
     let no : refusal s c ≡ Some f = h.applied.0 in
     let P : List Command → Type 0 = λ cs. Leaves (at true s d) Plain cs cs b in
     record {
-      may = tt;
-      told_is = k ∙ text_refused s c f no;
+      may = inr refl;
+      told_is = k ∙ sym (text_refused s c f no);
       leaves = subst P (sym (refused_none s c f no)) (record {
         state = h.applied.1;
         closes = h.closes;
@@ -100,78 +98,71 @@ refused_changed f true s d b c told h k =
       });
     }
 
-pub device_changed : (live : Bool) (s : BenchState) (d : DiskState) (b : SessionState) (c : Command) (told : List ℕ) → Tried live s d c (Err fault.Device) b → told ≡ no_text DEVICE → Changed (at live s d) c Device told b
+device_changed : (live : Bool) (s : BenchState) (d : DiskState) (b : SessionState) (c : Command) (told : List ℕ) → Tried live s d c (Err fault.Device) b → told ≡ no_text DEVICE → Answered (at live s d) (Line (Change c)) Device told b
+unfolding answer commands reached MayEnd
 device_changed false s d b c told h k = absurd (h.applied)
-device_changed true s d b c told h k = record {
-  may = h.applied.0;
-  told_is = k;
-  leaves = record { state = h.applied.1; closes = h.closes; size = h.size; honest = h.honest; kept = λ given. failed_keeps d b.disk s c (h.records given.honest.1) (h.lawful (h.honest.1 given.honest.1)) };
-}
+device_changed true s d b c told h k =
+    let alone : accepted s (Some c) ≡ c ∷ [] = accepted_alone s c (h.applied.0) in
+    let P : List Command → Type 0 = λ cs. Leaves (at true s d) Device [] cs b in
+    record {
+      may = (λ none. let x : c ∷ [] ≡ [] = sym alone ∙ none in absurd (cc x), refl);
+      told_is = k;
+      leaves = subst P (sym alone) (record {
+        state = h.applied.1;
+        closes = h.closes;
+        size = h.size;
+        honest = h.honest;
+        kept = λ given. failed_keeps d b.disk s c (h.records given.honest.1) (h.lawful (h.honest.1 given.honest.1));
+      });
+    }
 
-pub closed_changed : (live : Bool) (s : BenchState) (d : DiskState) (b : SessionState) (c : Command) (told : List ℕ) → Tried live s d c (Err fault.Closed) b → told ≡ no_text CLOSED → Changed (at live s d) c Closed told b
+closed_changed : (live : Bool) (s : BenchState) (d : DiskState) (b : SessionState) (c : Command) (told : List ℕ) → Tried live s d c (Err fault.Closed) b → told ≡ no_text CLOSED → Answered (at live s d) (Line (Change c)) Closed told b
+unfolding answer commands reached MayEnd
 closed_changed true s d b c told h k = absurd (h.applied)
 closed_changed false s d b c told h k = record {
-  may = tt;
+  may = (λ x. absurd (cc x), refl);
   told_is = k;
   leaves = record { state = h.applied; closes = h.closes; size = h.size; honest = h.honest; kept = λ given. absurd (cc given.honest.0) };
 }
 
--- ---- requests that change nothing
+-- it was not recorded
+pub fault_changed : (f : SessionFault) (live : Bool) (s : BenchState) (d : DiskState) (b : SessionState) (c : Command) (told : List ℕ) → Tried live s d c (Err f) b → told ≡ no_text (session_fault_number f) → Answered (at live s d) (Line (Change c)) (outcome_of f) told b
+fault_changed (fault.Refused f) = refused_changed f
+fault_changed fault.Device = device_changed
+fault_changed fault.Closed = closed_changed
 
-pub leaves_nothing : (a : SessionState) → Leaves a Plain [] [] a
+-- ---- inputs that change nothing
+
+leaves_nothing : (a : SessionState) → Leaves a Plain [] [] a
 leaves_nothing a = record { state = refl; closes = (refl, refl); size = refl; honest = (λ h. h, λ h. h); kept = λ given. whole_nothing a.disk a.standing.state given.settled }
 
-pub leaves_refused : (a : SessionState) → Leaves a NoMemory [] [] a
+leaves_refused : (a : SessionState) → Leaves a NoMemory [] [] a
 leaves_refused a = record { state = refl; closes = (refl, refl); size = refl; honest = (λ h. h, λ h. h); kept = λ given. whole_nothing a.disk a.standing.state given.settled }
 
-pub refused_done : (a : SessionState) (f : LineFault) (told : List ℕ) → told ≡ request_text a.standing.state (Refused f) Plain → RequestDone a (Refused f) Plain told a
-refused_done a f told k = record { may = refl; told_is = k; leaves = leaves_nothing a }
-
-pub ask_done : (a : SessionState) (q : Question) (told : List ℕ) → told ≡ request_text a.standing.state (Ask q) Plain → RequestDone a (Ask q) Plain told a
-ask_done a q told k = record { may = refl; told_is = k; leaves = leaves_nothing a }
-
-pub ask_refused : (a : SessionState) (q : Question) (told : List ℕ) → takes_memory q ≡ true → told ≡ no_text NO_MEMORY → RequestDone a (Ask q) NoMemory told a
-ask_refused a q told may k = record { may = may; told_is = k; leaves = leaves_refused a }
-
-pub change_done : (a b : SessionState) (c : Command) (o : Outcome) (told : List ℕ) → Changed a c o told b → RequestDone a (Change c) o told b
-change_done a b c Plain told h = record { may = h.may; told_is = h.told_is; leaves = h.leaves }
-change_done a b c Device told h = record { may = h.may; told_is = h.told_is; leaves = h.leaves }
-change_done a b c Closed told h = record { may = h.may; told_is = h.told_is; leaves = h.leaves }
-change_done a b c NoMemory told h = record { may = h.may; told_is = h.told_is; leaves = h.leaves }
-
-pub done_of : (a b : SessionState) (r q : Request) (o : Outcome) (told : List ℕ) → r ≡ q → RequestDone a q o told b → RequestDone a r o told b
-done_of a b r q o told same h = subst (λ (x : Request). RequestDone a x o told b) (sym same) h
-
--- ---- a line
-
-nat_lt-false : (m n : ℕ) → n ≤ m → nat_lt m n ≡ false
-nat_lt-false m n h = search rules
-
-nat_lt-true : (m n : ℕ) → m < n → nat_lt m n ≡ true
-nat_lt-true m n h = search rules
-
--- a line that is neither too long nor blank
-pub is_line : (line : List ℕ) → length line ≤ LINE_BYTES → list_all is_blank_byte line ≡ false → judged line ≡ Line line
-is_line line h b = rw (nat_lt-false LINE_BYTES (length line) h, b) refl
-
-pub is_blank_line : (line : List ℕ) → length line ≤ LINE_BYTES → list_all is_blank_byte line ≡ true → judged line ≡ Blank
-is_blank_line line h b = rw (nat_lt-false LINE_BYTES (length line) h, b) refl
-
-pub is_long_line : (line : List ℕ) → LINE_BYTES < length line → judged line ≡ TooLong
-is_long_line line h = rw (nat_lt-true LINE_BYTES (length line) h) refl
-
-pub answered_line : (a b : SessionState) (i : Input) (line : List ℕ) (o : Outcome) (told : List ℕ)
-    → i ≡ Line line → RequestDone a (request_of line) o told b → Answered a i o told b
+-- an input that asks for no command
+pub answered_plain : (a : SessionState) (i : Input) (told : List ℕ) → asked i ≡ None → told ≡ plain_answer a.standing.state i → Answered a i Plain told a
 unfolding answer commands reached MayEnd
-answered_line a b i line o told e h = let P : Input → Type 0 = λ x. Answered a x o told b in subst P (sym e) (record { may = h.may; told_is = h.told_is; leaves = h.leaves })
+answered_plain a i told none k =
+    let P : List Command → Type 0 = λ cs. Leaves a Plain cs cs a in
+    let nothing : accepted a.standing.state (asked i) ≡ [] = ap (accepted a.standing.state) none in
+    record { may = inl none; told_is = k; leaves = subst P (sym nothing) (leaves_nothing a) }
 
-pub answered_blank : (a : SessionState) (i : Input) (told : List ℕ) → i ≡ Blank → told ≡ [] → Answered a i Plain told a
+-- memory for it was refused
+pub answered_no_memory : (a : SessionState) (i : Input) (told : List ℕ) → takes_memory i ≡ true → told ≡ no_text NO_MEMORY → Answered a i NoMemory told a
 unfolding answer commands reached MayEnd
-answered_blank a i told e h = let P : Input → Type 0 = λ x. Answered a x Plain told a in subst P (sym e) (record { may = refl; told_is = h; leaves = leaves_nothing a })
+answered_no_memory a i told takes k = record { may = takes; told_is = k; leaves = leaves_refused a }
 
-pub answered_long : (a : SessionState) (i : Input) (told : List ℕ) → i ≡ TooLong → told ≡ no_text LINE_TOO_LONG → Answered a i Plain told a
-unfolding answer commands reached MayEnd
-answered_long a i told e h = let P : Input → Type 0 = λ x. Answered a x Plain told a in subst P (sym e) (record { may = refl; told_is = h; leaves = leaves_nothing a })
+pub answered_as : (a b : SessionState) (i j : Input) (o : Outcome) (told : List ℕ) → i ≡ j → Answered a j o told b → Answered a i o told b
+answered_as a b i j o told same h = let P : Input → Type 0 = λ x. Answered a x o told b in subst P (sym same) h
+
+answered_by : (a b : SessionState) (i : Input) (o q : Outcome) (told : List ℕ) → o ≡ q → Answered a i q told b → Answered a i o told b
+answered_by a b i o q told same h = let P : Outcome → Type 0 = λ x. Answered a i x told b in subst P (sym same) h
+
+-- a request whose answer takes memory
+pub answered_long : {T E : Type 0} (r : Result T E) (a : SessionState) (i : Input) (o : Outcome) (text told : List ℕ) → asked i ≡ None → takes_memory i ≡ true
+    → OnOk r (text ≡ plain_answer a.standing.state i) → OnOk r ((o ≡ Plain) × (told ≡ text)) → OnErr r ((o ≡ NoMemory) × (told ≡ no_text NO_MEMORY)) → Answered a i o told a
+answered_long (Ok x) a i o text told none takes is k refused = answered_by a a i o Plain told (k.0) (answered_plain a i told none (k.1 ∙ is))
+answered_long (Err x) a i o text told none takes is k refused = answered_by a a i o NoMemory told (refused.0) (answered_no_memory a i told takes (refused.1))
 
 -- ---- a text
 
@@ -181,69 +172,49 @@ is_text kind text e = ap (text_or_fault kind text) e
 pub is_bad_text : (kind : TextKind) (text : List ℕ) (f : TextFault) → text_fault_of text ≡ Some f → judged_text kind text ≡ BadText f
 is_bad_text kind text f e = ap (text_or_fault kind text) e
 
--- what came of a text, by what it spells
-pub record SpelledDone (a : SessionState) (r : Result Command TextRefusal) (o : Outcome) (told : List ℕ) (b : SessionState) : Type 0 where
-  pub may : SpelledMayEnd a.standing r o
-  pub told_is : told ≡ spelled_text a.standing.state r o
-  pub leaves : Leaves a o (commands_of_spelled a.standing.state r o) (reached_by_spelled a.standing.state r o) b
-
-pub spelled_change : (a b : SessionState) (c : Command) (o : Outcome) (told : List ℕ) → Changed a c o told b → SpelledDone a (Ok c) o told b
-spelled_change a b c Plain told h = record { may = h.may; told_is = h.told_is; leaves = h.leaves }
-spelled_change a b c Device told h = record { may = h.may; told_is = h.told_is; leaves = h.leaves }
-spelled_change a b c Closed told h = record { may = h.may; told_is = h.told_is; leaves = h.leaves }
-spelled_change a b c NoMemory told h = record { may = tt; told_is = h.told_is; leaves = h.leaves }
-
-pub spelled_refused : (a : SessionState) (f : TextRefusal) (told : List ℕ) → told ≡ text_refusal f → SpelledDone a (Err f) Plain told a
-spelled_refused a f told k = record { may = refl; told_is = k; leaves = leaves_nothing a }
-
--- memory for it was refused
-pub spelled_no_memory : (a : SessionState) (r : Result Command TextRefusal) (told : List ℕ) → told ≡ no_text NO_MEMORY → SpelledDone a r NoMemory told a
-spelled_no_memory a (Ok c) told k = record { may = tt; told_is = k; leaves = leaves_refused a }
-spelled_no_memory a (Err f) told k = record { may = tt; told_is = k; leaves = leaves_refused a }
-
-pub answered_text : (a b : SessionState) (i : Input) (kind : TextKind) (text : List ℕ) (r : Result Command TextRefusal) (o : Outcome) (told : List ℕ)
-    → i ≡ Text kind text → command_of_text kind text ≡ r → SpelledDone a r o told b → Answered a i o told b
+-- inputs that ask for the same command, and are answered alike by the state
+answered_alike : (a b : SessionState) (i j : Input) (o : Outcome) (told : List ℕ) → asked i ≡ asked j → plain_answer a.standing.state i ≡ plain_answer a.standing.state j → takes_memory i ≡ true
+    → Answered a j o told b → Answered a i o told b
 unfolding answer commands reached MayEnd
-answered_text a b i kind text r o told e is h =
-    let P : Input → Type 0 = λ x. Answered a x o told b in
-    let Q : Result Command TextRefusal → Type 0 = λ x. SpelledDone a x o told b in
-    let done : SpelledDone a (command_of_text kind text) o told b = subst Q (sym is) h in
-    subst P (sym e) (record { may = done.may; told_is = done.told_is; leaves = done.leaves })
+answered_alike a b i j Plain told same alike takes h =
+    let P : Option Command → Type 0 = λ q. Leaves a Plain (accepted a.standing.state q) (accepted a.standing.state q) b in
+    let Q : Option Command → Type 0 = λ q. (q ≡ None) ⊎ (a.standing.live ≡ true) in
+    record { may = subst Q (sym same) h.may; told_is = h.told_is ∙ sym alike; leaves = subst P (sym same) h.leaves }
+answered_alike a b i j Device told same alike takes h =
+    let P : Option Command → Type 0 = λ q. Leaves a Device [] (accepted a.standing.state q) b in
+    let Q : Option Command → Type 0 = λ q. (accepted a.standing.state q ≢ []) × (a.standing.live ≡ true) in
+    record { may = subst Q (sym same) h.may; told_is = h.told_is; leaves = subst P (sym same) h.leaves }
+answered_alike a b i j Closed told same alike takes h =
+    let Q : Option Command → Type 0 = λ q. (q ≢ None) × (a.standing.live ≡ false) in
+    record { may = subst Q (sym same) h.may; told_is = h.told_is; leaves = h.leaves }
+answered_alike a b i j NoMemory told same alike takes h = record { may = takes; told_is = h.told_is; leaves = h.leaves }
 
-pub answered_bad_text : (a : SessionState) (i : Input) (f : TextFault) (told : List ℕ) → i ≡ BadText f → told ≡ no_text (text_fault_number f) → Answered a i Plain told a
-unfolding answer commands reached MayEnd
-answered_bad_text a i f told e h = let P : Input → Type 0 = λ x. Answered a x Plain told a in subst P (sym e) (record { may = refl; told_is = h; leaves = leaves_nothing a })
+-- a text that spells a command is answered as that command is
+pub answered_text : (a b : SessionState) (kind : TextKind) (text : List ℕ) (c : Command) (o : Outcome) (told : List ℕ)
+    → command_of_text kind text ≡ Ok c → Answered a (Line (Change c)) o told b → Answered a (Text kind text) o told b
+answered_text a b kind text c o told is h =
+    answered_alike a b (Text kind text) (Line (Change c)) o told (ap result_ok is) (ap (spelled_answer a.standing.state) is) refl h
+
+-- one that spells none
+pub answered_refused_text : (a : SessionState) (kind : TextKind) (text : List ℕ) (why : TextRefusal) (told : List ℕ)
+    → command_of_text kind text ≡ Err why → told ≡ text_refusal why → Answered a (Text kind text) Plain told a
+answered_refused_text a kind text why told is k = answered_plain a (Text kind text) told (ap result_ok is) (k ∙ sym (ap (spelled_answer a.standing.state) is))
 
 -- ---- an input that was answered
 
-of_change : (s : BenchState) (c : Command) (o : Outcome) → o ≢ Device → reached_by_change s c o ≡ commands_of_change s c o
-of_change s c Plain h = refl
-of_change s c Device h = absurd (h refl)
-of_change s c Closed h = refl
-of_change s c NoMemory h = refl
-
-of_request : (s : BenchState) (r : Request) (o : Outcome) → o ≢ Device → reached_by_request s r o ≡ commands_of_request s r o
-of_request s (Refused f) o h = refl
-of_request s (Ask q) o h = refl
-of_request s (Change c) o h = of_change s c o h
-
-of_spelled : (s : BenchState) (r : Result Command TextRefusal) (o : Outcome) → o ≢ Device → reached_by_spelled s r o ≡ commands_of_spelled s r o
-of_spelled s (Ok c) o h = of_change s c o h
-of_spelled s (Err f) o h = refl
-
 pub reached_same : (s : BenchState) (i : Input) (o : Outcome) → o ≢ Device → reached s i o ≡ commands s i o
 unfolding reached commands
-reached_same s Blank o h = refl
-reached_same s TooLong o h = refl
-reached_same s (BadText f) o h = refl
-reached_same s (Text kind text) o h = of_spelled s (command_of_text kind text) o h
-reached_same s (Line line) o h = of_request s (request_of line) o h
+reached_same s i Plain h = refl
+reached_same s i Device h = absurd (h refl)
+reached_same s i Closed h = refl
+reached_same s i NoMemory h = refl
 
 kept_of : (o : Outcome) (d e : DiskState) (s : BenchState) (i : Input) → KeptBy o d e s (commands s i o) (reached s i o) → Kept d e s (commands s i o) (reached s i o)
+unfolding reached commands
+kept_of Plain d e s i h = h.kept
 kept_of Device d e s i h = h
-kept_of Plain d e s i h = let P : List Command → Type 0 = λ cs. Kept d e s (commands s i Plain) cs in subst P (sym (reached_same s i Plain (λ x. absurd (cc x)))) h.kept
-kept_of Closed d e s i h = let P : List Command → Type 0 = λ cs. Kept d e s (commands s i Closed) cs in subst P (sym (reached_same s i Closed (λ x. absurd (cc x)))) h.kept
-kept_of NoMemory d e s i h = let P : List Command → Type 0 = λ cs. Kept d e s (commands s i NoMemory) cs in subst P (sym (reached_same s i NoMemory (λ x. absurd (cc x)))) h.kept
+kept_of Closed d e s i h = h.kept
+kept_of NoMemory d e s i h = h.kept
 
 pub fares_of : (a b : SessionState) (i : Input) (o : Outcome) (told : List ℕ) → Answered a i o told b → Fares IsSettled a [] a.standing i o b
 fares_of a b i o told h = record {

@@ -12,7 +12,7 @@ use Rattle.mcs_shell.specs.declared.ends.ShellEnd.TheVariants.{End, ReadFault, W
 use Rattle.mcs_model.specs.declared.limits.TheConstants.{INPUT_BYTES}
 use Rattle.mcs_shell.specs.Lines.{HasNoFeed}
 use Rattle.mcs_shell.specs.Inputs.{Input, BadText, Commands, InText, Pending, fresh, inputs, inputs_after}
-use Rattle.mcs_shell.specs.declared.texts.TextKind.{TextKind}
+use Rattle.mcs_lines.specs.declared.requests.TextKind.{TextKind}
 use Rattle.mcs_shell.specs.declared.texts.TextFault.TheVariants.{NoEnd}
 use Rattle.mcs_session.specs.Standing.{SessionState, Standing, standing_after}
 use Rattle.mcs_shell.specs.Stage.{Stage}

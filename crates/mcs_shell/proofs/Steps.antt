@@ -9,9 +9,11 @@ use Rattle.mcs_shell.specs.declared.outcome.Outcome.TheVariants.{Device}
 use Rattle.mcs_shell.specs.declared.outcome.Halt.{Halt}
 use Rattle.mcs_shell.specs.declared.outcome.Halt.TheVariants as halt
 use Rattle.mcs_shell.specs.Lines.{HasNoFeed, is_line_feed}
-use Rattle.mcs_shell.specs.Inputs.{Input, Pending, Commands, InText, fresh, inputs_after, is_dot_line, judged, judged_text, opened}
+use Rattle.mcs_shell.specs.Inputs.{Input, Line, Pending, Commands, InText, begun, fresh, inputs_after, is_dot_line, judged_text}
 use Rattle.mcs_shell.specs.Reading.{Gathers, GathersLine}
-use Rattle.mcs_shell.specs.declared.texts.TextKind.{TextKind}
+use Rattle.mcs_lines.specs.declared.requests.TextKind.{TextKind}
+use Rattle.mcs_lines.specs.declared.requests.Request.TheVariants.{Begin}
+use Rattle.mcs_lines.specs.Requests.{request_of}
 use Rattle.std.specs.Io.BufRead.{strip_last}
 use Rattle.mcs_session.specs.Standing.{SessionState, Standing, standing_after}
 use Rattle.mcs_shell.specs.Stage.{Stage}
@@ -21,7 +23,7 @@ use Rattle.mcs_shell.specs.Serving.{ClosesAt, StopsAt, CutShort, Failed, Fares, 
 use Rattle.mcs_shell.proofs.Cutting.{HasNone-append, HasNone-take}
 use Rattle.mcs_shell.proofs.GrowingBytes.{appends_more, appends_nothing}
 use Rattle.mcs_session.proofs.Keeping.{carries_more, carries_nothing, kept_more, settled_on}
-use Rattle.mcs_shell.proofs.LineFeeds.{after-kept, feed-command, feed-dot, feed-line, feed-opened}
+use Rattle.mcs_shell.proofs.LineFeeds.{after-kept, feed-command, feed-dot, feed-line, feed-begun}
 use Rattle.mcs_session.proofs.Folds.{standing_after-further}
 use Rattle.mcs_shell.proofs.Served.{Went-append, Went-alone, Went-nothing, all_commands-alone, all_commands-further, all_commands-nothing, alone, map-append, transcript-append, transcript-alone, transcript-nothing}
 
@@ -112,17 +114,17 @@ went_kept a p q bytes f g e = let P : Pending → Type 0 = λ x. WentFurther a a
 fresh_feed : (q : Pending) → q ≡ fresh → HasNoFeed q.line
 fresh_feed q e = subst (λ (x : Pending). HasNoFeed x.line) (sym e) tt
 
-pub went_command : (a b : Stage) (p q : Pending) (line : List ℕ) → HasNoFeed p.line → p.mode ≡ Commands → line ≡ strip_last 13 p.line → opened line ≡ None → q ≡ fresh
-    → WentOn a (judged line) b → WentFurther a b p q (10 ∷ [])
+pub went_command : (a b : Stage) (p q : Pending) (line : List ℕ) → HasNoFeed p.line → p.mode ≡ Commands → line ≡ strip_last 13 p.line → begun (request_of line) ≡ None → q ≡ fresh
+    → WentOn a (Line (request_of line)) b → WentFurther a b p q (10 ∷ [])
 went_command a b p q line f is e none new h =
-    let none2 : opened (strip_last 13 p.line) ≡ None = ap opened (sym e) ∙ none in
-    went_one a b p q (10 ∷ []) (judged line) (fresh_feed q new) (λ more whole. feed-command p q more whole f is none2 new ∙ ap (λ l. judged l ∷ inputs_after q more whole) (sym e)) h
+    let none2 : begun (request_of (strip_last 13 p.line)) ≡ None = ap (λ l. begun (request_of l)) (sym e) ∙ none in
+    went_one a b p q (10 ∷ []) (Line (request_of line)) (fresh_feed q new) (λ more whole. feed-command p q more whole f is none2 new ∙ ap (λ l. Line (request_of l) ∷ inputs_after q more whole) (sym e)) h
 
-pub went_opened : (a : Stage) (p q : Pending) (line : List ℕ) (kind : TextKind) → HasNoFeed p.line → p.mode ≡ Commands → line ≡ strip_last 13 p.line → opened line ≡ Some kind
+pub went_begun : (a : Stage) (p q : Pending) (line : List ℕ) (kind : TextKind) → HasNoFeed p.line → p.mode ≡ Commands → line ≡ strip_last 13 p.line → request_of line ≡ Begin kind
     → q ≡ record { mode = InText kind []; line = [] } → WentFurther a a p q (10 ∷ [])
-went_opened a p q line kind f is e some new =
-    let some2 : opened (strip_last 13 p.line) ≡ Some kind = ap opened (sym e) ∙ some in
-    went_none a p q (10 ∷ []) (subst (λ (x : Pending). HasNoFeed x.line) (sym new) tt) (λ more whole. feed-opened p q more whole kind f is some2 new)
+went_begun a p q line kind f is e some new =
+    let some2 : request_of (strip_last 13 p.line) ≡ Begin kind = ap request_of (sym e) ∙ some in
+    went_none a p q (10 ∷ []) (subst (λ (x : Pending). HasNoFeed x.line) (sym new) tt) (λ more whole. feed-begun p q more whole kind f is some2 new)
 
 pub went_text : (a b : Stage) (p q : Pending) (line : List ℕ) (kind : TextKind) (text : List ℕ) → HasNoFeed p.line → p.mode ≡ InText kind text → line ≡ strip_last 13 p.line → is_dot_line line ≡ true → q ≡ fresh
     → WentOn a (judged_text kind text) b → WentFurther a b p q (10 ∷ [])
@@ -240,11 +242,11 @@ stopped_one : (halt : Halt) (a b : Stage) (p : Pending) (bytes : List ℕ) (i : 
 stopped_one halt.Write = stopped_first CutShort cut_after
 stopped_one halt.Device = stopped_first Failed failed_after
 
-pub stopped_command : (halt : Halt) (a b : Stage) (p : Pending) (line : List ℕ) → HasNoFeed p.line → p.mode ≡ Commands → line ≡ strip_last 13 p.line → opened line ≡ None
-    → StopsAt halt a (judged line) b → Stopped halt a b p (10 ∷ [])
+pub stopped_command : (halt : Halt) (a b : Stage) (p : Pending) (line : List ℕ) → HasNoFeed p.line → p.mode ≡ Commands → line ≡ strip_last 13 p.line → begun (request_of line) ≡ None
+    → StopsAt halt a (Line (request_of line)) b → Stopped halt a b p (10 ∷ [])
 stopped_command halt a b p line f is e none h =
-    let none2 : opened (strip_last 13 p.line) ≡ None = ap opened (sym e) ∙ none in
-    stopped_one halt a b p (10 ∷ []) (judged line) (λ more whole. (inputs_after fresh more whole, feed-command p fresh more whole f is none2 refl ∙ ap (λ l. judged l ∷ inputs_after fresh more whole) (sym e))) h
+    let none2 : begun (request_of (strip_last 13 p.line)) ≡ None = ap (λ l. begun (request_of l)) (sym e) ∙ none in
+    stopped_one halt a b p (10 ∷ []) (Line (request_of line)) (λ more whole. (inputs_after fresh more whole, feed-command p fresh more whole f is none2 refl ∙ ap (λ l. Line (request_of l) ∷ inputs_after fresh more whole) (sym e))) h
 
 pub stopped_text : (halt : Halt) (a b : Stage) (p : Pending) (line : List ℕ) (kind : TextKind) (text : List ℕ) → HasNoFeed p.line → p.mode ≡ InText kind text → line ≡ strip_last 13 p.line → is_dot_line line ≡ true
     → StopsAt halt a (judged_text kind text) b → Stopped halt a b p (10 ∷ [])

@@ -3,37 +3,21 @@ use Rattle.std.specs.Prelude.{◌==◌, ◌||◌, Bool, ℕ, List, [], ◌∷◌
 use Rattle.std.specs.List.{list_all}
 use Rattle.std.specs.Str.{bytes_eq}
 use Rattle.mcs_model.specs.declared.limits.TheConstants.{LINE_BYTES, TEXT_BYTES}
-use Rattle.mcs_shell.specs.declared.texts.TextKind.{TextKind}
-use Rattle.mcs_shell.specs.declared.texts.TextKind.TheVariants.{Wire, Asm}
+use Rattle.mcs_lines.specs.declared.requests.TextKind.{TextKind}
+use Rattle.mcs_lines.specs.declared.requests.Request.{Request}
+use Rattle.mcs_lines.specs.declared.requests.Request.TheVariants.{Begin}
 use Rattle.mcs_shell.specs.declared.texts.TextFault.{TextFault}
 use Rattle.mcs_shell.specs.declared.texts.TextFault.TheVariants.{NoEnd, TextTooLong, HasLongLine, HasBadByte}
 use Rattle.mcs_lines.specs.Cutting.{cut_at}
-use Rattle.mcs_lines.specs.Words.{is_blank_byte}
+use Rattle.mcs_lines.specs.Requests.{request_of}
+use Rattle.mcs_lines.specs.Words.{is_plain_byte}
 use Rattle.mcs_shell.specs.Lines.{is_line_feed, lines}
-use Rattle.mcs_lines.specs.Words.{is_plain_byte, words_of}
 
--- a line without words, a line of too many bytes, a command line, a text, or a text that is refused whatever its lines say
+-- what a line outside a text asks for, a text, or a text that is refused whatever its lines say
 pub data Input : Type 0 where
-  Blank : Input
-  TooLong : Input
-  Line : List ℕ → Input
+  Line : Request → Input
   Text : TextKind → List ℕ → Input
   BadText : TextFault → Input
-
--- ---- a line outside a text
-
--- too long where it has more bytes than a line may have, whatever its words
-abbrev pub judged : List ℕ → Input
-judged line = if nat_lt LINE_BYTES (length line) then TooLong else (if list_all is_blank_byte line then Blank else Line line)
-
--- `wire` or `asm` alone
-abbrev pub opener : List (List ℕ) → Option TextKind
-opener (w ∷ []) = if bytes_eq w (codes "wire") then Some Wire else (if bytes_eq w (codes "asm") then Some Asm else None)
-opener ws = None
-
--- the text that begins after a line, if any
-unfoldable pub opened : List ℕ → Option TextKind
-opened line = if nat_lt LINE_BYTES (length line) then None else opener (words_of line)
 
 -- ---- a text
 
@@ -69,12 +53,18 @@ pub data Mode : Type 0 where
   Commands : Mode
   InText : TextKind → List ℕ → Mode
 
--- A text is the lines after the one that opened it, up to one that is a dot, each followed by a line feed. It has no end
+-- the kind of the text that begins after a line, if one does
+abbrev pub begun : Request → Option TextKind
+begun (Begin kind) = Some kind
+begun request = None
+
+-- A text is the lines after the one that began it, up to one that is a dot, each followed by a line feed. It has no end
 -- where input ended before that.
 unfoldable pub group : Bool → Mode → List (List ℕ) → List Input
 group whole Commands [] = []
 group whole (InText kind text) [] = if whole then BadText NoEnd ∷ [] else []
-group whole Commands (l ∷ ls) = elim (opened l) [ None ↦ judged l ∷ group whole Commands ls | Some kind ↦ group whole (InText kind []) ls ]
+group whole Commands (l ∷ ls) =
+    elim (begun (request_of l)) [ None ↦ Line (request_of l) ∷ group whole Commands ls | Some kind ↦ group whole (InText kind []) ls ]
 group whole (InText kind text) (l ∷ ls) =
     if is_dot_line l then judged_text kind text ∷ group whole Commands ls else group whole (InText kind (text ++ (l ++ 10 ∷ []))) ls
 

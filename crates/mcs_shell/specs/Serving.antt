@@ -6,15 +6,16 @@ use Rattle.mcs_model.specs.declared.command.Command.{Command}
 use Rattle.mcs_model.specs.BenchState.{BenchState}
 use Rattle.mcs_model.specs.Fold.{fold}
 use Rattle.mcs_shell.specs.declared.outcome.Outcome.{Outcome}
-use Rattle.mcs_shell.specs.declared.outcome.Outcome.TheVariants.{Device}
+use Rattle.mcs_shell.specs.declared.outcome.Outcome.TheVariants.{Plain, Device, Closed}
+use Rattle.mcs_session.specs.declared.fault.SessionFault.{SessionFault}
+use Rattle.mcs_session.specs.declared.fault.SessionFault.TheVariants as session_fault
 use Rattle.mcs_shell.specs.declared.outcome.Halt.{Halt}
 use Rattle.mcs_shell.specs.declared.outcome.Halt.TheVariants as halt
-use Rattle.mcs_lines.specs.declared.requests.Request.{Request}
 use Rattle.mcs_shell.specs.Lines.{HasNoFeed}
 use Rattle.mcs_shell.specs.Inputs.{Input, Pending, inputs_after}
 use Rattle.mcs_session.specs.Standing.{Standing, SessionState, standing_after}
 use Rattle.mcs_shell.specs.Stage.{Stage}
-use Rattle.mcs_shell.specs.Transcript.{ChangeMayEnd, RequestMayEnd, MayEnd, MayGo, Served, answer, commands, reached, reached_by_change, reached_by_request, change_text, commands_of_change, commands_of_request, request_text, Went, transcript, all_commands}
+use Rattle.mcs_shell.specs.Transcript.{MayEnd, MayGo, Served, Went, all_commands, answer, commands, reached, transcript}
 use Rattle.mcs_session.specs.Kept.{Carries, IsSettled, Kept, KeptWhole}
 
 -- the writer has got some of the first bytes, and not all
@@ -24,6 +25,12 @@ pub record GotSome (old new : Option (List ℕ)) (bytes : List ℕ) : Type 0 whe
   pub got : Appends old new (take count bytes)
 
 -- ---- one input
+
+-- what comes of an input whose command was not recorded
+abbrev pub outcome_of : SessionFault → Outcome
+outcome_of (session_fault.Refused fault) = Plain
+outcome_of session_fault.Device = Device
+outcome_of session_fault.Closed = Closed
 
 -- the session was closed where the device failed, and there alone
 abbrev pub ClosesAt : Outcome → Bool → ℕ → Bool → ℕ → Type 0
@@ -42,18 +49,6 @@ pub record Leaves (a : SessionState) (o : Outcome) (done reached_too : List Comm
   pub size : b.disk.size ≡ a.disk.size
   pub honest : b.disk.honest ↔ a.disk.honest
   pub kept : IsSettled a → KeptBy o a.disk b.disk a.standing.state done reached_too
-
--- a command was tried: its answer is this
-pub record Changed (a : SessionState) (c : Command) (o : Outcome) (told : List ℕ) (b : SessionState) : Type 0 where
-  pub may : ChangeMayEnd a.standing.live a.standing.state c o
-  pub told_is : told ≡ change_text a.standing.state c o
-  pub leaves : Leaves a o (commands_of_change a.standing.state c o) (reached_by_change a.standing.state c o) b
-
--- a request was done: its answer is this
-pub record RequestDone (a : SessionState) (r : Request) (o : Outcome) (told : List ℕ) (b : SessionState) : Type 0 where
-  pub may : RequestMayEnd a.standing r o
-  pub told_is : told ≡ request_text a.standing.state r o
-  pub leaves : Leaves a o (commands_of_request a.standing.state r o) (reached_by_request a.standing.state r o) b
 
 -- an input was judged and done: its answer is this
 pub record Answered (a : SessionState) (i : Input) (o : Outcome) (told : List ℕ) (b : SessionState) : Type 0 where

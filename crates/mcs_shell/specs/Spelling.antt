@@ -11,8 +11,8 @@ use Rattle.mcs_wiring.specs.Wiring.{board_of_text}
 use Rattle.mcs_wiring.specs.declared.fault.WiringFault.{WiringFault}
 use Rattle.mcs_shell.specs.declared.spelling.TextRefusal.{TextRefusal}
 use Rattle.mcs_shell.specs.declared.spelling.TextRefusal.TheVariants.{Wiring, Program}
-use Rattle.mcs_shell.specs.declared.texts.TextKind.{TextKind}
-use Rattle.mcs_shell.specs.declared.texts.TextKind.TheVariants.{Wire, Asm}
+use Rattle.mcs_lines.specs.declared.requests.TextKind.{TextKind}
+use Rattle.mcs_lines.specs.declared.requests.TextKind.TheVariants.{Wire, Asm}
 use Rattle.mcs_answers.specs.AnswerTexts.{no_line_text, no_text}
 
 -- the command to put a board in place of the one that is there

@@ -1,18 +1,21 @@
 //! The answer to one input.
-ghost use Rattle.std.specs.Prelude.{◌≡◌, ◌≤◌, ◌++◌, [], length, true, IfErr, OnOk, OnErr};
+ghost use Rattle.std.specs.Prelude.{◌≡◌, ◌≤◌, ◌++◌, [], length, OnOk, OnErr};
 ghost use Rattle.std.specs.Io.KnownBytes.{Appends};
 ghost use Rattle.std.specs.Fmt.{decimal};
-ghost use Rattle.mcs_answers.specs.AnswerTexts.{answer_text, line_feed, no_text, ok_text, takes_memory};
+ghost use Rattle.mcs_answers.specs.AnswerTexts.{board_answer, line_feed, listing_answer, no_text, ok_text, query_answer};
 ghost use Rattle.mcs_shell.specs.Serving.{GotSome};
 ghost use Rattle.mcs_shell.specs.Spelling.{text_refusal};
 
 use crate::sending::{WriteStopped, send, send_two};
 use crate::spelling::TextRefusal;
 use arrayvec::ArrayVec;
-use mcs_answers::{ANSWER_BYTES, put_answer, put_number, put_refusal_at, put_reply};
+use mcs_answers::{
+    ANSWER_BYTES, listing_answer, put_board, put_number, put_query, put_refusal_at, put_reply,
+};
 use mcs_bench::Bench;
-use mcs_lines::requests::Question;
 use mcs_model::command::Reply;
+use mcs_model::query::Query;
+use mcs_nibble::Addr;
 use std::alloc::{AllocError, Global};
 use std::io::Write;
 use std::marker::Model;
@@ -26,7 +29,7 @@ pub struct Answer {
 
 impl Model for Answer {
     ghost use Rattle.std.specs.Prelude.{ℕ, List, option_map};
-    ghost use Rattle.mcs_answers.specs.Told.{told};
+    ghost use Rattle.mcs_shell.specs.Told.{told};
 
     ghost Value = { List ℕ };
 
@@ -84,18 +87,36 @@ impl Answer {
         put_reply(&mut self.short, reply, bench);
     }
 
-    /// Tells what is asked for. It fails where memory is refused, and then nothing is said of what is told.
-    pub(crate) fn tell_answer(
+    /// Tells what a query asks of the state.
+    pub(crate) fn tell_query(&mut self, query: Query, bench: &Bench)
+        ensures { self.new ≡ query_answer query bench.now }
+    {
+        self.long = None;
+        self.short.clear();
+        put_query(&mut self.short, query, bench);
+    }
+
+    /// Tells a listing of the ROM. It fails where memory is refused, and then nothing is said of what is told.
+    pub(crate) fn tell_listing(
         &mut self,
         alloc: Global,
-        question: &Question,
+        from: Addr,
+        lines: u16,
         bench: &Bench,
     ) -> Result<(), AllocError>
-        ensures told { OnOk result (self.new ≡ answer_text question.now bench.now) }
-        ensures memory { OnErr result (takes_memory question.now ≡ true) }
+        ensures { OnOk result (self.new ≡ listing_answer from lines bench.now) }
     {
         self.short.clear();
-        self.long = put_answer(alloc, &mut self.short, question, bench)?;
+        self.long = Some(listing_answer(alloc, from, lines, bench)?);
+        Ok(())
+    }
+
+    /// Tells the wiring of the board. It fails where memory is refused, and then nothing is said of what is told.
+    pub(crate) fn tell_board(&mut self, alloc: Global, bench: &Bench) -> Result<(), AllocError>
+        ensures { OnOk result (self.new ≡ board_answer bench.now) }
+    {
+        self.short.clear();
+        self.long = Some(put_board(alloc, &mut self.short, bench)?);
         Ok(())
     }
 

@@ -1,23 +1,35 @@
 //! What is done and answered for an input.
-ghost use Rattle.std.specs.Prelude.{◌≡◌, []};
+ghost use Rattle.std.specs.Prelude.{◌≡◌, [], OnErr, OnOk};
+ghost use Rattle.mcs_answers.specs.AnswerTexts.{no_text};
+ghost use Rattle.mcs_lines.specs.declared.requests.Request.TheVariants.{Change};
+ghost use Rattle.mcs_model.specs.declared.refusal_numbers.TheConstants.{NO_MEMORY};
 ghost use Rattle.mcs_session.specs.Standing.{session_state};
-ghost use Rattle.mcs_shell.specs.Inputs.{judged, judged_text};
-ghost use Rattle.mcs_shell.specs.Serving.{Answered, Changed, RequestDone};
+ghost use Rattle.mcs_shell.specs.Inputs.{Line, judged_text};
+ghost use Rattle.mcs_shell.specs.Serving.{Answered, outcome_of};
 
 use crate::answer::Answer;
 use crate::faults::session_number;
 use crate::outcome::Outcome;
 use crate::spelling::read_text;
-use crate::texts::{TextKind, as_text, text_fault};
+use crate::texts::{as_text, text_fault};
 use mcs_disk::Disk;
-use mcs_lines::requests::{LineFault, Request, read_request};
-use mcs_lines::words::is_blank;
+use mcs_lines::requests::{Request, TextKind};
 use mcs_model::command::Command;
-use mcs_model::limits::LINE_BYTES;
 use mcs_model::refusal_numbers;
 use mcs_session::fault::SessionFault;
 use mcs_session::session::Session;
 use std::alloc::{AllocError, Global};
+
+/// What comes of an input whose command was not recorded.
+fn outcome_of(fault: SessionFault) -> Outcome
+    ensures { result ≡ outcome_of fault }
+{
+    match fault {
+        SessionFault::Refused(_) => Outcome::Plain,
+        SessionFault::Device => Outcome::Device,
+        SessionFault::Closed => Outcome::Closed,
+    }
+}
 
 /// Does a command, and tells of it.
 fn answer_change<D: Disk + Drop>(
@@ -25,70 +37,65 @@ fn answer_change<D: Disk + Drop>(
     session: &mut Session<D>,
     answer: &mut Answer,
 ) -> Outcome
-    ensures { Changed (session_state (D.state session.old.disk) session.old) command.now result answer.new (session_state (D.state session.new.disk) session.new) }
+    ensures { Answered (session_state (D.state session.old.disk) session.old) (Line (Change command.now)) result answer.new (session_state (D.state session.new.disk) session.new) }
 {
     match session.apply(command) {
         Ok(reply) => {
             answer.tell_reply(&reply, session.bench());
             Outcome::Plain
         }
-        Err(SessionFault::Refused(fault)) => {
-            answer.tell_refusal(session_number(SessionFault::Refused(fault)));
-            Outcome::Plain
-        }
-        Err(SessionFault::Device) => {
-            answer.tell_refusal(session_number(SessionFault::Device));
-            Outcome::Device
-        }
-        Err(SessionFault::Closed) => {
-            answer.tell_refusal(session_number(SessionFault::Closed));
-            Outcome::Closed
+        Err(fault) => {
+            answer.tell_refusal(session_number(fault));
+            outcome_of(fault)
         }
     }
 }
 
-/// Does what a line asks for, and tells of it.
-fn answer_request<D: Disk + Drop>(
+/// What comes of a request whose answer takes memory. Where that was refused, this is told in its place.
+fn unless_refused(told: Result<(), AllocError>, answer: &mut Answer) -> Outcome
+    ensures told { OnOk told ((result ≡ Outcome.Plain) × (answer.new ≡ answer.old)) }
+    ensures refused { OnErr told ((result ≡ Outcome.NoMemory) × (answer.new ≡ no_text NO_MEMORY)) }
+{
+    match told {
+        Ok(()) => Outcome::Plain,
+        Err(_) => {
+            answer.tell_refusal(refusal_numbers::NO_MEMORY);
+            Outcome::NoMemory
+        }
+    }
+}
+
+/// Does what a line outside a text asks for, and tells of it in an empty answer. A line that begins a text has no answer of
+/// its own.
+pub(crate) fn answer_request<D: Disk + Drop>(
     alloc: Global,
     request: &Request,
     session: &mut Session<D>,
     answer: &mut Answer,
 ) -> Outcome
-    ensures { RequestDone (session_state (D.state session.old.disk) session.old) request.now result answer.new (session_state (D.state session.new.disk) session.new) }
+    requires { answer.old ≡ [] }
+    ensures { Answered (session_state (D.state session.old.disk) session.old) (Line request.now) result answer.new (session_state (D.state session.new.disk) session.new) }
 {
     match request {
+        Request::Nothing => Outcome::Plain,
         Request::Refused(fault) => {
             answer.tell_refusal(fault.number());
             Outcome::Plain
         }
-        Request::Ask(question) => match answer.tell_answer(alloc, question, session.bench()) {
-            Ok(()) => Outcome::Plain,
-            Err(_) => {
-                answer.tell_refusal(refusal_numbers::NO_MEMORY);
-                Outcome::NoMemory
-            }
-        },
+        Request::Ask(query) => {
+            answer.tell_query(*query, session.bench());
+            Outcome::Plain
+        }
+        Request::Listing(from, lines) => {
+            let told = answer.tell_listing(alloc, *from, *lines, session.bench());
+            unless_refused(told, answer)
+        }
+        Request::Board => {
+            let told = answer.tell_board(alloc, session.bench());
+            unless_refused(told, answer)
+        }
         Request::Change(command) => answer_change(command, session, answer),
-    }
-}
-
-/// Judges a line outside a text, without its end, does what it asks for, and tells of it in an empty answer.
-pub(crate) fn answer_line<D: Disk + Drop>(
-    alloc: Global,
-    line: &[u8],
-    session: &mut Session<D>,
-    answer: &mut Answer,
-) -> Outcome
-    requires { answer.old ≡ [] }
-    ensures { Answered (session_state (D.state session.old.disk) session.old) (judged line.now) result answer.new (session_state (D.state session.new.disk) session.new) }
-{
-    if line.len() > LINE_BYTES {
-        answer.tell_refusal(LineFault::LineTooLong.number());
-        Outcome::Plain
-    } else if is_blank(line) {
-        Outcome::Plain
-    } else {
-        answer_request(alloc, &read_request(line), session, answer)
+        Request::Begin(_) => Outcome::Plain,
     }
 }
 

@@ -2,18 +2,19 @@
 ghost use Rattle.std.specs.Prelude.{◌≡◌, ◌∷◌, ◌++◌, [], MatchOption, OnOk, IfErr, length};
 ghost use Rattle.mcs_shell.specs.declared.texts.TextFault.TheVariants.{NoEnd};
 ghost use Rattle.mcs_shell.specs.Lines.{HasNoFeed};
-ghost use Rattle.mcs_shell.specs.Inputs.{BadText, judged, judged_text};
+ghost use Rattle.mcs_shell.specs.Inputs.{BadText, Line, judged_text};
 ghost use Rattle.mcs_shell.specs.Stage.{staged};
 ghost use Rattle.mcs_shell.specs.Serving.{Sent, ServedLine, Stopped, WentFurther};
 
 use crate::answer::Answer;
-use crate::answering::{answer_line, answer_text};
+use crate::answering::{answer_request, answer_text};
 use crate::lines::without_return;
 use crate::outcome::{Halt, Outcome};
 use crate::sending::WriteStopped;
-use crate::texts::{TextFault, TextKind, ends_text, opens};
+use crate::texts::{TextFault, ends_text};
 use crate::unfinished::Unfinished;
 use mcs_disk::Disk;
+use mcs_lines::requests::{Request, TextKind, read_request};
 use mcs_session::session::Session;
 use std::alloc::Global;
 use std::io::Write;
@@ -31,18 +32,18 @@ fn deliver<W: Write>(outcome: Outcome, answer: &Answer, writer: &mut W) -> Resul
     }
 }
 
-/// Serves a line outside a text, without its end: what it asks for is done, and then the answer is written.
-fn serve_line<W: Write, D: Disk + Drop>(
+/// Serves a line outside a text: what it asks for is done, and then the answer is written.
+fn serve_request<W: Write, D: Disk + Drop>(
     alloc: Global,
-    line: &[u8],
+    request: Request,
     writer: &mut W,
     session: &mut Session<D>,
 ) -> Result<(), Halt>
-    ensures { ServedLine result (staged (D.state session.old.disk) session.old (W.contents writer.old)) (judged line.now)
+    ensures { ServedLine result (staged (D.state session.old.disk) session.old (W.contents writer.old)) (Line request)
         (staged (D.state session.new.disk) session.new (W.contents writer.new)) }
 {
     let mut answer = Answer::new();
-    let outcome = answer_line(alloc, line, session, &mut answer);
+    let outcome = answer_request(alloc, &request, session, &mut answer);
     deliver(outcome, &answer, writer)
 }
 
@@ -91,12 +92,12 @@ pub(crate) fn end_line<W: Write, D: Disk + Drop>(
 {
     let line = without_return(unfinished.line());
     match unfinished.text() {
-        None => match opens(line) {
-            Some(kind) => {
+        None => match read_request(line) {
+            Request::Begin(kind) => {
                 unfinished.open(kind);
                 Ok(())
             }
-            None => match serve_line(alloc, line, writer, session) {
+            request => match serve_request(alloc, request, writer, session) {
                 Ok(()) => {
                     unfinished.clear();
                     Ok(())

@@ -4,8 +4,8 @@ ghost use Rattle.mcs_source.specs.Assembly.{assembled};
 ghost use Rattle.mcs_wiring.specs.Wiring.{board_of_text};
 ghost use Rattle.mcs_shell.specs.Spelling.{command_of_text, load_command, wire_command};
 
-use crate::texts::TextKind;
 use mcs_asm::{FaultKind, SourceFault, assemble};
+use mcs_lines::requests::TextKind;
 use mcs_model::command::Command;
 use mcs_wiring::{WiringFault, board_of};
 use std::alloc::{AllocError, Global};

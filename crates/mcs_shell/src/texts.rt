@@ -1,25 +1,16 @@
-//! Texts: where they begin and end, and which are refused whatever their lines say.
+//! Texts: where they end, and which are refused whatever their lines say.
 ghost use Rattle.std.specs.Prelude.{◌≡◌, None};
 ghost use Rattle.std.specs.List.{list_all};
 ghost use Rattle.mcs_lines.specs.Cutting.{cut_at};
 ghost use Rattle.mcs_shell.specs.Lines.{is_line_feed};
-ghost use Rattle.mcs_shell.specs.Inputs.{text_fault_of, is_dot_line, is_short, is_text_byte, opened};
+ghost use Rattle.mcs_shell.specs.Inputs.{text_fault_of, is_dot_line, is_short, is_text_byte};
 ghost use Rattle.mcs_shell.specs.RefusalNumbers.{text_fault_number};
 
-use mcs_lines::words::{equals, is_plain_byte, next_word};
+use mcs_lines::words::{equals, is_plain_byte};
 use mcs_model::limits::{LINE_BYTES, TEXT_BYTES};
 use mcs_model::refusal_numbers;
 use std::str;
 use thiserror::Error;
-
-/// What a text tells.
-#[derive(Clone, Copy, Debug, PartialEq, Eq)]
-pub enum TextKind {
-    /// A board.
-    Wire,
-    /// A program.
-    Asm,
-}
 
 /// Why a text is refused, whatever its lines say.
 #[derive(Clone, Copy, Debug, PartialEq, Eq, Error)]
@@ -49,28 +40,6 @@ impl TextFault {
             TextFault::HasLongLine => refusal_numbers::LINE_TOO_LONG,
             TextFault::HasBadByte => refusal_numbers::NOT_ASCII,
         }
-    }
-}
-
-/// The text that begins after a line, if any.
-#[tactic(auto, unfolding(crate::specs::Inputs::opened))]
-pub fn opens(line: &[u8]) -> Option<TextKind>
-    ensures { result ≡ opened line.now }
-{
-    if line.len() > LINE_BYTES {
-        return None;
-    }
-    let Some((word, rest)) = next_word(line) else {
-        return None;
-    };
-    if next_word(rest).is_some() {
-        None
-    } else if equals(word, b"wire") {
-        Some(TextKind::Wire)
-    } else if equals(word, b"asm") {
-        Some(TextKind::Asm)
-    } else {
-        None
     }
 }
 

@@ -1,26 +1,29 @@
-use Rattle.std.proofs.Common.{rules, sym, ◌∙◌, ◌≡◌, None, Some, true, false}
+use Rattle.std.proofs.Common.{rules, sym, ◌∙◌, ap, ◌≡◌, None, true, false}
 use Rattle.std.specs.Io.BufRead.{strip_last}
-use Rattle.mcs_shell.specs.Inputs.{InText, is_dot_line, opened}
-use Rattle.mcs_shell.proofs.Steps.{stopped_command, stopped_text, went_command, went_line, went_opened, went_text}
+use Rattle.mcs_lines.specs.declared.requests.Request.TheVariants.{Begin}
+use Rattle.mcs_lines.specs.Requests.{request_of}
+use Rattle.mcs_shell.specs.Inputs.{InText, begun, is_dot_line}
+use Rattle.mcs_shell.proofs.LineFeeds.{not_begun}
+use Rattle.mcs_shell.proofs.Steps.{stopped_command, stopped_text, went_begun, went_command, went_line, went_text}
 use Rattle.mcs_shell.proofs.serving.end_line.Goals as goal
 
-pub returns-in-Some-opens-clause-ok : goal.returns-in-Some-opens-clause-ok
-returns-in-Some-opens-clause-ok g c =
+pub returns-in-Begin-clause-ok : goal.returns-in-Begin-clause-ok
+returns-in-Begin-clause-ok g c =
     let line : c.without_return-line.result.now ≡ strip_last 13 c.args.unfinished.now.line = search rules in
-    let some : opened c.without_return-line.result.now ≡ Some c.in-Some-opens.kind = sym c.opens.ensures ∙ c.in-Some-opens.is in
-    went_opened _ _ _ _ c.in-Some-opens.kind c.requires c.in-None.ensures line some c.open.ensures
+    let begins : request_of c.without_return-line.result.now ≡ Begin c.in-Begin.kind = sym c.read_request.ensures ∙ c.in-Begin.is in
+    went_begun _ _ _ _ c.in-Begin.kind c.requires c.in-None.ensures line begins c.open.ensures
 
 pub returns-in-Ok-clause-ok : goal.returns-in-Ok-clause-ok
 returns-in-Ok-clause-ok g c =
     let line : c.without_return-line.result.now ≡ strip_last 13 c.args.unfinished.now.line = search rules in
-    let none : opened c.without_return-line.result.now ≡ None = sym c.opens.ensures ∙ c.in-None-opens.is in
-    went_command _ _ _ _ _ c.requires c.in-None.ensures line none c.clear.ensures c.in-Ok.ensures
+    let none : begun (request_of c.without_return-line.result.now) ≡ None = ap begun (sym c.read_request.ensures) ∙ not_begun _ c.in_default.not-Begin in
+    went_command _ _ _ _ _ c.requires c.in-None.ensures line none c.clear.ensures (rw c.read_request.ensures at c.in-Ok.ensures)
 
 pub returns-in-Err-clause-err : goal.returns-in-Err-clause-err
 returns-in-Err-clause-err g c =
     let line : c.without_return-line.result.now ≡ strip_last 13 c.args.unfinished.now.line = search rules in
-    let none : opened c.without_return-line.result.now ≡ None = sym c.opens.ensures ∙ c.in-None-opens.is in
-    stopped_command c.in-Err.halt _ _ _ _ c.requires c.in-None.ensures line none c.in-Err.ensures
+    let none : begun (request_of c.without_return-line.result.now) ≡ None = ap begun (sym c.read_request.ensures) ∙ not_begun _ c.in_default.not-Begin in
+    stopped_command c.in-Err.halt _ _ _ _ c.requires c.in-None.ensures line none (rw c.read_request.ensures at c.in-Err.ensures)
 
 pub returns-in-Ok-serve_text-clause-ok : goal.returns-in-Ok-serve_text-clause-ok
 returns-in-Ok-serve_text-clause-ok g c =

@@ -1,0 +1,61 @@
+//! The answers to queries, to `list` and to `board`.
+ghost use Rattle.std.specs.Prelude.{◌≡◌, ◌++◌, [], IfOk};
+ghost use Rattle.mcs_answers.specs.AnswerTexts.{board_answer, listing_answer, query_answer};
+
+use crate::digits::put;
+use crate::lists::{put_breaks, put_lamps, put_watches};
+use crate::numbers::put_number;
+use crate::ports::put_ports;
+use crate::ram::put_ram;
+use crate::registers::put_registers;
+use crate::size::ANSWER_BYTES;
+use arrayvec::ArrayVec;
+use mcs_bench::Bench;
+use mcs_dis::listing;
+use mcs_model::query::Query;
+use mcs_nibble::Addr;
+use mcs_wiring::board_text;
+use std::alloc::{AllocError, Global};
+
+/// Tells what a query asks of the state, in an empty answer. It takes no memory.
+pub fn put_query(answer: &mut ArrayVec<u8, ANSWER_BYTES>, query: Query, bench: &Bench)
+    requires { answer.old.items ≡ [] }
+    ensures { answer.new.items ≡ query_answer query bench.now }
+{
+    match query {
+        Query::Lamps => put_lamps(answer, bench),
+        Query::Regs => put_registers(answer, bench),
+        Query::Ram(bank) => put_ram(answer, bench, bank.get()),
+        Query::Breaks => put_breaks(answer, bench),
+        Query::Watches => put_watches(answer, bench),
+        Query::Ports => put_ports(answer, bench),
+        Query::Seq => put_number(answer, b"seq ", u64::from(bench.seq())),
+    }
+}
+
+/// The answer to `list`: a listing of a bench's ROM, from an address on. It fails where memory is refused.
+pub fn listing_answer(
+    alloc: Global,
+    from: Addr,
+    lines: u16,
+    bench: &Bench,
+) -> Result<Vec<u8>, AllocError>
+    ensures { IfOk result (λ text. text.items ≡ listing_answer from lines bench.now) }
+{
+    let rom = bench.rom(alloc)?;
+    Ok(listing(alloc, &rom, from, usize::from(lines))?.into_bytes())
+}
+
+/// Tells the wiring of the board: its head is put into an empty answer, and the lines after it, which take memory, are
+/// handed back. It fails where memory is refused, and then the head counts for nothing.
+pub fn put_board(
+    alloc: Global,
+    head: &mut ArrayVec<u8, ANSWER_BYTES>,
+    bench: &Bench,
+) -> Result<Vec<u8>, AllocError>
+    requires { head.old.items ≡ [] }
+    ensures { IfOk result (λ lines. head.new.items ++ lines.items ≡ board_answer bench.now) }
+{
+    put(head, b"board\n");
+    Ok(board_text(alloc, bench.board())?.into_bytes())
+}
