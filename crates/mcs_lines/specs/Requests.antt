@@ -106,7 +106,7 @@ request_with_one word a =
     else if bytes_eq word (codes "ram") then with_number 7 a (λ bank. Ask (query.Ram bank))
     else Refused NotACommand
 
--- a listing is of 1 to 256 lines
+-- a listing has at least one line
 abbrev pub listing : ℕ → ℕ → Request
 listing at lines = if nat_lt 0 lines then Listing at lines else Refused BadNumber
 

@@ -65,7 +65,7 @@ pub enum Request {
     Refused(LineFault),
     /// What a query tells of the state of the bench. Asking changes nothing.
     Ask(Query),
-    /// A listing of the ROM: from an address on, of 1 to 256 lines.
+    /// A listing of the ROM: from an address on, of 1 to [`LISTING_LINES`] lines.
     Listing(Addr, u16),
     /// The wiring of the board.
     Board,
