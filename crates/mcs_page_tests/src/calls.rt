@@ -7,12 +7,16 @@ use mcs_page::page::{serve, settle};
 use mcs_session::session::Session;
 use mcs_shell::shell::run_shell;
 use std::alloc::Global;
+use std::process::Abort;
 use std::test::Fail;
 
-const FIRST: &[u8] = b"wire\n[[rom]]\nchip = 0\nport = \"0000\"\n.\npoke r5 9\nasm\nLDM 3\nXCH R4\nJUN 2\n.\nrun 1000\n";
+const FIRST: &[u8] =
+    b"wire\n[[rom]]\nchip = 0\nport = \"0000\"\n.\npoke r5 9\nasm\nLDM 3\nXCH R4\nJUN 2\n.\nrun 1000\n";
+
 const SECOND: &[u8] = b"seq\nregs\n";
 
 const FIRST_ANSWERS: &[u8] = b"session 0\nok 1\nok 2\nok 3 bytes 4\nok 4 ran 1000 end\n";
+
 const SECOND_ANSWERS: &[u8] =
     b"session 4\nseq 4\nacc 0 cy 0 pc 002 owed 0 dcl 0 test 1 r 0000390000000000 ret 000 000 000\n";
 
@@ -69,7 +73,10 @@ fn a_settled_file_has_no_records(rt: HostRuntime) -> Result<(), Fail> {
     // and again, in the other slot
     assert_eq!(rt; settle(alloc, file.as_mut_slice()), Ok(()));
     let third = told(alloc, file.as_mut_slice(), b"step\nseq\n")?;
-    assert_eq!(rt; third.as_slice(), b"session 4\nok 5 ran 2 end\nseq 5\n".as_slice());
+    assert_eq!(rt;
+        third.as_slice(),
+        b"session 4\nok 5 ran 2 end\nseq 5\n".as_slice()
+    );
     Ok(())
 }
 
@@ -94,7 +101,12 @@ fn a_file_of_version_1_is_carried_over(rt: HostRuntime) -> Result<(), Fail> {
 }
 
 /// A file is refused by this fault, in both calls, and stays as it was.
-fn expect_refused(alloc: Global, rt: &HostRuntime, file: &[u8], fault: OpenFault) -> Result<(), Fail> {
+fn expect_refused(
+    alloc: Global,
+    rt: &impl Abort,
+    file: &[u8],
+    fault: OpenFault,
+) -> Result<(), Fail> {
     let mut kept = file.to_vec(alloc)?;
     let why = answers(alloc, kept.as_mut_slice(), SECOND)?.err();
     assert_eq!(rt; why, Some(NotServed::Refused(fault)));
@@ -150,7 +162,10 @@ fn answers_that_have_no_room(rt: HostRuntime) -> Result<(), Fail> {
         let told = serve(alloc, file.as_mut_slice(), FIRST, short).err();
         assert_eq!(rt; told, Some(NotServed::NoRoom(count)));
         assert_eq!(rt; file.as_slice(), before.as_slice());
-        assert_eq!(rt; buffer.get(..room), Some([b'#'; 128].as_slice()).and_then(|all| all.get(..room)));
+        assert_eq!(rt;
+            buffer.get(..room),
+            Some([b'#'; 128].as_slice()).and_then(|all| all.get(..room))
+        );
     }
     let served = serve(alloc, file.as_mut_slice(), FIRST, &mut buffer);
     assert_eq!(rt; served.ok().map(|served| served.count), Some(count));

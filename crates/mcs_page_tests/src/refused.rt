@@ -6,7 +6,9 @@ use mcs_shell::ends::ShellEnd;
 use std::alloc::Global;
 use std::process::Abort;
 
-const INPUT: &[u8] = b"wire\n[[rom]]\nchip = 0\nport = \"0000\"\n.\nasm\nLDM 1\nJUN 1\n.\nrun 100\nlist 0 1\n";
+const INPUT: &[u8] =
+    b"wire\n[[rom]]\nchip = 0\nport = \"0000\"\n.\nasm\nLDM 1\nJUN 1\n.\nrun 100\nlist 0 1\n";
+
 const ANSWERS: &[u8] = b"session 0\nok 1\nok 2 bytes 3\nok 3 ran 100 end\n000 D1    LDM 1\n";
 
 /// The answers where memory for the board was refused, where that for the program was, and where that for the listing was.
@@ -31,7 +33,7 @@ fn serve_twice(alloc: Global, rt: &impl Abort, file: &mut [u8], before: &[u8]) -
                 return "an input";
             }
             Err(why) => {
-                assert!(rt; refused == "nothing" && file == before);
+                assert!(rt; refused == "nothing" && &*file == before);
                 assert_eq!(rt; why, NotServed::Refused(OpenFault::NoMemory));
             }
         }
