@@ -9,7 +9,7 @@ use Rattle.std.proofs.lemmas.List.{get_or-replicate, length-replicate, replicate
 use Rattle.std.proofs.lemmas.Bool.{cases_eq, cases_lt, lt-ltb, le-leb, leb-true, ltb-true, and_parts, true≢false, false≢true}
 use Rattle.std.proofs.lemmas.List.Folds.{list_any_at}
 use Rattle.mcs_model.specs.Images.{from_address, overlaps, IsRising, IsImageOf}
-use Rattle.mcs_asm.specs.Cells.{written, raised, IsKept}
+use Rattle.mcs_asm.specs.ByteMap.{written, raised, IsKept}
 
 abbrev pub within : ℕ → ℕ → ℕ × ℕ → Bool
 within at n p = leb at p.0 && ltb p.0 (at + n)

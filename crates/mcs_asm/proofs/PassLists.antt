@@ -8,11 +8,11 @@ use Rattle.mcs_asm.specs.declared.fault.FaultKind.TheVariants.{NoMemory, Refused
 use Rattle.mcs_source.specs.declared.fault.SourceFault.{SourceFault}
 use Rattle.mcs_source.specs.declared.fault.SourceFault.TheVariants.{DoubleName, OutOfRange, Overlap, PastEnd, TooManyNames}
 use Rattle.mcs_source.specs.Lexical.{tokens}
-use Rattle.mcs_source.specs.Lines.{Line, Code, Define, line_of}
+use Rattle.mcs_source.specs.Lines.{SourceLine, Code, Define, line_of}
 use Rattle.mcs_model.specs.Images.{from_address, overlaps}
 use Rattle.mcs_source.specs.Assembly.{assembled, spelt, lines_of, read, ith_line, Names, definition, address_of, names_before, all_names, pairs_before, unless_fault, first_fault, fault_one, fault_two, class_one_fault, class_two_fault, first_of_class_one, first_of_class_two, next_at, line_bytes, bytes_or_none, defined_name, is_known_name, is_bad_place, passes_end}
 use Rattle.mcs_source.proofs.LineByLine.{address_next, names_next, pairs_next, NoneBefore, none_before_next, none_first, first_at, none_below}
-use Rattle.mcs_asm.specs.Cells.{IsKept}
+use Rattle.mcs_asm.specs.ByteMap.{IsKept}
 use Rattle.mcs_asm.specs.View.{FailsAs}
 use Rattle.mcs_asm.specs.Passes.{Before, nothing_before, before, before_next, before_with_line, with_names, Spelt, spelt_before, spelt_with_bytes, spelt_with_line, Steps, IsFirst, NumbersLine, Adds, HasNoFault}
 use Rattle.mcs_asm.proofs.CellPairs.{none_kept}
@@ -21,7 +21,7 @@ abbrev pub texts : List (Bor (List ℕ)) → List (List ℕ)
 texts ls = map (λ l. l.now) ls
 
 -- what the lines say
-abbrev pub said : List (Bor (List ℕ)) → List (Option Line)
+abbrev pub said : List (Bor (List ℕ)) → List (Option SourceLine)
 said ls = read (texts ls)
 
 said_at : (ls : List (Bor (List ℕ))) (i : ℕ) (d : Bor (List ℕ)) → i < length ls → ith_line (said ls) i ≡ line_of (tokens (get_or ls i d).now)
@@ -44,13 +44,13 @@ pub first_begins : (ls : List (Bor (List ℕ))) → IsBeforeFirst ls 0 nothing_b
 unfolding address_of names_before
 first_begins ls = record { within = omega arith; here = refl; none = λ j lt. absurd (omega (arith, lt)) }
 
-with_names_is : (line : Option Line) (at : ℕ) (names : Names) → with_names line at names ≡ names ++ cons_option (definition line at) []
+with_names_is : (line : Option SourceLine) (at : ℕ) (names : Names) → with_names line at names ≡ names ++ cons_option (definition line at) []
 with_names_is None at names = sym (append-nil names)
 with_names_is (Some (Define w n)) at names = refl
 with_names_is (Some (Code None s)) at names = sym (append-nil names)
 with_names_is (Some (Code (Some w) s)) at names = refl
 
-before_more : (lines : List (Option Line)) (i : ℕ) → before_next (before lines i) (ith_line lines i) ≡ before lines (i + 1)
+before_more : (lines : List (Option SourceLine)) (i : ℕ) → before_next (before lines i) (ith_line lines i) ≡ before lines (i + 1)
 before_more lines i =
     let names : with_names (ith_line lines i) (address_of lines i) (names_before lines i) ≡ names_before lines (i + 1) = with_names_is (ith_line lines i) (address_of lines i) (names_before lines i) ∙ sym (names_next lines i) in
     ap (λ (n : Names). record { at = next_at (ith_line lines i) (address_of lines i); names = n }) names ∙ ap (λ (a : ℕ). record { at = a; names = names_before lines (i + 1) }) (sym (address_next lines i))
@@ -67,7 +67,7 @@ line_refused {A} (Some g) next f e = cc
 step_is : (b : Before) (ls : List (Bor (List ℕ))) (i : ℕ) (d : Bor (List ℕ)) (wanted : Result Before SourceFault) → i < length ls → b ≡ before (said ls) i → before_with_line b (line_of (tokens (get_or ls i d).now)) ≡ wanted
     → before_with_line (before (said ls) i) (ith_line (said ls) i) ≡ wanted
 step_is b ls i d wanted lt here step =
-    ap (λ (c : Before). before_with_line c (ith_line (said ls) i)) (sym here) ∙ (ap (λ (l : Option Line). before_with_line b l) (said_at ls i d lt) ∙ step)
+    ap (λ (c : Before). before_with_line c (ith_line (said ls) i)) (sym here) ∙ (ap (λ (l : Option SourceLine). before_with_line b l) (said_at ls i d lt) ∙ step)
 
 pub goes_on : (b new : Before) (ls : List (Bor (List ℕ))) (i : ℕ) (d : Bor (List ℕ)) → i < length ls → before_with_line b (line_of (tokens (get_or ls i d).now)) ≡ Ok new → IsBeforeFirst ls i b → IsBeforeFirst ls (i + 1) new
 unfolding class_one_fault
@@ -111,7 +111,7 @@ four_false false false true w a b c d e = absurd (cc)
 four_false false false false true a b c d e = absurd (cc)
 four_false false false false false a b c d e = (refl, refl)
 
-no_fault : (at : ℕ) (names : Names) (line : Option Line) → fault_one at names line ≡ None → HasNoFault at line
+no_fault : (at : ℕ) (names : Names) (line : Option SourceLine) → fault_one at names line ≡ None → HasNoFault at line
 no_fault at names None e = absurd (cc)
 no_fault at names (Some line) e = four_false (is_bad_place line) (is_known_name (defined_name line) names) (is_some (defined_name line) && leb 512 (length names)) (passes_end line at) OutOfRange DoubleName TooManyNames PastEnd e
 
@@ -143,7 +143,7 @@ bytes_refused s next (Ok bytes) f e =
       | false ↦ λ h. absurd (cc)
     ]) e
 
-spelt_more : (lines : List (Option Line)) (names : Names) (i : ℕ)
+spelt_more : (lines : List (Option SourceLine)) (names : Names) (i : ℕ)
     → record { at = next_at (ith_line lines i) (address_of lines i); pairs = pairs_before lines names i ++ from_address (address_of lines i) (bytes_or_none (line_bytes (address_of lines i) names (ith_line lines i))) } ≡ spelt_before lines names (i + 1)
 spelt_more lines names i =
     ap (λ (n : ℕ). record { at = n; pairs = pairs_before lines names i ++ from_address (address_of lines i) (bytes_or_none (line_bytes (address_of lines i) names (ith_line lines i))) }) (sym (address_next lines i))
@@ -156,14 +156,14 @@ spell_is : (ls : List (Bor (List ℕ))) (names : Names) (i at : ℕ) (d : Bor (L
     → spelt_with_line names (spelt_at at (pairs_before (said ls) names i)) (line_of (tokens (get_or ls i d).now)) ≡ wanted → spelt_with_line names (spelt_before (said ls) names i) (ith_line (said ls) i) ≡ wanted
 spell_is ls names i at d wanted lt here step =
     ap (λ (n : ℕ). spelt_with_line names (spelt_at n (pairs_before (said ls) names i)) (ith_line (said ls) i)) (sym here)
-    ∙ (ap (λ (l : Option Line). spelt_with_line names (spelt_at at (pairs_before (said ls) names i)) l) (said_at ls i d lt) ∙ step)
+    ∙ (ap (λ (l : Option SourceLine). spelt_with_line names (spelt_at at (pairs_before (said ls) names i)) l) (said_at ls i d lt) ∙ step)
 
 -- one more line is spelled
 pub next_line : (ls : List (Bor (List ℕ))) (names : Names) (i at now : ℕ) (cells new : List (Option ℕ)) (d : Bor (List ℕ)) → i < length ls → IsBeforeSecond ls names i at cells → (t : Spelt)
     → spelt_with_line names (spelt_at at (pairs_before (said ls) names i)) (line_of (tokens (get_or ls i d).now)) ≡ Ok t → t.at ≡ now → IsKept new t.pairs → IsBeforeSecond ls names (i + 1) now new
 unfolding class_two_fault
 next_line ls names i at now cells new d lt h t step is kept =
-    let lines : List (Option Line) = said ls in
+    let lines : List (Option SourceLine) = said ls in
     let p = bytes_passed (spelt_before lines names i) (next_at (ith_line lines i) (address_of lines i)) (line_bytes (address_of lines i) names (ith_line lines i)) t (spell_is ls names i at d (Ok t) lt h.here step) in
     let t_is : t ≡ spelt_before lines names (i + 1) = p.1 ∙ spelt_more lines names i in
     record {
@@ -179,7 +179,7 @@ pub line_stops : (kind : FaultKind) (line : ℕ) (ls : List (Bor (List ℕ))) (n
 unfolding class_two_fault
 line_stops NoMemory line ls names i at now cells new d lt h refused is = is
 line_stops (Refused f) line ls names i at now cells new d lt h refused is =
-    let lines : List (Option Line) = said ls in
+    let lines : List (Option SourceLine) = said ls in
     first_of_line (class_two_fault lines names) ls i line f lt h.none
     (bytes_refused (spelt_before lines names i) (next_at (ith_line lines i) (address_of lines i)) (line_bytes (address_of lines i) names (ith_line lines i)) f (spell_is ls names i at d (Err f) lt h.here refused)) is
 

@@ -16,7 +16,7 @@ use Rattle.mcs_source.specs.declared.fault.SourceFault.TheVariants.{Overlap}
 use Rattle.mcs_model.specs.Images.{from_address, overlaps}
 use Rattle.mcs_source.specs.Assembly.{next_at}
 use Rattle.mcs_asm.specs.Passes.{Spelt, spelt_with_bytes, spelt_with_line}
-use Rattle.mcs_asm.specs.Cells.{written, IsKept}
+use Rattle.mcs_asm.specs.ByteMap.{written, IsKept}
 use Rattle.mcs_asm.proofs.CellPairs.{taken_is, all_kept, free_from}
 
 pub taken_stops : (cells : List (Option ℕ)) (pairs : List (ℕ × ℕ)) (at next : ℕ) (bytes : List ℕ) → list_any is_some (take (length bytes) (drop at cells)) ≡ true → IsKept cells pairs
@@ -32,10 +32,10 @@ free_goes cells pairs at next bytes within free kept =
     (record { at = next; pairs = pairs ++ from_address at bytes }, rw over refl, refl, all_kept bytes at cells pairs within kept (free_from pairs at (length bytes) over))
 
 -- what a line that has a form adds
-pub second_is : (names : Names) (s : Spelt) (l : Option asm.Line) (line : asm.Line) (bytes : List ℕ) (next : ℕ) (wanted : Result Spelt SourceFault) → Some line ≡ l → line_bytes s.at names (Some line) ≡ Ok bytes → next ≡ next_at (Some line) s.at
+pub second_is : (names : Names) (s : Spelt) (l : Option asm.SourceLine) (line : asm.SourceLine) (bytes : List ℕ) (next : ℕ) (wanted : Result Spelt SourceFault) → Some line ≡ l → line_bytes s.at names (Some line) ≡ Ok bytes → next ≡ next_at (Some line) s.at
     → spelt_with_bytes s next (Ok bytes) ≡ wanted → spelt_with_line names s l ≡ wanted
 second_is names s l line bytes next wanted form is at goes =
-    subst (λ (o : Option asm.Line). spelt_with_line names s o ≡ wanted) form
+    subst (λ (o : Option asm.SourceLine). spelt_with_line names s o ≡ wanted) form
     (ap (λ (r : Result (List ℕ) SourceFault). spelt_with_bytes s (next_at (Some line) s.at) r) is ∙ (ap (λ (n : ℕ). spelt_with_bytes s n (Ok bytes)) (sym at) ∙ goes))
 
 -- ---- the bytes of a line fit, where class one found no fault
@@ -93,7 +93,7 @@ or_second : (s t : Bool) → (s || t) ≡ false → t ≡ false
 or_second true t e = absurd (true≢false e)
 or_second false t e = e
 
-pub fits : (at : ℕ) (names : Names) (line : asm.Line) (bytes : List ℕ) → line_bytes at names (Some line) ≡ Ok bytes → passes_end line at ≡ false → at ≤ 4096 → at + length bytes ≤ 4096
+pub fits : (at : ℕ) (names : Names) (line : asm.SourceLine) (bytes : List ℕ) → line_bytes at names (Some line) ≡ Ok bytes → passes_end line at ≡ false → at ≤ 4096 → at + length bytes ≤ 4096
 fits at names (asm.Define w n) bytes e room le =
     let none : HasLength 0 (Ok bytes) = subst (HasLength 0) e refl in
     omega (arith, none, le)

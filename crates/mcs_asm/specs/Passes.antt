@@ -2,13 +2,13 @@
 use Rattle.std.specs.Prelude.{◌≡◌, ℕ, ◌+◌, List, [], ◌∷◌, ◌++◌, length, Option, Some, None, Result, Ok, Err, false, if◌then◌else◌}
 use Rattle.mcs_source.specs.declared.fault.SourceFault.{SourceFault}
 use Rattle.mcs_source.specs.declared.fault.SourceFault.TheVariants.{Overlap}
-use Rattle.mcs_source.specs.Lines.{Line, Code, Define}
+use Rattle.mcs_source.specs.Lines.{SourceLine, Code, Define}
 use Rattle.mcs_source.specs.Assembly.{Names, address_of, names_before, all_names, next_at, fault_one, first_of_class_one, first_of_class_two, is_bad_place, passes_end, unless_fault, line_bytes, pairs_before}
 use Rattle.mcs_model.specs.Images.{from_address, overlaps}
 use Rattle.mcs_asm.specs.declared.fault.FaultKind.{FaultKind}
 use Rattle.mcs_asm.specs.declared.fault.FaultKind.TheVariants.{NoMemory, Refused}
 use Rattle.mcs_asm.specs.declared.fault.AsmFault.{AsmFault}
-use Rattle.mcs_asm.specs.Cells.{IsKept}
+use Rattle.mcs_asm.specs.ByteMap.{IsKept}
 
 -- ---- the first pass
 
@@ -21,24 +21,24 @@ abbrev pub nothing_before : Before
 nothing_before = record { at = 0; names = [] }
 
 -- what the lines before line i say
-abbrev pub before : List (Option Line) → ℕ → Before
+abbrev pub before : List (Option SourceLine) → ℕ → Before
 before lines i = record { at = address_of lines i; names = names_before lines i }
 
 abbrev pub with_label : Option (List ℕ) → ℕ → Names → Names
 with_label None at names = names
 with_label (Some w) at names = names ++ (w, at) ∷ []
 
-abbrev pub with_names : Option Line → ℕ → Names → Names
+abbrev pub with_names : Option SourceLine → ℕ → Names → Names
 with_names (Some (Code label s)) at names = with_label label at names
 with_names (Some (Define w n)) at names = names ++ (w, n) ∷ []
 with_names None at names = names
 
 -- what the lines so far and one more say
-abbrev pub before_next : Before → Option Line → Before
+abbrev pub before_next : Before → Option SourceLine → Before
 before_next b line = record { at = next_at line b.at; names = with_names line b.at b.names }
 
 -- the same, or that line's fault of class one
-abbrev pub before_with_line : Before → Option Line → Result Before SourceFault
+abbrev pub before_with_line : Before → Option SourceLine → Result Before SourceFault
 before_with_line b line = unless_fault (fault_one b.at b.names line) (Ok (before_next b line))
 
 -- ---- the second pass
@@ -49,7 +49,7 @@ pub record Spelt : Type 0 where
   pub pairs : List (ℕ × ℕ)
 
 -- what the lines before line i spell, where all names are `names`
-abbrev pub spelt_before : List (Option Line) → Names → ℕ → Spelt
+abbrev pub spelt_before : List (Option SourceLine) → Names → ℕ → Spelt
 spelt_before lines names i = record { at = address_of lines i; pairs = pairs_before lines names i }
 
 -- the pairs with those of one more line, or its fault of class two
@@ -57,11 +57,11 @@ abbrev pub spelt_with_bytes : Spelt → ℕ → Result (List ℕ) SourceFault �
 spelt_with_bytes s next (Err f) = Err f
 spelt_with_bytes s next (Ok bytes) = if overlaps s.pairs s.at (length bytes) then Err Overlap else Ok (record { at = next; pairs = s.pairs ++ from_address s.at bytes })
 
-abbrev pub spelt_with_line : Names → Spelt → Option Line → Result Spelt SourceFault
+abbrev pub spelt_with_line : Names → Spelt → Option SourceLine → Result Spelt SourceFault
 spelt_with_line names s line = spelt_with_bytes s (next_at line s.at) (line_bytes s.at names line)
 
 -- a line that has a form, at an address where it has none of the faults of class one that its bytes could show
-abbrev pub HasNoFault : ℕ → Option Line → Type 0
+abbrev pub HasNoFault : ℕ → Option SourceLine → Type 0
 HasNoFault at None = ⊥
 HasNoFault at (Some line) = (is_bad_place line ≡ false) × (passes_end line at ≡ false)
 
@@ -78,7 +78,7 @@ Steps (Err NoMemory) new wanted = Unit {0}
 Steps (Err (Refused f)) new wanted = wanted ≡ Err f
 
 -- what all lines say, or the first fault of class one
-abbrev pub PassesFirst : Result Before AsmFault → List (Option Line) → Type 0
+abbrev pub PassesFirst : Result Before AsmFault → List (Option SourceLine) → Type 0
 PassesFirst (Ok b) lines = (first_of_class_one lines ≡ None) × (b ≡ before lines (length lines))
 PassesFirst (Err f) lines = IsFirst f.kind f.line (first_of_class_one lines)
 
@@ -94,7 +94,7 @@ Adds (Err NoMemory) at cells wanted = Unit {0}
 Adds (Err (Refused f)) at cells wanted = wanted ≡ Err f
 
 -- cells that keep the pairs of all lines, or the first fault of class two
-abbrev pub PassesSecond : Result (List (Option ℕ)) AsmFault → List (Option Line) → Names → Type 0
+abbrev pub PassesSecond : Result (List (Option ℕ)) AsmFault → List (Option SourceLine) → Names → Type 0
 PassesSecond (Ok cells) lines names = (first_of_class_two lines names ≡ None) × IsKept cells (pairs_before lines names (length lines))
 PassesSecond (Err f) lines names = IsFirst f.kind f.line (first_of_class_two lines names)
 

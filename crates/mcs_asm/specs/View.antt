@@ -12,8 +12,8 @@ use Rattle.mcs_asm.specs.declared.statements.Operand.{Operand}
 use Rattle.mcs_asm.specs.declared.statements.Operand.TheVariants as operand
 use Rattle.mcs_asm.specs.declared.statements.Statement.{Statement}
 use Rattle.mcs_asm.specs.declared.statements.Statement.TheVariants as statement
-use Rattle.mcs_asm.specs.declared.statements.Line.{Line}
-use Rattle.mcs_asm.specs.declared.statements.Line.TheVariants as line
+use Rattle.mcs_asm.specs.declared.statements.SourceLine.{SourceLine}
+use Rattle.mcs_asm.specs.declared.statements.SourceLine.TheVariants as line
 use Rattle.mcs_asm.specs.declared.fault.FaultKind.{FaultKind}
 use Rattle.mcs_asm.specs.declared.fault.FaultKind.TheVariants.{NoMemory, Refused}
 use Rattle.mcs_asm.specs.declared.fault.AsmFault.{AsmFault}
@@ -62,7 +62,7 @@ statement_view (statement.Fim p v) = lines.Fim p (operand_view v)
 statement_view (statement.Jcn v t) = lines.Jcn (operand_view v) (operand_view t)
 statement_view (statement.Isz r t) = lines.Isz r (operand_view t)
 
-abbrev pub line_view : Line → lines.Line
+abbrev pub line_view : SourceLine → lines.SourceLine
 line_view (line.Code label s) = lines.Code (option_copied label) (option_map statement_view s)
 line_view (line.Define w n) = lines.Define w.now n
 

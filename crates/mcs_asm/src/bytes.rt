@@ -7,7 +7,7 @@ ghost use Rattle.mcs_asm.specs.View.{operand_view, statement_view, line_view, wo
 
 use crate::fault::{FaultKind, SourceFault};
 use crate::names::Names;
-use crate::statements::{Line, Operand, Statement};
+use crate::statements::{Operand, SourceLine, Statement};
 use mcs_code::{Words, encode};
 use mcs_model::op::Op;
 use mcs_nibble::{Addr, Nibble};
@@ -187,13 +187,13 @@ pub fn line_bytes<'a>(
     alloc: Global,
     at: u16,
     names: &Names<'a>,
-    line: &Line<'a>,
+    line: &SourceLine<'a>,
 ) -> Result<Vec<u8>, FaultKind>
     requires { at ≤ 4096 }
     ensures { StepsTo (λ v. v.items) result (line_bytes at names.now.names (Some (line_view line.now))) }
 {
     match line {
-        Line::Code(_, Some(statement)) => statement_bytes(alloc, at, names, statement),
+        SourceLine::Code(_, Some(statement)) => statement_bytes(alloc, at, names, statement),
         _ => Ok(Vec::new(alloc)),
     }
 }

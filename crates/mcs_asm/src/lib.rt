@@ -1,8 +1,8 @@
 //! The assembler: from a source text to its image, or to its first fault.
 #![tactic(auto)]
 
+mod byte_map;
 mod bytes;
-mod cells;
 mod fault;
 mod names;
 mod passes;

@@ -11,7 +11,7 @@ ghost use Rattle.mcs_source.specs.Assembly.{size, statement_size, is_known, is_k
 ghost use Rattle.mcs_asm.specs.Passes.{nothing_before, before_next};
 
 use crate::fault::SourceFault;
-use crate::statements::{Line, Operand, Statement};
+use crate::statements::{Operand, SourceLine, Statement};
 use arrayvec::ArrayVec;
 use mcs_code::word_count;
 use mcs_model::limits::NAMES;
@@ -105,7 +105,7 @@ impl<'a> Names<'a> {
     }
 
     /// The first fault of class one that a line has, of those that a line with a form can have.
-    pub fn fault(&self, line: &Line<'a>) -> Option<SourceFault>
+    pub fn fault(&self, line: &SourceLine<'a>) -> Option<SourceFault>
         ensures { result ≡ fault_one self.now.at self.now.names (Some (line_view line.now)) }
     {
         let name = defined_name(line);
@@ -123,15 +123,15 @@ impl<'a> Names<'a> {
     }
 
     /// Adds what a line without such a fault says. Where memory is refused nothing is added.
-    pub fn add(&mut self, line: &Line<'a>) -> Result<(), AllocError>
+    pub fn add(&mut self, line: &SourceLine<'a>) -> Result<(), AllocError>
         requires { fault_one self.old.at self.old.names (Some (line_view line.now)) ≡ None }
         ensures added { OnOk result (self.new ≡ before_next self.old (Some (line_view line.now))) }
         ensures unchanged { OnErr result (self.new ≡ self.old) }
     {
         match line {
-            Line::Code(Some(name), _) => self.define(name, self.at)?,
-            Line::Code(None, _) => {}
-            Line::Define(name, n) => self.define(name, *n as u16)?,
+            SourceLine::Code(Some(name), _) => self.define(name, self.at)?,
+            SourceLine::Code(None, _) => {}
+            SourceLine::Define(name, n) => self.define(name, *n as u16)?,
         }
         self.at = next_at(line, self.at);
         Ok(())
@@ -174,12 +174,12 @@ fn value_of<'a>(values: &BTreeMap<&'a [u8], u16>, name: &'a [u8]) -> Option<u64>
 }
 
 /// The name that a line defines.
-fn defined_name<'a>(line: &Line<'a>) -> Option<&'a [u8]>
+fn defined_name<'a>(line: &SourceLine<'a>) -> Option<&'a [u8]>
     ensures { option_copied result ≡ defined_name (line_view line.now) }
 {
     match line {
-        Line::Code(label, _) => *label,
-        Line::Define(name, _) => Some(*name),
+        SourceLine::Code(label, _) => *label,
+        SourceLine::Define(name, _) => Some(*name),
     }
 }
 
@@ -193,23 +193,23 @@ fn is_bad_statement(statement: &Option<Statement<'_>>) -> bool
 }
 
 /// Whether a line puts a statement or a name outside the addresses.
-fn is_bad_place(line: &Line<'_>) -> bool
+fn is_bad_place(line: &SourceLine<'_>) -> bool
     ensures { result ≡ is_bad_place (line_view line.now) }
 {
     match line {
-        Line::Define(_, n) => *n >= 4096,
-        Line::Code(_, statement) => is_bad_statement(statement),
+        SourceLine::Define(_, n) => *n >= 4096,
+        SourceLine::Code(_, statement) => is_bad_statement(statement),
     }
 }
 
 /// Whether a line has its label, or a byte, past the last address.
-fn passes_end(line: &Line<'_>, at: u16) -> bool
+fn passes_end(line: &SourceLine<'_>, at: u16) -> bool
     requires { at ≤ 4096 }
     ensures { result ≡ passes_end (line_view line.now) at }
 {
     match line {
-        Line::Define(_, _) => false,
-        Line::Code(label, statement) => {
+        SourceLine::Define(_, _) => false,
+        SourceLine::Code(label, statement) => {
             (label.is_some() && at >= 4096) || statement_size(statement) > 4096 - usize::from(at)
         }
     }
@@ -228,7 +228,7 @@ fn next_statement(statement: &Option<Statement<'_>>, at: u16) -> u16
 }
 
 /// Where the statement of the next line stands, after a line without a fault of class one.
-pub fn next_at(line: &Line<'_>, at: u16) -> u16
+pub fn next_at(line: &SourceLine<'_>, at: u16) -> u16
     requires start { at ≤ 4096 }
     requires place { is_bad_place (line_view line.now) ≡ false }
     requires room { passes_end (line_view line.now) at ≡ false }
@@ -236,7 +236,7 @@ pub fn next_at(line: &Line<'_>, at: u16) -> u16
     ensures within { result ≤ 4096 }
 {
     match line {
-        Line::Define(_, _) => at,
-        Line::Code(_, statement) => next_statement(statement, at),
+        SourceLine::Define(_, _) => at,
+        SourceLine::Code(_, statement) => next_statement(statement, at),
     }
 }

@@ -5,10 +5,10 @@ ghost use Rattle.mcs_source.specs.Lines.{line_of};
 ghost use Rattle.mcs_source.specs.Assembly.{read, first_of_class_one, all_names, assembled};
 ghost use Rattle.mcs_asm.specs.View.{Assembles};
 ghost use Rattle.mcs_asm.specs.Passes.{before_with_line, spelt_with_bytes, spelt_with_line, HasNoFault, Steps, PassesFirst, PassesSecond, NumbersLine, ComesOf, Keeps, Adds};
-ghost use Rattle.mcs_asm.specs.Cells.{IsKept};
+ghost use Rattle.mcs_asm.specs.ByteMap.{IsKept};
 
+use crate::byte_map::ByteMap;
 use crate::bytes::line_bytes;
-use crate::cells::Cells;
 use crate::fault::{AsmFault, FaultKind, SourceFault};
 use crate::names::{Names, next_at};
 use crate::statements::read_line;
@@ -69,7 +69,7 @@ fn first_pass<'a>(alloc: Global, lines: &[&'a [u8]]) -> Result<Names<'a>, AsmFau
 #[derive(Drop)]
 struct Spelt {
     at: u16,
-    cells: Cells,
+    cells: ByteMap,
     ghost in_range: { at ≤ 4096 },
 }
 
@@ -111,14 +111,18 @@ impl Spelt {
 }
 
 /// What all lines spell, or the first fault of class two.
-fn second_pass<'a>(alloc: Global, names: &Names<'a>, lines: &[&'a [u8]]) -> Result<Cells, AsmFault>
+fn second_pass<'a>(
+    alloc: Global,
+    names: &Names<'a>,
+    lines: &[&'a [u8]],
+) -> Result<ByteMap, AsmFault>
     requires no_fault { first_of_class_one (read (map (λ l. l.now) lines.now)) ≡ None }
     requires names { names.now.names ≡ all_names (read (map (λ l. l.now) lines.now)) }
     ensures { PassesSecond result (read (map (λ l. l.now) lines.now)) names.now.names }
 {
     let mut spelt = Spelt {
         at: 0,
-        cells: Cells::new(alloc)?,
+        cells: ByteMap::new(alloc)?,
     };
     for i in 0..lines.len() {
         at_line(i, spelt.spell(alloc, names, lines[i]))?;

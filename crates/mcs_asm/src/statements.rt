@@ -38,7 +38,7 @@ pub enum Statement<'a> {
 
 /// A line that has a form: with its label and its statement, or a definition of a name.
 #[derive(Drop)]
-pub enum Line<'a> {
+pub enum SourceLine<'a> {
     Code(Option<&'a [u8]>, Option<Statement<'a>>),
     Define(&'a [u8], u64),
 }
@@ -261,15 +261,15 @@ fn rest<'a>(
     alloc: Global,
     label: Option<&'a [u8]>,
     tokens: &mut Tokens<'a>,
-) -> Result<Option<Line<'a>>, AllocError>
+) -> Result<Option<SourceLine<'a>>, AllocError>
     ensures { IfOk result (λ o. option_map line_view o ≡ rest_of (option_copied label.entry) tokens.old) }
 {
     if tokens.is_empty() {
-        return Ok(Some(Line::Code(label, None)));
+        return Ok(Some(SourceLine::Code(label, None)));
     }
     match read_statement(alloc, tokens)? {
         None => Ok(None),
-        Some(statement) => Ok(Some(Line::Code(label, Some(statement)))),
+        Some(statement) => Ok(Some(SourceLine::Code(label, Some(statement)))),
     }
 }
 
@@ -296,20 +296,20 @@ fn definition_of<'a>(line: &'a [u8]) -> Option<(&'a [u8], Tokens<'a>)>
 }
 
 /// What a line without a label says.
-fn read_unlabelled<'a>(alloc: Global, line: &'a [u8]) -> Result<Option<Line<'a>>, AllocError>
+fn read_unlabelled<'a>(alloc: Global, line: &'a [u8]) -> Result<Option<SourceLine<'a>>, AllocError>
     ensures { IfOk result (λ o. option_map line_view o ≡ unlabelled (tokens line.now)) }
 {
     match definition_of(line) {
         None => rest(alloc, None, &mut Tokens::new(line)),
         Some((name, mut tokens)) if is_name(name) => {
-            Ok(one_number(&mut tokens).map(|n| Line::Define(name, n)))
+            Ok(one_number(&mut tokens).map(|n| SourceLine::Define(name, n)))
         }
         Some(_) => Ok(None),
     }
 }
 
 /// What a line says; None where it has no form.
-pub fn read_line<'a>(alloc: Global, line: &'a [u8]) -> Result<Option<Line<'a>>, AllocError>
+pub fn read_line<'a>(alloc: Global, line: &'a [u8]) -> Result<Option<SourceLine<'a>>, AllocError>
     ensures { IfOk result (λ o. option_map line_view o ≡ line_of (tokens line.now)) }
 {
     match label_of(line) {

@@ -53,23 +53,23 @@ placed at (x ∷ xs) ys =
 -- ---- class one
 
 -- before line i, whose statement stands at an address, where the lines before it define no name and have no fault of class one
-record IsFineTo (lines : List (Option asm.Line)) (i at : ℕ) : Type 0 where
+record IsFineTo (lines : List (Option asm.SourceLine)) (i at : ℕ) : Type 0 where
   within : i ≤ length lines
   address : address_of lines i ≡ at
   names : names_before lines i ≡ []
   none : NoneBefore (class_one_fault lines) i
 
-fine_next : (lines : List (Option asm.Line)) (i at next : ℕ) (line : Option asm.Line) → i < length lines → ith_line lines i ≡ line → fault_one at [] line ≡ None → definition line at ≡ None → next_at line at ≡ next → IsFineTo lines i at → IsFineTo lines (i + 1) next
+fine_next : (lines : List (Option asm.SourceLine)) (i at next : ℕ) (line : Option asm.SourceLine) → i < length lines → ith_line lines i ≡ line → fault_one at [] line ≡ None → definition line at ≡ None → next_at line at ≡ next → IsFineTo lines i at → IsFineTo lines (i + 1) next
 unfolding class_one_fault
 fine_next lines i at next line lt is fine no_name goes h = record {
   within = omega (arith, lt);
-  address = address_next lines i ∙ (ap (λ (l : Option asm.Line). next_at l (address_of lines i)) is ∙ (ap (next_at line) h.address ∙ goes));
+  address = address_next lines i ∙ (ap (λ (l : Option asm.SourceLine). next_at l (address_of lines i)) is ∙ (ap (next_at line) h.address ∙ goes));
   names = names_next lines i
-  ∙ (ap (λ (l : Option asm.Line). names_before lines i ++ cons_option (definition l (address_of lines i)) []) is
-  ∙ (ap (λ (n : ℕ). names_before lines i ++ cons_option (definition line n) []) h.address
-  ∙ (ap (λ (o : Option (List ℕ × ℕ)). names_before lines i ++ cons_option o []) no_name ∙ (append-nil (names_before lines i) ∙ h.names))));
+      ∙ (ap (λ (l : Option asm.SourceLine). names_before lines i ++ cons_option (definition l (address_of lines i)) []) is
+      ∙ (ap (λ (n : ℕ). names_before lines i ++ cons_option (definition line n) []) h.address
+      ∙ (ap (λ (o : Option (List ℕ × ℕ)). names_before lines i ++ cons_option o []) no_name ∙ (append-nil (names_before lines i) ∙ h.names))));
   none = none_before_next (class_one_fault lines) i h.none
-  (ap (λ (l : Option asm.Line). fault_one (address_of lines i) (names_before lines i) l) is ∙ (ap (λ (n : Names). fault_one (address_of lines i) n line) h.names ∙ (ap (λ (n : ℕ). fault_one n [] line) h.address ∙ fine)));
+      (ap (λ (l : Option asm.SourceLine). fault_one (address_of lines i) (names_before lines i) l) is ∙ (ap (λ (n : Names). fault_one (address_of lines i) n line) h.names ∙ (ap (λ (n : ℕ). fault_one n [] line) h.address ∙ fine)));
 }
 
 piece_fine : (at b : ℕ) (rest : List ℕ) (x : Option Op) → IsPiece at b rest x → at + piece_size x ≤ 4096 → fault_one at [] (asm.line_of (tokens (piece_text at b x))) ≡ None
@@ -81,32 +81,32 @@ piece_names at b rest x p = rw (p.reads) refl
 piece_next : (at b : ℕ) (rest : List ℕ) (x : Option Op) → IsPiece at b rest x → next_at (asm.line_of (tokens (piece_text at b x))) at ≡ at + piece_size x
 piece_next at b rest x p = rw (p.reads) (p.next)
 
-last_is : (lines : List (Option asm.Line)) (i : ℕ) → i ≤ length lines → drop i lines ≡ [] → i ≡ length lines
+last_is : (lines : List (Option asm.SourceLine)) (i : ℕ) → i ≤ length lines → drop i lines ≡ [] → i ≡ length lines
 last_is lines i le e = omega (arith, le, length-drop i lines, ap length e)
 
 -- ---- class two
 
 -- before line i, whose statement stands at an address, where the lines before it spell these pairs and have no fault of class two
-record IsSpeltTo (lines : List (Option asm.Line)) (i at : ℕ) (pairs : List (ℕ × ℕ)) : Type 0 where
+record IsSpeltTo (lines : List (Option asm.SourceLine)) (i at : ℕ) (pairs : List (ℕ × ℕ)) : Type 0 where
   within : i ≤ length lines
   address : address_of lines i ≡ at
   spelt : pairs_before lines [] i ≡ pairs
   none : NoneBefore (class_two_fault lines []) i
 
-spelt_next : (lines : List (Option asm.Line)) (i at next : ℕ) (line : Option asm.Line) (pairs : List (ℕ × ℕ)) (bytes : List ℕ) → i < length lines → ith_line lines i ≡ line → line_bytes at [] line ≡ Ok bytes → overlaps pairs at (length bytes) ≡ false → next_at line at ≡ next
+spelt_next : (lines : List (Option asm.SourceLine)) (i at next : ℕ) (line : Option asm.SourceLine) (pairs : List (ℕ × ℕ)) (bytes : List ℕ) → i < length lines → ith_line lines i ≡ line → line_bytes at [] line ≡ Ok bytes → overlaps pairs at (length bytes) ≡ false → next_at line at ≡ next
     → IsSpeltTo lines i at pairs → IsSpeltTo lines (i + 1) next (pairs ++ from_address at bytes)
 unfolding class_two_fault
 spelt_next lines i at next line pairs bytes lt is spells free goes h =
-    let bytes_are : line_bytes (address_of lines i) [] (ith_line lines i) ≡ Ok bytes = ap (λ (l : Option asm.Line). line_bytes (address_of lines i) [] l) is ∙ (ap (λ (n : ℕ). line_bytes n [] line) h.address ∙ spells) in
+    let bytes_are : line_bytes (address_of lines i) [] (ith_line lines i) ≡ Ok bytes = ap (λ (l : Option asm.SourceLine). line_bytes (address_of lines i) [] l) is ∙ (ap (λ (n : ℕ). line_bytes n [] line) h.address ∙ spells) in
     record {
       within = omega (arith, lt);
-      address = address_next lines i ∙ (ap (λ (l : Option asm.Line). next_at l (address_of lines i)) is ∙ (ap (next_at line) h.address ∙ goes));
+      address = address_next lines i ∙ (ap (λ (l : Option asm.SourceLine). next_at l (address_of lines i)) is ∙ (ap (next_at line) h.address ∙ goes));
       spelt = pairs_next lines [] i
-      ∙ (ap (λ (r : Result (List ℕ) SourceFault). pairs_before lines [] i ++ from_address (address_of lines i) (bytes_or_none r)) bytes_are
-      ∙ (ap (λ (n : ℕ). pairs_before lines [] i ++ from_address n bytes) h.address ∙ ap (λ (ps : List (ℕ × ℕ)). ps ++ from_address at bytes) h.spelt));
+          ∙ (ap (λ (r : Result (List ℕ) SourceFault). pairs_before lines [] i ++ from_address (address_of lines i) (bytes_or_none r)) bytes_are
+          ∙ (ap (λ (n : ℕ). pairs_before lines [] i ++ from_address n bytes) h.address ∙ ap (λ (ps : List (ℕ × ℕ)). ps ++ from_address at bytes) h.spelt));
       none = none_before_next (class_two_fault lines []) i h.none
-      (ap (λ (r : Result (List ℕ) SourceFault). fault_two (address_of lines i) (pairs_before lines [] i) r) bytes_are
-      ∙ (ap (λ (ps : List (ℕ × ℕ)). fault_two (address_of lines i) ps (Ok bytes)) h.spelt ∙ (ap (λ (n : ℕ). fault_two n pairs (Ok bytes)) h.address ∙ rw free refl)));
+          (ap (λ (r : Result (List ℕ) SourceFault). fault_two (address_of lines i) (pairs_before lines [] i) r) bytes_are
+          ∙ (ap (λ (ps : List (ℕ × ℕ)). fault_two (address_of lines i) ps (Ok bytes)) h.spelt ∙ (ap (λ (n : ℕ). fault_two n pairs (Ok bytes)) h.address ∙ rw free refl)));
     }
 
 piece_bytes : (at b : ℕ) (rest : List ℕ) (x : Option Op) → IsPiece at b rest x → line_bytes at [] (asm.line_of (tokens (piece_text at b x))) ≡ Ok (take (piece_size x) (b ∷ rest))
@@ -118,17 +118,17 @@ rest_is : (n b : ℕ) (rest : List ℕ) → 1 ≤ n → drop n (b ∷ rest) ≡ 
 rest_is zero b rest le = absurd (omega (arith, le))
 rest_is (suc n) b rest le = ap (λ k. drop k rest) (omega arith)
 
-one_end : (at i : ℕ) (lines : List (Option asm.Line)) → drop i lines ≡ [] → IsFineTo lines i at → IsFineTo lines (length lines) (at + 0)
+one_end : (at i : ℕ) (lines : List (Option asm.SourceLine)) → drop i lines ≡ [] → IsFineTo lines i at → IsFineTo lines (length lines) (at + 0)
 one_end at i lines is h =
     let e : at ≡ at + 0 = omega arith in
     subst (λ (n : ℕ). IsFineTo lines n (at + 0)) (last_is lines i h.within is) (subst (IsFineTo lines i) e h)
 
-two_end : (at i : ℕ) (lines : List (Option asm.Line)) (pairs : List (ℕ × ℕ)) → drop i lines ≡ [] → IsSpeltTo lines i at pairs → IsSpeltTo lines (length lines) (at + 0) (pairs ++ [])
+two_end : (at i : ℕ) (lines : List (Option asm.SourceLine)) (pairs : List (ℕ × ℕ)) → drop i lines ≡ [] → IsSpeltTo lines i at pairs → IsSpeltTo lines (length lines) (at + 0) (pairs ++ [])
 two_end at i lines pairs is h =
     let e : at ≡ at + 0 = omega arith in
     subst (λ (n : ℕ). IsSpeltTo lines n (at + 0) (pairs ++ [])) (last_is lines i h.within is) (subst (λ (n : ℕ). IsSpeltTo lines i n (pairs ++ [])) e (subst (IsSpeltTo lines i at) (sym (append-nil pairs)) h))
 
-one_all : (fuel at i : ℕ) (bytes : List ℕ) (lines : List (Option asm.Line)) → length bytes ≤ fuel → at + length bytes ≤ 4096 → AreBytes bytes → drop i lines ≡ read (piece_texts fuel at bytes) → IsFineTo lines i at → IsFineTo lines (length lines) (at + length bytes)
+one_all : (fuel at i : ℕ) (bytes : List ℕ) (lines : List (Option asm.SourceLine)) → length bytes ≤ fuel → at + length bytes ≤ 4096 → AreBytes bytes → drop i lines ≡ read (piece_texts fuel at bytes) → IsFineTo lines i at → IsFineTo lines (length lines) (at + length bytes)
 unfolding piece_texts
 one_all zero at i [] lines short le all is h = one_end at i lines is h
 one_all zero at i (b ∷ rest) lines short le all is h = absurd (omega (arith, short))
@@ -144,7 +144,7 @@ one_all (suc fuel) at i (b ∷ rest) lines short le all is h =
     let end : at + n + length (drop (n - 1) rest) ≡ at + length (b ∷ rest) = omega (arith, len, p.some, p.fits) in
     subst (IsFineTo lines (length lines)) end more
 
-two_all : (fuel at i : ℕ) (bytes : List ℕ) (lines : List (Option asm.Line)) (pairs : List (ℕ × ℕ)) → length bytes ≤ fuel → AreBytes bytes → AreBelow at pairs → drop i lines ≡ read (piece_texts fuel at bytes) → IsSpeltTo lines i at pairs
+two_all : (fuel at i : ℕ) (bytes : List ℕ) (lines : List (Option asm.SourceLine)) (pairs : List (ℕ × ℕ)) → length bytes ≤ fuel → AreBytes bytes → AreBelow at pairs → drop i lines ≡ read (piece_texts fuel at bytes) → IsSpeltTo lines i at pairs
     → IsSpeltTo lines (length lines) (at + length bytes) (pairs ++ from_address at bytes)
 unfolding piece_texts
 two_all zero at i [] lines pairs short all below is h = two_end at i lines pairs is h
@@ -184,8 +184,8 @@ source_again from bytes lt le all =
     let ts : List (List ℕ) = piece_texts (length bytes) from bytes in
     let texts : lines_of (source_of from bytes) ≡ origin_text from ∷ ts =
     lines_again (origin_text from ∷ ts) (line_is (origin_text from) (address_clean (from / 256) (from % 256) (omega arith) (omega arith)), texts_clean (length bytes) from bytes all) in
-    let lines : List (Option asm.Line) = read (origin_text from ∷ ts) in
-    let origin : Option asm.Line = Some (asm.Code None (Some (asm.Origin from))) in
+    let lines : List (Option asm.SourceLine) = read (origin_text from ∷ ts) in
+    let origin : Option asm.SourceLine = Some (asm.Code None (Some (asm.Origin from))) in
     let some : 0 < length lines = omega arith in
     let fine_start : IsFineTo lines 0 0 = record { within = omega arith; address = refl; names = refl; none = λ j less. absurd (omega (arith, less)) } in
     let fine_first : IsFineTo lines (0 + 1) from = fine_next lines 0 0 from origin some (origin_back from lt) (rw (lt-ltb from 4096 lt) refl) refl refl fine_start in

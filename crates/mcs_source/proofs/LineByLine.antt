@@ -6,7 +6,7 @@ use Rattle.std.proofs.lemmas.List.{length-drop, drop_more}
 use Rattle.std.proofs.lemmas.List.Concat.{flat_map-append}
 use Rattle.std.proofs.lemmas.List.Elements.{filter_map-append}
 use Rattle.mcs_source.specs.declared.fault.SourceFault.{SourceFault}
-use Rattle.mcs_source.specs.Lines.{◌>>=◌, Line}
+use Rattle.mcs_source.specs.Lines.{◌>>=◌, SourceLine}
 use Rattle.mcs_source.specs.Assembly.{Names, lines_of, read, ith_line, next_at, address_of, definition, names_before, all_names, line_pairs, pairs_before, first_fault, first_of_class_one, first_of_class_two, spelt, assembled}
 
 -- ---- one line further
@@ -23,19 +23,19 @@ range_next i =
     let e : 0 + i ≡ i = omega arith in
     ap (range_with_len 0) up ∙ (range_more 0 i ∙ ap (λ (k : ℕ). range_with_len 0 i ++ k ∷ []) e)
 
-pub address_next : (lines : List (Option Line)) (i : ℕ) → address_of lines (i + 1) ≡ next_at (ith_line lines i) (address_of lines i)
+pub address_next : (lines : List (Option SourceLine)) (i : ℕ) → address_of lines (i + 1) ≡ next_at (ith_line lines i) (address_of lines i)
 unfolding address_of
 address_next lines i =
     let up : i + 1 ≡ suc i = omega arith in
     ap (address_of lines) up
 
-pub names_next : (lines : List (Option Line)) (i : ℕ) → names_before lines (i + 1) ≡ names_before lines i ++ cons_option (definition (ith_line lines i) (address_of lines i)) []
+pub names_next : (lines : List (Option SourceLine)) (i : ℕ) → names_before lines (i + 1) ≡ names_before lines i ++ cons_option (definition (ith_line lines i) (address_of lines i)) []
 unfolding names_before
 names_next lines i =
     let define : ℕ → Option (List ℕ × ℕ) = λ j. definition (ith_line lines j) (address_of lines j) in
     ap (filter_map define) (range_next i) ∙ filter_map-append define (range_with_len 0 i) (i ∷ [])
 
-pub pairs_next : (lines : List (Option Line)) (names : Names) (i : ℕ) → pairs_before lines names (i + 1) ≡ pairs_before lines names i ++ line_pairs lines names i
+pub pairs_next : (lines : List (Option SourceLine)) (names : Names) (i : ℕ) → pairs_before lines names (i + 1) ≡ pairs_before lines names i ++ line_pairs lines names i
 unfolding pairs_before
 pairs_next lines names i =
     ap (flat_map (line_pairs lines names)) (range_next i)
@@ -98,7 +98,7 @@ none_below fault n e j lt = none_from fault 0 n e j (omega arith) (omega (arith,
 -- ---- the whole
 
 -- line i, where the lines from it on are given
-pub first_of_rest : (lines : List (Option Line)) (i : ℕ) (line : Option Line) (more : List (Option Line)) → drop i lines ≡ line ∷ more → (i < length lines) × (ith_line lines i ≡ line) × (drop (i + 1) lines ≡ more)
+pub first_of_rest : (lines : List (Option SourceLine)) (i : ℕ) (line : Option SourceLine) (more : List (Option SourceLine)) → drop i lines ≡ line ∷ more → (i < length lines) × (ith_line lines i ≡ line) × (drop (i + 1) lines ≡ more)
 first_of_rest lines i line more e =
     let lt : i < length lines = omega (arith, length-drop i lines, ap length e) in
     let parts : ith_line lines i ∷ drop (i + 1) lines ≡ line ∷ more = sym (drop_more lines i None lt) ∙ e in

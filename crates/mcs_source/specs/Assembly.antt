@@ -8,7 +8,7 @@ use Rattle.mcs_model.specs.declared.op.Op.TheVariants as op
 use Rattle.mcs_source.specs.declared.fault.SourceFault.{SourceFault}
 use Rattle.mcs_source.specs.declared.fault.SourceFault.TheVariants.{BadStatement, DoubleName, UnknownName, OutOfRange, WrongPage, Overlap, PastEnd, TooManyNames}
 use Rattle.mcs_source.specs.Lexical.{tokens}
-use Rattle.mcs_source.specs.Lines.{◌>>=◌, Operand, Number, Name, Statement, Origin, Data, Whole, Ldm, Bbl, Jun, Jms, Fim, Jcn, Isz, Line, Code, Define, line_of}
+use Rattle.mcs_source.specs.Lines.{◌>>=◌, Operand, Number, Name, Statement, Origin, Data, Whole, Ldm, Bbl, Jun, Jms, Fim, Jcn, Isz, SourceLine, Code, Define, line_of}
 use Rattle.mcs_model.specs.Images.{from_address, overlaps}
 use Rattle.mcs_source.specs.Spelling.{spelling}
 use Rattle.mcs_model.specs.Numbers.{page_of}
@@ -36,11 +36,11 @@ abbrev pub lines_of : List ℕ → List (List ℕ)
 lines_of text = lines_after [] text
 
 -- what each line says; None where it has no form
-abbrev pub read : List (List ℕ) → List (Option Line)
+abbrev pub read : List (List ℕ) → List (Option SourceLine)
 read lines = map (λ line. line_of (tokens line)) lines
 
 -- what line i says
-abbrev pub ith_line : List (Option Line) → ℕ → Option Line
+abbrev pub ith_line : List (Option SourceLine) → ℕ → Option SourceLine
 ith_line lines i = slice_index_or lines i None
 
 -- ---- addresses
@@ -68,13 +68,13 @@ next_statement (Some (Origin n)) at = n
 next_statement s at = at + statement_size s
 
 -- the address after a line whose statement stands at `at`
-abbrev pub next_at : Option Line → ℕ → ℕ
+abbrev pub next_at : Option SourceLine → ℕ → ℕ
 next_at (Some (Code label s)) at = next_statement s at
 next_at (Some (Define w n)) at = at
 next_at None at = at
 
 -- the address of the statement of line i
-unfoldable pub address_of : List (Option Line) → ℕ → ℕ
+unfoldable pub address_of : List (Option SourceLine) → ℕ → ℕ
 address_of lines zero = 0
 address_of lines (suc i) = next_at (ith_line lines i) (address_of lines i)
 
@@ -85,17 +85,17 @@ abbrev pub Names : Type 0
 Names = List (List ℕ × ℕ)
 
 -- the name that a line defines, with its value: a label has the address of its own line's statement, also before an `ORG`
-abbrev pub definition : Option Line → ℕ → Option (List ℕ × ℕ)
+abbrev pub definition : Option SourceLine → ℕ → Option (List ℕ × ℕ)
 definition (Some (Code label s)) at = option_map (λ w. (w, at)) label
 definition (Some (Define w n)) at = Some (w, n)
 definition None at = None
 
 -- the names that the lines before line i define
-unfoldable pub names_before : List (Option Line) → ℕ → Names
+unfoldable pub names_before : List (Option SourceLine) → ℕ → Names
 names_before lines i = filter_map (λ j. definition (ith_line lines j) (address_of lines j)) (range_with_len 0 i)
 
 -- the names of all lines
-abbrev pub all_names : List (Option Line) → Names
+abbrev pub all_names : List (Option SourceLine) → Names
 all_names lines = names_before lines (length lines)
 
 -- ---- faults of class one: a line is judged by itself and by the lines before it
@@ -103,7 +103,7 @@ all_names lines = names_before lines (length lines)
 abbrev pub is_known : List ℕ → Names → Bool
 is_known w names = list_any (λ n. bytes_eq n.0 w) names
 
-abbrev pub defined_name : Line → Option (List ℕ)
+abbrev pub defined_name : SourceLine → Option (List ℕ)
 defined_name (Code label s) = label
 defined_name (Define w n) = Some w
 
@@ -116,17 +116,17 @@ abbrev pub is_bad_statement : Option Statement → Bool
 is_bad_statement (Some (Origin n)) = not (nat_lt n 4096)
 is_bad_statement s = false
 
-abbrev pub is_bad_place : Line → Bool
+abbrev pub is_bad_place : SourceLine → Bool
 is_bad_place (Define w n) = not (nat_lt n 4096)
 is_bad_place (Code label s) = is_bad_statement s
 
 -- no 36: a label at 4096, or a byte at 4096 or later
-abbrev pub passes_end : Line → ℕ → Bool
+abbrev pub passes_end : SourceLine → ℕ → Bool
 passes_end (Define w n) at = false
 passes_end (Code label s) at = (is_some label && nat_le 4096 at) || nat_lt 4096 (at + statement_size s)
 
 -- the first of no 30, 33, 31, 37 and 36 that a line has, if any; its statement stands at `at`, and the lines before it define `names`
-abbrev pub fault_one : ℕ → Names → Option Line → Option SourceFault
+abbrev pub fault_one : ℕ → Names → Option SourceLine → Option SourceFault
 fault_one at names None = Some BadStatement
 fault_one at names (Some line) =
     if is_bad_place line then Some OutOfRange else
@@ -135,7 +135,7 @@ fault_one at names (Some line) =
     if passes_end line at then Some PastEnd else None
 
 -- the fault of class one of line i, if it has one
-unfoldable pub class_one_fault : List (Option Line) → ℕ → Option SourceFault
+unfoldable pub class_one_fault : List (Option SourceLine) → ℕ → Option SourceFault
 class_one_fault lines i = fault_one (address_of lines i) (names_before lines i) (ith_line lines i)
 
 -- ---- the bytes of a line: they depend on its address and on the values of all names
@@ -186,7 +186,7 @@ bytes_at at names (Jcn v w) = if_known (value_in names v) (λ n. if_known (value
 bytes_at at names (Isz r w) = if_known (value_in names w) (λ t. if_in_range (nat_lt t 4096) (if_on_page (is_near at t) (Ok (spelling (op.Isz r (t % 256))))))
 
 -- the bytes of a line whose statement stands at an address
-abbrev pub line_bytes : ℕ → Names → Option Line → Result (List ℕ) SourceFault
+abbrev pub line_bytes : ℕ → Names → Option SourceLine → Result (List ℕ) SourceFault
 line_bytes at names (Some (Code label (Some s))) = bytes_at at names s
 line_bytes at names line = Ok []
 
@@ -195,11 +195,11 @@ bytes_or_none (Ok bytes) = bytes
 bytes_or_none (Err f) = []
 
 -- the pairs of line i, where all names are `names`; none where it has one of these faults
-abbrev pub line_pairs : List (Option Line) → Names → ℕ → List (ℕ × ℕ)
+abbrev pub line_pairs : List (Option SourceLine) → Names → ℕ → List (ℕ × ℕ)
 line_pairs lines names i = from_address (address_of lines i) (bytes_or_none (line_bytes (address_of lines i) names (ith_line lines i)))
 
 -- the pairs of the lines before line i, in the order of these lines
-unfoldable pub pairs_before : List (Option Line) → Names → ℕ → List (ℕ × ℕ)
+unfoldable pub pairs_before : List (Option SourceLine) → Names → ℕ → List (ℕ × ℕ)
 pairs_before lines names i = flat_map (line_pairs lines names) (range_with_len 0 i)
 
 -- ---- faults of class two: a line is judged by itself, by the lines before it, and by the values of all names
@@ -210,7 +210,7 @@ fault_two at pairs (Err f) = Some f
 fault_two at pairs (Ok bytes) = if overlaps pairs at (length bytes) then Some Overlap else None
 
 -- the fault of class two of line i, if it has one
-unfoldable pub class_two_fault : List (Option Line) → Names → ℕ → Option SourceFault
+unfoldable pub class_two_fault : List (Option SourceLine) → Names → ℕ → Option SourceFault
 class_two_fault lines names i = fault_two (address_of lines i) (pairs_before lines names i) (line_bytes (address_of lines i) names (ith_line lines i))
 
 -- ---- the whole
@@ -219,10 +219,10 @@ class_two_fault lines names i = fault_two (address_of lines i) (pairs_before lin
 abbrev pub first_fault : (ℕ → Option SourceFault) → ℕ → Option (ℕ × SourceFault)
 first_fault fault n = find (λ i. is_some (fault i)) (range_with_len 0 n) >>= λ i. fault i >>= λ f. Some (i + 1, f)
 
-abbrev pub first_of_class_one : List (Option Line) → Option (ℕ × SourceFault)
+abbrev pub first_of_class_one : List (Option SourceLine) → Option (ℕ × SourceFault)
 first_of_class_one lines = first_fault (class_one_fault lines) (length lines)
 
-abbrev pub first_of_class_two : List (Option Line) → Names → Option (ℕ × SourceFault)
+abbrev pub first_of_class_two : List (Option SourceLine) → Names → Option (ℕ × SourceFault)
 first_of_class_two lines names = first_fault (class_two_fault lines names) (length lines)
 
 abbrev pub unless_fault : {A E : Type 0} → Option E → Result A E → Result A E
@@ -230,7 +230,7 @@ unless_fault (Some f) answer = Err f
 unless_fault None answer = answer
 
 -- the first fault of class one if there is one, else the first one of class two, else the pairs of all lines
-unfoldable pub spelt : List (Option Line) → Result (List (ℕ × ℕ)) (ℕ × SourceFault)
+unfoldable pub spelt : List (Option SourceLine) → Result (List (ℕ × ℕ)) (ℕ × SourceFault)
 spelt lines =
     unless_fault (first_of_class_one lines)
     (unless_fault (first_of_class_two lines (all_names lines)) (Ok (pairs_before lines (all_names lines) (length lines))))

@@ -153,21 +153,21 @@ statement_of (Word w ∷ ts) = mnemonic_of w >>= λ k. after_mnemonic k ts
 statement_of ts = None
 
 -- a line that has a form: `Code` with its label and its statement, if any, or `NAME = NUMBER`
-pub data Line : Type 0 where
-  Code : Option (List ℕ) → Option Statement → Line
-  Define : List ℕ → ℕ → Line
+pub data SourceLine : Type 0 where
+  Code : Option (List ℕ) → Option Statement → SourceLine
+  Define : List ℕ → ℕ → SourceLine
 
 -- what follows a label, or the whole line where there is none
-abbrev pub rest_of : Option (List ℕ) → List Token → Option Line
+abbrev pub rest_of : Option (List ℕ) → List Token → Option SourceLine
 rest_of label [] = Some (Code label None)
 rest_of label (t ∷ ts) = statement_of (t ∷ ts) >>= λ s. Some (Code label (Some s))
 
 -- a line without a label
-abbrev pub unlabelled : List Token → Option Line
+abbrev pub unlabelled : List Token → Option SourceLine
 unlabelled (Word w ∷ Equals ∷ ts) = if is_name w then (one_number ts >>= λ n. Some (Define w n)) else None
 unlabelled ts = rest_of None ts
 
 -- what a line says, if it has a form
-abbrev pub line_of : List Token → Option Line
+abbrev pub line_of : List Token → Option SourceLine
 line_of (Word w ∷ Colon ∷ ts) = if is_name w then rest_of (Some w) ts else None
 line_of ts = unlabelled ts

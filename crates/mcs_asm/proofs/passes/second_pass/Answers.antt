@@ -1,6 +1,6 @@
 use Rattle.std.proofs.Common.{◌≡◌, sym, subst, ℕ, List, Option, Result, Ok, Err}
 use Rattle.std.specs.Prelude.{IsErrAnd}
-use Rattle.mcs_source.specs.Lines.{Line}
+use Rattle.mcs_source.specs.Lines.{SourceLine}
 use Rattle.mcs_source.specs.Assembly.{Names, pairs_before, first_of_class_two}
 use Rattle.mcs_asm.specs.declared.fault.AsmFault.{AsmFault}
 use Rattle.mcs_asm.specs.Passes.{IsFirst, NumbersLine, PassesSecond}
@@ -8,7 +8,7 @@ use Rattle.mcs_asm.proofs.PassLists.{said, IsBeforeSecond, second_begins, line_p
 use Rattle.mcs_asm.proofs.passes.second_pass.Goals as goal
 
 -- a fault that is handed on
-handed_on : (r : Result (List (Option ℕ)) AsmFault) (f : AsmFault) (lines : List (Option Line)) (names : Names) → IsErrAnd r (λ e. e ≡ f) → IsFirst f.kind f.line (first_of_class_two lines names) → PassesSecond r lines names
+handed_on : (r : Result (List (Option ℕ)) AsmFault) (f : AsmFault) (lines : List (Option SourceLine)) (names : Names) → IsErrAnd r (λ e. e ≡ f) → IsFirst f.kind f.line (first_of_class_two lines names) → PassesSecond r lines names
 handed_on (Ok cells) f lines names is fails = absurd is
 handed_on (Err e) f lines names is fails = subst (λ (x : AsmFault). IsFirst x.kind x.line (first_of_class_two lines names)) (sym is) fails
 

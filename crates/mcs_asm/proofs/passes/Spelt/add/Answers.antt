@@ -1,5 +1,5 @@
 use Rattle.std.proofs.Common.{◌≡◌, ◌∙◌, sym}
-use Rattle.mcs_asm.specs.Cells.{written}
+use Rattle.mcs_asm.specs.ByteMap.{written}
 use Rattle.mcs_asm.proofs.SpeltLists.{free_goes}
 use Rattle.mcs_asm.proofs.passes.Spelt.add.Goals as goal
 

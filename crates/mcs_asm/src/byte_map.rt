@@ -3,7 +3,7 @@ ghost use Rattle.std.specs.Prelude.{◌≡◌, ℕ, ◌<◌, ◌≤◌, ◌+◌,
 ghost use Rattle.std.specs.List.{list_any};
 ghost use lib.ListN.{replicate};
 ghost use Rattle.mcs_model.specs.Images.{IsImageOf};
-ghost use Rattle.mcs_asm.specs.Cells.{written, raised};
+ghost use Rattle.mcs_asm.specs.ByteMap.{written, raised};
 
 use mcs_model::image::Image;
 use mcs_nibble::Addr;
@@ -12,11 +12,11 @@ use std::marker::Model;
 
 /// A byte, or none, for each address.
 #[derive(Drop)]
-pub struct Cells {
+pub struct ByteMap {
     bytes: Vec<Option<u8>>,
 }
 
-impl Model for Cells {
+impl Model for ByteMap {
     ghost use Rattle.std.specs.Prelude.{List, Option, ℕ, ◌≡◌, length};
 
     ghost Value = { List (Option ℕ) };
@@ -26,17 +26,17 @@ impl Model for Cells {
     ghost invariant = { λ c. length c.bytes.items ≡ 4096 };
 }
 
-impl Cells {
+impl ByteMap {
     /// No byte at any address.
     #[tactic(auto, using(crate::proofs::CellPairs::new_rules))]
-    pub fn new(alloc: Global) -> Result<Cells, AllocError>
+    pub fn new(alloc: Global) -> Result<ByteMap, AllocError>
         ensures { IfOk result (λ c. c ≡ replicate 4096 None) }
     {
         let mut bytes = Vec::with_capacity(alloc, 4096)?;
         for _n in 0..4096u16 {
             bytes.push(None)?;
         }
-        Ok(Cells { bytes })
+        Ok(ByteMap { bytes })
     }
 
     /// Whether one of `count` addresses from `at` on has a byte.

@@ -1,5 +1,5 @@
 use Rattle.std.proofs.Common.{◌≡◌, ◌∙◌, ap, arith, ℕ, Option, None, replicate}
-use Rattle.mcs_asm.proofs.cells.Cells.new.Goals as goal
+use Rattle.mcs_asm.proofs.byte_map.ByteMap.new.Goals as goal
 
 pub returns : goal.returns
 returns c =
