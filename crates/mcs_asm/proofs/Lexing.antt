@@ -1,10 +1,10 @@
 -- Where a word ends, and what comes after it.
-use Rattle.std.proofs.Common.{◌≡◌, ℕ, suc, ◌+◌, ◌<◌, ◌≤◌, Bool, true, false, cond, eqb, List, [], ◌∷◌, ◌++◌, length, take, drop, refl, sym, ap, ◌⊎◌, ◌||◌, ◌≢◌, ◌∙◌, append_assoc, arith, inl, inr}
+use Rattle.std.proofs.Common.{◌≡◌, ℕ, suc, ◌+◌, ◌-◌, ◌<◌, ◌≤◌, Bool, true, false, cond, eqb, List, [], ◌∷◌, ◌++◌, length, get_or, take, drop, refl, sym, ap, ◌⊎◌, ◌||◌, ◌≢◌, ◌∙◌, append_assoc, arith, inl, inr}
 use Rattle.std.specs.List.{prefix_len}
 use Rattle.std.proofs.lemmas.Bool.{eqb-true}
 use Rattle.std.proofs.lemmas.Bool.Decides.{eqb_tells}
-use Rattle.std.proofs.lemmas.List.{append-nil, length-take}
-use Rattle.mcs_source.specs.Lexical.{Token, Word, Other, is_word_byte, is_blank, symbol, word_then, tokens_after, tokens}
+use Rattle.std.proofs.lemmas.List.{append-nil, length-take, take_all}
+use Rattle.mcs_source.specs.Lexical.{Token, Word, is_word_byte, is_blank, symbol, word_then, tokens_after, tokens}
 
 -- what comes after the end of a word
 abbrev pub after_word : List ℕ → List Token
@@ -81,10 +81,23 @@ word_first (b ∷ word) rest bytes n len some front back within =
     let front' : take (prefix_len is_word_byte bytes) bytes ≡ b ∷ word = rw (← len) (sym front) in
     word_ends [] bytes ∙ rw (front', after_word_is bytes, ← len, ← back) refl
 
--- a byte of no kind
-pub other_first : (b : ℕ) (rest : List ℕ) → prefix_len is_word_byte (b ∷ rest) ≡ 0 → prefix_len is_blank (b ∷ rest) ≡ 0 → b ≢ 59 → b ≢ 44 → b ≢ 58 → b ≢ 61 → tokens (b ∷ rest) ≡ Other ∷ tokens rest
-other_first b rest no_w no_b comment comma colon equals =
-    none_in_front (b ∷ rest) no_w ∙ rw (not_first is_blank b rest no_b, no_eq b 59 comment, no_eq b 44 comma, no_eq b 58 colon, no_eq b 61 equals) refl
+pub no_bytes : (bytes : List ℕ) → length bytes ≡ 0 → tokens bytes ≡ []
+unfolding tokens_after
+no_bytes [] e = refl
+no_bytes (b ∷ bytes) e = absurd (omega (arith, e))
+
+-- a comment
+pub comment_first : (bytes : List ℕ) → 1 ≤ length bytes → get_or bytes 0 0 ≡ 59 → tokens bytes ≡ []
+unfolding tokens_after
+comment_first [] some e = absurd (omega (arith, some))
+comment_first (b ∷ bytes) some e = rw e refl
+
+-- a byte that is not in a word, not a blank, and begins no comment
+pub symbol_first : (bytes : List ℕ) → 1 ≤ length bytes → get_or bytes 0 0 ≢ 59 → prefix_len is_word_byte bytes ≡ 0 → prefix_len is_blank bytes ≡ 0 → tokens bytes ≡ symbol (get_or bytes 0 0) ∷ tokens (take (length bytes - 1) (drop 1 bytes))
+symbol_first [] some other no_w no_b = absurd (omega (arith, some))
+symbol_first (b ∷ rest) some other no_w no_b =
+    let all : take (length (b ∷ rest) - 1) rest ≡ rest = take_all (length (b ∷ rest) - 1) rest (omega arith) in
+    none_in_front (b ∷ rest) no_w ∙ rw (not_first is_blank b rest no_b, no_eq b 59 other, all) refl
 
 pub trimmed_same : (line bytes : List ℕ) (n : ℕ) → n ≡ prefix_len is_blank line → bytes ≡ drop n line → tokens bytes ≡ tokens line
 trimmed_same line bytes n len back = rw (back, len) (sym (blanks_before line))
@@ -93,3 +106,5 @@ pub trimmed_bare : (line bytes : List ℕ) (n : ℕ) → n ≡ prefix_len is_bla
 trimmed_bare line bytes n len back = rw (back, len) (stops is_blank line)
 
 pub ruleset trimmed_rules = (trimmed_same, trimmed_bare)
+
+pub ruleset symbol_rules = (no_bytes, comment_first, symbol_first)

@@ -20,6 +20,8 @@ use Rattle.mcs_asm.specs.declared.fault.AsmFault.{AsmFault}
 use Rattle.mcs_source.specs.declared.fault.SourceFault.{SourceFault}
 use Rattle.mcs_model.specs.declared.op.Op.{Op}
 use Rattle.mcs_source.specs.Spelling.{spelling}
+use Rattle.mcs_source.specs.declared.mnemonic.Mnemonic.{Mnemonic}
+use Rattle.mcs_source.specs.declared.mnemonic.Mnemonic.TheVariants as m
 use Rattle.mcs_source.specs.Lexical as spec
 use Rattle.mcs_source.specs.Lines as lines
 use Rattle.mcs_model.specs.Images.{IsImageOf}
@@ -85,11 +87,20 @@ StepsTo view (Ok x) wanted = wanted ≡ Ok (view x)
 StepsTo view (Err NoMemory) wanted = Unit {0}
 StepsTo view (Err (Refused f)) wanted = wanted ≡ Err f
 
+-- the instruction that is wanted, or the fault
+abbrev pub GivesOp : Result Op SourceFault → Result (List ℕ) SourceFault → Type 0
+GivesOp (Ok o) wanted = wanted ≡ Ok (spelling o)
+GivesOp (Err f) wanted = wanted ≡ Err f
+
 -- the instruction of a statement that is not a `DB`; an `ORG` has none
 abbrev pub SaysOp : Result (Option Op) SourceFault → Result (List ℕ) SourceFault → Type 0
 SaysOp (Ok None) wanted = wanted ≡ Ok []
 SaysOp (Ok (Some o)) wanted = wanted ≡ Ok (spelling o)
 SaysOp (Err f) wanted = wanted ≡ Err f
+
+abbrev pub IsNotDb : Mnemonic → Type 0
+IsNotDb m.Db = ⊥
+IsNotDb mnemonic = Unit {0}
 
 abbrev pub IsNoData : lines.Statement → Type 0
 IsNoData (lines.Data vs) = ⊥

@@ -1,16 +1,17 @@
 //! The bytes that a statement spells.
 ghost use Rattle.std.specs.Prelude.{◌≡◌, ◌<◌, ◌≤◌, ◌/◌, ◌%◌, Bool, true, false, map, IfOk, length, nat_lt, Ok, Err, Some, option_map};
 ghost use Rattle.std.specs.List.{list_all};
+ghost use Rattle.mcs_source.specs.Lines.{Ldm, Bbl, Jun, Jms, Fim, Jcn, Isz};
 ghost use Rattle.mcs_source.specs.Spelling.{spelling};
 ghost use Rattle.mcs_source.specs.Assembly.{value_in, values_in, bytes_at, line_bytes, is_near, if_known, if_in_range, if_on_page};
-ghost use Rattle.mcs_asm.specs.View.{operand_view, statement_view, line_view, words_view, StepsTo, SaysOp, IsNoData};
+ghost use Rattle.mcs_asm.specs.View.{operand_view, statement_view, line_view, words_view, StepsTo, GivesOp, SaysOp, IsNoData};
 
 use crate::fault::{FaultKind, SourceFault};
 use crate::names::Names;
 use crate::statements::{Operand, SourceLine, Statement};
 use mcs_code::{Words, encode};
 use mcs_model::op::Op;
-use mcs_nibble::{Addr, Nibble};
+use mcs_nibble::{Addr, Nibble, PairNo, RegNo};
 use std::alloc::{AllocError, Global};
 
 /// The values of some operands; None where a name has none.
@@ -113,35 +114,92 @@ fn near(at: u16, target: Addr) -> Result<u8, SourceFault>
     }
 }
 
+/// The value of an operand, as a value of 0 to 15.
+fn nibble_value<'a>(names: &Names<'a>, operand: &Operand<'a>) -> Result<Nibble, SourceFault>
+    ensures { result ≡ if_known (value_in names.now.names (operand_view operand.now)) (λ n. if_in_range (nat_lt n 16) (Ok n)) }
+{
+    nibble(value(names, operand)?)
+}
+
+/// The value of an operand, as an address.
+fn target_value<'a>(names: &Names<'a>, operand: &Operand<'a>) -> Result<Addr, SourceFault>
+    ensures { result ≡ if_known (value_in names.now.names (operand_view operand.now)) (λ t. if_in_range (nat_lt t 4096) (Ok t)) }
+{
+    target(value(names, operand)?)
+}
+
+fn ldm<'a>(names: &Names<'a>, v: &Operand<'a>) -> Result<Op, SourceFault>
+    ensures { GivesOp result (bytes_at 0 names.now.names (Ldm (operand_view v.now))) }
+{
+    Ok(Op::Ldm(nibble_value(names, v)?))
+}
+
+fn bbl<'a>(names: &Names<'a>, v: &Operand<'a>) -> Result<Op, SourceFault>
+    ensures { GivesOp result (bytes_at 0 names.now.names (Bbl (operand_view v.now))) }
+{
+    Ok(Op::Bbl(nibble_value(names, v)?))
+}
+
+fn jun<'a>(names: &Names<'a>, t: &Operand<'a>) -> Result<Op, SourceFault>
+    ensures { GivesOp result (bytes_at 0 names.now.names (Jun (operand_view t.now))) }
+{
+    let t = target_value(names, t)?;
+    Ok(Op::Jun(t.page(), t.low()))
+}
+
+fn jms<'a>(names: &Names<'a>, t: &Operand<'a>) -> Result<Op, SourceFault>
+    ensures { GivesOp result (bytes_at 0 names.now.names (Jms (operand_view t.now))) }
+{
+    let t = target_value(names, t)?;
+    Ok(Op::Jms(t.page(), t.low()))
+}
+
+fn fim<'a>(names: &Names<'a>, pair: PairNo, v: &Operand<'a>) -> Result<Op, SourceFault>
+    ensures { GivesOp result (bytes_at 0 names.now.names (Fim pair (operand_view v.now))) }
+{
+    Ok(Op::Fim(pair, byte(value(names, v)?)?))
+}
+
+fn jcn<'a>(
+    at: u16,
+    names: &Names<'a>,
+    v: &Operand<'a>,
+    t: &Operand<'a>,
+) -> Result<Op, SourceFault>
+    requires { at ≤ 4096 }
+    ensures { GivesOp result (bytes_at at names.now.names (Jcn (operand_view v.now) (operand_view t.now))) }
+{
+    // Both values are looked up before one of them can be out of its range.
+    let v = value(names, v)?;
+    let t = value(names, t)?;
+    let v = nibble(v)?;
+    Ok(Op::Jcn(v, near(at, target(t)?)?))
+}
+
+fn isz<'a>(at: u16, names: &Names<'a>, register: RegNo, t: &Operand<'a>) -> Result<Op, SourceFault>
+    requires { at ≤ 4096 }
+    ensures { GivesOp result (bytes_at at names.now.names (Isz register (operand_view t.now))) }
+{
+    Ok(Op::Isz(register, near(at, target_value(names, t)?)?))
+}
+
 /// The instruction of a statement at an address; an `ORG` has none.
 fn op<'a>(at: u16, names: &Names<'a>, statement: &Statement<'a>) -> Result<Option<Op>, SourceFault>
     requires start { at ≤ 4096 }
     requires statement { IsNoData (statement_view statement.now) }
     ensures { SaysOp result (bytes_at at names.now.names (statement_view statement.now)) }
 {
-    let op = match statement {
-        Statement::Origin(_) | Statement::Data(_) => return Ok(None),
-        Statement::Whole(op) => *op,
-        Statement::Ldm(v) => Op::Ldm(nibble(value(names, v)?)?),
-        Statement::Bbl(v) => Op::Bbl(nibble(value(names, v)?)?),
-        Statement::Jun(t) => {
-            let t = target(value(names, t)?)?;
-            Op::Jun(t.page(), t.low())
-        }
-        Statement::Jms(t) => {
-            let t = target(value(names, t)?)?;
-            Op::Jms(t.page(), t.low())
-        }
-        Statement::Fim(p, v) => Op::Fim(*p, byte(value(names, v)?)?),
-        Statement::Jcn(v, t) => {
-            let v = value(names, v)?;
-            let t = value(names, t)?;
-            let v = nibble(v)?;
-            Op::Jcn(v, near(at, target(t)?)?)
-        }
-        Statement::Isz(r, t) => Op::Isz(*r, near(at, target(value(names, t)?)?)?),
-    };
-    Ok(Some(op))
+    match statement {
+        Statement::Origin(_) | Statement::Data(_) => Ok(None),
+        Statement::Whole(op) => Ok(Some(*op)),
+        Statement::Ldm(v) => Ok(Some(ldm(names, v)?)),
+        Statement::Bbl(v) => Ok(Some(bbl(names, v)?)),
+        Statement::Jun(t) => Ok(Some(jun(names, t)?)),
+        Statement::Jms(t) => Ok(Some(jms(names, t)?)),
+        Statement::Fim(pair, v) => Ok(Some(fim(names, *pair, v)?)),
+        Statement::Jcn(v, t) => Ok(Some(jcn(at, names, v, t)?)),
+        Statement::Isz(register, t) => Ok(Some(isz(at, names, *register, t)?)),
+    }
 }
 
 /// The words of an instruction, as the code table has them.

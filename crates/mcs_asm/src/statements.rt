@@ -4,7 +4,7 @@ ghost use Rattle.std.specs.Option.{option_copied};
 ghost use Rattle.mcs_source.specs.Lexical.{Word, Colon, Equals, tokens, Token};
 ghost use Rattle.mcs_source.specs.Lines.{Whole, word_only, word_first, name_of, operand_of, one_operand, one_number, one_register, one_pair, first_operand, first_register, first_pair, rest_if, list_item, operands_of, after_mnemonic, statement_of, nothing, rest_of, unlabelled, line_of};
 ghost use Rattle.mcs_source.specs.declared.mnemonic.Mnemonic.TheVariants.{Org, Jcn, Fim, Isz};
-ghost use Rattle.mcs_asm.specs.View.{operand_view, statement_view, line_view, NoLabel, NoDefinition};
+ghost use Rattle.mcs_asm.specs.View.{operand_view, statement_view, line_view, NoLabel, NoDefinition, IsNotDb};
 
 use crate::tokens::{Token, Tokens};
 use crate::words::{is_name, mnemonic_in, pair_named, register_named};
@@ -209,6 +209,33 @@ fn whole<'a>(op: Option<Op>) -> Option<Statement<'a>>
     Some(Statement::Whole(op))
 }
 
+/// The statement that a mnemonic begins, from what follows it. A `DB` is not read here.
+fn plain_statement<'a>(mnemonic: Mnemonic, tokens: &mut Tokens<'a>) -> Option<Statement<'a>>
+    requires { IsNotDb mnemonic }
+    ensures { option_map statement_view result ≡ after_mnemonic mnemonic tokens.old }
+{
+    match mnemonic {
+        Mnemonic::Db => None,
+        Mnemonic::Org => origin(tokens),
+        Mnemonic::Jcn => jump_if(tokens),
+        Mnemonic::Fim => fetch(tokens),
+        Mnemonic::Isz => count(tokens),
+        Mnemonic::Jun => one_operand(tokens).map(Statement::Jun),
+        Mnemonic::Jms => one_operand(tokens).map(Statement::Jms),
+        Mnemonic::Bbl => one_operand(tokens).map(Statement::Bbl),
+        Mnemonic::Ldm => one_operand(tokens).map(Statement::Ldm),
+        Mnemonic::Src => whole(one_pair(tokens).map(Op::Src)),
+        Mnemonic::Fin => whole(one_pair(tokens).map(Op::Fin)),
+        Mnemonic::Jin => whole(one_pair(tokens).map(Op::Jin)),
+        Mnemonic::Inc => whole(one_register(tokens).map(Op::Inc)),
+        Mnemonic::Add => whole(one_register(tokens).map(Op::Add)),
+        Mnemonic::Sub => whole(one_register(tokens).map(Op::Sub)),
+        Mnemonic::Ld => whole(one_register(tokens).map(Op::Ld)),
+        Mnemonic::Xch => whole(one_register(tokens).map(Op::Xch)),
+        Mnemonic::Bare(op) => nothing(op, tokens),
+    }
+}
+
 /// The statement that a mnemonic begins, from what follows it.
 fn statement_after<'a>(
     alloc: Global,
@@ -218,24 +245,8 @@ fn statement_after<'a>(
     ensures { IfOk result (λ s. option_map statement_view s ≡ after_mnemonic mnemonic tokens.old) }
 {
     match mnemonic {
-        Mnemonic::Org => Ok(origin(tokens)),
         Mnemonic::Db => Ok(operands(alloc, tokens)?.map(Statement::Data)),
-        Mnemonic::Jcn => Ok(jump_if(tokens)),
-        Mnemonic::Fim => Ok(fetch(tokens)),
-        Mnemonic::Isz => Ok(count(tokens)),
-        Mnemonic::Jun => Ok(one_operand(tokens).map(Statement::Jun)),
-        Mnemonic::Jms => Ok(one_operand(tokens).map(Statement::Jms)),
-        Mnemonic::Bbl => Ok(one_operand(tokens).map(Statement::Bbl)),
-        Mnemonic::Ldm => Ok(one_operand(tokens).map(Statement::Ldm)),
-        Mnemonic::Src => Ok(whole(one_pair(tokens).map(Op::Src))),
-        Mnemonic::Fin => Ok(whole(one_pair(tokens).map(Op::Fin))),
-        Mnemonic::Jin => Ok(whole(one_pair(tokens).map(Op::Jin))),
-        Mnemonic::Inc => Ok(whole(one_register(tokens).map(Op::Inc))),
-        Mnemonic::Add => Ok(whole(one_register(tokens).map(Op::Add))),
-        Mnemonic::Sub => Ok(whole(one_register(tokens).map(Op::Sub))),
-        Mnemonic::Ld => Ok(whole(one_register(tokens).map(Op::Ld))),
-        Mnemonic::Xch => Ok(whole(one_register(tokens).map(Op::Xch))),
-        Mnemonic::Bare(op) => Ok(nothing(op, tokens)),
+        _ => Ok(plain_statement(mnemonic, tokens)),
     }
 }
 

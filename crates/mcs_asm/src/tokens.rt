@@ -1,7 +1,7 @@
 //! The tokens of a line.
 ghost use Rattle.std.specs.Prelude.{◌≡◌, ◌≤◌, ◌∷◌, [], length, drop, IsTrue, ◌↔◌, MatchOption};
 ghost use Rattle.std.specs.List.{prefix_len};
-ghost use Rattle.mcs_source.specs.Lexical.{is_word_byte, is_blank, tokens};
+ghost use Rattle.mcs_source.specs.Lexical.{is_word_byte, is_blank, symbol, tokens};
 ghost use Rattle.mcs_asm.specs.View.{token_view};
 
 use std::marker::Model;
@@ -65,20 +65,33 @@ fn trimmed(line: &[u8]) -> &[u8]
     bytes
 }
 
-/// The first token of a line that begins with neither a word nor a blank.
-#[tactic(auto, using(crate::proofs::Lexing::other_first), unfolding(mcs_source::specs::Lexical::tokens_after))]
-fn symbol(bytes: &[u8]) -> Option<(Token<'_>, &[u8])>
+/// The token of a byte that is not in a word.
+fn symbol<'a>(b: u8) -> Token<'a>
+    ensures { token_view result ≡ symbol b }
+{
+    match b {
+        b',' => Token::Comma,
+        b':' => Token::Colon,
+        b'=' => Token::Equals,
+        _ => Token::Other,
+    }
+}
+
+/// The first token of a line that begins with neither a word nor a blank, and what follows it; None
+/// where the line, or all of it but a comment, ends.
+#[tactic(auto, using(crate::proofs::Lexing::symbol_rules))]
+fn first_symbol(bytes: &[u8]) -> Option<(Token<'_>, &[u8])>
     requires no_word { prefix_len is_word_byte bytes.now ≡ 0 }
     requires no_blank { prefix_len is_blank bytes.now ≡ 0 }
     ensures { MatchOption result (tokens bytes.now ≡ []) (λ x. tokens bytes.now ≡ token_view x.0 ∷ tokens x.1.now) }
 {
-    match bytes {
-        [] | [b';', ..] => None,
-        [b',', rest @ ..] => Some((Token::Comma, rest)),
-        [b':', rest @ ..] => Some((Token::Colon, rest)),
-        [b'=', rest @ ..] => Some((Token::Equals, rest)),
-        [_, rest @ ..] => Some((Token::Other, rest)),
+    let [b, rest @ ..] = bytes else {
+        return None;
+    };
+    if *b == b';' {
+        return None;
     }
+    Some((symbol(*b), rest))
 }
 
 /// The first token of a line, and what follows it.
@@ -89,7 +102,7 @@ fn front(line: &[u8]) -> Option<(Token<'_>, &[u8])>
     let bytes = trimmed(line);
     let len = word_len(bytes);
     if len == 0 {
-        return symbol(bytes);
+        return first_symbol(bytes);
     }
     let (word, rest) = bytes.split_at(len);
     Some((Token::Word(word), rest))
