@@ -1,7 +1,13 @@
 -- How a file is left, and what is found in it then. (Our own choice.)
 use Rattle.std.specs.Prelude.{◌≡◌, ◌⊎◌, ℕ, ◌≤◌, List, ◌∷◌, ◌++◌}
 use Rattle.mcs_host.specs.FileCalls.{FileCall, Wrote, Failed, clock_of, images_after}
+use Rattle.mcs_disk.specs.Disk.{DiskState}
+use Rattle.mcs_host.specs.FileDisk.{file_state}
 use Rattle.mcs_host.specs.declared.file_disk.FileDisk.{FileDisk}
+
+-- what contracts see of a file as a disk
+abbrev pub as_disk : FileDisk → DiskState
+as_disk file = file_state file.faults file.bytes.items file.history
 
 -- what the next one to open the file finds, after a close, a kill or a power cut
 abbrev pub found_in : FileDisk → List ℕ

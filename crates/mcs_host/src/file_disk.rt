@@ -30,6 +30,7 @@ pub struct FileDisk {
 }
 
 impl FileDisk {
+    ghost use Rattle.mcs_host.specs.Ending.{as_disk};
     ghost use Rattle.mcs_host.specs.FileDisk.{IsOpened};
 
     /// Opens a file for reading and writing. Where `make` is true, the file is made where it is not there, and filled with
@@ -42,9 +43,9 @@ impl FileDisk {
         file: &str,
         make: bool,
     ) -> Result<FileDisk, FileFault>
-        ensures opened { IfOk result (λ disk. IsOpened (⟦<FileDisk as Disk>⟧.state disk)) }
-        ensures at_most { IfOk result (λ disk. (⟦<FileDisk as Disk>⟧.state disk).size ≤ FILE_SIZE + 1) }
-        ensures not_empty { IsTrue make → IfOk result (λ disk. 0 < (⟦<FileDisk as Disk>⟧.state disk).size) }
+        ensures opened { IfOk result (λ disk. IsOpened (as_disk disk)) }
+        ensures at_most { IfOk result (λ disk. (as_disk disk).size ≤ FILE_SIZE + 1) }
+        ensures not_empty { IsTrue make → IfOk result (λ disk. 0 < (as_disk disk).size) }
     {
         // First, so that where there is no memory the host is asked for nothing.
         let mut bytes = zeros(alloc, MOST_BYTES)?;
@@ -93,10 +94,10 @@ fn overwrite(bytes: &mut [u8], at: usize, from: &[u8])
 }
 
 impl Disk for FileDisk {
-    ghost use Rattle.mcs_host.specs.FileDisk.{file_state};
+    ghost use Rattle.mcs_host.specs.Ending.{as_disk};
     ghost use Rattle.mcs_host.specs.FileLaws.{file_lawful};
 
-    ghost state = { λ d. file_state d.faults d.bytes.items d.history };
+    ghost state = { as_disk };
 
     ghost lawful = { λ d honest. file_lawful d.faults d.bytes.items d.history d.kept };
 
@@ -105,11 +106,12 @@ impl Disk for FileDisk {
     }
 
     fn read(&mut self, at: usize, into: &mut [u8]) -> Result<(), DiskFault>
-        requires { at + length into.old ≤ (⟦<FileDisk as Disk>⟧.state self.old).size }
-        ensures call { IsCall (⟦<FileDisk as Disk>⟧.state self.old) (⟦<FileDisk as Disk>⟧.state self.new) result }
-        ensures honest { (⟦<FileDisk as Disk>⟧.state self.old).honest → Reads at into.old into.new (⟦<FileDisk as Disk>⟧.state self.old) (⟦<FileDisk as Disk>⟧.state self.new) result }
+        requires { at + length into.old ≤ (as_disk self.old).size }
+        ensures call { IsCall (as_disk self.old) (as_disk self.new) result }
+        ensures honest { (as_disk self.old).honest → Reads at into.old into.new
+            (as_disk self.old) (as_disk self.new) result }
         // On every file, honest or not.
-        ensures given { OnOk result (into.new ≡ part at (length into.old) (⟦<FileDisk as Disk>⟧.state self.old).bytes) }
+        ensures given { OnOk result (into.new ≡ part at (length into.old) (as_disk self.old).bytes) }
     {
         let answer = self.file.read_exact_at(into, at as u64);
         if answer.is_err() || !self.holds(at, into) {
@@ -120,11 +122,13 @@ impl Disk for FileDisk {
     }
 
     fn write(&mut self, at: usize, from: &[u8]) -> Result<(), DiskFault>
-        requires { at + length from.now ≤ (⟦<FileDisk as Disk>⟧.state self.old).size }
-        ensures call { IsCall (⟦<FileDisk as Disk>⟧.state self.old) (⟦<FileDisk as Disk>⟧.state self.new) result }
-        ensures honest { (⟦<FileDisk as Disk>⟧.state self.old).honest → Writes at from.now (⟦<FileDisk as Disk>⟧.state self.old) (⟦<FileDisk as Disk>⟧.state self.new) result }
+        requires { at + length from.now ≤ (as_disk self.old).size }
+        ensures call { IsCall (as_disk self.old) (as_disk self.new) result }
+        ensures honest { (as_disk self.old).honest → Writes at from.now
+            (as_disk self.old) (as_disk self.new) result }
         // Also where the write failed: it may have reached any part of the range.
-        ensures torn { (d c : List ℕ) → (⟦<FileDisk as Disk>⟧.state self.old).images d → Torn at (length from.now) d c → (⟦<FileDisk as Disk>⟧.state self.new).images c }
+        ensures torn { (d c : List ℕ) → (as_disk self.old).images d
+            → Torn at (length from.now) d c → (as_disk self.new).images c }
     {
         if self.file.write_all_at(from, at as u64).is_err() {
             self.history.note(&Call::FailedWrite(at), from);

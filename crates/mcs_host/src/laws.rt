@@ -2,35 +2,34 @@
 //! does nothing.
 ghost use Rattle.std.specs.Prelude.{◌≡◌, ◌↔◌, ℕ, List};
 ghost use Rattle.mcs_disk.specs.PowerCut.{IsLeftByCut};
-ghost use Rattle.mcs_host.specs.Ending.{IsFoundAfterTheEnd, IsFoundWith, IsLeftSince, found_in};
+ghost use Rattle.mcs_host.specs.Ending.{IsFoundAfterTheEnd, IsFoundWith, IsLeftSince, as_disk, found_in};
 ghost use Rattle.mcs_host.specs.FileDisk.{IsOpened};
 
 use crate::FileDisk;
-use mcs_disk::Disk;
 
 /// Where an honest file was left after some first part of its calls, at a clock of t or later, what is found in it is an image since t.
 pub fn what_is_found_is_an_image()
-    ensures { (t : ℕ) (file : FileDisk) → (⟦<FileDisk as Disk>⟧.state file).honest
-        → IsLeftSince t file → (⟦<FileDisk as Disk>⟧.state file).since t (found_in file) }
+    ensures { (t : ℕ) (file : FileDisk) → (as_disk file).honest
+        → IsLeftSince t file → (as_disk file).since t (found_in file) }
 {}
 
 /// The file that is opened again with what is found in it, and is honest from then on, is what a power cut since t leaves.
 pub fn opened_again_is_left_by_cut()
-    ensures { (t : ℕ) (file again : FileDisk) → (⟦<FileDisk as Disk>⟧.state file).honest
-        → IsLeftSince t file → (⟦<FileDisk as Disk>⟧.state again).honest
-        → IsOpened (⟦<FileDisk as Disk>⟧.state again)
-        → (⟦<FileDisk as Disk>⟧.state again).bytes ≡ found_in file
-        → IsLeftByCut t (⟦<FileDisk as Disk>⟧.state file) (⟦<FileDisk as Disk>⟧.state again) }
+    ensures { (t : ℕ) (file again : FileDisk) → (as_disk file).honest
+        → IsLeftSince t file → (as_disk again).honest
+        → IsOpened (as_disk again)
+        → (as_disk again).bytes ≡ found_in file
+        → IsLeftByCut t (as_disk file) (as_disk again) }
 {}
 
 /// A file is honest exactly where what is found in it after the end is an image after the calls by then.
 pub fn honest_where_an_image_is_found()
-    ensures { (file : FileDisk) → (⟦<FileDisk as Disk>⟧.state file).honest ↔ IsFoundAfterTheEnd file }
+    ensures { (file : FileDisk) → (as_disk file).honest ↔ IsFoundAfterTheEnd file }
 {}
 
 /// The premise can hold, of a file that was just opened and of any other: whatever image its calls have left, there is an honest file
 /// of which all that was told is the same, and in which that image is found after the end. So no answer of a file refutes the premise.
 pub fn each_image_may_be_found()
-    ensures { (file : FileDisk) (c : List ℕ) → (⟦<FileDisk as Disk>⟧.state file).images c
-        → (like : FileDisk) × (⟦<FileDisk as Disk>⟧.state like).honest × IsFoundWith c file like }
+    ensures { (file : FileDisk) (c : List ℕ) → (as_disk file).images c
+        → (like : FileDisk) × (as_disk like).honest × IsFoundWith c file like }
 {}

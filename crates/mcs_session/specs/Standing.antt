@@ -26,5 +26,6 @@ pub record SessionState : Type 1 where
   pub standing : Standing
   pub disk : DiskState
 
-abbrev pub session_state : {D : Type 0} → DiskState → SessionView D → SessionState
-session_state disk s = record { standing = record { live = s.live; state = s.state }; disk = disk }
+-- the same, where `state_of` is what contracts see of a disk
+abbrev pub session_state : {D : Type 0} → (D → DiskState) → SessionView D → SessionState
+session_state state_of s = record { standing = record { live = s.live; state = s.state }; disk = state_of s.disk }

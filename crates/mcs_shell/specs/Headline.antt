@@ -12,8 +12,8 @@ use Rattle.mcs_session.specs.Standing.{SessionState}
 use Rattle.mcs_shell.specs.declared.ends.ShellEnd.{ShellEnd}
 use Rattle.mcs_shell.specs.declared.ends.ShellEnd.TheVariants.{End, ReadFault, WriteFault, DeviceFault, InputLimit, NoMemory}
 use Rattle.mcs_shell.specs.declared.outcome.Outcome.TheVariants.{Device}
-use Rattle.mcs_shell.specs.Shell.{EndsBy, LoopRan, Ran}
-use Rattle.mcs_shell.specs.Stage.{Stage}
+use Rattle.mcs_shell.specs.Shell.{EndsBy, LoopRan, Ran, Run}
+use Rattle.mcs_shell.specs.Stage.{Stage, staged}
 use Rattle.mcs_shell.specs.Transcript.{Served, all_commands, all_reached}
 
 -- the inputs that a run met, in turn, each with what came of it; the last one may have been answered in part
@@ -36,6 +36,9 @@ inputs_met End reader reader' a b began = met_in_loop End reader reader' (record
 inputs_met ReadFault reader reader' a b began = met_in_loop ReadFault reader reader' (record { session = a.session; out = began.started }) b began.ran
 inputs_met DeviceFault reader reader' a b began = met_in_loop DeviceFault reader reader' (record { session = a.session; out = began.started }) b began.ran
 inputs_met InputLimit reader reader' a b began = met_in_loop InputLimit reader reader' (record { session = a.session; out = began.started }) b began.ran
+
+abbrev pub inputs_of : {D : Type 0} {state_of : D → DiskState} → Run state_of → Served
+inputs_of {state_of = state_of} run = inputs_met run.end run.reader run.reader' (staged state_of run.before run.out) (staged state_of run.after run.out') run.ran
 
 -- A run met these inputs, from one session to the disk that it left. Each command that it answered `ok` was acknowledged at
 -- its moment. A power cut at any time of the run left a disk (`state_of` is what contracts see of one): opened, it gives the

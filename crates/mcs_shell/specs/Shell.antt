@@ -8,8 +8,9 @@ use Rattle.mcs_shell.specs.declared.outcome.Halt.TheVariants as halt
 use Rattle.mcs_model.specs.declared.limits.TheConstants.{INPUT_BYTES}
 use Rattle.mcs_shell.specs.Inputs.{Input, inputs}
 use Rattle.mcs_shell.specs.declared.shell.TheConstants.{CHUNK_BYTES}
-use Rattle.mcs_session.specs.Standing.{SessionState, standing_after}
-use Rattle.mcs_shell.specs.Stage.{Stage}
+use Rattle.mcs_disk.specs.Disk.{DiskState}
+use Rattle.mcs_session.specs.Standing.{SessionState, SessionView, standing_after}
+use Rattle.mcs_shell.specs.Stage.{Stage, staged}
 use Rattle.mcs_shell.specs.Transcript.{Served, Went, all_commands, transcript}
 use Rattle.mcs_answers.specs.AnswerTexts.{session_text}
 use Rattle.mcs_session.specs.Kept.{Carries, IsOpenOnHonestDisk, IsSettled}
@@ -98,6 +99,18 @@ RanGiven Given end reader reader' a b = Began Given end reader reader' a b
 -- the same under the premise that the session is open and its disk honest
 abbrev pub Ran : ShellEnd → Option (List ℕ) → Option (List ℕ) → Stage → Stage → Type 0
 Ran = RanGiven IsOpenOnHonestDisk
+
+-- A run of the shell: how it ended, what the reader had left, what the writer held, and the session (`state_of` is what
+-- contracts see of its disk), before and after.
+pub record Run {D : Type 0} (state_of : D → DiskState) : Type 0 where
+  pub end : ShellEnd
+  pub reader : Option (List ℕ)
+  pub reader' : Option (List ℕ)
+  pub before : SessionView D
+  pub after : SessionView D
+  pub out : Option (List ℕ)
+  pub out' : Option (List ℕ)
+  pub ran : Ran end reader reader' (staged state_of before out) (staged state_of after out')
 
 -- a read gave these n bytes, none only at the end
 pub record ReadSome (n most : ℕ) (old new : Option (List ℕ)) (bytes : List ℕ) : Type 0 where

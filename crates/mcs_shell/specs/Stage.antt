@@ -10,5 +10,5 @@ pub record Stage : Type 1 where
   pub out : Option (List ℕ)
 
 -- the same with what its shell has written, where the writer tells it
-abbrev pub staged : {D : Type 0} → DiskState → SessionView D → Option (List ℕ) → Stage
-staged disk s out = record { session = session_state disk s; out = out }
+abbrev pub staged : {D : Type 0} → (D → DiskState) → SessionView D → Option (List ℕ) → Stage
+staged state_of s out = record { session = session_state state_of s; out = out }

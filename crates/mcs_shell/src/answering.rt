@@ -37,7 +37,8 @@ fn answer_change<D: Disk + Drop>(
     session: &mut Session<D>,
     answer: &mut Answer,
 ) -> Outcome
-    ensures { Answered (session_state (D.state session.old.disk) session.old) (Line (Change command.now)) result answer.new (session_state (D.state session.new.disk) session.new) }
+    ensures { Answered (session_state D.state session.old) (Line (Change command.now)) result answer.new
+        (session_state D.state session.new) }
 {
     match session.apply(command) {
         Ok(reply) => {
@@ -74,7 +75,8 @@ pub(crate) fn answer_request<D: Disk + Drop>(
     answer: &mut Answer,
 ) -> Outcome
     requires { answer.old ≡ [] }
-    ensures { Answered (session_state (D.state session.old.disk) session.old) (Line request.now) result answer.new (session_state (D.state session.new.disk) session.new) }
+    ensures { Answered (session_state D.state session.old) (Line request.now) result answer.new
+        (session_state D.state session.new) }
 {
     match request {
         Request::Nothing => Outcome::Plain,
@@ -107,7 +109,8 @@ pub(crate) fn answer_text<D: Disk + Drop>(
     session: &mut Session<D>,
     answer: &mut Answer,
 ) -> Outcome
-    ensures { Answered (session_state (D.state session.old.disk) session.old) (judged_text kind text.now) result answer.new (session_state (D.state session.new.disk) session.new) }
+    ensures { Answered (session_state D.state session.old) (judged_text kind text.now) result answer.new
+        (session_state D.state session.new) }
 {
     if let Some(fault) = text_fault(text) {
         answer.tell_refusal(fault.number());

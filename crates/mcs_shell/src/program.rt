@@ -2,10 +2,11 @@
 ghost use Rattle.std.specs.Prelude.{◌≡◌, ◌⊎◌, IfOk, IfErr, OnErr, None, true, map};
 ghost use Rattle.std.specs.Process.{exit_status};
 ghost use Rattle.mcs_host.specs.CommandLine.{chosen, takes_words};
+ghost use Rattle.mcs_host.specs.Ending.{as_disk};
 ghost use Rattle.mcs_host.specs.FileDisk.{IsOpened};
 ghost use Rattle.mcs_host.specs.declared.file_disk.FileDisk.{FileDisk};
 ghost use Rattle.mcs_host.specs.declared.file_fault.FileFault.{FileFault};
-ghost use Rattle.mcs_shell.specs.Program.{Begins, IsRefusedBy, RanToStatus, ServedAsChosen};
+ghost use Rattle.mcs_shell.specs.Program.{IsBegunOn, IsRefusedWith, RanToStatus, ServedAsChosen};
 ghost use Rattle.mcs_shell.specs.Shell.{Ran};
 ghost use Rattle.mcs_shell.specs.RefusalNumbers.{refusal_number};
 ghost use Rattle.mcs_shell.specs.Stage.{staged};
@@ -71,8 +72,9 @@ pub fn session_on<D: Disk + Drop>(
     choice: &Choice,
     opened: Result<D, FileFault>,
 ) -> Result<Session<D>, Refusal>
-    ensures begun { IfOk opened (λ disk. IfOk result (λ session. Begins choice.now (D.state disk) (D.state session.disk) session.live session.state)) }
-    ensures refused { IfOk opened (λ disk. IfErr result (λ refusal. (left : D) × IsRefusedBy choice.now (D.state disk) (D.state left) (refusal_number refusal))) }
+    ensures begun { IfOk opened (λ disk. IfOk result (λ session. IsBegunOn D.state choice.now disk session)) }
+    ensures refused { IfOk opened (λ disk. IfErr result (λ refusal.
+        IsRefusedWith D.state choice.now disk (refusal_number refusal))) }
     ensures unopened { IfErr opened (λ fault. result ≡ Err (Refusal.File fault)) }
 {
     let disk = match opened {
@@ -93,11 +95,11 @@ pub fn session_on<D: Disk + Drop>(
 
 /// Makes or opens the session in a file, or tells why there is none.
 pub fn session_in(rt: &HostRuntime, choice: &Choice) -> Result<Session<FileDisk>, Refusal>
-    ensures begun { IfOk result (λ session. (disk : FileDisk) × IsOpened (⟦<FileDisk as Disk>⟧.state disk)
-        × Begins choice.now (⟦<FileDisk as Disk>⟧.state disk) (⟦<FileDisk as Disk>⟧.state session.disk) session.live session.state) }
+    ensures begun { IfOk result (λ session. (disk : FileDisk) × IsOpened (as_disk disk)
+        × IsBegunOn as_disk choice.now disk session) }
     ensures refused { IfErr result (λ refusal. ((fault : FileFault) × (refusal ≡ Refusal.File fault))
-        ⊎ ((disk : FileDisk) × (left : FileDisk) × IsOpened (⟦<FileDisk as Disk>⟧.state disk)
-        × IsRefusedBy choice.now (⟦<FileDisk as Disk>⟧.state disk) (⟦<FileDisk as Disk>⟧.state left) (refusal_number refusal))) }
+        ⊎ ((disk : FileDisk) × IsOpened (as_disk disk)
+        × IsRefusedWith as_disk choice.now disk (refusal_number refusal))) }
 {
     let alloc = rt.alloc();
     let make = matches!(choice, Choice::New(_));
@@ -114,10 +116,13 @@ pub fn serve<R: Read, W: Write, D: Disk + Drop>(
     session: &mut Session<D>,
     file: &str,
 ) -> io::Result<ExitCode>
-    ensures ran { IfOk result (λ code. RanToStatus (exit_status code) (R.remaining reader.old) (R.remaining reader.new)
-        (staged (D.state session.old.disk) session.old (W.contents writer.old)) (staged (D.state session.new.disk) session.new (W.contents writer.new))) }
+    ensures ran { IfOk result (λ code. RanToStatus (exit_status code)
+        (R.remaining reader.old) (R.remaining reader.new)
+        (staged D.state session.old (W.contents writer.old))
+        (staged D.state session.new (W.contents writer.new))) }
     ensures untold { OnErr result (Ran ShellEnd.NoMemory (R.remaining reader.old) (R.remaining reader.new)
-        (staged (D.state session.old.disk) session.old (W.contents writer.old)) (staged (D.state session.new.disk) session.new (W.contents writer.new))) }
+        (staged D.state session.old (W.contents writer.old))
+        (staged D.state session.new (W.contents writer.new))) }
 {
     let end = run_shell(rt.alloc(), reader, writer, session);
     let left = match end {
@@ -130,9 +135,11 @@ pub fn serve<R: Read, W: Write, D: Disk + Drop>(
 
 /// Runs the bench by these words, the program's name first: session, shell, exit status.
 pub fn run_words<S: AsStr>(rt: &HostRuntime, words: &[S]) -> io::Result<ExitCode>
-    ensures usage { IfOk result (λ code. exit_status code ≡ WRONG_WORDS → takes_words (map S.text words.entry.now) ≡ true → chosen (map S.text words.entry.now) ≡ None) }
-    ensures status { IfOk result (λ code. (exit_status code ≡ WRONG_WORDS) ⊎ ((exit_status code ≡ REFUSED)
-        ⊎ ServedAsChosen ⟦<FileDisk as Disk>⟧.state (chosen (map S.text words.entry.now)) (exit_status code))) }
+    ensures usage { IfOk result (λ code. exit_status code ≡ WRONG_WORDS
+        → takes_words (map S.text words.entry.now) ≡ true → chosen (map S.text words.entry.now) ≡ None) }
+    ensures status { IfOk result (λ code. (exit_status code ≡ WRONG_WORDS)
+        ⊎ ((exit_status code ≡ REFUSED)
+        ⊎ ServedAsChosen as_disk (chosen (map S.text words.entry.now)) (exit_status code))) }
 {
     let choice = match choice(rt.alloc(), words) {
         Ok(choice) => choice,

@@ -39,8 +39,8 @@ fn serve_request<W: Write, D: Disk + Drop>(
     writer: &mut W,
     session: &mut Session<D>,
 ) -> Result<(), Halt>
-    ensures { ServedLine result (staged (D.state session.old.disk) session.old (W.contents writer.old)) (Line request)
-        (staged (D.state session.new.disk) session.new (W.contents writer.new)) }
+    ensures { ServedLine result (staged D.state session.old (W.contents writer.old)) (Line request)
+        (staged D.state session.new (W.contents writer.new)) }
 {
     let mut answer = Answer::new();
     let outcome = answer_request(alloc, &request, session, &mut answer);
@@ -55,8 +55,8 @@ fn serve_text<W: Write, D: Disk + Drop>(
     writer: &mut W,
     session: &mut Session<D>,
 ) -> Result<(), Halt>
-    ensures { ServedLine result (staged (D.state session.old.disk) session.old (W.contents writer.old)) (judged_text kind text.now)
-        (staged (D.state session.new.disk) session.new (W.contents writer.new)) }
+    ensures { ServedLine result (staged D.state session.old (W.contents writer.old))
+        (judged_text kind text.now) (staged D.state session.new (W.contents writer.new)) }
 {
     let mut answer = Answer::new();
     let outcome = answer_text(alloc, kind, text, session, &mut answer);
@@ -68,8 +68,8 @@ pub(crate) fn serve_no_end<W: Write, D: Disk + Drop>(
     writer: &mut W,
     session: &mut Session<D>,
 ) -> Result<(), Halt>
-    ensures { ServedLine result (staged (D.state session.old.disk) session.old (W.contents writer.old)) (BadText NoEnd)
-        (staged (D.state session.new.disk) session.new (W.contents writer.new)) }
+    ensures { ServedLine result (staged D.state session.old (W.contents writer.old))
+        (BadText NoEnd) (staged D.state session.new (W.contents writer.new)) }
 {
     let mut answer = Answer::new();
     answer.tell_refusal(TextFault::NoEnd.number());
@@ -84,11 +84,11 @@ pub(crate) fn end_line<W: Write, D: Disk + Drop>(
     session: &mut Session<D>,
 ) -> Result<(), Halt>
     requires { HasNoFeed unfinished.old.line }
-    ensures ok { OnOk result (WentFurther (staged (D.state session.old.disk) session.old (W.contents writer.old))
-        (staged (D.state session.new.disk) session.new (W.contents writer.new)) unfinished.old unfinished.new (10 ∷ [])) }
+    ensures ok { OnOk result (WentFurther (staged D.state session.old (W.contents writer.old))
+        (staged D.state session.new (W.contents writer.new)) unfinished.old unfinished.new (10 ∷ [])) }
     ensures empty { OnOk result (length unfinished.new.line ≡ 0) }
-    ensures err { IfErr result (λ halt. Stopped halt (staged (D.state session.old.disk) session.old (W.contents writer.old))
-        (staged (D.state session.new.disk) session.new (W.contents writer.new)) unfinished.old (10 ∷ [])) }
+    ensures err { IfErr result (λ halt. Stopped halt (staged D.state session.old (W.contents writer.old))
+        (staged D.state session.new (W.contents writer.new)) unfinished.old (10 ∷ [])) }
 {
     let line = without_return(unfinished.line());
     match unfinished.text() {
@@ -143,10 +143,10 @@ pub(crate) fn serve_chunk<W: Write, D: Disk + Drop>(
     session: &mut Session<D>,
 ) -> Result<(), Halt>
     requires { HasNoFeed unfinished.old.line }
-    ensures ok { OnOk result (WentFurther (staged (D.state session.old.disk) session.old (W.contents writer.old))
-        (staged (D.state session.new.disk) session.new (W.contents writer.new)) unfinished.old unfinished.new chunk.now) }
-    ensures err { IfErr result (λ halt. Stopped halt (staged (D.state session.old.disk) session.old (W.contents writer.old))
-        (staged (D.state session.new.disk) session.new (W.contents writer.new)) unfinished.old chunk.now) }
+    ensures ok { OnOk result (WentFurther (staged D.state session.old (W.contents writer.old))
+        (staged D.state session.new (W.contents writer.new)) unfinished.old unfinished.new chunk.now) }
+    ensures err { IfErr result (λ halt. Stopped halt (staged D.state session.old (W.contents writer.old))
+        (staged D.state session.new (W.contents writer.new)) unfinished.old chunk.now) }
 {
     let mut rest = chunk;
     while let Some((front, back)) = split_line(rest) {

@@ -54,8 +54,8 @@ fn finish_text<W: Write, D: Disk + Drop>(
     session: &mut Session<D>,
 ) -> ShellEnd
     requires { length unfinished.now.line ≡ 0 }
-    ensures { FinishedBy result unfinished.now (staged (D.state session.old.disk) session.old (W.contents writer.old))
-        (staged (D.state session.new.disk) session.new (W.contents writer.new)) }
+    ensures { FinishedBy result unfinished.now (staged D.state session.old (W.contents writer.old))
+        (staged D.state session.new (W.contents writer.new)) }
 {
     match unfinished.text() {
         None => ShellEnd::End,
@@ -74,8 +74,8 @@ fn finish<W: Write, D: Disk + Drop>(
     session: &mut Session<D>,
 ) -> ShellEnd
     requires { HasNoFeed unfinished.old.line }
-    ensures { FinishedBy result unfinished.old (staged (D.state session.old.disk) session.old (W.contents writer.old))
-        (staged (D.state session.new.disk) session.new (W.contents writer.new)) }
+    ensures { FinishedBy result unfinished.old (staged D.state session.old (W.contents writer.old))
+        (staged D.state session.new (W.contents writer.new)) }
 {
     if unfinished.line().is_empty() {
         return finish_text(unfinished, writer, session);
@@ -97,7 +97,8 @@ fn run_loop<R: Read, W: Write, D: Disk + Drop>(
     requires some { 0 < length buffer.old }
     requires chunk { length buffer.old ≤ CHUNK_BYTES }
     ensures { LoopSettled result (R.remaining reader.old) (R.remaining reader.new)
-        (staged (D.state session.old.disk) session.old (W.contents writer.old)) (staged (D.state session.new.disk) session.new (W.contents writer.new)) }
+        (staged D.state session.old (W.contents writer.old))
+        (staged D.state session.new (W.contents writer.new)) }
 {
     let mut unfinished = Unfinished::new();
     let mut total = 0;
@@ -132,7 +133,8 @@ pub fn run_shell<R: Read, W: Write, D: Disk + Drop>(
     session: &mut Session<D>,
 ) -> ShellEnd
     ensures { Ran result (R.remaining reader.old) (R.remaining reader.new)
-        (staged (D.state session.old.disk) session.old (W.contents writer.old)) (staged (D.state session.new.disk) session.new (W.contents writer.new)) }
+        (staged D.state session.old (W.contents writer.old))
+        (staged D.state session.new (W.contents writer.new)) }
 {
     let seq = session.bench().seq();
     let Ok(mut buffer) = vec![in alloc; 0u8; CHUNK_BYTES] else {

@@ -13,12 +13,16 @@ returns-in-Ok-session_in-clause-status g c =
       chosen_is = c.in-Ok.ensures.given;
       disk = found.0;
       opened = found.1;
-      session = c.in-Ok-session_in.session;
+      run = record {
+        end = ran.end;
+        reader = _;
+        reader' = _;
+        before = c.in-Ok-session_in.session;
+        after = c.serve.new.session;
+        out = _;
+        out' = _;
+        ran = ran.ran;
+      };
       begun = found.2;
-      reader = _;
-      reader' = _;
-      out = _;
-      out' = _;
-      left = c.serve.new.session;
-      ran = ran;
+      status_is = ran.status_is;
     }))) c.serve.ensures.ran

@@ -1,37 +1,34 @@
 use Rattle.std.proofs.Common.{◌≡◌, ◌⊎◌, Result, Ok, Err, IfOk, IfErr, inl, inr}
-use Rattle.mcs_disk.specs.Disk.{DiskState}
-use Rattle.mcs_host.specs.FileDisk.{IsOpened, file_state}
+use Rattle.mcs_host.specs.Ending.{as_disk}
+use Rattle.mcs_host.specs.FileDisk.{IsOpened}
 use Rattle.mcs_host.specs.declared.file_disk.FileDisk.{FileDisk}
 use Rattle.mcs_host.specs.declared.file_fault.FileFault.{FileFault}
 use Rattle.mcs_host.specs.declared.words.Choice.{Choice}
 use Rattle.mcs_session.specs.Standing.{SessionView}
-use Rattle.mcs_shell.specs.Program.{Begins, IsRefusedBy}
+use Rattle.mcs_shell.specs.Program.{IsBegunOn, IsRefusedWith}
 use Rattle.mcs_shell.specs.RefusalNumbers.{refusal_number}
 use Rattle.mcs_shell.specs.declared.refusal.Refusal.{Refusal}
 use Rattle.mcs_shell.specs.declared.refusal.Refusal.TheVariants as refusal
 use Rattle.mcs_shell.proofs.program.session_in.Goals as goal
 
-abbrev state_of : FileDisk → DiskState
-state_of disk = file_state disk.faults disk.bytes.items disk.history
-
 begun_on : (choice : Choice) (opened : Result FileDisk FileFault) (result : Result (SessionView FileDisk) Refusal)
-    → IfOk opened (λ disk. IsOpened (state_of disk))
-    → IfOk opened (λ disk. IfOk result (λ s. Begins choice (state_of disk) (state_of s.disk) s.live s.state))
+    → IfOk opened (λ disk. IsOpened (as_disk disk))
+    → IfOk opened (λ disk. IfOk result (λ s. IsBegunOn as_disk choice disk s))
     → IfErr opened (λ fault. result ≡ Err (refusal.File fault))
-    → IfOk result (λ s. (disk : FileDisk) × IsOpened (state_of disk) × Begins choice (state_of disk) (state_of s.disk) s.live s.state)
+    → IfOk result (λ s. (disk : FileDisk) × IsOpened (as_disk disk) × IsBegunOn as_disk choice disk s)
 begun_on choice (Ok disk) (Ok s) is begun none = (disk, is, begun)
 begun_on choice (Ok disk) (Err r) is begun none = tt
 begun_on choice (Err fault) (Ok s) is begun none = absurd (cc none)
 begun_on choice (Err fault) (Err r) is begun none = tt
 
 refused_on : (choice : Choice) (opened : Result FileDisk FileFault) (result : Result (SessionView FileDisk) Refusal)
-    → IfOk opened (λ disk. IsOpened (state_of disk))
-    → IfOk opened (λ disk. IfErr result (λ r. (left : FileDisk) × IsRefusedBy choice (state_of disk) (state_of left) (refusal_number r)))
+    → IfOk opened (λ disk. IsOpened (as_disk disk))
+    → IfOk opened (λ disk. IfErr result (λ r. IsRefusedWith as_disk choice disk (refusal_number r)))
     → IfErr opened (λ fault. result ≡ Err (refusal.File fault))
     → IfErr result (λ r. ((fault : FileFault) × (r ≡ refusal.File fault))
-    ⊎ ((disk : FileDisk) × (left : FileDisk) × IsOpened (state_of disk) × IsRefusedBy choice (state_of disk) (state_of left) (refusal_number r)))
+    ⊎ ((disk : FileDisk) × IsOpened (as_disk disk) × IsRefusedWith as_disk choice disk (refusal_number r)))
 refused_on choice (Ok disk) (Ok s) is refused none = tt
-refused_on choice (Ok disk) (Err r) is refused none = inr (disk, refused.0, is, refused.1)
+refused_on choice (Ok disk) (Err r) is refused none = inr (disk, is, refused)
 refused_on choice (Err fault) (Ok s) is refused none = tt
 refused_on choice (Err fault) (Err r) is refused none = inl (fault, cc none)
 

@@ -5,8 +5,8 @@ use Rattle.mcs_shell.proofs.serving.serve_chunk.Given as goal
 
 abbrev pub invariant-loop-front : goal.invariant-loop-front
 invariant-loop-front g l = ServedTo
-    (staged (g.D.Disk.state l.fn.session.disk) l.fn.session (g.W.Write.contents l.fn.writer))
-    (staged (g.D.Disk.state l.session.disk) l.session (g.W.Write.contents l.writer))
+    (staged g.D.Disk.state l.fn.session (g.W.Write.contents l.fn.writer))
+    (staged g.D.Disk.state l.session (g.W.Write.contents l.writer))
     l.fn.unfinished l.unfinished l.rest l.chunk
 
 abbrev pub decreases-loop-front : goal.decreases-loop-front

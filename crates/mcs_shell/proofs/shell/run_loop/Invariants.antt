@@ -11,8 +11,8 @@ invariant-loop-total g l = record {
   room : 0 < length l.buffer;
   chunk : length l.buffer ≤ CHUNK_BYTES;
   so_far : SoFar (g.R.Read.remaining l.fn.reader) (g.R.Read.remaining l.reader)
-      (staged (g.D.Disk.state l.fn.session.disk) l.fn.session (g.W.Write.contents l.fn.writer))
-      (staged (g.D.Disk.state l.session.disk) l.session (g.W.Write.contents l.writer))
+      (staged g.D.Disk.state l.fn.session (g.W.Write.contents l.fn.writer))
+      (staged g.D.Disk.state l.session (g.W.Write.contents l.writer))
       l.unfinished l.total;
 }
 
