@@ -160,12 +160,7 @@ fn fim<'a>(names: &Names<'a>, pair: PairNo, v: &Operand<'a>) -> Result<Op, Sourc
     Ok(Op::Fim(pair, byte(value(names, v)?)?))
 }
 
-fn jcn<'a>(
-    at: u16,
-    names: &Names<'a>,
-    v: &Operand<'a>,
-    t: &Operand<'a>,
-) -> Result<Op, SourceFault>
+fn jcn<'a>(at: u16, names: &Names<'a>, v: &Operand<'a>, t: &Operand<'a>) -> Result<Op, SourceFault>
     requires { at ≤ 4096 }
     ensures { GivesOp result (bytes_at at names.now.names (Jcn (operand_view v.now) (operand_view t.now))) }
 {

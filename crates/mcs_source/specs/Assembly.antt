@@ -1,5 +1,6 @@
 -- What a source text assembles to: the (address, byte) pairs that its lines spell, or its first fault. (Our own choice.)
 -- Each definition speaks of line i in the list of all lines. Lines count from 0 here, and from 1 in a fault.
+-- Faults go by their numbers, 30 to 37 (`Refusal`).
 use Rattle.std.specs.Prelude.{ℕ, zero, suc, ◌+◌, ◌-◌, take, slice_index, slice_index_or, ◌/◌, ◌%◌, Bool, true, false, not, ◌&&◌, ◌||◌, List, [], ◌∷◌, ◌++◌, length, map, find, Option, Some, None, is_some, option_map, Result, Ok, Err, nat_lt, nat_le, ◌==◌, if◌then◌else◌}
 use Rattle.std.specs.List.{list_any, list_all, flat_map, filter_map, range_with_len}
 use Rattle.std.specs.Str.{bytes_eq}
@@ -73,7 +74,7 @@ next_at (Some (Code label s)) at = next_statement s at
 next_at (Some (Define w n)) at = at
 next_at None at = at
 
--- the address of the statement of line i
+-- the address at which the statement of line i stands; the first one stands at 0
 unfoldable pub address_of : List (Option SourceLine) → ℕ → ℕ
 address_of lines zero = 0
 address_of lines (suc i) = next_at (ith_line lines i) (address_of lines i)
@@ -84,13 +85,14 @@ address_of lines (suc i) = next_at (ith_line lines i) (address_of lines i)
 abbrev pub Names : Type 0
 Names = List (List ℕ × ℕ)
 
--- the name that a line defines, with its value: a label has the address of its own line's statement, also before an `ORG`
+-- the name that a line defines, with its value: a label has the address of its line's statement, which is the one before an
+-- `ORG`; a `NAME = NUMBER` has its number
 abbrev pub definition : Option SourceLine → ℕ → Option (List ℕ × ℕ)
 definition (Some (Code label s)) at = option_map (λ w. (w, at)) label
 definition (Some (Define w n)) at = Some (w, n)
 definition None at = None
 
--- the names that the lines before line i define
+-- the names that the lines before line i define, with their values
 unfoldable pub names_before : List (Option SourceLine) → ℕ → Names
 names_before lines i = filter_map (λ j. definition (ith_line lines j) (address_of lines j)) (range_with_len 0 i)
 
@@ -98,8 +100,9 @@ names_before lines i = filter_map (λ j. definition (ith_line lines j) (address_
 abbrev pub all_names : List (Option SourceLine) → Names
 all_names lines = names_before lines (length lines)
 
--- ---- faults of class one: a line is judged by itself and by the lines before it
+-- ---- faults of class one
 
+-- fault 31: a name that an earlier line defines
 abbrev pub is_known : List ℕ → Names → Bool
 is_known w names = list_any (λ n. bytes_eq n.0 w) names
 
@@ -111,7 +114,7 @@ abbrev pub is_known_name : Option (List ℕ) → Names → Bool
 is_known_name None names = false
 is_known_name (Some w) names = is_known w names
 
--- no 33 of class one: an `ORG` or a `NAME = NUMBER` outside the addresses
+-- fault 33 of class one: an `ORG` or a `NAME = NUMBER` outside the addresses
 abbrev pub is_bad_statement : Option Statement → Bool
 is_bad_statement (Some (Origin n)) = not (nat_lt n 4096)
 is_bad_statement s = false
@@ -120,12 +123,13 @@ abbrev pub is_bad_place : SourceLine → Bool
 is_bad_place (Define w n) = not (nat_lt n 4096)
 is_bad_place (Code label s) = is_bad_statement s
 
--- no 36: a label at 4096, or a byte at 4096 or later
+-- fault 36: a label at 4096, or a byte at 4096 or later
 abbrev pub passes_end : SourceLine → ℕ → Bool
 passes_end (Define w n) at = false
 passes_end (Code label s) at = (is_some label && nat_le 4096 at) || nat_lt 4096 (at + statement_size s)
 
--- the first of no 30, 33, 31, 37 and 36 that a line has, if any; its statement stands at `at`, and the lines before it define `names`
+-- the first of the faults 30, 33, 31, 37 and 36 that a line has, if any. Its statement stands at `at`, and the lines before it
+-- define `names`; 37 is that it defines one more than `NAMES`
 abbrev pub fault_one : ℕ → Names → Option SourceLine → Option SourceFault
 fault_one at names None = Some BadStatement
 fault_one at names (Some line) =
@@ -134,13 +138,13 @@ fault_one at names (Some line) =
     if is_some (defined_name line) && nat_le NAMES (length names) then Some TooManyNames else
     if passes_end line at then Some PastEnd else None
 
--- the fault of class one of line i, if it has one
+-- the fault of class one of line i, if it has one: it depends on this line and on those before it
 unfoldable pub class_one_fault : List (Option SourceLine) → ℕ → Option SourceFault
 class_one_fault lines i = fault_one (address_of lines i) (names_before lines i) (ith_line lines i)
 
--- ---- the bytes of a line: they depend on its address and on the values of all names
+-- ---- the bytes of a line, where all names have their values
 
--- the value of a name, if a line defines it
+-- the value of a name: the one that the first line that defines it gives it, if there is such a line
 abbrev pub value_of : List ℕ → Names → Option ℕ
 value_of w [] = None
 value_of w (n ∷ names) = if bytes_eq n.0 w then Some n.1 else value_of w names
@@ -153,17 +157,17 @@ abbrev pub values_in : Names → List Operand → Option (List ℕ)
 values_in names [] = Some []
 values_in names (v ∷ vs) = value_in names v >>= λ n. values_in names vs >>= λ ns. Some (n ∷ ns)
 
--- no 32 where a value is unknown
+-- fault 32 where a value is unknown
 abbrev pub if_known : {A B : Type 0} → Option A → (A → Result B SourceFault) → Result B SourceFault
 if_known None next = Err UnknownName
 if_known (Some x) next = next x
 
--- no 33 where a value is out of its range
+-- fault 33 where a value is out of its range
 abbrev pub if_in_range : {B : Type 0} → Bool → Result B SourceFault → Result B SourceFault
 if_in_range false next = Err OutOfRange
 if_in_range true next = next
 
--- no 34 where an address is off its page
+-- fault 34 where an address is off its page
 abbrev pub if_on_page : {B : Type 0} → Bool → Result B SourceFault → Result B SourceFault
 if_on_page false next = Err WrongPage
 if_on_page true next = next
@@ -172,7 +176,7 @@ if_on_page true next = next
 abbrev pub is_near : ℕ → ℕ → Bool
 is_near at t = t / 256 == page_of (at + 2)
 
--- the bytes that a statement at an address spells, or the first of no 32, 33 and 34 that it has
+-- the bytes that a statement at an address spells, or the first of the faults 32, 33 and 34 that it has
 abbrev pub bytes_at : ℕ → Names → Statement → Result (List ℕ) SourceFault
 bytes_at at names (Origin n) = Ok []
 bytes_at at names (Data vs) = if_known (values_in names vs) (λ ns. if_in_range (list_all (λ n. nat_lt n 256) ns) (Ok ns))
@@ -194,28 +198,29 @@ abbrev pub bytes_or_none : Result (List ℕ) SourceFault → List ℕ
 bytes_or_none (Ok bytes) = bytes
 bytes_or_none (Err f) = []
 
--- the pairs of line i, where all names are `names`; none where it has one of these faults
+-- the (address, byte) pairs of line i; none where it has one of these faults
 abbrev pub line_pairs : List (Option SourceLine) → Names → ℕ → List (ℕ × ℕ)
 line_pairs lines names i = from_address (address_of lines i) (bytes_or_none (line_bytes (address_of lines i) names (ith_line lines i)))
 
--- the pairs of the lines before line i, in the order of these lines
+-- the pairs of the lines before line i, line by line
 unfoldable pub pairs_before : List (Option SourceLine) → Names → ℕ → List (ℕ × ℕ)
 pairs_before lines names i = flat_map (line_pairs lines names) (range_with_len 0 i)
 
--- ---- faults of class two: a line is judged by itself, by the lines before it, and by the values of all names
+-- ---- faults of class two
 
--- the first of no 32, 33, 34 and 35 that a line has, if any; 35 where `pairs`, those of the lines before it, have one of its addresses
+-- the first of the faults 32, 33, 34 and 35 that a line has, if any: of its bytes; else 35 where `pairs`, those of the lines
+-- before it, have one of its addresses
 abbrev pub fault_two : ℕ → List (ℕ × ℕ) → Result (List ℕ) SourceFault → Option SourceFault
 fault_two at pairs (Err f) = Some f
 fault_two at pairs (Ok bytes) = if overlaps pairs at (length bytes) then Some Overlap else None
 
--- the fault of class two of line i, if it has one
+-- the fault of class two of line i, if it has one: it depends on this line, on those before it and on the values of all names
 unfoldable pub class_two_fault : List (Option SourceLine) → Names → ℕ → Option SourceFault
 class_two_fault lines names i = fault_two (address_of lines i) (pairs_before lines names i) (line_bytes (address_of lines i) names (ith_line lines i))
 
 -- ---- the whole
 
--- the least of n lines that has a fault: its number, from 1, and the fault
+-- the first of n lines that has a fault: its number, which counts from 1, and the fault
 abbrev pub first_fault : (ℕ → Option SourceFault) → ℕ → Option (ℕ × SourceFault)
 first_fault fault n = find (λ i. is_some (fault i)) (range_with_len 0 n) >>= λ i. fault i >>= λ f. Some (i + 1, f)
 
