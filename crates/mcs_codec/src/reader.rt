@@ -7,7 +7,7 @@ ghost use Rattle.mcs_codec.specs.Reading.{byte_at, number_at, bytes_at};
 use std::marker::Model;
 
 /// What is left of the bytes. After a `None` nothing is said of it.
-#[derive(Debug, Drop)]
+#[derive(Drop)]
 pub struct Reader<'a> {
     rest: &'a [u8],
 }

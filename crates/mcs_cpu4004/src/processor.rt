@@ -23,7 +23,7 @@ pub enum Cycle {
 }
 
 /// A 4004, as its registers.
-#[derive(Clone, Copy, Debug)]
+#[derive(Clone, Copy)]
 pub struct Cpu {
     regs: Regs,
 }

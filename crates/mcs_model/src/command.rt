@@ -6,7 +6,7 @@ use crate::stop::Stop;
 use mcs_nibble::{Addr, BankNo, Bit, Nibble, RegNo, StatusNo};
 
 /// A place of the machine, with the value that it is to hold.
-#[derive(Clone, Copy, Debug, PartialEq, Eq)]
+#[derive(Clone, Copy, Debug)]
 pub enum Place {
     /// The accumulator.
     Acc(Nibble),

@@ -6,7 +6,7 @@ use std::marker::Model;
 
 /// An address of the program memory, 0 to 4095. Its upper four bits are its page, which is also the
 /// number of the ROM; the lower eight select the word.
-#[derive(Clone, Copy, Debug, Default, PartialEq, Eq, PartialOrd, Ord, Hash)]
+#[derive(Clone, Copy, Debug, Default, PartialEq, Eq, PartialOrd, Ord)]
 pub struct Addr {
     value: u16,
 }

@@ -4,7 +4,7 @@ ghost use Rattle.std.specs.Prelude.{◌≡◌, ℕ, ◌<◌, ◌↔◌, IsSome, 
 use std::marker::Model;
 
 /// The number of a RAM bank, 0 to 7: the code that DCL puts into the command register.
-#[derive(Clone, Copy, Debug, Default, PartialEq, Eq, PartialOrd, Ord, Hash)]
+#[derive(Clone, Copy, Debug, Default, PartialEq, Eq)]
 pub struct BankNo {
     value: u8,
 }
@@ -45,7 +45,7 @@ impl BankNo {
 }
 
 /// The number of a status character of a RAM register, 0 to 3.
-#[derive(Clone, Copy, Debug, Default, PartialEq, Eq, PartialOrd, Ord, Hash)]
+#[derive(Clone, Copy, Debug, Default, PartialEq, Eq)]
 pub struct StatusNo {
     value: u8,
 }

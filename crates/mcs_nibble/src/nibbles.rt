@@ -6,7 +6,7 @@ use crate::bits::Bit;
 use std::marker::Model;
 
 /// Four bits, 0 to 15: what the accumulator, a register, a RAM character or a port holds.
-#[derive(Clone, Copy, Debug, Default, PartialEq, Eq, PartialOrd, Ord, Hash)]
+#[derive(Clone, Copy, Debug, Default, PartialEq, Eq)]
 pub struct Nibble {
     value: u8,
 }

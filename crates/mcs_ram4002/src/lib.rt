@@ -8,7 +8,7 @@ use mcs_nibble::Nibble;
 use std::marker::Model;
 
 /// One write to a bank: the place, and what it holds from then on.
-#[derive(Clone, Copy, Debug)]
+#[derive(Clone, Copy)]
 pub enum BankWrite {
     /// The character of an SRC byte.
     Character(u8, Nibble),
@@ -70,7 +70,7 @@ fn with_half(byte: u8, at: u8, n: Nibble) -> u8
 
 /// A 4002, by the MCS-4 Users Manual: four registers of 16 main and four status characters, and an output
 /// port of four lines. A bank holds its chips and speaks for them.
-#[derive(Clone, Copy, Debug, PartialEq, Eq)]
+#[derive(Clone, Copy)]
 pub struct Chip {
     // Two characters a byte, the lower half first.
     main: [u8; 32],

@@ -11,7 +11,7 @@ use std::marker::Model;
 
 /// A 4001, by the MCS-4 Users Manual: 256 bytes and a port of four lines, each of which its mask makes an
 /// input or an output. The latch holds a value on the output lines; its bit at an input line is 0.
-#[derive(Debug, Drop)]
+#[derive(Drop)]
 pub struct Rom {
     mask: [LineMask; 4],
     bytes: [u8; 256],
