@@ -3,7 +3,7 @@ use Rattle.std.specs.Prelude.{◌≡◌, ℕ, ◌+◌, List, [], ◌∷◌, ◌+
 use Rattle.mcs_source.specs.declared.fault.SourceFault.{SourceFault}
 use Rattle.mcs_source.specs.declared.fault.SourceFault.TheVariants.{Overlap}
 use Rattle.mcs_source.specs.Lines.{SourceLine, Code, Define}
-use Rattle.mcs_source.specs.Assembly.{Names, address_of, names_before, all_names, next_at, fault_one, first_of_class_one, first_of_class_two, is_bad_place, passes_end, unless_fault, line_bytes, pairs_before}
+use Rattle.mcs_source.specs.Assembly.{Names, address_of, names_before, next_at, fault_one, first_of_class_one, first_of_class_two, is_bad_place, passes_end, unless_fault, line_bytes, pairs_before}
 use Rattle.mcs_model.specs.Images.{from_address, overlaps}
 use Rattle.mcs_asm.specs.declared.fault.FaultKind.{FaultKind}
 use Rattle.mcs_asm.specs.declared.fault.FaultKind.TheVariants.{NoMemory, Refused}

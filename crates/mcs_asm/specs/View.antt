@@ -1,5 +1,5 @@
 -- What `assemble` promises, and what the code's tokens, statements and lines stand for.
-use Rattle.std.specs.Prelude.{◌≡◌, ◌+◌, ◌∷◌, [], List, ℕ, map, option_map, Option, Some, Result, Ok, Err, None, Bool, false, not, ◌==◌}
+use Rattle.std.specs.Prelude.{◌≡◌, ◌∷◌, [], List, ℕ, map, option_map, Option, Some, Result, Ok, Err, None, Bool, not, ◌==◌}
 use Rattle.std.specs.Option.{option_copied, option_to_list}
 use Rattle.std.specs.Borrow.{Bor}
 use Rattle.std.specs.Ordering.{nat_cmp}
