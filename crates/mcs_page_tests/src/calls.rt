@@ -80,24 +80,29 @@ fn a_settled_file_has_no_records(rt: HostRuntime) -> Result<(), Fail> {
     Ok(())
 }
 
+/// What the file of version 1 tells of its registers.
+const CARRIED_OVER: &[u8] =
+    b"session 1\nacc 0 cy 0 pc 000 owed 0 dcl 0 test 1 r 0000090000000000 ret 000 000 000\n";
+
+/// The file holds a snapshot of version 2 in the slot that its turn names, and tells the registers.
+fn expect_carried_over(alloc: Global, rt: &impl Abort, file: &mut [u8]) -> Result<(), Fail> {
+    let at = if file.get(8) == Some(&0) { 24 } else { 81_944 };
+    assert_eq!(rt; file.get(at), Some(&2));
+    let told = told(alloc, file, b"regs\n")?;
+    assert_eq!(rt; told.as_slice(), CARRIED_OVER);
+    Ok(())
+}
+
 #[test]
 fn a_file_of_version_1_is_carried_over(rt: HostRuntime) -> Result<(), Fail> {
     let alloc = rt.alloc();
-    let wanted: &[u8] =
-        b"session 1\nacc 0 cy 0 pc 000 owed 0 dcl 0 test 1 r 0000090000000000 ret 000 000 000\n";
     let mut served = file_of_version_1(alloc)?;
     let first = told(alloc, served.as_mut_slice(), b"regs\n")?;
-    assert_eq!(rt; first.as_slice(), wanted);
+    assert_eq!(rt; first.as_slice(), CARRIED_OVER);
+    expect_carried_over(alloc, &rt, served.as_mut_slice())?;
     let mut settled = file_of_version_1(alloc)?;
     assert_eq!(rt; settle(alloc, settled.as_mut_slice()), Ok(()));
-    for file in [&mut served, &mut settled] {
-        // the version of the snapshot in the slot that the turn names
-        let at = if file.get(8) == Some(&0) { 24 } else { 81_944 };
-        assert_eq!(rt; file.get(at), Some(&2));
-        let again = told(alloc, file.as_mut_slice(), b"regs\n")?;
-        assert_eq!(rt; again.as_slice(), wanted);
-    }
-    Ok(())
+    expect_carried_over(alloc, &rt, settled.as_mut_slice())
 }
 
 /// A file is refused by this fault, in both calls, and stays as it was.

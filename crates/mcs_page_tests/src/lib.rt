@@ -5,5 +5,3 @@
 mod calls;
 #[cfg(test)]
 mod files;
-#[cfg(test)]
-mod refused;
