@@ -1,8 +1,9 @@
 //! Files that others wrote: one change of a right file, and files of a seeded generator.
 use crate::first_version::file_of_inputs;
-use crate::generator::Numbers;
 use crate::scripts::{INPUTS, POKE, POKES};
 use crate::sessions::{bytes_of, disk_of, expect, file_of, found, opened, put, told};
+use mcs_fixtures::files::Stretch;
+use mcs_fixtures::numbers::Numbers;
 use mcs_journal::{FILE_SIZE, OpenFault};
 use mcs_session::session::Session;
 use std::alloc::Global;
@@ -11,14 +12,11 @@ use std::process::Abort;
 /// Where the first log begins.
 const LOG: usize = 16_400;
 
-/// A change: a place, and the bytes that are put there.
-pub(crate) type Change = (usize, &'static [u8]);
-
 /// A change that leaves a state, what is asked then, and the answers.
 pub(crate) type Told = (usize, &'static [u8], &'static [u8], &'static [u8]);
 
 /// Changes of the selector, of the length of the snapshot, and of a state of version 2, that leave no state.
-const DAMAGES: [Change; 21] = [
+const DAMAGES: [Stretch; 21] = [
     // the selector, of a slot without a snapshot
     (8, &[1]),
     // the length of the snapshot
@@ -48,7 +46,7 @@ const DAMAGES: [Change; 21] = [
 ];
 
 /// Records of the log that no version has.
-const RECORDS: [Change; 12] = [
+const RECORDS: [Stretch; 12] = [
     // records of no byte, of 8,193 bytes, of nothing that is a command
     (LOG, &[1, 0, 0]),
     (LOG, &[1, 0x20, 1]),
@@ -152,7 +150,7 @@ pub(crate) fn expect_changes(
     alloc: Global,
     rt: &impl Abort,
     new: &[u8],
-    damages: &[Change],
+    damages: &[Stretch],
     changes: &[Told],
 ) {
     for at in 9..16usize {
@@ -276,23 +274,23 @@ fn commit_at(file: &[u8], log: usize, number: usize) -> usize {
 fn range_of(right: &[u8], numbers: &mut Numbers) -> (usize, usize) {
     // the slot that counts, or the other one
     let is_second = right.get(8) == Some(&1);
-    let snapshot: usize = if is_second == (numbers.below(4) != 0) {
+    let snapshot: usize = if is_second == (numbers.place(4) != 0) {
         81_936
     } else {
         16
     };
     let log = snapshot.saturating_add(16_384);
-    let number = numbers.below(8);
+    let number = numbers.place(8);
     let commit_at = commit_at(right, log, number);
-    match numbers.below(8) {
+    match numbers.place(8) {
         // a byte of the snapshot, of the log, or any
-        0 => (snapshot.saturating_add(numbers.below(7_000)), 1),
-        1 => (log.saturating_add(numbers.below(800)), 1),
-        2 => (numbers.below(FILE_SIZE), 1),
+        0 => (snapshot.saturating_add(numbers.place(7_000)), 1),
+        1 => (log.saturating_add(numbers.place(800)), 1),
+        2 => (numbers.place(FILE_SIZE), 1),
         // a range
         3 => (
-            snapshot.saturating_add(numbers.below(17_000)),
-            numbers.below(64),
+            snapshot.saturating_add(numbers.place(17_000)),
+            numbers.place(64),
         ),
         // the length of the snapshot, or of a record
         4 => (snapshot.saturating_add(2), 2),
@@ -300,15 +298,15 @@ fn range_of(right: &[u8], numbers: &mut Numbers) -> (usize, usize) {
         // a commit byte
         6 => (commit_at, 1),
         // all after the name, or after some of the snapshot
-        _ => (8usize.saturating_add(numbers.below(20)), FILE_SIZE),
+        _ => (8usize.saturating_add(numbers.place(20)), FILE_SIZE),
     }
 }
 
 /// A file of a right one, changed as the generator has it: one in eight is cut, the others have other bytes in a range.
 fn spoiled(alloc: Global, rt: &impl Abort, right: &[u8], numbers: &mut Numbers) -> Vec<u8> {
     let mut file = right.to_vec(alloc).expect(rt, "memory");
-    if numbers.below(8) == 0 {
-        file.truncate(numbers.below(FILE_SIZE));
+    if numbers.place(8) == 0 {
+        file.truncate(numbers.place(FILE_SIZE));
     } else {
         let (at, count) = range_of(right, numbers);
         numbers.fill(file.as_mut_slice(), at, count);
@@ -329,7 +327,7 @@ fn has_refusal(answers: &[u8]) -> bool {
 #[test]
 fn of_a_generator(rt: HostRuntime) {
     let alloc = rt.alloc();
-    let mut numbers = Numbers { state: 4004 };
+    let mut numbers = Numbers::new(4004);
     let files = [
         file_of(alloc, &rt, &[], 0, b""),
         file_of(alloc, &rt, &INPUTS, 0, b""),

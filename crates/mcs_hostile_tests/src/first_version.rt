@@ -1,12 +1,13 @@
 //! Files of version 1: what opening makes of them, of one change of them, and of a stop or a torn write while it carries them over.
 use crate::disks::NotingDisk;
-use crate::files::{Change, Told, expect_changes, expect_most_cycles, expect_refused};
+use crate::files::{Told, expect_changes, expect_most_cycles, expect_refused};
 use crate::scripts::{INPUTS, LAST};
 use crate::sessions::{
     bytes_of, disk_of, expect, expect_state, file_of, found, opened, put, states_behind, told,
 };
 use crate::torn::{Pace, tear_all};
 use mcs_disk::FuseDisk;
+use mcs_fixtures::files::{NEW_BENCH, POKE, Stretch};
 use mcs_journal::{FILE_SIZE, OpenFault};
 use mcs_session::session::Session;
 use std::alloc::Global;
@@ -15,21 +16,10 @@ use std::process::Abort;
 /// Where the first log begins.
 const LOG: usize = 16_400;
 
-/// All bytes but 0 of the file of a new bench: 6,822 bytes of state, whose ROMs are not there and whose TEST is 1.
-pub(crate) const NEW: [Change; 4] = [
-    (0, b"MCS4BEN1"),
-    (18, &[0x1A, 0xA6]),
-    (24, &[b'-'; 64]),
-    (6_840, &[1]),
-];
-
-/// The record of `poke r5 9`.
-pub(crate) const RECORD: Change = (LOG, &[1, 0, 4, 7, 3, 5, 9]);
-
 /// The file of a new bench.
 pub(crate) fn new_file(alloc: Global, rt: &impl Abort) -> Vec<u8> {
     let mut file = vec![in alloc; 0u8; FILE_SIZE].expect(rt, "memory");
-    for (at, bytes) in NEW {
+    for (at, bytes) in NEW_BENCH {
         put(rt, file.as_mut_slice(), at, bytes);
     }
     file
@@ -47,7 +37,7 @@ pub(crate) fn file_of_inputs(alloc: Global, rt: &impl Abort) -> Vec<u8> {
 }
 
 /// Changes of the selector, of the length of the snapshot, of a state of version 1, and records that it has not. They leave no state.
-const DAMAGES: [Change; 18] = [
+const DAMAGES: [Stretch; 18] = [
     (8, &[1]),
     (16, &[0, 0, 0, 0]),
     (16, &[0, 0, 0x1A, 0xA5]),
@@ -145,7 +135,7 @@ fn with_chains_of_version_2(rt: HostRuntime) {
 fn opened_and_told(rt: HostRuntime) {
     let alloc = rt.alloc();
     let mut file = new_file(alloc, &rt);
-    put(&rt, file.as_mut_slice(), RECORD.0, RECORD.1);
+    put(&rt, file.as_mut_slice(), POKE.0, POKE.1);
     let mut session = opened(alloc, &rt, disk_of(alloc, &rt, file.as_slice()));
     let answers = told(alloc, &rt, &mut session, b"regs\nwatches\nwatch 0 0\n");
     let wanted: &[u8] =

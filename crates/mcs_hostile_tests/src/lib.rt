@@ -8,8 +8,6 @@ mod files;
 #[cfg(test)]
 mod first_version;
 #[cfg(test)]
-mod generator;
-#[cfg(test)]
 mod refused;
 #[cfg(test)]
 mod scripts;

@@ -1,9 +1,10 @@
 //! One allocation that is refused, whichever it is: `tools/refuse_allocations` refuses each in turn, the gate none.
-use crate::first_version::{NEW, RECORD, new_file};
-use crate::scripts::INPUTS;
+use crate::first_version::new_file;
 use crate::sessions::{bytes_of, opened, put};
 use arrayvec::ArrayVec;
 use mcs_disk::{Disk, DiskFault, MemDisk};
+use mcs_fixtures::files::{NEW_BENCH, POKE};
+use mcs_fixtures::texts::{WIRE_WORKED, board_in};
 use mcs_journal::{CreateFault, FILE_SIZE, OpenFault};
 use mcs_session::session::Session;
 use mcs_shell::ends::ShellEnd;
@@ -33,15 +34,18 @@ impl Write for FixedWriter {
 
 const QUESTIONS: &[u8] = b"asm\nLDM 1\n.\nlist 0 1\nboard\nseq\n";
 
-/// The answers with nothing refused; with the board, the program, the listing or the question for the board refused. `board` stands
-/// for the text of the board, which comes with its name before it.
+/// The line before the text of the board.
+const BOARD: &[u8] = b"board\n";
+
+/// The answers with nothing refused; with the board, the program, the listing or the question for the board refused. After `BOARD`
+/// comes the text of the board.
 const ANSWERS: [[&[u8]; 6]; 5] = [
     [
         b"session 0\n",
         b"ok 1\n",
         b"ok 2 bytes 1\n",
         b"000 D1    LDM 1\n",
-        b"board",
+        BOARD,
         b"seq 2\n",
     ],
     [
@@ -49,15 +53,15 @@ const ANSWERS: [[&[u8]; 6]; 5] = [
         b"no 90\n",
         b"no 42\n",
         b"000 00    NOP\n",
-        b"board\n",
-        b"seq 0\n",
+        b"board\nseq 0\n",
+        b"",
     ],
     [
         b"session 0\n",
         b"ok 1\n",
         b"no 90\n",
         b"000 00    NOP\n",
-        b"board",
+        BOARD,
         b"seq 1\n",
     ],
     [
@@ -65,7 +69,7 @@ const ANSWERS: [[&[u8]; 6]; 5] = [
         b"ok 1\n",
         b"ok 2 bytes 1\n",
         b"no 90\n",
-        b"board",
+        BOARD,
         b"seq 2\n",
     ],
     [
@@ -78,15 +82,6 @@ const ANSWERS: [[&[u8]; 6]; 5] = [
     ],
 ];
 
-/// The text of the board as it is answered: the lines of the text that made it, between `wire` and the dot.
-fn board_lines() -> &'static [u8] {
-    let [wire, ..] = INPUTS;
-    match wire.strip_prefix(b"wire".as_slice()) {
-        Some(rest) => rest.strip_suffix(b".\n".as_slice()).unwrap_or(rest),
-        None => wire,
-    }
-}
-
 /// The output is these answers, or that many first ones of them and then a device fault.
 fn is_told(output: &[u8], answers: &[&[u8]], is_device: bool) -> bool {
     let mut rest = output;
@@ -98,8 +93,8 @@ fn is_told(output: &[u8], answers: &[&[u8]], is_device: bool) -> bool {
             return false;
         };
         rest = behind;
-        if *answer == b"board".as_slice() {
-            let Some(behind) = rest.strip_prefix(board_lines()) else {
+        if *answer == BOARD {
+            let Some(behind) = rest.strip_prefix(board_in(WIRE_WORKED)) else {
                 return false;
             };
             rest = behind;
@@ -130,7 +125,7 @@ fn left_out(output: &[u8], is_device: bool) -> Option<&'static str> {
 /// Serves the script. It answers what was refused, if anything was.
 fn serve(alloc: Global, rt: &impl Abort, session: &mut Session<MemDisk>) -> &'static str {
     let mut script: ArrayVec<u8, 1_024> = ArrayVec::new();
-    for part in [INPUTS[0], QUESTIONS] {
+    for part in [WIRE_WORKED, QUESTIONS] {
         for byte in part {
             let _ = script.try_push(*byte);
         }
@@ -200,7 +195,7 @@ fn one_allocation(rt: HostRuntime) {
 
 /// Puts the file of one register, of version 1, on a disk.
 fn put_first(disk: &mut MemDisk) -> Result<(), DiskFault> {
-    for (at, bytes) in [NEW[0], NEW[1], NEW[2], NEW[3], RECORD] {
+    for (at, bytes) in [NEW_BENCH[0], NEW_BENCH[1], NEW_BENCH[2], NEW_BENCH[3], POKE] {
         if at <= disk.size() && bytes.len() <= disk.size() - at {
             disk.write(at, bytes)?;
         }
@@ -229,7 +224,7 @@ fn carry_over(alloc: Global, rt: &impl Abort) -> &'static str {
         }
         Err((OpenFault::NoMemory, mut disk)) => {
             let mut file = new_file(alloc, rt);
-            put(rt, file.as_mut_slice(), RECORD.0, RECORD.1);
+            put(rt, file.as_mut_slice(), POKE.0, POKE.1);
             let left = bytes_of(alloc, rt, &mut disk);
             assert!(rt; left.as_slice() == file.as_slice());
             expect_register(rt, &opened(alloc, rt, disk));

@@ -1,41 +1,10 @@
 //! The script of commands, with its answers, and what a session is asked.
+use mcs_fixtures::texts::WIRE_WORKED;
 
 /// The commands, one after another: a board of three ROMs, two banks, a chain, keys and lamps; a program that drives two rows and
 /// reads four columns; a key; as many cycles as the program has before its last instruction; a register.
 pub(crate) const INPUTS: [&[u8]; 5] = [
-    b"wire
-[[rom]]
-chip = 0
-port = \"0000\"
-[[rom]]
-chip = 1
-port = \"iiii\"
-[[rom]]
-chip = 2
-port = \"iiii\"
-[[ram]]
-bank = 0
-chips = 1
-[[ram]]
-bank = 1
-chips = 1
-[[chain]]
-clock = \"rom0.0\"
-data = \"rom0.1\"
-chips = 1
-[keys]
-chain = 0
-first = 0
-rows = 10
-columns = [\"rom1.0\", \"rom1.1\", \"rom1.2\", \"rom1.3\", \"rom2.0\", \"rom2.1\", \"rom2.2\", \"rom2.3\"]
-[[lamp]]
-line = \"chain0.0\"
-[[lamp]]
-line = \"chain0.1\"
-[[lamp]]
-line = \"ram0.0.3\"
-.
-",
+    WIRE_WORKED,
     b"asm
 LDM 3
 WRR

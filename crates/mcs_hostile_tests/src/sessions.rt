@@ -42,15 +42,6 @@ pub(crate) fn put(rt: &impl Abort, file: &mut [u8], at: usize, bytes: &[u8]) {
     file[at..at + bytes.len()].copy_from_slice(bytes);
 }
 
-/// The pieces, one after the other.
-pub(crate) fn joined(alloc: Global, rt: &impl Abort, pieces: &[&[u8]]) -> Vec<u8> {
-    let mut bytes = Vec::new(alloc);
-    for piece in pieces {
-        bytes.extend_from_slice(piece).expect(rt, "memory");
-    }
-    bytes
-}
-
 /// The session of a new bench.
 pub(crate) fn new_session<D: Disk + Drop>(alloc: Global, rt: &impl Abort, disk: D) -> Session<D> {
     match Session::create(alloc, disk) {

@@ -1,10 +1,10 @@
 //! A stop at each call of a disk, and after each byte that is read or written.
 use crate::scripts::{ANSWERS, INPUTS, POKE, POKES};
 use crate::sessions::{
-    blank, bytes_of, disk_of, expect, expect_state, file_of, joined, new_session, opened,
-    states_behind,
+    blank, bytes_of, disk_of, expect, expect_state, file_of, new_session, opened, states_behind,
 };
 use mcs_disk::FuseDisk;
+use mcs_fixtures::streams::{CutReader, CutWriter, joined};
 use mcs_journal::{CreateFault, OpenFault};
 use mcs_model::command::{Command, Place};
 use mcs_nibble::{Nibble, RegNo};
@@ -13,57 +13,14 @@ use mcs_session::session::Session;
 use mcs_shell::ends::{ShellEnd, status};
 use mcs_shell::shell::run_shell;
 use std::alloc::Global;
-use std::io::{self, Read, Write};
 use std::process::Abort;
-
-/// Gives these bytes; each read after the first `left` of them fails.
-#[derive(Drop)]
-struct CutReader<'a> {
-    bytes: &'a [u8],
-    left: usize,
-}
-
-impl Read for CutReader<'_> {
-    fn read(&mut self, buf: &mut [u8]) -> io::Result<usize> {
-        if self.left == 0 {
-            return Err(io::ErrorKind::Other.into());
-        }
-        let most = self.left.min(buf.len());
-        let count = self.bytes.read(&mut buf[..most])?;
-        self.left = self.left.saturating_sub(count);
-        Ok(count)
-    }
-}
-
-/// Takes bytes; each write after the first `left` of them fails.
-#[derive(Drop)]
-struct CutWriter {
-    held: Vec<u8>,
-    left: usize,
-}
-
-impl Write for CutWriter {
-    fn write(&mut self, buf: &[u8]) -> io::Result<usize> {
-        if self.left == 0 {
-            return Err(io::ErrorKind::Other.into());
-        }
-        let count = self.left.min(buf.len());
-        self.held.extend_from_slice(&buf[..count])?;
-        self.left = self.left.saturating_sub(count);
-        Ok(count)
-    }
-
-    fn flush(&mut self) -> io::Result<()> {
-        Ok(())
-    }
-}
 
 /// The first line of the answers of a new session.
 const FIRST: &[u8] = b"session 0\n";
 
 /// What a new session answers where the device refuses the command after these.
 fn answers_before_a_fault(alloc: Global, rt: &impl Abort, done: usize) -> Vec<u8> {
-    let mut answers = joined(alloc, rt, &[FIRST]);
+    let mut answers = joined(alloc, &[FIRST]).expect(rt, "memory");
     for answer in ANSWERS.iter().take(done) {
         answers.extend_from_slice(answer).expect(rt, "memory");
     }
@@ -95,7 +52,7 @@ fn stop_in_commands(
 ) {
     assert!(rt; 5 <= calls, "the call {calls} did not fail");
     let done = (calls - 5) / 4;
-    let script = joined(alloc, rt, &INPUTS);
+    let script = joined(alloc, &INPUTS).expect(rt, "memory");
     let mut reader = script.as_slice();
     let mut writer = Vec::new(alloc);
     let end = run_shell(alloc, &mut reader, &mut writer, &mut session);
@@ -229,19 +186,16 @@ fn at_each_call_of_opening(rt: HostRuntime) {
 #[test]
 fn at_each_byte_that_is_read(rt: HostRuntime) {
     let alloc = rt.alloc();
-    let script = joined(alloc, &rt, &INPUTS);
+    let script = joined(alloc, &INPUTS).expect(&rt, "memory");
     for left in 0..=script.len() {
         let mut session = new_session(alloc, &rt, blank(alloc, &rt));
-        let mut reader = CutReader {
-            bytes: script.as_slice(),
-            left,
-        };
+        let mut reader = CutReader::new(script.as_slice(), left, usize::MAX);
         let mut writer = Vec::new(alloc);
         let end = run_shell(alloc, &mut reader, &mut writer, &mut session);
         expect(&rt, end == ShellEnd::ReadFault, left);
         assert_eq!(rt; status(end), 1);
         // the inputs that were read whole are answered
-        let mut wanted = joined(alloc, &rt, &[FIRST]);
+        let mut wanted = joined(alloc, &[FIRST]).expect(&rt, "memory");
         let mut place = 0usize;
         for (input, answer) in INPUTS.iter().zip(ANSWERS.iter()) {
             place = place.saturating_add(input.len());
@@ -256,17 +210,14 @@ fn at_each_byte_that_is_read(rt: HostRuntime) {
 #[test]
 fn at_each_byte_that_is_written(rt: HostRuntime) {
     let alloc = rt.alloc();
-    let script = joined(alloc, &rt, &INPUTS);
-    let mut answers = joined(alloc, &rt, &[FIRST]);
+    let script = joined(alloc, &INPUTS).expect(&rt, "memory");
+    let mut answers = joined(alloc, &[FIRST]).expect(&rt, "memory");
     for answer in ANSWERS {
         answers.extend_from_slice(answer).expect(&rt, "memory");
     }
     for left in 0..=answers.len() {
         let mut session = new_session(alloc, &rt, blank(alloc, &rt));
-        let mut writer = CutWriter {
-            held: Vec::new(alloc),
-            left,
-        };
+        let mut writer = CutWriter::new(alloc, left, usize::MAX);
         let mut reader = script.as_slice();
         let end = run_shell(alloc, &mut reader, &mut writer, &mut session);
         let is_whole = left == answers.len();
@@ -276,12 +227,8 @@ fn at_each_byte_that_is_written(rt: HostRuntime) {
             ShellEnd::WriteFault
         };
         expect(&rt, end == wanted_end, left);
-        expect(
-            &rt,
-            answers.as_slice().starts_with(writer.held.as_slice()),
-            left,
-        );
-        assert_eq!(rt; writer.held.len(), left);
+        expect(&rt, answers.as_slice().starts_with(writer.held()), left);
+        assert_eq!(rt; writer.held().len(), left);
         // a command is recorded once all answers before its own are out
         let mut kept = 0u32;
         let mut place = FIRST.len();

@@ -1,7 +1,8 @@
 //! Texts and lines that no one should write, and readers without end.
-use crate::generator::Numbers;
-use crate::sessions::{blank, expect, joined, new_session, told};
+use crate::sessions::{blank, expect, new_session, told};
 use mcs_disk::MemDisk;
+use mcs_fixtures::numbers::Numbers;
+use mcs_fixtures::streams::joined;
 use mcs_session::session::Session;
 use mcs_shell::ends::ShellEnd;
 use mcs_shell::shell::run_shell;
@@ -44,15 +45,15 @@ fn without_end(rt: HostRuntime) {
 fn of_too_many_bytes(rt: HostRuntime) {
     let alloc = rt.alloc();
     let letters = [b'a'; 256];
-    let comment = joined(alloc, &rt, &[b";", &letters[..254], b"\n"]);
+    let comment = joined(alloc, &[b";", &letters[..254], b"\n"]).expect(&rt, "memory");
     let mut longest = Vec::new(alloc);
     for _ in 0..64 {
         longest
             .extend_from_slice(comment.as_slice())
             .expect(&rt, "memory");
     }
-    let too_long = joined(alloc, &rt, &[longest.as_slice(), b"\n"]);
-    let long_line = joined(alloc, &rt, &[&letters, b"\n"]);
+    let too_long = joined(alloc, &[longest.as_slice(), b"\n"]).expect(&rt, "memory");
+    let long_line = joined(alloc, &[&letters, b"\n"]).expect(&rt, "memory");
     let rows: [(&[u8], &[u8]); 4] = [
         (longest.as_slice(), b"session 0\nok 1 bytes 0\nseq 1\n"),
         (too_long.as_slice(), b"session 0\nno 13\nseq 0\n"),
@@ -66,7 +67,7 @@ fn of_too_many_bytes(rt: HostRuntime) {
             (b"seq\n", b"session 0\nno 15\n"),
         ];
         for (ending, answers) in cases {
-            let script = joined(alloc, &rt, &[b"asm\n", text, ending]);
+            let script = joined(alloc, &[b"asm\n", text, ending]).expect(&rt, "memory");
             let mut session = new_session(alloc, &rt, blank(alloc, &rt));
             let found = told(alloc, &rt, &mut session, script.as_slice());
             expect(&rt, found.as_slice() == answers, row);
@@ -86,9 +87,9 @@ fn of_odd_bytes(rt: HostRuntime) {
     ];
     for (row, (line, answers)) in rows.iter().enumerate() {
         let script = if row == 3 {
-            joined(alloc, &rt, &[b"\x00", line])
+            joined(alloc, &[b"\x00", line]).expect(&rt, "memory")
         } else {
-            joined(alloc, &rt, &[line])
+            joined(alloc, &[line]).expect(&rt, "memory")
         };
         let mut session = new_session(alloc, &rt, blank(alloc, &rt));
         let found = told(alloc, &rt, &mut session, script.as_slice());
@@ -163,13 +164,13 @@ const PROGRAM: [&[u8]; 28] = [
 /// A text of some of the pieces, most of them from the front of their list.
 fn text_of(alloc: Global, rt: &impl Abort, pieces: &[&[u8]], numbers: &mut Numbers) -> Vec<u8> {
     let mut text = Vec::new(alloc);
-    let most = if numbers.below(2) == 0 {
+    let most = if numbers.place(2) == 0 {
         14
     } else {
         pieces.len()
     };
-    for _ in 0..numbers.below(7) {
-        if let Some(piece) = pieces.get(numbers.below(most)) {
+    for _ in 0..numbers.place(7) {
+        if let Some(piece) = pieces.get(numbers.place(most)) {
             text.extend_from_slice(piece).expect(rt, "memory");
         }
     }
@@ -186,7 +187,7 @@ fn expect_answer(
     refusals: [&[u8]; 2],
 ) -> bool {
     let before = session.bench().seq();
-    let script = joined(alloc, rt, &[opening, text, b"\n.\nseq\n"]);
+    let script = joined(alloc, &[opening, text, b"\n.\nseq\n"]).expect(rt, "memory");
     let answers = told(alloc, rt, session, script.as_slice());
     let after = session.bench().seq();
     let first = format!(in alloc; "session {before}\n").expect(rt, "memory");
@@ -211,7 +212,7 @@ fn expect_answer(
 #[test]
 fn of_a_generator(rt: HostRuntime) {
     let alloc = rt.alloc();
-    let mut numbers = Numbers { state: 4001 };
+    let mut numbers = Numbers::new(4001);
     let mut session = new_session(alloc, &rt, blank(alloc, &rt));
     let mut boards = 0u32;
     let mut programs = 0u32;

@@ -1,8 +1,8 @@
 //! Writes that a power cut tore: whatever it left opens to a state that the acknowledged commands allow.
 use crate::disks::{Note, NotingDisk};
-use crate::generator::Numbers;
 use crate::scripts::{INPUTS, LAST, POKE, POKES};
 use crate::sessions::{blank, disk_of, file_of, found, new_session, opened, put, states_behind};
+use mcs_fixtures::numbers::Numbers;
 use mcs_journal::{FILE_SIZE, OpenFault};
 use std::alloc::Global;
 use std::process::Abort;
@@ -64,7 +64,7 @@ fn cuts(alloc: Global, rt: &impl Abort, length: usize, numbers: &mut Numbers) ->
         places.push(place).expect(rt, "memory");
     }
     for _ in 0..16 {
-        places.push(numbers.below(length)).expect(rt, "memory");
+        places.push(numbers.place(length)).expect(rt, "memory");
     }
     places
 }
@@ -135,7 +135,7 @@ pub(crate) fn tear_all(
     states: &[Vec<u8>],
     pace: Pace,
 ) -> usize {
-    let mut numbers = Numbers { state: 1971 };
+    let mut numbers = Numbers::new(1971);
     let mut images = 0usize;
     let mut syncs = 0usize;
     let mut is_synced = true;

@@ -1,8 +1,7 @@
-//! Readers, writers and disks that fail, and input without end.
-ghost use Rattle.std.specs.Prelude.{Some};
-
-use crate::sessions::{ANSWERS, CutReader, SCRIPT, new_session, run, serve};
+//! Readers, writers and disks that fail.
+use crate::sessions::{ANSWERS, SCRIPT, new_session, run, serve};
 use mcs_disk::{FuseDisk, MemDisk};
+use mcs_fixtures::streams::{CutReader, CutWriter};
 use mcs_journal::{CreateFault, FILE_SIZE};
 use mcs_model::command::{Command, Place};
 use mcs_nibble::{Nibble, RegNo};
@@ -11,111 +10,73 @@ use mcs_session::session::Session;
 use mcs_shell::ends::{ShellEnd, status};
 use mcs_shell::shell::run_shell;
 use std::alloc::Global;
-use std::io::{self, Read, Write};
+use std::process::Abort;
 use std::test::Fail;
-
-/// Takes all bytes, except for that many writes that fail after the first of them.
-#[derive(Drop)]
-struct CutWriter {
-    held: Vec<u8>,
-    left: usize,
-    failures: usize,
-}
-
-impl Write for CutWriter {
-    ghost contents = { λ w. Some w.held.items };
-
-    fn write(&mut self, buf: &[u8]) -> io::Result<usize> {
-        if self.left == 0 && 0 < self.failures {
-            self.failures -= 1;
-            return Err(io::ErrorKind::Other.into());
-        }
-        let count = if self.left == 0 {
-            buf.len()
-        } else {
-            self.left.min(buf.len())
-        };
-        self.held.extend_from_slice(&buf[..count])?;
-        self.left = self.left.saturating_sub(count);
-        Ok(count)
-    }
-
-    fn flush(&mut self) -> io::Result<()> {
-        Ok(())
-    }
-}
-
-/// Gives line feeds without end.
-#[derive(Drop)]
-struct EndlessReader;
-
-impl Read for EndlessReader {
-    fn read(&mut self, buf: &mut [u8]) -> io::Result<usize> {
-        buf.fill(b'\n');
-        Ok(buf.len())
-    }
-}
 
 /// How often a reader or a writer fails: a second try would find the first one well again.
 const FAILURES: [usize; 2] = [1, usize::MAX];
 
+/// A reader that fails so often after that many bytes of the script ends the shell; that many bytes of the answers are told then.
+fn expect_cut_reading(
+    rt: &impl Abort,
+    alloc: Global,
+    left: usize,
+    failures: usize,
+    told: usize,
+) -> Result<(), Fail> {
+    let (end, written) = run(alloc, CutReader::new(SCRIPT, left, failures))?;
+    assert_eq!(rt; end, ShellEnd::ReadFault);
+    assert_eq!(rt; status(end), 1);
+    assert_eq!(rt; Some(written.as_slice()), ANSWERS.get(..told));
+    Ok(())
+}
+
 #[test]
 fn the_reader_fails_after_each_count_of_bytes(rt: HostRuntime) -> Result<(), Fail> {
-    let alloc = rt.alloc();
-    for failures in FAILURES {
-        for left in 0..SCRIPT.len() + 1 {
-            let reader = CutReader {
-                bytes: SCRIPT,
-                left,
-                failures,
-            };
-            let (end, written) = run(alloc, reader)?;
-            assert_eq!(rt; end, ShellEnd::ReadFault);
-            assert_eq!(rt; status(end), 1);
-            // the lines end after 10, 14 and 19 bytes, and their answers after 15, 21 and all
-            let told = match left {
-                0..10 => 10,
-                10..14 => 15,
-                14..19 => 21,
-                _ => ANSWERS.len(),
-            };
-            assert_eq!(rt; Some(written.as_slice()), ANSWERS.get(..told));
+    for left in 0..SCRIPT.len() + 1 {
+        // the lines end after 10, 14 and 19 bytes, and their answers after 15, 21 and all
+        let told = match left {
+            0..10 => 10,
+            10..14 => 15,
+            14..19 => 21,
+            _ => ANSWERS.len(),
+        };
+        for failures in FAILURES {
+            expect_cut_reading(&rt, rt.alloc(), left, failures, told)?;
         }
     }
+    Ok(())
+}
+
+/// A writer that fails so often after that many bytes of the answers ends the shell. The command is recorded once the first answer is
+/// out.
+fn expect_cut_writing(
+    rt: &impl Abort,
+    alloc: Global,
+    left: usize,
+    failures: usize,
+) -> Result<(), Fail> {
+    let mut session = new_session(alloc)?;
+    let mut writer = CutWriter::new(alloc, left, failures);
+    let mut reader = SCRIPT;
+    let end = run_shell(alloc, &mut reader, &mut writer, &mut session);
+    assert_eq!(rt; end, ShellEnd::WriteFault);
+    assert_eq!(rt; status(end), 1);
+    assert_eq!(rt; Some(writer.held()), ANSWERS.get(..left));
+    let Ok(again) = Session::open(alloc, session.into_disk()) else {
+        return Err("not opened".into());
+    };
+    assert_eq!(rt; again.bench().seq() == 1, 10 <= left);
     Ok(())
 }
 
 #[test]
 fn the_writer_fails_after_each_count_of_bytes(rt: HostRuntime) -> Result<(), Fail> {
-    let alloc = rt.alloc();
     for failures in FAILURES {
         for left in 0..ANSWERS.len() {
-            let mut session = new_session(alloc)?;
-            let mut writer = CutWriter {
-                held: Vec::new(alloc),
-                left,
-                failures,
-            };
-            let mut reader = SCRIPT;
-            let end = run_shell(alloc, &mut reader, &mut writer, &mut session);
-            assert_eq!(rt; end, ShellEnd::WriteFault);
-            assert_eq!(rt; status(end), 1);
-            assert_eq!(rt; Some(writer.held.as_slice()), ANSWERS.get(..left));
-            let Ok(again) = Session::open(alloc, session.into_disk()) else {
-                return Err("not opened".into());
-            };
-            assert_eq!(rt; again.bench().seq() == 1, 10 <= left);
+            expect_cut_writing(&rt, rt.alloc(), left, failures)?;
         }
     }
-    Ok(())
-}
-
-#[test]
-fn input_is_limited(rt: HostRuntime) -> Result<(), Fail> {
-    let alloc = rt.alloc();
-    let (end, written) = run(alloc, EndlessReader)?;
-    assert_eq!(rt; end, ShellEnd::InputLimit);
-    assert_eq!(rt; written.as_slice(), b"session 0\n".as_slice());
     Ok(())
 }
 

@@ -1,34 +1,62 @@
 //! The bytes of session files, on disks in memory.
-ghost use Rattle.std.specs.Prelude.{Some, ◌≡◌};
-
-use crate::sessions::{ANSWERS, SCRIPT, bytes_of, new_session, serve};
-use mcs_disk::MemDisk;
+use crate::sessions::{ANSWERS, SCRIPT, new_session, serve};
+use mcs_disk::{Disk, MemDisk};
 use mcs_journal::{CreateFault, FILE_SIZE, OpenFault};
 use mcs_model::command::{Command, Place, Reply};
 use mcs_nibble::{Nibble, RegNo};
 use mcs_session::session::Session;
 use mcs_shell::ends::ShellEnd;
 use std::alloc::Global;
+use std::process::Abort;
 use std::test::Fail;
+
+/// The disk holds these bytes there, at most 16.
+fn expect_bytes(rt: &impl Abort, disk: &mut MemDisk, at: usize, want: &[u8]) {
+    let mut got = [0u8; 16];
+    assert!(rt; want.len() <= 16 && at <= disk.size() && want.len() <= disk.size() - at);
+    let found = &mut got[..want.len()];
+    assert!(rt; disk.read(at, found).is_ok());
+    assert_eq!(rt; &*found, want, "at {at}");
+}
+
+/// Bytes of the file of a new session, each stretch at its place.
+const NEW: [(usize, &[u8]); 9] = [
+    (0, b"MCS4BEN1"),
+    (8, &[0; 8]),
+    (16, &[0x00, 0x00, 0x1a, 0xa8]),
+    (20, &[0; 4]),
+    (24, b"\x02----"),
+    (85, b"----"),
+    (89, &[0; 12]),
+    (6_840, &[0, 1, 0, 0]),
+    (16_400, &[0]),
+];
 
 #[test]
 fn the_bytes_of_a_new_session(rt: HostRuntime) -> Result<(), Fail> {
-    let alloc = rt.alloc();
-    let mut disk = new_session(alloc)?.into_disk();
-    let bytes = bytes_of(alloc, &mut disk)?;
-    assert_eq!(rt; bytes.len(), 163_856);
-    assert_eq!(rt; bytes.get(..8), Some(b"MCS4BEN1".as_slice()));
-    assert_eq!(rt; bytes.get(8..16), Some([0; 8].as_slice()));
-    assert_eq!(rt;
-        bytes.get(16..20),
-        Some([0x00, 0x00, 0x1a, 0xa8].as_slice())
-    );
-    assert_eq!(rt; bytes.get(20..24), Some([0; 4].as_slice()));
-    assert_eq!(rt; bytes.get(24..29), Some(b"\x02----".as_slice()));
-    assert_eq!(rt; bytes.get(85..89), Some(b"----".as_slice()));
-    assert_eq!(rt; bytes.get(89..101), Some([0; 12].as_slice()));
-    assert_eq!(rt; bytes.get(6_840..6_844), Some([0, 1, 0, 0].as_slice()));
-    assert_eq!(rt; bytes.get(16_400), Some(&0));
+    let mut disk = new_session(rt.alloc())?.into_disk();
+    assert_eq!(rt; disk.size(), 163_856);
+    for (at, want) in NEW {
+        expect_bytes(&rt, &mut disk, at, want);
+    }
+    Ok(())
+}
+
+/// A session on this disk is answered so, where its shell comes to the end of input.
+fn expect_opened(
+    rt: &impl Abort,
+    alloc: Global,
+    disk: MemDisk,
+    script: &[u8],
+    answers: &[u8],
+) -> Result<(), Fail> {
+    let Ok(mut session) = Session::open(alloc, disk) else {
+        return Err("not opened".into());
+    };
+    let mut reader = script;
+    let (end, told) = serve(alloc, &mut reader, &mut session);
+    assert_eq!(rt; end, ShellEnd::End);
+    assert_eq!(rt; told.as_slice(), answers);
     Ok(())
 }
 
@@ -41,19 +69,9 @@ fn a_poke_is_answered_and_recorded(rt: HostRuntime) -> Result<(), Fail> {
     assert_eq!(rt; end, ShellEnd::End);
     assert_eq!(rt; told.as_slice(), ANSWERS);
     let mut disk = session.into_disk();
-    let bytes = bytes_of(alloc, &mut disk)?;
-    assert_eq!(rt; bytes.len(), 163_856);
-    assert_eq!(rt;
-        bytes.get(16_400..16_409),
-        Some([1, 0, 4, 7, 3, 5, 9, 0, 0].as_slice())
-    );
-    let Ok(mut again) = Session::open(alloc, disk) else {
-        return Err("not opened".into());
-    };
-    let (end, told) = serve(alloc, &mut b"".as_slice(), &mut again);
-    assert_eq!(rt; end, ShellEnd::End);
-    assert_eq!(rt; told.as_slice(), b"session 1\n".as_slice());
-    Ok(())
+    assert_eq!(rt; disk.size(), 163_856);
+    expect_bytes(&rt, &mut disk, 16_400, &[1, 0, 4, 7, 3, 5, 9, 0, 0]);
+    expect_opened(&rt, alloc, disk, b"", b"session 1\n")
 }
 
 #[test]
@@ -72,17 +90,9 @@ fn a_full_log_makes_room(rt: HostRuntime) -> Result<(), Fail> {
         b"session 9362\nok 9363\nseq 9363\n".as_slice()
     );
     let mut disk = session.into_disk();
-    let bytes = bytes_of(alloc, &mut disk)?;
-    assert_eq!(rt; bytes.get(8), Some(&1));
-    assert_eq!(rt;
-        bytes.get(98_320..98_329),
-        Some([1, 0, 4, 7, 3, 0, 1, 0, 0].as_slice())
-    );
-    let Ok(again) = Session::open(alloc, disk) else {
-        return Err("not opened".into());
-    };
-    assert_eq!(rt; again.bench().seq(), 9_363);
-    Ok(())
+    expect_bytes(&rt, &mut disk, 8, &[1]);
+    expect_bytes(&rt, &mut disk, 98_320, &[1, 0, 4, 7, 3, 0, 1, 0, 0]);
+    expect_opened(&rt, alloc, disk, b"", b"session 9363\n")
 }
 
 /// Why a disk holds no session, if it holds none.

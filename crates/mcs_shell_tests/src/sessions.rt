@@ -1,42 +1,14 @@
 //! Sessions on disks in memory, and what they answer.
-ghost use Rattle.std.specs.Prelude.{Some};
-
 use mcs_disk::{Disk, MemDisk};
+use mcs_fixtures::streams::joined;
 use mcs_journal::FILE_SIZE;
 use mcs_session::session::Session;
 use mcs_shell::ends::ShellEnd;
 use mcs_shell::shell::run_shell;
-use std::alloc::{AllocError, Global};
-use std::io::{self, Read};
+use std::alloc::Global;
+use std::io::Read;
 use std::process::Abort;
 use std::test::Fail;
-
-/// Gives these bytes, except for that many reads that fail after the first of them.
-#[derive(Drop)]
-pub(crate) struct CutReader<'a> {
-    pub(crate) bytes: &'a [u8],
-    pub(crate) left: usize,
-    pub(crate) failures: usize,
-}
-
-impl Read for CutReader<'_> {
-    ghost remaining = { λ r. Some r.bytes.now };
-
-    fn read(&mut self, buf: &mut [u8]) -> io::Result<usize> {
-        if self.left == 0 && 0 < self.failures {
-            self.failures -= 1;
-            return Err(io::ErrorKind::Other.into());
-        }
-        let most = if self.left == 0 {
-            buf.len()
-        } else {
-            self.left.min(buf.len())
-        };
-        let count = self.bytes.read(&mut buf[..most])?;
-        self.left = self.left.saturating_sub(count);
-        Ok(count)
-    }
-}
 
 pub(crate) const SCRIPT: &[u8] = b"poke r5 9\nseq\nregs\n";
 
@@ -71,15 +43,6 @@ pub(crate) fn run<R: Read + Drop>(
     Ok(serve(alloc, &mut reader, &mut session))
 }
 
-/// The pieces, one after the other.
-fn joined(alloc: Global, pieces: &[&[u8]]) -> Result<Vec<u8>, AllocError> {
-    let mut bytes = Vec::new(alloc);
-    for piece in pieces {
-        bytes.extend_from_slice(piece)?;
-    }
-    Ok(bytes)
-}
-
 /// A new session answers the pieces of a script with these, and its shell comes to the end of input.
 pub(crate) fn expect_answers(
     rt: &impl Abort,
@@ -93,13 +56,4 @@ pub(crate) fn expect_answers(
     assert_eq!(rt; end, ShellEnd::End);
     assert_eq!(rt; told.as_slice(), wanted.as_slice());
     Ok(())
-}
-
-/// All bytes of a disk.
-pub(crate) fn bytes_of<D: Disk>(alloc: Global, disk: &mut D) -> Result<Vec<u8>, Fail> {
-    let mut bytes = vec![in alloc; 0u8; disk.size()]?;
-    match disk.read(0, bytes.as_mut_slice()) {
-        Ok(()) => Ok(bytes),
-        Err(_) => Err("not read".into()),
-    }
 }

@@ -1,5 +1,6 @@
 //! Texts: where they end, and which are refused whatever their lines say.
-use crate::sessions::{CutReader, expect_answers, run};
+use crate::sessions::{expect_answers, run};
+use mcs_fixtures::streams::CutReader;
 use mcs_shell::ends::ShellEnd;
 use std::alloc::Global;
 use std::process::Abort;
@@ -79,12 +80,7 @@ const CUT_ANSWERED: &[u8] = b"session 0\nseq 0\nok 1 bytes 0\nseq 1\n";
 /// The reader gives the text in two pieces, or fails after the first one, where that many of the answers are told.
 fn expect_cut(rt: &impl Abort, alloc: Global, left: usize, told: usize) -> Result<(), Fail> {
     for failures in 0..2 {
-        let reader = CutReader {
-            bytes: CUT,
-            left,
-            failures,
-        };
-        let (end, written) = run(alloc, reader)?;
+        let (end, written) = run(alloc, CutReader::new(CUT, left, failures))?;
         if failures == 0 {
             assert_eq!(rt; end, ShellEnd::End);
             assert_eq!(rt; written.as_slice(), CUT_ANSWERED);

@@ -1,0 +1,136 @@
+//! Boards, part by part.
+use arrayvec::ArrayVec;
+use mcs_model::board::{Board, BoardFault, BoardParts, ChainPart, KeyMatrix, Line};
+use mcs_model::limits::{BANKS, CHAINS, KEY_COLUMNS, ROMS};
+use mcs_nibble::LineMask;
+
+/// Four output lines that are read as 0.
+pub const OUTPUTS: [LineMask; 4] = [LineMask::Zero; 4];
+
+/// Four input lines.
+pub const INPUTS: [LineMask; 4] = [LineMask::Input; 4];
+
+/// Lines 0 and 2 are inputs, line 1 an output read as 0, line 3 an output read as 1: `1i0i`.
+pub const MIXED: [LineMask; 4] = [
+    LineMask::Input,
+    LineMask::Zero,
+    LineMask::Input,
+    LineMask::One,
+];
+
+/// The columns of the worked board's keys: the lines of ROM 1, and of ROM 2.
+const COLUMNS: [Line; KEY_COLUMNS] = [
+    Line::Rom(1, 0),
+    Line::Rom(1, 1),
+    Line::Rom(1, 2),
+    Line::Rom(1, 3),
+    Line::Rom(2, 0),
+    Line::Rom(2, 1),
+    Line::Rom(2, 2),
+    Line::Rom(2, 3),
+];
+
+/// These lines, as far as there is room for them.
+pub fn lines<const CAP: usize>(of: &[Line]) -> ArrayVec<Line, CAP> {
+    let mut list = ArrayVec::new();
+    for line in of {
+        let _ = list.try_push(*line);
+    }
+    list
+}
+
+/// That many chains of that many chips, as far as a board has room for them, each clocked by the first line and taking in the second.
+pub fn chains(count: u8, chips: u8, (clock, data_in): (Line, Line)) -> ArrayVec<ChainPart, CHAINS> {
+    let mut list = ArrayVec::new();
+    for _ in 0..count {
+        let _ = list.try_push(ChainPart {
+            clock,
+            data_in,
+            chips,
+        });
+    }
+    list
+}
+
+/// The lines of ROM 0 that clock the worked boards' chain, and that it takes in.
+pub const CLOCK_AND_DATA: (Line, Line) = (Line::Rom(0, 0), Line::Rom(0, 1));
+
+/// A board whose one ROM, 0, has this port, with these banks, chains and lamps, and no keys.
+pub fn on_one_rom(
+    port: [LineMask; 4],
+    banks: [u8; BANKS],
+    chains: ArrayVec<ChainPart, CHAINS>,
+    lamps: &[Line],
+) -> Result<Board, BoardFault> {
+    let mut roms = [None; ROMS];
+    roms[0] = Some(port);
+    Board::of(BoardParts {
+        roms,
+        banks,
+        chains,
+        keys: None,
+        lamps: lines(lamps),
+    })
+}
+
+/// The worked board: three ROMs, a RAM chip in each of banks 0 and 1, a chain of ten bits, ten rows of eight keys, and three lamps.
+pub fn worked() -> Result<Board, BoardFault> {
+    let mut roms = [None; ROMS];
+    roms[0] = Some(OUTPUTS);
+    roms[1] = Some(INPUTS);
+    roms[2] = Some(INPUTS);
+    Board::of(BoardParts {
+        roms,
+        banks: [1, 1, 0, 0, 0, 0, 0, 0],
+        chains: chains(1, 1, CLOCK_AND_DATA),
+        keys: Some(KeyMatrix {
+            chain: 0,
+            first: 0,
+            rows: 10,
+            columns: lines(&COLUMNS),
+        }),
+        lamps: lines(&[Line::Chain(0, 0), Line::Chain(0, 1), Line::Ram(0, 0, 3)]),
+    })
+}
+
+/// Two ROMs, the second with a port of both directions, a chain of ten bits, and one row of two keys.
+pub fn two_keys() -> Result<Board, BoardFault> {
+    let mut roms = [None; ROMS];
+    roms[0] = Some(OUTPUTS);
+    roms[1] = Some(MIXED);
+    Board::of(BoardParts {
+        roms,
+        banks: [0; BANKS],
+        chains: chains(1, 1, CLOCK_AND_DATA),
+        keys: Some(KeyMatrix {
+            chain: 0,
+            first: 0,
+            rows: 1,
+            columns: lines(&[Line::Rom(1, 0), Line::Rom(1, 2)]),
+        }),
+        lamps: ArrayVec::new(),
+    })
+}
+
+/// Whether two boards are equal, part by part.
+pub fn is_same(one: &Board, other: &Board) -> bool {
+    let (a, b) = (one.parts(), other.parts());
+    a.roms == b.roms
+        && a.banks == b.banks
+        && a.chains.as_slice() == b.chains.as_slice()
+        && is_same_matrix(&a.keys, &b.keys)
+        && a.lamps.as_slice() == b.lamps.as_slice()
+}
+
+fn is_same_matrix(one: &Option<KeyMatrix>, other: &Option<KeyMatrix>) -> bool {
+    match (one, other) {
+        (None, None) => true,
+        (Some(a), Some(b)) => {
+            a.chain == b.chain
+                && a.first == b.first
+                && a.rows == b.rows
+                && a.columns.as_slice() == b.columns.as_slice()
+        }
+        _ => false,
+    }
+}

@@ -1,0 +1,9 @@
+//! What the tests of several crates share: boards, part by part and as text, files, readers and writers that fail, and a
+//! generator of numbers. The program uses none of it.
+#![tactic(auto)]
+
+pub mod boards;
+pub mod files;
+pub mod numbers;
+pub mod streams;
+pub mod texts;

@@ -1,0 +1,99 @@
+//! Readers and writers that stop or fail, and bytes in a row.
+ghost use Rattle.std.specs.Prelude.{Some};
+
+use std::alloc::{AllocError, Global};
+use std::io::{self, Read, Write};
+
+/// Gives some bytes, except for that many reads that fail once the first `left` of them are read.
+#[derive(Drop)]
+pub struct CutReader<'a> {
+    bytes: &'a [u8],
+    left: usize,
+    failures: usize,
+}
+
+impl<'a> CutReader<'a> {
+    /// `failures` reads fail once the first `left` of the bytes are read.
+    pub fn new(bytes: &'a [u8], left: usize, failures: usize) -> CutReader<'a> {
+        CutReader {
+            bytes,
+            left,
+            failures,
+        }
+    }
+}
+
+impl Read for CutReader<'_> {
+    ghost remaining = { λ r. Some r.bytes.now };
+
+    fn read(&mut self, buf: &mut [u8]) -> io::Result<usize> {
+        if self.left == 0 && 0 < self.failures {
+            self.failures -= 1;
+            return Err(io::ErrorKind::Other.into());
+        }
+        let most = if self.left == 0 {
+            buf.len()
+        } else {
+            self.left.min(buf.len())
+        };
+        let count = self.bytes.read(&mut buf[..most])?;
+        self.left = self.left.saturating_sub(count);
+        Ok(count)
+    }
+}
+
+/// Takes bytes, except for that many writes that fail once the first `left` of them are taken.
+#[derive(Drop)]
+pub struct CutWriter {
+    held: Vec<u8>,
+    left: usize,
+    failures: usize,
+}
+
+impl CutWriter {
+    /// `failures` writes fail once `left` bytes are taken.
+    pub fn new(alloc: Global, left: usize, failures: usize) -> CutWriter {
+        CutWriter {
+            held: Vec::new(alloc),
+            left,
+            failures,
+        }
+    }
+
+    /// The bytes that were taken.
+    pub fn held(&self) -> &[u8] {
+        self.held.as_slice()
+    }
+}
+
+impl Write for CutWriter {
+    ghost contents = { λ w. Some w.held.items };
+
+    fn write(&mut self, buf: &[u8]) -> io::Result<usize> {
+        if self.left == 0 && 0 < self.failures {
+            self.failures -= 1;
+            return Err(io::ErrorKind::Other.into());
+        }
+        let count = if self.left == 0 {
+            buf.len()
+        } else {
+            self.left.min(buf.len())
+        };
+        self.held.extend_from_slice(&buf[..count])?;
+        self.left = self.left.saturating_sub(count);
+        Ok(count)
+    }
+
+    fn flush(&mut self) -> io::Result<()> {
+        Ok(())
+    }
+}
+
+/// The pieces, one after the other.
+pub fn joined(alloc: Global, pieces: &[&[u8]]) -> Result<Vec<u8>, AllocError> {
+    let mut bytes = Vec::new(alloc);
+    for piece in pieces {
+        bytes.extend_from_slice(piece)?;
+    }
+    Ok(bytes)
+}

@@ -1,0 +1,65 @@
+//! Boards as text.
+
+/// The command that puts in the worked board: three ROMs, a RAM chip in each of banks 0 and 1, a chain of ten bits, ten rows of
+/// eight keys, and three lamps.
+pub const WIRE_WORKED: &[u8] = b"wire
+[[rom]]
+chip = 0
+port = \"0000\"
+[[rom]]
+chip = 1
+port = \"iiii\"
+[[rom]]
+chip = 2
+port = \"iiii\"
+[[ram]]
+bank = 0
+chips = 1
+[[ram]]
+bank = 1
+chips = 1
+[[chain]]
+clock = \"rom0.0\"
+data = \"rom0.1\"
+chips = 1
+[keys]
+chain = 0
+first = 0
+rows = 10
+columns = [\"rom1.0\", \"rom1.1\", \"rom1.2\", \"rom1.3\", \"rom2.0\", \"rom2.1\", \"rom2.2\", \"rom2.3\"]
+[[lamp]]
+line = \"chain0.0\"
+[[lamp]]
+line = \"chain0.1\"
+[[lamp]]
+line = \"ram0.0.3\"
+.
+";
+
+/// The command that puts in two ROMs, the second with a port of both directions, a chain of ten bits, and one row of two keys.
+pub const WIRE_TWO_KEYS: &[u8] = b"wire
+[[rom]]
+chip = 0
+port = \"0000\"
+[[rom]]
+chip = 1
+port = \"1i0i\"
+[[chain]]
+clock = \"rom0.0\"
+data = \"rom0.1\"
+chips = 1
+[keys]
+chain = 0
+first = 0
+rows = 1
+columns = [\"rom1.0\", \"rom1.2\"]
+.
+";
+
+/// The text of the board in such a command: what stands between `wire` and the dot.
+pub fn board_in(command: &[u8]) -> &[u8] {
+    let text = command
+        .strip_prefix(b"wire\n".as_slice())
+        .unwrap_or(command);
+    text.strip_suffix(b".\n".as_slice()).unwrap_or(text)
+}
