@@ -1,7 +1,7 @@
 //! What the tests do at a bench.
-use crate::boards::calculator;
 use mcs_bench::Bench;
-use mcs_model::board::Board;
+use mcs_fixtures::boards::worked;
+use mcs_model::board::{Board, BoardFault};
 use mcs_model::command::{Command, Place, Reply};
 use mcs_model::image::Image;
 use mcs_model::refusals::BenchFault;
@@ -90,15 +90,19 @@ pub(crate) fn poke(rt: &impl Abort, bench: &mut Bench, place: Place) {
     did(rt, bench, &Command::Poke(place));
 }
 
-pub(crate) fn on_board(alloc: Global, rt: &impl Abort, board: Board) -> Bench {
+pub(crate) fn wire(rt: &impl Abort, bench: &mut Bench, board: Result<Board, BoardFault>) {
+    did(rt, bench, &Command::Wire(board.expect(rt, "a board")));
+}
+
+pub(crate) fn on_board(alloc: Global, rt: &impl Abort, board: Result<Board, BoardFault>) -> Bench {
     let mut bench = Bench::new(alloc).expect(rt, "memory");
-    did(rt, &mut bench, &Command::Wire(board));
+    wire(rt, &mut bench, board);
     bench
 }
 
-/// A bench on the board of the calculator.
+/// A bench on the worked board.
 pub(crate) fn wired(alloc: Global, rt: &impl Abort) -> Bench {
-    on_board(alloc, rt, calculator(rt))
+    on_board(alloc, rt, worked())
 }
 
 /// Looks at the counter, whether a cycle is owed, and the accumulator and carry.

@@ -1,7 +1,7 @@
 //! States as plain numbers: those that a bench can be in, and those that none can be in.
-use crate::boards::calculator;
 use crate::desk::{address, nibble, refused};
 use mcs_bench::{Bench, Flat};
+use mcs_fixtures::boards::worked;
 use mcs_model::command::Command;
 use mcs_model::limits::CHAIN_PLACES;
 use mcs_model::refusals::BenchFault;
@@ -107,7 +107,7 @@ fn watches_rise(rt: HostRuntime) {
 #[test]
 fn a_state_of_a_board_is_restored(rt: HostRuntime) {
     let mut flat = new_state(rt.alloc(), &rt);
-    flat.board = calculator(&rt);
+    flat.board = worked().expect(&rt, "a board");
     assert!(rt; !flat.check());
     let mut row = arrayvec::ArrayVec::new();
     for i in 0..10 {

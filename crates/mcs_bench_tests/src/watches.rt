@@ -1,7 +1,9 @@
 //! Watched characters: which runs they stop, and where.
-use crate::boards::{calculator, two_keys};
-use crate::desk::{address, bank, did, done, load, nibble, poke, refused, runs, stands, wired};
+use crate::desk::{
+    address, bank, did, done, load, nibble, poke, refused, runs, stands, wire, wired,
+};
 use mcs_bench::Bench;
+use mcs_fixtures::boards::{two_keys, worked};
 use mcs_model::command::{Command, Place, Reply};
 use mcs_model::refusals::BenchFault;
 use mcs_model::stop::Stop;
@@ -135,9 +137,9 @@ fn wire_and_reset_keep_watches(rt: HostRuntime) {
     let mut bench = wired(rt.alloc(), &rt);
     watch(&rt, &mut bench, 5, 0x3F);
     watch(&rt, &mut bench, 0, 1);
-    did(&rt, &mut bench, &Command::Wire(two_keys(&rt)));
+    wire(&rt, &mut bench, two_keys());
     did(&rt, &mut bench, &Command::Reset);
-    did(&rt, &mut bench, &Command::Wire(calculator(&rt)));
+    wire(&rt, &mut bench, worked());
     let watches = bench.watches();
     assert_eq!(rt; watches.len(), 2);
     assert_eq!(rt; watches[0], address(1));

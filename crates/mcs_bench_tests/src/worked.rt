@@ -1,11 +1,11 @@
 //! Worked programs on worked boards, by hand from the instruction descriptions of Intel's manual and the rules of
 //! commands. A program stands in a comment, its bytes beside it.
-use crate::boards::two_keys;
 use crate::desk::{
     address, bank, did, done, holds, lamps, lit, load, load_at, nibble, on_board, poke, refused,
     register, runs, stands, wired,
 };
 use mcs_bench::Bench;
+use mcs_fixtures::boards::two_keys;
 use mcs_model::command::{Command, Place, Reply};
 use mcs_model::refusals::BenchFault;
 use mcs_model::stop::Stop;
@@ -249,7 +249,7 @@ fn a_program_reads_the_keys(rt: HostRuntime) {
 /// LDM 3, WRR, FIM P0 10, SRC P0, RDR at a port `1i0i` whose lines 0 and 2 are pulled to 1.
 #[test]
 fn a_port_of_both_directions_is_read(rt: HostRuntime) {
-    let mut bench = on_board(rt.alloc(), &rt, two_keys(&rt));
+    let mut bench = on_board(rt.alloc(), &rt, two_keys());
     load(
         rt.alloc(),
         &rt,

@@ -1,7 +1,7 @@
 //! Chips alone: worked values of a ROM's port, and banks and chains of every size against plain lists.
 ghost use Rattle.std.specs.Prelude.{◌≤◌, length};
 
-use crate::boards::MIXED;
+use mcs_fixtures::boards::MIXED;
 use mcs_nibble::{Bit, Nibble};
 use mcs_ram4002::Bank;
 use mcs_rom4001::Rom;

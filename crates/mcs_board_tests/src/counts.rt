@@ -2,7 +2,7 @@
 use crate::boards::{largest, one_long_chain, one_mixed_rom};
 use mcs_board::Rig;
 use mcs_cpu4004::{Bus, Cpu, Cycle};
-use mcs_model::board::Board;
+use mcs_model::board::{Board, BoardFault};
 use mcs_nibble::{Addr, Bit, Nibble};
 use std::alloc::Global;
 use std::process::Abort;
@@ -15,13 +15,14 @@ fn nibble(n: u8) -> Nibble {
 fn ran<const ROMS: usize, const BANKS: usize, const CHAINS: usize, const MAX: usize>(
     alloc: Global,
     rt: &impl Abort,
-    board: &Board,
+    board: Result<Board, BoardFault>,
     program: &[u8],
     cycles: u32,
 ) -> (Rig<ROMS, BANKS, CHAINS, MAX>, Cpu) {
+    let board = board.expect(rt, "a board");
     let mut rig = Rig::<ROMS, BANKS, CHAINS, MAX>::new(alloc).expect(rt, "memory");
-    assert!(rt; Rig::<ROMS, BANKS, CHAINS, MAX>::fits(board));
-    rig.wire(board);
+    assert!(rt; Rig::<ROMS, BANKS, CHAINS, MAX>::fits(&board));
+    rig.wire(&board);
     let mut at = Addr::ZERO;
     for byte in program {
         rig.set_rom_byte(at, *byte);
@@ -55,14 +56,16 @@ fn comes_to_the_end<const ROMS: usize, const BANKS: usize, const CHAINS: usize, 
 #[test]
 fn one_place_of_each_kind(rt: HostRuntime) {
     let program = [0x20, 0xFF, 0x21, 0xD9, 0xE0, 0x20, 0x00, 0x21, 0xD3, 0xE2];
-    let (mut rig, cpu) = ran::<1, 1, 1, 80>(rt.alloc(), &rt, &one_long_chain(&rt), &program, 10);
+    let (mut rig, cpu) = ran::<1, 1, 1, 80>(rt.alloc(), &rt, one_long_chain(), &program, 10);
     assert_eq!(rt; cpu.regs().pc.get(), 10);
     assert_eq!(rt; rig.ram(0, 0xFF), nibble(9));
     assert_eq!(rt; rig.ram(1, 0xFF), Nibble::ZERO);
     assert_eq!(rt; rig.chain_bit(0, 0), Bit::ONE);
     comes_to_the_end(&rt, &mut rig);
-    assert!(rt; !Rig::<1, 1, 1, 80>::fits(&largest(&rt)));
-    assert!(rt; !Rig::<1, 1, 1, 79>::fits(&one_long_chain(&rt)));
+    let larger = largest().expect(&rt, "a board");
+    assert!(rt; !Rig::<1, 1, 1, 80>::fits(&larger));
+    let longer = one_long_chain().expect(&rt, "a board");
+    assert!(rt; !Rig::<1, 1, 1, 79>::fits(&longer));
 }
 
 /// LDM 7, DCL, FIM P0 FF, SRC P0, LDM 9, WRM, WMP, FIM P0 30, SRC P0, LDM 3, WRR: the last character and the last port of
@@ -72,7 +75,7 @@ fn as_many_places_as_a_board_can_have(rt: HostRuntime) {
     let program = [
         0xD7, 0xFD, 0x20, 0xFF, 0x21, 0xD9, 0xE0, 0xE1, 0x20, 0x30, 0x21, 0xD3, 0xE2,
     ];
-    let (mut rig, cpu) = ran::<16, 8, 4, 80>(rt.alloc(), &rt, &largest(&rt), &program, 13);
+    let (mut rig, cpu) = ran::<16, 8, 4, 80>(rt.alloc(), &rt, largest(), &program, 13);
     assert_eq!(rt; cpu.regs().pc.get(), 13);
     assert_eq!(rt; rig.ram(7, 0xFF), nibble(9));
     assert_eq!(rt; rig.ram_latch(7, 3), nibble(9));
@@ -87,7 +90,7 @@ fn as_many_places_as_a_board_can_have(rt: HostRuntime) {
 #[test]
 fn no_place_for_a_chain(rt: HostRuntime) {
     let program = [0xDF, 0xE2, 0xEA];
-    let (mut rig, cpu) = ran::<1, 0, 0, 0>(rt.alloc(), &rt, &one_mixed_rom(&rt), &program, 3);
+    let (mut rig, cpu) = ran::<1, 0, 0, 0>(rt.alloc(), &rt, one_mixed_rom(), &program, 3);
     assert_eq!(rt; cpu.regs().acc, nibble(8));
     assert_eq!(rt; rig.rom_latch(0), nibble(10));
     assert_eq!(rt; rig.read_port(nibble(0)), nibble(8));
@@ -95,5 +98,6 @@ fn no_place_for_a_chain(rt: HostRuntime) {
     assert_eq!(rt; rig.chain_bit(0, 0), Bit::ZERO);
     rig.reset();
     assert_eq!(rt; rig.rom_latch(0), Nibble::ZERO);
-    assert!(rt; !Rig::<1, 0, 0, 0>::fits(&one_long_chain(&rt)));
+    let longer = one_long_chain().expect(&rt, "a board");
+    assert!(rt; !Rig::<1, 0, 0, 0>::fits(&longer));
 }

@@ -2,38 +2,20 @@
 //! generator picks.
 ghost use Rattle.std.specs.Prelude.{◌<◌, ◌≤◌};
 
+use mcs_fixtures::numbers::Numbers;
 use mcs_nibble::{Bit, Nibble};
 use mcs_ram4002::{Bank, BankWrite};
 use mcs_shift4003::Chain;
 use std::process::Abort;
 use std::test::Fail;
 
-/// A generator of numbers (Knuth's MMIX linear congruential generator).
-#[derive(Drop)]
-struct Numbers {
-    state: u64,
+/// A byte, of two characters.
+fn byte(numbers: &mut Numbers) -> u8 {
+    numbers.below(16) * 16 + numbers.below(16)
 }
 
-impl Numbers {
-    /// A number below `n`.
-    fn below(&mut self, n: u8) -> u8
-        requires { 0 < n }
-        ensures { result < n }
-    {
-        self.state = self
-            .state
-            .wrapping_mul(6_364_136_223_846_793_005)
-            .wrapping_add(1_442_695_040_888_963_407);
-        ((self.state >> 33) % u64::from(n)) as u8
-    }
-
-    fn byte(&mut self) -> u8 {
-        self.below(16) * 16 + self.below(16)
-    }
-
-    fn nibble(&mut self) -> Nibble {
-        Nibble::low_of(self.below(16))
-    }
+fn nibble(numbers: &mut Numbers) -> Nibble {
+    Nibble::low_of(numbers.below(16))
 }
 
 /// The upper character of a byte beside the lower one, and two status characters of one byte.
@@ -134,8 +116,8 @@ fn call_bank<const CHIPS: usize>(
     plain: &mut PlainBank,
     numbers: &mut Numbers,
 ) {
-    let byte = numbers.byte();
-    let n = numbers.nibble();
+    let byte = byte(numbers);
+    let n = nibble(numbers);
     let k = numbers.below(4);
     let src = plain.src;
     match numbers.below(7) {
@@ -203,7 +185,7 @@ fn compare_bank<const CHIPS: usize>(rt: &impl Abort, bank: &Bank<CHIPS>, plain: 
 
 /// Two rounds of 1,500 calls, a comparison after every thirty, and a clear after each round.
 fn run_bank<const CHIPS: usize>(rt: &impl Abort, bank: &mut Bank<CHIPS>, wired: usize) {
-    let mut numbers = Numbers { state: 4002 };
+    let mut numbers = Numbers::new(4002);
     for _ in 0..2 {
         let mut plain = PlainBank::new(wired);
         for _ in 0..50 {
@@ -296,7 +278,7 @@ fn compare_chain<const MAX: usize>(rt: &impl Abort, chain: &Chain<MAX>, plain: &
 
 /// 2,000 calls, a comparison after every five, and a clear before every hundred.
 fn run_chain<const MAX: usize>(rt: &impl Abort, chain: &mut Chain<MAX>) {
-    let mut numbers = Numbers { state: 4003 };
+    let mut numbers = Numbers::new(4003);
     for _ in 0..20 {
         let mut plain = PlainChain { list: [0; 96] };
         chain.clear();

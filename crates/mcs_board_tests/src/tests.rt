@@ -1,20 +1,26 @@
 //! Worked programs and port writes, by hand from the instruction descriptions of Intel's manual and the rules of the
 //! wiring.
-use crate::boards::{calculator, one_rom, two_keys};
+use crate::boards::one_rom;
 use mcs_board::Rig;
 use mcs_cpu4004::{Bus, Cpu, Cycle};
-use mcs_model::board::{Board, Line};
+use mcs_fixtures::boards::{two_keys, worked};
+use mcs_model::board::{Board, BoardFault, Line};
 use mcs_nibble::{Addr, Bit, Nibble};
 use std::alloc::Global;
 use std::process::Abort;
 
 type SmallRig = Rig<3, 8, 2, 40>;
 
-fn wired(alloc: Global, rt: &impl Abort, board: &Board) -> SmallRig {
+fn wired(alloc: Global, rt: &impl Abort, board: Result<Board, BoardFault>) -> SmallRig {
     let mut rig = SmallRig::new(alloc).expect(rt, "memory");
-    assert!(rt; SmallRig::fits(board));
-    rig.wire(board);
+    wire(rt, &mut rig, board);
     rig
+}
+
+fn wire(rt: &impl Abort, rig: &mut SmallRig, board: Result<Board, BoardFault>) {
+    let board = board.expect(rt, "a board");
+    assert!(rt; SmallRig::fits(&board));
+    rig.wire(&board);
 }
 
 fn nibble(n: u8) -> Nibble {
@@ -46,7 +52,7 @@ fn lamps(rig: &SmallRig) -> [Option<Bit>; 4] {
 
 #[test]
 fn an_absent_rom_reads_0_and_keeps_nothing(rt: HostRuntime) {
-    let mut rig = wired(rt.alloc(), &rt, &one_rom(&rt));
+    let mut rig = wired(rt.alloc(), &rt, one_rom());
     assert_eq!(rt; rig.fetch(address(0x100)), 0);
     rig.set_rom_byte(address(0x100), 0xD5);
     assert_eq!(rt; rig.fetch(address(0x100)), 0);
@@ -57,7 +63,7 @@ fn an_absent_rom_reads_0_and_keeps_nothing(rt: HostRuntime) {
 /// FIM P0 05, SRC P0, LDM 1, DCL, LDM 7, WRM: bank 1 was not designated at the SRC, and its own SRC byte is 0.
 #[test]
 fn each_bank_keeps_its_own_src_byte(rt: HostRuntime) {
-    let mut rig = wired(rt.alloc(), &rt, &calculator(&rt));
+    let mut rig = wired(rt.alloc(), &rt, worked());
     load(&mut rig, &[0x20, 0x05, 0x21, 0xD1, 0xFD, 0xD7, 0xE0]);
     run(&rt, &mut Cpu::new(), &mut rig, 7);
     for src in 0..=255 {
@@ -69,7 +75,7 @@ fn each_bank_keeps_its_own_src_byte(rt: HostRuntime) {
 
 #[test]
 fn a_rising_clock_line_shifts_and_a_reset_clears(rt: HostRuntime) {
-    let mut rig = wired(rt.alloc(), &rt, &calculator(&rt));
+    let mut rig = wired(rt.alloc(), &rt, worked());
     let lit = [Some(Bit::ONE), Some(Bit::ZERO), Some(Bit::ZERO), None];
     rig.rom_port(nibble(3));
     assert_eq!(rt; lamps(&rig), lit);
@@ -90,7 +96,7 @@ fn a_rising_clock_line_shifts_and_a_reset_clears(rt: HostRuntime) {
 /// Rows 0 and 1 are driven by two bits that were shifted in; the keys at (0, 1) and (1, 2) pull lines 1 and 2 of ROM 1.
 #[test]
 fn keys_of_driven_rows_are_read(rt: HostRuntime) {
-    let mut rig = wired(rt.alloc(), &rt, &calculator(&rt));
+    let mut rig = wired(rt.alloc(), &rt, worked());
     assert!(rt; rig.board().has_key(0, 1));
     rig.press(0, 1);
     assert!(rt; rig.board().has_key(1, 2));
@@ -114,7 +120,7 @@ fn keys_of_driven_rows_are_read(rt: HostRuntime) {
 /// The same as a program: LDM 3, WRR, LDM 2, WRR, LDM 3, WRR, FIM P0 10, SRC P0, RDR, KBP.
 #[test]
 fn a_program_reads_the_keys(rt: HostRuntime) {
-    let mut rig = wired(rt.alloc(), &rt, &calculator(&rt));
+    let mut rig = wired(rt.alloc(), &rt, worked());
     let program = [
         0xD3, 0xE2, 0xD2, 0xE2, 0xD3, 0xE2, 0x20, 0x10, 0x21, 0xEA, 0xFC,
     ];
@@ -135,7 +141,7 @@ fn a_program_reads_the_keys(rt: HostRuntime) {
 /// Lines 0 and 2 are pulled by keys, lines 1 and 3 read the constants 0 and 1.
 #[test]
 fn a_port_of_both_directions_is_read(rt: HostRuntime) {
-    let mut rig = wired(rt.alloc(), &rt, &two_keys(&rt));
+    let mut rig = wired(rt.alloc(), &rt, two_keys());
     rig.rom_port(nibble(3));
     rig.src(0, 0x10);
     assert_eq!(rt; rig.port_read(), nibble(8));
@@ -154,19 +160,15 @@ fn a_port_of_both_directions_is_read(rt: HostRuntime) {
 /// Another board keeps the bytes of the ROMs that it has, and nothing else.
 #[test]
 fn another_board_keeps_its_roms_alone(rt: HostRuntime) {
-    let mut rig = wired(rt.alloc(), &rt, &calculator(&rt));
+    let mut rig = wired(rt.alloc(), &rt, worked());
     rig.set_rom_byte(address(0x010), 0x12);
     rig.set_rom_byte(address(0x110), 0x34);
     rig.rom_port(nibble(3));
-    let board = one_rom(&rt);
-    assert!(rt; SmallRig::fits(&board));
-    rig.wire(&board);
+    wire(&rt, &mut rig, one_rom());
     assert_eq!(rt; rig.rom_byte(address(0x010)), 0x12);
     assert_eq!(rt; rig.rom_byte(address(0x110)), 0);
     assert_eq!(rt; rig.lamp(0), None);
-    let board = calculator(&rt);
-    assert!(rt; SmallRig::fits(&board));
-    rig.wire(&board);
+    wire(&rt, &mut rig, worked());
     assert_eq!(rt; rig.rom_byte(address(0x110)), 0);
     assert_eq!(rt; rig.lamp(0), Some(Bit::ZERO));
     assert!(rt; rig.board().has_line(Line::Rom(0, 0)));

@@ -1,6 +1,7 @@
 //! The bytes of commands.
-use crate::boards::{each_part, largest, two_keys};
+use crate::boards::{each_part, largest, wire};
 use mcs_codec::{COMMAND_BYTES, command_bytes, command_of};
+use mcs_fixtures::boards::two_keys;
 use mcs_model::board::Board;
 use mcs_model::command::{Command, Place};
 use mcs_nibble::{Addr, BankNo, Bit, Nibble, RegNo, StatusNo};
@@ -116,9 +117,9 @@ fn boards(rt: HostRuntime) {
     want[73..83].copy_from_slice(&[1, 0, 0, 1, 0, 0, 0, 3, 0, 3]);
     want[83..92].copy_from_slice(&[1, 0, 5, 2, 1, 0, 0, 2, 0]);
     want[92..].copy_from_slice(&[1, 1, 1, 0, 3]);
-    expect_both(&rt, alloc, &Command::Wire(each_part(&rt)), &want);
+    expect_both(&rt, alloc, &wire(&rt, each_part()), &want);
     let mut bytes = [0; COMMAND_BYTES];
-    let count = command_bytes(&Command::Wire(largest(&rt)), &mut bytes);
+    let count = command_bytes(&wire(&rt, largest()), &mut bytes);
     assert_eq!(rt; count, 404);
     assert!(rt;
         command_of(alloc, &bytes[..404])
@@ -138,7 +139,7 @@ fn line_3_of_a_port_stands_first(rt: HostRuntime) {
     want[73..83].copy_from_slice(&[1, 0, 0, 0, 0, 0, 0, 1, 0, 1]);
     want[83..96].copy_from_slice(&[1, 0, 0, 1, 2, 0, 1, 0, 0, 0, 1, 2, 0]);
     want[96] = 0;
-    expect_both(&rt, rt.alloc(), &Command::Wire(two_keys(&rt)), &want);
+    expect_both(&rt, rt.alloc(), &wire(&rt, two_keys()), &want);
 }
 
 #[test]

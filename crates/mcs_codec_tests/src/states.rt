@@ -1,7 +1,7 @@
 //! The bytes of states.
 ghost use Rattle.std.specs.Prelude.{◌≡◌, length};
 
-use crate::boards::{largest, one_rom};
+use crate::boards::{largest, one_rom, wire};
 use mcs_bench::Bench;
 use mcs_codec::{STATE_BYTES, bench_of, state_bytes};
 use mcs_model::command::{Command, Place};
@@ -137,7 +137,7 @@ fn one_byte_of_a_new_bench_changed(rt: HostRuntime) {
 fn an_owed_cycle_is_kept(rt: HostRuntime) {
     let alloc = rt.alloc();
     let mut bench = Bench::new(alloc).expect(&rt, "memory");
-    apply(&rt, &mut bench, &Command::Wire(one_rom(&rt)));
+    apply(&rt, &mut bench, &wire(&rt, one_rom()));
     apply(
         &rt,
         &mut bench,
@@ -236,7 +236,7 @@ fn nine_watches_are_no_state(rt: HostRuntime) {
 fn the_longest_state(rt: HostRuntime) {
     let alloc = rt.alloc();
     let mut bench = Bench::new(alloc).expect(&rt, "memory");
-    apply(&rt, &mut bench, &Command::Wire(largest(&rt)));
+    apply(&rt, &mut bench, &wire(&rt, largest()));
     for at in 0..32 {
         apply(&rt, &mut bench, &Command::Break(address(at)));
     }

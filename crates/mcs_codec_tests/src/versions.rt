@@ -1,5 +1,5 @@
 //! The two versions of the bytes, and sessions of version 1 carried over.
-use crate::boards::{chained, each_part};
+use crate::boards::{chained, each_part, wire};
 use crate::states::{address, apply, buffer, expect_bytes, front, is_read, new_state, slice_of};
 use mcs_bench::Bench;
 use mcs_codec::{bench_of, in_version_1, state_bytes, version_of};
@@ -147,7 +147,7 @@ fn chains_of_either_version(rt: HostRuntime) {
         }
     }
     let mut bench = Bench::new(rt.alloc()).expect(&rt, "memory");
-    apply(&rt, &mut bench, &Command::Wire(chained(&rt, 4, 8)));
+    apply(&rt, &mut bench, &wire(&rt, chained(4, 8)));
     let mut written = buffer(&rt, rt.alloc());
     let count = state_bytes(&bench, &mut written);
     let want = chained_state(&rt, rt.alloc(), false, 4, 8);
@@ -159,10 +159,10 @@ fn commands_of_version_1(rt: HostRuntime) {
     let bank = BankNo::of(0).expect(&rt, "a bank");
     assert!(rt; in_version_1(&Command::Step));
     assert!(rt; in_version_1(&Command::Poke(Place::Pc(address(1)))));
-    assert!(rt; in_version_1(&Command::Wire(each_part(&rt))));
-    assert!(rt; in_version_1(&Command::Wire(chained(&rt, 2, 4))));
-    assert!(rt; !in_version_1(&Command::Wire(chained(&rt, 3, 1))));
-    assert!(rt; !in_version_1(&Command::Wire(chained(&rt, 1, 5))));
+    assert!(rt; in_version_1(&wire(&rt, each_part())));
+    assert!(rt; in_version_1(&wire(&rt, chained(2, 4))));
+    assert!(rt; !in_version_1(&wire(&rt, chained(3, 1))));
+    assert!(rt; !in_version_1(&wire(&rt, chained(1, 5))));
     assert!(rt; !in_version_1(&Command::Watch(bank, 0)));
     assert!(rt; !in_version_1(&Command::Unwatch(bank, 0)));
 }

@@ -1,4 +1,5 @@
 //! Sessions in files of the host, chosen by the words of the command line.
+use mcs_fixtures::files::{NEW_BENCH, POKE};
 use mcs_host::{Choice, FileDisk, choice};
 use mcs_session::session::Session;
 use mcs_shell::ends::ShellEnd;
@@ -106,13 +107,11 @@ fn put(bytes: &mut [u8], at: usize, from: &[u8]) {
 fn a_file_of_version_1_is_carried_over(rt: HostRuntime) -> Result<(), Fail> {
     let alloc = rt.alloc();
     let path = "a_file_of_version_1.mcs";
-    // the state of a new bench: 6,822 bytes, of which the ROMs are dashes and TEST is 1; then the record of `poke r5 9`
     let mut first = vec![in alloc; 0u8; 163_856]?;
-    put(&mut first, 0, b"MCS4BEN1");
-    put(&mut first, 18, &[0x1A, 0xA6]);
-    put(&mut first, 24, &[b'-'; 64]);
-    put(&mut first, 6_840, &[1]);
-    put(&mut first, 16_400, &[1, 0, 4, 7, 3, 5, 9]);
+    for (at, from) in NEW_BENCH {
+        put(&mut first, at, from);
+    }
+    put(&mut first, POKE.0, POKE.1);
     fs::write(&rt, path, first.as_slice())?;
     let Ok(mut session) = session_of(&rt, "open", path)? else {
         return Err("not opened".into());

@@ -2,8 +2,9 @@
 use mcs_disk::{Disk, FuseDisk, MemDisk};
 use mcs_journal::{FILE_SIZE, OpenFault};
 use mcs_model::command::{Command, Place, Reply};
+use mcs_model::image::Image;
 use mcs_model::stop::Stop;
-use mcs_nibble::{Nibble, RegNo};
+use mcs_nibble::{Addr, Nibble, RegNo};
 use mcs_session::session::Session;
 use std::alloc::Global;
 use std::process::Abort;
@@ -14,6 +15,18 @@ pub(crate) fn poke(rt: &impl Abort, register: u8, value: u8) -> Command {
         (Some(register), Some(value)) => Command::Poke(Place::Register(register, value)),
         _ => panic!(rt; "no such register or value"),
     }
+}
+
+/// Puts these bytes into ROM, from address 0 on.
+pub(crate) fn load(alloc: Global, rt: &impl Abort, bytes: &[u8]) -> Command {
+    let mut image = Image::new(alloc).expect(rt, "memory");
+    let mut at = Addr::ZERO;
+    for byte in bytes {
+        assert!(rt; image.pairs().iter().all(|pair| pair.0 < at));
+        image.push(at, *byte).expect(rt, "memory");
+        at = at.plus(1);
+    }
+    Command::Load(image)
 }
 
 pub(crate) fn blank(alloc: Global, rt: &impl Abort) -> MemDisk {

@@ -1,6 +1,7 @@
 //! Files of version 1 that the build of commit a1f6da2 made, the last one that wrote version 1.
 use crate::desk::{blank, leave};
 use mcs_disk::MemDisk;
+use mcs_fixtures::files::NEW_BENCH;
 use std::alloc::Global;
 use std::process::Abort;
 
@@ -12,14 +13,6 @@ pub(crate) struct File {
     /// Bytes at a place, one after the other that many times. All other bytes of the file are 0.
     pub(crate) runs: &'static [(usize, &'static [u8], usize)],
 }
-
-/// What each of the files begins with: 6,822 bytes of state, without ROMs and with TEST at 1.
-const NEW: [(usize, &[u8], usize); 4] = [
-    (0, b"MCS4BEN1", 1),
-    (18, &[0x1A, 0xA6], 1),
-    (24, b"-", 64),
-    (6_840, &[1], 1),
-];
 
 /// The worked board: three ROMs, two RAM chips, a chain of ten bits, eighty keys, three lamps.
 const BOARD: [(usize, &[u8], usize); 3] = [
@@ -162,7 +155,9 @@ fn put(rt: &impl Abort, disk: &mut MemDisk, from: usize, runs: &[(usize, &[u8], 
 /// A disk that holds a file.
 pub(crate) fn disk_of(alloc: Global, rt: &impl Abort, file: &File) -> MemDisk {
     let mut disk = blank(alloc, rt);
-    put(rt, &mut disk, 0, &NEW);
+    for (at, bytes) in NEW_BENCH {
+        leave(rt, &mut disk, at, bytes);
+    }
     for board in file.boards {
         put(rt, &mut disk, *board, &BOARD);
     }

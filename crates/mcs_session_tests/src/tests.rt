@@ -1,11 +1,11 @@
-use crate::boards::{load, wire};
 use crate::desk::{
-    blank, done, expect_bytes, expect_refusal, expect_reply, expect_seq, fused, leave, made,
+    blank, done, expect_bytes, expect_refusal, expect_reply, expect_seq, fused, leave, load, made,
     new_session, opened, poke, run,
 };
 use mcs_bench::Bench;
 use mcs_codec::{STATE_BYTES, bench_of, state_bytes};
 use mcs_disk::{Disk, FuseDisk, MemDisk};
+use mcs_fixtures::boards::{is_same, worked};
 use mcs_journal::{CreateFault, FILE_SIZE, OpenFault};
 use mcs_model::command::{Command, Reply};
 use mcs_model::refusals::BenchFault;
@@ -245,10 +245,11 @@ fn a_session_is_closed_after_a_fault(rt: HostRuntime) {
     }
 }
 
-/// A session on a wired board, with a two-word jump begun and a key down.
+/// A session on the worked board, with a jump of two words begun and two keys down.
 fn halfway(alloc: Global, rt: &impl Abort) -> Session<FuseDisk> {
     let mut session = made(alloc, rt, fused(alloc, rt, usize::MAX));
-    done(rt, &mut session, &wire(rt));
+    let wire = Command::Wire(worked().expect(rt, "a board"));
+    done(rt, &mut session, &wire);
     expect_reply(
         rt,
         &mut session,
@@ -256,35 +257,50 @@ fn halfway(alloc: Global, rt: &impl Abort) -> Session<FuseDisk> {
         Reply::Loaded(2),
     );
     done(rt, &mut session, &Command::Press(1, 1));
+    done(rt, &mut session, &Command::Press(9, 7));
     done(rt, &mut session, &Command::Break(Addr::MAX));
     run(rt, &mut session, 1);
     session
 }
 
-/// Every place of two benches on that board.
-fn expect_same(rt: &impl Abort, one: &Bench, other: &Bench) {
+/// Two benches on the worked board have the same processor, and the same that stops a run.
+fn expect_same_processor(rt: &impl Abort, one: &Bench, other: &Bench) {
     assert_eq!(rt; one.seq(), other.seq());
     assert_eq!(rt; one.regs(), other.regs());
     assert_eq!(rt; one.test(), other.test());
     assert_eq!(rt; one.breaks(), other.breaks());
     assert_eq!(rt; one.watches(), other.watches());
+}
+
+/// The same board, the same bytes in its ROMs, and the same at their ports.
+fn expect_same_roms(alloc: Global, rt: &impl Abort, one: &Bench, other: &Bench) {
+    assert!(rt; is_same(one.board(), other.board()));
     assert_eq!(rt; one.rom_src(), other.rom_src());
     for chip in 0..16 {
         assert_eq!(rt; one.rom_port(chip), other.rom_port(chip));
+        let chip = Nibble::low_of(chip);
+        assert_eq!(rt; one.read_port(chip), other.read_port(chip));
     }
+    let rom = one.rom(alloc).expect(rt, "memory");
+    assert!(rt; rom.as_slice() == other.rom(alloc).expect(rt, "memory").as_slice());
     let mut at = Addr::ZERO;
-    for _ in 0..4_096 {
-        assert_eq!(rt; one.rom_byte(at), other.rom_byte(at));
+    for byte in rom.iter() {
+        assert_eq!(rt; one.rom_byte(at), *byte);
+        assert_eq!(rt; other.rom_byte(at), *byte);
         at = at.plus(1);
     }
+}
+
+/// The same in RAM.
+fn expect_same_ram(rt: &impl Abort, one: &Bench, other: &Bench) {
     for bank in 0..8 {
         assert_eq!(rt; one.ram_src(bank), other.ram_src(bank));
         for src in 0..=255 {
             assert_eq!(rt; one.ram(bank, src), other.ram(bank, src));
         }
         for high in 0..16 {
+            let high = Nibble::low_of(high);
             for k in 0..4 {
-                let high = Nibble::of(high).expect(rt, "a nibble");
                 assert_eq!(rt; one.status(bank, high, k), other.status(bank, high, k));
             }
         }
@@ -292,12 +308,30 @@ fn expect_same(rt: &impl Abort, one: &Bench, other: &Bench) {
             assert_eq!(rt; one.ram_port(bank, chip), other.ram_port(bank, chip));
         }
     }
-    for bit in 0..80 {
+}
+
+/// The same chain, keys and lamps.
+fn expect_same_panel(rt: &impl Abort, one: &Bench, other: &Bench) {
+    for bit in 0..10 {
         assert_eq!(rt; one.chain_bit(0, bit), other.chain_bit(0, bit));
     }
-    for lamp in 0..3 {
+    for row in 0..10 {
+        for column in 0..8 {
+            assert!(rt; one.board().has_key(row, column) && other.board().has_key(row, column));
+            assert_eq!(rt; one.key(row, column), other.key(row, column));
+        }
+    }
+    for lamp in 0..4 {
         assert_eq!(rt; one.lamp(lamp), other.lamp(lamp));
     }
+}
+
+/// What each reader gives of two benches on the worked board is the same.
+fn expect_same(alloc: Global, rt: &impl Abort, one: &Bench, other: &Bench) {
+    expect_same_processor(rt, one, other);
+    expect_same_roms(alloc, rt, one, other);
+    expect_same_ram(rt, one, other);
+    expect_same_panel(rt, one, other);
 }
 
 #[test]
@@ -307,16 +341,18 @@ fn an_instruction_half_done_is_written_and_read(rt: HostRuntime) -> Result<(), F
     let bench = session.bench();
     assert_eq!(rt; bench.regs().owed, 1);
     assert_eq!(rt; bench.regs().pc.get(), 0x123);
+    assert!(rt; bench.board().has_key(9, 7));
+    assert_eq!(rt; bench.key(9, 7), Bit::ONE);
     let mut bytes = vec![in alloc; 0u8; STATE_BYTES]?;
     let count = state_bytes(bench, bytes.as_mut_slice());
     assert!(rt; count <= STATE_BYTES);
     match bench_of(alloc, &bytes.as_slice()[..count]) {
-        Ok(Some(read)) => expect_same(&rt, bench, &read),
+        Ok(Some(read)) => expect_same(alloc, &rt, bench, &read),
         _ => panic!(rt; "the state was not read"),
     }
     // and by the records of its commands
     let before = halfway(alloc, &rt);
     let after = opened(alloc, &rt, session.into_disk());
-    expect_same(&rt, before.bench(), after.bench());
+    expect_same(alloc, &rt, before.bench(), after.bench());
     Ok(())
 }

@@ -2,28 +2,32 @@
 ghost use Rattle.std.specs.Prelude.{◌<◌};
 
 use arrayvec::ArrayVec;
+use mcs_fixtures::numbers::Numbers;
 use mcs_model::board::{Board, BoardParts, ChainPart, KeyMatrix, Line};
 use mcs_model::limits::{CHAIN_BITS, CHAIN_CHIPS, CHAINS};
 use mcs_nibble::LineMask;
 use std::process::Abort;
 
-/// A generator of numbers (Knuth's MMIX linear congruential generator).
+/// A generator of boards.
 #[derive(Drop)]
-pub(crate) struct Numbers {
-    pub(crate) state: u64,
+pub(crate) struct Generator {
+    numbers: Numbers,
 }
 
-impl Numbers {
+impl Generator {
+    /// The generator of boards that begins with this seed.
+    pub(crate) fn new(seed: u64) -> Generator {
+        Generator {
+            numbers: Numbers::new(seed),
+        }
+    }
+
     /// A number below `n`.
-    pub(crate) fn below(&mut self, n: u8) -> u8
+    fn below(&mut self, n: u8) -> u8
         requires { 0 < n }
         ensures { result < n }
     {
-        self.state = self
-            .state
-            .wrapping_mul(6_364_136_223_846_793_005)
-            .wrapping_add(1_442_695_040_888_963_407);
-        ((self.state >> 33) % u64::from(n)) as u8
+        self.numbers.below(n)
     }
 
     fn mask(&mut self) -> LineMask {

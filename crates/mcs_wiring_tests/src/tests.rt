@@ -1,8 +1,8 @@
 //! What texts are answered, and which texts boards have.
-use crate::boards::{BASE, MATRIX_AND_LAMPS, MIXED_PORT};
-use crate::generator::Numbers;
-use mcs_model::board::{Board, KeyMatrix, Line};
-use mcs_nibble::LineMask;
+use crate::boards::{BASE, matrix_and_lamps, mixed_port};
+use crate::generator::Generator;
+use mcs_fixtures::boards::{MIXED, is_same};
+use mcs_model::board::Line;
 use mcs_wiring::{WiringFault, board_of, board_text};
 use std::alloc::Global;
 use std::process::Abort;
@@ -38,32 +38,10 @@ fn expect_all(rt: &impl Abort, alloc: Global, rows: &[(&str, u8)]) {
     }
 }
 
-/// Whether two boards are equal, part by part.
-fn is_same(one: &Board, other: &Board) -> bool {
-    let (a, b) = (one.parts(), other.parts());
-    a.roms == b.roms
-        && a.banks == b.banks
-        && a.chains.as_slice() == b.chains.as_slice()
-        && is_same_matrix(&a.keys, &b.keys)
-        && a.lamps.as_slice() == b.lamps.as_slice()
-}
-
-fn is_same_matrix(one: &Option<KeyMatrix>, other: &Option<KeyMatrix>) -> bool {
-    match (one, other) {
-        (None, None) => true,
-        (Some(a), Some(b)) => {
-            a.chain == b.chain
-                && a.first == b.first
-                && a.rows == b.rows
-                && a.columns.as_slice() == b.columns.as_slice()
-        }
-        _ => false,
-    }
-}
-
 #[test]
 fn worked_refusals(rt: HostRuntime) -> Result<(), Fail> {
     let alloc = rt.alloc();
+    let matrix_and_lamps = matrix_and_lamps()?;
     expect_all(
         &rt,
         alloc,
@@ -76,13 +54,13 @@ fn worked_refusals(rt: HostRuntime) -> Result<(), Fail> {
                 24,
             ),
             ("[[rom", 20),
-            (MATRIX_AND_LAMPS, 0),
-            (MIXED_PORT, 0),
+            (matrix_and_lamps, 0),
+            (mixed_port()?, 0),
             ("", 0),
         ],
     );
     // The first column replaced, and the chain written more often.
-    let (before, after) = MATRIX_AND_LAMPS
+    let (before, after) = matrix_and_lamps
         .split_once("\"rom1.0\"")
         .ok_or("no column")?;
     let absent = joined(alloc, joined(alloc, before, "\"rom9.0\"")?.as_str(), after)?;
@@ -93,7 +71,7 @@ fn worked_refusals(rt: HostRuntime) -> Result<(), Fail> {
     for (more, number) in [(2, 0), (3, 0), (4, 27), (5, 27)] {
         let text = joined(
             alloc,
-            MATRIX_AND_LAMPS,
+            matrix_and_lamps,
             repeated(alloc, chain, more)?.as_str(),
         )?;
         assert_eq!(rt; answer(alloc, text.as_str()), number, "{more} chains more");
@@ -103,7 +81,7 @@ fn worked_refusals(rt: HostRuntime) -> Result<(), Fail> {
 
 /// The text of the board with a matrix and lamps, its chain of that many chips and its first row at a bit of that.
 fn long_chain(alloc: Global, chips: u8, first: u8) -> Result<String, Fail> {
-    let (before, after) = MATRIX_AND_LAMPS
+    let (before, after) = matrix_and_lamps()?
         .split_once("chips = 1\n[keys]\nchain = 0\nfirst = 0\n")
         .ok_or("no chain before its keys")?;
     let text = format!(in alloc;
@@ -163,20 +141,15 @@ fn longer_chains(rt: HostRuntime) -> Result<(), Fail> {
 #[test]
 fn worked_boards(rt: HostRuntime) -> Result<(), Fail> {
     let alloc = rt.alloc();
-    for text in [MATRIX_AND_LAMPS, MIXED_PORT, BASE, ""] {
+    let (matrix_and_lamps, mixed_port) = (matrix_and_lamps()?, mixed_port()?);
+    for text in [matrix_and_lamps, mixed_port, BASE, ""] {
         let board = board_of(alloc, text)?;
         assert_eq!(rt; board_text(alloc, &board)?.as_str(), text);
     }
-    let board = board_of(alloc, MIXED_PORT)?;
-    let mixed = [
-        LineMask::Input,
-        LineMask::Zero,
-        LineMask::Input,
-        LineMask::One,
-    ];
-    assert!(rt; board.mask(1) == Some(mixed));
+    let board = board_of(alloc, mixed_port)?;
+    assert!(rt; board.mask(1) == Some(MIXED));
     assert!(rt; board.mask(2).is_none());
-    let board = board_of(alloc, MATRIX_AND_LAMPS)?;
+    let board = board_of(alloc, matrix_and_lamps)?;
     assert_eq!(rt; board.bank_chips(1), 1);
     assert_eq!(rt; board.bank_chips(2), 0);
     assert!(rt; board.has_key(9, 7) && !board.has_key(10, 0));
@@ -477,9 +450,10 @@ fn spellings(rt: HostRuntime) -> Result<(), Fail> {
     }
     let keys =
         "keys.chain = 0\nkeys.first = 0\nkeys.rows = 1\nkeys.columns = [\"rom1.0\", \"rom1.2\"]\n";
-    let (rest, _) = MIXED_PORT.split_once("[keys]").ok_or("no keys")?;
+    let mixed_port = mixed_port()?;
+    let (rest, _) = mixed_port.split_once("[keys]").ok_or("no keys")?;
     let board = board_of(alloc, joined(alloc, keys, rest)?.as_str())?;
-    assert_eq!(rt; board_text(alloc, &board)?.as_str(), MIXED_PORT);
+    assert_eq!(rt; board_text(alloc, &board)?.as_str(), mixed_port);
     Ok(())
 }
 
@@ -487,10 +461,10 @@ fn spellings(rt: HostRuntime) -> Result<(), Fail> {
 #[test]
 fn texts_are_read_back(rt: HostRuntime) -> Result<(), Fail> {
     let alloc = rt.alloc();
-    let mut numbers = Numbers { state: 4004 };
+    let mut boards = Generator::new(4004);
     let mut matrices: u32 = 0;
     for i in 0..300u32 {
-        let board = numbers.board(&rt);
+        let board = boards.board(&rt);
         let text = board_text(alloc, &board)?;
         let back = board_of(alloc, text.as_str())?;
         assert!(rt; is_same(&board, &back), "board {i}:\n{text}");
