@@ -43,7 +43,7 @@ pub record ServedOn (file input : List ℕ) (end : ShellEnd) (answers after : Li
   pub resumes : Resumes file session
   pub rest : Option (List ℕ)
   pub left : SessionView MemDisk
-  pub ran : Ran end (Some input) rest (staged (seen session.disk) session (Some [])) (staged (seen left.disk) left (Some answers))
+  pub ran : Ran end (Some input) rest (staged seen session (Some [])) (staged seen left (Some answers))
   pub kept : HasBytes after (seen left.disk)
 
 -- all of the input was served, or as much of it as a shell reads
