@@ -148,7 +148,7 @@ def check_files(browser, folder, mcs4):
     rubbish = folder / "rubbish.mcs"
     rubbish.write_bytes(b"no session")
     browser.type_into("#file", str(rubbish))
-    comes(browser, "rubbish is refused in words", NOTICE, re.compile(r"rubbish\.mcs was not opened: no 50: no session file"))
+    comes(browser, "rubbish is refused in words", NOTICE, re.compile(r"rubbish\.mcs was not opened: no 50: not a session file"))
     damaged = folder / "damaged.mcs"
     bytes_of = bytearray(saved.read_bytes())
     bytes_of[16:20] = b"\xff" * 4
