@@ -147,7 +147,7 @@ function readBoard(answers) {
 }
 
 // The number on a display, by the rule of tools/display: an even count of lamps is four a digit, perhaps two signs before them;
-// an odd one has three signs and a point behind each digit. Null where the lamps are not a display of three digits or more.
+// an odd one has three signs and a point after each digit. Null where the lamps are not a display of three digits or more.
 function readDisplay(marks) {
   const width = marks.length % 2 === 1 ? 5 : 4;
   const signs = marks.length % 2 === 1 ? 3 : marks.length % 4;

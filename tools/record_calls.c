@@ -19,7 +19,7 @@
 #include <sys/file.h>
 #include <unistd.h>
 
-static char names[64][256]; /* what stands behind a descriptor; empty where it is none of the program's */
+static char names[64][256]; /* what stands after a descriptor; empty where it is none of the program's */
 static int calls;           /* so many calls were recorded */
 static int record = -1;
 

@@ -1,4 +1,4 @@
-# Cuts a script behind the input that is accepted as the `count`-th one, into the files `begun` and `rest`; prints why where there is no
+# Cuts a script after the input that is accepted as the `count`-th one, into the files `begun` and `rest`; prints why where there is no
 # such input, and ends with status 1. Needs numbers.awk and inputs.awk; all words stand in the environment.
 
 BEGIN {

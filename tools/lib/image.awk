@@ -51,7 +51,7 @@ function end_of_line(    length_told, at, type, sum, i) {
     sub(/\r$/, "", record)
     gsub(/^[ \t]+|[ \t]+$/, "", record)
     if (record == "") return
-    if (ended) return tell_line("a record behind the last one (type 01)")
+    if (ended) return tell_line("a record after the last one (type 01)")
     record = toupper(record)
     if (substr(record, 1, 1) != ":") return tell_line("a record of Intel HEX begins with `:`" hint())
     if (record !~ /^:[0-9A-F]+$/) return tell_line("a character that is no hexadecimal digit" hint())

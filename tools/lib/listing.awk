@@ -39,7 +39,7 @@ function read_bytes(file, byte,    line) {
     close(file)
 }
 
-# Which line fills each address: the program behind a byte at this address, three lines before it.
+# Which line fills each address: the program after a byte at this address, three lines before it.
 function ask_lines(    n, size, part) {
     part = 0
     size = most
@@ -53,7 +53,7 @@ function ask_lines(    n, size, part) {
     }
 }
 
-# The value of each name: jumps behind the program, where two bytes side by side are free. With `values`, what they were answered.
+# The value of each name: jumps after the program, where two bytes side by side are free. With `values`, what they were answered.
 function ask_names(    n, file, at, pairs, pair, size, jumps, questions, line, parts, part, part_size) {
     pairs = 0
     for (at = 0; at < 4095; at++) if (!filled[at] && !filled[at + 1]) pair[++pairs] = at++

@@ -70,7 +70,7 @@ keep_answers() {
 }
 
 # Serves a script, from standard input, on a session (`new` or `open`), and keeps the answers in a file of the folder. Where the
-# session itself is refused, this is told, behind the program's own words, but for those that name a copy. A fourth word is the
+# session itself is refused, this is told, after the program's own words, but for those that name a copy. A fourth word is the
 # session's name.
 serve() {
     status=0

@@ -23,7 +23,7 @@ $3 == "ran" {
     word = $5
 }
 
-# The words of `regs` by their names; behind `ret` stand three addresses.
+# The words of `regs` by their names; after `ret` stand three addresses.
 $1 == "acc" {
     for (i = 1; i < NF; i += 2) {
         now[$i] = $(i + 1)
@@ -64,7 +64,7 @@ function one_step(    at, byte) {
         else print "step"
     }
     done += took
-    behind = now["pc"]
+    after = now["pc"]
 }
 
 # A line of the trace.
@@ -85,7 +85,7 @@ function put_line(cycle, what, rest) {
     sub(/ +$/, "", line[count])
 }
 
-# What an instruction has written: the places that differ between two answers to `ram`, before and behind it.
+# What an instruction has written: the places that differ between two answers to `ram`, before and after it.
 function written(    old_lines, new_lines, lines, n, i, change, old, new, place) {
     lines = split(block[blocks + 1], old_lines, "\n")
     split(block[blocks + 2], new_lines, "\n")
@@ -112,13 +112,13 @@ function written(    old_lines, new_lines, lines, n, i, change, old, new, place)
 }
 
 END {
-    if (behind == "") behind = before["pc"]
+    if (after == "") after = before["pc"]
     if (ask != "print") {
-        print "list 0x" behind " 1"
+        print "list 0x" after " 1"
         exit
     }
     from = instructions > 0 && count > instructions ? count - instructions + 1 : 1
-    if (stop == "code") put_line(skip + done, text[behind], "stops before it: no instruction")
-    else if (stop != "end") put_line(skip + done, text[behind], "stops before it: " stop)
+    if (stop == "code") put_line(skip + done, text[after], "stops before it: no instruction")
+    else if (stop != "end") put_line(skip + done, text[after], "stops before it: " stop)
     for (i = from; i <= count; i++) print line[i]
 }

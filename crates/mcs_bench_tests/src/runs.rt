@@ -1,5 +1,5 @@
 //! Runs beside single steps.
-use crate::desk::{address, bank, did, done, lamps, load, runs, wired};
+use crate::desk::{address, bank, did, done, equal, lamps, load, runs, wired};
 use mcs_bench::Bench;
 use mcs_model::command::{Command, Reply};
 use mcs_model::stop::Stop;
@@ -25,7 +25,7 @@ fn scanning(alloc: Global, rt: &impl Abort) -> Bench {
 fn stepped(rt: &impl Abort, bench: &mut Bench) -> u32 {
     match done(rt, bench, &Command::Step) {
         Reply::Ran { cycles, stop } => {
-            assert_eq!(rt; stop, Stop::Ended);
+            equal(rt, stop, Stop::Ended);
             cycles
         }
         Reply::Done | Reply::Loaded(_) => panic!(rt; "a step tells its cycles"),
@@ -33,15 +33,15 @@ fn stepped(rt: &impl Abort, bench: &mut Bench) -> u32 {
 }
 
 fn same(rt: &impl Abort, a: &Bench, b: &Bench) {
-    assert_eq!(rt; a.regs(), b.regs());
-    assert_eq!(rt; lamps(a), lamps(b));
+    equal(rt, a.regs(), b.regs());
+    equal(rt, lamps(a), lamps(b));
     for i in 0..10 {
-        assert_eq!(rt; a.chain_bit(0, i), b.chain_bit(0, i));
+        equal(rt, a.chain_bit(0, i), b.chain_bit(0, i));
     }
     for src in 0..=255 {
-        assert_eq!(rt; a.ram(0, src), b.ram(0, src));
+        equal(rt, a.ram(0, src), b.ram(0, src));
     }
-    assert_eq!(rt; a.rom_port(0), b.rom_port(0));
+    equal(rt, a.rom_port(0), b.rom_port(0));
 }
 
 #[test]

@@ -1,10 +1,11 @@
 //! Watched characters: which runs they stop, and where.
 use crate::desk::{
-    address, bank, did, done, load, nibble, poke, refused, runs, stands, wire, wired,
+    address, are_at, bank, did, equal, load, nibble, poke, refused, runs, stands, steps, wire,
+    wired,
 };
 use mcs_bench::Bench;
 use mcs_fixtures::boards::{two_keys, worked};
-use mcs_model::command::{Command, Place, Reply};
+use mcs_model::command::{Command, Place};
 use mcs_model::refusals::BenchFault;
 use mcs_model::stop::Stop;
 use mcs_nibble::BankNo;
@@ -26,22 +27,27 @@ fn watching(alloc: Global, rt: &impl Abort, program: &[u8], of: u8, src: u8) -> 
 /// LDM 7, WRM, WRM, LDM 8, WRM, NOP: the second WRM writes what is there.
 const TWO_CHANGES: [u8; 6] = [0xD7, 0xE0, 0xE0, 0xD8, 0xE0, 0x00];
 
+/// A bench that ran to both changes, and past them.
+fn past_changes(alloc: Global, rt: &impl Abort) -> Bench {
+    let mut bench = watching(alloc, rt, &TWO_CHANGES, 0, 0);
+    runs(rt, &mut bench, 10, 2, Stop::Watched);
+    equal(rt, bench.seq(), 4);
+    stands(rt, &bench, 2, 0, 7, 0);
+    runs(rt, &mut bench, 10, 3, Stop::Watched);
+    stands(rt, &bench, 5, 0, 8, 0);
+    runs(rt, &mut bench, 2, 2, Stop::Ended);
+    bench
+}
+
 #[test]
 fn a_run_stops_behind_a_change(rt: HostRuntime) {
-    let mut bench = watching(rt.alloc(), &rt, &TWO_CHANGES, 0, 0);
-    runs(&rt, &mut bench, 10, 2, Stop::Watched);
-    assert_eq!(rt; bench.seq(), 4);
-    stands(&rt, &bench, 2, 0, 7, 0);
-    runs(&rt, &mut bench, 10, 3, Stop::Watched);
-    stands(&rt, &bench, 5, 0, 8, 0);
-    runs(&rt, &mut bench, 2, 2, Stop::Ended);
+    let mut bench = past_changes(rt.alloc(), &rt);
     poke(&rt, &mut bench, Place::Pc(address(0)));
     did(&rt, &mut bench, &Command::Break(address(2)));
     runs(&rt, &mut bench, 10, 2, Stop::Breakpoint);
-    assert_eq!(rt; bench.seq(), 9);
-    assert_eq!(rt; bench.ram(0, 0), nibble(7));
-    assert_eq!(rt; bench.watches().len(), 1);
-    assert!(rt; bench.watches().contains(&address(0)));
+    equal(&rt, bench.seq(), 9);
+    equal(&rt, bench.ram(0, 0), nibble(7));
+    are_at(&rt, bench.watches(), &[0]);
     assert!(rt; BankNo::of(8).is_none());
 }
 
@@ -50,7 +56,7 @@ fn a_run_stops_behind_a_change(rt: HostRuntime) {
 fn a_watch_is_told_before_the_end(rt: HostRuntime) {
     let mut last = watching(rt.alloc(), &rt, &TWO_CHANGES, 0, 0);
     runs(&rt, &mut last, 2, 2, Stop::Watched);
-    assert_eq!(rt; last.seq(), 4);
+    equal(&rt, last.seq(), 4);
     let mut before = watching(rt.alloc(), &rt, &TWO_CHANGES, 0, 0);
     runs(&rt, &mut before, 3, 2, Stop::Watched);
     runs(&rt, &mut before, 1, 1, Stop::Ended);
@@ -83,8 +89,8 @@ fn an_absent_chip_never_stops_a_run(rt: HostRuntime) {
     let mut bench = watching(rt.alloc(), &rt, &program, 0, 0x40);
     watch(&rt, &mut bench, 2, 0);
     runs(&rt, &mut bench, 100, 100, Stop::Ended);
-    assert_eq!(rt; bench.ram(0, 0x40), nibble(0));
-    assert_eq!(rt; bench.ram(2, 0), nibble(0));
+    equal(&rt, bench.ram(0, 0x40), nibble(0));
+    equal(&rt, bench.ram(2, 0), nibble(0));
 }
 
 /// The processor writes another character, then another bank's, and no status character is watched: LDM 7, WR0, LDM 1, DCL,
@@ -95,7 +101,7 @@ fn another_character_stops_no_run(rt: HostRuntime) {
     let mut bench = watching(rt.alloc(), &rt, &program, 0, 0);
     watch(&rt, &mut bench, 1, 1);
     runs(&rt, &mut bench, 100, 100, Stop::Ended);
-    assert_eq!(rt; bench.ram(1, 0), nibble(7));
+    equal(&rt, bench.ram(1, 0), nibble(7));
 }
 
 #[test]
@@ -103,15 +109,9 @@ fn steps_and_pokes_heed_no_watch(rt: HostRuntime) {
     let mut bench = watching(rt.alloc(), &rt, &TWO_CHANGES, 0, 0);
     poke(&rt, &mut bench, Place::Ram(bank(&rt, 0), 0, nibble(3)));
     for _ in 0..2 {
-        assert_eq!(rt;
-            done(&rt, &mut bench, &Command::Step),
-            Reply::Ran {
-                cycles: 1,
-                stop: Stop::Ended,
-            }
-        );
+        steps(&rt, &mut bench, 1, Stop::Ended);
     }
-    assert_eq!(rt; bench.ram(0, 0), nibble(7));
+    equal(&rt, bench.ram(0, 0), nibble(7));
 }
 
 #[test]
@@ -120,13 +120,13 @@ fn nine_watches_are_too_many(rt: HostRuntime) {
     for src in 0..8 {
         watch(&rt, &mut bench, 5, src);
     }
-    assert_eq!(rt; bench.seq(), 8);
+    equal(&rt, bench.seq(), 8);
     let ninth = Command::Watch(bank(&rt, 5), 8);
     refused(&rt, &bench, &ninth, BenchFault::WatchesFull);
     watch(&rt, &mut bench, 5, 7);
     did(&rt, &mut bench, &Command::Unwatch(bank(&rt, 1), 5));
-    assert_eq!(rt; bench.seq(), 10);
-    assert_eq!(rt; bench.watches().len(), 8);
+    equal(&rt, bench.seq(), 10);
+    equal(&rt, bench.watches().len(), 8);
     did(&rt, &mut bench, &Command::Unwatch(bank(&rt, 5), 3));
     did(&rt, &mut bench, &ninth);
 }
@@ -140,8 +140,5 @@ fn wire_and_reset_keep_watches(rt: HostRuntime) {
     wire(&rt, &mut bench, two_keys());
     did(&rt, &mut bench, &Command::Reset);
     wire(&rt, &mut bench, worked());
-    let watches = bench.watches();
-    assert_eq!(rt; watches.len(), 2);
-    assert_eq!(rt; watches[0], address(1));
-    assert_eq!(rt; watches[1], address(5 * 256 + 0x3F));
+    are_at(&rt, bench.watches(), &[1, 5 * 256 + 0x3F]);
 }

@@ -1,12 +1,12 @@
 //! Worked programs on worked boards, by hand from the instruction descriptions of Intel's manual and the rules of
 //! commands. A program stands in a comment, its bytes beside it.
 use crate::desk::{
-    address, bank, did, done, holds, lamps, lit, load, load_at, nibble, on_board, poke, refused,
-    register, runs, stands, wired,
+    address, are_at, bank, did, equal, holds, lamps, lit, load, load_at, nibble, on_board, poke,
+    refused, register, runs, stands, steps, wired,
 };
 use mcs_bench::Bench;
 use mcs_fixtures::boards::two_keys;
-use mcs_model::command::{Command, Place, Reply};
+use mcs_model::command::{Command, Place};
 use mcs_model::refusals::BenchFault;
 use mcs_model::stop::Stop;
 use mcs_nibble::{Bit, Nibble};
@@ -36,16 +36,9 @@ fn a_jump_at_the_end_of_a_page(rt: HostRuntime) {
     poke(&rt, &mut bench, Place::Pc(address(0x0FE)));
     runs(&rt, &mut bench, 1, 1, Stop::Ended);
     stands(&rt, &bench, 0x110, 1, 0, 0);
-    assert_eq!(rt; bench.test(), Bit::ZERO);
+    equal(&rt, bench.test(), Bit::ZERO);
     load_at(rt.alloc(), &rt, &mut bench, &[(0x0FC, 0x11), (0x0FD, 0x10)]);
-    let idle = done(&rt, &mut bench, &Command::Step);
-    assert_eq!(rt;
-        idle,
-        Reply::Ran {
-            cycles: 1,
-            stop: Stop::Ended,
-        }
-    );
+    steps(&rt, &mut bench, 1, Stop::Ended);
     poke(&rt, &mut bench, Place::Pc(address(0x0FC)));
     runs(&rt, &mut bench, 2, 2, Stop::Ended);
     stands(&rt, &bench, 0x010, 0, 0, 0);
@@ -80,18 +73,18 @@ fn each_bank_keeps_its_own_src_byte(rt: HostRuntime) {
     runs(&rt, &mut bench, 7, 7, Stop::Ended);
     for src in 0..=255 {
         let want = if src == 0 { 7 } else { 0 };
-        assert_eq!(rt; bench.ram(1, src), nibble(want));
-        assert_eq!(rt; bench.ram(0, src), Nibble::ZERO);
+        equal(&rt, bench.ram(1, src), nibble(want));
+        equal(&rt, bench.ram(0, src), Nibble::ZERO);
     }
     for high in 0..16 {
         for k in 0..4 {
-            assert_eq!(rt; bench.status(1, nibble(high), k), Nibble::ZERO);
+            equal(&rt, bench.status(1, nibble(high), k), Nibble::ZERO);
         }
     }
-    assert_eq!(rt; bench.ram_port(1, 0), Nibble::ZERO);
-    assert_eq!(rt; bench.ram_src(0), 5);
-    assert_eq!(rt; bench.ram_src(1), 0);
-    assert_eq!(rt; bench.rom_src(), 5);
+    equal(&rt, bench.ram_port(1, 0), Nibble::ZERO);
+    equal(&rt, bench.ram_src(0), 5);
+    equal(&rt, bench.ram_src(1), 0);
+    equal(&rt, bench.rom_src(), 5);
 }
 
 /// LDM 3, WRR, WRR: the second write finds the clock line up, so the chain shifts once.
@@ -100,14 +93,14 @@ fn a_rising_clock_line_shifts_and_a_reset_clears(rt: HostRuntime) {
     let mut bench = wired(rt.alloc(), &rt);
     load(rt.alloc(), &rt, &mut bench, &[0xD3, 0xE2, 0xE2]);
     runs(&rt, &mut bench, 2, 2, Stop::Ended);
-    assert_eq!(rt; lamps(&bench), lit(1, 0, 0));
+    equal(&rt, lamps(&bench), lit(1, 0, 0));
     runs(&rt, &mut bench, 1, 1, Stop::Ended);
-    assert_eq!(rt; lamps(&bench), lit(1, 0, 0));
-    assert_eq!(rt; bench.rom_port(0), nibble(3));
+    equal(&rt, lamps(&bench), lit(1, 0, 0));
+    equal(&rt, bench.rom_port(0), nibble(3));
     did(&rt, &mut bench, &Command::Reset);
-    assert_eq!(rt; lamps(&bench), lit(0, 0, 0));
-    assert_eq!(rt; bench.rom_port(0), Nibble::ZERO);
-    assert_eq!(rt; bench.chain_bit(0, 0), Bit::ZERO);
+    equal(&rt, lamps(&bench), lit(0, 0, 0));
+    equal(&rt, bench.rom_port(0), Nibble::ZERO);
+    equal(&rt, bench.chain_bit(0, 0), Bit::ZERO);
 }
 
 /// JMS 010; at 010 JMS 020, BBL 4; at 020 JMS 030, BBL 3; at 030 JMS 040, BBL 2; at 040 BBL 1: the fourth call loses the
@@ -132,10 +125,7 @@ fn a_fourth_call_loses_the_first_return_address(rt: HostRuntime) {
     load_at(rt.alloc(), &rt, &mut bench, &program);
     runs(&rt, &mut bench, 12, 12, Stop::Ended);
     stands(&rt, &bench, 0x041, 0, 4, 0);
-    let back = bench.regs().ret;
-    assert_eq!(rt; back[0].get(), 0x033);
-    assert_eq!(rt; back[1].get(), 0x023);
-    assert_eq!(rt; back[2].get(), 0x013);
+    are_at(&rt, &bench.regs().ret, &[0x033, 0x023, 0x013]);
 }
 
 /// JUN 123: its second cycle is idle, and is one of the cycles of a run.
@@ -147,12 +137,12 @@ fn an_idle_cycle_counts(rt: HostRuntime) {
     stands(&rt, &bench, 0x123, 1, 0, 0);
     runs(&rt, &mut bench, 1, 1, Stop::Ended);
     stands(&rt, &bench, 0x123, 0, 0, 0);
-    assert_eq!(rt; bench.seq(), 4);
+    equal(&rt, bench.seq(), 4);
     let mut other = wired(rt.alloc(), &rt);
     load(rt.alloc(), &rt, &mut other, &[0x41, 0x23]);
     runs(&rt, &mut other, 2, 2, Stop::Ended);
     stands(&rt, &other, 0x123, 0, 0, 0);
-    assert_eq!(rt; other.seq(), 3);
+    equal(&rt, other.seq(), 3);
 }
 
 #[test]
@@ -161,22 +151,12 @@ fn a_run_stops_at_breakpoints_and_before_codes_outside(rt: HostRuntime) {
     did(&rt, &mut bench, &Command::Break(address(3)));
     did(&rt, &mut bench, &Command::Break(address(0)));
     runs(&rt, &mut bench, 5, 3, Stop::Breakpoint);
-    let breaks = bench.breaks();
-    assert_eq!(rt; breaks.len(), 2);
-    assert_eq!(rt; breaks[0], address(0));
-    assert_eq!(rt; breaks[1], address(3));
+    are_at(&rt, bench.breaks(), &[0, 3]);
     runs(&rt, &mut bench, 1, 1, Stop::Ended);
     poke(&rt, &mut bench, Place::Rom(address(4), 0xE3));
     runs(&rt, &mut bench, 5, 0, Stop::Outside);
-    let stepped = done(&rt, &mut bench, &Command::Step);
-    assert_eq!(rt;
-        stepped,
-        Reply::Ran {
-            cycles: 0,
-            stop: Stop::Outside,
-        }
-    );
-    assert_eq!(rt; bench.seq(), 8);
+    steps(&rt, &mut bench, 0, Stop::Outside);
+    equal(&rt, bench.seq(), 8);
 }
 
 #[test]
@@ -186,10 +166,10 @@ fn a_repeated_press_is_a_command_too(rt: HostRuntime) {
     refused(&rt, &bench, &Command::Press(10, 0), BenchFault::NoKey);
     did(&rt, &mut bench, &Command::Press(9, 7));
     assert!(rt; bench.board().has_key(9, 7));
-    assert_eq!(rt; bench.key(9, 7), Bit::ONE);
+    equal(&rt, bench.key(9, 7), Bit::ONE);
     did(&rt, &mut bench, &Command::Release(0, 0));
     refused(&rt, &bench, &Command::Release(0, 8), BenchFault::NoKey);
-    assert_eq!(rt; bench.seq(), 4);
+    equal(&rt, bench.seq(), 4);
 }
 
 #[test]
@@ -206,11 +186,11 @@ fn an_empty_board_refuses_what_it_lacks(rt: HostRuntime) {
     );
     let byte = Place::Rom(address(0), 1);
     refused(&rt, &bench, &Command::Poke(byte), BenchFault::NoRom);
-    assert_eq!(rt; lamps(&bench), [None; 3]);
+    equal(&rt, lamps(&bench), [None; 3]);
     assert!(rt; bench.breaks().is_empty());
-    assert_eq!(rt; bench.seq(), 0);
+    equal(&rt, bench.seq(), 0);
     let rom = bench.rom(rt.alloc()).expect(&rt, "memory");
-    assert_eq!(rt; rom.len(), 4096);
+    equal(&rt, rom.len(), 4096);
 }
 
 #[test]
@@ -218,9 +198,9 @@ fn an_image_beside_the_roms_is_refused_whole(rt: HostRuntime) {
     let mut bench = wired(rt.alloc(), &rt);
     let image = crate::desk::image(rt.alloc(), &rt, &[(0x2FF, 0xD5), (0x300, 0x00)]);
     refused(&rt, &bench, &Command::Load(image), BenchFault::NoRom);
-    assert_eq!(rt; bench.rom_byte(address(0x2FF)), 0);
+    equal(&rt, bench.rom_byte(address(0x2FF)), 0);
     load_at(rt.alloc(), &rt, &mut bench, &[]);
-    assert_eq!(rt; bench.seq(), 2);
+    equal(&rt, bench.seq(), 2);
 }
 
 /// LDM 3, WRR, LDM 2, WRR, LDM 3, WRR, FIM P0 10, SRC P0, RDR, KBP: rows 0 and 1 are driven, and the keys at (0, 1) and
@@ -235,7 +215,7 @@ fn a_program_reads_the_keys(rt: HostRuntime) {
     did(&rt, &mut bench, &Command::Press(0, 1));
     did(&rt, &mut bench, &Command::Press(1, 2));
     runs(&rt, &mut bench, 10, 10, Stop::Ended);
-    assert_eq!(rt; lamps(&bench), lit(1, 1, 0));
+    equal(&rt, lamps(&bench), lit(1, 1, 0));
     stands(&rt, &bench, 0x00A, 0, 6, 0);
     holds(
         &rt,
@@ -278,6 +258,6 @@ fn a_breakpoint_too_many_is_refused(rt: HostRuntime) {
     did(&rt, &mut bench, &Command::Unbreak(address(5)));
     did(&rt, &mut bench, &Command::Break(address(32)));
     did(&rt, &mut bench, &Command::Unbreak(address(100)));
-    assert_eq!(rt; bench.breaks().len(), 32);
-    assert_eq!(rt; bench.seq(), 37);
+    equal(&rt, bench.breaks().len(), 32);
+    equal(&rt, bench.seq(), 37);
 }

@@ -1,5 +1,6 @@
 //! The bytes of commands.
 use crate::boards::{each_part, largest, wire};
+use crate::states::joined;
 use mcs_codec::{COMMAND_BYTES, command_bytes, command_of};
 use mcs_fixtures::boards::two_keys;
 use mcs_model::board::Board;
@@ -27,47 +28,43 @@ fn expect_bytes(rt: &impl Abort, command: &Command, want: &[u8]) {
     assert_eq!(rt; &bytes[..count], want);
 }
 
+/// The command that these bytes spell, if they spell one.
+fn read(rt: &impl Abort, alloc: Global, bytes: &[u8]) -> Option<Command> {
+    command_of(alloc, bytes).expect(rt, "memory")
+}
+
+fn is_read(rt: &impl Abort, alloc: Global, bytes: &[u8]) -> bool {
+    read(rt, alloc, bytes).is_some()
+}
+
+/// What is read from these bytes is written so again.
+fn expect_same(rt: &impl Abort, alloc: Global, want: &[u8]) {
+    match read(rt, alloc, want) {
+        Some(command) => expect_bytes(rt, &command, want),
+        None => panic!(rt; "a command was not read"),
+    }
+}
+
 /// The command is written as these bytes, and what is read from them is written so again.
 fn expect_both(rt: &impl Abort, alloc: Global, command: &Command, want: &[u8]) {
     expect_bytes(rt, command, want);
-    match command_of(alloc, want).expect(rt, "memory") {
-        Some(read) => expect_bytes(rt, &read, want),
-        None => panic!(rt; "a command was not read"),
+    expect_same(rt, alloc, want);
+}
+
+/// The same for each of these commands.
+fn expect_each(rt: &impl Abort, alloc: Global, rows: &[(Command, &[u8])]) {
+    for row in rows {
+        expect_both(rt, alloc, &row.0, row.1);
     }
 }
 
 #[test]
 fn commands_of_a_few_bytes(rt: HostRuntime) {
-    let register = RegNo::of(5).expect(&rt, "a register");
-    let last = StatusNo::of(3).expect(&rt, "a status character");
-    let rows: [(Command, &[u8]); 18] = [
+    let rows: [(Command, &[u8]); 10] = [
         (Command::Press(9, 7), &[3, 9, 7]),
         (Command::Release(0, 255), &[4, 0, 255]),
         (Command::Run(100_000), &[5, 0, 1, 0x86, 0xA0]),
         (Command::Step, &[6]),
-        (Command::Poke(Place::Acc(nibble(15))), &[7, 0, 15]),
-        (Command::Poke(Place::Cy(Bit::ONE)), &[7, 1, 1]),
-        (
-            Command::Poke(Place::Pc(address(0xFFE))),
-            &[7, 2, 0x0F, 0xFE],
-        ),
-        (
-            Command::Poke(Place::Register(register, nibble(9))),
-            &[7, 3, 5, 9],
-        ),
-        (Command::Poke(Place::Dcl(bank(&rt, 7))), &[7, 4, 7]),
-        (
-            Command::Poke(Place::Rom(address(0x123), 0xE3)),
-            &[7, 5, 1, 0x23, 0xE3],
-        ),
-        (
-            Command::Poke(Place::Ram(bank(&rt, 1), 0xFF, nibble(3))),
-            &[7, 6, 1, 0xFF, 3],
-        ),
-        (
-            Command::Poke(Place::Status(bank(&rt, 7), nibble(15), last, nibble(8))),
-            &[7, 7, 7, 15, 3, 8],
-        ),
         (Command::Test(Bit::ZERO), &[8, 0]),
         (Command::Reset, &[9]),
         (Command::Break(address(0x100)), &[10, 1, 0]),
@@ -75,8 +72,31 @@ fn commands_of_a_few_bytes(rt: HostRuntime) {
         (Command::Watch(bank(&rt, 5), 0x3F), &[12, 5, 0x3F]),
         (Command::Unwatch(bank(&rt, 7), 0xFF), &[13, 7, 0xFF]),
     ];
-    for row in &rows {
-        expect_both(&rt, rt.alloc(), &row.0, row.1);
+    expect_each(&rt, rt.alloc(), &rows);
+}
+
+#[test]
+fn pokes_into_each_place(rt: HostRuntime) {
+    let register = RegNo::of(5).expect(&rt, "a register");
+    let last = StatusNo::of(3).expect(&rt, "a status character");
+    let rows: [(Place, &[u8]); 8] = [
+        (Place::Acc(nibble(15)), &[7, 0, 15]),
+        (Place::Cy(Bit::ONE), &[7, 1, 1]),
+        (Place::Pc(address(0xFFE)), &[7, 2, 0x0F, 0xFE]),
+        (Place::Register(register, nibble(9)), &[7, 3, 5, 9]),
+        (Place::Dcl(bank(&rt, 7)), &[7, 4, 7]),
+        (Place::Rom(address(0x123), 0xE3), &[7, 5, 1, 0x23, 0xE3]),
+        (
+            Place::Ram(bank(&rt, 1), 0xFF, nibble(3)),
+            &[7, 6, 1, 0xFF, 3],
+        ),
+        (
+            Place::Status(bank(&rt, 7), nibble(15), last, nibble(8)),
+            &[7, 7, 7, 15, 3, 8],
+        ),
+    ];
+    for (place, want) in rows {
+        expect_both(&rt, rt.alloc(), &Command::Poke(place), want);
     }
 }
 
@@ -90,7 +110,7 @@ fn a_load_has_a_map_of_its_addresses(rt: HostRuntime) {
     want[513] = 0xAA;
     want[514] = 0x55;
     want[515] = 1;
-    match command_of(rt.alloc(), &want).expect(&rt, "memory") {
+    match read(&rt, rt.alloc(), &want) {
         Some(Command::Load(image)) => {
             let pairs = image.pairs();
             assert_eq!(rt; pairs.len(), 3);
@@ -103,43 +123,57 @@ fn a_load_has_a_map_of_its_addresses(rt: HostRuntime) {
     }
 }
 
+/// The board of `Board::empty()`: 64 dashes for the ROMs that are not there, and all else 0.
+fn empty_board() -> [u8; 76] {
+    let mut bytes = [0; 76];
+    bytes[0] = 1;
+    bytes[1..65].copy_from_slice(&[b'-'; 64]);
+    bytes
+}
+
 #[test]
-fn boards(rt: HostRuntime) {
+fn an_empty_board(rt: HostRuntime) {
+    let command = Command::Wire(Board::empty());
+    expect_both(&rt, rt.alloc(), &command, &empty_board());
+}
+
+#[test]
+fn a_board_with_each_part(rt: HostRuntime) {
     let alloc = rt.alloc();
-    let mut want = [b'-'; 76];
-    want[0] = 1;
-    want[65..].copy_from_slice(&[0; 11]);
-    expect_both(&rt, alloc, &Command::Wire(Board::empty()), &want);
-    let mut want = [b'-'; 97];
-    want[0] = 1;
-    want[1..5].copy_from_slice(b"1i0i");
-    want[65..73].copy_from_slice(&[0, 2, 0, 0, 0, 0, 0, 0]);
-    want[73..83].copy_from_slice(&[1, 0, 0, 1, 0, 0, 0, 3, 0, 3]);
-    want[83..92].copy_from_slice(&[1, 0, 5, 2, 1, 0, 0, 2, 0]);
-    want[92..].copy_from_slice(&[1, 1, 1, 0, 3]);
+    let parts: [&[u8]; 6] = [
+        b"\x011i0i",
+        &[b'-'; 60],
+        &[0, 2, 0, 0, 0, 0, 0, 0],
+        &[1, 0, 0, 1, 0, 0, 0, 3, 0, 3],
+        &[1, 0, 5, 2, 1, 0, 0, 2, 0],
+        &[1, 1, 1, 0, 3],
+    ];
+    let want = joined(&rt, alloc, &parts);
     expect_both(&rt, alloc, &wire(&rt, each_part()), &want);
+}
+
+#[test]
+fn the_largest_board(rt: HostRuntime) {
     let mut bytes = [0; COMMAND_BYTES];
     let count = command_bytes(&wire(&rt, largest()), &mut bytes);
     assert_eq!(rt; count, 404);
-    assert!(rt;
-        command_of(alloc, &bytes[..404])
-            .expect(&rt, "memory")
-            .is_some()
-    );
+    assert!(rt; is_read(&rt, rt.alloc(), &bytes[..404]));
 }
 
 /// The port characters of a ROM stand for lines 3, 2, 1, 0: those of ROM 1 are 31 69 30 69.
 #[test]
 fn line_3_of_a_port_stands_first(rt: HostRuntime) {
-    let mut want = [b'-'; 97];
-    want[0] = 1;
-    want[1..5].copy_from_slice(&[0x30, 0x30, 0x30, 0x30]);
-    want[5..9].copy_from_slice(&[0x31, 0x69, 0x30, 0x69]);
-    want[65..73].copy_from_slice(&[0; 8]);
-    want[73..83].copy_from_slice(&[1, 0, 0, 0, 0, 0, 0, 1, 0, 1]);
-    want[83..96].copy_from_slice(&[1, 0, 0, 1, 2, 0, 1, 0, 0, 0, 1, 2, 0]);
-    want[96] = 0;
-    expect_both(&rt, rt.alloc(), &wire(&rt, two_keys()), &want);
+    let alloc = rt.alloc();
+    let parts: [&[u8]; 6] = [
+        &[1, 0x30, 0x30, 0x30, 0x30, 0x31, 0x69, 0x30, 0x69],
+        &[b'-'; 56],
+        &[0; 8],
+        &[1, 0, 0, 0, 0, 0, 0, 1, 0, 1],
+        &[1, 0, 0, 1, 2, 0, 1, 0, 0, 0, 1, 2, 0],
+        &[0],
+    ];
+    let want = joined(&rt, alloc, &parts);
+    expect_both(&rt, alloc, &wire(&rt, two_keys()), &want);
 }
 
 #[test]
@@ -172,38 +206,38 @@ fn bytes_that_spell_no_command(rt: HostRuntime) {
         &[13, 8, 0],
     ];
     for row in &rows {
-        assert!(rt; command_of(rt.alloc(), row).expect(&rt, "memory").is_none());
+        assert!(rt; !is_read(&rt, rt.alloc(), row));
     }
 }
 
 #[test]
-fn boards_and_loads_that_are_no_command(rt: HostRuntime) {
-    let alloc = rt.alloc();
-    let mut wire = [b'-'; 76];
-    wire[0] = 1;
-    wire[65..].copy_from_slice(&[0; 11]);
-    // Three characters of a port, a bank of five chips, a lamp at a chain that is not there.
-    wire[1] = b'i';
-    assert!(rt; command_of(alloc, &wire).expect(&rt, "memory").is_none());
-    wire[1] = b'-';
-    wire[65] = 5;
-    assert!(rt; command_of(alloc, &wire).expect(&rt, "memory").is_none());
-    wire[65] = 0;
-    assert!(rt; command_of(alloc, &wire).expect(&rt, "memory").is_some());
-    assert!(rt;
-        command_of(alloc, &wire[..75])
-            .expect(&rt, "memory")
-            .is_none()
-    );
+fn boards_that_are_no_command(rt: HostRuntime) {
+    // Three characters of a port, a bank of five chips, and the board as it was.
+    for (at, byte, spells) in [(1, b'i', false), (65, 5, false), (65, 0, true)] {
+        let mut wire = empty_board();
+        assert!(rt; at < 76);
+        wire[at] = byte;
+        assert_eq!(rt; is_read(&rt, rt.alloc(), &wire), spells);
+    }
+    let board = empty_board();
+    let short = board.get(..75).expect(&rt, "more bytes");
+    assert!(rt; !is_read(&rt, rt.alloc(), short));
+}
+
+/// A load of two bytes, by a map that begins so.
+fn load_of_two(map: u8) -> [u8; 515] {
     let mut load = [0; 515];
     load[0] = 2;
-    load[1] = 3;
-    assert!(rt; command_of(alloc, &load).expect(&rt, "memory").is_some());
-    assert!(rt;
-        command_of(alloc, &load[..514])
-            .expect(&rt, "memory")
-            .is_none()
-    );
-    load[1] = 1;
-    assert!(rt; command_of(alloc, &load).expect(&rt, "memory").is_none());
+    load[1] = map;
+    load
+}
+
+#[test]
+fn loads_that_are_no_command(rt: HostRuntime) {
+    let alloc = rt.alloc();
+    let load = load_of_two(3);
+    assert!(rt; is_read(&rt, alloc, &load));
+    let short = load.get(..514).expect(&rt, "more bytes");
+    assert!(rt; !is_read(&rt, alloc, short));
+    assert!(rt; !is_read(&rt, alloc, &load_of_two(1)));
 }

@@ -1,8 +1,10 @@
 //! The two versions of the bytes, and sessions of version 1 carried over.
 use crate::boards::{chained, each_part, wire};
-use crate::states::{address, apply, buffer, expect_bytes, front, is_read, new_state, slice_of};
-use mcs_bench::Bench;
-use mcs_codec::{bench_of, in_version_1, state_bytes, version_of};
+use crate::states::{
+    add, address, after, expect_state, front, is_read, joined, new_state, owing_state, read,
+    slice_of,
+};
+use mcs_codec::{in_version_1, version_of};
 use mcs_model::command::{Command, Place};
 use mcs_nibble::BankNo;
 use std::alloc::Global;
@@ -17,12 +19,6 @@ fn first_new_state() -> [u8; FIRST_PLAIN_STATE] {
     bytes[4..68].copy_from_slice(&[b'-'; 64]);
     bytes[6_820] = 1;
     bytes
-}
-
-fn add(rt: &impl Abort, bytes: &mut Vec<u8>, more: &[u8]) {
-    for byte in more {
-        bytes.push(*byte).expect(rt, "memory");
-    }
 }
 
 fn add_zeros(rt: &impl Abort, bytes: &mut Vec<u8>, count: usize) {
@@ -60,15 +56,15 @@ fn chained_state(rt: &impl Abort, alloc: Global, first: bool, count: u8, chips: 
     bytes
 }
 
-/// Whether these bytes are read, and written in version 2 then as those.
+/// These bytes are read, and written in version 2 then as those.
 fn carried_over(rt: &impl Abort, alloc: Global, bytes: &[u8], want: &[u8]) {
-    let bench = bench_of(alloc, bytes)
-        .expect(rt, "memory")
-        .expect(rt, "a state");
+    let bench = read(rt, alloc, bytes).expect(rt, "a state");
     assert!(rt; bench.watches().is_empty());
-    let mut written = buffer(rt, alloc);
-    let count = state_bytes(&bench, &mut written);
-    expect_bytes(rt, front(rt, &written, count), want);
+    expect_state(rt, alloc, &bench, want);
+}
+
+fn expect_version(rt: &impl Abort, bytes: &[u8], want: Option<u8>) {
+    assert_eq!(rt; version_of(bytes), want);
 }
 
 #[test]
@@ -82,10 +78,10 @@ fn the_fifth_byte_tells_the_version(rt: HostRuntime) {
         (1, None),
     ];
     for (fifth, version) in rows {
-        assert_eq!(rt; version_of(&[0, 0, 0, 0, fifth]), version);
-        assert_eq!(rt; version_of(&[2, 2, 2, 2, fifth, 0]), version);
+        expect_version(&rt, &[0, 0, 0, 0, fifth], version);
+        expect_version(&rt, &[2, 2, 2, 2, fifth, 0], version);
     }
-    assert_eq!(rt; version_of(&[2, 2, 2, 2]), None);
+    expect_version(&rt, &[2, 2, 2, 2], None);
 }
 
 #[test]
@@ -96,9 +92,7 @@ fn a_new_state_of_version_1(rt: HostRuntime) {
     carried_over(&rt, alloc, slice_of(&first), slice_of(&second));
     // A byte less; a number of watches, for which version 1 has no place; version 2 without it.
     assert!(rt; !is_read(&rt, alloc, front(&rt, slice_of(&first), 6_821)));
-    let mut longer = Vec::new(alloc);
-    add(&rt, &mut longer, slice_of(&first));
-    add(&rt, &mut longer, &[0]);
+    let longer = joined(&rt, alloc, &[slice_of(&first), &[0]]);
     assert!(rt; !is_read(&rt, alloc, &longer));
     assert!(rt; !is_read(&rt, alloc, front(&rt, slice_of(&second), 6_823)));
 }
@@ -114,22 +108,27 @@ fn an_owed_cycle_of_version_1(rt: HostRuntime) {
     bytes[6_801] = 0x01;
     bytes[6_802] = 0x23;
     bytes[6_819] = 1;
-    let mut want = new_state();
-    want[3] = 4;
-    want[5..9].copy_from_slice(b"0000");
-    want[80] = 0x41;
-    want[81] = 0x23;
-    want[6_802] = 0x01;
-    want[6_803] = 0x23;
-    want[6_820] = 1;
-    carried_over(&rt, rt.alloc(), slice_of(&bytes), slice_of(&want));
+    carried_over(&rt, rt.alloc(), slice_of(&bytes), slice_of(&owing_state()));
+}
+
+/// How many chains, of how many chips, and whether version 1 and version 2 have them.
+type ChainsRow = (u8, u8, bool, bool);
+
+fn expect_chains(rt: &impl Abort, alloc: Global, row: ChainsRow) {
+    let (count, chips, in_first, in_second) = row;
+    let first = chained_state(rt, alloc, true, count, chips);
+    let second = chained_state(rt, alloc, false, count, chips);
+    assert_eq!(rt; is_read(rt, alloc, &first), in_first);
+    assert_eq!(rt; is_read(rt, alloc, &second), in_second);
+    if in_first {
+        carried_over(rt, alloc, &first, &second);
+    }
 }
 
 /// Two chains of four chips are version 1's most; four of eight are version 2's.
 #[test]
 fn chains_of_either_version(rt: HostRuntime) {
-    // How many, of how many chips, and whether version 1 and version 2 have them.
-    let rows = [
+    let rows: [ChainsRow; 6] = [
         (2, 4, true, true),
         (3, 1, false, true),
         (1, 5, false, true),
@@ -137,32 +136,42 @@ fn chains_of_either_version(rt: HostRuntime) {
         (5, 1, false, false),
         (1, 9, false, false),
     ];
-    for (count, chips, in_first, in_second) in rows {
-        let first = chained_state(&rt, rt.alloc(), true, count, chips);
-        let second = chained_state(&rt, rt.alloc(), false, count, chips);
-        assert_eq!(rt; is_read(&rt, rt.alloc(), &first), in_first);
-        assert_eq!(rt; is_read(&rt, rt.alloc(), &second), in_second);
-        if in_first {
-            carried_over(&rt, rt.alloc(), &first, &second);
-        }
+    for row in rows {
+        expect_chains(&rt, rt.alloc(), row);
     }
-    let mut bench = Bench::new(rt.alloc()).expect(&rt, "memory");
-    apply(&rt, &mut bench, &wire(&rt, chained(4, 8)));
-    let mut written = buffer(&rt, rt.alloc());
-    let count = state_bytes(&bench, &mut written);
-    let want = chained_state(&rt, rt.alloc(), false, 4, 8);
-    expect_bytes(&rt, front(&rt, &written, count), &want);
+}
+
+#[test]
+fn the_most_chains_are_written(rt: HostRuntime) {
+    let alloc = rt.alloc();
+    let bench = after(&rt, alloc, &[wire(&rt, chained(4, 8))]);
+    let want = chained_state(&rt, alloc, false, 4, 8);
+    expect_state(&rt, alloc, &bench, &want);
+}
+
+/// Whether version 1 has this command.
+fn expect_in_version_1(rt: &impl Abort, command: &Command, want: bool) {
+    assert_eq!(rt; in_version_1(command), want);
+}
+
+#[test]
+fn boards_of_version_1(rt: HostRuntime) {
+    expect_in_version_1(&rt, &wire(&rt, each_part()), true);
+    for (count, chips, want) in [(2, 4, true), (3, 1, false), (1, 5, false)] {
+        expect_in_version_1(&rt, &wire(&rt, chained(count, chips)), want);
+    }
 }
 
 #[test]
 fn commands_of_version_1(rt: HostRuntime) {
     let bank = BankNo::of(0).expect(&rt, "a bank");
-    assert!(rt; in_version_1(&Command::Step));
-    assert!(rt; in_version_1(&Command::Poke(Place::Pc(address(1)))));
-    assert!(rt; in_version_1(&wire(&rt, each_part())));
-    assert!(rt; in_version_1(&wire(&rt, chained(2, 4))));
-    assert!(rt; !in_version_1(&wire(&rt, chained(3, 1))));
-    assert!(rt; !in_version_1(&wire(&rt, chained(1, 5))));
-    assert!(rt; !in_version_1(&Command::Watch(bank, 0)));
-    assert!(rt; !in_version_1(&Command::Unwatch(bank, 0)));
+    let rows = [
+        (Command::Step, true),
+        (Command::Poke(Place::Pc(address(1))), true),
+        (Command::Watch(bank, 0), false),
+        (Command::Unwatch(bank, 0), false),
+    ];
+    for row in &rows {
+        expect_in_version_1(&rt, &row.0, row.1);
+    }
 }

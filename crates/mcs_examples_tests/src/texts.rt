@@ -18,7 +18,7 @@ data = "rom0.1"
 chips = 1
 .
 asm
-; A 1 goes into the chain, nine times a 0 behind it, and so on for ever.
+; A 1 goes into the chain, nine times a 0 after it, and so on for ever.
 ; Data stands on line 1 before the clock, line 0, goes up.
         FIM P0, 0x00
         SRC P0          ; the port of ROM 0
@@ -382,13 +382,13 @@ hold:   SRC P2
         RDR
         JCN zero, hold  ; the key is up
         ISZ R1, pause   ; the next face
-        LDM 10          ; behind six comes one
+        LDM 10          ; after six comes one
         XCH R1
         JUN face
 pause:  NOP             ; as long as the way from six to one
         NOP
         JUN face
-        ORG 0x02A       ; behind the last face R1 is 16, so 0
+        ORG 0x02A       ; after the last face R1 is 16, so 0
 one:    DB 8, 1, 9, 3, 11, 7
 .
 run 100
@@ -615,7 +615,7 @@ pub(crate) const QUOTIENT: &str = r#"wire
 
 # The lamps, as tools/display reads them: minus, overflow and division by zero,
 # then five lamps for each digit, the leftmost digit first: in each the lamp for
-# 8 first, and that of the point behind the digit last.
+# 8 first, and that of the point after the digit last.
 lamp = [
     { line = "ram0.0.0" }, { line = "ram0.0.1" }, { line = "ram0.0.2" },
     { line = "chain1.39" }, { line = "chain1.38" }, { line = "chain1.37" }, { line = "chain1.36" }, { line = "chain1.35" },
@@ -678,13 +678,13 @@ asm
 ; Two numbers stand in the RAM chip, each in a register of 16 characters:
 ;   register 0, `shown`    the number on the display
 ;   register 1, `before`   the other one: the left number while an operator
-;                          waits for the right one; behind =, the right number,
+;                          waits for the right one; after =, the right number,
 ;                          with which a further = goes on
 ; Characters 0 to 7 are its digits, the lowest in character 0; characters 8 to
 ; 15 are 0 but while it is worked with. Its status characters:
-;   0 sign (1: minus)      1 decimals: so many digits stand behind the point
-;   of `shown`   2 mode    0 digits go on, 1 digits behind the point go on,
-;                          2 behind an operator, 3 complete (behind = ~ S)
+;   0 sign (1: minus)      1 decimals: so many digits stand after the point
+;   of `shown`   2 mode    0 digits go on, 1 digits after the point go on,
+;                          2 after an operator, 3 complete (after = ~ S)
 ;                3 error   0 none, 1 overflow, 2 division by zero
 ;   of `before`  2 operator (0 none, and those below)     3 1 while it waits
 ;
@@ -809,7 +809,7 @@ act: LD R8
  JIN P1
 
 ; Number entry. A digit: all digits move one place up and it becomes the
-; lowest, unless eight digits are there, or seven behind the point.
+; lowest, unless eight digits are there, or seven after the point.
 ; Uses P0, R3, R6; digits, decimals and mode of register 0. 203 cycles.
 
 digit: JMS begin
@@ -819,7 +819,7 @@ digit: JMS begin
  JCN nonzero, await
  RD2  ; the mode
  JCN zero, enter
- RD1  ; behind the point: one decimal more
+ RD1  ; after the point: one decimal more
  IAC
  XCH R6
  LD R6
@@ -832,7 +832,7 @@ enter: LD R3
  JMS left
  JUN ready
 
-; The point: from now on digits stand behind it. Uses P0; the mode. 94 cycles.
+; The point: from now on digits stand after it. Uses P0; the mode. 94 cycles.
 
 point: JMS begin
  LDM 1
@@ -891,7 +891,7 @@ keyed: XCH R15
  RD2  ; the mode
  DAC
  DAC
- JCN zero, wait ; 2: behind an operator
+ JCN zero, wait ; 2: after an operator
  JMS chain
 wait: FIM P1, before
  SRC P1
@@ -955,7 +955,7 @@ next: LDM 4  ; the next row is four bytes further
 
 ; Show. Lines 0 to 2 of the RAM port are the lamps for minus, overflow and
 ; division by zero. The digits go into chain 1, five bits each, the highest
-; digit first: the bits for 8, 4, 2 and 1, and the lamp of the point behind it.
+; digit first: the bits for 8, 4, 2 and 1, and the lamp of the point after it.
 ; RAL takes the highest bit out of R3 and the carry in, so that the carry is the
 ; fifth bit; RAR brings a bit to line 3 of the port. Uses R0 to R7;
 ; looks at characters 0 to 7 and status 0, 1, 3 of register 0. 539 cycles.
@@ -970,7 +970,7 @@ show: FIM P0, shown
  ADD R6
  WMP
  RD1
- XCH R4  ; the point stands behind digit R4
+ XCH R4  ; the point stands after digit R4
  FIM P0, 0x07 ; the highest digit
  FIM P3, 0x84 ; R6: eight digits. R7: 4 is the clock, line 2
 place: SRC P0
@@ -1309,16 +1309,16 @@ tidy: FIM P0, shown
  XCH R5
 
 ; Normalize. Digits are cut off from below while there are more than eight or
-; more than seven decimals, and zeros behind the point, too. Where there are
+; more than seven decimals, and zeros after the point, too. Where there are
 ; more than eight digits and no decimals, that is an overflow.
-; Uses R0, R1, R4, R5, R6; all of register 0. 3,157 cycles behind a product,
+; Uses R0, R1, R4, R5, R6; all of register 0. 3,157 cycles after a product,
 ; 1,673 else.
 
 fits: FIM P0, upper
 high: SRC P0
  RDM
  JCN nonzero, cut
- ISZ R1, high ; P0 is `shown` behind it
+ ISZ R1, high ; P0 is `shown` after it
  LD R4
  JCN zero, put ; no decimals
  RAL
@@ -1362,8 +1362,8 @@ signed: FIM P0, shown
 
 ; Adds the digits of the number before to register 0, from the character P0
 ; to its last one, from the lowest up. DAA makes of a sum above 9 a digit and a
-; carry, which is 1 behind the last digit where one is left. Uses P0, P1; P0 is
-; `shown` behind it. 150 cycles for 16 digits, 78 for 8.
+; carry, which is 1 after the last digit where one is left. Uses P0, P1; P0 is
+; `shown` after it. 150 cycles for 16 digits, 78 for 8.
 
 add_up: FIM P1, before
  CLC
@@ -1379,7 +1379,7 @@ sum: SRC P1
 
 ; Takes them from register 0. TCS gives 10, or 9 where the digit below has
 ; borrowed; the digit is taken from it (SBM) and the other one added. DAA then
-; makes a carry where nothing was borrowed. Uses P0, P1; P0 is `shown` behind
+; makes a carry where nothing was borrowed. Uses P0, P1; P0 is `shown` after
 ; it. 182 cycles for 16 digits, 94 for 8.
 
 subtract: FIM P1, before

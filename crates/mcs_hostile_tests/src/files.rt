@@ -1,11 +1,12 @@
 //! Files that others wrote: one change of a right file, and files of a seeded generator.
 use crate::first_version::file_of_inputs;
 use crate::scripts::{INPUTS, POKE, POKES};
-use crate::sessions::{bytes_of, disk_of, expect, file_of, found, opened, put, told};
+use crate::sessions::{
+    bytes_of, disk_of, expect, file_of, found, open, opened_in_memory, put, told,
+};
 use mcs_fixtures::files::Stretch;
 use mcs_fixtures::numbers::Numbers;
 use mcs_journal::{FILE_SIZE, OpenFault};
-use mcs_session::session::Session;
 use std::alloc::Global;
 use std::process::Abort;
 
@@ -122,12 +123,11 @@ pub(crate) fn expect_refused(
     fault: OpenFault,
     at: usize,
 ) {
-    match Session::open(alloc, disk_of(alloc, rt, file)) {
+    match open(alloc, disk_of(alloc, rt, file)) {
         Ok(_) => panic!(rt; "it opened, at {at}"),
         Err((found, mut disk)) => {
-            expect(rt, found == fault, at);
             let left = bytes_of(alloc, rt, &mut disk);
-            expect(rt, left.as_slice() == file, at);
+            expect(rt, found == fault && left.as_slice() == file, at);
         }
     }
 }
@@ -154,19 +154,41 @@ pub(crate) fn expect_changes(
     changes: &[Told],
 ) {
     for at in 9..16usize {
-        let file = changed(alloc, rt, new, at, &[1]);
-        expect_refused(alloc, rt, file.as_slice(), OpenFault::Damaged, at);
+        expect_damaged(alloc, rt, new, at, &[1]);
     }
-    for (at, bytes) in damages.iter().chain(RECORDS.iter()) {
-        let file = changed(alloc, rt, new, *at, bytes);
-        expect_refused(alloc, rt, file.as_slice(), OpenFault::Damaged, *at);
-    }
+    expect_all_damaged(alloc, rt, new, damages);
+    expect_all_damaged(alloc, rt, new, &RECORDS);
     for (at, bytes, script, answers) in changes {
         let file = changed(alloc, rt, new, *at, bytes);
-        let mut session = opened(alloc, rt, disk_of(alloc, rt, file.as_slice()));
-        let found = told(alloc, rt, &mut session, script);
-        expect(rt, found.as_slice() == *answers, *at);
+        expect_told(alloc, rt, file.as_slice(), script, answers, *at);
     }
+}
+
+/// A file is damaged by each of these changes.
+fn expect_all_damaged(alloc: Global, rt: &impl Abort, right: &[u8], stretches: &[Stretch]) {
+    for (at, bytes) in stretches {
+        expect_damaged(alloc, rt, right, *at, bytes);
+    }
+}
+
+/// A file is damaged once it has other bytes from a place on.
+fn expect_damaged(alloc: Global, rt: &impl Abort, right: &[u8], at: usize, bytes: &[u8]) {
+    let file = changed(alloc, rt, right, at, bytes);
+    expect_refused(alloc, rt, file.as_slice(), OpenFault::Damaged, at);
+}
+
+/// The session of a file has these answers to a script.
+fn expect_told(
+    alloc: Global,
+    rt: &impl Abort,
+    file: &[u8],
+    script: &[u8],
+    answers: &[u8],
+    at: usize,
+) {
+    let mut session = opened_in_memory(alloc, rt, file);
+    let found = told(alloc, rt, &mut session, script);
+    expect(rt, found.as_slice() == answers, at);
 }
 
 #[test]
@@ -200,11 +222,7 @@ fn with_watches(rt: HostRuntime) {
         let file = changed(alloc, &rt, new.as_slice(), 19, &[low]);
         let file = changed(alloc, &rt, file.as_slice(), 6_843, watches);
         match answer {
-            Some(answer) => {
-                let mut session = opened(alloc, &rt, disk_of(alloc, &rt, file.as_slice()));
-                let found = told(alloc, &rt, &mut session, b"watches\n");
-                expect(&rt, found.as_slice() == *answer, row);
-            }
+            Some(answer) => expect_told(alloc, &rt, file.as_slice(), b"watches\n", answer, row),
             None => expect_refused(alloc, &rt, file.as_slice(), OpenFault::Damaged, row),
         }
     }
@@ -226,33 +244,22 @@ fn with_too_much_in_the_log(rt: HostRuntime) {
     let alloc = rt.alloc();
     // a commit byte after the last place where a record has room
     let full = file_of(alloc, &rt, &[], 9_361, b"run 1\n");
-    let file = changed(alloc, &rt, full.as_slice(), 81_935, &[1]);
-    expect_refused(alloc, &rt, file.as_slice(), OpenFault::Damaged, 81_935);
+    expect_damaged(alloc, &rt, full.as_slice(), 81_935, &[1]);
     expect_most_cycles(alloc, &rt, file_of(alloc, &rt, &[], 0, b""));
 }
+
+/// The record of a run of 100,000 cycles, and that nothing comes after it.
+const MOST_CYCLES: [u8; 9] = [1, 0, 5, 5, 0, 1, 0x86, 0xA0, 0];
 
 /// Forty runs of 100,000 cycles are what the log of a new bench's file may hold.
 pub(crate) fn expect_most_cycles(alloc: Global, rt: &impl Abort, mut file: Vec<u8>) {
     for i in 0..40usize {
-        put(
-            rt,
-            file.as_mut_slice(),
-            LOG + 8 * i,
-            &[1, 0, 5, 5, 0, 1, 0x86, 0xA0, 0],
-        );
+        put(rt, file.as_mut_slice(), LOG + 8 * i, &MOST_CYCLES);
     }
-    let mut session = opened(alloc, rt, disk_of(alloc, rt, file.as_slice()));
-    let found = told(alloc, rt, &mut session, b"regs\n");
-    let wanted: &[u8] =
+    let answers: &[u8] =
         b"session 40\nacc 0 cy 0 pc 900 owed 0 dcl 0 test 1 r 0000000000000000 ret 000 000 000\n";
-    assert!(rt; found.as_slice() == wanted);
-    put(
-        rt,
-        file.as_mut_slice(),
-        LOG + 8 * 40,
-        &[1, 0, 5, 5, 0, 1, 0x86, 0xA0, 0],
-    );
-    expect_refused(alloc, rt, file.as_slice(), OpenFault::Damaged, 41);
+    expect_told(alloc, rt, file.as_slice(), b"regs\n", answers, 40);
+    expect_damaged(alloc, rt, file.as_slice(), LOG + 8 * 40, &MOST_CYCLES);
 }
 
 /// The place of one of the first commit bytes of a log, from its begin on.
@@ -324,6 +331,21 @@ fn has_refusal(answers: &[u8]) -> bool {
     false
 }
 
+/// Whether a file has a session, which then has an answer to each question.
+fn is_taken(alloc: Global, rt: &impl Abort, file: &[u8], at: usize) -> bool {
+    match found(alloc, rt, file) {
+        Ok(answers) => {
+            expect(rt, !has_refusal(answers.as_slice()), at);
+            true
+        }
+        Err(fault) => {
+            let is_of_the_file = matches!(fault, OpenFault::NotASession | OpenFault::Damaged);
+            expect(rt, is_of_the_file, at);
+            false
+        }
+    }
+}
+
 #[test]
 fn of_a_generator(rt: HostRuntime) {
     let alloc = rt.alloc();
@@ -339,19 +361,8 @@ fn of_a_generator(rt: HostRuntime) {
     for right in files.iter() {
         for i in 0..500 {
             let file = spoiled(alloc, &rt, right.as_slice(), &mut numbers);
-            match found(alloc, &rt, file.as_slice()) {
-                // each question has its answer
-                Ok(answers) => {
-                    taken = taken.saturating_add(1);
-                    expect(&rt, !has_refusal(answers.as_slice()), i);
-                }
-                Err(fault) => {
-                    expect(
-                        &rt,
-                        matches!(fault, OpenFault::NotASession | OpenFault::Damaged),
-                        i,
-                    );
-                }
+            if is_taken(alloc, &rt, file.as_slice(), i) {
+                taken = taken.saturating_add(1);
             }
         }
     }

@@ -1,15 +1,14 @@
 //! Files of version 1: what opening makes of them, of one change of them, and of a stop or a torn write while it carries them over.
 use crate::disks::NotingDisk;
-use crate::files::{Told, expect_changes, expect_most_cycles, expect_refused};
+use crate::files::{Told, changed, expect_changes, expect_most_cycles, expect_refused};
 use crate::scripts::{INPUTS, LAST};
 use crate::sessions::{
-    bytes_of, disk_of, expect, expect_state, file_of, found, opened, put, states_behind, told,
+    bytes_behind, disk_behind, disk_of, expect, expect_state, failing_disk_of, file_of, found,
+    left_on, open, opened, opened_in_memory, put, states_behind, told,
 };
 use crate::torn::{Pace, tear_all};
-use mcs_disk::FuseDisk;
 use mcs_fixtures::files::{NEW_BENCH, POKE, Stretch};
 use mcs_journal::{FILE_SIZE, OpenFault};
-use mcs_session::session::Session;
 use std::alloc::Global;
 use std::process::Abort;
 
@@ -118,41 +117,49 @@ fn with_chains_of_version_2(rt: HostRuntime) {
     let alloc = rt.alloc();
     for (wiring, length, more) in CHAINS {
         let mut file = new_file(alloc, &rt);
-        put(&rt, file.as_mut_slice(), 18, &length);
-        put(&rt, file.as_mut_slice(), 24, wiring);
-        put(&rt, file.as_mut_slice(), 6_840, &[0]);
-        put(
-            &rt,
-            file.as_mut_slice(),
-            6_840usize.saturating_add(more),
-            &[1],
-        );
+        let stretches: [(usize, &[u8]); 4] = [
+            (18, &length),
+            (24, wiring),
+            (6_840, &[0]),
+            (6_840usize.saturating_add(more), &[1]),
+        ];
+        for (at, bytes) in stretches {
+            put(&rt, file.as_mut_slice(), at, bytes);
+        }
         expect_refused(alloc, &rt, file.as_slice(), OpenFault::Damaged, more);
     }
 }
 
+/// What opening makes of the file of one register: its selector, the begin of the snapshot, and the record of a watch that was set.
+const CARRIED: [Stretch; 3] = [
+    (8, &[1]),
+    (81_936, &[0, 0, 0x1A, 0xA8, 0, 0, 0, 1, 2]),
+    (98_320, &[1, 0, 3, 12, 0, 0, 0]),
+];
+
 #[test]
 fn opened_and_told(rt: HostRuntime) {
     let alloc = rt.alloc();
-    let mut file = new_file(alloc, &rt);
-    put(&rt, file.as_mut_slice(), POKE.0, POKE.1);
-    let mut session = opened(alloc, &rt, disk_of(alloc, &rt, file.as_slice()));
+    let file = changed(alloc, &rt, new_file(alloc, &rt).as_slice(), POKE.0, POKE.1);
+    let mut session = opened_in_memory(alloc, &rt, file.as_slice());
     let answers = told(alloc, &rt, &mut session, b"regs\nwatches\nwatch 0 0\n");
     let wanted: &[u8] =
         b"session 1\nacc 0 cy 0 pc 000 owed 0 dcl 0 test 1 r 0000090000000000 ret 000 000 000\nwatches -\nok 2\n";
     assert!(rt; answers.as_slice() == wanted);
-    let mut disk = session.into_disk();
-    let left = bytes_of(alloc, &rt, &mut disk);
-    assert_eq!(rt; left.get(8), Some(&1));
-    assert_eq!(rt;
-        left.get(81_936..81_945),
-        Some([0, 0, 0x1A, 0xA8, 0, 0, 0, 1, 2].as_slice())
-    );
-    assert_eq!(rt;
-        left.get(98_320..98_327),
-        Some([1, 0, 3, 12, 0, 0, 0].as_slice())
-    );
-    // the commands of the script stand for one state in both versions
+    let left = bytes_behind(alloc, &rt, session);
+    for (at, bytes) in CARRIED {
+        let is_there = match left.get(at..) {
+            Some(rest) => rest.starts_with(bytes),
+            None => false,
+        };
+        expect(&rt, is_there, at);
+    }
+}
+
+/// The commands of the script stand for one state in both versions.
+#[test]
+fn of_one_state_in_both_versions(rt: HostRuntime) {
+    let alloc = rt.alloc();
     let first = found(alloc, &rt, file_of_inputs(alloc, &rt).as_slice());
     let second = found(alloc, &rt, file_of(alloc, &rt, &INPUTS, 0, b"").as_slice());
     match (first, second) {
@@ -165,12 +172,11 @@ fn opened_and_told(rt: HostRuntime) {
 
 /// The file that a stop after that many calls of the disk leaves, where it keeps a file from opening.
 fn left_by_a_stop(alloc: Global, rt: &impl Abort, file: &[u8], calls: usize) -> Option<Vec<u8>> {
-    match Session::open(alloc, FuseDisk::after(disk_of(alloc, rt, file), calls)) {
+    match open(alloc, failing_disk_of(alloc, rt, file, calls)) {
         Ok(_) => None,
-        Err((fault, mut disk)) => {
+        Err((fault, disk)) => {
             expect(rt, fault == OpenFault::Device, calls);
-            disk.mend();
-            Some(bytes_of(alloc, rt, &mut disk))
+            Some(left_on(alloc, rt, disk))
         }
     }
 }
@@ -196,11 +202,11 @@ fn stopped_at_each_call_of_opening(rt: HostRuntime) {
 fn torn_while_carried_over(rt: HostRuntime) {
     let alloc = rt.alloc();
     let mut file = file_of_inputs(alloc, &rt);
-    let mut session = opened(alloc, &rt, disk_of(alloc, &rt, file.as_slice()));
+    let mut session = opened_in_memory(alloc, &rt, file.as_slice());
     // one state, before and after
     let states = states_behind(alloc, &rt, &mut session, &[b""]);
     let disk = NotingDisk::new(alloc, disk_of(alloc, &rt, file.as_slice()));
-    let notes = opened(alloc, &rt, disk).into_disk().into_notes();
+    let notes = disk_behind(opened(alloc, &rt, disk)).into_notes();
     let pace = Pace {
         first: 0,
         each: usize::MAX,

@@ -1,6 +1,6 @@
 //! One allocation that is refused, whichever it is: `tools/refuse_allocations` refuses each in turn, the gate none.
 use crate::first_version::new_file;
-use crate::sessions::{bytes_of, opened, put};
+use crate::sessions::{bytes_of, create, disk_behind, open, opened, put, seq_of, serve};
 use arrayvec::ArrayVec;
 use mcs_disk::{Disk, DiskFault, MemDisk};
 use mcs_fixtures::files::{NEW_BENCH, POKE};
@@ -8,7 +8,6 @@ use mcs_fixtures::texts::{WIRE_WORKED, board_in};
 use mcs_journal::{CreateFault, FILE_SIZE, OpenFault};
 use mcs_session::session::Session;
 use mcs_shell::ends::ShellEnd;
-use mcs_shell::shell::run_shell;
 use std::alloc::Global;
 use std::io::{self, Write};
 use std::process::Abort;
@@ -122,23 +121,29 @@ fn left_out(output: &[u8], is_device: bool) -> Option<&'static str> {
     None
 }
 
-/// Serves the script. It answers what was refused, if anything was.
-fn serve(alloc: Global, rt: &impl Abort, session: &mut Session<MemDisk>) -> &'static str {
-    let mut script: ArrayVec<u8, 1_024> = ArrayVec::new();
+/// The board and the questions.
+fn script() -> ArrayVec<u8, 1_024> {
+    let mut script = ArrayVec::new();
     for part in [WIRE_WORKED, QUESTIONS] {
         for byte in part {
             let _ = script.try_push(*byte);
         }
     }
+    script
+}
+
+/// Does the script. It answers what was refused, if anything was.
+fn do_script(alloc: Global, rt: &impl Abort, session: &mut Session<MemDisk>) -> &'static str {
+    let script = script();
     let mut reader = script.as_slice();
     let mut writer = FixedWriter {
         held: ArrayVec::new(),
     };
-    let end = run_shell(alloc, &mut reader, &mut writer, session);
+    let end = serve(alloc, &mut reader, &mut writer, session);
     let output = writer.held.as_slice();
     match end {
         ShellEnd::NoMemory => {
-            assert!(rt; output.is_empty() && session.bench().seq() == 0);
+            assert!(rt; output.is_empty() && seq_of(session) == 0);
             "the shell"
         }
         ShellEnd::End => left_out(output, false).expect(rt, "other answers"),
@@ -152,18 +157,28 @@ fn serve(alloc: Global, rt: &impl Abort, session: &mut Session<MemDisk>) -> &'st
 
 /// Serves the script, and then opens the file again. It answers what was refused.
 fn run(alloc: Global, rt: &impl Abort, mut session: Session<MemDisk>) -> &'static str {
-    let served = serve(alloc, rt, &mut session);
-    let seq = session.bench().seq();
+    let served = do_script(alloc, rt, &mut session);
+    let seq = seq_of(&session);
     let is_closed = !session.is_open();
-    let (again, refused) = match Session::open(alloc, session.into_disk()) {
-        Ok(again) => (again, served),
-        Err((OpenFault::NoMemory, disk)) => (opened(alloc, rt, disk), "the session opened"),
-        Err((OpenFault::Device, disk)) => (opened(alloc, rt, disk), "a record at opening"),
+    let (again, refused) = open_again(alloc, rt, disk_behind(session));
+    let kept = seq_of(&again);
+    assert!(rt; kept == seq || (is_closed && kept == seq.saturating_add(1)));
+    refused.unwrap_or(served)
+}
+
+/// The session of a disk, which is opened again where it was refused, and what was refused.
+fn open_again(
+    alloc: Global,
+    rt: &impl Abort,
+    disk: MemDisk,
+) -> (Session<MemDisk>, Option<&'static str>) {
+    let (refused, disk) = match open(alloc, disk) {
+        Ok(session) => return (session, None),
+        Err((OpenFault::NoMemory, disk)) => ("the session opened", disk),
+        Err((OpenFault::Device, disk)) => ("a record at opening", disk),
         Err(_) => panic!(rt; "the session was not opened"),
     };
-    let kept = again.bench().seq();
-    assert!(rt; kept == seq || (is_closed && kept == seq.saturating_add(1)));
-    refused
+    (opened(alloc, rt, disk), Some(refused))
 }
 
 /// Makes the session, and again where it found no memory. It answers what was refused.
@@ -171,9 +186,9 @@ fn make_and_run(alloc: Global, rt: &impl Abort) -> &'static str {
     let Ok(disk) = MemDisk::new(alloc, FILE_SIZE) else {
         return "the disk";
     };
-    match Session::create(alloc, disk) {
+    match create(alloc, disk) {
         Ok(session) => run(alloc, rt, session),
-        Err((CreateFault::NoMemory, disk)) => match Session::create(alloc, disk) {
+        Err((CreateFault::NoMemory, disk)) => match create(alloc, disk) {
             Ok(session) => {
                 let _ = run(alloc, rt, session);
                 "the session made"
@@ -217,7 +232,7 @@ fn carry_over(alloc: Global, rt: &impl Abort) -> &'static str {
     if put_first(&mut disk).is_err() {
         return "a record of the file";
     }
-    match Session::open(alloc, disk) {
+    match open(alloc, disk) {
         Ok(session) => {
             expect_register(rt, &session);
             "nothing"

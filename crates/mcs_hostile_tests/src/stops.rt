@@ -1,33 +1,47 @@
 //! A stop at each call of a disk, and after each byte that is read or written.
 use crate::scripts::{ANSWERS, INPUTS, POKE, POKES};
 use crate::sessions::{
-    blank, bytes_of, disk_of, expect, expect_state, file_of, new_session, opened, states_behind,
+    answered, blank, bytes_of, create, disk_behind, expect, expect_state, failing_disk_of, file_of,
+    left_on, new_in_memory, open, opened, opened_in_memory, poke, seq_of, serve, states_behind,
 };
-use mcs_disk::FuseDisk;
+use mcs_disk::{FuseDisk, MemDisk};
 use mcs_fixtures::streams::{CutReader, CutWriter, joined};
 use mcs_journal::{CreateFault, OpenFault};
-use mcs_model::command::{Command, Place};
-use mcs_nibble::{Nibble, RegNo};
 use mcs_session::fault::SessionFault;
 use mcs_session::session::Session;
 use mcs_shell::ends::{ShellEnd, status};
-use mcs_shell::shell::run_shell;
 use std::alloc::Global;
 use std::process::Abort;
 
 /// The first line of the answers of a new session.
 const FIRST: &[u8] = b"session 0\n";
 
-/// What a new session answers where the device refuses the command after these.
-fn answers_before_a_fault(alloc: Global, rt: &impl Abort, done: usize) -> Vec<u8> {
+/// What a new session answers to the first commands, that many, and then.
+fn answers_to(alloc: Global, rt: &impl Abort, done: usize, then: &[u8]) -> Vec<u8> {
     let mut answers = joined(alloc, &[FIRST]).expect(rt, "memory");
     for answer in ANSWERS.iter().take(done) {
         answers.extend_from_slice(answer).expect(rt, "memory");
     }
-    if done < ANSWERS.len() {
-        answers.extend_from_slice(b"no 53\n").expect(rt, "memory");
-    }
+    answers.extend_from_slice(then).expect(rt, "memory");
     answers
+}
+
+/// All commands, one after another.
+fn script_of_inputs(alloc: Global, rt: &impl Abort) -> Vec<u8> {
+    joined(alloc, &INPUTS).expect(rt, "memory")
+}
+
+/// How many of these pieces, one behind the other, end at a place or before it.
+fn whole_pieces(pieces: &[&[u8]], place: usize) -> usize {
+    let mut count = 0usize;
+    let mut end = 0usize;
+    for piece in pieces {
+        end = end.saturating_add(piece.len());
+        if end <= place {
+            count = count.saturating_add(1);
+        }
+    }
+    count
 }
 
 /// A disk that fails each call after that many, or that one alone.
@@ -37,6 +51,30 @@ fn failing(alloc: Global, rt: &impl Abort, calls: usize, is_once: bool) -> FuseD
         FuseDisk::once(disk, calls)
     } else {
         FuseDisk::after(disk, calls)
+    }
+}
+
+/// The shell does that many commands, and the device refuses the one after them, if there is one. The session is closed then.
+fn expect_stopped(
+    alloc: Global,
+    rt: &impl Abort,
+    session: &mut Session<FuseDisk>,
+    done: usize,
+    calls: usize,
+) {
+    let script = script_of_inputs(alloc, rt);
+    let (end, answers) = answered(alloc, &mut script.as_slice(), session);
+    let (wanted_end, then): (ShellEnd, &[u8]) = if done < INPUTS.len() {
+        (ShellEnd::DeviceFault, b"no 53\n")
+    } else {
+        (ShellEnd::End, b"")
+    };
+    expect(rt, end == wanted_end, calls);
+    expect(rt, (status(end) == 1) == (done < INPUTS.len()), calls);
+    let wanted = answers_to(alloc, rt, done, then);
+    expect(rt, answers.as_slice() == wanted.as_slice(), calls);
+    if done < INPUTS.len() {
+        expect(rt, poke(session) == Err(SessionFault::Closed), calls);
     }
 }
 
@@ -52,55 +90,30 @@ fn stop_in_commands(
 ) {
     assert!(rt; 5 <= calls, "the call {calls} did not fail");
     let done = (calls - 5) / 4;
-    let script = joined(alloc, &INPUTS).expect(rt, "memory");
-    let mut reader = script.as_slice();
-    let mut writer = Vec::new(alloc);
-    let end = run_shell(alloc, &mut reader, &mut writer, &mut session);
-    let is_stopped = done < INPUTS.len();
-    let wanted_end = if is_stopped {
-        ShellEnd::DeviceFault
+    expect_stopped(alloc, rt, &mut session, done, calls);
+    let mut disk = disk_behind(session);
+    let file = if is_once && done < INPUTS.len() {
+        bytes_of(alloc, rt, &mut disk)
     } else {
-        ShellEnd::End
+        left_on(alloc, rt, disk)
     };
-    expect(
-        rt,
-        end == wanted_end && (status(end) == 1) == is_stopped,
-        calls,
-    );
-    let wanted = answers_before_a_fault(alloc, rt, done);
-    expect(rt, writer.as_slice() == wanted.as_slice(), calls);
-    let poke = Command::Poke(Place::Register(RegNo::ZERO, Nibble::ONE));
-    if is_stopped {
-        expect(rt, session.apply(&poke) == Err(SessionFault::Closed), calls);
-    }
-    let mut disk = session.into_disk();
-    if !is_once || !is_stopped {
-        disk.mend();
-    }
-    let file = bytes_of(alloc, rt, &mut disk);
-    expect_state(
-        alloc,
-        rt,
-        file.as_slice(),
-        states.get((calls - 4) / 4),
-        calls,
-    );
+    let state = states.get((calls - 4) / 4);
+    expect_state(alloc, rt, file.as_slice(), state, calls);
 }
 
 #[test]
 fn at_each_call_of_the_disk(rt: HostRuntime) {
     let alloc = rt.alloc();
-    let mut session = new_session(alloc, &rt, blank(alloc, &rt));
+    let mut session = new_in_memory(alloc, &rt);
     let states = states_behind(alloc, &rt, &mut session, &INPUTS);
     for is_once in [false, true] {
         for calls in 0..26usize {
-            match Session::create(alloc, failing(alloc, &rt, calls, is_once)) {
+            match create(alloc, failing(alloc, &rt, calls, is_once)) {
                 Ok(session) => {
                     stop_in_commands(alloc, &rt, session, calls, is_once, states.as_slice())
                 }
                 Err((fault, _disk)) => {
-                    expect(&rt, fault == CreateFault::Device, calls);
-                    expect(&rt, calls < 5, calls);
+                    expect(&rt, fault == CreateFault::Device && calls < 5, calls);
                 }
             }
         }
@@ -109,12 +122,11 @@ fn at_each_call_of_the_disk(rt: HostRuntime) {
 
 /// Whether a stop after that many calls of the disk keeps a file from opening. The disk is handed back then, with the same bytes.
 fn is_stopped_opening(alloc: Global, rt: &impl Abort, file: &[u8], calls: usize) -> bool {
-    match Session::open(alloc, FuseDisk::after(disk_of(alloc, rt, file), calls)) {
+    match open(alloc, failing_disk_of(alloc, rt, file, calls)) {
         Ok(_) => false,
-        Err((fault, mut disk)) => {
+        Err((fault, disk)) => {
             expect(rt, fault == OpenFault::Device, calls);
-            disk.mend();
-            let bytes = bytes_of(alloc, rt, &mut disk);
+            let bytes = left_on(alloc, rt, disk);
             expect(rt, bytes.as_slice() == file, calls);
             true
         }
@@ -135,28 +147,36 @@ fn calls_of_open(alloc: Global, rt: &impl Abort, file: &[u8]) -> usize {
 
 /// A poke for which the log of a file has no room, stopped at each of its eight calls. `accepted` ends the answers of a whole one.
 fn stop_in_a_checkpoint(alloc: Global, rt: &impl Abort, file: &[u8], accepted: &[u8]) {
-    let mut session = opened(alloc, rt, disk_of(alloc, rt, file));
+    let mut session = opened_in_memory(alloc, rt, file);
     let states = states_behind(alloc, rt, &mut session, &[POKE]);
     let opening = calls_of_open(alloc, rt, file);
     for calls in 0..9usize {
-        let disk = FuseDisk::after(disk_of(alloc, rt, file), opening.saturating_add(calls));
-        let mut session = opened(alloc, rt, disk);
-        let mut writer = Vec::new(alloc);
-        let mut reader = POKE;
-        let end = run_shell(alloc, &mut reader, &mut writer, &mut session);
-        let (wanted, answer) = if calls < 8 {
-            (ShellEnd::DeviceFault, b"\nno 53\n".as_slice())
+        let disk = failing_disk_of(alloc, rt, file, opening.saturating_add(calls));
+        let (wanted, answer): (ShellEnd, &[u8]) = if calls < 8 {
+            (ShellEnd::DeviceFault, b"\nno 53\n")
         } else {
             (ShellEnd::End, accepted)
         };
-        expect(rt, end == wanted, calls);
-        expect(rt, writer.as_slice().ends_with(answer), calls);
-        let mut disk = session.into_disk();
-        disk.mend();
-        let left = bytes_of(alloc, rt, &mut disk);
+        let left = left_by_a_poke(alloc, rt, disk, (wanted, answer), calls);
         let state = states.get(if calls < 7 { 0 } else { 1 });
         expect_state(alloc, rt, left.as_slice(), state, calls);
     }
+}
+
+/// The file that a poke leaves on a disk. The shell ends so, and its answers end with that one.
+fn left_by_a_poke(
+    alloc: Global,
+    rt: &impl Abort,
+    disk: FuseDisk,
+    (wanted, answer): (ShellEnd, &[u8]),
+    calls: usize,
+) -> Vec<u8> {
+    let mut session = opened(alloc, rt, disk);
+    let mut reader = POKE;
+    let (end, answers) = answered(alloc, &mut reader, &mut session);
+    expect(rt, end == wanted, calls);
+    expect(rt, answers.as_slice().ends_with(answer), calls);
+    left_on(alloc, rt, disk_behind(session))
 }
 
 #[test]
@@ -183,62 +203,60 @@ fn at_each_call_of_opening(rt: HostRuntime) {
     }
 }
 
+/// A reader that fails after that many bytes ends the shell. The inputs that were read whole are answered.
+fn expect_cut_reading(alloc: Global, rt: &impl Abort, script: &[u8], left: usize) {
+    let mut session = new_in_memory(alloc, rt);
+    let mut reader = CutReader::new(script, left, usize::MAX);
+    let (end, answers) = answered(alloc, &mut reader, &mut session);
+    expect(rt, end == ShellEnd::ReadFault && status(end) == 1, left);
+    let wanted = answers_to(alloc, rt, whole_pieces(&INPUTS, left), b"");
+    expect(rt, answers.as_slice() == wanted.as_slice(), left);
+}
+
 #[test]
 fn at_each_byte_that_is_read(rt: HostRuntime) {
     let alloc = rt.alloc();
-    let script = joined(alloc, &INPUTS).expect(&rt, "memory");
+    let script = script_of_inputs(alloc, &rt);
     for left in 0..=script.len() {
-        let mut session = new_session(alloc, &rt, blank(alloc, &rt));
-        let mut reader = CutReader::new(script.as_slice(), left, usize::MAX);
-        let mut writer = Vec::new(alloc);
-        let end = run_shell(alloc, &mut reader, &mut writer, &mut session);
-        expect(&rt, end == ShellEnd::ReadFault, left);
-        assert_eq!(rt; status(end), 1);
-        // the inputs that were read whole are answered
-        let mut wanted = joined(alloc, &[FIRST]).expect(&rt, "memory");
-        let mut place = 0usize;
-        for (input, answer) in INPUTS.iter().zip(ANSWERS.iter()) {
-            place = place.saturating_add(input.len());
-            if place <= left {
-                wanted.extend_from_slice(answer).expect(&rt, "memory");
-            }
-        }
-        expect(&rt, writer.as_slice() == wanted.as_slice(), left);
+        expect_cut_reading(alloc, &rt, script.as_slice(), left);
     }
+}
+
+/// A writer that fails after that many bytes of the answers ends the shell. It answers the disk.
+fn cut_writing(
+    alloc: Global,
+    rt: &impl Abort,
+    script: &[u8],
+    answers: &[u8],
+    left: usize,
+) -> MemDisk {
+    let mut session = new_in_memory(alloc, rt);
+    let mut writer = CutWriter::new(alloc, left, usize::MAX);
+    let mut reader = script;
+    let end = serve(alloc, &mut reader, &mut writer, &mut session);
+    let wanted_end = if left == answers.len() {
+        ShellEnd::End
+    } else {
+        ShellEnd::WriteFault
+    };
+    expect(rt, end == wanted_end, left);
+    expect(rt, answers.starts_with(writer.held()), left);
+    expect(rt, writer.held().len() == left, left);
+    disk_behind(session)
 }
 
 #[test]
 fn at_each_byte_that_is_written(rt: HostRuntime) {
     let alloc = rt.alloc();
-    let script = joined(alloc, &INPUTS).expect(&rt, "memory");
-    let mut answers = joined(alloc, &[FIRST]).expect(&rt, "memory");
-    for answer in ANSWERS {
-        answers.extend_from_slice(answer).expect(&rt, "memory");
-    }
+    let script = script_of_inputs(alloc, &rt);
+    let answers = answers_to(alloc, &rt, ANSWERS.len(), b"");
+    // a command is recorded once all answers before its own are out
+    let [one, two, three, four, _] = ANSWERS;
+    let before = [FIRST, one, two, three, four];
     for left in 0..=answers.len() {
-        let mut session = new_session(alloc, &rt, blank(alloc, &rt));
-        let mut writer = CutWriter::new(alloc, left, usize::MAX);
-        let mut reader = script.as_slice();
-        let end = run_shell(alloc, &mut reader, &mut writer, &mut session);
-        let is_whole = left == answers.len();
-        let wanted_end = if is_whole {
-            ShellEnd::End
-        } else {
-            ShellEnd::WriteFault
-        };
-        expect(&rt, end == wanted_end, left);
-        expect(&rt, answers.as_slice().starts_with(writer.held()), left);
-        assert_eq!(rt; writer.held().len(), left);
-        // a command is recorded once all answers before its own are out
-        let mut kept = 0u32;
-        let mut place = FIRST.len();
-        for answer in ANSWERS {
-            if place <= left {
-                kept = kept.saturating_add(1);
-            }
-            place = place.saturating_add(answer.len());
-        }
-        let again = opened(alloc, &rt, session.into_disk());
-        expect(&rt, again.bench().seq() == kept, left);
+        let disk = cut_writing(alloc, &rt, script.as_slice(), answers.as_slice(), left);
+        let again = opened(alloc, &rt, disk);
+        let kept = whole_pieces(&before, left);
+        expect(&rt, seq_of(&again) as usize == kept, left);
     }
 }

@@ -1,11 +1,10 @@
 //! Texts and lines that no one should write, and readers without end.
-use crate::sessions::{blank, expect, new_session, told};
+use crate::sessions::{answered, expect, new_in_memory, seq_of, told};
 use mcs_disk::MemDisk;
 use mcs_fixtures::numbers::Numbers;
 use mcs_fixtures::streams::joined;
 use mcs_session::session::Session;
 use mcs_shell::ends::ShellEnd;
-use mcs_shell::shell::run_shell;
 use std::alloc::Global;
 use std::io::{self, Read};
 use std::process::Abort;
@@ -28,72 +27,65 @@ fn without_end(rt: HostRuntime) {
     let alloc = rt.alloc();
     // blank lines, one line, one text
     for bytes in [*b"\n\n\n\n", *b"seq ", *b"asm\n"] {
-        let mut session = new_session(alloc, &rt, blank(alloc, &rt));
-        let mut writer = Vec::new(alloc);
-        let end = run_shell(
-            alloc,
-            &mut EndlessReader { bytes },
-            &mut writer,
-            &mut session,
-        );
-        assert_eq!(rt; end, ShellEnd::InputLimit);
-        assert!(rt; writer.as_slice() == b"session 0\n".as_slice());
+        let mut session = new_in_memory(alloc, &rt);
+        let (end, answers) = answered(alloc, &mut EndlessReader { bytes }, &mut session);
+        assert!(rt; end == ShellEnd::InputLimit);
+        assert!(rt; answers.as_slice() == b"session 0\n".as_slice());
     }
+}
+
+/// A new session has these answers to the pieces of a script.
+fn expect_answers(alloc: Global, rt: &impl Abort, pieces: &[&[u8]], answers: &[u8], row: usize) {
+    let script = joined(alloc, pieces).expect(rt, "memory");
+    let mut session = new_in_memory(alloc, rt);
+    let found = told(alloc, rt, &mut session, script.as_slice());
+    expect(rt, found.as_slice() == answers, row);
+}
+
+/// 64 comments of 256 bytes with their line feeds.
+fn longest_text(alloc: Global, rt: &impl Abort) -> Vec<u8> {
+    let comment = joined(alloc, &[b";", &[b'a'; 254], b"\n"]).expect(rt, "memory");
+    let mut text = Vec::new(alloc);
+    for _ in 0..64 {
+        text.extend_from_slice(comment.as_slice())
+            .expect(rt, "memory");
+    }
+    text
 }
 
 #[test]
 fn of_too_many_bytes(rt: HostRuntime) {
     let alloc = rt.alloc();
-    let letters = [b'a'; 256];
-    let comment = joined(alloc, &[b";", &letters[..254], b"\n"]).expect(&rt, "memory");
-    let mut longest = Vec::new(alloc);
-    for _ in 0..64 {
-        longest
-            .extend_from_slice(comment.as_slice())
-            .expect(&rt, "memory");
-    }
-    let too_long = joined(alloc, &[longest.as_slice(), b"\n"]).expect(&rt, "memory");
-    let long_line = joined(alloc, &[&letters, b"\n"]).expect(&rt, "memory");
-    let rows: [(&[u8], &[u8]); 4] = [
-        (longest.as_slice(), b"session 0\nok 1 bytes 0\nseq 1\n"),
-        (too_long.as_slice(), b"session 0\nno 13\nseq 0\n"),
-        (long_line.as_slice(), b"session 0\nno 12\nseq 0\n"),
-        (b"NOP\n; \xff\n", b"session 0\nno 14\nseq 0\n"),
+    let longest = longest_text(alloc, &rt);
+    let longest = longest.as_slice();
+    let rows: [([&[u8]; 2], &[u8]); 4] = [
+        ([longest, b""], b"session 0\nok 1 bytes 0\nseq 1\n"),
+        ([longest, b"\n"], b"session 0\nno 13\nseq 0\n"),
+        ([&[b'a'; 256], b"\n"], b"session 0\nno 12\nseq 0\n"),
+        ([b"NOP\n; \xff\n", b""], b"session 0\nno 14\nseq 0\n"),
     ];
-    for (row, (text, answers)) in rows.iter().enumerate() {
+    for (row, ([text, last], answers)) in rows.iter().enumerate() {
         // without its dot the text takes all that is left
         let cases: [(&[u8], &[u8]); 2] = [
             (b".\nseq\n", answers),
             (b"seq\n", b"session 0\nno 15\n"),
         ];
         for (ending, answers) in cases {
-            let script = joined(alloc, &[b"asm\n", text, ending]).expect(&rt, "memory");
-            let mut session = new_session(alloc, &rt, blank(alloc, &rt));
-            let found = told(alloc, &rt, &mut session, script.as_slice());
-            expect(&rt, found.as_slice() == answers, row);
+            expect_answers(alloc, &rt, &[b"asm\n", text, last, ending], answers, row);
         }
     }
 }
 
 #[test]
 fn of_odd_bytes(rt: HostRuntime) {
-    let alloc = rt.alloc();
-    let letters = [b'a'; 255];
-    let rows: [(&[u8], &[u8]); 4] = [
-        (b"poke r1 1\r\n", b"session 0\nok 1\n"),
-        (b"poke r1\x001\n", b"session 0\nno 14\n"),
-        (&[0], b"session 0\nno 14\n"),
-        (&letters, b"session 0\nno 12\n"),
+    let rows: [([&[u8]; 2], &[u8]); 4] = [
+        ([b"poke r1 1\r\n", b""], b"session 0\nok 1\n"),
+        ([b"poke r1\x001\n", b""], b"session 0\nno 14\n"),
+        ([&[0], b""], b"session 0\nno 14\n"),
+        ([b"\x00", &[b'a'; 255]], b"session 0\nno 12\n"),
     ];
-    for (row, (line, answers)) in rows.iter().enumerate() {
-        let script = if row == 3 {
-            joined(alloc, &[b"\x00", line]).expect(&rt, "memory")
-        } else {
-            joined(alloc, &[line]).expect(&rt, "memory")
-        };
-        let mut session = new_session(alloc, &rt, blank(alloc, &rt));
-        let found = told(alloc, &rt, &mut session, script.as_slice());
-        expect(&rt, found.as_slice() == *answers, row);
+    for (row, (pieces, answers)) in rows.iter().enumerate() {
+        expect_answers(rt.alloc(), &rt, pieces, answers, row);
     }
 }
 
@@ -177,66 +169,78 @@ fn text_of(alloc: Global, rt: &impl Abort, pieces: &[&[u8]], numbers: &mut Numbe
     text
 }
 
-/// A text is accepted or refused with a number that begins so, the session tells which, and goes on.
+/// The numbers with which a text is refused begin so.
+type Refusals = [&'static [u8]; 2];
+
+/// A kind of text: the line that begins it, the pieces that it is made of, and how it is refused.
+type Kind = (&'static [u8], &'static [&'static [u8]], Refusals);
+
+/// What is told between the first and the last line of some answers.
+fn between<'a>(
+    alloc: Global,
+    rt: &impl Abort,
+    answers: &'a [u8],
+    (before, after): (u32, u32),
+) -> &'a [u8] {
+    let first = format!(in alloc; "session {before}\n").expect(rt, "memory");
+    let last = format!(in alloc; "\nseq {after}\n").expect(rt, "memory");
+    let rest = answers
+        .strip_prefix(first.as_str().as_bytes())
+        .expect(rt, "no first line");
+    rest.strip_suffix(last.as_str().as_bytes())
+        .expect(rt, "no last line")
+}
+
+/// A text is accepted or refused, the session tells which, and goes on. Whether it was accepted.
 fn expect_answer(
     alloc: Global,
     rt: &impl Abort,
     session: &mut Session<MemDisk>,
-    opening: &[u8],
-    text: &[u8],
-    refusals: [&[u8]; 2],
+    script: &[u8],
+    refusals: Refusals,
 ) -> bool {
-    let before = session.bench().seq();
-    let script = joined(alloc, &[opening, text, b"\n.\nseq\n"]).expect(rt, "memory");
-    let answers = told(alloc, rt, session, script.as_slice());
-    let after = session.bench().seq();
-    let first = format!(in alloc; "session {before}\n").expect(rt, "memory");
-    let last = format!(in alloc; "\nseq {after}\n").expect(rt, "memory");
-    let Some(behind) = answers.as_slice().strip_prefix(first.as_str().as_bytes()) else {
-        panic!(rt; "no first line")
-    };
-    let Some(answer) = behind.strip_suffix(last.as_str().as_bytes()) else {
-        panic!(rt; "no last line")
-    };
+    let before = seq_of(session);
+    let answers = told(alloc, rt, session, script);
+    let after = seq_of(session);
+    let answer = between(alloc, rt, answers.as_slice(), (before, after));
     assert!(rt; !answer.contains(&b'\n'));
     if after == before {
         let [one, other] = refusals;
         assert!(rt; answer.starts_with(one) || answer.starts_with(other));
-    } else {
-        let accepted = format!(in alloc; "ok {after}").expect(rt, "memory");
-        assert!(rt; answer.starts_with(accepted.as_str().as_bytes()));
+        return false;
     }
-    after != before
+    let accepted = format!(in alloc; "ok {after}").expect(rt, "memory");
+    assert!(rt; answer.starts_with(accepted.as_str().as_bytes()));
+    true
+}
+
+/// Whether a text of the generator is accepted after the line that begins it.
+fn is_accepted(
+    alloc: Global,
+    rt: &impl Abort,
+    session: &mut Session<MemDisk>,
+    numbers: &mut Numbers,
+    (opening, pieces, refusals): Kind,
+) -> bool {
+    let text = text_of(alloc, rt, pieces, numbers);
+    let script = joined(alloc, &[opening, text.as_slice(), b"\n.\nseq\n"]).expect(rt, "memory");
+    expect_answer(alloc, rt, session, script.as_slice(), refusals)
 }
 
 #[test]
 fn of_a_generator(rt: HostRuntime) {
     let alloc = rt.alloc();
     let mut numbers = Numbers::new(4001);
-    let mut session = new_session(alloc, &rt, blank(alloc, &rt));
+    let mut session = new_in_memory(alloc, &rt);
+    let wiring: Kind = (b"wire\n", &WIRING, [b"no 2", b"no 2"]);
+    let program: Kind = (b"asm\n", &PROGRAM, [b"no 3", b"no 42"]);
     let mut boards = 0u32;
     let mut programs = 0u32;
     for _ in 0..1_000 {
-        let text = text_of(alloc, &rt, &WIRING, &mut numbers);
-        if expect_answer(
-            alloc,
-            &rt,
-            &mut session,
-            b"wire\n",
-            text.as_slice(),
-            [b"no 2", b"no 2"],
-        ) {
+        if is_accepted(alloc, &rt, &mut session, &mut numbers, wiring) {
             boards = boards.saturating_add(1);
         }
-        let text = text_of(alloc, &rt, &PROGRAM, &mut numbers);
-        if expect_answer(
-            alloc,
-            &rt,
-            &mut session,
-            b"asm\n",
-            text.as_slice(),
-            [b"no 3", b"no 42"],
-        ) {
+        if is_accepted(alloc, &rt, &mut session, &mut numbers, program) {
             programs = programs.saturating_add(1);
         }
     }

@@ -1,7 +1,10 @@
 //! Writes that a power cut tore: whatever it left opens to a state that the acknowledged commands allow.
 use crate::disks::{Note, NotingDisk};
+use crate::files::changed;
 use crate::scripts::{INPUTS, LAST, POKE, POKES};
-use crate::sessions::{blank, disk_of, file_of, found, new_session, opened, put, states_behind};
+use crate::sessions::{
+    blank, disk_behind, disk_of, file_of, found, new_session, opened, put, states_behind,
+};
 use mcs_fixtures::numbers::Numbers;
 use mcs_journal::{FILE_SIZE, OpenFault};
 use std::alloc::Global;
@@ -56,17 +59,21 @@ fn cuts(alloc: Global, rt: &impl Abort, length: usize, numbers: &mut Numbers) ->
     let mut places = Vec::new(alloc);
     if length <= SMALL {
         for place in 0..length + 1 {
-            places.push(place).expect(rt, "memory");
+            add(rt, &mut places, place);
         }
         return places;
     }
     for place in [0, 1, length - 1, length] {
-        places.push(place).expect(rt, "memory");
+        add(rt, &mut places, place);
     }
     for _ in 0..16 {
-        places.push(numbers.place(length)).expect(rt, "memory");
+        add(rt, &mut places, numbers.place(length));
     }
     places
+}
+
+fn add(rt: &impl Abort, places: &mut Vec<usize>, place: usize) {
+    places.push(place).expect(rt, "memory");
 }
 
 /// The states that a file may open to, as told. Where it may be none, no command was acknowledged yet.
@@ -103,8 +110,7 @@ fn tear(
 ) -> usize {
     if bytes.len() == 1 {
         for value in 0..=255u8 {
-            let mut image = file.to_vec(alloc).expect(rt, "memory");
-            put(rt, image.as_mut_slice(), at, &[value]);
+            let image = changed(alloc, rt, file, at, &[value]);
             expect_allowed(alloc, rt, image.as_slice(), allowed);
         }
         return 256;
@@ -124,6 +130,27 @@ fn tear(
 pub(crate) struct Pace {
     pub(crate) first: usize,
     pub(crate) each: usize,
+}
+
+/// The states that are allowed after that many acknowledged commands.
+fn allowed_after<'a>(
+    rt: &impl Abort,
+    states: &'a [Vec<u8>],
+    acknowledged: usize,
+    may_be_none: bool,
+) -> Allowed<'a> {
+    let (Some(old), Some(new)) = (
+        states.get(acknowledged),
+        states.get(acknowledged.saturating_add(1)),
+    ) else {
+        panic!(rt; "a write behind the last command")
+    };
+    let (old, new) = (old.as_slice(), new.as_slice());
+    Allowed {
+        may_be_none,
+        old,
+        new: if may_be_none { old } else { new },
+    }
 }
 
 /// Tears each noted write of a file, and answers how many files that makes.
@@ -150,21 +177,7 @@ pub(crate) fn tear_all(
                 assert!(rt; is_synced);
                 is_synced = false;
                 let acknowledged = syncs.saturating_sub(pace.first) / pace.each.max(1);
-                let (Some(old), Some(new)) = (
-                    states.get(acknowledged),
-                    states.get(acknowledged.saturating_add(1)),
-                ) else {
-                    panic!(rt; "a write behind the last command")
-                };
-                let allowed = Allowed {
-                    may_be_none: syncs < pace.first,
-                    old: old.as_slice(),
-                    new: if syncs < pace.first {
-                        old.as_slice()
-                    } else {
-                        new.as_slice()
-                    },
-                };
+                let allowed = allowed_after(rt, states, acknowledged, syncs < pace.first);
                 let made = tear(
                     alloc,
                     rt,
@@ -192,7 +205,7 @@ fn writes_of_a_new_session_and_its_commands(rt: HostRuntime) {
         panic!(rt; "no states")
     };
     assert!(rt; last.as_slice().ends_with(LAST));
-    let notes = session.into_disk().into_notes();
+    let notes = disk_behind(session).into_notes();
     let mut file = vec![in alloc; 0u8; FILE_SIZE].expect(&rt, "memory");
     let pace = Pace { first: 2, each: 2 };
     let images = tear_all(
@@ -215,7 +228,7 @@ fn writes_of_a_checkpoint(rt: HostRuntime) {
     let disk = NotingDisk::new(alloc, disk_of(alloc, &rt, file.as_slice()));
     let mut session = opened(alloc, &rt, disk);
     let states = states_behind(alloc, &rt, &mut session, &[POKE]);
-    let notes = session.into_disk().into_notes();
+    let notes = disk_behind(session).into_notes();
     let pace = Pace { first: 1, each: 4 };
     let images = tear_all(
         alloc,

@@ -1,3 +1,4 @@
+use crate::checks::equal;
 use mcs_disk::{
     Disk, FuseDisk, MemDisk, cut_is_before_a_stretch_or_since_its_start,
     cut_is_since_an_earlier_time, cut_leaves_what_is_durable, cut_of_what_a_cut_left,
@@ -58,11 +59,11 @@ fn expect_pair<D: Disk + Drop>(
                 records: list,
             },
         ) => {
-            assert_eq!(rt; found.bytes(), snap);
-            assert_eq!(rt; list.len(), records);
-            assert_eq!(rt; list.is_empty(), records == 0);
+            equal(rt, found.bytes(), snap);
+            equal(rt, list.len(), records);
+            equal(rt, list.is_empty(), records == 0);
             for i in 0..list.len() {
-                assert_eq!(rt; list.get(i), RECORD.as_slice());
+                equal(rt, list.get(i), RECORD.as_slice());
             }
             store.into_disk()
         }
@@ -80,7 +81,7 @@ fn reopened(alloc: Global, rt: &impl Abort, disk: MemDisk) -> Store<MemDisk> {
 fn expect_refusal<D: Disk + Drop>(alloc: Global, rt: &impl Abort, disk: D, want: OpenFault) {
     match Store::open(alloc, disk) {
         Ok(_) => panic!(rt; "the disk was taken"),
-        Err((fault, _)) => assert_eq!(rt; fault, want),
+        Err((fault, _)) => equal(rt, fault, want),
     }
 }
 
@@ -127,11 +128,11 @@ fn run_until_fault(alloc: Global, rt: &impl Abort, passed: usize) -> FuseDisk {
     };
     assert!(rt; passed >= 5 && store.is_open() && store.has_room(RECORD.len()));
     let appended = store.append(&RECORD).is_ok();
-    assert_eq!(rt; appended, passed >= 9);
+    equal(rt, appended, passed >= 9);
     if store.is_open() {
         let replaced = store.replace(&NEXT_SNAPSHOT).is_ok();
-        assert_eq!(rt; replaced, passed >= 13);
-        assert_eq!(rt; store.is_open(), replaced);
+        equal(rt, replaced, passed >= 13);
+        equal(rt, store.is_open(), replaced);
     }
     store.into_disk()
 }
@@ -172,7 +173,7 @@ fn fails_one_call_alone(rt: HostRuntime) {
         match Store::create(alloc, FuseDisk::once(blank(alloc, &rt), passed), &SNAP) {
             Ok(_) => panic!(rt; "the call {passed} did not fail"),
             Err((fault, disk)) => {
-                assert_eq!(rt; fault, CreateFault::Device);
+                equal(&rt, fault, CreateFault::Device);
                 if passed < 4 {
                     assert!(rt; Store::create(alloc, disk, &SNAP).is_ok(), "after {passed}");
                 }
@@ -223,7 +224,7 @@ fn makes_a_store_on_a_blank_disk_only(rt: HostRuntime) {
     for disk in [short, used] {
         match Store::create(alloc, disk, &SNAP) {
             Ok(_) => panic!(rt; "a disk that is not blank was taken"),
-            Err((fault, _)) => assert_eq!(rt; fault, CreateFault::NotBlank),
+            Err((fault, _)) => equal(&rt, fault, CreateFault::NotBlank),
         }
     }
 }

@@ -1,5 +1,6 @@
 //! Command lines with what they ask for, or with the number of their refusal.
 use mcs_lines::requests::{Request, read_request};
+use std::process::Abort;
 use std::test::Fail;
 
 /// The number that a line is refused by; 0 where it is taken.
@@ -10,172 +11,170 @@ fn refusal(line: &[u8]) -> u8 {
     }
 }
 
-#[test]
-fn lines_in_range(rt: HostRuntime) -> Result<(), Fail> {
-    let lines: [&[u8]; 42] = [
-        b"",
-        b" \t ",
-        b"wire",
-        b"\tasm ",
-        b"step",
-        b"  reset\t",
-        b"lamps",
-        b"regs",
-        b"breaks",
-        b"watches",
-        b" ports ",
-        b"seq",
-        b"board",
-        b"run 0",
-        b"run 4294967295",
-        b"run 0xFFFFffff",
-        b"test 0",
-        b"test 1",
-        b"break 4095",
-        b"unbreak 0xFff",
-        b"watch 7 255",
-        b"watch 0x0 0xfF",
-        b"unwatch 0 0",
-        b"unwatch\t7 255",
-        b"ram 7",
-        b"press 255 0",
-        b"release\t0 \t 255",
-        b"list 4095 256",
-        b"list 0 1",
-        b"poke acc 15",
-        b"poke cy 1",
-        b"poke pc 4095",
-        b"poke dcl 7",
-        b"poke r15 15",
-        b"poke r0x0F 0",
-        b"poke r00000000000000000000000000000005 1",
-        b"poke rom.4095 255",
-        b"poke rom.0xFFF 0xFF",
-        b"poke ram.7.255 15",
-        b"poke ram.0x7.0xFF 0xf",
-        b"poke st.7.15.3 15",
-        b"poke st.0.0.0 0",
-    ];
+/// Each line is refused by this number.
+fn expect_refusals(rt: &impl Abort, lines: &[&str], number: u8) {
     for line in lines {
-        assert_eq!(rt; refusal(line), 0);
+        assert_eq!(rt; refusal(line.as_bytes()), number, "at {line}");
     }
-    Ok(())
 }
 
-#[test]
-fn lines_that_are_no_commands(rt: HostRuntime) -> Result<(), Fail> {
-    let lines: [&[u8]; 41] = [
-        b"foo",
-        b"STEP",
-        b"steps",
-        b"step 1",
-        b"seq 1",
-        b"run",
-        b"run 1 1",
-        b"ram",
-        b"press 1",
-        b"press 1 1 1",
-        b"watch",
-        b"watch 0",
-        b"watch 8",
-        b"watch 0 0 0",
-        b"unwatch 0",
-        b"unwatch 0 0 0",
-        b"WATCH 0 0",
-        b"watches 0",
-        b"watches 0 0",
-        b"ports 0",
-        b"ports 0 0",
-        b"port",
-        b"wire x",
-        b"asm x",
-        b"list 0",
-        b"poke",
-        b"poke acc",
-        b"poke acc 1 1",
-        b"poke accu 1",
-        b"poke ACC 1",
-        b"poke rx 99",
-        b"poke r 1",
-        b"poke r1.2 1",
-        b"poke rom 1",
-        b"poke rom. 1",
-        b"poke rom.1.2 1",
-        b"poke ram.9 1",
-        b"poke ram.9.x 1",
-        b"poke ram.0.0.0 1",
-        b"poke st.9.99.x 99",
-        b"poke st.0.0.0.0 1",
-    ];
-    for line in lines {
-        assert_eq!(rt; refusal(line), 10);
-    }
-    Ok(())
-}
+/// Lines whose numbers are in their ranges.
+const IN_RANGE: [&str; 42] = [
+    "",
+    " \t ",
+    "wire",
+    "\tasm ",
+    "step",
+    "  reset\t",
+    "lamps",
+    "regs",
+    "breaks",
+    "watches",
+    " ports ",
+    "seq",
+    "board",
+    "run 0",
+    "run 4294967295",
+    "run 0xFFFFffff",
+    "test 0",
+    "test 1",
+    "break 4095",
+    "unbreak 0xFff",
+    "watch 7 255",
+    "watch 0x0 0xfF",
+    "unwatch 0 0",
+    "unwatch\t7 255",
+    "ram 7",
+    "press 255 0",
+    "release\t0 \t 255",
+    "list 4095 256",
+    "list 0 1",
+    "poke acc 15",
+    "poke cy 1",
+    "poke pc 4095",
+    "poke dcl 7",
+    "poke r15 15",
+    "poke r0x0F 0",
+    "poke r00000000000000000000000000000005 1",
+    "poke rom.4095 255",
+    "poke rom.0xFFF 0xFF",
+    "poke ram.7.255 15",
+    "poke ram.0x7.0xFF 0xf",
+    "poke st.7.15.3 15",
+    "poke st.0.0.0 0",
+];
 
 #[test]
-fn lines_with_bad_numbers(rt: HostRuntime) -> Result<(), Fail> {
-    let lines: [&[u8]; 40] = [
-        b"run x",
-        b"run -1",
-        b"run 0x",
-        b"run 0XF",
-        b"run 4294967296",
-        b"run 99999999999999999999999999999999999999",
-        b"test 2",
-        b"break 4096",
-        b"unbreak 0x1000",
-        b"ram 8",
-        b"press 256 0",
-        b"press 0 256",
-        b"release x 0",
-        b"watch 8 0",
-        b"watch 0 256",
-        b"watch x 1",
-        b"watch 1 -1",
-        b"unwatch 8 0",
-        b"unwatch 0 0x100",
-        b"list 4096 1",
-        b"list 0 0",
-        b"list 0 257",
-        b"poke acc 16",
-        b"poke acc x",
-        b"poke cy 2",
-        b"poke pc 4096",
-        b"poke dcl 8",
-        b"poke r16 1",
-        b"poke r1 16",
-        b"poke r18446744073709551616 1",
-        b"poke rom.4096 0",
-        b"poke rom.0 256",
-        b"poke ram.8.0 0",
-        b"poke ram.0.256 0",
-        b"poke ram.0.0 16",
-        b"poke st.8.0.0 0",
-        b"poke st.0.16.0 0",
-        b"poke st.0.0.4 0",
-        b"poke st.0.0.0 16",
-        b"poke st.0.0.0 x",
-    ];
-    for line in lines {
-        assert_eq!(rt; refusal(line), 11);
-    }
-    Ok(())
+fn lines_in_range(rt: HostRuntime) {
+    expect_refusals(&rt, &IN_RANGE, 0);
 }
 
+/// Lines of a word that is no command, or of too many or too few words.
+const NO_COMMANDS: [&str; 41] = [
+    "foo",
+    "STEP",
+    "steps",
+    "step 1",
+    "seq 1",
+    "run",
+    "run 1 1",
+    "ram",
+    "press 1",
+    "press 1 1 1",
+    "watch",
+    "watch 0",
+    "watch 8",
+    "watch 0 0 0",
+    "unwatch 0",
+    "unwatch 0 0 0",
+    "WATCH 0 0",
+    "watches 0",
+    "watches 0 0",
+    "ports 0",
+    "ports 0 0",
+    "port",
+    "wire x",
+    "asm x",
+    "list 0",
+    "poke",
+    "poke acc",
+    "poke acc 1 1",
+    "poke accu 1",
+    "poke ACC 1",
+    "poke rx 99",
+    "poke r 1",
+    "poke r1.2 1",
+    "poke rom 1",
+    "poke rom. 1",
+    "poke rom.1.2 1",
+    "poke ram.9 1",
+    "poke ram.9.x 1",
+    "poke ram.0.0.0 1",
+    "poke st.9.99.x 99",
+    "poke st.0.0.0.0 1",
+];
+
 #[test]
-fn bytes_that_no_line_has(rt: HostRuntime) -> Result<(), Fail> {
-    let lines: [&[u8]; 5] = [
-        b"step\x7f",
-        b"foo\x1f",
-        b"run x\0",
-        b"poke acc\r 1",
-        b"se\xffq",
-    ];
-    for line in lines {
-        assert_eq!(rt; refusal(line), 14);
-    }
-    Ok(())
+fn lines_that_are_no_commands(rt: HostRuntime) {
+    expect_refusals(&rt, &NO_COMMANDS, 10);
+}
+
+/// Commands with a word that is no number, or with a number out of its range.
+const BAD_NUMBERS: [&str; 40] = [
+    "run x",
+    "run -1",
+    "run 0x",
+    "run 0XF",
+    "run 4294967296",
+    "run 99999999999999999999999999999999999999",
+    "test 2",
+    "break 4096",
+    "unbreak 0x1000",
+    "ram 8",
+    "press 256 0",
+    "press 0 256",
+    "release x 0",
+    "watch 8 0",
+    "watch 0 256",
+    "watch x 1",
+    "watch 1 -1",
+    "unwatch 8 0",
+    "unwatch 0 0x100",
+    "list 4096 1",
+    "list 0 0",
+    "list 0 257",
+    "poke acc 16",
+    "poke acc x",
+    "poke cy 2",
+    "poke pc 4096",
+    "poke dcl 8",
+    "poke r16 1",
+    "poke r1 16",
+    "poke r18446744073709551616 1",
+    "poke rom.4096 0",
+    "poke rom.0 256",
+    "poke ram.8.0 0",
+    "poke ram.0.256 0",
+    "poke ram.0.0 16",
+    "poke st.8.0.0 0",
+    "poke st.0.16.0 0",
+    "poke st.0.0.4 0",
+    "poke st.0.0.0 16",
+    "poke st.0.0.0 x",
+];
+
+#[test]
+fn lines_with_bad_numbers(rt: HostRuntime) {
+    expect_refusals(&rt, &BAD_NUMBERS, 11);
+}
+
+/// Lines with a byte that no line has.
+const BAD_BYTES: [&str; 4] = ["step\x7f", "foo\x1f", "run x\0", "poke acc\r 1"];
+
+#[test]
+fn bytes_that_no_line_has(rt: HostRuntime) {
+    expect_refusals(&rt, &BAD_BYTES, 14);
+    assert_eq!(rt; refusal(b"se\xffq"), 14);
 }
 
 #[test]
@@ -188,33 +187,36 @@ fn lines_of_too_many_bytes(rt: HostRuntime) -> Result<(), Fail> {
     Ok(())
 }
 
+/// Lines, and the requests that they are.
+const REQUESTS: [(&str, &str); 14] = [
+    ("", "Nothing"),
+    ("\t ", "Nothing"),
+    ("wire", "Begin(Wire)"),
+    (" asm\t", "Begin(Asm)"),
+    ("board", "Board"),
+    ("press 9 7", "Change(Press(9, 7))"),
+    ("run 100001", "Change(Run(100001))"),
+    ("list 0x100 3", "Listing(Addr { value: 256 }, 3)"),
+    ("ram 5", "Ask(Ram(BankNo { value: 5 }))"),
+    ("watches", "Ask(Watches)"),
+    ("ports", "Ask(Ports)"),
+    ("watch 5 63", "Change(Watch(BankNo { value: 5 }, 63))"),
+    (
+        "unwatch 0x6 0x3F",
+        "Change(Unwatch(BankNo { value: 6 }, 63))",
+    ),
+    (
+        "poke st.1.2.3 4",
+        "Change(Poke(Status(BankNo { value: 1 }, Nibble { value: 2 }, StatusNo { value: 3 }, Nibble { value: 4 })))",
+    ),
+];
+
 #[test]
 fn what_lines_ask_for(rt: HostRuntime) -> Result<(), Fail> {
-    let rows: [(&[u8], &str); 14] = [
-        (b"", "Nothing"),
-        (b"\t ", "Nothing"),
-        (b"wire", "Begin(Wire)"),
-        (b" asm\t", "Begin(Asm)"),
-        (b"board", "Board"),
-        (b"press 9 7", "Change(Press(9, 7))"),
-        (b"run 100001", "Change(Run(100001))"),
-        (b"list 0x100 3", "Listing(Addr { value: 256 }, 3)"),
-        (b"ram 5", "Ask(Ram(BankNo { value: 5 }))"),
-        (b"watches", "Ask(Watches)"),
-        (b"ports", "Ask(Ports)"),
-        (b"watch 5 63", "Change(Watch(BankNo { value: 5 }, 63))"),
-        (
-            b"unwatch 0x6 0x3F",
-            "Change(Unwatch(BankNo { value: 6 }, 63))",
-        ),
-        (
-            b"poke st.1.2.3 4",
-            "Change(Poke(Status(BankNo { value: 1 }, Nibble { value: 2 }, StatusNo { value: 3 }, Nibble { value: 4 })))",
-        ),
-    ];
-    for (line, wanted) in rows {
-        let request = read_request(line);
-        assert_eq!(rt; format!(in rt.alloc(); "{request:?}")?.as_str(), wanted);
+    for (line, wanted) in REQUESTS {
+        let request = read_request(line.as_bytes());
+        let found = format!(in rt.alloc(); "{request:?}")?;
+        assert_eq!(rt; found.as_str(), wanted);
     }
     Ok(())
 }

@@ -1,4 +1,5 @@
 //! Which codes the manual's table leaves out, by hand.
+use crate::checks::equal;
 use mcs_code::{Op, Words, cycles, decode, encode, word_count, words};
 use mcs_nibble::{Nibble, PairNo};
 
@@ -11,7 +12,7 @@ fn eighteen_codes_are_outside(rt: HostRuntime) {
     let outside = (0..=255u8)
         .filter(|code| decode(*code, 0).is_none())
         .count();
-    assert_eq!(rt; outside, 18);
+    equal(&rt, outside, 18);
 }
 
 #[test]
@@ -28,13 +29,14 @@ fn codes_of_two_words(rt: HostRuntime) {
     ] {
         assert_eq!(rt; words(code), count, "at {code}");
     }
-    assert_eq!(rt; cycles(Op::Fin(PairNo::ZERO)), 2);
-    assert_eq!(rt; word_count(Op::Fin(PairNo::ZERO)), 1);
-    assert_eq!(rt;
+    equal(&rt, cycles(Op::Fin(PairNo::ZERO)), 2);
+    equal(&rt, word_count(Op::Fin(PairNo::ZERO)), 1);
+    equal(
+        &rt,
         encode(Op::Jcn(Nibble::ONE, 0x10)),
         Words {
             first: 0x11,
-            second: Some(0x10)
-        }
+            second: Some(0x10),
+        },
     );
 }

@@ -1,4 +1,5 @@
 //! Worked values from outside: the manual's rule for SUB, by hand.
+use crate::checks::equal;
 use mcs_nibble::{Bit, Nibble};
 use std::test::Fail;
 
@@ -8,8 +9,8 @@ fn worked_differences(rt: HostRuntime) -> Result<(), Fail> {
         let from = Nibble::of(from).ok_or("a nibble")?;
         let taken = Nibble::of(taken).ok_or("a nibble")?;
         let (nibble, cy) = from.sub_borrow(taken, Bit::ZERO);
-        assert_eq!(rt; nibble.get(), difference);
-        assert_eq!(rt; cy.get(), carry);
+        equal(&rt, nibble.get(), difference);
+        equal(&rt, cy.get(), carry);
     }
     Ok(())
 }

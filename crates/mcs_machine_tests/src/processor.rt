@@ -2,6 +2,7 @@
 ghost use Rattle.std.specs.Prelude.{◌≡◌, ℕ, ◌<◌};
 ghost use Rattle.mcs_model.specs.Bus.{BusState, zero_bus};
 
+use crate::checks::equal;
 use mcs_cpu4004::{Bus, Cpu, Cycle, Regs};
 use mcs_nibble::{Addr, Bit, Nibble, RegNo};
 
@@ -104,10 +105,10 @@ fn sums_in_decimal(rt: HostRuntime) {
     cpu.set_acc(nibble(9));
     cpu.set_register(RegNo::of_code(2), nibble(8));
     let regs = after(&mut cpu, &mut holding(&[(0, 0x82), (1, 0xFB)]), 0, 2);
-    assert_eq!(rt; regs.acc, nibble(7));
-    assert_eq!(rt; regs.cy, Bit::ONE);
-    assert_eq!(rt; regs.pc, address(2));
-    assert_eq!(rt; regs.r, index_registers([0, 0x80, 0, 0, 0, 0, 0, 0]));
+    equal(&rt, regs.acc, nibble(7));
+    equal(&rt, regs.cy, Bit::ONE);
+    equal(&rt, regs.pc, address(2));
+    equal(&rt, regs.r, index_registers([0, 0x80, 0, 0, 0, 0, 0, 0]));
 }
 
 #[test]
@@ -116,8 +117,8 @@ fn jumps_on_condition_to_the_page_of_the_next_address(rt: HostRuntime) {
         let mut bus = holding(&[(from, 0x11), (from + 1, word)]);
         bus.test = Bit::ZERO;
         let regs = after(&mut Cpu::new(), &mut bus, from, 1);
-        assert_eq!(rt; regs.pc, address(target));
-        assert_eq!(rt; regs.owed, 1);
+        equal(&rt, regs.pc, address(target));
+        equal(&rt, regs.owed, 1);
     }
 }
 
@@ -131,9 +132,9 @@ fn fetches_indirect_from_the_next_page(rt: HostRuntime) {
         0x0FF,
         2,
     );
-    assert_eq!(rt; regs.pc, address(0x100));
-    assert_eq!(rt; regs.owed, 0);
-    assert_eq!(rt; regs.r, index_registers([0x20, 0xAB, 0, 0, 0, 0, 0, 0]));
+    equal(&rt, regs.pc, address(0x100));
+    equal(&rt, regs.owed, 0);
+    equal(&rt, regs.r, index_registers([0x20, 0xAB, 0, 0, 0, 0, 0, 0]));
 }
 
 #[test]
@@ -153,21 +154,25 @@ fn returns_in_a_ring(rt: HostRuntime) {
         (0x40, 0xC1),
     ]);
     let regs = after(&mut Cpu::new(), &mut bus, 0, 12);
-    assert_eq!(rt; regs.acc, nibble(4));
-    assert_eq!(rt; regs.pc, address(0x041));
-    assert_eq!(rt; regs.ret, [address(0x033), address(0x023), address(0x013)]);
+    equal(&rt, regs.acc, nibble(4));
+    equal(&rt, regs.pc, address(0x041));
+    equal(
+        &rt,
+        regs.ret,
+        [address(0x033), address(0x023), address(0x013)],
+    );
 }
 
 #[test]
 fn jumps_in_the_first_of_two_cycles(rt: HostRuntime) {
     let mut bus = holding(&[(0, 0x41), (1, 0x23)]);
     let mut cpu = Cpu::new();
-    assert_eq!(rt; cpu.cycle(&mut bus), Cycle::Done);
-    assert_eq!(rt; cpu.regs().pc, address(0x123));
-    assert_eq!(rt; cpu.regs().owed, 1);
-    assert_eq!(rt; cpu.cycle(&mut bus), Cycle::Idle);
-    assert_eq!(rt; cpu.regs().pc, address(0x123));
-    assert_eq!(rt; cpu.regs().owed, 0);
+    equal(&rt, cpu.cycle(&mut bus), Cycle::Done);
+    equal(&rt, cpu.regs().pc, address(0x123));
+    equal(&rt, cpu.regs().owed, 1);
+    equal(&rt, cpu.cycle(&mut bus), Cycle::Idle);
+    equal(&rt, cpu.regs().pc, address(0x123));
+    equal(&rt, cpu.regs().owed, 0);
 }
 
 #[test]
@@ -187,7 +192,7 @@ fn accumulator_and_carry(rt: HostRuntime) {
         let regs = after(&mut cpu, &mut holding(&[(0, code)]), 0, 1);
         assert_eq!(rt; regs.acc, nibble(acc_after), "code {code} at {acc}");
         assert_eq!(rt; regs.cy, Bit::low_of(cy_after), "code {code} at {acc}");
-        assert_eq!(rt; regs.pc, address(1));
+        equal(&rt, regs.pc, address(1));
     }
 }
 
@@ -201,8 +206,8 @@ fn counters_and_pages(rt: HostRuntime) {
         0x0FF,
         1,
     );
-    assert_eq!(rt; regs.pc, address(0x134));
-    assert_eq!(rt; regs.owed, 1);
+    equal(&rt, regs.pc, address(0x134));
+    equal(&rt, regs.owed, 1);
 
     let mut cpu = Cpu::new();
     cpu.set_register(RegNo::of_code(5), nibble(15));
@@ -212,15 +217,15 @@ fn counters_and_pages(rt: HostRuntime) {
         0x200,
         1,
     );
-    assert_eq!(rt; regs.r, [Nibble::ZERO; 16]);
-    assert_eq!(rt; regs.pc, address(0x202));
-    assert_eq!(rt; regs.owed, 1);
+    equal(&rt, regs.r, [Nibble::ZERO; 16]);
+    equal(&rt, regs.pc, address(0x202));
+    equal(&rt, regs.owed, 1);
 
     let mut cpu = Cpu::new();
     cpu.set_r(index_registers([0, 0x34, 0, 0, 0, 0, 0, 0]));
     let regs = after(&mut cpu, &mut holding(&[(0x0FF, 0x33)]), 0x0FF, 1);
-    assert_eq!(rt; regs.pc, address(0x134));
-    assert_eq!(rt; regs.owed, 0);
+    equal(&rt, regs.pc, address(0x134));
+    equal(&rt, regs.owed, 0);
 
     let regs = after(
         &mut Cpu::new(),
@@ -228,9 +233,9 @@ fn counters_and_pages(rt: HostRuntime) {
         0xFFF,
         1,
     );
-    assert_eq!(rt; regs.r, index_registers([0xAB, 0, 0, 0, 0, 0, 0, 0]));
-    assert_eq!(rt; regs.pc, address(0x001));
-    assert_eq!(rt; regs.owed, 1);
+    equal(&rt, regs.r, index_registers([0xAB, 0, 0, 0, 0, 0, 0, 0]));
+    equal(&rt, regs.pc, address(0x001));
+    equal(&rt, regs.owed, 1);
 }
 
 #[test]
@@ -239,10 +244,10 @@ fn stays_at_a_code_outside(rt: HostRuntime) {
         let outside = matches!(code, 0x01..=0x0F | 0xE3 | 0xFE | 0xFF);
         let mut bus = holding(&[(0, code)]);
         let mut cpu = Cpu::new();
-        assert_eq!(rt; cpu.is_outside(&bus), outside);
-        assert_eq!(rt; cpu.cycle(&mut bus) == Cycle::Outside, outside);
+        equal(&rt, cpu.is_outside(&bus), outside);
+        equal(&rt, cpu.cycle(&mut bus) == Cycle::Outside, outside);
         if outside {
-            assert_eq!(rt; cpu.regs(), Regs::new());
+            equal(&rt, cpu.regs(), Regs::new());
         }
     }
 }

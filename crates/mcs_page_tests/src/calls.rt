@@ -1,14 +1,14 @@
 //! The calls of the page: sessions over several calls, refused files, buffers that are too short.
-use crate::files::{answers, file_of_version_1, new_file, put, told};
+use crate::files::{
+    answers, copy, expect_answers, file_of_version_1, new_file, put, served, settled,
+};
 use mcs_disk::{Disk, MemDisk};
 use mcs_journal::{FILE_SIZE, OpenFault};
 use mcs_page::fault::NotServed;
-use mcs_page::page::{serve, settle};
 use mcs_session::session::Session;
 use mcs_shell::shell::run_shell;
 use std::alloc::Global;
 use std::process::Abort;
-use std::test::Fail;
 
 const FIRST: &[u8] =
     b"wire\n[[rom]]\nchip = 0\nport = \"0000\"\n.\npoke r5 9\nasm\nLDM 3\nXCH R4\nJUN 2\n.\nrun 1000\n";
@@ -20,38 +20,46 @@ const FIRST_ANSWERS: &[u8] = b"session 0\nok 1\nok 2\nok 3 bytes 4\nok 4 ran 100
 const SECOND_ANSWERS: &[u8] =
     b"session 4\nseq 4\nacc 0 cy 0 pc 002 owed 0 dcl 0 test 1 r 0000390000000000 ret 000 000 000\n";
 
+/// Serves an input on a session that goes on after it.
+fn serve_on(alloc: Global, session: &mut Session<MemDisk>, input: &[u8]) {
+    let mut reader = input;
+    let mut writer = Vec::new(alloc);
+    let _ = run_shell(alloc, &mut reader, &mut writer, session);
+}
+
+/// The bytes of a disk.
+fn bytes_of(alloc: Global, rt: &impl Abort, mut disk: MemDisk) -> Vec<u8> {
+    let mut bytes = vec![in alloc; 0u8; disk.size()].expect(rt, "memory");
+    disk.read(0, bytes.as_mut_slice()).expect(rt, "read");
+    bytes
+}
+
 /// The bytes of the file after both inputs, where one session of the shell serves them.
-fn file_of_one_session(alloc: Global) -> Result<Vec<u8>, Fail> {
-    let Ok(mut session) = Session::create(alloc, MemDisk::new(alloc, FILE_SIZE)?) else {
-        return Err("not made".into());
+fn file_of_one_session(alloc: Global, rt: &impl Abort) -> Vec<u8> {
+    let disk = MemDisk::new(alloc, FILE_SIZE).expect(rt, "memory");
+    let Ok(mut session) = Session::create(alloc, disk) else {
+        panic!(rt; "not made");
     };
     for input in [FIRST, SECOND] {
-        let mut reader = input;
-        let mut writer = Vec::new(alloc);
-        let _ = run_shell(alloc, &mut reader, &mut writer, &mut session);
+        serve_on(alloc, &mut session, input);
     }
-    let mut disk = session.into_disk();
-    let mut bytes = vec![in alloc; 0u8; disk.size()]?;
-    disk.read(0, bytes.as_mut_slice())?;
-    Ok(bytes)
+    bytes_of(alloc, rt, session.into_disk())
 }
 
 #[test]
-fn one_session_over_two_calls(rt: HostRuntime) -> Result<(), Fail> {
+fn one_session_over_two_calls(rt: HostRuntime) {
     let alloc = rt.alloc();
-    let mut file = new_file(alloc)?;
-    let first = told(alloc, file.as_mut_slice(), FIRST)?;
-    assert_eq!(rt; first.as_slice(), FIRST_ANSWERS);
-    let second = told(alloc, file.as_mut_slice(), SECOND)?;
-    assert_eq!(rt; second.as_slice(), SECOND_ANSWERS);
-    assert_eq!(rt; file.as_slice(), file_of_one_session(alloc)?.as_slice());
-    let nothing = told(alloc, file.as_mut_slice(), b"")?;
-    assert_eq!(rt; nothing.as_slice(), b"session 4\n".as_slice());
-    Ok(())
+    let mut file = new_file(alloc, &rt);
+    for row in [(FIRST, FIRST_ANSWERS), (SECOND, SECOND_ANSWERS)] {
+        expect_answers(alloc, &rt, file.as_mut_slice(), row);
+    }
+    let whole = file_of_one_session(alloc, &rt);
+    assert!(rt; file.as_slice() == whole.as_slice());
+    expect_answers(alloc, &rt, file.as_mut_slice(), (b"", b"session 4\n"));
 }
 
-/// The byte after the snapshot's turn: the gate of the first record.
-fn gate(file: &[u8]) -> Option<u8> {
+/// The commit byte of the first record of the slot that the selector names.
+fn commit_byte(file: &[u8]) -> Option<u8> {
     let log = if file.get(8) == Some(&0) {
         16_400
     } else {
@@ -60,84 +68,88 @@ fn gate(file: &[u8]) -> Option<u8> {
     file.get(log).copied()
 }
 
+/// Settles a file, and serves an input on it then with these answers.
+fn expect_settled(alloc: Global, rt: &impl Abort, file: &mut [u8], row: (&[u8], &[u8])) {
+    assert_eq!(rt; settled(alloc, file), Ok(()));
+    assert_eq!(rt; commit_byte(file), Some(0));
+    expect_answers(alloc, rt, file, row);
+}
+
 #[test]
-fn a_settled_file_has_no_records(rt: HostRuntime) -> Result<(), Fail> {
+fn a_settled_file_has_no_records(rt: HostRuntime) {
     let alloc = rt.alloc();
-    let mut file = new_file(alloc)?;
-    told(alloc, file.as_mut_slice(), FIRST)?;
-    assert_eq!(rt; gate(file.as_slice()), Some(1));
-    assert_eq!(rt; settle(alloc, file.as_mut_slice()), Ok(()));
-    assert_eq!(rt; gate(file.as_slice()), Some(0));
-    let second = told(alloc, file.as_mut_slice(), SECOND)?;
-    assert_eq!(rt; second.as_slice(), SECOND_ANSWERS);
+    let mut file = new_file(alloc, &rt);
+    expect_answers(alloc, &rt, file.as_mut_slice(), (FIRST, FIRST_ANSWERS));
+    assert_eq!(rt; commit_byte(file.as_slice()), Some(1));
     // and again, in the other slot
-    assert_eq!(rt; settle(alloc, file.as_mut_slice()), Ok(()));
-    let third = told(alloc, file.as_mut_slice(), b"step\nseq\n")?;
-    assert_eq!(rt;
-        third.as_slice(),
-        b"session 4\nok 5 ran 2 end\nseq 5\n".as_slice()
-    );
-    Ok(())
+    let third: (&[u8], &[u8]) = (b"step\nseq\n", b"session 4\nok 5 ran 2 end\nseq 5\n");
+    for row in [(SECOND, SECOND_ANSWERS), third] {
+        expect_settled(alloc, &rt, file.as_mut_slice(), row);
+    }
 }
 
 /// What the file of version 1 tells of its registers.
 const CARRIED_OVER: &[u8] =
     b"session 1\nacc 0 cy 0 pc 000 owed 0 dcl 0 test 1 r 0000090000000000 ret 000 000 000\n";
 
-/// The file holds a snapshot of version 2 in the slot that its turn names, and tells the registers.
-fn expect_carried_over(alloc: Global, rt: &impl Abort, file: &mut [u8]) -> Result<(), Fail> {
+/// The file holds a snapshot of version 2 in the slot that its selector names, and tells the registers.
+fn expect_carried_over(alloc: Global, rt: &impl Abort, file: &mut [u8]) {
     let at = if file.get(8) == Some(&0) { 24 } else { 81_944 };
     assert_eq!(rt; file.get(at), Some(&2));
-    let told = told(alloc, file, b"regs\n")?;
-    assert_eq!(rt; told.as_slice(), CARRIED_OVER);
-    Ok(())
+    expect_answers(alloc, rt, file, (b"regs\n", CARRIED_OVER));
 }
 
 #[test]
-fn a_file_of_version_1_is_carried_over(rt: HostRuntime) -> Result<(), Fail> {
+fn a_file_of_version_1_is_carried_over(rt: HostRuntime) {
     let alloc = rt.alloc();
-    let mut served = file_of_version_1(alloc)?;
-    let first = told(alloc, served.as_mut_slice(), b"regs\n")?;
-    assert_eq!(rt; first.as_slice(), CARRIED_OVER);
-    expect_carried_over(alloc, &rt, served.as_mut_slice())?;
-    let mut settled = file_of_version_1(alloc)?;
-    assert_eq!(rt; settle(alloc, settled.as_mut_slice()), Ok(()));
-    expect_carried_over(alloc, &rt, settled.as_mut_slice())
+    let mut file = file_of_version_1(alloc, &rt);
+    expect_answers(alloc, &rt, file.as_mut_slice(), (b"regs\n", CARRIED_OVER));
+    expect_carried_over(alloc, &rt, file.as_mut_slice());
+}
+
+#[test]
+fn a_settled_file_of_version_1_is_carried_over(rt: HostRuntime) {
+    let alloc = rt.alloc();
+    let mut file = file_of_version_1(alloc, &rt);
+    assert_eq!(rt; settled(alloc, file.as_mut_slice()), Ok(()));
+    expect_carried_over(alloc, &rt, file.as_mut_slice());
 }
 
 /// A file is refused by this fault, in both calls, and stays as it was.
-fn expect_refused(
-    alloc: Global,
-    rt: &impl Abort,
-    file: &[u8],
-    fault: OpenFault,
-) -> Result<(), Fail> {
-    let mut kept = file.to_vec(alloc)?;
-    let why = answers(alloc, kept.as_mut_slice(), SECOND)?.err();
+fn expect_refused(alloc: Global, rt: &impl Abort, file: &[u8], fault: OpenFault) {
+    let mut kept = copy(alloc, rt, file);
+    let why = answers(alloc, rt, kept.as_mut_slice(), SECOND).err();
     assert_eq!(rt; why, Some(NotServed::Refused(fault)));
-    assert_eq!(rt; settle(alloc, kept.as_mut_slice()), Err(fault));
-    assert_eq!(rt; kept.as_slice(), file);
-    Ok(())
+    assert_eq!(rt; settled(alloc, kept.as_mut_slice()), Err(fault));
+    assert!(rt; kept.as_slice() == file);
 }
 
 #[test]
-fn files_that_hold_no_session(rt: HostRuntime) -> Result<(), Fail> {
+fn files_of_another_size(rt: HostRuntime) {
     let alloc = rt.alloc();
-    let made = new_file(alloc)?;
-    // a byte less, eight bytes, no byte, a byte more
-    let mut more = made.clone()?;
-    more.push(0)?;
-    expect_refused(alloc, &rt, more.as_slice(), OpenFault::NotASession)?;
-    for size in [FILE_SIZE - 1, 8, 0] {
-        let mut less = made.clone()?;
-        less.truncate(size);
-        expect_refused(alloc, &rt, less.as_slice(), OpenFault::NotASession)?;
+    let mut made = new_file(alloc, &rt);
+    made.push(0).expect(&rt, "memory");
+    // a byte more, a byte less, eight bytes, no byte
+    for size in [FILE_SIZE + 1, FILE_SIZE - 1, 8, 0] {
+        made.truncate(size);
+        expect_refused(alloc, &rt, made.as_slice(), OpenFault::NotASession);
     }
+}
+
+#[test]
+fn files_of_one_byte_over_and_over(rt: HostRuntime) {
+    let alloc = rt.alloc();
     // rubbish, and all bytes 0
-    let rubbish = vec![in alloc; 0xA5u8; FILE_SIZE]?;
-    expect_refused(alloc, &rt, rubbish.as_slice(), OpenFault::NotASession)?;
-    let blank = vec![in alloc; 0u8; FILE_SIZE]?;
-    expect_refused(alloc, &rt, blank.as_slice(), OpenFault::NotASession)?;
+    for byte in [0xA5, 0] {
+        let file = vec![in alloc; byte; FILE_SIZE].expect(&rt, "memory");
+        expect_refused(alloc, &rt, file.as_slice(), OpenFault::NotASession);
+    }
+}
+
+#[test]
+fn files_that_hold_no_session(rt: HostRuntime) {
+    let alloc = rt.alloc();
+    let made = new_file(alloc, &rt);
     // another name, the length of the snapshot, a state of a version to come, a record that spells no command
     let changes: [(usize, &[u8], OpenFault); 4] = [
         (7, b"2", OpenFault::NotASession),
@@ -146,35 +158,43 @@ fn files_that_hold_no_session(rt: HostRuntime) -> Result<(), Fail> {
         (16_400, &[1, 0, 1, 0], OpenFault::Damaged),
     ];
     for (at, bytes, fault) in changes {
-        let mut changed = made.clone()?;
+        let mut changed = copy(alloc, &rt, made.as_slice());
         put(changed.as_mut_slice(), at, bytes);
-        expect_refused(alloc, &rt, changed.as_slice(), fault)?;
+        expect_refused(alloc, &rt, changed.as_slice(), fault);
     }
-    Ok(())
+}
+
+/// The answers to the first input have no room in so many bytes of a buffer, which stays as it was.
+fn expect_no_room(alloc: Global, rt: &impl Abort, file: &mut [u8], room: usize) {
+    let mut buffer = [b'#'; 128];
+    let Some(short) = buffer.get_mut(..room) else {
+        panic!(rt; "a short buffer");
+    };
+    let why = served(alloc, file, FIRST, short).err();
+    assert_eq!(rt; why, Some(NotServed::NoRoom(FIRST_ANSWERS.len())));
+    assert_eq!(rt; buffer, [b'#'; 128]);
+}
+
+/// The answers to the first input stand at the front of a buffer.
+fn expect_room(alloc: Global, rt: &impl Abort, file: &mut [u8]) {
+    let count = FIRST_ANSWERS.len();
+    let mut buffer = [b'#'; 128];
+    let Ok(served) = served(alloc, file, FIRST, &mut buffer) else {
+        panic!(rt; "not served");
+    };
+    assert_eq!(rt; served.count, count);
+    assert_eq!(rt; buffer.get(..count), Some(FIRST_ANSWERS));
+    assert_eq!(rt; buffer.get(count), Some(&b'#'));
 }
 
 #[test]
-fn answers_that_have_no_room(rt: HostRuntime) -> Result<(), Fail> {
+fn answers_that_have_no_room(rt: HostRuntime) {
     let alloc = rt.alloc();
-    let mut file = new_file(alloc)?;
-    let before = file.clone()?;
-    let count = FIRST_ANSWERS.len();
-    let mut buffer = [b'#'; 128];
-    for room in [0, 1, count - 1] {
-        let Some(short) = buffer.get_mut(..room) else {
-            return Err("a short buffer".into());
-        };
-        let told = serve(alloc, file.as_mut_slice(), FIRST, short).err();
-        assert_eq!(rt; told, Some(NotServed::NoRoom(count)));
-        assert_eq!(rt; file.as_slice(), before.as_slice());
-        assert_eq!(rt;
-            buffer.get(..room),
-            Some([b'#'; 128].as_slice()).and_then(|all| all.get(..room))
-        );
+    let mut file = new_file(alloc, &rt);
+    let before = copy(alloc, &rt, file.as_slice());
+    for room in [0, 1, FIRST_ANSWERS.len() - 1] {
+        expect_no_room(alloc, &rt, file.as_mut_slice(), room);
+        assert!(rt; file.as_slice() == before.as_slice());
     }
-    let served = serve(alloc, file.as_mut_slice(), FIRST, &mut buffer);
-    assert_eq!(rt; served.ok().map(|served| served.count), Some(count));
-    assert_eq!(rt; buffer.get(..count), Some(FIRST_ANSWERS));
-    assert_eq!(rt; buffer.get(count), Some(&b'#'));
-    Ok(())
+    expect_room(alloc, &rt, file.as_mut_slice());
 }

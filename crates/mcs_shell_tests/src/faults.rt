@@ -1,4 +1,5 @@
 //! Readers, writers and disks that fail.
+use crate::checks::equal;
 use crate::sessions::{ANSWERS, SCRIPT, new_session, run, serve};
 use mcs_disk::{FuseDisk, MemDisk};
 use mcs_fixtures::streams::{CutReader, CutWriter};
@@ -25,9 +26,9 @@ fn expect_cut_reading(
     told: usize,
 ) -> Result<(), Fail> {
     let (end, written) = run(alloc, CutReader::new(SCRIPT, left, failures))?;
-    assert_eq!(rt; end, ShellEnd::ReadFault);
-    assert_eq!(rt; status(end), 1);
-    assert_eq!(rt; Some(written.as_slice()), ANSWERS.get(..told));
+    equal(rt, end, ShellEnd::ReadFault);
+    equal(rt, status(end), 1);
+    equal(rt, Some(written.as_slice()), ANSWERS.get(..told));
     Ok(())
 }
 
@@ -60,13 +61,13 @@ fn expect_cut_writing(
     let mut writer = CutWriter::new(alloc, left, failures);
     let mut reader = SCRIPT;
     let end = run_shell(alloc, &mut reader, &mut writer, &mut session);
-    assert_eq!(rt; end, ShellEnd::WriteFault);
-    assert_eq!(rt; status(end), 1);
-    assert_eq!(rt; Some(writer.held()), ANSWERS.get(..left));
+    equal(rt, end, ShellEnd::WriteFault);
+    equal(rt, status(end), 1);
+    equal(rt, Some(writer.held()), ANSWERS.get(..left));
     let Ok(again) = Session::open(alloc, session.into_disk()) else {
         return Err("not opened".into());
     };
-    assert_eq!(rt; again.bench().seq() == 1, 10 <= left);
+    equal(rt, again.bench().seq() == 1, 10 <= left);
     Ok(())
 }
 
@@ -88,18 +89,19 @@ fn a_stop_at_each_call_of_the_disk(rt: HostRuntime) -> Result<(), Fail> {
         let mut session = match Session::create(alloc, disk) {
             Ok(session) => session,
             Err((fault, _)) => {
-                assert_eq!(rt; fault, CreateFault::Device);
-                assert_eq!(rt; calls < 5, true);
+                equal(&rt, fault, CreateFault::Device);
+                equal(&rt, calls < 5, true);
                 continue;
             }
         };
         let mut reader = b"poke r5 9\npoke r5 9\n".as_slice();
         let (end, _) = serve(alloc, &mut reader, &mut session);
-        assert_eq!(rt; end == ShellEnd::DeviceFault, calls < 13);
+        equal(&rt, end == ShellEnd::DeviceFault, calls < 13);
         let poke = Command::Poke(Place::Register(RegNo::ZERO, Nibble::ONE));
-        assert_eq!(rt;
+        equal(
+            &rt,
             session.apply(&poke) == Err(SessionFault::Closed),
-            calls < 13
+            calls < 13,
         );
         let mut disk = session.into_disk();
         disk.mend();
@@ -112,7 +114,7 @@ fn a_stop_at_each_call_of_the_disk(rt: HostRuntime) -> Result<(), Fail> {
             8..12 => 1,
             _ => 2,
         };
-        assert_eq!(rt; again.bench().seq(), kept);
+        equal(&rt, again.bench().seq(), kept);
     }
     Ok(())
 }

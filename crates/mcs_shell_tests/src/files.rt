@@ -1,4 +1,5 @@
 //! The bytes of session files, on disks in memory.
+use crate::checks::equal;
 use crate::sessions::{ANSWERS, SCRIPT, new_session, serve};
 use mcs_disk::{Disk, MemDisk};
 use mcs_journal::{CreateFault, FILE_SIZE, OpenFault};
@@ -35,7 +36,7 @@ const NEW: [(usize, &[u8]); 9] = [
 #[test]
 fn the_bytes_of_a_new_session(rt: HostRuntime) -> Result<(), Fail> {
     let mut disk = new_session(rt.alloc())?.into_disk();
-    assert_eq!(rt; disk.size(), 163_856);
+    equal(&rt, disk.size(), 163_856);
     for (at, want) in NEW {
         expect_bytes(&rt, &mut disk, at, want);
     }
@@ -55,8 +56,8 @@ fn expect_opened(
     };
     let mut reader = script;
     let (end, told) = serve(alloc, &mut reader, &mut session);
-    assert_eq!(rt; end, ShellEnd::End);
-    assert_eq!(rt; told.as_slice(), answers);
+    equal(rt, end, ShellEnd::End);
+    equal(rt, told.as_slice(), answers);
     Ok(())
 }
 
@@ -66,10 +67,10 @@ fn a_poke_is_answered_and_recorded(rt: HostRuntime) -> Result<(), Fail> {
     let mut session = new_session(alloc)?;
     let mut reader = SCRIPT;
     let (end, told) = serve(alloc, &mut reader, &mut session);
-    assert_eq!(rt; end, ShellEnd::End);
-    assert_eq!(rt; told.as_slice(), ANSWERS);
+    equal(&rt, end, ShellEnd::End);
+    equal(&rt, told.as_slice(), ANSWERS);
     let mut disk = session.into_disk();
-    assert_eq!(rt; disk.size(), 163_856);
+    equal(&rt, disk.size(), 163_856);
     expect_bytes(&rt, &mut disk, 16_400, &[1, 0, 4, 7, 3, 5, 9, 0, 0]);
     expect_opened(&rt, alloc, disk, b"", b"session 1\n")
 }
@@ -81,13 +82,14 @@ fn a_full_log_makes_room(rt: HostRuntime) -> Result<(), Fail> {
     let poke = Command::Poke(Place::Register(RegNo::ZERO, Nibble::ONE));
     // the records of that many have room in the first log
     for _ in 0..9_362 {
-        assert_eq!(rt; session.apply(&poke), Ok(Reply::Done));
+        equal(&rt, session.apply(&poke), Ok(Reply::Done));
     }
     let mut reader = b"poke r0 1\nseq\n".as_slice();
     let (_, told) = serve(alloc, &mut reader, &mut session);
-    assert_eq!(rt;
+    equal(
+        &rt,
         told.as_slice(),
-        b"session 9362\nok 9363\nseq 9363\n".as_slice()
+        b"session 9362\nok 9363\nseq 9363\n".as_slice(),
     );
     let mut disk = session.into_disk();
     expect_bytes(&rt, &mut disk, 8, &[1]);
@@ -115,10 +117,10 @@ fn create_fault(alloc: Global, disk: MemDisk) -> Option<CreateFault> {
 fn files_that_are_none(rt: HostRuntime) -> Result<(), Fail> {
     let alloc = rt.alloc();
     let short = MemDisk::new(alloc, FILE_SIZE - 1)?;
-    assert_eq!(rt; open_fault(alloc, short), Some(OpenFault::NotASession));
+    equal(&rt, open_fault(alloc, short), Some(OpenFault::NotASession));
     let blank = MemDisk::new(alloc, FILE_SIZE)?;
-    assert_eq!(rt; open_fault(alloc, blank), Some(OpenFault::NotASession));
+    equal(&rt, open_fault(alloc, blank), Some(OpenFault::NotASession));
     let made = new_session(alloc)?.into_disk();
-    assert_eq!(rt; create_fault(alloc, made), Some(CreateFault::NotBlank));
+    equal(&rt, create_fault(alloc, made), Some(CreateFault::NotBlank));
     Ok(())
 }

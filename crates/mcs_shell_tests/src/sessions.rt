@@ -1,4 +1,5 @@
 //! Sessions on disks in memory, and what they answer.
+use crate::checks::equal;
 use mcs_disk::{Disk, MemDisk};
 use mcs_fixtures::streams::joined;
 use mcs_journal::FILE_SIZE;
@@ -53,7 +54,7 @@ pub(crate) fn expect_answers(
     let script = joined(alloc, script)?;
     let wanted = joined(alloc, answers)?;
     let (end, told) = run(alloc, script.as_slice())?;
-    assert_eq!(rt; end, ShellEnd::End);
-    assert_eq!(rt; told.as_slice(), wanted.as_slice());
+    equal(rt, end, ShellEnd::End);
+    equal(rt, told.as_slice(), wanted.as_slice());
     Ok(())
 }

@@ -1,4 +1,5 @@
 //! Texts: where they end, and which are refused whatever their lines say.
+use crate::checks::equal;
 use crate::sessions::{expect_answers, run};
 use mcs_fixtures::streams::CutReader;
 use mcs_shell::ends::ShellEnd;
@@ -82,11 +83,11 @@ fn expect_cut(rt: &impl Abort, alloc: Global, left: usize, told: usize) -> Resul
     for failures in 0..2 {
         let (end, written) = run(alloc, CutReader::new(CUT, left, failures))?;
         if failures == 0 {
-            assert_eq!(rt; end, ShellEnd::End);
-            assert_eq!(rt; written.as_slice(), CUT_ANSWERED);
+            equal(rt, end, ShellEnd::End);
+            equal(rt, written.as_slice(), CUT_ANSWERED);
         } else {
-            assert_eq!(rt; end, ShellEnd::ReadFault);
-            assert_eq!(rt; Some(written.as_slice()), CUT_ANSWERED.get(..told));
+            equal(rt, end, ShellEnd::ReadFault);
+            equal(rt, Some(written.as_slice()), CUT_ANSWERED.get(..told));
         }
     }
     Ok(())

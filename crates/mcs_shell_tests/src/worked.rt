@@ -1,6 +1,7 @@
 //! Worked sessions: what is typed, and what is answered.
 ghost use Rattle.std.specs.Prelude.{Some};
 
+use crate::checks::equal;
 use crate::sessions::{expect_answers, run};
 use mcs_fixtures::streams::{CutReader, joined};
 use mcs_fixtures::texts::{WIRE_TWO_KEYS, WIRE_WORKED, board_in};
@@ -242,8 +243,8 @@ fn texts_in_two_pieces(rt: HostRuntime) -> Result<(), Fail> {
     let texts = joined(alloc, &[WIRE_TWO_KEYS, PROGRAMS])?;
     for left in 0..texts.len() {
         let (end, told) = run(alloc, CutReader::new(texts.as_slice(), left, 0))?;
-        assert_eq!(rt; end, ShellEnd::End);
-        assert_eq!(rt; told.as_slice(), TEXTS_ANSWERED);
+        equal(&rt, end, ShellEnd::End);
+        equal(&rt, told.as_slice(), TEXTS_ANSWERED);
     }
     Ok(())
 }
@@ -256,8 +257,8 @@ fn texts_byte_by_byte(rt: HostRuntime) -> Result<(), Fail> {
         bytes: texts.as_slice(),
     };
     let (end, told) = run(alloc, reader)?;
-    assert_eq!(rt; end, ShellEnd::End);
-    assert_eq!(rt; told.as_slice(), TEXTS_ANSWERED);
+    equal(&rt, end, ShellEnd::End);
+    equal(&rt, told.as_slice(), TEXTS_ANSWERED);
     Ok(())
 }
 

@@ -91,6 +91,17 @@ impl Generator {
         chains
     }
 
+    /// Up to eight input lines.
+    fn columns(&mut self, board: &Board) -> ArrayVec<Line, 8> {
+        let mut columns = ArrayVec::new();
+        for _ in 0..1 + self.below(8) {
+            if let Some(line) = self.input(board) {
+                let _ = columns.try_push(line);
+            }
+        }
+        columns
+    }
+
     fn keys(&mut self, board: &Board, chains: &[ChainPart]) -> Option<KeyMatrix> {
         let chain = self.below(CHAINS as u8);
         let bits = 10 * chains.get(usize::from(chain))?.chips.min(CHAIN_CHIPS);
@@ -102,12 +113,7 @@ impl Generator {
         if first + rows > bits {
             return None;
         }
-        let mut columns = ArrayVec::new();
-        for _ in 0..1 + self.below(8) {
-            if let Some(line) = self.input(board) {
-                let _ = columns.try_push(line);
-            }
-        }
+        let columns = self.columns(board);
         if columns.is_empty() {
             return None;
         }
@@ -119,32 +125,54 @@ impl Generator {
         })
     }
 
+    /// A bit of one of these chains, unless it finds none.
+    fn chain_bit(&mut self, chains: &[ChainPart]) -> Option<Line> {
+        let (n, i) = (self.below(CHAINS as u8), self.below(CHAIN_BITS));
+        let chain = chains.get(usize::from(n))?;
+        if u16::from(i) < chain.bits() {
+            Some(Line::Chain(n, i))
+        } else {
+            None
+        }
+    }
+
+    /// A bit of a chain or an output line, unless it finds neither.
+    fn lamp(&mut self, board: &Board, chains: &[ChainPart]) -> Option<Line> {
+        match self.chain_bit(chains) {
+            Some(bit) => Some(bit),
+            None => self.output(board),
+        }
+    }
+
     fn lamps(&mut self, board: &Board, chains: &[ChainPart]) -> ArrayVec<Line, 64> {
         let mut lamps = ArrayVec::new();
         for _ in 0..self.below(65) {
-            let bit = Line::Chain(self.below(CHAINS as u8), self.below(CHAIN_BITS));
-            if let Line::Chain(n, i) = bit
-                && let Some(chain) = chains.get(usize::from(n))
-                && u16::from(i) < chain.bits()
-            {
-                let _ = lamps.try_push(bit);
-            } else if let Some(line) = self.output(board) {
+            if let Some(line) = self.lamp(board, chains) {
                 let _ = lamps.try_push(line);
             }
         }
         lamps
     }
 
-    /// The next board.
-    pub(crate) fn board(&mut self, rt: &impl Abort) -> Board {
+    fn roms(&mut self) -> [Option<[LineMask; 4]>; 16] {
         let mut roms = [None; 16];
         for rom in roms.iter_mut() {
             *rom = self.port();
         }
+        roms
+    }
+
+    fn banks(&mut self) -> [u8; 8] {
         let mut banks = [0; 8];
         for bank in banks.iter_mut() {
             *bank = self.below(5);
         }
+        banks
+    }
+
+    /// The next board.
+    pub(crate) fn board(&mut self, rt: &impl Abort) -> Board {
+        let (roms, banks) = (self.roms(), self.banks());
         let chips = valid(
             rt,
             BoardParts {
