@@ -1,4 +1,5 @@
 //! Sessions in files of the host, chosen by the words of the command line.
+use crate::checks::equal;
 use mcs_fixtures::files::{NEW_BENCH, POKE};
 use mcs_host::{Choice, FileDisk, choice};
 use mcs_session::session::Session;
@@ -47,24 +48,24 @@ fn a_session_in_a_file(rt: HostRuntime) -> Result<(), Fail> {
     let alloc = rt.alloc();
     let path = "session_in_a_file.mcs";
     let _ = fs::remove_file(&rt, path);
-    assert_eq!(rt; begun(&rt, "open", path)?, Err(53));
+    equal(&rt, begun(&rt, "open", path)?, Err(53));
     let Ok(mut session) = session_of(&rt, "new", path)? else {
         return Err("not made".into());
     };
     let mut writer = Vec::new(alloc);
     let mut reader = SCRIPT;
     let end = run_shell(alloc, &mut reader, &mut writer, &mut session);
-    assert_eq!(rt; end, ShellEnd::End);
-    assert_eq!(rt; writer.as_slice(), ANSWERS);
-    assert_eq!(rt; begun(&rt, "open", path)?, Err(53));
-    assert_eq!(rt; begun(&rt, "new", path)?, Err(53));
+    equal(&rt, end, ShellEnd::End);
+    equal(&rt, writer.as_slice(), ANSWERS);
+    equal(&rt, begun(&rt, "open", path)?, Err(53));
+    equal(&rt, begun(&rt, "new", path)?, Err(53));
     drop(session);
-    assert_eq!(rt; begun(&rt, "new", path)?, Err(55));
+    equal(&rt, begun(&rt, "new", path)?, Err(55));
     let Ok(again) = session_of(&rt, "open", path)? else {
         return Err("not opened".into());
     };
-    assert_eq!(rt; again.bench().seq(), 1);
-    assert_eq!(rt; again.bench().regs().r[5].get(), 9);
+    equal(&rt, again.bench().seq(), 1);
+    equal(&rt, again.bench().regs().r[5].get(), 9);
     fs::remove_file(&rt, path)?;
     Ok(())
 }
@@ -73,7 +74,7 @@ fn a_session_in_a_file(rt: HostRuntime) -> Result<(), Fail> {
 fn files_that_hold_no_session(rt: HostRuntime) -> Result<(), Fail> {
     let path = "files_that_hold_no_session.mcs";
     let _ = fs::remove_file(&rt, path);
-    assert_eq!(rt; begun(&rt, "new", path)?, Ok(0));
+    equal(&rt, begun(&rt, "new", path)?, Ok(0));
     let made = fs::read(&rt, path)?;
     // the length of the snapshot, a byte of it, a byte of the name, one byte less
     let rows = [
@@ -89,8 +90,8 @@ fn files_that_hold_no_session(rt: HostRuntime) -> Result<(), Fail> {
         }
         bytes.truncate(size);
         fs::write(&rt, path, bytes.as_slice())?;
-        assert_eq!(rt; begun(&rt, "open", path)?, Err(number));
-        assert_eq!(rt; fs::read(&rt, path)?.as_slice(), bytes.as_slice());
+        equal(&rt, begun(&rt, "open", path)?, Err(number));
+        equal(&rt, fs::read(&rt, path)?.as_slice(), bytes.as_slice());
     }
     fs::remove_file(&rt, path)?;
     Ok(())
@@ -119,21 +120,22 @@ fn a_file_of_version_1_is_carried_over(rt: HostRuntime) -> Result<(), Fail> {
     let mut writer = Vec::new(alloc);
     let mut reader = b"regs\n".as_slice();
     let end = run_shell(alloc, &mut reader, &mut writer, &mut session);
-    assert_eq!(rt; end, ShellEnd::End);
+    equal(&rt, end, ShellEnd::End);
     let wanted: &[u8] =
         b"session 1\nacc 0 cy 0 pc 000 owed 0 dcl 0 test 1 r 0000090000000000 ret 000 000 000\n";
-    assert_eq!(rt; writer.as_slice(), wanted);
+    equal(&rt, writer.as_slice(), wanted);
     drop(session);
     // the first slot is as it was, and the second has a snapshot of version 2
     let left = fs::read(&rt, path)?;
-    assert_eq!(rt; left.get(8), Some(&1));
-    assert_eq!(rt; left.get(16..81_936), first.get(16..81_936));
-    assert_eq!(rt;
+    equal(&rt, left.get(8), Some(&1));
+    equal(&rt, left.get(16..81_936), first.get(16..81_936));
+    equal(
+        &rt,
         left.get(81_936..81_945),
-        Some([0, 0, 0x1A, 0xA8, 0, 0, 0, 1, 2].as_slice())
+        Some([0, 0, 0x1A, 0xA8, 0, 0, 0, 1, 2].as_slice()),
     );
-    assert_eq!(rt; left.get(98_320), Some(&0));
-    assert_eq!(rt; begun(&rt, "open", path)?, Ok(1));
+    equal(&rt, left.get(98_320), Some(&0));
+    equal(&rt, begun(&rt, "open", path)?, Ok(1));
     fs::remove_file(&rt, path)?;
     Ok(())
 }

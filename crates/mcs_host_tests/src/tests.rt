@@ -1,3 +1,4 @@
+use crate::checks::equal;
 use mcs_disk::{Disk, DiskFault};
 use mcs_host::{Choice, FileDisk, FileFault, WordsFault, choice};
 use std::alloc::Global;
@@ -9,26 +10,27 @@ use std::test::Fail;
 fn a_new_file_is_blank_and_keeps_what_is_written(rt: HostRuntime) -> Result<(), Fail> {
     let path = "mcs_host_file_disk_test.mcs";
     let _ = fs::remove_file(&rt, path);
-    assert_eq!(rt;
+    equal(
+        &rt,
         FileDisk::open_at(&rt, rt.alloc(), path, false).err(),
-        Some(FileFault::NotThere)
+        Some(FileFault::NotThere),
     );
     let mut disk = FileDisk::open_at(&rt, rt.alloc(), path, true)?;
-    assert_eq!(rt; disk.size(), 163_856);
+    assert!(rt; disk.size() == 163_856);
     let mut bytes = [1u8; 4];
     disk.read(163_852, &mut bytes)?;
-    assert_eq!(rt; bytes, [0, 0, 0, 0]);
+    equal(&rt, bytes, [0, 0, 0, 0]);
     disk.write(2, &[7, 8])?;
     disk.sync()?;
     drop(disk);
     let mut again = FileDisk::open_at(&rt, rt.alloc(), path, true)?;
-    assert_eq!(rt; again.size(), 163_856);
+    assert!(rt; again.size() == 163_856);
     again.read(0, &mut bytes)?;
-    assert_eq!(rt; bytes, [0, 0, 7, 8]);
+    equal(&rt, bytes, [0, 0, 7, 8]);
     // Another program, which heeds no lock, writes here, so what is read is not what was written.
     let other = OpenOptions::new().write(true).open(&rt, path)?;
     other.write_all_at(&[9], 2)?;
-    assert_eq!(rt; again.read(0, &mut bytes), Err(DiskFault));
+    equal(&rt, again.read(0, &mut bytes), Err(DiskFault));
     fs::remove_file(&rt, path)?;
     Ok(())
 }
@@ -39,14 +41,15 @@ fn a_file_is_in_use_by_one_disk(rt: HostRuntime) -> Result<(), Fail> {
     let _ = fs::remove_file(&rt, path);
     let disk = FileDisk::open_at(&rt, rt.alloc(), path, true)?;
     for make in [true, false] {
-        assert_eq!(rt;
+        equal(
+            &rt,
             FileDisk::open_at(&rt, rt.alloc(), path, make).err(),
-            Some(FileFault::InUse)
+            Some(FileFault::InUse),
         );
     }
     drop(disk);
     let again = FileDisk::open_at(&rt, rt.alloc(), path, false)?;
-    assert_eq!(rt; again.size(), 163_856);
+    assert!(rt; again.size() == 163_856);
     fs::remove_file(&rt, path)?;
     Ok(())
 }
@@ -61,9 +64,10 @@ fn what_is_no_file_is_refused_by_name(rt: HostRuntime) -> Result<(), Fail> {
     ];
     for (path, fault) in rows {
         for make in [true, false] {
-            assert_eq!(rt;
+            equal(
+                &rt,
                 FileDisk::open_at(&rt, rt.alloc(), path, make).err(),
-                Some(fault)
+                Some(fault),
             );
         }
     }
@@ -75,15 +79,15 @@ fn a_file_of_another_size_is_seen_as_one(rt: HostRuntime) -> Result<(), Fail> {
     let path = "mcs_host_file_size_test.mcs";
     fs::write(&rt, path, b"short".as_slice())?;
     let short = FileDisk::open_at(&rt, rt.alloc(), path, true)?;
-    assert_eq!(rt; short.size(), 5);
+    assert!(rt; short.size() == 5);
     drop(short);
     let long = vec![in rt.alloc(); 1u8; 163_900]?;
     fs::write(&rt, path, long.as_slice())?;
     let mut seen = FileDisk::open_at(&rt, rt.alloc(), path, true)?;
-    assert_eq!(rt; seen.size(), 163_857);
+    assert!(rt; seen.size() == 163_857);
     let mut last = [0u8; 1];
     seen.read(163_856, &mut last)?;
-    assert_eq!(rt; last, [1]);
+    equal(&rt, last, [1]);
     fs::remove_file(&rt, path)?;
     Ok(())
 }
@@ -115,14 +119,14 @@ fn is_usage(alloc: Global, words: &[&str]) -> bool {
 #[test]
 fn words_choose(rt: HostRuntime) -> Result<(), Fail> {
     let alloc = rt.alloc();
-    assert_eq!(rt; makes(alloc, &["mcs4", "new", "s.mcs"], "s.mcs"), true);
-    assert_eq!(rt; opens(alloc, &["mcs4", "open", "s.mcs"], "s.mcs"), true);
-    assert_eq!(rt; is_usage(alloc, &["mcs4"]), true);
-    assert_eq!(rt; is_usage(alloc, &["mcs4", "frob"]), true);
-    assert_eq!(rt; is_usage(alloc, &["mcs4", "new"]), true);
-    assert_eq!(rt; is_usage(alloc, &["mcs4", "open"]), true);
-    assert_eq!(rt; is_usage(alloc, &["mcs4", "--help"]), true);
-    assert_eq!(rt; is_usage(alloc, &["mcs4", "help"]), true);
-    assert_eq!(rt; is_usage(alloc, &["mcs4", "new", "a", "b"]), true);
+    equal(&rt, makes(alloc, &["mcs4", "new", "s.mcs"], "s.mcs"), true);
+    equal(&rt, opens(alloc, &["mcs4", "open", "s.mcs"], "s.mcs"), true);
+    equal(&rt, is_usage(alloc, &["mcs4"]), true);
+    equal(&rt, is_usage(alloc, &["mcs4", "frob"]), true);
+    equal(&rt, is_usage(alloc, &["mcs4", "new"]), true);
+    equal(&rt, is_usage(alloc, &["mcs4", "open"]), true);
+    equal(&rt, is_usage(alloc, &["mcs4", "--help"]), true);
+    equal(&rt, is_usage(alloc, &["mcs4", "help"]), true);
+    equal(&rt, is_usage(alloc, &["mcs4", "new", "a", "b"]), true);
     Ok(())
 }
