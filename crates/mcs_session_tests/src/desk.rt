@@ -1,10 +1,12 @@
 //! What the tests do with disks and sessions.
+use mcs_bench::Bench;
 use mcs_disk::{Disk, FuseDisk, MemDisk};
-use mcs_journal::{FILE_SIZE, OpenFault};
+use mcs_journal::{CreateFault, FILE_SIZE, OpenFault};
 use mcs_model::command::{Command, Place, Reply};
 use mcs_model::image::Image;
 use mcs_model::stop::Stop;
 use mcs_nibble::{Addr, Nibble, RegNo};
+use mcs_session::fault::SessionFault;
 use mcs_session::session::Session;
 use std::alloc::Global;
 use std::process::Abort;
@@ -17,13 +19,18 @@ pub(crate) fn poke(rt: &impl Abort, register: u8, value: u8) -> Command {
     }
 }
 
+/// Adds a byte at an address above all others.
+fn push(rt: &impl Abort, image: &mut Image, at: Addr, byte: u8) {
+    assert!(rt; image.pairs().iter().all(|pair| pair.0 < at));
+    image.push(at, byte).expect(rt, "memory");
+}
+
 /// Puts these bytes into ROM, from address 0 on.
 pub(crate) fn load(alloc: Global, rt: &impl Abort, bytes: &[u8]) -> Command {
     let mut image = Image::new(alloc).expect(rt, "memory");
     let mut at = Addr::ZERO;
     for byte in bytes {
-        assert!(rt; image.pairs().iter().all(|pair| pair.0 < at));
-        image.push(at, *byte).expect(rt, "memory");
+        push(rt, &mut image, at, *byte);
         at = at.plus(1);
     }
     Command::Load(image)
@@ -33,9 +40,17 @@ pub(crate) fn blank(alloc: Global, rt: &impl Abort) -> MemDisk {
     MemDisk::new(alloc, FILE_SIZE).expect(rt, "memory")
 }
 
+/// What the making of a session on this disk answers.
+pub(crate) fn create<D: Disk + Drop>(
+    alloc: Global,
+    disk: D,
+) -> Result<Session<D>, (CreateFault, D)> {
+    Session::create(alloc, disk)
+}
+
 /// A new session on this disk.
 pub(crate) fn made<D: Disk + Drop>(alloc: Global, rt: &impl Abort, disk: D) -> Session<D> {
-    match Session::create(alloc, disk) {
+    match create(alloc, disk) {
         Ok(session) => session,
         Err(_) => panic!(rt; "create was refused"),
     }
@@ -45,17 +60,60 @@ pub(crate) fn new_session(alloc: Global, rt: &impl Abort) -> Session<MemDisk> {
     made(alloc, rt, blank(alloc, rt))
 }
 
+/// What the opening of this disk answers.
+pub(crate) fn open<D: Disk + Drop>(alloc: Global, disk: D) -> Result<Session<D>, (OpenFault, D)> {
+    Session::open(alloc, disk)
+}
+
 /// The session that this disk holds.
 pub(crate) fn opened<D: Disk + Drop>(alloc: Global, rt: &impl Abort, disk: D) -> Session<D> {
-    match Session::open(alloc, disk) {
+    match open(alloc, disk) {
         Ok(session) => session,
         Err(_) => panic!(rt; "open was refused"),
     }
 }
 
+/// The bench of a session.
+pub(crate) fn bench_of<D: Disk + Drop>(session: &Session<D>) -> &Bench {
+    session.bench()
+}
+
+/// The disk that a session leaves.
+pub(crate) fn left<D: Disk + Drop>(session: Session<D>) -> D {
+    session.into_disk()
+}
+
+/// A disk with a new session, whose bytes at a place were changed into these.
+pub(crate) fn changed(alloc: Global, rt: &impl Abort, at: usize, bytes: &[u8]) -> MemDisk {
+    let mut disk = left(new_session(alloc, rt));
+    leave(rt, &mut disk, at, bytes);
+    disk
+}
+
 /// The disk holds a session that has accepted that many commands.
 pub(crate) fn expect_seq<D: Disk + Drop>(alloc: Global, rt: &impl Abort, disk: D, seq: u32) {
-    assert_eq!(rt; opened(alloc, rt, disk).bench().seq(), seq);
+    assert_eq!(rt; bench_of(&opened(alloc, rt, disk)).seq(), seq);
+}
+
+/// The bench has accepted that many commands, and its program counter stands there.
+pub(crate) fn expect_counter(rt: &impl Abort, bench: &Bench, seq: u32, counter: u16) {
+    assert_eq!(rt; bench.seq(), seq);
+    assert_eq!(rt; bench.regs().pc.get(), counter);
+}
+
+/// The disk holds a session that has accepted that many commands, with this value in this register.
+pub(crate) fn expect_register<D: Disk + Drop>(
+    alloc: Global,
+    rt: &impl Abort,
+    disk: D,
+    seq: u32,
+    (register, value): (usize, u8),
+) {
+    let session = opened(alloc, rt, disk);
+    let bench = bench_of(&session);
+    assert_eq!(rt; bench.seq(), seq);
+    assert!(rt; register < 16);
+    assert_eq!(rt; bench.regs().r[register].get(), value);
 }
 
 /// The session on this disk is refused.
@@ -65,10 +123,28 @@ pub(crate) fn expect_refusal<D: Disk + Drop>(
     disk: D,
     want: OpenFault,
 ) {
-    match Session::open(alloc, disk) {
+    match open(alloc, disk) {
         Ok(_) => panic!(rt; "the disk was taken"),
         Err((fault, _)) => assert_eq!(rt; fault, want),
     }
+}
+
+/// What the session answers to the command.
+fn answer<D: Disk + Drop>(
+    session: &mut Session<D>,
+    command: &Command,
+) -> Result<Reply, SessionFault> {
+    session.apply(command)
+}
+
+/// The command is not done, for this reason.
+pub(crate) fn expect_fault<D: Disk + Drop>(
+    rt: &impl Abort,
+    session: &mut Session<D>,
+    command: &Command,
+    fault: SessionFault,
+) {
+    assert_eq!(rt; answer(session, command), Err(fault));
 }
 
 /// The command is acknowledged with this reply.
@@ -78,7 +154,7 @@ pub(crate) fn expect_reply<D: Disk + Drop>(
     command: &Command,
     reply: Reply,
 ) {
-    assert_eq!(rt; session.apply(command), Ok(reply));
+    assert_eq!(rt; answer(session, command), Ok(reply));
 }
 
 /// The command is acknowledged, and has nothing to tell.
@@ -95,13 +171,26 @@ pub(crate) fn run<D: Disk + Drop>(rt: &impl Abort, session: &mut Session<D>, cyc
     expect_reply(rt, session, &Command::Run(cycles), reply);
 }
 
+/// Reads what the disk holds there.
+fn read<D: Disk>(rt: &impl Abort, disk: &mut D, at: usize, into: &mut [u8]) {
+    assert!(rt; at <= disk.size() && into.len() <= disk.size() - at);
+    assert!(rt; disk.read(at, into).is_ok());
+}
+
 /// The disk holds these bytes there.
 pub(crate) fn expect_bytes<D: Disk>(rt: &impl Abort, disk: &mut D, at: usize, want: &[u8]) {
     let mut got = [0u8; 16];
-    assert!(rt; want.len() <= 16 && at <= disk.size() && want.len() <= disk.size() - at);
+    assert!(rt; want.len() <= 16);
     let found = &mut got[..want.len()];
-    assert!(rt; disk.read(at, found).is_ok());
+    read(rt, disk, at, found);
     assert_eq!(rt; &*found, want, "at {at}");
+}
+
+/// The disk holds these bytes at these places.
+pub(crate) fn expect_places<D: Disk>(rt: &impl Abort, disk: &mut D, places: &[(usize, &[u8])]) {
+    for (at, want) in places {
+        expect_bytes(rt, disk, *at, want);
+    }
 }
 
 /// Writes these bytes there, as a stop may have left them.
@@ -113,4 +202,10 @@ pub(crate) fn leave<D: Disk>(rt: &impl Abort, disk: &mut D, at: usize, bytes: &[
 /// A disk that fails each call but the first `calls`.
 pub(crate) fn fused(alloc: Global, rt: &impl Abort, calls: usize) -> FuseDisk {
     FuseDisk::after(blank(alloc, rt), calls)
+}
+
+/// The disk, which fails no call any more.
+pub(crate) fn mended(mut disk: FuseDisk) -> FuseDisk {
+    disk.mend();
+    disk
 }

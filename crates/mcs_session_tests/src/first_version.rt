@@ -1,7 +1,7 @@
 //! Sessions of version 1: the first opening carries them over.
 use crate::desk::{
-    done, expect_bytes, expect_refusal, expect_reply, expect_seq, leave, new_session, opened, poke,
-    run,
+    bench_of, changed, done, expect_bytes, expect_places, expect_refusal, expect_register,
+    expect_reply, expect_seq, leave, left, mended, open, opened, poke, run,
 };
 use crate::files::{
     ALL_PLACES, BREAKPOINTS, FULL_LOG, File, HALF_A_JUMP, KEYS, MANY_CYCLES, ONE_REGISTER, SUM,
@@ -11,8 +11,9 @@ use mcs_bench::Bench;
 use mcs_disk::{FuseDisk, MemDisk};
 use mcs_journal::OpenFault;
 use mcs_model::command::{Command, Place, Reply};
+use mcs_model::regs::Regs;
 use mcs_model::stop::Stop;
-use mcs_nibble::{Addr, Bit};
+use mcs_nibble::{Addr, Bit, Nibble};
 use mcs_session::session::Session;
 use std::alloc::Global;
 use std::process::Abort;
@@ -27,22 +28,37 @@ const SECOND_LOG: usize = 98_320;
 
 /// What is asked of a bench: how many commands it has accepted; the accumulator, the carry, the counter and the cycles that are
 /// owed; the index registers.
-#[derive(Clone, Copy)]
+#[derive(Drop)]
 struct Told {
     seq: u32,
     processor: (u8, u8, u16, u8),
     registers: [u8; 16],
 }
 
-fn expect_told(rt: &impl Abort, bench: &Bench, want: &Told) {
-    let regs = bench.regs();
-    assert_eq!(rt; bench.seq(), want.seq);
-    let processor = (regs.acc.get(), regs.cy.get(), regs.pc.get(), regs.owed);
-    assert_eq!(rt; processor, want.processor);
-    for (found, wanted) in regs.r.iter().zip(want.registers.iter()) {
-        assert_eq!(rt; found.get(), *wanted);
+fn expect_processor(rt: &impl Abort, regs: &Regs, want: (u8, u8, u16, u8)) {
+    assert_eq!(rt; regs.acc.get(), want.0);
+    assert_eq!(rt; regs.cy.get(), want.1);
+    assert_eq!(rt; regs.pc.get(), want.2);
+    assert_eq!(rt; regs.owed, want.3);
+}
+
+fn expect_registers(rt: &impl Abort, found: &[Nibble; 16], want: &[u8; 16]) {
+    for i in 0..16 {
+        assert_eq!(rt; found[i].get(), want[i]);
     }
+}
+
+fn expect_told(rt: &impl Abort, bench: &Bench, want: &Told) {
+    assert_eq!(rt; bench.seq(), want.seq);
+    let regs = bench.regs();
+    expect_processor(rt, &regs, want.processor);
+    expect_registers(rt, &regs.r, &want.registers);
     assert!(rt; bench.watches().is_empty());
+}
+
+/// These are the breakpoints, or the watches.
+fn expect_addresses(rt: &impl Abort, found: &[Addr], want: &[Addr]) {
+    assert!(rt; found == want);
 }
 
 /// Lamps of the worked board.
@@ -51,6 +67,13 @@ fn expect_lamps(rt: &impl Abort, bench: &Bench, want: [Bit; 3]) {
         assert_eq!(rt; bench.lamp(i), Some(*level));
     }
     assert_eq!(rt; bench.lamp(3), None);
+}
+
+/// The session that this disk holds, of whose bench that is told.
+fn opened_as(alloc: Global, rt: &impl Abort, disk: MemDisk, want: &Told) -> Session<MemDisk> {
+    let session = opened(alloc, rt, disk);
+    expect_told(rt, bench_of(&session), want);
+    session
 }
 
 /// Opens a file of version 1, whose slot does not count any more then: the other one has a snapshot that begins so, in version 2,
@@ -63,21 +86,21 @@ fn carried_over(
     want: &Told,
 ) -> Session<MemDisk> {
     let was_second = file.runs.iter().any(|run| run.0 == 8);
-    let session = opened(alloc, rt, disk_of(alloc, rt, file));
-    expect_told(rt, session.bench(), want);
-    let mut disk = session.into_disk();
-    expect_bytes(rt, &mut disk, 0, b"MCS4BEN1");
+    let session = opened_as(alloc, rt, disk_of(alloc, rt, file), want);
+    let mut disk = left(session);
     let (selector, slot, log) = if was_second {
         (0, FIRST_SLOT, FIRST_LOG)
     } else {
         (1, SECOND_SLOT, SECOND_LOG)
     };
-    expect_bytes(rt, &mut disk, 8, &[selector, 0, 0, 0, 0, 0, 0, 0]);
-    expect_bytes(rt, &mut disk, slot, &snapshot);
-    expect_bytes(rt, &mut disk, log, &[0]);
-    let session = opened(alloc, rt, disk);
-    expect_told(rt, session.bench(), want);
-    session
+    let places: [(usize, &[u8]); 4] = [
+        (0, b"MCS4BEN1"),
+        (8, &[selector, 0, 0, 0, 0, 0, 0, 0]),
+        (slot, &snapshot),
+        (log, &[0]),
+    ];
+    expect_places(rt, &mut disk, &places);
+    opened_as(alloc, rt, disk, want)
 }
 
 #[test]
@@ -92,7 +115,7 @@ fn one_register(rt: HostRuntime) {
     let snapshot = [0, 0, 0x1A, 0xA8, 0, 0, 0, 1, 2];
     let mut session = carried_over(alloc, &rt, &ONE_REGISTER, snapshot, &want);
     done(&rt, &mut session, &poke(&rt, 5, 3));
-    let mut disk = session.into_disk();
+    let mut disk = left(session);
     expect_bytes(&rt, &mut disk, SECOND_LOG, &[1, 0, 4, 7, 3, 5, 3, 0]);
     expect_seq(alloc, &rt, disk, 2);
 }
@@ -111,7 +134,7 @@ fn a_sum(rt: HostRuntime) {
     run(&rt, &mut session, 1);
     want.seq = 6;
     want.processor = (7, 1, 0x003, 0);
-    expect_told(&rt, session.bench(), &want);
+    expect_told(&rt, bench_of(&session), &want);
 }
 
 #[test]
@@ -125,12 +148,12 @@ fn keys_and_lamps(rt: HostRuntime) {
     want.registers[0] = 1;
     let snapshot = [0, 0, 0x1B, 0x3B, 0, 0, 0, 5, 2];
     let mut session = carried_over(alloc, &rt, &KEYS, snapshot, &want);
-    expect_lamps(&rt, session.bench(), [Bit::ONE, Bit::ONE, Bit::ZERO]);
+    expect_lamps(&rt, bench_of(&session), [Bit::ONE, Bit::ONE, Bit::ZERO]);
     // two keys are down at once
     run(&rt, &mut session, 1);
     want.seq = 6;
     want.processor = (15, 0, 0x00B, 0);
-    expect_told(&rt, session.bench(), &want);
+    expect_told(&rt, bench_of(&session), &want);
 }
 
 #[test]
@@ -146,7 +169,7 @@ fn half_a_jump(rt: HostRuntime) {
     run(&rt, &mut session, 1);
     want.seq = 4;
     want.processor = (0, 0, 0x123, 0);
-    expect_told(&rt, session.bench(), &want);
+    expect_told(&rt, bench_of(&session), &want);
 }
 
 #[test]
@@ -159,16 +182,14 @@ fn breakpoints(rt: HostRuntime) {
     };
     let snapshot = [0, 0, 0x1B, 0x3F, 0, 0, 0, 7, 2];
     let mut session = carried_over(alloc, &rt, &BREAKPOINTS, snapshot, &want);
-    assert_eq!(rt;
-        session.bench().breaks(),
-        [Addr::ZERO, Addr::ZERO.plus(3)].as_slice()
-    );
+    let wanted = [Addr::ZERO, Addr::ZERO.plus(3)];
+    expect_addresses(&rt, bench_of(&session).breaks(), &wanted);
     let stopped = Reply::Ran {
         cycles: 0,
         stop: Stop::Outside,
     };
     expect_reply(&rt, &mut session, &Command::Step, stopped);
-    assert_eq!(rt; session.bench().seq(), 8);
+    assert_eq!(rt; bench_of(&session).seq(), 8);
 }
 
 #[test]
@@ -183,7 +204,7 @@ fn a_snapshot_in_the_second_slot(rt: HostRuntime) {
     let snapshot = [0, 0, 0x1A, 0xA8, 0, 0, 0x24, 0x93, 2];
     let mut session = carried_over(alloc, &rt, &FULL_LOG, snapshot, &want);
     done(&rt, &mut session, &poke(&rt, 0, 3));
-    let mut disk = session.into_disk();
+    let mut disk = left(session);
     expect_bytes(&rt, &mut disk, FIRST_LOG, &[1, 0, 4, 7, 3, 0, 3, 0]);
     expect_seq(alloc, &rt, disk, 9_364);
 }
@@ -204,8 +225,8 @@ fn a_log_of_many_cycles(rt: HostRuntime) {
     };
     expect_reply(&rt, &mut session, &Command::Step, stepped);
     run(&rt, &mut session, 1);
-    assert_eq!(rt; session.bench().regs().pc.get(), 0x901);
-    let mut disk = session.into_disk();
+    assert_eq!(rt; bench_of(&session).regs().pc.get(), 0x901);
+    let mut disk = left(session);
     expect_bytes(&rt, &mut disk, 8, &[1]);
     expect_bytes(
         &rt,
@@ -214,6 +235,15 @@ fn a_log_of_many_cycles(rt: HostRuntime) {
         &[1, 0, 1, 6, 1, 0, 5, 5, 0, 0, 0, 1, 0],
     );
     expect_seq(alloc, &rt, disk, 42);
+}
+
+/// A breakpoint, the TEST pin, the addresses that SRC sent, and a character of RAM.
+fn expect_all_places(rt: &impl Abort, bench: &Bench) {
+    expect_addresses(rt, bench.breaks(), &[Addr::ZERO.plus(0x200)]);
+    assert_eq!(rt; bench.test(), Bit::ZERO);
+    assert_eq!(rt; bench.rom_src(), 0x10);
+    assert_eq!(rt; bench.ram_src(0), 0x10);
+    assert_eq!(rt; bench.ram(0, 0x10).get(), 15);
 }
 
 #[test]
@@ -229,12 +259,9 @@ fn all_places_of_a_snapshot(rt: HostRuntime) {
     want.registers[6] = 4;
     let snapshot = [0, 0, 0x1B, 0x3D, 0, 0, 0x24, 0x37, 2];
     let mut session = carried_over(alloc, &rt, &ALL_PLACES, snapshot, &want);
-    let bench = session.bench();
+    let bench = bench_of(&session);
     expect_lamps(&rt, bench, [Bit::ONE, Bit::ONE, Bit::ZERO]);
-    assert_eq!(rt; bench.breaks(), [Addr::ZERO.plus(0x200)].as_slice());
-    assert_eq!(rt; bench.test(), Bit::ZERO);
-    assert_eq!(rt; (bench.rom_src(), bench.ram_src(0)), (0x10, 0x10));
-    assert_eq!(rt; bench.ram(0, 0x10).get(), 15);
+    expect_all_places(&rt, bench);
     run(&rt, &mut session, 1);
     // the instruction that reads the keys, once more
     done(
@@ -245,81 +272,100 @@ fn all_places_of_a_snapshot(rt: HostRuntime) {
     run(&rt, &mut session, 1);
     want.seq = 9_274;
     want.processor = (6, 0, 0x00A, 0);
-    expect_told(&rt, session.bench(), &want);
+    expect_told(&rt, bench_of(&session), &want);
 }
 
 /// A stop after that many calls of the disk keeps the file of one register from opening. The disk is handed back then.
 fn stopped(alloc: Global, rt: &impl Abort, calls: usize) -> Option<FuseDisk> {
-    match Session::open(
-        alloc,
-        FuseDisk::after(disk_of(alloc, rt, &ONE_REGISTER), calls),
-    ) {
+    let disk = FuseDisk::after(disk_of(alloc, rt, &ONE_REGISTER), calls);
+    match open(alloc, disk) {
         Ok(_) => None,
-        Err((fault, mut disk)) => {
+        Err((fault, disk)) => {
             assert_eq!(rt; fault, OpenFault::Device);
-            disk.mend();
-            Some(disk)
+            Some(mended(disk))
         }
     }
 }
 
-/// The session of one register is there.
-fn expect_register(alloc: Global, rt: &impl Abort, disk: FuseDisk) {
-    let session = opened(alloc, rt, disk);
-    assert_eq!(rt; session.bench().seq(), 1);
-    assert_eq!(rt; session.bench().regs().r[5].get(), 9);
+/// How many calls of the disk the opening takes.
+fn count_calls(alloc: Global, rt: &impl Abort) -> usize {
+    let mut calls = 0usize;
+    for _ in 0..64 {
+        if stopped(alloc, rt, calls).is_some() {
+            calls = calls.saturating_add(1);
+        }
+    }
+    assert!(rt; 4 < calls && calls < 64, "{calls}");
+    calls
+}
+
+/// The disk after a stop at that call, which is that many calls before the end of the opening.
+fn stopped_before(alloc: Global, rt: &impl Abort, calls: usize, before: usize) -> FuseDisk {
+    assert!(rt; before <= calls);
+    let call = calls - before;
+    match stopped(alloc, rt, call) {
+        Some(disk) => disk,
+        None => panic!(rt; "the call {call} did not fail"),
+    }
+}
+
+/// What the disk holds that many calls before the end: the last four write the snapshot, sync it, write the selector, and sync
+/// it.
+fn expect_stage(rt: &impl Abort, disk: &mut FuseDisk, before: usize) {
+    let (length, selector) = match before {
+        1 => ([0, 0, 0x1A, 0xA8], 1),
+        2 | 3 => ([0, 0, 0x1A, 0xA8], 0),
+        _ => ([0; 4], 0),
+    };
+    expect_bytes(rt, disk, SECOND_SLOT, &length);
+    expect_bytes(rt, disk, 8, &[selector]);
 }
 
 #[test]
 fn a_stop_at_each_call(rt: HostRuntime) {
     let alloc = rt.alloc();
-    let mut calls = 0usize;
-    for _ in 0..64 {
-        if stopped(alloc, &rt, calls).is_some() {
-            calls = calls.saturating_add(1);
-        }
-    }
-    assert!(rt; 4 < calls && calls < 64, "{calls}");
+    let calls = count_calls(alloc, &rt);
     for call in 0..calls {
-        let Some(mut disk) = stopped(alloc, &rt, call) else {
-            panic!(rt; "the call {call} did not fail")
-        };
-        // the last four write the snapshot, sync it, write the selector, and sync it
-        let (length, selector) = match calls - call {
-            1 => ([0, 0, 0x1A, 0xA8], 1),
-            2 | 3 => ([0, 0, 0x1A, 0xA8], 0),
-            _ => ([0; 4], 0),
-        };
-        expect_bytes(&rt, &mut disk, SECOND_SLOT, &length);
-        expect_bytes(&rt, &mut disk, 8, &[selector]);
-        expect_register(alloc, &rt, disk);
+        let mut disk = stopped_before(alloc, &rt, calls, calls - call);
+        expect_stage(&rt, &mut disk, calls - call);
+        expect_register(alloc, &rt, disk, 1, (5, 9));
     }
-    // the selector may have been left as anything
-    for left in [0x7F, 0x40] {
-        let Some(mut disk) = stopped(alloc, &rt, calls - 2) else {
-            panic!(rt; "the selector was written")
-        };
-        leave(&rt, &mut disk, 8, &[left]);
-        expect_register(alloc, &rt, disk);
+}
+
+#[test]
+fn a_selector_left_as_anything(rt: HostRuntime) {
+    let alloc = rt.alloc();
+    let calls = count_calls(alloc, &rt);
+    for selector in [0x7F, 0x40] {
+        let mut disk = stopped_before(alloc, &rt, calls, 2);
+        leave(&rt, &mut disk, 8, &[selector]);
+        expect_register(alloc, &rt, disk, 1, (5, 9));
     }
 }
 
 /// `watch 0 0`.
 const WATCH: [u8; 7] = [1, 0, 3, 12, 0, 0, 0];
 
+/// A file of version 1 with the record of a watch.
+const WATCHED: File = File {
+    boards: &[],
+    runs: &[(FIRST_LOG, &WATCH, 1)],
+};
+
+#[test]
+fn a_watch_is_not_of_version_1(rt: HostRuntime) {
+    let alloc = rt.alloc();
+    let disk = disk_of(alloc, &rt, &WATCHED);
+    expect_refusal(alloc, &rt, disk, OpenFault::Damaged);
+}
+
 #[test]
 fn a_watch_is_of_version_2(rt: HostRuntime) {
     let alloc = rt.alloc();
-    let first = File {
-        boards: &[],
-        runs: &[(FIRST_LOG, &WATCH, 1)],
-    };
-    expect_refusal(alloc, &rt, disk_of(alloc, &rt, &first), OpenFault::Damaged);
-    let mut disk = new_session(alloc, &rt).into_disk();
-    leave(&rt, &mut disk, FIRST_LOG, &WATCH);
-    let session = opened(alloc, &rt, disk);
-    assert_eq!(rt; session.bench().seq(), 1);
-    assert_eq!(rt; session.bench().watches(), [Addr::ZERO].as_slice());
+    let session = opened(alloc, &rt, changed(alloc, &rt, FIRST_LOG, &WATCH));
+    let bench = bench_of(&session);
+    assert_eq!(rt; bench.seq(), 1);
+    expect_addresses(&rt, bench.watches(), &[Addr::ZERO]);
 }
 
 /// A snapshot of version 1 of a board with a ROM and that many chains of that many chips, all 0 but TEST.
