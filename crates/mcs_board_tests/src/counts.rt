@@ -1,5 +1,6 @@
 //! Rigs of other counts: one place of each kind, as many as a board can have, and no chain.
 use crate::boards::{largest, one_long_chain, one_mixed_rom};
+use crate::checks::equal;
 use mcs_board::Rig;
 use mcs_cpu4004::{Bus, Cpu, Cycle};
 use mcs_model::board::{Board, BoardFault};
@@ -42,14 +43,14 @@ fn comes_to_the_end<const ROMS: usize, const BANKS: usize, const CHAINS: usize, 
     rig: &mut Rig<ROMS, BANKS, CHAINS, MAX>,
 ) {
     for _ in 0..79 {
-        assert_eq!(rt; rig.lamp(0), Some(Bit::ZERO));
+        equal(rt, rig.lamp(0), Some(Bit::ZERO));
         rig.rom_port(nibble(0));
         rig.rom_port(nibble(1));
     }
-    assert_eq!(rt; rig.lamp(0), Some(Bit::ONE));
+    equal(rt, rig.lamp(0), Some(Bit::ONE));
     rig.rom_port(nibble(0));
     rig.rom_port(nibble(1));
-    assert_eq!(rt; rig.lamp(0), Some(Bit::ZERO));
+    equal(rt, rig.lamp(0), Some(Bit::ZERO));
 }
 
 /// FIM P0 FF, SRC P0, LDM 9, WRM, FIM P0 00, SRC P0, LDM 3, WRR: the last character of bank 0, and a shift.
@@ -57,10 +58,10 @@ fn comes_to_the_end<const ROMS: usize, const BANKS: usize, const CHAINS: usize, 
 fn one_place_of_each_kind(rt: HostRuntime) {
     let program = [0x20, 0xFF, 0x21, 0xD9, 0xE0, 0x20, 0x00, 0x21, 0xD3, 0xE2];
     let (mut rig, cpu) = ran::<1, 1, 1, 80>(rt.alloc(), &rt, one_long_chain(), &program, 10);
-    assert_eq!(rt; cpu.regs().pc.get(), 10);
-    assert_eq!(rt; rig.ram(0, 0xFF), nibble(9));
-    assert_eq!(rt; rig.ram(1, 0xFF), Nibble::ZERO);
-    assert_eq!(rt; rig.chain_bit(0, 0), Bit::ONE);
+    equal(&rt, cpu.regs().pc.get(), 10);
+    equal(&rt, rig.ram(0, 0xFF), nibble(9));
+    equal(&rt, rig.ram(1, 0xFF), Nibble::ZERO);
+    equal(&rt, rig.chain_bit(0, 0), Bit::ONE);
     comes_to_the_end(&rt, &mut rig);
     let larger = largest().expect(&rt, "a board");
     assert!(rt; !Rig::<1, 1, 1, 80>::fits(&larger));
@@ -76,14 +77,14 @@ fn as_many_places_as_a_board_can_have(rt: HostRuntime) {
         0xD7, 0xFD, 0x20, 0xFF, 0x21, 0xD9, 0xE0, 0xE1, 0x20, 0x30, 0x21, 0xD3, 0xE2,
     ];
     let (mut rig, cpu) = ran::<16, 8, 4, 80>(rt.alloc(), &rt, largest(), &program, 13);
-    assert_eq!(rt; cpu.regs().pc.get(), 13);
-    assert_eq!(rt; rig.ram(7, 0xFF), nibble(9));
-    assert_eq!(rt; rig.ram_latch(7, 3), nibble(9));
-    assert_eq!(rt; rig.chain_bit(3, 0), Bit::ONE);
-    assert_eq!(rt; rig.chain_bit(0, 0), Bit::ZERO);
+    equal(&rt, cpu.regs().pc.get(), 13);
+    equal(&rt, rig.ram(7, 0xFF), nibble(9));
+    equal(&rt, rig.ram_latch(7, 3), nibble(9));
+    equal(&rt, rig.chain_bit(3, 0), Bit::ONE);
+    equal(&rt, rig.chain_bit(0, 0), Bit::ZERO);
     comes_to_the_end(&rt, &mut rig);
     rig.set_rom_byte(Addr::ZERO.plus(0xFFF), 0xA5);
-    assert_eq!(rt; rig.fetch(Addr::ZERO.plus(0xFFF)), 0xA5);
+    equal(&rt, rig.fetch(Addr::ZERO.plus(0xFFF)), 0xA5);
 }
 
 /// LDM 15, WRR, RDR, at a port `1i0i`: the latch takes lines 1 and 3, and the port reads its constants.
@@ -91,13 +92,13 @@ fn as_many_places_as_a_board_can_have(rt: HostRuntime) {
 fn no_place_for_a_chain(rt: HostRuntime) {
     let program = [0xDF, 0xE2, 0xEA];
     let (mut rig, cpu) = ran::<1, 0, 0, 0>(rt.alloc(), &rt, one_mixed_rom(), &program, 3);
-    assert_eq!(rt; cpu.regs().acc, nibble(8));
-    assert_eq!(rt; rig.rom_latch(0), nibble(10));
-    assert_eq!(rt; rig.read_port(nibble(0)), nibble(8));
-    assert_eq!(rt; rig.read_port(nibble(1)), Nibble::ZERO);
-    assert_eq!(rt; rig.chain_bit(0, 0), Bit::ZERO);
+    equal(&rt, cpu.regs().acc, nibble(8));
+    equal(&rt, rig.rom_latch(0), nibble(10));
+    equal(&rt, rig.read_port(nibble(0)), nibble(8));
+    equal(&rt, rig.read_port(nibble(1)), Nibble::ZERO);
+    equal(&rt, rig.chain_bit(0, 0), Bit::ZERO);
     rig.reset();
-    assert_eq!(rt; rig.rom_latch(0), Nibble::ZERO);
+    equal(&rt, rig.rom_latch(0), Nibble::ZERO);
     let longer = one_long_chain().expect(&rt, "a board");
     assert!(rt; !Rig::<1, 0, 0, 0>::fits(&longer));
 }

@@ -2,6 +2,7 @@
 //! generator picks.
 ghost use Rattle.std.specs.Prelude.{◌<◌, ◌≤◌};
 
+use crate::checks::equal;
 use mcs_fixtures::numbers::Numbers;
 use mcs_nibble::{Bit, Nibble};
 use mcs_ram4002::{Bank, BankWrite};
@@ -27,12 +28,12 @@ fn two_characters_of_a_byte(rt: HostRuntime) -> Result<(), Fail> {
     bank.set_at(1, four);
     bank.set_status_at(four, 3, Nibble::MAX);
     bank.set_status_at(four, 2, four);
-    assert_eq!(rt; bank.at(0).get(), 15);
-    assert_eq!(rt; bank.at(1).get(), 4);
+    equal(&rt, bank.at(0).get(), 15);
+    equal(&rt, bank.at(1).get(), 4);
     bank.set_status_at(Nibble::ZERO, 2, four);
     bank.set_status_at(Nibble::ZERO, 3, Nibble::MAX);
-    assert_eq!(rt; bank.status_at(Nibble::ZERO, 2).get(), 4);
-    assert_eq!(rt; bank.status_at(Nibble::ZERO, 3).get(), 15);
+    equal(&rt, bank.status_at(Nibble::ZERO, 2).get(), 4);
+    equal(&rt, bank.status_at(Nibble::ZERO, 3).get(), 15);
     assert_eq!(rt;
         bank.status_at(four, 3).get(),
         0,
@@ -51,7 +52,7 @@ fn thirteen_bits(rt: HostRuntime) {
         for i in 0..13 {
             assert_eq!(rt; chain.bit(i), Some(Bit::when(i == at)), "bit {i}");
         }
-        assert_eq!(rt; chain.bit(13), None);
+        equal(&rt, chain.bit(13), None);
     }
 }
 
@@ -173,12 +174,13 @@ fn compare_bank<const CHIPS: usize>(rt: &impl Abort, bank: &Bank<CHIPS>, plain: 
         );
     }
     let src = plain.src;
-    assert_eq!(rt; bank.last_src(), src);
-    assert_eq!(rt; bank.read().get(), plain.main[usize::from(src)]);
+    equal(rt, bank.last_src(), src);
+    equal(rt, bank.read().get(), plain.main[usize::from(src)]);
     for k in 0..4u8 {
-        assert_eq!(rt;
+        equal(
+            rt,
             bank.read_status(k).get(),
-            plain.status[usize::from(src / 16 * 4 + k)]
+            plain.status[usize::from(src / 16 * 4 + k)],
         );
     }
 }
@@ -272,8 +274,8 @@ fn compare_chain<const MAX: usize>(rt: &impl Abort, chain: &Chain<MAX>, plain: &
         assert_eq!(rt; chain.bit(i), Bit::of(plain.list[i]), "bit {i} of {bits}");
         assert_eq!(rt; chain.ten_from(i), plain.ten_from(i), "from {i} of {bits}");
     }
-    assert_eq!(rt; chain.bit(bits), None);
-    assert_eq!(rt; chain.ten_from(bits), 0);
+    equal(rt, chain.bit(bits), None);
+    equal(rt, chain.ten_from(bits), 0);
 }
 
 /// 2,000 calls, a comparison after every five, and a clear before every hundred.

@@ -1,6 +1,7 @@
 //! Worked programs and port writes, by hand from the instruction descriptions of Intel's manual and the rules of the
 //! wiring.
 use crate::boards::one_rom;
+use crate::checks::equal;
 use mcs_board::Rig;
 use mcs_cpu4004::{Bus, Cpu, Cycle};
 use mcs_fixtures::boards::{two_keys, worked};
@@ -46,18 +47,20 @@ fn run(rt: &impl Abort, cpu: &mut Cpu, rig: &mut SmallRig, cycles: u32) {
     }
 }
 
-fn lamps(rig: &SmallRig) -> [Option<Bit>; 4] {
-    [rig.lamp(0), rig.lamp(1), rig.lamp(2), rig.lamp(3)]
+/// Looks at the first four lamps.
+fn expect_lamps(rt: &impl Abort, rig: &SmallRig, wanted: [Option<Bit>; 4]) {
+    let lamps = [rig.lamp(0), rig.lamp(1), rig.lamp(2), rig.lamp(3)];
+    equal(rt, lamps, wanted);
 }
 
 #[test]
 fn an_absent_rom_reads_0_and_keeps_nothing(rt: HostRuntime) {
     let mut rig = wired(rt.alloc(), &rt, one_rom());
-    assert_eq!(rt; rig.fetch(address(0x100)), 0);
+    equal(&rt, rig.fetch(address(0x100)), 0);
     rig.set_rom_byte(address(0x100), 0xD5);
-    assert_eq!(rt; rig.fetch(address(0x100)), 0);
+    equal(&rt, rig.fetch(address(0x100)), 0);
     rig.set_rom_byte(address(0x0FF), 0xD5);
-    assert_eq!(rt; rig.fetch(address(0x0FF)), 0xD5);
+    equal(&rt, rig.fetch(address(0x0FF)), 0xD5);
 }
 
 /// FIM P0 05, SRC P0, LDM 1, DCL, LDM 7, WRM: bank 1 was not designated at the SRC, and its own SRC byte is 0.
@@ -68,28 +71,37 @@ fn each_bank_keeps_its_own_src_byte(rt: HostRuntime) {
     run(&rt, &mut Cpu::new(), &mut rig, 7);
     for src in 0..=255 {
         let want = if src == 0 { 7 } else { 0 };
-        assert_eq!(rt; rig.ram(1, src), nibble(want));
-        assert_eq!(rt; rig.ram(0, src), Nibble::ZERO);
+        equal(&rt, rig.ram(1, src), nibble(want));
+        equal(&rt, rig.ram(0, src), Nibble::ZERO);
     }
 }
 
 #[test]
 fn a_rising_clock_line_shifts_and_a_reset_clears(rt: HostRuntime) {
     let mut rig = wired(rt.alloc(), &rt, worked());
-    let lit = [Some(Bit::ONE), Some(Bit::ZERO), Some(Bit::ZERO), None];
     rig.rom_port(nibble(3));
-    assert_eq!(rt; lamps(&rig), lit);
+    expect_lamps(
+        &rt,
+        &rig,
+        [Some(Bit::ONE), Some(Bit::ZERO), Some(Bit::ZERO), None],
+    );
     rig.rom_port(nibble(3));
-    assert_eq!(rt; lamps(&rig), lit);
+    expect_lamps(
+        &rt,
+        &rig,
+        [Some(Bit::ONE), Some(Bit::ZERO), Some(Bit::ZERO), None],
+    );
     rig.ram_port(0, nibble(8));
-    assert_eq!(rt;
-        lamps(&rig),
-        [Some(Bit::ONE), Some(Bit::ZERO), Some(Bit::ONE), None]
+    expect_lamps(
+        &rt,
+        &rig,
+        [Some(Bit::ONE), Some(Bit::ZERO), Some(Bit::ONE), None],
     );
     rig.reset();
-    assert_eq!(rt;
-        lamps(&rig),
-        [Some(Bit::ZERO), Some(Bit::ZERO), Some(Bit::ZERO), None]
+    expect_lamps(
+        &rt,
+        &rig,
+        [Some(Bit::ZERO), Some(Bit::ZERO), Some(Bit::ZERO), None],
     );
 }
 
@@ -104,17 +116,18 @@ fn keys_of_driven_rows_are_read(rt: HostRuntime) {
     for n in [3, 2, 3] {
         rig.rom_port(nibble(n));
     }
-    assert_eq!(rt;
-        lamps(&rig),
-        [Some(Bit::ONE), Some(Bit::ONE), Some(Bit::ZERO), None]
+    expect_lamps(
+        &rt,
+        &rig,
+        [Some(Bit::ONE), Some(Bit::ONE), Some(Bit::ZERO), None],
     );
     rig.src(0, 0x10);
-    assert_eq!(rt; rig.port_read(), nibble(6));
+    equal(&rt, rig.port_read(), nibble(6));
     assert!(rt; rig.board().has_key(1, 2));
     rig.release(1, 2);
-    assert_eq!(rt; rig.port_read(), nibble(2));
+    equal(&rt, rig.port_read(), nibble(2));
     rig.src(0, 0x20);
-    assert_eq!(rt; rig.port_read(), Nibble::ZERO);
+    equal(&rt, rig.port_read(), Nibble::ZERO);
 }
 
 /// The same as a program: LDM 3, WRR, LDM 2, WRR, LDM 3, WRR, FIM P0 10, SRC P0, RDR, KBP.
@@ -131,11 +144,11 @@ fn a_program_reads_the_keys(rt: HostRuntime) {
     rig.press(1, 2);
     let mut cpu = Cpu::new();
     run(&rt, &mut cpu, &mut rig, 10);
-    assert_eq!(rt; cpu.regs().acc, nibble(6));
-    assert_eq!(rt; cpu.regs().pc, address(0x00A));
+    equal(&rt, cpu.regs().acc, nibble(6));
+    equal(&rt, cpu.regs().pc, address(0x00A));
     run(&rt, &mut cpu, &mut rig, 1);
-    assert_eq!(rt; cpu.regs().acc, nibble(15));
-    assert_eq!(rt; cpu.regs().pc, address(0x00B));
+    equal(&rt, cpu.regs().acc, nibble(15));
+    equal(&rt, cpu.regs().pc, address(0x00B));
 }
 
 /// Lines 0 and 2 are pulled by keys, lines 1 and 3 read the constants 0 and 1.
@@ -144,17 +157,17 @@ fn a_port_of_both_directions_is_read(rt: HostRuntime) {
     let mut rig = wired(rt.alloc(), &rt, two_keys());
     rig.rom_port(nibble(3));
     rig.src(0, 0x10);
-    assert_eq!(rt; rig.port_read(), nibble(8));
+    equal(&rt, rig.port_read(), nibble(8));
     assert!(rt; rig.board().has_key(0, 0));
     rig.press(0, 0);
     assert!(rt; rig.board().has_key(0, 1));
     rig.press(0, 1);
-    assert_eq!(rt; rig.port_read(), nibble(13));
+    equal(&rt, rig.port_read(), nibble(13));
     rig.src(0, 0);
-    assert_eq!(rt; rig.port_read(), Nibble::ZERO);
-    assert_eq!(rt; rig.read_port(nibble(1)), nibble(13));
-    assert_eq!(rt; rig.read_port(nibble(0)), Nibble::ZERO);
-    assert_eq!(rt; rig.read_port(nibble(15)), Nibble::ZERO);
+    equal(&rt, rig.port_read(), Nibble::ZERO);
+    equal(&rt, rig.read_port(nibble(1)), nibble(13));
+    equal(&rt, rig.read_port(nibble(0)), Nibble::ZERO);
+    equal(&rt, rig.read_port(nibble(15)), Nibble::ZERO);
 }
 
 /// Another board keeps the bytes of the ROMs that it has, and nothing else.
@@ -165,12 +178,12 @@ fn another_board_keeps_its_roms_alone(rt: HostRuntime) {
     rig.set_rom_byte(address(0x110), 0x34);
     rig.rom_port(nibble(3));
     wire(&rt, &mut rig, one_rom());
-    assert_eq!(rt; rig.rom_byte(address(0x010)), 0x12);
-    assert_eq!(rt; rig.rom_byte(address(0x110)), 0);
-    assert_eq!(rt; rig.lamp(0), None);
+    equal(&rt, rig.rom_byte(address(0x010)), 0x12);
+    equal(&rt, rig.rom_byte(address(0x110)), 0);
+    equal(&rt, rig.lamp(0), None);
     wire(&rt, &mut rig, worked());
-    assert_eq!(rt; rig.rom_byte(address(0x110)), 0);
-    assert_eq!(rt; rig.lamp(0), Some(Bit::ZERO));
+    equal(&rt, rig.rom_byte(address(0x110)), 0);
+    equal(&rt, rig.lamp(0), Some(Bit::ZERO));
     assert!(rt; rig.board().has_line(Line::Rom(0, 0)));
-    assert_eq!(rt; rig.level(Line::Rom(0, 0)), Bit::ZERO);
+    equal(&rt, rig.level(Line::Rom(0, 0)), Bit::ZERO);
 }

@@ -1,7 +1,8 @@
 //! Texts with their bytes, and texts with their first faults.
-use mcs_asm::{AsmFault, FaultKind, SourceFault, assemble};
+use mcs_asm::{FaultKind, SourceFault, assemble};
 use mcs_nibble::Addr;
 use std::alloc::{AllocError, Global};
+use std::process::Abort;
 use std::test::Fail;
 
 /// A text, and the bytes of its image with their addresses.
@@ -26,39 +27,43 @@ const CODES: [u8; 50] = [
     0xFC, 0xFD,
 ];
 
+/// Whether some pairs of an image are these bytes at these addresses.
+fn are_bytes(pairs: &[(Addr, u8)], bytes: &[(u16, u8)]) -> bool {
+    for (pair, wanted) in pairs.iter().zip(bytes.iter()) {
+        if pair.0.get() != wanted.0 || pair.1 != wanted.1 {
+            return false;
+        }
+    }
+    pairs.len() == bytes.len()
+}
+
 fn spells(alloc: Global, text: &str, bytes: &[(u16, u8)]) -> bool {
     match assemble(alloc, text) {
-        Ok(image) => {
-            let pairs = image.pairs();
-            pairs.len() == bytes.len()
-                && pairs
-                    .iter()
-                    .zip(bytes.iter())
-                    .all(|(p, q)| p.0.get() == q.0 && p.1 == q.1)
-        }
+        Ok(image) => are_bytes(image.pairs(), bytes),
         Err(_) => false,
     }
 }
 
-/// Whether some pairs are the codes of each instruction, from address 0 on.
-fn has_codes(pairs: &[(Addr, u8)]) -> bool {
-    pairs.len() == CODES.len()
-        && (0u16..)
-            .zip(CODES.iter())
-            .zip(pairs.iter())
-            .all(|((at, code), pair)| pair.0.get() == at && pair.1 == *code)
+/// The codes of each instruction with their addresses, from 0 on.
+fn codes_from_zero() -> [(u16, u8); 50] {
+    let mut pairs = [(0, 0); 50];
+    for ((at, code), pair) in (0u16..).zip(CODES.iter()).zip(pairs.iter_mut()) {
+        *pair = (at, *code);
+    }
+    pairs
 }
 
 fn is_refused(alloc: Global, text: &str, line: usize, fault: SourceFault) -> bool {
     match assemble(alloc, text) {
         Ok(_) => false,
-        Err(found) => {
-            found
-                == AsmFault {
-                    line,
-                    kind: FaultKind::Refused(fault),
-                }
-        }
+        Err(found) => found.line == line && found.kind == FaultKind::Refused(fault),
+    }
+}
+
+/// Each text has its first fault.
+fn expect_faults(rt: &impl Abort, alloc: Global, rows: &[FaultRow]) {
+    for (text, line, fault) in rows {
+        assert!(rt; is_refused(alloc, text, *line, *fault), "at {text}");
     }
 }
 
@@ -203,20 +208,15 @@ const FIRST_FAULTS: [FaultRow; 19] = [
 ];
 
 #[test]
-fn the_first_fault_is_told(rt: HostRuntime) -> Result<(), Fail> {
-    for (text, line, fault) in FIRST_FAULTS {
-        assert!(rt; is_refused(rt.alloc(), text, line, fault));
-    }
-    Ok(())
+fn the_first_fault_is_told(rt: HostRuntime) {
+    expect_faults(&rt, rt.alloc(), &FIRST_FAULTS);
 }
 
 #[test]
-fn each_instruction_is_read_in_either_case(rt: HostRuntime) -> Result<(), Fail> {
+fn each_instruction_is_read_in_either_case(rt: HostRuntime) {
     for text in [UPPER_CASE, LOWER_CASE] {
-        let image = assemble(rt.alloc(), text).ok();
-        assert!(rt; image.is_some_and(|image| has_codes(image.pairs())));
+        assert!(rt; spells(rt.alloc(), text, &codes_from_zero()));
     }
-    Ok(())
 }
 
 /// Texts in which a line, or several, have more than one fault.
@@ -236,11 +236,8 @@ const SEVERAL_FAULTS: [FaultRow; 8] = [
 ];
 
 #[test]
-fn a_line_has_the_first_of_its_faults(rt: HostRuntime) -> Result<(), Fail> {
-    for (text, line, fault) in SEVERAL_FAULTS {
-        assert!(rt; is_refused(rt.alloc(), text, line, fault));
-    }
-    Ok(())
+fn a_line_has_the_first_of_its_faults(rt: HostRuntime) {
+    expect_faults(&rt, rt.alloc(), &SEVERAL_FAULTS);
 }
 
 /// Values, labels and bytes outside their ranges.
@@ -259,11 +256,8 @@ const OUTSIDE_RANGES: [FaultRow; 11] = [
 ];
 
 #[test]
-fn values_are_in_their_ranges(rt: HostRuntime) -> Result<(), Fail> {
-    for (text, line, fault) in OUTSIDE_RANGES {
-        assert!(rt; is_refused(rt.alloc(), text, line, fault));
-    }
-    Ok(())
+fn values_are_in_their_ranges(rt: HostRuntime) {
+    expect_faults(&rt, rt.alloc(), &OUTSIDE_RANGES);
 }
 
 /// Lines that have no form.
@@ -326,22 +320,33 @@ fn names_and(alloc: Global, count: u32, last: &str) -> Result<String, AllocError
     Ok(text)
 }
 
+/// Last lines behind the definitions of 512 names, and their faults.
+const LAST_LINES: [FaultRow; 4] = [
+    ("n0 = 0", 513, SourceFault::DoubleName),
+    ("x = 4096", 513, SourceFault::OutOfRange),
+    ("ORG 0xFFF\nNOP\nx:", 515, SourceFault::TooManyNames),
+    ("LDM n512", 513, SourceFault::UnknownName),
+];
+
 #[test]
 fn a_513th_name_is_refused(rt: HostRuntime) -> Result<(), Fail> {
-    let alloc = rt.alloc();
-    let text = names_and(alloc, 513, "")?;
-    assert!(rt; is_refused(alloc, &text, 513, SourceFault::TooManyNames));
-    let text = names_and(alloc, 512, "LDM n511")?;
-    assert!(rt; spells(alloc, &text, &[(0, 0xD0)]));
-    let rows: [FaultRow; 4] = [
-        ("n0 = 0", 513, SourceFault::DoubleName),
-        ("x = 4096", 513, SourceFault::OutOfRange),
-        ("ORG 0xFFF\nNOP\nx:", 515, SourceFault::TooManyNames),
-        ("LDM n512", 513, SourceFault::UnknownName),
-    ];
-    for (last, line, fault) in rows {
-        let text = names_and(alloc, 512, last)?;
-        assert!(rt; is_refused(alloc, &text, line, fault));
+    let text = names_and(rt.alloc(), 513, "")?;
+    assert!(rt; is_refused(rt.alloc(), &text, 513, SourceFault::TooManyNames));
+    Ok(())
+}
+
+#[test]
+fn there_may_be_512_names(rt: HostRuntime) -> Result<(), Fail> {
+    let text = names_and(rt.alloc(), 512, "LDM n511")?;
+    assert!(rt; spells(rt.alloc(), &text, &[(0, 0xD0)]));
+    Ok(())
+}
+
+#[test]
+fn faults_behind_512_names(rt: HostRuntime) -> Result<(), Fail> {
+    for (last, line, fault) in LAST_LINES {
+        let text = names_and(rt.alloc(), 512, last)?;
+        assert!(rt; is_refused(rt.alloc(), &text, line, fault));
     }
     Ok(())
 }

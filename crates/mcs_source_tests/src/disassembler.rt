@@ -1,10 +1,12 @@
 //! Words with their texts, listings and sources.
 use mcs_dis::{line_of, listing, source};
 use mcs_nibble::Addr;
+use std::alloc::Global;
+use std::process::Abort;
 use std::test::Fail;
 
 /// An address, two words and the text that they have there.
-type TextRow = (u16, u8, Option<u8>, &'static str);
+type TextRow<'a> = (u16, u8, Option<u8>, &'a str);
 
 /// Each instruction once, in the order of the code table.
 const CODES: [u8; 50] = [
@@ -23,51 +25,101 @@ const OUTSIDE: [u8; 18] = [
     1, 2, 3, 4, 5, 6, 7, 8, 9, 10, 11, 12, 13, 14, 15, 0xE3, 0xFE, 0xFF,
 ];
 
+/// A jump, and an instruction and two bytes of data at its target.
+const JUMP_AND_DATA: [(usize, u8); 4] = [(0, 0x41), (0x100, 0xD5), (0x101, 1), (0x102, 0xFF)];
+
+/// An instruction of two words on both sides of a page's end, and the first word of one at the last address.
+const JUMP_AT_A_PAGE: [(usize, u8); 4] = [(0xFE, 0xE0), (0xFF, 0x14), (0x100, 0x10), (0xFFF, 0x7F)];
+
+/// A ROM with these bytes, and 0 elsewhere.
+fn holding(rt: &impl Abort, bytes: &[(usize, u8)]) -> [u8; 4096] {
+    let mut rom = [0; 4096];
+    for (at, byte) in bytes {
+        assert!(rt; *at < 4096);
+        rom[*at] = *byte;
+    }
+    rom
+}
+
+fn address(at: u16) -> Addr {
+    Addr::of(at).unwrap_or(Addr::ZERO)
+}
+
+/// A ROM's lines from there on are these, that many.
+fn expect_listing(
+    rt: &impl Abort,
+    alloc: Global,
+    rom: &[u8; 4096],
+    (from, lines): (u16, usize),
+    wanted: &str,
+) -> Result<(), Fail> {
+    let found = listing(alloc, rom, address(from), lines)?;
+    assert_eq!(rt; found.as_str(), wanted);
+    Ok(())
+}
+
+/// A ROM has this source from the one address up to the other.
+fn expect_source(
+    rt: &impl Abort,
+    alloc: Global,
+    rom: &[u8; 4096],
+    (from, to): (u16, u16),
+    wanted: &str,
+) -> Result<(), Fail> {
+    let from = address(from);
+    assert!(rt; from.get() < to && to <= 4096);
+    let found = source(alloc, rom, from, to)?;
+    assert_eq!(rt; found.as_str(), wanted);
+    Ok(())
+}
+
+/// An instruction has this text.
+fn expect_line(rt: &impl Abort, alloc: Global, row: TextRow<'_>) -> Result<(), Fail> {
+    let (at, first, second, text) = row;
+    let line = line_of(alloc, address(at), first, second)?;
+    assert_eq!(rt; line.as_str(), text);
+    Ok(())
+}
+
+/// Instructions with their texts.
+const INSTRUCTIONS: [TextRow<'static>; 10] = [
+    (0x0FE, 0x14, Some(0x10), "JCN 4, 0x110"),
+    (0x0FD, 0x14, Some(0x10), "JCN 4, 0x010"),
+    (0, 0x22, Some(0x20), "FIM P1, 0x20"),
+    (0x002, 0x75, Some(0x10), "ISZ R5, 0x010"),
+    (0, 0x21, None, "SRC P0"),
+    (0, 0xC5, Some(0), "BBL 5"),
+    (0, 0xE0, None, "WRM"),
+    (0, 0xE3, Some(0), "DB 0xE3"),
+    (0xFFF, 0x41, None, "DB 0x41"),
+    (0xFFE, 0x1A, Some(0xBC), "JCN 10, 0x0BC"),
+];
+
 #[test]
 fn instructions_have_their_texts(rt: HostRuntime) -> Result<(), Fail> {
-    let rows: [TextRow; 10] = [
-        (0x0FE, 0x14, Some(0x10), "JCN 4, 0x110"),
-        (0x0FD, 0x14, Some(0x10), "JCN 4, 0x010"),
-        (0, 0x22, Some(0x20), "FIM P1, 0x20"),
-        (0x002, 0x75, Some(0x10), "ISZ R5, 0x010"),
-        (0, 0x21, None, "SRC P0"),
-        (0, 0xC5, Some(0), "BBL 5"),
-        (0, 0xE0, None, "WRM"),
-        (0, 0xE3, Some(0), "DB 0xE3"),
-        (0xFFF, 0x41, None, "DB 0x41"),
-        (0xFFE, 0x1A, Some(0xBC), "JCN 10, 0x0BC"),
-    ];
-    for (at, first, second, text) in rows {
-        let line = line_of(
-            rt.alloc(),
-            Addr::of(at).unwrap_or(Addr::ZERO),
-            first,
-            second,
-        )?;
-        assert!(rt; line.as_str() == text);
+    for row in INSTRUCTIONS {
+        expect_line(&rt, rt.alloc(), row)?;
     }
     Ok(())
 }
 
 #[test]
-fn a_rom_is_listed_and_has_a_source(rt: HostRuntime) -> Result<(), Fail> {
-    let mut rom = [0u8; 4096];
-    rom[0] = 0x41;
-    rom[0x100] = 0xD5;
-    rom[0x101] = 1;
-    rom[0x102] = 0xFF;
-    let at = Addr::on_page(mcs_nibble::Nibble::ONE, 0);
-    assert!(rt; listing(rt.alloc(), &rom, Addr::ZERO, 1)?.as_str() == "000 41 00 JUN 0x100\n");
-    assert!(rt;
-        listing(rt.alloc(), &rom, at, 3)?.as_str()
-            == "100 D5    LDM 5\n101 01    DB 0x01\n102 FF    DB 0xFF\n"
-    );
-    assert!(rt; listing(rt.alloc(), &rom, Addr::MAX, 5)?.as_str() == "FFF 00    NOP\n");
-    assert!(rt;
-        source(rt.alloc(), &rom, at, 0x103)?.as_str() == "ORG 0x100\nLDM 5\nDB 0x01\nDB 0xFF\n"
-    );
-    assert!(rt; source(rt.alloc(), &rom, Addr::ZERO, 1)?.as_str() == "ORG 0x000\nDB 0x41\n");
-    Ok(())
+fn a_rom_is_listed(rt: HostRuntime) -> Result<(), Fail> {
+    let rom = holding(&rt, &JUMP_AND_DATA);
+    let alloc = rt.alloc();
+    expect_listing(&rt, alloc, &rom, (0, 1), "000 41 00 JUN 0x100\n")?;
+    let lines = "100 D5    LDM 5\n101 01    DB 0x01\n102 FF    DB 0xFF\n";
+    expect_listing(&rt, alloc, &rom, (0x100, 3), lines)?;
+    expect_listing(&rt, alloc, &rom, (0xFFF, 5), "FFF 00    NOP\n")
+}
+
+#[test]
+fn a_rom_has_a_source(rt: HostRuntime) -> Result<(), Fail> {
+    let rom = holding(&rt, &JUMP_AND_DATA);
+    let alloc = rt.alloc();
+    let lines = "ORG 0x100\nLDM 5\nDB 0x01\nDB 0xFF\n";
+    expect_source(&rt, alloc, &rom, (0x100, 0x103), lines)?;
+    expect_source(&rt, alloc, &rom, (0, 1), "ORG 0x000\nDB 0x41\n")
 }
 
 #[test]
@@ -76,34 +128,31 @@ fn each_instruction_has_its_text(rt: HostRuntime) -> Result<(), Fail> {
     for (to, from) in rom.iter_mut().zip(CODES.iter()) {
         *to = *from;
     }
-    assert!(rt; source(rt.alloc(), &rom, Addr::ZERO, 50)?.as_str() == TEXTS);
-    Ok(())
+    expect_source(&rt, rt.alloc(), &rom, (0, 50), TEXTS)
 }
 
 #[test]
 fn codes_outside_are_bytes(rt: HostRuntime) -> Result<(), Fail> {
     for code in OUTSIDE {
-        let line = line_of(rt.alloc(), Addr::ZERO, code, Some(0))?;
         let wanted = format!(in rt.alloc(); "DB 0x{code:02X}")?;
-        assert!(rt; line == wanted);
+        expect_line(&rt, rt.alloc(), (0, code, Some(0), wanted.as_str()))?;
     }
     Ok(())
 }
 
 #[test]
 fn a_listing_goes_on_behind_a_page(rt: HostRuntime) -> Result<(), Fail> {
-    let mut rom = [0u8; 4096];
-    rom[0xFE] = 0xE0;
-    rom[0xFF] = 0x14;
-    rom[0x100] = 0x10;
-    rom[0xFFF] = 0x7F;
-    let at = Addr::of(0xFE).unwrap_or(Addr::ZERO);
-    assert!(rt;
-        listing(rt.alloc(), &rom, at, 3)?.as_str()
-            == "0FE E0    WRM\n0FF 14 10 JCN 4, 0x110\n101 00    NOP\n"
-    );
-    assert!(rt; listing(rt.alloc(), &rom, at, 0)?.as_str() == "");
-    assert!(rt; listing(rt.alloc(), &rom, Addr::MAX, 2)?.as_str() == "FFF 7F    DB 0x7F\n");
-    assert!(rt; source(rt.alloc(), &rom, at, 0x100)?.as_str() == "ORG 0x0FE\nWRM\nDB 0x14\n");
-    Ok(())
+    let rom = holding(&rt, &JUMP_AT_A_PAGE);
+    let alloc = rt.alloc();
+    let lines = "0FE E0    WRM\n0FF 14 10 JCN 4, 0x110\n101 00    NOP\n";
+    expect_listing(&rt, alloc, &rom, (0xFE, 3), lines)?;
+    expect_listing(&rt, alloc, &rom, (0xFE, 0), "")?;
+    expect_listing(&rt, alloc, &rom, (0xFFF, 2), "FFF 7F    DB 0x7F\n")
+}
+
+#[test]
+fn a_source_ends_at_a_page(rt: HostRuntime) -> Result<(), Fail> {
+    let rom = holding(&rt, &JUMP_AT_A_PAGE);
+    let lines = "ORG 0x0FE\nWRM\nDB 0x14\n";
+    expect_source(&rt, rt.alloc(), &rom, (0xFE, 0x100), lines)
 }
