@@ -1,4 +1,5 @@
 //! The calls of the page: sessions over several calls, refused files, buffers that are too short.
+use crate::checks::equal;
 use crate::files::{
     answers, copy, expect_answers, file_of_version_1, new_file, put, served, settled,
 };
@@ -70,8 +71,8 @@ fn commit_byte(file: &[u8]) -> Option<u8> {
 
 /// Settles a file, and serves an input on it then with these answers.
 fn expect_settled(alloc: Global, rt: &impl Abort, file: &mut [u8], row: (&[u8], &[u8])) {
-    assert_eq!(rt; settled(alloc, file), Ok(()));
-    assert_eq!(rt; commit_byte(file), Some(0));
+    equal(rt, settled(alloc, file), Ok(()));
+    equal(rt, commit_byte(file), Some(0));
     expect_answers(alloc, rt, file, row);
 }
 
@@ -80,7 +81,7 @@ fn a_settled_file_has_no_records(rt: HostRuntime) {
     let alloc = rt.alloc();
     let mut file = new_file(alloc, &rt);
     expect_answers(alloc, &rt, file.as_mut_slice(), (FIRST, FIRST_ANSWERS));
-    assert_eq!(rt; commit_byte(file.as_slice()), Some(1));
+    equal(&rt, commit_byte(file.as_slice()), Some(1));
     // and again, in the other slot
     let third: (&[u8], &[u8]) = (b"step\nseq\n", b"session 4\nok 5 ran 2 end\nseq 5\n");
     for row in [(SECOND, SECOND_ANSWERS), third] {
@@ -95,7 +96,7 @@ const CARRIED_OVER: &[u8] =
 /// The file holds a snapshot of version 2 in the slot that its selector names, and tells the registers.
 fn expect_carried_over(alloc: Global, rt: &impl Abort, file: &mut [u8]) {
     let at = if file.get(8) == Some(&0) { 24 } else { 81_944 };
-    assert_eq!(rt; file.get(at), Some(&2));
+    equal(rt, file.get(at), Some(&2));
     expect_answers(alloc, rt, file, (b"regs\n", CARRIED_OVER));
 }
 
@@ -111,7 +112,7 @@ fn a_file_of_version_1_is_carried_over(rt: HostRuntime) {
 fn a_settled_file_of_version_1_is_carried_over(rt: HostRuntime) {
     let alloc = rt.alloc();
     let mut file = file_of_version_1(alloc, &rt);
-    assert_eq!(rt; settled(alloc, file.as_mut_slice()), Ok(()));
+    equal(&rt, settled(alloc, file.as_mut_slice()), Ok(()));
     expect_carried_over(alloc, &rt, file.as_mut_slice());
 }
 
@@ -119,8 +120,8 @@ fn a_settled_file_of_version_1_is_carried_over(rt: HostRuntime) {
 fn expect_refused(alloc: Global, rt: &impl Abort, file: &[u8], fault: OpenFault) {
     let mut kept = copy(alloc, rt, file);
     let why = answers(alloc, rt, kept.as_mut_slice(), SECOND).err();
-    assert_eq!(rt; why, Some(NotServed::Refused(fault)));
-    assert_eq!(rt; settled(alloc, kept.as_mut_slice()), Err(fault));
+    equal(rt, why, Some(NotServed::Refused(fault)));
+    equal(rt, settled(alloc, kept.as_mut_slice()), Err(fault));
     assert!(rt; kept.as_slice() == file);
 }
 
@@ -171,8 +172,8 @@ fn expect_no_room(alloc: Global, rt: &impl Abort, file: &mut [u8], room: usize) 
         panic!(rt; "a short buffer");
     };
     let why = served(alloc, file, FIRST, short).err();
-    assert_eq!(rt; why, Some(NotServed::NoRoom(FIRST_ANSWERS.len())));
-    assert_eq!(rt; buffer, [b'#'; 128]);
+    equal(rt, why, Some(NotServed::NoRoom(FIRST_ANSWERS.len())));
+    equal(rt, buffer, [b'#'; 128]);
 }
 
 /// The answers to the first input stand at the front of a buffer.
@@ -182,9 +183,9 @@ fn expect_room(alloc: Global, rt: &impl Abort, file: &mut [u8]) {
     let Ok(served) = served(alloc, file, FIRST, &mut buffer) else {
         panic!(rt; "not served");
     };
-    assert_eq!(rt; served.count, count);
-    assert_eq!(rt; buffer.get(..count), Some(FIRST_ANSWERS));
-    assert_eq!(rt; buffer.get(count), Some(&b'#'));
+    equal(rt, served.count, count);
+    equal(rt, buffer.get(..count), Some(FIRST_ANSWERS));
+    equal(rt, buffer.get(count), Some(&b'#'));
 }
 
 #[test]

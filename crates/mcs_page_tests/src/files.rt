@@ -1,4 +1,5 @@
 //! Session files as a page keeps them, and what is asked of them.
+use crate::checks::equal;
 use mcs_journal::{FILE_SIZE, OpenFault};
 use mcs_page::fault::NotServed;
 use mcs_page::page::{Served, begin, serve, settle};
@@ -66,7 +67,7 @@ pub(crate) fn answers(
 ) -> Result<Vec<u8>, NotServed> {
     let mut buffer = vec![in alloc; 0u8; 65_536].expect(rt, "memory");
     let served = served(alloc, file, input, buffer.as_mut_slice())?;
-    assert_eq!(rt; served.end, ShellEnd::End);
+    equal(rt, served.end, ShellEnd::End);
     buffer.truncate(served.count);
     Ok(buffer)
 }
@@ -79,7 +80,7 @@ pub(crate) fn expect_answers(
     (input, wanted): (&[u8], &[u8]),
 ) {
     match answers(alloc, rt, file, input) {
-        Ok(told) => assert_eq!(rt; told.as_slice(), wanted),
+        Ok(told) => equal(rt, told.as_slice(), wanted),
         Err(_) => panic!(rt; "not served"),
     }
 }

@@ -1,4 +1,5 @@
 //! What the tests do with disks and sessions.
+use crate::checks::equal;
 use mcs_bench::Bench;
 use mcs_disk::{Disk, FuseDisk, MemDisk};
 use mcs_journal::{CreateFault, FILE_SIZE, OpenFault};
@@ -92,13 +93,13 @@ pub(crate) fn changed(alloc: Global, rt: &impl Abort, at: usize, bytes: &[u8]) -
 
 /// The disk holds a session that has accepted that many commands.
 pub(crate) fn expect_seq<D: Disk + Drop>(alloc: Global, rt: &impl Abort, disk: D, seq: u32) {
-    assert_eq!(rt; bench_of(&opened(alloc, rt, disk)).seq(), seq);
+    equal(rt, bench_of(&opened(alloc, rt, disk)).seq(), seq);
 }
 
 /// The bench has accepted that many commands, and its program counter stands there.
 pub(crate) fn expect_counter(rt: &impl Abort, bench: &Bench, seq: u32, counter: u16) {
-    assert_eq!(rt; bench.seq(), seq);
-    assert_eq!(rt; bench.regs().pc.get(), counter);
+    equal(rt, bench.seq(), seq);
+    equal(rt, bench.regs().pc.get(), counter);
 }
 
 /// The disk holds a session that has accepted that many commands, with this value in this register.
@@ -111,9 +112,9 @@ pub(crate) fn expect_register<D: Disk + Drop>(
 ) {
     let session = opened(alloc, rt, disk);
     let bench = bench_of(&session);
-    assert_eq!(rt; bench.seq(), seq);
+    equal(rt, bench.seq(), seq);
     assert!(rt; register < 16);
-    assert_eq!(rt; bench.regs().r[register].get(), value);
+    equal(rt, bench.regs().r[register].get(), value);
 }
 
 /// The session on this disk is refused.
@@ -125,7 +126,7 @@ pub(crate) fn expect_refusal<D: Disk + Drop>(
 ) {
     match open(alloc, disk) {
         Ok(_) => panic!(rt; "the disk was taken"),
-        Err((fault, _)) => assert_eq!(rt; fault, want),
+        Err((fault, _)) => equal(rt, fault, want),
     }
 }
 
@@ -144,7 +145,7 @@ pub(crate) fn expect_fault<D: Disk + Drop>(
     command: &Command,
     fault: SessionFault,
 ) {
-    assert_eq!(rt; answer(session, command), Err(fault));
+    equal(rt, answer(session, command), Err(fault));
 }
 
 /// The command is acknowledged with this reply.
@@ -154,7 +155,7 @@ pub(crate) fn expect_reply<D: Disk + Drop>(
     command: &Command,
     reply: Reply,
 ) {
-    assert_eq!(rt; answer(session, command), Ok(reply));
+    equal(rt, answer(session, command), Ok(reply));
 }
 
 /// The command is acknowledged, and has nothing to tell.

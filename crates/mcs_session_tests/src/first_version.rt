@@ -1,4 +1,5 @@
 //! Sessions of version 1: the first opening carries them over.
+use crate::checks::equal;
 use crate::desk::{
     bench_of, changed, done, expect_bytes, expect_places, expect_refusal, expect_register,
     expect_reply, expect_seq, leave, left, mended, open, opened, poke, run,
@@ -36,20 +37,20 @@ struct Told {
 }
 
 fn expect_processor(rt: &impl Abort, regs: &Regs, want: (u8, u8, u16, u8)) {
-    assert_eq!(rt; regs.acc.get(), want.0);
-    assert_eq!(rt; regs.cy.get(), want.1);
-    assert_eq!(rt; regs.pc.get(), want.2);
-    assert_eq!(rt; regs.owed, want.3);
+    equal(rt, regs.acc.get(), want.0);
+    equal(rt, regs.cy.get(), want.1);
+    equal(rt, regs.pc.get(), want.2);
+    equal(rt, regs.owed, want.3);
 }
 
 fn expect_registers(rt: &impl Abort, found: &[Nibble; 16], want: &[u8; 16]) {
     for i in 0..16 {
-        assert_eq!(rt; found[i].get(), want[i]);
+        equal(rt, found[i].get(), want[i]);
     }
 }
 
 fn expect_told(rt: &impl Abort, bench: &Bench, want: &Told) {
-    assert_eq!(rt; bench.seq(), want.seq);
+    equal(rt, bench.seq(), want.seq);
     let regs = bench.regs();
     expect_processor(rt, &regs, want.processor);
     expect_registers(rt, &regs.r, &want.registers);
@@ -64,9 +65,9 @@ fn expect_addresses(rt: &impl Abort, found: &[Addr], want: &[Addr]) {
 /// Lamps of the worked board.
 fn expect_lamps(rt: &impl Abort, bench: &Bench, want: [Bit; 3]) {
     for (i, level) in want.iter().enumerate() {
-        assert_eq!(rt; bench.lamp(i), Some(*level));
+        equal(rt, bench.lamp(i), Some(*level));
     }
-    assert_eq!(rt; bench.lamp(3), None);
+    equal(rt, bench.lamp(3), None);
 }
 
 /// The session that this disk holds, of whose bench that is told.
@@ -189,7 +190,7 @@ fn breakpoints(rt: HostRuntime) {
         stop: Stop::Outside,
     };
     expect_reply(&rt, &mut session, &Command::Step, stopped);
-    assert_eq!(rt; bench_of(&session).seq(), 8);
+    equal(&rt, bench_of(&session).seq(), 8);
 }
 
 #[test]
@@ -225,7 +226,7 @@ fn a_log_of_many_cycles(rt: HostRuntime) {
     };
     expect_reply(&rt, &mut session, &Command::Step, stepped);
     run(&rt, &mut session, 1);
-    assert_eq!(rt; bench_of(&session).regs().pc.get(), 0x901);
+    equal(&rt, bench_of(&session).regs().pc.get(), 0x901);
     let mut disk = left(session);
     expect_bytes(&rt, &mut disk, 8, &[1]);
     expect_bytes(
@@ -240,10 +241,10 @@ fn a_log_of_many_cycles(rt: HostRuntime) {
 /// A breakpoint, the TEST pin, the addresses that SRC sent, and a character of RAM.
 fn expect_all_places(rt: &impl Abort, bench: &Bench) {
     expect_addresses(rt, bench.breaks(), &[Addr::ZERO.plus(0x200)]);
-    assert_eq!(rt; bench.test(), Bit::ZERO);
-    assert_eq!(rt; bench.rom_src(), 0x10);
-    assert_eq!(rt; bench.ram_src(0), 0x10);
-    assert_eq!(rt; bench.ram(0, 0x10).get(), 15);
+    equal(rt, bench.test(), Bit::ZERO);
+    equal(rt, bench.rom_src(), 0x10);
+    equal(rt, bench.ram_src(0), 0x10);
+    equal(rt, bench.ram(0, 0x10).get(), 15);
 }
 
 #[test]
@@ -281,7 +282,7 @@ fn stopped(alloc: Global, rt: &impl Abort, calls: usize) -> Option<FuseDisk> {
     match open(alloc, disk) {
         Ok(_) => None,
         Err((fault, disk)) => {
-            assert_eq!(rt; fault, OpenFault::Device);
+            equal(rt, fault, OpenFault::Device);
             Some(mended(disk))
         }
     }
@@ -364,7 +365,7 @@ fn a_watch_is_of_version_2(rt: HostRuntime) {
     let alloc = rt.alloc();
     let session = opened(alloc, &rt, changed(alloc, &rt, FIRST_LOG, &WATCH));
     let bench = bench_of(&session);
-    assert_eq!(rt; bench.seq(), 1);
+    equal(&rt, bench.seq(), 1);
     expect_addresses(&rt, bench.watches(), &[Addr::ZERO]);
 }
 

@@ -1,3 +1,4 @@
+use crate::checks::equal;
 use crate::desk::{
     bench_of, changed, create, done, expect_bytes, expect_counter, expect_fault, expect_places,
     expect_refusal, expect_register, expect_reply, expect_seq, fused, leave, left, load, made,
@@ -101,7 +102,7 @@ fn fill_cycles(rt: &impl Abort, session: &mut Session<MemDisk>) {
         run(rt, session, 100_000);
     }
     run(rt, session, 99_999);
-    assert_eq!(rt; bench_of(session).seq(), 40);
+    equal(rt, bench_of(session).seq(), 40);
 }
 
 /// A step of one cycle.
@@ -247,7 +248,7 @@ fn no_session_is_made_over_another(rt: HostRuntime) {
     match create(alloc, left(new_session(alloc, &rt))) {
         Ok(_) => panic!(rt; "a session was made over another"),
         Err((fault, disk)) => {
-            assert_eq!(rt; fault, CreateFault::NotBlank);
+            equal(&rt, fault, CreateFault::NotBlank);
             expect_seq(alloc, &rt, disk, 0);
         }
     }
@@ -257,7 +258,7 @@ fn no_session_is_made_over_another(rt: HostRuntime) {
 fn a_worn_session_refuses_each_command(rt: HostRuntime) {
     let alloc = rt.alloc();
     let mut session = opened(alloc, &rt, changed(alloc, &rt, 20, &[0xFF; 4]));
-    assert_eq!(rt; bench_of(&session).seq(), 4_294_967_295);
+    equal(&rt, bench_of(&session).seq(), 4_294_967_295);
     let worn = SessionFault::Refused(BenchFault::Worn);
     expect_fault(&rt, &mut session, &Command::Reset, worn);
     assert!(rt; session.is_open());
@@ -269,7 +270,7 @@ fn expect_close(rt: &impl Abort, session: &mut Session<FuseDisk>) {
     expect_fault(rt, session, &command, SessionFault::Device);
     assert!(rt; !session.is_open());
     expect_fault(rt, session, &command, SessionFault::Closed);
-    assert_eq!(rt; bench_of(session).seq(), 0);
+    equal(rt, bench_of(session).seq(), 0);
 }
 
 #[test]
@@ -303,28 +304,28 @@ fn halfway(alloc: Global, rt: &impl Abort) -> Session<FuseDisk> {
 
 /// Two benches on the worked board have the same processor, and the same that stops a run.
 fn expect_same_processor(rt: &impl Abort, one: &Bench, other: &Bench) {
-    assert_eq!(rt; one.seq(), other.seq());
-    assert_eq!(rt; one.regs(), other.regs());
-    assert_eq!(rt; one.test(), other.test());
-    assert_eq!(rt; one.breaks(), other.breaks());
-    assert_eq!(rt; one.watches(), other.watches());
+    equal(rt, one.seq(), other.seq());
+    equal(rt, one.regs(), other.regs());
+    equal(rt, one.test(), other.test());
+    equal(rt, one.breaks(), other.breaks());
+    equal(rt, one.watches(), other.watches());
 }
 
 /// The same board, the same bytes in its ROMs, and the same at their ports.
 fn expect_same_roms(alloc: Global, rt: &impl Abort, one: &Bench, other: &Bench) {
     assert!(rt; is_same(one.board(), other.board()));
-    assert_eq!(rt; one.rom_src(), other.rom_src());
+    equal(rt, one.rom_src(), other.rom_src());
     for chip in 0..16 {
-        assert_eq!(rt; one.rom_port(chip), other.rom_port(chip));
+        equal(rt, one.rom_port(chip), other.rom_port(chip));
         let chip = Nibble::low_of(chip);
-        assert_eq!(rt; one.read_port(chip), other.read_port(chip));
+        equal(rt, one.read_port(chip), other.read_port(chip));
     }
     let rom = one.rom(alloc).expect(rt, "memory");
     assert!(rt; rom.as_slice() == other.rom(alloc).expect(rt, "memory").as_slice());
     let mut at = Addr::ZERO;
     for byte in rom.iter() {
-        assert_eq!(rt; one.rom_byte(at), *byte);
-        assert_eq!(rt; other.rom_byte(at), *byte);
+        equal(rt, one.rom_byte(at), *byte);
+        equal(rt, other.rom_byte(at), *byte);
         at = at.plus(1);
     }
 }
@@ -332,18 +333,18 @@ fn expect_same_roms(alloc: Global, rt: &impl Abort, one: &Bench, other: &Bench) 
 /// The same in RAM.
 fn expect_same_ram(rt: &impl Abort, one: &Bench, other: &Bench) {
     for bank in 0..8 {
-        assert_eq!(rt; one.ram_src(bank), other.ram_src(bank));
+        equal(rt, one.ram_src(bank), other.ram_src(bank));
         for src in 0..=255 {
-            assert_eq!(rt; one.ram(bank, src), other.ram(bank, src));
+            equal(rt, one.ram(bank, src), other.ram(bank, src));
         }
         for high in 0..16 {
             let high = Nibble::low_of(high);
             for k in 0..4 {
-                assert_eq!(rt; one.status(bank, high, k), other.status(bank, high, k));
+                equal(rt, one.status(bank, high, k), other.status(bank, high, k));
             }
         }
         for chip in 0..4 {
-            assert_eq!(rt; one.ram_port(bank, chip), other.ram_port(bank, chip));
+            equal(rt, one.ram_port(bank, chip), other.ram_port(bank, chip));
         }
     }
 }
@@ -351,16 +352,16 @@ fn expect_same_ram(rt: &impl Abort, one: &Bench, other: &Bench) {
 /// The same chain, keys and lamps.
 fn expect_same_panel(rt: &impl Abort, one: &Bench, other: &Bench) {
     for bit in 0..10 {
-        assert_eq!(rt; one.chain_bit(0, bit), other.chain_bit(0, bit));
+        equal(rt, one.chain_bit(0, bit), other.chain_bit(0, bit));
     }
     for row in 0..10 {
         for column in 0..8 {
             assert!(rt; one.board().has_key(row, column) && other.board().has_key(row, column));
-            assert_eq!(rt; one.key(row, column), other.key(row, column));
+            equal(rt, one.key(row, column), other.key(row, column));
         }
     }
     for lamp in 0..4 {
-        assert_eq!(rt; one.lamp(lamp), other.lamp(lamp));
+        equal(rt, one.lamp(lamp), other.lamp(lamp));
     }
 }
 
@@ -389,10 +390,10 @@ fn state_of(alloc: Global, rt: &impl Abort, bytes: &[u8]) -> Bench {
 
 /// The jump is begun, and a key is down.
 fn expect_halfway(rt: &impl Abort, bench: &Bench) {
-    assert_eq!(rt; bench.regs().owed, 1);
-    assert_eq!(rt; bench.regs().pc.get(), 0x123);
+    equal(rt, bench.regs().owed, 1);
+    equal(rt, bench.regs().pc.get(), 0x123);
     assert!(rt; bench.board().has_key(9, 7));
-    assert_eq!(rt; bench.key(9, 7), Bit::ONE);
+    equal(rt, bench.key(9, 7), Bit::ONE);
 }
 
 #[test]
