@@ -44,6 +44,15 @@ fn each_place_has_a_number(rt: HostRuntime) {
 }
 
 #[test]
+fn a_new_state_has_empty_lists(rt: HostRuntime) {
+    let flat = new_state(rt.alloc(), &rt);
+    assert!(rt; flat.breakpoints.is_empty());
+    assert!(rt; flat.watches.is_empty());
+    assert!(rt; flat.chains.is_empty());
+    assert!(rt; flat.keys.is_empty());
+}
+
+#[test]
 fn a_worn_bench_refuses_each_command(rt: HostRuntime) {
     let mut flat = new_state(rt.alloc(), &rt);
     flat.seq = 4_294_967_295;

@@ -40,7 +40,7 @@ fn past_changes(alloc: Global, rt: &impl Abort) -> Bench {
 }
 
 #[test]
-fn a_run_stops_behind_a_change(rt: HostRuntime) {
+fn a_run_stops_after_a_change(rt: HostRuntime) {
     let mut bench = past_changes(rt.alloc(), &rt);
     poke(&rt, &mut bench, Place::Pc(address(0)));
     did(&rt, &mut bench, &Command::Break(address(2)));

@@ -320,7 +320,7 @@ fn names_and(alloc: Global, count: u32, last: &str) -> Result<String, AllocError
     Ok(text)
 }
 
-/// Last lines behind the definitions of 512 names, and their faults.
+/// Last lines after the definitions of 512 names, and their faults.
 const LAST_LINES: [FaultRow; 4] = [
     ("n0 = 0", 513, SourceFault::DoubleName),
     ("x = 4096", 513, SourceFault::OutOfRange),
@@ -343,7 +343,7 @@ fn there_may_be_512_names(rt: HostRuntime) -> Result<(), Fail> {
 }
 
 #[test]
-fn faults_behind_512_names(rt: HostRuntime) -> Result<(), Fail> {
+fn faults_after_512_names(rt: HostRuntime) -> Result<(), Fail> {
     for (last, line, fault) in LAST_LINES {
         let text = names_and(rt.alloc(), 512, last)?;
         assert!(rt; is_refused(rt.alloc(), &text, line, fault));

@@ -141,7 +141,7 @@ fn codes_outside_are_bytes(rt: HostRuntime) -> Result<(), Fail> {
 }
 
 #[test]
-fn a_listing_goes_on_behind_a_page(rt: HostRuntime) -> Result<(), Fail> {
+fn a_listing_goes_on_after_a_page(rt: HostRuntime) -> Result<(), Fail> {
     let rom = holding(&rt, &JUMP_AT_A_PAGE);
     let alloc = rt.alloc();
     let lines = "0FE E0    WRM\n0FF 14 10 JCN 4, 0x110\n101 00    NOP\n";
