@@ -5,7 +5,7 @@ use mcs_nibble::{Nibble, PairNo, RegNo};
 /// An instruction with its operands, under the name that Intel's manual gives it.
 /// A byte beside another operand is the second word: a value, or the lower eight bits of an address.
 /// Source: Intel MCS-4 Users Manual, instruction set.
-#[derive(Clone, Copy, Debug, PartialEq, Eq)]
+#[derive(Clone, Copy)]
 pub enum Op {
     /// No operation.
     Nop,

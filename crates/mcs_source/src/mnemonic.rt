@@ -2,7 +2,7 @@
 use mcs_model::op::Op;
 
 /// The word that begins a statement. A bare one has no operands.
-#[derive(Clone, Copy, Debug, PartialEq, Eq)]
+#[derive(Clone, Copy)]
 pub enum Mnemonic {
     /// The next statement stands at an address.
     Org,
