@@ -114,7 +114,8 @@ impl Bench {
     /// `NoRom` for an address in a ROM that it lacks, `NoSuchPlace` for a RAM chip that it lacks, `BadCount` for a run of
     /// no cycle or of more than 100,000, `BreaksFull` for one breakpoint more than 32, `WatchesFull` for one watch more than 8.
     pub fn check(&self, command: &Command) -> Result<(), BenchFault>
-        ensures { MatchOption (refusal self.now command.now) (IsOk result) (λ fault. result ≡ Err fault) }
+        ensures { MatchOption (refusal self.now command.now) (IsOk result)
+            (λ fault. result ≡ Err fault) }
     {
         if self.seq == ACCEPTED_COMMANDS {
             return Err(BenchFault::Worn);

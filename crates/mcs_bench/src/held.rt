@@ -52,7 +52,9 @@ fn is_absent(board: &Board, held: Held, i: usize) -> bool
 /// Whether all numbers of absent chips are 0.
 pub(crate) fn is_absent_zero(board: &Board, held: Held, numbers: &[u8]) -> bool
     requires { length numbers.now ≡ count_of held }
-    ensures { IsTrue result ↔ ((i : ℕ) → i < count_of held → is_absent board.now held i ≡ true → slice_index numbers.now i ≡ 0) }
+    ensures { IsTrue result
+        ↔ ((i : ℕ) → i < count_of held → is_absent board.now held i ≡ true →
+        slice_index numbers.now i ≡ 0) }
 {
     for i in 0..numbers.len() {
         if numbers[i] != 0 && is_absent(board, held, i) {
@@ -87,7 +89,8 @@ fn set(rig: &mut BenchRig, held: Held, i: usize, n: u8)
 /// Sets all numbers of a list.
 pub(crate) fn fill(rig: &mut BenchRig, held: Held, numbers: &[u8])
     requires fit { AreBelow (count_of held) (limit_of held) numbers.now }
-    requires absent { (i : ℕ) → i < count_of held → is_absent rig.old.board held i ≡ true → slice_index numbers.now i ≡ 0 }
+    requires absent { (i : ℕ) → i < count_of held → is_absent rig.old.board held i ≡ true →
+        slice_index numbers.now i ≡ 0 }
     ensures { rig.new ≡ with_list rig.old held numbers.now }
 {
     rig.show_state_is_valid();

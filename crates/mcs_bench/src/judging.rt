@@ -81,7 +81,10 @@ fn key_count(board: &Board) -> usize
 
 /// Whether there are that many bits for each chain of a board.
 fn are_chains(board: &Board, rows: &[ArrayVec<u8, CHAIN_PLACES>]) -> bool
-    ensures { IsTrue result ↔ ((length rows.now ≡ chain_count board.now) × ((i : ℕ) → i < chain_count board.now → AreBelow (chain_bits board.now i) 2 (slice_index_or (rows_of rows.now) i []))) }
+    ensures { IsTrue result
+        ↔ ((length rows.now ≡ chain_count board.now) ×
+        ((i : ℕ) → i < chain_count board.now →
+        AreBelow (chain_bits board.now i) 2 (slice_index_or (rows_of rows.now) i []))) }
 {
     if rows.len() != board.chain_count() {
         return false;
@@ -97,7 +100,8 @@ fn are_chains(board: &Board, rows: &[ArrayVec<u8, CHAIN_PLACES>]) -> bool
 /// Whether the port latch of a ROM, 0 to 15, can hold a nibble.
 fn can_hold(board: &Board, chip: u8, n: u8) -> bool
     requires { n < 16 }
-    ensures { IsTrue result ↔ MatchOption (masks_on board.now chip) (n ≡ 0) (λ mask. latch_value mask n ≡ n) }
+    ensures { IsTrue result
+        ↔ MatchOption (masks_on board.now chip) (n ≡ 0) (λ mask. latch_value mask n ≡ n) }
 {
     match board.mask(chip) {
         Some(mask) => held_port(&mask, Nibble::low_of(n)).get() == n,
@@ -108,7 +112,10 @@ fn can_hold(board: &Board, chip: u8, n: u8) -> bool
 /// Whether the port latches of the ROMs can hold these nibbles.
 fn can_all_hold(board: &Board, ports: &[u8]) -> bool
     requires { AreBelow 16 16 ports.now }
-    ensures { IsTrue result ↔ ((chip : ℕ) → MatchOption (masks_on board.now chip) (slice_index ports.now chip ≡ 0) (λ mask. latch_value mask (slice_index ports.now chip) ≡ slice_index ports.now chip)) }
+    ensures { IsTrue result
+        ↔ ((chip : ℕ) →
+        MatchOption (masks_on board.now chip) (slice_index ports.now chip ≡ 0)
+        (λ mask. latch_value mask (slice_index ports.now chip) ≡ slice_index ports.now chip)) }
 {
     for chip in 0..16u8 {
         if !can_hold(board, chip, ports[usize::from(chip)]) {
@@ -137,7 +144,10 @@ impl Flat {
 
     /// Whether the lists of the chips have their lengths, and numbers of their kinds.
     fn has_valid_cells(&self) -> bool
-        ensures { IsTrue result ↔ (AreBelow 4096 256 self.now.rom × AreBelow 2048 16 self.now.ram × AreBelow 512 16 self.now.status × AreBelow 32 16 self.now.ram_ports × AreBelow 16 16 self.now.rom_ports) }
+        ensures { IsTrue result
+            ↔ (AreBelow 4096 256 self.now.rom × AreBelow 2048 16 self.now.ram ×
+            AreBelow 512 16 self.now.status × AreBelow 32 16 self.now.ram_ports ×
+            AreBelow 16 16 self.now.rom_ports) }
     {
         if !are_bytes(self.rom.bytes(), 4096) {
             return false;

@@ -144,7 +144,8 @@ impl Bench {
 
     /// The level of the line that lamp `i`, counted from 0, is at; none beyond the board's lamps.
     pub fn lamp(&self, i: usize) -> Option<Bit>
-        ensures { result ≡ option_map (level self.now.bus) (slice_get self.now.bus.board.lamps.items i) }
+        ensures { result ≡ option_map (level self.now.bus)
+            (slice_get self.now.bus.board.lamps.items i) }
     {
         self.rig.lamp(i)
     }

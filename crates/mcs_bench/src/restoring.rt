@@ -62,7 +62,9 @@ fn processor(flat: &Flat) -> Cpu
 /// Sets the port latches of all ROMs.
 fn fill_rom_ports(rig: &mut BenchRig, ports: &[u8])
     requires fit { AreBelow 16 16 ports.now }
-    requires kept { (chip : ℕ) → MatchOption (masks_on rig.old.board chip) (slice_index ports.now chip ≡ 0) (λ mask. latch_value mask (slice_index ports.now chip) ≡ slice_index ports.now chip) }
+    requires kept { (chip : ℕ) →
+        MatchOption (masks_on rig.old.board chip) (slice_index ports.now chip ≡ 0)
+        (λ mask. latch_value mask (slice_index ports.now chip) ≡ slice_index ports.now chip) }
     ensures { rig.new ≡ record rig.old { rom_ports = ports.now } }
 {
     rig.show_state_is_valid();
@@ -86,7 +88,8 @@ fn fill_chain(rig: &mut BenchRig, chain: u8, bits: &[u8])
 /// Sets all bits of all chains.
 fn fill_chains(rig: &mut BenchRig, rows: &[ArrayVec<u8, CHAIN_PLACES>])
     requires count { length rows.now ≡ chain_count rig.old.board }
-    requires fit { (i : ℕ) → i < chain_count rig.old.board → AreBelow (chain_bits rig.old.board i) 2 (slice_index_or (rows_of rows.now) i []) }
+    requires fit { (i : ℕ) → i < chain_count rig.old.board →
+        AreBelow (chain_bits rig.old.board i) 2 (slice_index_or (rows_of rows.now) i []) }
     ensures { rig.new ≡ record rig.old { chains = rows_of rows.now } }
 {
     rig.show_state_is_valid();

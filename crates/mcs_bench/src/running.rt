@@ -70,7 +70,8 @@ fn run_instruction<const WATCHED: bool>(
     requires free { cpu.old.owed ≢ 1 }
     requires some { 0 < left }
     requires watched { WATCHED ≡ false → watches.now ≡ [] }
-    ensures ran { InstructionRan left (record cpu.old { pc = at }, rig.old) (record cpu.new { pc = result.0 }, rig.new) result.1 }
+    ensures ran { InstructionRan left (record cpu.old { pc = at }, rig.old)
+        (record cpu.new { pc = result.0 }, rig.new) result.1 }
     ensures owes { cpu.new.owed ≡ 1 → result.1 ≡ left }
     ensures seen { Seen watches.now (record cpu.old { pc = at }, rig.old) result.1 result.2 }
 {
@@ -94,7 +95,8 @@ fn run_loop<const WATCHED: bool>(
     n: u32,
 ) -> (u32, Addr, Option<Stop>)
     requires { WATCHED ≡ false → watches.now ≡ [] }
-    ensures { RanOn (record { breaks = breaks.now; watches = watches.now }) n (cpu.old, rig.old) (record cpu.new { pc = result.1 }, rig.new) result.0 result.2 }
+    ensures { RanOn (record { breaks = breaks.now; watches = watches.now }) n (cpu.old, rig.old)
+        (record cpu.new { pc = result.1 }, rig.new) result.0 result.2 }
 {
     let mut at = cpu.regs().pc;
     let mut left = n;
@@ -132,7 +134,8 @@ fn run_on<const WATCHED: bool>(
     n: u32,
 ) -> (u32, Option<Stop>)
     requires { WATCHED ≡ false → watches.now ≡ [] }
-    ensures { RanOn (record { breaks = breaks.now; watches = watches.now }) n (cpu.old, rig.old) (cpu.new, rig.new) result.0 result.1 }
+    ensures { RanOn (record { breaks = breaks.now; watches = watches.now }) n (cpu.old, rig.old)
+        (cpu.new, rig.new) result.0 result.1 }
 {
     // A copy that nothing else can reach: its registers need not go through memory at each cycle.
     let mut running = *cpu;
@@ -150,7 +153,8 @@ fn run_by(
     watches: &Watches,
     n: u32,
 ) -> (u32, Option<Stop>)
-    ensures { RanOn (record { breaks = breaks.now; watches = watches.now }) n (cpu.old, rig.old) (cpu.new, rig.new) result.0 result.1 }
+    ensures { RanOn (record { breaks = breaks.now; watches = watches.now }) n (cpu.old, rig.old)
+        (cpu.new, rig.new) result.0 result.1 }
 {
     if watches.is_empty() {
         run_on::<false>(cpu, rig, breaks, watches, n)
@@ -167,7 +171,8 @@ pub(crate) fn run(
     watches: &Watches,
     n: u32,
 ) -> (u32, Stop)
-    ensures { RanTo (record { breaks = breaks.now; watches = watches.now }) n (cpu.old, rig.old) (cpu.new, rig.new) result.0 result.1 }
+    ensures { RanTo (record { breaks = breaks.now; watches = watches.now }) n (cpu.old, rig.old)
+        (cpu.new, rig.new) result.0 result.1 }
 {
     let (cycles, mark) = run_by(cpu, rig, breaks, watches, n);
     if is_outside(cpu, rig) {

@@ -73,7 +73,8 @@ impl Watches {
     /// Whether a character is watched, or can be.
     pub(crate) fn has_room_for(&self, bank: u8, src: u8) -> bool
         requires { bank < 8 }
-        ensures { result ≡ (is_breakpoint self.now (watch_place bank src) || nat_lt (length self.now) WATCHES) }
+        ensures { result ≡ (is_breakpoint self.now (watch_place bank src)
+            || nat_lt (length self.now) WATCHES) }
     {
         self.contains(bank, src) || self.places.list().len() < WATCHES
     }
@@ -82,7 +83,8 @@ impl Watches {
     pub(crate) fn set(&mut self, bank: u8, src: u8)
         requires bank { bank < 8 }
         requires src { src < 256 }
-        requires room { (is_breakpoint self.old (watch_place bank src) || nat_lt (length self.old) WATCHES) ≡ true }
+        requires room { (is_breakpoint self.old (watch_place bank src)
+            || nat_lt (length self.old) WATCHES) ≡ true }
         ensures { self.new ≡ with_breakpoint self.old (watch_place bank src) }
     {
         self.places.set(place_of(bank, src));

@@ -37,7 +37,8 @@ pub fn cycle(cpu: &mut Cpu, rig: &mut BenchRig) -> Cycle
 pub fn run_instruction(cpu: &mut Cpu, rig: &mut BenchRig, at: Addr, left: u32) -> (Addr, u32)
     requires free { cpu.old.owed ≢ 1 }
     requires some { 0 < left }
-    ensures ran { InstructionRan left (record cpu.old { pc = at }, rig.old) (record cpu.new { pc = result.0 }, rig.new) result.1 }
+    ensures ran { InstructionRan left (record cpu.old { pc = at }, rig.old)
+        (record cpu.new { pc = result.0 }, rig.new) result.1 }
     ensures owes { cpu.new.owed ≡ 1 → result.1 ≡ left }
     ensures counter { cpu.new.pc ≡ cpu.old.pc }
 {

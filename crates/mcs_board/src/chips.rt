@@ -150,7 +150,8 @@ fn rewire_rom(rom: &mut Option<Rom>, mask: Option<[LineMask; 4]>)
 /// Puts the ROMs on a new board.
 pub(crate) fn rewire_roms(roms: &mut Vec<Option<Rom>>, board: &Board)
     ensures count { length roms.new.items ≡ length roms.old.items }
-    ensures roms { (k : ℕ) → k < length roms.old.items → slice_index_or roms.new.items k None ≡ rewired (masks_on board.now k) (slice_index_or roms.old.items k None) }
+    ensures roms { (k : ℕ) → k < length roms.old.items → slice_index_or roms.new.items k None
+        ≡ rewired (masks_on board.now k) (slice_index_or roms.old.items k None) }
 {
     for i in 0..roms.len() {
         let mask = mask_of(board, i);
@@ -174,7 +175,8 @@ pub(crate) fn clear_absent(program: &mut Vec<u8>, board: &Board)
 /// Makes the banks those of a new board, with all 0.
 pub(crate) fn rewire_banks(banks: &mut Vec<Bank<4>>, board: &Board)
     ensures count { length banks.new.items ≡ length banks.old.items }
-    ensures banks { (k : ℕ) → k < length banks.old.items → slice_index_or banks.new.items k no_bank ≡ blank_bank (slice_index board.now.banks k) }
+    ensures banks { (k : ℕ) → k < length banks.old.items → slice_index_or banks.new.items k no_bank
+        ≡ blank_bank (slice_index board.now.banks k) }
 {
     for i in 0..banks.len() {
         banks[i] = Bank::new(chips_of(board, i));
@@ -185,7 +187,8 @@ pub(crate) fn rewire_banks(banks: &mut Vec<Bank<4>>, board: &Board)
 pub(crate) fn rewire_chains<const MAX: usize>(chains: &mut Vec<Chain<MAX>>, board: &Board)
     requires { (k : ℕ) → chain_bits board.now k ≤ MAX }
     ensures count { length chains.new.items ≡ length chains.old.items }
-    ensures rows { (k : ℕ) → k < length chains.old.items → slice_index_or chains.new.items k [] ≡ replicate (chain_bits board.now k) 0 }
+    ensures rows { (k : ℕ) → k < length chains.old.items → slice_index_or chains.new.items k []
+        ≡ replicate (chain_bits board.now k) 0 }
 {
     for i in 0..chains.len() {
         chains[i] = Chain::new(bits_of(board, i));
@@ -194,7 +197,10 @@ pub(crate) fn rewire_chains<const MAX: usize>(chains: &mut Vec<Chain<MAX>>, boar
 
 /// The keys of a board, all up.
 pub(crate) fn keys_of(board: &Board) -> KeyPad
-    ensures { result ≡ record { matrix = matrix_on board.now; down = replicate (key_count board.now) 0 } }
+    ensures { result ≡ record {
+      matrix = matrix_on board.now;
+      down = replicate (key_count board.now) 0;
+    } }
 {
     match &board.parts().keys {
         Some(matrix) => KeyPad::of(matrix),
@@ -214,7 +220,8 @@ fn clear_port(rom: &mut Option<Rom>)
 /// Makes the latches of the ROMs 0.
 pub(crate) fn clear_ports(roms: &mut Vec<Option<Rom>>)
     ensures count { length roms.new.items ≡ length roms.old.items }
-    ensures roms { (k : ℕ) → k < length roms.old.items → slice_index_or roms.new.items k None ≡ silenced (slice_index_or roms.old.items k None) }
+    ensures roms { (k : ℕ) → k < length roms.old.items → slice_index_or roms.new.items k None
+        ≡ silenced (slice_index_or roms.old.items k None) }
 {
     for i in 0..roms.len() {
         clear_port(&mut roms[i]);
@@ -224,7 +231,8 @@ pub(crate) fn clear_ports(roms: &mut Vec<Option<Rom>>)
 /// Makes all that the banks hold 0.
 pub(crate) fn clear_banks(banks: &mut Vec<Bank<4>>)
     ensures count { length banks.new.items ≡ length banks.old.items }
-    ensures banks { (k : ℕ) → k < length banks.old.items → slice_index_or banks.new.items k no_bank ≡ blank_bank (slice_index_or banks.old.items k no_bank).wired }
+    ensures banks { (k : ℕ) → k < length banks.old.items → slice_index_or banks.new.items k no_bank
+        ≡ blank_bank (slice_index_or banks.old.items k no_bank).wired }
 {
     for i in 0..banks.len() {
         banks[i].clear();
@@ -234,7 +242,8 @@ pub(crate) fn clear_banks(banks: &mut Vec<Bank<4>>)
 /// Makes all bits of the chains 0.
 pub(crate) fn clear_chains<const MAX: usize>(chains: &mut Vec<Chain<MAX>>)
     ensures count { length chains.new.items ≡ length chains.old.items }
-    ensures rows { (k : ℕ) → k < length chains.old.items → slice_index_or chains.new.items k [] ≡ replicate (length (slice_index_or chains.old.items k [])) 0 }
+    ensures rows { (k : ℕ) → k < length chains.old.items → slice_index_or chains.new.items k []
+        ≡ replicate (length (slice_index_or chains.old.items k [])) 0 }
 {
     for i in 0..chains.len() {
         chains[i].clear();
@@ -252,7 +261,8 @@ fn rom_is_valid(rom: &Option<Rom>)
 
 /// A law: each ROM that is there is valid.
 pub(crate) fn roms_are_valid(roms: &Vec<Option<Rom>>)
-    ensures { (k : ℕ) → k < length roms.now.items → IfSome (slice_index_or roms.now.items k None) IsValidRom }
+    ensures { (k : ℕ) → k < length roms.now.items →
+        IfSome (slice_index_or roms.now.items k None) IsValidRom }
 {
     for i in 0..roms.len() {
         rom_is_valid(&roms[i]);
@@ -261,7 +271,8 @@ pub(crate) fn roms_are_valid(roms: &Vec<Option<Rom>>)
 
 /// A law: each bank is valid.
 pub(crate) fn banks_are_valid(banks: &Vec<Bank<4>>)
-    ensures { (k : ℕ) → k < length banks.now.items → IsValidBank (slice_index_or banks.now.items k no_bank) }
+    ensures { (k : ℕ) → k < length banks.now.items →
+        IsValidBank (slice_index_or banks.now.items k no_bank) }
 {
     for i in 0..banks.len() {
         banks[i].show_state_is_valid();

@@ -33,7 +33,8 @@ fn takes_jump(condition: Nibble, regs: &Regs, test: Bit) -> bool
 /// Where JCN goes on, at that level of TEST; `next` is the address after its words.
 #[inline(always)]
 fn after_condition(regs: &Regs, condition: Nibble, word: u8, test: Bit, next: Addr) -> Addr
-    ensures { record regs.now { pc = result } ≡ after_jcn condition word (record regs.now { pc = next }) test }
+    ensures { record regs.now { pc = result }
+        ≡ after_jcn condition word (record regs.now { pc = next }) test }
 {
     if takes_jump(condition, regs, test) {
         word_beside(next, word)
@@ -45,7 +46,8 @@ fn after_condition(regs: &Regs, condition: Nibble, word: u8, test: Bit, next: Ad
 /// FIN; `next` is the address after its word.
 #[inline(always)]
 fn fetch_indirect<B: Bus>(regs: &mut Regs, bus: &B, pair: PairNo, next: Addr)
-    ensures { regs.new ≡ with_pair regs.old pair (fetch_of (B.flat bus.now) (address_beside next (pair_of regs.old 0))) }
+    ensures { regs.new ≡ with_pair regs.old pair
+        (fetch_of (B.flat bus.now) (address_beside next (pair_of regs.old 0))) }
 {
     let from = word_beside(next, regs.pair(PairNo::ZERO));
     regs.set_pair(pair, bus.fetch(from));
@@ -54,7 +56,8 @@ fn fetch_indirect<B: Bus>(regs: &mut Regs, bus: &B, pair: PairNo, next: Addr)
 /// The list of return addresses after JMS; `next` is the address after its words.
 #[inline(always)]
 fn push(regs: &mut Regs, next: Addr)
-    ensures { regs.new ≡ record regs.old { ret = next ∷ slice_index regs.old.ret 0 ∷ slice_index regs.old.ret 1 ∷ [] } }
+    ensures { regs.new ≡ record regs.old
+        { ret = next ∷ slice_index regs.old.ret 0 ∷ slice_index regs.old.ret 1 ∷ [] } }
 {
     let ret = [next, regs.ret[0], regs.ret[1]];
     regs.ret = ret;
@@ -63,7 +66,8 @@ fn push(regs: &mut Regs, next: Addr)
 /// The list of return addresses after BBL; `next` is the address after its word.
 #[inline(always)]
 fn pop(regs: &mut Regs, next: Addr)
-    ensures { regs.new ≡ record regs.old { ret = slice_index regs.old.ret 1 ∷ slice_index regs.old.ret 2 ∷ next ∷ [] } }
+    ensures { regs.new ≡ record regs.old
+        { ret = slice_index regs.old.ret 1 ∷ slice_index regs.old.ret 2 ∷ next ∷ [] } }
 {
     let ret = [regs.ret[1], regs.ret[2], next];
     regs.ret = ret;
@@ -91,7 +95,8 @@ fn clear_register(regs: &mut Regs, r: RegNo)
 /// ISZ, except for the counter: where the processor goes on; `next` is the address after its words.
 #[inline(always)]
 fn count_to_zero(regs: &mut Regs, r: RegNo, word: u8, next: Addr) -> Addr
-    ensures counted { record regs.new { pc = result } ≡ after_isz r word (record regs.old { pc = next }) }
+    ensures counted { record regs.new { pc = result }
+        ≡ after_isz r word (record regs.old { pc = next }) }
     ensures pc { regs.new.pc ≡ regs.old.pc }
 {
     if regs.register(r) == Nibble::MAX {
@@ -375,7 +380,8 @@ macro_rules! work_rows {
 #[inline(always)]
 pub fn execute<B: Bus>(regs: &mut Regs, bus: &mut B, op: Op, at: Addr) -> (Addr, u8)
     requires { regs.old.dcl < 8 }
-    ensures effect { (record regs.new { pc = result.0; owed = result.1 - 1 }, B.flat bus.new) ≡ effect op (record regs.old { pc = at }) (B.flat bus.old) }
+    ensures effect { (record regs.new { pc = result.0; owed = result.1 - 1 }, B.flat bus.new)
+        ≡ effect op (record regs.old { pc = at }) (B.flat bus.old) }
     ensures cycles { result.1 ≡ cycles_of op }
     ensures some { 0 < result.1 }
     ensures few { result.1 < 3 }

@@ -56,7 +56,8 @@ impl Cpu {
         requires { self.old.owed ≢ 1 }
         ensures outside { (result ≡ Cycle.Outside) ↔ IsNone (cycle_of self.old (B.flat bus.old)) }
         ensures works { result ≢ Cycle.Idle }
-        ensures state { (self.new, B.flat bus.new) ≡ unwrap_or (cycle_of self.old (B.flat bus.old)) (self.old, B.flat bus.old) }
+        ensures state { (self.new, B.flat bus.new)
+            ≡ unwrap_or (cycle_of self.old (B.flat bus.old)) (self.old, B.flat bus.old) }
     {
         let at = self.regs.pc;
         let second = at.plus(1);
@@ -77,7 +78,8 @@ impl Cpu {
     pub fn cycle<B: Bus>(&mut self, bus: &mut B) -> Cycle
         ensures outside { (result ≡ Cycle.Outside) ↔ IsNone (cycle_of self.old (B.flat bus.old)) }
         ensures idle { (result ≡ Cycle.Idle) ↔ (self.old.owed ≡ 1) }
-        ensures state { (self.new, B.flat bus.new) ≡ unwrap_or (cycle_of self.old (B.flat bus.old)) (self.old, B.flat bus.old) }
+        ensures state { (self.new, B.flat bus.new)
+            ≡ unwrap_or (cycle_of self.old (B.flat bus.old)) (self.old, B.flat bus.old) }
     {
         if self.regs.owed == 1 {
             self.regs.owed = 0;
@@ -94,7 +96,8 @@ impl Cpu {
     pub fn run_instruction<B: Bus>(&mut self, bus: &mut B, at: Addr, left: u32) -> (Addr, u32)
         requires free { self.old.owed ≢ 1 }
         requires some { 0 < left }
-        ensures ran { InstructionRan left (record self.old { pc = at }, B.flat bus.old) (record self.new { pc = result.0 }, B.flat bus.new) result.1 }
+        ensures ran { InstructionRan left (record self.old { pc = at }, B.flat bus.old)
+            (record self.new { pc = result.0 }, B.flat bus.new) result.1 }
         ensures owes { self.new.owed ≡ 1 → result.1 ≡ left }
         ensures counter { self.new.pc ≡ self.old.pc }
     {

@@ -85,7 +85,8 @@ fn row_byte(down: &[Bit], from: usize, columns: usize) -> u8
 /// The byte of the columns at line `k` of a ROM.
 fn line_byte(columns: &[Line], chip: u8, k: u8) -> u8
     requires { length columns.now ≤ KEY_COLUMNS }
-    ensures { IsByteOf result (length columns.now) (λ j. is_rom_line chip k (slice_index_or columns.now j (Rom 0 0))) }
+    ensures { IsByteOf result (length columns.now)
+        (λ j. is_rom_line chip k (slice_index_or columns.now j (Rom 0 0))) }
 {
     let mut byte: u8 = 0;
     for j in 0..columns.len() {
@@ -100,7 +101,8 @@ fn line_byte(columns: &[Line], chip: u8, k: u8) -> u8
 fn row_bytes(down: &[Bit], rows: u8, columns: usize) -> [u8; ROW_BYTES]
     requires rows { rows ≤ KEY_ROWS }
     requires columns { columns ≤ KEY_COLUMNS }
-    ensures { (r : ℕ) → r < rows → IsByteOf (slice_index result r) columns (λ j. is_down down.now (r * columns + j)) }
+    ensures { (r : ℕ) → r < rows →
+        IsByteOf (slice_index result r) columns (λ j. is_down down.now (r * columns + j)) }
 {
     let mut bytes = [0; ROW_BYTES];
     for r in 0..usize::from(rows) {
@@ -112,7 +114,9 @@ fn row_bytes(down: &[Bit], rows: u8, columns: usize) -> [u8; ROW_BYTES]
 /// The byte of the columns at each line of each ROM, four lines a ROM.
 fn line_bytes(columns: &[Line]) -> [u8; LINE_BYTES]
     requires { length columns.now ≤ KEY_COLUMNS }
-    ensures { (i : ℕ) → i < LINE_BYTES → IsByteOf (slice_index result i) (length columns.now) (λ j. is_rom_line (i / 4) (i % 4) (slice_index_or columns.now j (Rom 0 0))) }
+    ensures { (i : ℕ) → i < LINE_BYTES →
+        IsByteOf (slice_index result i) (length columns.now)
+        (λ j. is_rom_line (i / 4) (i % 4) (slice_index_or columns.now j (Rom 0 0))) }
 {
     let mut bytes = [0; LINE_BYTES];
     for i in 0..LINE_BYTES as u8 {
@@ -123,7 +127,8 @@ fn line_bytes(columns: &[Line]) -> [u8; LINE_BYTES]
 
 /// 1 where the two bytes have a bit in common.
 fn meets(line: u8, driven: u8) -> Bit
-    ensures { (n : ℕ) (p q : ℕ → Bool) → IsByteOf line n p → IsByteOf driven n q → result ≡ bit_when (list_any (λ j. p j && q j) (range_with_len 0 n)) }
+    ensures { (n : ℕ) (p q : ℕ → Bool) → IsByteOf line n p → IsByteOf driven n q →
+        result ≡ bit_when (list_any (λ j. p j && q j) (range_with_len 0 n)) }
 {
     if line & driven == 0 {
         Bit::ZERO
@@ -173,7 +178,10 @@ impl KeyPad {
     /// The keys of a matrix, all up.
     pub fn of(matrix: &KeyMatrix) -> KeyPad
         requires { matrix.now.rows ≤ KEY_ROWS }
-        ensures { result ≡ record { matrix = matrix.now; down = replicate (matrix.now.rows * length matrix.now.columns.items) 0 } }
+        ensures { result ≡ record {
+          matrix = matrix.now;
+          down = replicate (matrix.now.rows * length matrix.now.columns.items) 0;
+        } }
     {
         let columns = copied(&matrix.columns);
         let down = up(matrix.rows, columns.len());
@@ -223,7 +231,9 @@ impl KeyPad {
     /// The byte of the columns that some row drives, where the rows are driven by a chain of these bits.
     fn driven<const MAX: usize>(&self, bits: &Chain<MAX>) -> u8
         requires { self.now.matrix.first + self.now.matrix.rows ≤ length bits.now }
-        ensures { IsByteOf result (length self.now.matrix.columns.items) (λ j. list_any (drives bits.now self.now.down self.now.matrix j) (range_with_len 0 self.now.matrix.rows)) }
+        ensures { IsByteOf result (length self.now.matrix.columns.items)
+            (λ j. list_any (drives bits.now self.now.down self.now.matrix j)
+            (range_with_len 0 self.now.matrix.rows)) }
     {
         let levels = bits.ten_from(usize::from(self.matrix.first));
         let mut left = levels;
@@ -244,7 +254,8 @@ impl KeyPad {
     /// The levels that keys pull the four lines of a ROM to, where the rows are driven by a chain of these bits.
     pub fn pulls<const MAX: usize>(&self, bits: &Chain<MAX>, chip: Nibble) -> Nibble
         requires { self.now.matrix.first + self.now.matrix.rows ≤ length bits.now }
-        ensures { result ≡ nibble_of (λ k. bit_when (pulled bits.now self.now.down self.now.matrix chip k)) }
+        ensures { result ≡ nibble_of
+            (λ k. bit_when (pulled bits.now self.now.down self.now.matrix chip k)) }
     {
         let driven = self.driven(bits);
         let at = 4 * usize::from(chip.get());

@@ -303,7 +303,8 @@ impl BoardParts {
     }
 
     fn lacks_line_of(&self, chain: ChainPart) -> bool
-        ensures { result ≡ (not (exists_on self.now chain.clock) || not (exists_on self.now chain.data_in)) }
+        ensures { result ≡ (not (exists_on self.now chain.clock)
+            || not (exists_on self.now chain.data_in)) }
     {
         !self.has_line(chain.clock) || !self.has_line(chain.data_in)
     }
@@ -367,7 +368,8 @@ impl BoardParts {
     }
 
     fn has_undriven_line(&self, chain: ChainPart) -> bool
-        ensures { result ≡ (not (is_output_line self.now chain.clock) || not (is_output_line self.now chain.data_in)) }
+        ensures { result ≡ (not (is_output_line self.now chain.clock)
+            || not (is_output_line self.now chain.data_in)) }
     {
         !self.has_output_line(chain.clock) || !self.has_output_line(chain.data_in)
     }
@@ -410,7 +412,8 @@ impl BoardParts {
 
     /// Each ROM has four masks: its type says so, and proofs learn it here.
     fn have_four_masks(&self)
-        ensures { (chip : ℕ) (mask : List LineMask) → masks_on self.now chip ≡ Some mask → length mask ≡ 4 }
+        ensures { (chip : ℕ) (mask : List LineMask) → masks_on self.now chip ≡ Some mask →
+            length mask ≡ 4 }
     {
         for i in 0..ROMS {
             are_four(self.roms[i]);
@@ -517,7 +520,8 @@ impl Board {
 
     /// The board of these parts, or what is wrong with them.
     pub fn of(parts: BoardParts) -> Result<Board, BoardFault>
-        ensures { MatchOption (board_fault_of parts) (result ≡ Ok parts) (λ fault. result ≡ Err fault) }
+        ensures { MatchOption (board_fault_of parts) (result ≡ Ok parts)
+            (λ fault. result ≡ Err fault) }
     {
         parts.are_sized();
         match parts.fault() {

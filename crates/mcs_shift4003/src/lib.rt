@@ -79,7 +79,8 @@ fn shift_words(words: &mut [u16], level: Bit)
     requires { (k : ℕ) → slice_index words.old k < 1024 }
     ensures len { length words.new ≡ length words.old }
     ensures ten { (k : ℕ) → slice_index words.new k < 1024 }
-    ensures bits { (i : ℕ) → i < 10 * length words.old → packed_bit words.new i ≡ bit_before level words.old i }
+    ensures bits { (i : ℕ) → i < 10 * length words.old →
+        packed_bit words.new i ≡ bit_before level words.old i }
 {
     let mut carry = u16::from(level.get());
     for k in 0..words.len() {
