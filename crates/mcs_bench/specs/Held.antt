@@ -45,11 +45,15 @@ is_absent b BankSrcs i = nat_le (slice_index b.banks i) 0
 
 -- the numbers of absent chips are 0
 abbrev pub IsZeroWhereAbsent : BusState → Held → Type 0
-IsZeroWhereAbsent s h = (i : ℕ) → i < count_of h → is_absent s.board h i ≡ true → slice_index (list_of s h) i ≡ 0
+IsZeroWhereAbsent s h =
+    (i : ℕ) → i < count_of h → is_absent s.board h i ≡ true → slice_index (list_of s h) i ≡ 0
 
 -- number i of the list set; lost where its chip is absent
 abbrev pub with_number : BusState → Held → ℕ → ℕ → BusState
-with_number s h i n = if is_absent s.board h i then s else with_list s h (slice_set (list_of s h) i n)
+with_number s h i n =
+    if is_absent s.board h i
+    then s
+    else with_list s h (slice_set (list_of s h) i n)
 
 -- key i, row by row, of a board whose keys have that many columns
 pub record IsKeyAt (b : BoardParts) (columns i : ℕ) : Type 0 where

@@ -32,11 +32,18 @@ pub record RanOn (stops : Stops) (n : ℕ) (s t : Machine) (k : ℕ) (mark : Opt
 abbrev pub selected : Machine → ℕ
 selected t = t.0.dcl * 256 + src_of t.1 t.0.dcl
 
+-- whether WRM gives the selected character another value
+abbrev pub alters_selected : Machine → Bool
+alters_selected t =
+    not (slice_index t.1.ram (selected t)
+    == slice_index (after_ram t.1 t.0.dcl t.0.acc).ram (selected t))
+
 -- whether the instruction at the counter gives the selected character another value, where that is watched
 abbrev pub WillChange : List ℕ → Machine → Bool → Type 0
 WillChange watches t b =
     ((instruction_at t.0 t.1 ≢ Some Wrm) × (b ≡ false))
-    ⊎ ((instruction_at t.0 t.1 ≡ Some Wrm) × (b ≡ (is_breakpoint watches (selected t) && not (slice_index t.1.ram (selected t) == slice_index (after_ram t.1 t.0.dcl t.0.acc).ram (selected t)))))
+    ⊎ ((instruction_at t.0 t.1 ≡ Some Wrm) ×
+    (b ≡ (is_breakpoint watches (selected t) && alters_selected t)))
 
 -- whether a watched character changed in the last of the d cycles of an instruction from t on; none did before
 pub record Seen (watches : List ℕ) (t : Machine) (d : ℕ) (changed : Bool) : Type 0 where
@@ -57,4 +64,6 @@ pub record SteppedTo (s t : Machine) (k : ℕ) (why : Stop) : Type 0 where
 
 -- where no breakpoint is set and nothing is watched, two runs come to the state that one run of all their cycles comes to
 abbrev pub RunsAddUp : Type 0
-RunsAddUp = (s : BenchState) (a b : ℕ) → s.breakpoints ≡ [] → s.watches ≡ [] → changed (changed s (Run a)) (Run b) ≡ changed s (Run (a + b))
+RunsAddUp =
+    (s : BenchState) (a b : ℕ) → s.breakpoints ≡ [] → s.watches ≡ [] →
+    changed (changed s (Run a)) (Run b) ≡ changed s (Run (a + b))

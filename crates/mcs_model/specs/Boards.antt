@@ -88,7 +88,9 @@ is_chain_size c = nat_lt 0 c.chips && nat_le c.chips CHAIN_CHIPS
 
 -- whether the numbers of a key matrix are in their ranges: 1 to 10 rows, at least one column
 abbrev pub is_matrix_size : KeyMatrix → Bool
-is_matrix_size m = nat_lt m.chain CHAINS && nat_lt m.first CHAIN_BITS && nat_lt 0 m.rows && nat_le m.rows KEY_ROWS && nat_lt 0 (length m.columns.items)
+is_matrix_size m =
+    nat_lt m.chain CHAINS && nat_lt m.first CHAIN_BITS && nat_lt 0 m.rows && nat_le m.rows KEY_ROWS
+    && nat_lt 0 (length m.columns.items)
 
 abbrev pub has_bad_matrix : BoardParts → Bool
 has_bad_matrix b = elim b.keys [ Some m ↦ not (is_matrix_size m) | None ↦ false ]
@@ -130,7 +132,11 @@ board_fault_of b =
 
 -- whether the board has the key of a row and a column
 abbrev pub has_key : BoardParts → ℕ → ℕ → Bool
-has_key b row column = elim b.keys [ Some m ↦ nat_lt row m.rows && nat_lt column (length m.columns.items) | None ↦ false ]
+has_key b row column =
+    elim b.keys [
+      | Some m ↦ nat_lt row m.rows && nat_lt column (length m.columns.items)
+      | None ↦ false
+    ]
 
 -- how many keys it has, and where the key of a row and a column stands among them, row by row
 abbrev pub key_count : BoardParts → ℕ

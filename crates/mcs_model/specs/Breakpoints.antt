@@ -9,11 +9,17 @@ is_breakpoint breakpoints at = list_any (λ a. a == at) breakpoints
 -- an address put before the first greater one
 abbrev pub inserted : List ℕ → ℕ → List ℕ
 inserted [] at = at ∷ []
-inserted (a ∷ breakpoints) at = if nat_lt at a then at ∷ a ∷ breakpoints else a ∷ inserted breakpoints at
+inserted (a ∷ breakpoints) at =
+    if nat_lt at a
+    then at ∷ a ∷ breakpoints
+    else a ∷ inserted breakpoints at
 
 -- one breakpoint more; nothing changes where it was one
 abbrev pub with_breakpoint : List ℕ → ℕ → List ℕ
-with_breakpoint breakpoints at = if is_breakpoint breakpoints at then breakpoints else inserted breakpoints at
+with_breakpoint breakpoints at =
+    if is_breakpoint breakpoints at
+    then breakpoints
+    else inserted breakpoints at
 
 -- one less; nothing changes where it was none
 abbrev pub without_breakpoint : List ℕ → ℕ → List ℕ

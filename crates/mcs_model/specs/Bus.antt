@@ -76,7 +76,10 @@ ram_of s bank = slice_index s.ram (bank * 256 + src_of s bank)
 
 -- a RAM character is written, by its bank and its SRC byte (4002 data sheet); lost where the chip is absent (our own choice)
 unfoldable pub with_ram : BusState → ℕ → ℕ → ℕ → BusState
-with_ram s bank src n = if has_chip s bank src then record s { ram = slice_set s.ram (bank * 256 + src) n } else s
+with_ram s bank src n =
+    if has_chip s bank src
+    then record s { ram = slice_set s.ram (bank * 256 + src) n }
+    else s
 
 -- a write to the selected character of a bank
 unfoldable pub after_ram : BusState → ℕ → ℕ → BusState
@@ -93,7 +96,10 @@ status_of s bank k = slice_index s.status (status_at bank (src_of s bank / 16) k
 -- a status character is written, by its bank, the upper nibble of its SRC byte and k (4002 data sheet); lost where the chip
 -- is absent (our own choice)
 unfoldable pub with_status : BusState → ℕ → ℕ → ℕ → ℕ → BusState
-with_status s bank high k n = if nat_lt (high / 4) (wired_of s bank) then record s { status = slice_set s.status (status_at bank high k) n } else s
+with_status s bank high k n =
+    if nat_lt (high / 4) (wired_of s bank)
+    then record s { status = slice_set s.status (status_at bank high k) n }
+    else s
 
 -- a write to status character k of the selected register of a bank
 unfoldable pub after_status : BusState → ℕ → ℕ → ℕ → BusState

@@ -30,7 +30,10 @@ lacks_rom b at = is_none (masks_on b (at / 256))
 abbrev pub place_refusal : BusState → Place → Option BenchFault
 place_refusal s (Rom at byte) = if lacks_rom s.board at then Some NoRom else None
 place_refusal s (Ram bank src n) = if has_chip s bank src then None else Some NoSuchPlace
-place_refusal s (Status bank high k n) = if nat_lt (high / 4) (wired_of s bank) then None else Some NoSuchPlace
+place_refusal s (Status bank high k n) =
+    if nat_lt (high / 4) (wired_of s bank)
+    then None
+    else Some NoSuchPlace
 place_refusal s _ = None
 
 -- where the character of a bank and an SRC byte stands
@@ -39,13 +42,22 @@ watch_place bank src = bank * 256 + src
 
 -- why a state refuses a command for the command's own sake, if it does
 abbrev pub own_refusal : BenchState → Command → Option BenchFault
-own_refusal s (Load image) = if list_any (λ p. lacks_rom s.bus.board p.0) image then Some NoRom else None
+own_refusal s (Load image) =
+    if list_any (λ p. lacks_rom s.bus.board p.0) image
+    then Some NoRom
+    else None
 own_refusal s (Press row column) = if has_key s.bus.board row column then None else Some NoKey
 own_refusal s (Release row column) = if has_key s.bus.board row column then None else Some NoKey
 own_refusal s (Run n) = if nat_le 1 n && nat_le n RUN_CYCLES then None else Some BadCount
 own_refusal s (Poke place) = place_refusal s.bus place
-own_refusal s (Break at) = if is_breakpoint s.breakpoints at || nat_lt (length s.breakpoints) BREAKPOINTS then None else Some BreaksFull
-own_refusal s (Watch bank src) = if is_breakpoint s.watches (watch_place bank src) || nat_lt (length s.watches) WATCHES then None else Some WatchesFull
+own_refusal s (Break at) =
+    if is_breakpoint s.breakpoints at || nat_lt (length s.breakpoints) BREAKPOINTS
+    then None
+    else Some BreaksFull
+own_refusal s (Watch bank src) =
+    if is_breakpoint s.watches (watch_place bank src) || nat_lt (length s.watches) WATCHES
+    then None
+    else Some WatchesFull
 own_refusal s _ = None
 
 -- why a state refuses a command, if it does: a worn session refuses each of them
@@ -75,7 +87,8 @@ abbrev pub with_place : BenchState → Place → BenchState
 with_place s (Acc n) = with_processor s (record s.processor { acc = n })
 with_place s (Cy bit) = with_processor s (record s.processor { cy = bit })
 with_place s (Pc at) = with_processor s (record s.processor { pc = at })
-with_place s (Register r n) = with_processor s (record s.processor { r = slice_set s.processor.r r n })
+with_place s (Register r n) =
+    with_processor s (record s.processor { r = slice_set s.processor.r r n })
 with_place s (Dcl bank) = with_processor s (record s.processor { dcl = bank })
 with_place s (Rom at byte) = with_bus s (with_rom_byte s.bus at byte)
 with_place s (Ram bank src n) = with_bus s (with_ram s.bus bank src n)
@@ -95,7 +108,8 @@ changed s Reset = with_machine s (new_regs, after_reset s.bus)
 changed s (Break at) = record s { breakpoints = with_breakpoint s.breakpoints at }
 changed s (Unbreak at) = record s { breakpoints = without_breakpoint s.breakpoints at }
 changed s (Watch bank src) = record s { watches = with_breakpoint s.watches (watch_place bank src) }
-changed s (Unwatch bank src) = record s { watches = without_breakpoint s.watches (watch_place bank src) }
+changed s (Unwatch bank src) =
+    record s { watches = without_breakpoint s.watches (watch_place bank src) }
 
 -- the state after an accepted command: each raises the count by one, also where nothing else changes
 abbrev pub after : BenchState → Command → BenchState
@@ -106,6 +120,7 @@ after s c = record (changed s c) { seq = s.seq + 1 }
 -- what an accepted command answers
 abbrev pub reply : BenchState → Command → Reply
 reply s (Load image) = Loaded (length image)
-reply s (Run n) = Ran (run_length (stops_of s) n (machine_of s)) (run_stop (stops_of s) n (machine_of s))
+reply s (Run n) =
+    Ran (run_length (stops_of s) n (machine_of s)) (run_stop (stops_of s) n (machine_of s))
 reply s Step = Ran (step_length (machine_of s)) (step_stop (machine_of s))
 reply s _ = Done

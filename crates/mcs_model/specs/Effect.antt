@@ -35,7 +35,9 @@ with_word s w = record s { pc = address_beside s.pc w }
 abbrev pub is_taken : ℕ → Regs → ℕ → Bool
 is_taken condition s test =
     let holds =
-    (condition / 4 % 2 == 1 && s.acc == 0) || (condition / 2 % 2 == 1 && s.cy == 1) || (condition % 2 == 1 && test == 0) in
+    (condition / 4 % 2 == 1 && s.acc == 0)
+    || (condition / 2 % 2 == 1 && s.cy == 1)
+    || (condition % 2 == 1 && test == 0) in
     if condition / 8 % 2 == 1 then not holds else holds
 
 -- JCN: the counter where the jump is taken
@@ -50,11 +52,13 @@ after_isz r w s =
 
 -- JMS: the counter becomes the first return address, and the last one is lost (one list of them: our own choice)
 abbrev pub after_jms : ℕ → Regs → Regs
-after_jms target s = record s { pc = target; ret = s.pc ∷ slice_index s.ret 0 ∷ slice_index s.ret 1 ∷ [] }
+after_jms target s =
+    record s { pc = target; ret = s.pc ∷ slice_index s.ret 0 ∷ slice_index s.ret 1 ∷ [] }
 
 -- BBL: back to the first return address; the counter becomes the last one (our own choice)
 abbrev pub after_bbl : Regs → Regs
-after_bbl s = record s { pc = slice_index s.ret 0; ret = slice_index s.ret 1 ∷ slice_index s.ret 2 ∷ s.pc ∷ [] }
+after_bbl s =
+    record s { pc = slice_index s.ret 0; ret = slice_index s.ret 1 ∷ slice_index s.ret 2 ∷ s.pc ∷ [] }
 
 -- RAR: accumulator and carry one place to the right, round
 abbrev pub after_rar : Regs → Regs

@@ -31,7 +31,9 @@ drives bits keys m j r =
 -- whether some column names line k of a ROM and some row drives that column
 abbrev pub pulled : List ℕ → List ℕ → KeyMatrix → ℕ → ℕ → Bool
 pulled bits keys m chip k =
-    list_any (λ j. is_rom_line chip k (slice_index_or m.columns.items j (Rom 0 0)) && list_any (drives bits keys m j) (range_with_len 0 m.rows))
+    list_any
+    (λ j. is_rom_line chip k (slice_index_or m.columns.items j (Rom 0 0))
+    && list_any (drives bits keys m j) (range_with_len 0 m.rows))
     (range_with_len 0 (length m.columns.items))
 
 -- whether a key pulls line k of a ROM to 1 (our own choice: each key has a diode)

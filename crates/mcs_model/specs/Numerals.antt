@@ -9,11 +9,17 @@ use Rattle.mcs_model.specs.declared.numeral.TheConstants.{LARGE}
 -- the number that some digits write in a base; none where one of them is no digit of it, or where there are none
 abbrev pub digits_in : ℕ → List ℕ → Option ℕ
 digits_in base [] = None
-digits_in base (d ∷ ds) = if list_all (λ c. nat_lt (digit_value c) base) (d ∷ ds) then Some (digits_value base (d ∷ ds)) else None
+digits_in base (d ∷ ds) =
+    if list_all (λ c. nat_lt (digit_value c) base) (d ∷ ds)
+    then Some (digits_value base (d ∷ ds))
+    else None
 
 -- the number that a word writes: decimal digits, or `0x` and hexadecimal digits of either case; leading zeros are allowed
 abbrev pub number_written : List ℕ → Option ℕ
-number_written (z ∷ x ∷ ds) = if z == 48 && x == 120 then digits_in 16 ds else digits_in 10 (z ∷ x ∷ ds)
+number_written (z ∷ x ∷ ds) =
+    if z == 48 && x == 120
+    then digits_in 16 ds
+    else digits_in 10 (z ∷ x ∷ ds)
 number_written word = digits_in 10 word
 
 abbrev pub up_to : ℕ → ℕ → Option ℕ

@@ -12,7 +12,10 @@ use Rattle.mcs_model.specs.Levels.{with_rom_ports_at, with_ram_ports_at}
 
 -- the ROM byte at an address; lost where the ROM is absent
 unfoldable pub with_rom_byte : BusState → ℕ → ℕ → BusState
-with_rom_byte s at byte = if is_some (masks_on s.board (at / 256)) then record s { rom = slice_set s.rom at byte } else s
+with_rom_byte s at byte =
+    if is_some (masks_on s.board (at / 256))
+    then record s { rom = slice_set s.rom at byte }
+    else s
 
 -- the ROM bytes of an image, each at its address
 abbrev pub with_rom_bytes : BusState → List (ℕ × ℕ) → BusState
@@ -21,20 +24,31 @@ with_rom_bytes s (p ∷ image) = with_rom_bytes (with_rom_byte s p.0 p.1) image
 
 -- the port latch of a RAM chip, nothing being clocked; lost where the chip is absent
 unfoldable pub with_ram_latch : BusState → ℕ → ℕ → ℕ → BusState
-with_ram_latch s bank chip n = if nat_lt chip (wired_of s bank) then with_ram_ports_at s (bank * 4 + chip) n else s
+with_ram_latch s bank chip n =
+    if nat_lt chip (wired_of s bank)
+    then with_ram_ports_at s (bank * 4 + chip) n
+    else s
 
 -- the port latch of a ROM, nothing being clocked: n on its output lines, 0 on its input lines; lost where the ROM is
 -- absent
 unfoldable pub with_rom_latch : BusState → ℕ → ℕ → BusState
-with_rom_latch s chip n = elim (masks_on s.board chip) [ Some mask ↦ with_rom_ports_at s chip (latch_value mask n) | None ↦ s ]
+with_rom_latch s chip n =
+    elim (masks_on s.board chip) [
+      | Some mask ↦ with_rom_ports_at s chip (latch_value mask n)
+      | None ↦ s
+    ]
 
 -- the SRC byte that a bank keeps; one without chips stays at 0
 unfoldable pub with_ram_src : BusState → ℕ → ℕ → BusState
-with_ram_src s bank byte = if nat_lt 0 (wired_of s bank) then record s { ram_src = slice_set s.ram_src bank byte } else s
+with_ram_src s bank byte =
+    if nat_lt 0 (wired_of s bank)
+    then record s { ram_src = slice_set s.ram_src bank byte }
+    else s
 
 -- bit i of a chain; nothing is shifted
 abbrev pub with_chain_bit : BusState → ℕ → ℕ → ℕ → BusState
-with_chain_bit s n i bit = record s { chains = slice_set s.chains n (slice_set (slice_index_or s.chains n []) i bit) }
+with_chain_bit s n i bit =
+    record s { chains = slice_set s.chains n (slice_set (slice_index_or s.chains n []) i bit) }
 
 -- the key of a row and a column: 1 where it is down
 abbrev pub with_key : BusState → ℕ → ℕ → ℕ → BusState
@@ -58,7 +72,8 @@ after_reset s = record s {
 
 -- the bytes of the ROMs that a board has, 0 at the others
 unfoldable pub kept_rom : BoardParts → List ℕ → List ℕ
-kept_rom b rom = tabled 4096 (λ at. if is_some (masks_on b (at / 256)) then slice_index rom at else 0)
+kept_rom b rom =
+    tabled 4096 (λ at. if is_some (masks_on b (at / 256)) then slice_index rom at else 0)
 
 -- another board: all keys are up, all that a reset clears is cleared, the bytes of ROMs that it lacks become 0
 abbrev pub after_wire : BusState → BoardParts → BusState

@@ -55,7 +55,8 @@ lamp_mark level = if level == 1 then 42 else 46
 
 -- `lamps`: a mark for each lamp of the board, in order
 abbrev pub lamps_text : BenchState → List ℕ
-lamps_text s = codes "lamps " ++ or_dash (map (λ line. lamp_mark (level s.bus line)) s.bus.board.lamps.items)
+lamps_text s =
+    codes "lamps " ++ or_dash (map (λ line. lamp_mark (level s.bus line)) s.bus.board.lamps.items)
 
 -- register r of a RAM chip, named by bank, chip and register: its 16 characters, and its four status characters
 abbrev pub register_line : BusState → ℕ → ℕ → ℕ → List ℕ
@@ -66,11 +67,14 @@ register_line s bank chip r =
 
 -- the output port of a RAM chip
 abbrev pub port_line : BusState → ℕ → ℕ → List ℕ
-port_line s bank chip = digit_text bank ++ codes "." ++ digit_text chip ++ codes " out " ++ digit_text (slice_index s.ram_ports (bank * 4 + chip))
+port_line s bank chip =
+    digit_text bank ++ codes "." ++ digit_text chip ++ codes " out "
+    ++ digit_text (slice_index s.ram_ports (bank * 4 + chip))
 
 -- a RAM chip: its four registers, and its port
 abbrev pub chip_lines : BusState → ℕ → ℕ → List (List ℕ)
-chip_lines s bank chip = map (register_line s bank chip) (range_with_len 0 4) ++ port_line s bank chip ∷ []
+chip_lines s bank chip =
+    map (register_line s bank chip) (range_with_len 0 4) ++ port_line s bank chip ∷ []
 
 -- `ram`: how many chips a bank has, and what each of them holds
 abbrev pub ram_lines : BusState → ℕ → List (List ℕ)
@@ -108,13 +112,17 @@ bank_src_text s bank =
 
 -- the SRC byte that the ROMs keep, and those of the banks, rising
 abbrev pub src_line : BusState → List ℕ
-src_line s = codes "src " ++ byte_text s.rom_src ++ flat_map (bank_src_text s) (range_with_len 0 BANKS)
+src_line s =
+    codes "src " ++ byte_text s.rom_src ++ flat_map (bank_src_text s) (range_with_len 0 BANKS)
 
 -- the port of a ROM that is there: what its latch holds, and what is read there
 abbrev pub rom_port_lines : BusState → ℕ → List (List ℕ)
 rom_port_lines s chip =
     elim (masks_on s.board chip) [
-      | Some mask ↦ (codes "rom " ++ decimal chip ++ codes " out " ++ digit_text (slice_index s.rom_ports chip) ++ codes " in " ++ digit_text (port_at s chip)) ∷ []
+      | Some mask ↦
+          (codes "rom " ++ decimal chip
+          ++ codes " out " ++ digit_text (slice_index s.rom_ports chip)
+          ++ codes " in " ++ digit_text (port_at s chip)) ∷ []
       | None ↦ []
     ]
 
@@ -124,19 +132,28 @@ bit_text s n i = (if i % 10 == 0 then codes " " else []) ++ digit_text (chain_bi
 
 -- a chain: its bits, bit 0 first
 abbrev pub chain_line : BusState → ℕ → List ℕ
-chain_line s n = codes "chain " ++ digit_text n ++ flat_map (bit_text s n) (range_with_len 0 (chain_bits s.board n))
+chain_line s n =
+    codes "chain " ++ digit_text n
+    ++ flat_map (bit_text s n) (range_with_len 0 (chain_bits s.board n))
 
 -- the keys of a row that are down, each as row and column
 abbrev pub row_keys : BusState → ℕ → ℕ → List ℕ
 row_keys s columns row =
-    flat_map (λ column. if slice_index s.keys (key_place s.board row column) == 1 then codes " " ++ digit_text row ++ codes "." ++ digit_text column else [])
+    flat_map
+    (λ column.
+    if slice_index s.keys (key_place s.board row column) == 1
+    then codes " " ++ digit_text row ++ codes "." ++ digit_text column
+    else [])
     (range_with_len 0 columns)
 
 -- the keys that are down, row by row; no line where the board has no key matrix
 abbrev pub key_lines : BusState → List (List ℕ)
 key_lines s =
     elim s.board.keys [
-      | Some m ↦ (codes "keys" ++ spaced_or_dash (flat_map (row_keys s (length m.columns.items)) (range_with_len 0 m.rows))) ∷ []
+      | Some m ↦
+          (codes "keys"
+          ++ spaced_or_dash
+          (flat_map (row_keys s (length m.columns.items)) (range_with_len 0 m.rows))) ∷ []
       | None ↦ []
     ]
 

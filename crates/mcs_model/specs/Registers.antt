@@ -16,4 +16,5 @@ with_register s r n = record s { r = slice_set s.r r n }
 
 -- both registers of pair k set from a byte
 abbrev pub with_pair : Regs → ℕ → ℕ → Regs
-with_pair s k byte = record s { r = slice_set (slice_set s.r (2 * k) (byte / 16)) (2 * k + 1) (byte % 16) }
+with_pair s k byte =
+    record s { r = slice_set (slice_set s.r (2 * k) (byte / 16)) (2 * k + 1) (byte % 16) }

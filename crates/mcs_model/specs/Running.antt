@@ -35,7 +35,8 @@ at_break breaks k s = nat_lt 0 k && s.0.owed == 0 && list_any (λ a. a == s.0.pc
 
 -- whether a watched RAM character has another value in the machine t than in s
 abbrev pub has_changed : List ℕ → Machine → Machine → Bool
-has_changed watches s t = list_any (λ w. not (slice_index s.1.ram w == slice_index t.1.ram w)) watches
+has_changed watches s t =
+    list_any (λ w. not (slice_index s.1.ram w == slice_index t.1.ram w)) watches
 
 -- what stops a run: breakpoints and watched RAM characters
 pub record Stops : Type 0 where
@@ -57,7 +58,8 @@ stop_after stops n s k = stop_at stops n k (cycled (k - 1) s) (cycled k s)
 
 -- how many cycles a run of n cycles takes: the least k at which it stops
 abbrev pub run_length : Stops → ℕ → Machine → ℕ
-run_length stops n s = unwrap_or (find (λ k. is_some (stop_after stops n s k)) (range_with_len 0 (n + 1))) n
+run_length stops n s =
+    unwrap_or (find (λ k. is_some (stop_after stops n s k)) (range_with_len 0 (n + 1))) n
 
 -- the machine after a run of n cycles
 abbrev pub after_run : Stops → ℕ → Machine → Machine
@@ -91,4 +93,6 @@ step_stop s = unwrap_or (step_at (step_length s) (after_step s)) Ended
 
 -- where no breakpoint is set and nothing is watched, two runs come to where one run of all their cycles does
 abbrev pub RunsCompose : Type 0
-RunsCompose = (s : Machine) (a b : ℕ) → after_run no_stops b (after_run no_stops a s) ≡ after_run no_stops (a + b) s
+RunsCompose =
+    (s : Machine) (a b : ℕ) →
+    after_run no_stops b (after_run no_stops a s) ≡ after_run no_stops (a + b) s

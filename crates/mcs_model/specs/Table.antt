@@ -128,4 +128,5 @@ LeavesOut codes = filter (λ code. is_none (row_of code)) (range_with_len 0 256)
 
 -- no code is in two rows of a table
 abbrev pub is_unambiguous : List Row → Bool
-is_unambiguous table = list_all (λ code. nat_le (count_by (covers (code / 16) (code % 16)) table) 1) (range_with_len 0 256)
+is_unambiguous table =
+    list_all (λ code. nat_le (count_by (covers (code / 16) (code % 16)) table) 1) (range_with_len 0 256)

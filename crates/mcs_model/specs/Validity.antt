@@ -33,16 +33,20 @@ pub record IsInRange (s : BusState) : Type 0 where
   pub rom_src : s.rom_src < 256
   pub ram_src : AreBelow 8 256 s.ram_src
   pub chains : length s.chains ≡ chain_count s.board
-  pub chain_bits : (i : ℕ) → i < chain_count s.board → AreBelow (chain_bits s.board i) 2 (slice_index_or s.chains i [])
+  pub chain_bits : (i : ℕ) → i < chain_count s.board →
+      AreBelow (chain_bits s.board i) 2 (slice_index_or s.chains i [])
   pub keys : AreBelow (key_count s.board) 2 s.keys
   pub test : s.test < 2
 
 -- what is absent holds 0: ROMs, RAM chips, the SRC byte of a bank without chips, and the latch bits of input lines
 pub record IsAbsentZero (s : BusState) : Type 0 where
   pub rom : (at : ℕ) → masks_on s.board (at / 256) ≡ None → slice_index s.rom at ≡ 0
-  pub ram : (bank src : ℕ) → src < 256 → wired_of s bank ≤ src / 64 → slice_index s.ram (bank * 256 + src) ≡ 0
-  pub status : (bank high k : ℕ) → high < 16 → k < 4 → wired_of s bank ≤ high / 4 → slice_index s.status ((bank * 16 + high) * 4 + k) ≡ 0
-  pub ram_ports : (bank chip : ℕ) → chip < 4 → wired_of s bank ≤ chip → slice_index s.ram_ports (bank * 4 + chip) ≡ 0
+  pub ram : (bank src : ℕ) → src < 256 → wired_of s bank ≤ src / 64 →
+      slice_index s.ram (bank * 256 + src) ≡ 0
+  pub status : (bank high k : ℕ) → high < 16 → k < 4 → wired_of s bank ≤ high / 4 →
+      slice_index s.status ((bank * 16 + high) * 4 + k) ≡ 0
+  pub ram_ports : (bank chip : ℕ) → chip < 4 → wired_of s bank ≤ chip →
+      slice_index s.ram_ports (bank * 4 + chip) ≡ 0
   pub rom_ports : (chip : ℕ) → MatchOption (masks_on s.board chip) (slice_index s.rom_ports chip ≡ 0)
       (λ mask. latch_value mask (slice_index s.rom_ports chip) ≡ slice_index s.rom_ports chip)
   pub ram_src : (bank : ℕ) → wired_of s bank ≡ 0 → slice_index s.ram_src bank ≡ 0

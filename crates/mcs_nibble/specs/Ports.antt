@@ -21,7 +21,11 @@ mask_character One = 49
 
 -- the mask that a character stands for
 abbrev pub mask_of : ℕ → Option LineMask
-mask_of c = if c == 105 then Some Input else if c == 48 then Some Zero else if c == 49 then Some One else None
+mask_of c =
+    if c == 105 then Some Input
+    else if c == 48 then Some Zero
+    else if c == 49 then Some One
+    else None
 
 -- the mask of line k
 abbrev pub mask_at : List LineMask → ℕ → LineMask

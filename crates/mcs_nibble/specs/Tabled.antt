@@ -12,4 +12,5 @@ column n f d xs = tabled n (λ i. f (slice_index_or xs i d))
 
 -- `wide` numbers of each of n things, one thing after another
 unfoldable pub grid : {X : Type 0} → ℕ → ℕ → (X → List ℕ) → X → List X → List ℕ
-grid n wide f d xs = tabled (n * wide) (λ i. slice_index (f (slice_index_or xs (i / wide) d)) (i % wide))
+grid n wide f d xs =
+    tabled (n * wide) (λ i. slice_index (f (slice_index_or xs (i / wide) d)) (i % wide))

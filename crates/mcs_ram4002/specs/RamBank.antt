@@ -29,7 +29,8 @@ chip_of src = src / 64
 
 -- a bank of `wired` chips, all 0
 abbrev pub blank_bank : ℕ → BankState
-blank_bank wired = record { wired = wired; src = 0; main = replicate 256 0; status = replicate 64 0; ports = replicate 4 0 }
+blank_bank wired =
+    record { wired = wired; src = 0; main = replicate 256 0; status = replicate 64 0; ports = replicate 4 0 }
 
 -- ---- writes
 
@@ -73,7 +74,8 @@ pub record IsValidBank (b : BankState) : Type 0 where
   pub ports : All (λ n. n < 16) b.ports
   pub src : b.src < 256
   pub absent_main : (src : ℕ) → src < 256 → b.wired ≤ chip_of src → slice_index b.main src ≡ 0
-  pub absent_status : (high k : ℕ) → high < 16 → k < 4 → b.wired ≤ high / 4 → slice_index b.status (status_place high k) ≡ 0
+  pub absent_status : (high k : ℕ) → high < 16 → k < 4 → b.wired ≤ high / 4 →
+      slice_index b.status (status_place high k) ≡ 0
   pub absent_port : (chip : ℕ) → chip < 4 → b.wired ≤ chip → slice_index b.ports chip ≡ 0
   pub absent_src : b.wired ≡ 0 → b.src ≡ 0
 

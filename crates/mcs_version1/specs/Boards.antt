@@ -24,7 +24,9 @@ is_chain_size_1 c = nat_lt 0 c.chips && nat_le c.chips 4
 
 -- whether the numbers of a key matrix are in their ranges
 abbrev pub is_matrix_size_1 : KeyMatrix → Bool
-is_matrix_size_1 m = nat_lt m.chain 2 && nat_lt m.first 40 && nat_lt 0 m.rows && nat_le m.rows KEY_ROWS && nat_lt 0 (length m.columns.items)
+is_matrix_size_1 m =
+    nat_lt m.chain 2 && nat_lt m.first 40 && nat_lt 0 m.rows && nat_le m.rows KEY_ROWS
+    && nat_lt 0 (length m.columns.items)
 
 abbrev pub has_bad_matrix_1 : BoardParts → Bool
 has_bad_matrix_1 b = elim b.keys [ Some m ↦ not (is_matrix_size_1 m) | None ↦ false ]
@@ -53,7 +55,9 @@ pub record IsValidBoard1 (b : BoardParts) : Type 0 where
 
 -- whether a board has at most 2 chains of at most 4 chips
 abbrev pub is_small : BoardParts → Bool
-is_small b = nat_le (length b.chains.items) 2 && not (list_any (λ chain. nat_lt 4 chain.chips) b.chains.items)
+is_small b =
+    nat_le (length b.chains.items) 2
+    && not (list_any (λ chain. nat_lt 4 chain.chips) b.chains.items)
 
 -- the boards of version 1 are those of today that are so small: all its other ranges follow, since lines and rows have to exist
 abbrev pub SmallBoards : Type 0

@@ -33,12 +33,18 @@ in_version_1 _ = true
 
 -- why a state refuses a command for the command's own sake, if it does
 abbrev pub own_refusal_1 : BenchState1 → Command → Option BenchFault
-own_refusal_1 s (Load image) = if list_any (λ p. lacks_rom s.bus.board p.0) image then Some NoRom else None
+own_refusal_1 s (Load image) =
+    if list_any (λ p. lacks_rom s.bus.board p.0) image
+    then Some NoRom
+    else None
 own_refusal_1 s (Press row column) = if has_key s.bus.board row column then None else Some NoKey
 own_refusal_1 s (Release row column) = if has_key s.bus.board row column then None else Some NoKey
 own_refusal_1 s (Run n) = if nat_le 1 n && nat_le n RUN_CYCLES then None else Some BadCount
 own_refusal_1 s (Poke place) = place_refusal s.bus place
-own_refusal_1 s (Break at) = if is_breakpoint s.breakpoints at || nat_lt (length s.breakpoints) BREAKPOINTS then None else Some BreaksFull
+own_refusal_1 s (Break at) =
+    if is_breakpoint s.breakpoints at || nat_lt (length s.breakpoints) BREAKPOINTS
+    then None
+    else Some BreaksFull
 own_refusal_1 s _ = None
 
 -- why a state refuses a command, if it does: a worn session refuses each of them
@@ -64,7 +70,8 @@ abbrev pub with_place_1 : BenchState1 → Place → BenchState1
 with_place_1 s (Acc n) = with_processor_1 s (record s.processor { acc = n })
 with_place_1 s (Cy bit) = with_processor_1 s (record s.processor { cy = bit })
 with_place_1 s (Pc at) = with_processor_1 s (record s.processor { pc = at })
-with_place_1 s (Register r n) = with_processor_1 s (record s.processor { r = slice_set s.processor.r r n })
+with_place_1 s (Register r n) =
+    with_processor_1 s (record s.processor { r = slice_set s.processor.r r n })
 with_place_1 s (Dcl bank) = with_processor_1 s (record s.processor { dcl = bank })
 with_place_1 s (Rom at byte) = with_bus_1 s (with_rom_byte s.bus at byte)
 with_place_1 s (Ram bank src n) = with_bus_1 s (with_ram s.bus bank src n)
@@ -94,6 +101,7 @@ after_1 s c = record (changed_1 s c) { seq = s.seq + 1 }
 -- what an accepted command answers
 abbrev pub reply_1 : BenchState1 → Command → Reply
 reply_1 s (Load image) = Loaded (length image)
-reply_1 s (Run n) = Ran (run_length_1 s.breakpoints n (machine_of_1 s)) (run_stop_1 s.breakpoints n (machine_of_1 s))
+reply_1 s (Run n) =
+    Ran (run_length_1 s.breakpoints n (machine_of_1 s)) (run_stop_1 s.breakpoints n (machine_of_1 s))
 reply_1 s Step = Ran (step_length (machine_of_1 s)) (step_stop (machine_of_1 s))
 reply_1 s _ = Done

@@ -12,4 +12,5 @@ fold_1 s (c ∷ cs) = fold_1 (after_1 s c) cs
 -- each of these commands is one of version 1 and accepted in its turn
 abbrev pub AreAccepted1 : BenchState1 → List Command → Type 0
 AreAccepted1 s [] = Unit {0}
-AreAccepted1 s (c ∷ cs) = IsTrue (in_version_1 c) × ((refusal_1 s c ≡ None) × AreAccepted1 (after_1 s c) cs)
+AreAccepted1 s (c ∷ cs) =
+    IsTrue (in_version_1 c) × ((refusal_1 s c ≡ None) × AreAccepted1 (after_1 s c) cs)

@@ -14,7 +14,8 @@ use Rattle.mcs_version1.specs.QueryText.{Query1, text_1, Lamps, Regs, Ram, Break
 
 -- the same fields, and nothing is watched; the board and what its chips hold are the same
 abbrev pub lift : BenchState1 → BenchState
-lift s = record { processor = s.processor; bus = s.bus; breakpoints = s.breakpoints; watches = []; seq = s.seq }
+lift s =
+    record { processor = s.processor; bus = s.bus; breakpoints = s.breakpoints; watches = []; seq = s.seq }
 
 abbrev pub lift_query : Query1 → Query
 lift_query Lamps = asked.Lamps
@@ -36,4 +37,6 @@ abbrev pub QueriesLift : Type 0
 QueriesLift = (s : BenchState1) (q : Query1) → text (lift_query q) (lift s) ≡ text_1 q s
 
 abbrev pub FoldsLift : Type 0
-FoldsLift = (s : BenchState1) (cs : List Command) → AreAccepted1 s cs → lift (fold_1 s cs) ≡ fold (lift s) cs
+FoldsLift =
+    (s : BenchState1) (cs : List Command) → AreAccepted1 s cs →
+    lift (fold_1 s cs) ≡ fold (lift s) cs

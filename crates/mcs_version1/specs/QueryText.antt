@@ -29,7 +29,8 @@ regs_text_1 s =
 
 -- the answer to a query
 abbrev pub text_1 : Query1 → BenchState1 → List ℕ
-text_1 Lamps s = codes "lamps " ++ or_dash (map (λ line. lamp_mark (level s.bus line)) s.bus.board.lamps.items)
+text_1 Lamps s =
+    codes "lamps " ++ or_dash (map (λ line. lamp_mark (level s.bus line)) s.bus.board.lamps.items)
 text_1 Regs s = regs_text_1 s
 text_1 (Ram bank) s = join_with_byte 10 (ram_lines s.bus bank)
 text_1 Breaks s = codes "breaks " ++ or_dash (join_by address_text (codes " ") s.breakpoints)

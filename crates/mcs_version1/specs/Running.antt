@@ -15,7 +15,8 @@ stop_at_1 breaks n k s =
 
 -- how many cycles a run of n cycles takes: the least k at which it stops
 abbrev pub run_length_1 : List ℕ → ℕ → Machine → ℕ
-run_length_1 breaks n s = unwrap_or (find (λ k. is_some (stop_at_1 breaks n k (cycled k s))) (range_with_len 0 (n + 1))) n
+run_length_1 breaks n s =
+    unwrap_or (find (λ k. is_some (stop_at_1 breaks n k (cycled k s))) (range_with_len 0 (n + 1))) n
 
 -- the machine after a run of n cycles
 abbrev pub after_run_1 : List ℕ → ℕ → Machine → Machine
@@ -23,4 +24,5 @@ after_run_1 breaks n s = cycled (run_length_1 breaks n s) s
 
 -- why a run of n cycles stops
 abbrev pub run_stop_1 : List ℕ → ℕ → Machine → Stop
-run_stop_1 breaks n s = unwrap_or (stop_at_1 breaks n (run_length_1 breaks n s) (after_run_1 breaks n s)) Ended
+run_stop_1 breaks n s =
+    unwrap_or (stop_at_1 breaks n (run_length_1 breaks n s) (after_run_1 breaks n s)) Ended
