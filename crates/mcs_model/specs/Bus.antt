@@ -12,7 +12,7 @@ pub record BusState : Type 0 where
   pub rom : List ℕ
   -- the RAM characters, at bank * 256 + SRC byte: 2,048, absent ones 0
   pub ram : List ℕ
-  -- the status characters, at (bank * 16 + upper nibble of SRC) * 4 + k: 512, absent ones 0
+  -- the status characters, at bank * 64 + upper nibble of SRC * 4 + k: 512, absent ones 0
   pub status : List ℕ
   -- the port latches of the RAM chips, at bank * 4 + chip: 32, absent ones 0
   pub ram_ports : List ℕ
@@ -49,7 +49,7 @@ zero_bus = record {
 unfoldable pub fetch_of : BusState → ℕ → ℕ
 fetch_of s at = slice_index s.rom at
 
--- how many chips a bank has, which is named by its DCL code (our own choice)
+-- how many chips a bank has; a bank is named by its DCL code (our own choice)
 abbrev pub wired_of : BusState → ℕ → ℕ
 wired_of s bank = slice_index s.board.banks bank
 
@@ -62,7 +62,7 @@ src_of s bank = slice_index s.ram_src bank
 abbrev pub has_chip : BusState → ℕ → ℕ → Bool
 has_chip s bank src = nat_lt (src / 64) (wired_of s bank)
 
--- SRC sends a byte: the ROMs keep it, and the designated bank where it has chips
+-- SRC sends a byte: the ROMs keep it, and so does the designated bank if it has chips
 -- (MCS-4 Users Manual, SRC; that the other banks keep their own is our own choice)
 unfoldable pub after_src : BusState → ℕ → ℕ → BusState
 after_src s bank byte =

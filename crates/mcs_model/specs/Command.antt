@@ -26,7 +26,7 @@ use Rattle.mcs_model.specs.Running.{Machine, Stops, run_length, after_run, run_s
 abbrev pub lacks_rom : BoardParts → ℕ → Bool
 lacks_rom b at = is_none (masks_on b (at / 256))
 
--- why a value cannot be put into a place, if so
+-- why a value cannot be put into a place, if it cannot
 abbrev pub place_refusal : BusState → Place → Option BenchFault
 place_refusal s (Rom at byte) = if lacks_rom s.board at then Some NoRom else None
 place_refusal s (Ram bank src n) = if has_chip s bank src then None else Some NoSuchPlace
@@ -60,7 +60,8 @@ own_refusal s (Watch bank src) =
     else Some WatchesFull
 own_refusal s _ = None
 
--- why a state refuses a command, if it does: a worn session refuses each of them
+-- why a state refuses a command, if it does: a worn session, which has accepted all commands that it can
+-- count, refuses every one
 abbrev pub refusal : BenchState → Command → Option BenchFault
 refusal s c = if s.seq == ACCEPTED_COMMANDS then Some Worn else own_refusal s c
 
@@ -69,7 +70,7 @@ refusal s c = if s.seq == ACCEPTED_COMMANDS then Some Worn else own_refusal s c
 abbrev pub machine_of : BenchState → Machine
 machine_of s = (s.processor, s.bus)
 
--- what stops a run from it
+-- what stops a run that begins in this state
 abbrev pub stops_of : BenchState → Stops
 stops_of s = record { breaks = s.breakpoints; watches = s.watches }
 

@@ -1,6 +1,6 @@
 -- The effect of each instruction, and one instruction cycle.
 -- (Intel MCS-4 Users Manual, instruction set: each rule is the description of the instruction that it
--- names, in the manual's three groups. Our own choice are: codes outside the table, one list of return
+-- names, in the manual's three groups. Our own choices are: codes outside the table, one list of return
 -- addresses, the bank that the DCL code names, an SRC byte for each bank, and that an instruction of two
 -- cycles does all its work in the first.)
 use Rattle.std.specs.Prelude.{ℕ, ◌+◌, ◌-◌, ◌*◌, ◌/◌, ◌%◌, Bool, ◌&&◌, ◌||◌, not, [], ◌∷◌, Option, Some, None, slice_index, if◌then◌else◌, nat_lt, ◌==◌}
@@ -31,7 +31,7 @@ abbrev pub with_word : Regs → ℕ → Regs
 with_word s w = record s { pc = address_beside s.pc w }
 
 -- JCN: whether the jump is taken. Condition bit 2 asks for an accumulator of 0, bit 1 for a carry of 1,
--- bit 0 for a TEST of 0, and bit 3 turns the answer over.
+-- bit 0 for a TEST of 0, and bit 3 inverts the answer.
 abbrev pub is_taken : ℕ → Regs → ℕ → Bool
 is_taken condition s test =
     let holds =
@@ -50,17 +50,18 @@ after_isz r w s =
     let n = (register_of s r + 1) % 16 in
     if n == 0 then with_register s r n else with_word (with_register s r n) w
 
--- JMS: the counter becomes the first return address, and the last one is lost (one list of them: our own choice)
+-- JMS: the counter goes in front of the return addresses, and the last of them is lost (one list: our own
+-- choice)
 abbrev pub after_jms : ℕ → Regs → Regs
 after_jms target s =
     record s { pc = target; ret = s.pc ∷ slice_index s.ret 0 ∷ slice_index s.ret 1 ∷ [] }
 
--- BBL: back to the first return address; the counter becomes the last one (our own choice)
+-- BBL: on at the first return address; the counter goes after the others (our own choice)
 abbrev pub after_bbl : Regs → Regs
 after_bbl s =
     record s { pc = slice_index s.ret 0; ret = slice_index s.ret 1 ∷ slice_index s.ret 2 ∷ s.pc ∷ [] }
 
--- RAR: accumulator and carry one place to the right, round
+-- RAR: the accumulator rotated one place to the right, through the carry
 abbrev pub after_rar : Regs → Regs
 after_rar s = record s { acc = 8 * s.cy + s.acc / 2; cy = s.acc % 2 }
 
@@ -83,7 +84,8 @@ key_of n =
 
 -- The registers after an instruction on a bus, where the counter already stands after its words: first
 -- the machine instructions (NOP to LDM), then those for RAM and ports (WRM to RD3), then the
--- accumulator group (CLB to DCL).
+-- accumulator group (CLB to DCL). SUB, SBM: a carry of 1 going in is a borrow; coming out, 1 says that
+-- nothing was borrowed.
 abbrev pub registers_after : Op → Regs → BusState → Regs
 registers_after Nop s _ = s
 registers_after (Jcn c b) s m = after_jcn c b s m.test

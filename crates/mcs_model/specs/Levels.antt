@@ -1,5 +1,5 @@
--- The levels of lines, and what reading and writing a port does. (Our own choice throughout: positive logic, so that a line
--- at 1 carries the bit 1.)
+-- The levels of lines, and what reading and writing a port does. (4001, 4002 and 4003 data sheets, as each
+-- definition says. Our own choice: positive logic, so that a line at 1 carries the bit 1.)
 use Rattle.std.specs.Prelude.{ℕ, ◌+◌, ◌*◌, ◌/◌, Bool, false, ◌&&◌, ◌==◌, List, [], ◌∷◌, Some, None, length, take, slice_index, slice_index_or, slice_set, if◌then◌else◌}
 use Rattle.std.specs.List.{list_any, range_with_len}
 use Rattle.mcs_nibble.specs.Bits.{bit_of}
@@ -61,8 +61,8 @@ level s (Chain n i) = chain_bit s n i
 unfoldable pub clock_levels : BusState → List ℕ
 clock_levels s = tabled (chain_count s.board) (λ i. level s (chain_part s.board i).clock)
 
--- the bits of chain i after a port write that left s and found its clock line at `was`: where that
--- rose, each bit moves one place up, the data line's level becomes bit 0, and the last bit is lost
+-- the bits of chain i after a port write: s is the bus as the write leaves it, `was` the level of the
+-- chain's clock line before it. Where that rose, each bit moves one place up, the data line's level becomes bit 0, and the last bit is lost
 -- (4003 data sheet: a shift register with a serial input; edge, order and data level are our own choice)
 unfoldable pub clocked : BusState → ℕ → ℕ → List ℕ → List ℕ
 clocked s i was row =
