@@ -1,9 +1,10 @@
 -- The levels of lines, and what reading and writing a port does. (4001, 4002 and 4003 data sheets, as each
 -- definition says. Our own choice: positive logic, so that a line at 1 carries the bit 1.)
-use Rattle.std.specs.Prelude.{ℕ, ◌+◌, ◌*◌, ◌/◌, Bool, false, ◌&&◌, ◌==◌, List, [], ◌∷◌, Some, None, length, take, slice_index, slice_index_or, slice_set, if◌then◌else◌}
+use Rattle.std.specs.Prelude.{ℕ, ◌+◌, ◌*◌, ◌/◌, Bool, false, ◌&&◌, ◌==◌, List, [], Some, None, length, slice_index, slice_index_or, slice_set, if◌then◌else◌}
 use Rattle.std.specs.List.{list_any, range_with_len}
 use Rattle.mcs_nibble.specs.Bits.{bit_of}
 use Rattle.mcs_nibble.specs.Ports.{latch_value, read_lines}
+use Rattle.mcs_nibble.specs.Shifting.{shifted}
 use Rattle.mcs_nibble.specs.Tabled.{tabled}
 use Rattle.mcs_model.specs.declared.board.KeyMatrix.{KeyMatrix}
 use Rattle.mcs_model.specs.declared.board.Line.{Line}
@@ -67,7 +68,7 @@ clock_levels s = tabled (chain_count s.board) (λ i. level s (chain_part s.board
 unfoldable pub clocked : BusState → ℕ → ℕ → List ℕ → List ℕ
 clocked s i was row =
     if was == 0 && level s (chain_part s.board i).clock == 1
-    then take (length row) (level s (chain_part s.board i).data_in ∷ row)
+    then shifted (level s (chain_part s.board i).data_in) row
     else row
 
 -- the chains clocked, where their clock lines were at `before`

@@ -6,7 +6,7 @@
 ghost use Rattle.std.specs.Prelude.{◌≡◌, ◌≢◌, ℕ, ◌+◌, ◌*◌, ◌/◌, ◌%◌, ◌<◌, ◌≤◌, All, length, replicate, slice_index, slice_get, slice_set};
 ghost use Rattle.mcs_nibble.specs.Bits.{bit_of};
 ghost use Rattle.mcs_shift4003.specs.Packing.{packed_bit, bit_before, IsPacked};
-ghost use Rattle.mcs_shift4003.specs.Shifting.{shifted};
+ghost use Rattle.mcs_nibble.specs.Shifting.{shifted};
 
 use arrayvec::ArrayVec;
 use mcs_nibble::Bit;

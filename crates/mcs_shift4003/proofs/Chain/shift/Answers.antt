@@ -1,6 +1,6 @@
 use Rattle.std.proofs.Common.{◌≡◌, ap, ◌∙◌, List, ℕ, length}
 use Rattle.mcs_shift4003.specs.Packing.{bit_before, chain_bits_of}
-use Rattle.mcs_shift4003.specs.Shifting.{shifted}
+use Rattle.mcs_nibble.specs.Shifting.{shifted}
 use Rattle.mcs_shift4003.proofs.WordLemmas.{shifted-row, back}
 use Rattle.mcs_shift4003.proofs.Chain.shift.Goals as goal
 
