@@ -7,12 +7,12 @@ use Rattle.mcs_wiring.proofs.PartTexts.{one_more}
 use Rattle.mcs_model.specs.QueryText.{as_line, or_dash, stretch}
 
 -- a piece after what was written already
-pub behind : (a p b x c : List ℕ) → b ≡ a ++ p → c ≡ b ++ x → c ≡ a ++ (p ++ x)
-behind a p b x c so_far here = here ∙ ap (λ v. v ++ x) so_far ∙ append_assoc a p x
+pub one_after : (a p b x c : List ℕ) → b ≡ a ++ p → c ≡ b ++ x → c ≡ a ++ (p ++ x)
+one_after a p b x c so_far here = here ∙ ap (λ v. v ++ x) so_far ∙ append_assoc a p x
 
 -- two pieces after it
-pub behind_two : (a p b x y c : List ℕ) → b ≡ a ++ p → c ≡ b ++ x ++ y → c ≡ a ++ (p ++ x ++ y)
-behind_two a p b x y c so_far here = here ∙ ap (λ v. v ++ x ++ y) so_far ∙ ap (λ v. v ++ y) (append_assoc a p x) ∙ append_assoc a (p ++ x) y
+pub two_after : (a p b x y c : List ℕ) → b ≡ a ++ p → c ≡ b ++ x ++ y → c ≡ a ++ (p ++ x ++ y)
+two_after a p b x y c so_far here = here ∙ ap (λ v. v ++ x ++ y) so_far ∙ ap (λ v. v ++ y) (append_assoc a p x) ∙ append_assoc a (p ++ x) y
 
 -- one element more of a list that is written element by element
 pub mapped : {X : Type 0} (f : X → ℕ) (xs : List X) (i : ℕ) (d : X) (a b c : List ℕ) → i < length xs

@@ -25,7 +25,8 @@ stop_name Breakpoint = codes "break"
 stop_name Watched = codes "watch"
 stop_name Ended = codes "end"
 
--- what a reply tells after the count of commands: how many bytes were loaded, or how many cycles were run and why no more
+-- what a reply tells after the count of commands: how many bytes were loaded, or how many cycles
+-- were run and why no more
 abbrev pub reply_text : Reply → List ℕ
 reply_text Done = []
 reply_text (Loaded bytes) = codes " bytes " ++ decimal bytes
@@ -41,7 +42,8 @@ no_text number = codes "no " ++ (decimal number ++ line_feed)
 
 -- the answer to a text that is refused for what one of its lines says; its lines are counted from 1
 abbrev pub no_line_text : ℕ → ℕ → List ℕ
-no_line_text number line = codes "no " ++ (decimal number ++ (codes " line " ++ (decimal line ++ line_feed)))
+no_line_text number line =
+    codes "no " ++ (decimal number ++ (codes " line " ++ (decimal line ++ line_feed)))
 
 -- the answer to a query
 abbrev pub query_answer : Query → BenchState → List ℕ

@@ -7,4 +7,5 @@ use Rattle.mcs_model.specs.QueryText.{digit_text}
 -- the row and the column of a key that is down, after a space
 abbrev pub key_text : BusState → ℕ → ℕ → List ℕ
 key_text s row column =
-    if slice_index s.keys (key_place s.board row column) == 1 then codes " " ++ digit_text row ++ codes "." ++ digit_text column else []
+    if slice_index s.keys (key_place s.board row column) == 1
+    then codes " " ++ digit_text row ++ codes "." ++ digit_text column else []

@@ -22,7 +22,8 @@ fn lamp_mark(level: Bit) -> u8
 /// Adds a mark for each lamp of the board, in order.
 fn put_marks(answer: &mut ArrayVec<u8, ANSWER_BYTES>, bench: &Bench)
     requires { array_vec_len answer.old ≤ 100 }
-    ensures text { answer.new.items ≡ answer.old.items ++ map (λ line. lamp_mark (level bench.now.bus line)) bench.now.bus.board.lamps.items }
+    ensures text { answer.new.items ≡ answer.old.items
+        ++ map (λ line. lamp_mark (level bench.now.bus line)) bench.now.bus.board.lamps.items }
     ensures count { length answer.new.items ≤ length answer.old.items + 64 }
 {
     let lamps = bench.board().parts().lamps.len();
@@ -49,7 +50,8 @@ pub fn put_lamps(answer: &mut ArrayVec<u8, ANSWER_BYTES>, bench: &Bench)
 /// Adds addresses, each after a space.
 fn put_addresses(answer: &mut ArrayVec<u8, ANSWER_BYTES>, list: &[Addr])
     requires room { array_vec_len answer.old + 4 * length list.now ≤ ANSWER_BYTES }
-    ensures text { answer.new.items ≡ answer.old.items ++ flat_map (λ at. codes " " ++ address_text at) list.now }
+    ensures text { answer.new.items
+        ≡ answer.old.items ++ flat_map (λ at. codes " " ++ address_text at) list.now }
     ensures count { length answer.new.items ≡ length answer.old.items + 4 * length list.now }
 {
     for at in list {
@@ -86,7 +88,8 @@ fn put_watch(answer: &mut ArrayVec<u8, ANSWER_BYTES>, word: &[u8], watch: Addr)
 /// Adds watched characters, each after a space.
 fn put_places(answer: &mut ArrayVec<u8, ANSWER_BYTES>, list: &[Addr])
     requires room { array_vec_len answer.old + 5 * length list.now ≤ ANSWER_BYTES }
-    ensures text { answer.new.items ≡ answer.old.items ++ flat_map (λ watch. codes " " ++ watch_text watch) list.now }
+    ensures text { answer.new.items
+        ≡ answer.old.items ++ flat_map (λ watch. codes " " ++ watch_text watch) list.now }
     ensures count { length answer.new.items ≡ length answer.old.items + 5 * length list.now }
 {
     for watch in list {

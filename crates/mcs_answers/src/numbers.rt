@@ -31,7 +31,8 @@ pub fn put_number(answer: &mut ArrayVec<u8, ANSWER_BYTES>, word: &[u8], n: u64)
     put(answer, b"\n");
 }
 
-/// Tells the refusal of a text by its number and the line that it is for, counted from 1, in an empty answer.
+/// Tells the refusal of a text by its number and the line that it is for, counted from 1, in an
+/// empty answer.
 pub fn put_refusal_at(answer: &mut ArrayVec<u8, ANSWER_BYTES>, number: u8, line: u64)
     requires { answer.old.items ≡ [] }
     ensures { answer.new.items ≡ no_line_text number line }
@@ -55,7 +56,7 @@ fn stop_name(stop: Stop) -> &'static [u8]
 }
 
 /// Adds what a reply tells after the count of commands.
-fn put_told(answer: &mut ArrayVec<u8, ANSWER_BYTES>, reply: &Reply)
+fn put_reply_text(answer: &mut ArrayVec<u8, ANSWER_BYTES>, reply: &Reply)
     requires { array_vec_len answer.old ≤ 100 }
     ensures text { answer.new.items ≡ answer.old.items ++ reply_text reply.now }
     ensures count { length answer.new.items ≤ length answer.old.items + 50 }
@@ -77,6 +78,6 @@ pub fn put_reply(answer: &mut ArrayVec<u8, ANSWER_BYTES>, reply: &Reply, bench: 
     ensures { answer.new.items ≡ ok_text reply.now bench.now }
 {
     put_counted(answer, b"ok ", u64::from(bench.seq()));
-    put_told(answer, reply);
+    put_reply_text(answer, reply);
     put(answer, b"\n");
 }

@@ -23,7 +23,8 @@ fn are_within_limits(bench: &Bench)
     ensures chains { chain_count bench.now.bus.board ≤ CHAINS }
     ensures chips { (n : ℕ) → (chain_part bench.now.bus.board n).chips ≤ CHAIN_CHIPS }
     ensures rows { (m : KeyMatrix) → bench.now.bus.board.keys ≡ Some m → m.rows ≤ KEY_ROWS }
-    ensures columns { (m : KeyMatrix) → bench.now.bus.board.keys ≡ Some m → length m.columns.items ≤ KEY_COLUMNS }
+    ensures columns { (m : KeyMatrix) → bench.now.bus.board.keys ≡ Some m
+        → length m.columns.items ≤ KEY_COLUMNS }
 {
     bench.show_state_is_valid();
 }
@@ -69,7 +70,8 @@ fn put_small(answer: &mut ArrayVec<u8, ANSWER_BYTES>, word: &[u8], n: u8)
 fn put_rom(answer: &mut ArrayVec<u8, ANSWER_BYTES>, bench: &Bench, chip: u8)
     requires chip { chip < 16 }
     requires room { array_vec_len answer.old + ROM_BYTES ≤ ANSWER_BYTES }
-    ensures text { answer.new.items ≡ answer.old.items ++ flat_map as_line (rom_port_lines bench.now.bus chip) }
+    ensures text { answer.new.items
+        ≡ answer.old.items ++ flat_map as_line (rom_port_lines bench.now.bus chip) }
     ensures count { length answer.new.items ≤ length answer.old.items + ROM_BYTES }
 {
     if bench.board().mask(chip).is_some() {
@@ -83,7 +85,9 @@ fn put_rom(answer: &mut ArrayVec<u8, ANSWER_BYTES>, bench: &Bench, chip: u8)
 /// Adds the lines of the ROMs.
 fn put_roms(answer: &mut ArrayVec<u8, ANSWER_BYTES>, bench: &Bench)
     requires { array_vec_len answer.old + ROMS * ROM_BYTES ≤ ANSWER_BYTES }
-    ensures text { answer.new.items ≡ answer.old.items ++ flat_map (λ chip. flat_map as_line (rom_port_lines bench.now.bus chip)) (range_with_len 0 ROMS) }
+    ensures text { answer.new.items ≡ answer.old.items
+        ++ flat_map (λ chip. flat_map as_line (rom_port_lines bench.now.bus chip))
+        (range_with_len 0 ROMS) }
     ensures count { length answer.new.items ≤ length answer.old.items + ROMS * ROM_BYTES }
 {
     for chip in 0..ROMS as u8 {
@@ -95,7 +99,8 @@ fn put_roms(answer: &mut ArrayVec<u8, ANSWER_BYTES>, bench: &Bench)
 fn put_bit(answer: &mut ArrayVec<u8, ANSWER_BYTES>, bench: &Bench, n: u8, i: u8)
     requires { array_vec_len answer.old + 2 ≤ ANSWER_BYTES }
     ensures text { answer.new.items ≡ answer.old.items ++ bit_text bench.now.bus n i }
-    ensures count { length answer.new.items + (i + 9) / 10 ≤ length answer.old.items + (i + 10) / 10 + 1 }
+    ensures count { length answer.new.items + (i + 9) / 10
+        ≤ length answer.old.items + (i + 10) / 10 + 1 }
 {
     let bit = bench.chain_bit(n, i).get();
     if i % 10 == 0 {
@@ -134,7 +139,9 @@ fn put_chain(answer: &mut ArrayVec<u8, ANSWER_BYTES>, bench: &Bench, n: u8)
 /// Adds the lines of the chains.
 fn put_chains(answer: &mut ArrayVec<u8, ANSWER_BYTES>, bench: &Bench)
     requires { array_vec_len answer.old + CHAINS * CHAIN_BYTES ≤ ANSWER_BYTES }
-    ensures text { answer.new.items ≡ answer.old.items ++ flat_map (λ n. as_line (chain_line bench.now.bus n)) (range_with_len 0 (chain_count bench.now.bus.board)) }
+    ensures text { answer.new.items ≡ answer.old.items
+        ++ flat_map (λ n. as_line (chain_line bench.now.bus n))
+        (range_with_len 0 (chain_count bench.now.bus.board)) }
     ensures count { length answer.new.items ≤ length answer.old.items + CHAINS * CHAIN_BYTES }
 {
     are_within_limits(bench);
@@ -161,7 +168,8 @@ fn put_key(answer: &mut ArrayVec<u8, ANSWER_BYTES>, bench: &Bench, row: u8, colu
 
 /// Adds the keys of a row that are down.
 fn put_row(answer: &mut ArrayVec<u8, ANSWER_BYTES>, bench: &Bench, columns: u8, row: u8)
-    requires keys { (column : ℕ) → column < columns → has_key bench.now.bus.board row column ≡ true }
+    requires keys { (column : ℕ) → column < columns
+        → has_key bench.now.bus.board row column ≡ true }
     requires columns { columns ≤ KEY_COLUMNS }
     requires row { row < KEY_ROWS }
     requires room { array_vec_len answer.old + 4 * KEY_COLUMNS ≤ ANSWER_BYTES }
@@ -175,11 +183,13 @@ fn put_row(answer: &mut ArrayVec<u8, ANSWER_BYTES>, bench: &Bench, columns: u8, 
 
 /// Adds the keys that are down, row by row.
 fn put_rows(answer: &mut ArrayVec<u8, ANSWER_BYTES>, bench: &Bench, rows: u8, columns: u8)
-    requires keys { (row column : ℕ) → row < rows → column < columns → has_key bench.now.bus.board row column ≡ true }
+    requires keys { (row column : ℕ) → row < rows → column < columns
+        → has_key bench.now.bus.board row column ≡ true }
     requires rows { rows ≤ KEY_ROWS }
     requires columns { columns ≤ KEY_COLUMNS }
     requires room { array_vec_len answer.old + 4 * KEYS ≤ ANSWER_BYTES }
-    ensures text { answer.new.items ≡ answer.old.items ++ flat_map (row_keys bench.now.bus columns) (range_with_len 0 rows) }
+    ensures text { answer.new.items
+        ≡ answer.old.items ++ flat_map (row_keys bench.now.bus columns) (range_with_len 0 rows) }
     ensures count { length answer.new.items ≤ length answer.old.items + 4 * KEYS }
 {
     for row in 0..rows {
@@ -188,12 +198,14 @@ fn put_rows(answer: &mut ArrayVec<u8, ANSWER_BYTES>, bench: &Bench, rows: u8, co
 }
 
 /// Adds the keys that are down, row by row, or a dash where none is.
-fn put_down(answer: &mut ArrayVec<u8, ANSWER_BYTES>, bench: &Bench, rows: u8, columns: u8)
-    requires keys { (row column : ℕ) → row < rows → column < columns → has_key bench.now.bus.board row column ≡ true }
+fn put_keys_down(answer: &mut ArrayVec<u8, ANSWER_BYTES>, bench: &Bench, rows: u8, columns: u8)
+    requires keys { (row column : ℕ) → row < rows → column < columns
+        → has_key bench.now.bus.board row column ≡ true }
     requires rows { rows ≤ KEY_ROWS }
     requires columns { columns ≤ KEY_COLUMNS }
     requires room { array_vec_len answer.old + 4 * KEYS ≤ ANSWER_BYTES }
-    ensures text { answer.new.items ≡ answer.old.items ++ spaced_or_dash (flat_map (row_keys bench.now.bus columns) (range_with_len 0 rows)) }
+    ensures text { answer.new.items ≡ answer.old.items
+        ++ spaced_or_dash (flat_map (row_keys bench.now.bus columns) (range_with_len 0 rows)) }
     ensures count { length answer.new.items ≤ length answer.old.items + 4 * KEYS }
 {
     let before = answer.len();
@@ -212,7 +224,7 @@ fn put_keys(answer: &mut ArrayVec<u8, ANSWER_BYTES>, bench: &Bench)
     if let Some(matrix) = &bench.board().parts().keys {
         let columns = matrix.columns.len() as u8;
         put(answer, b"keys");
-        put_down(answer, bench, matrix.rows, columns);
+        put_keys_down(answer, bench, matrix.rows, columns);
         put(answer, b"\n");
     }
 }

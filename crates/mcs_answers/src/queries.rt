@@ -33,7 +33,8 @@ pub fn put_query(answer: &mut ArrayVec<u8, ANSWER_BYTES>, query: Query, bench: &
     }
 }
 
-/// The answer to `list`: a listing of a bench's ROM, from an address on. It fails where memory is refused.
+/// The answer to `list`: a listing of a bench's ROM, from an address on. It fails where memory is
+/// refused.
 pub fn listing_answer(
     alloc: Global,
     from: Addr,
@@ -46,8 +47,9 @@ pub fn listing_answer(
     Ok(listing(alloc, &rom, from, usize::from(lines))?.into_bytes())
 }
 
-/// Tells the wiring of the board: its head is put into an empty answer, and the lines after it, which take memory, are
-/// handed back. It fails where memory is refused, and then the head counts for nothing.
+/// Tells the wiring of the board: its head is put into an empty answer, and the lines after it,
+/// which take memory, are handed back. It fails where memory is refused, and then the head counts
+/// for nothing.
 pub fn put_board(
     alloc: Global,
     head: &mut ArrayVec<u8, ANSWER_BYTES>,

@@ -27,7 +27,8 @@ fn put_main(answer: &mut ArrayVec<u8, ANSWER_BYTES>, bench: &Bench, bank: u8, ch
     requires chip { chip < 4 }
     requires r { r < 4 }
     requires room { array_vec_len answer.old + 16 ≤ ANSWER_BYTES }
-    ensures text { answer.new.items ≡ answer.old.items ++ map hex_digit (stretch bench.now.bus.ram (bank * 256 + chip * 64 + r * 16) 16) }
+    ensures text { answer.new.items ≡ answer.old.items
+        ++ map hex_digit (stretch bench.now.bus.ram (bank * 256 + chip * 64 + r * 16) 16) }
     ensures count { length answer.new.items ≡ length answer.old.items + 16 }
 {
     are_whole(bench);
@@ -43,7 +44,8 @@ fn put_status(answer: &mut ArrayVec<u8, ANSWER_BYTES>, bench: &Bench, bank: u8, 
     requires chip { chip < 4 }
     requires r { r < 4 }
     requires room { array_vec_len answer.old + 4 ≤ ANSWER_BYTES }
-    ensures text { answer.new.items ≡ answer.old.items ++ map hex_digit (stretch bench.now.bus.status (bank * 64 + chip * 16 + r * 4) 4) }
+    ensures text { answer.new.items ≡ answer.old.items
+        ++ map hex_digit (stretch bench.now.bus.status (bank * 64 + chip * 16 + r * 4) 4) }
     ensures count { length answer.new.items ≡ length answer.old.items + 4 }
 {
     are_whole(bench);
@@ -60,7 +62,8 @@ fn put_register(answer: &mut ArrayVec<u8, ANSWER_BYTES>, bench: &Bench, bank: u8
     requires chip { chip < 4 }
     requires r { r < 4 }
     requires room { array_vec_len answer.old + 28 ≤ ANSWER_BYTES }
-    ensures text { answer.new.items ≡ answer.old.items ++ as_line (register_line bench.now.bus bank chip r) }
+    ensures text { answer.new.items
+        ≡ answer.old.items ++ as_line (register_line bench.now.bus bank chip r) }
     ensures count { length answer.new.items ≡ length answer.old.items + 28 }
 {
     put_digit(answer, b"", bank);
@@ -78,7 +81,8 @@ fn put_port(answer: &mut ArrayVec<u8, ANSWER_BYTES>, bench: &Bench, bank: u8, ch
     requires bank { bank < 8 }
     requires chip { chip < 4 }
     requires room { array_vec_len answer.old + 10 ≤ ANSWER_BYTES }
-    ensures text { answer.new.items ≡ answer.old.items ++ as_line (port_line bench.now.bus bank chip) }
+    ensures text { answer.new.items
+        ≡ answer.old.items ++ as_line (port_line bench.now.bus bank chip) }
     ensures count { length answer.new.items ≡ length answer.old.items + 10 }
 {
     put_digit(answer, b"", bank);
@@ -92,7 +96,8 @@ fn put_chip(answer: &mut ArrayVec<u8, ANSWER_BYTES>, bench: &Bench, bank: u8, ch
     requires bank { bank < 8 }
     requires chip { chip < 4 }
     requires room { array_vec_len answer.old + 122 ≤ ANSWER_BYTES }
-    ensures text { answer.new.items ≡ answer.old.items ++ flat_map as_line (chip_lines bench.now.bus bank chip) }
+    ensures text { answer.new.items
+        ≡ answer.old.items ++ flat_map as_line (chip_lines bench.now.bus bank chip) }
     ensures count { length answer.new.items ≡ length answer.old.items + 122 }
 {
     for r in 0..4 {

@@ -55,12 +55,15 @@ spelt_before lines names i = record { at = address_of lines i; pairs = pairs_bef
 -- the pairs with those of one more line, or its fault of class two
 abbrev pub spelt_with_bytes : Spelt → ℕ → Result (List ℕ) SourceFault → Result Spelt SourceFault
 spelt_with_bytes s next (Err f) = Err f
-spelt_with_bytes s next (Ok bytes) = if overlaps s.pairs s.at (length bytes) then Err Overlap else Ok (record { at = next; pairs = s.pairs ++ from_address s.at bytes })
+spelt_with_bytes s next (Ok bytes) =
+    if overlaps s.pairs s.at (length bytes) then Err Overlap
+    else Ok (record { at = next; pairs = s.pairs ++ from_address s.at bytes })
 
 abbrev pub spelt_with_line : Names → Spelt → Option SourceLine → Result Spelt SourceFault
 spelt_with_line names s line = spelt_with_bytes s (next_at line s.at) (line_bytes s.at names line)
 
--- a line that has a form, at an address where it has none of the faults of class one that its bytes could show
+-- a line that has a form, at an address where it has none of the faults of class one that its bytes
+-- could show
 abbrev pub HasNoFault : ℕ → Option SourceLine → Type 0
 HasNoFault at None = ⊥
 HasNoFault at (Some line) = (is_bad_place line ≡ false) × (passes_end line at ≡ false)
@@ -83,19 +86,24 @@ PassesFirst (Ok b) lines = (first_of_class_one lines ≡ None) × (b ≡ before 
 PassesFirst (Err f) lines = IsFirst f.kind f.line (first_of_class_one lines)
 
 -- what one line's bytes leave: the cells keep the pairs, and the next statement's place is known
-abbrev pub Keeps : Result (Unit {0}) SourceFault → ℕ → List (Option ℕ) → Result Spelt SourceFault → Type 0
+abbrev pub Keeps : Result (Unit {0}) SourceFault → ℕ → List (Option ℕ)
+    → Result Spelt SourceFault → Type 0
 Keeps (Ok u) at cells wanted = (s : Spelt) × (wanted ≡ Ok s) × (s.at ≡ at) × IsKept cells s.pairs
 Keeps (Err f) at cells wanted = wanted ≡ Err f
 
 -- the same where memory may be refused
-abbrev pub Adds : Result (Unit {0}) FaultKind → ℕ → List (Option ℕ) → Result Spelt SourceFault → Type 0
+abbrev pub Adds : Result (Unit {0}) FaultKind → ℕ → List (Option ℕ)
+    → Result Spelt SourceFault → Type 0
 Adds (Ok u) at cells wanted = (s : Spelt) × (wanted ≡ Ok s) × (s.at ≡ at) × IsKept cells s.pairs
 Adds (Err NoMemory) at cells wanted = Unit {0}
 Adds (Err (Refused f)) at cells wanted = wanted ≡ Err f
 
 -- cells that keep the pairs of all lines, or the first fault of class two
-abbrev pub PassesSecond : Result (List (Option ℕ)) AsmFault → List (Option SourceLine) → Names → Type 0
-PassesSecond (Ok cells) lines names = (first_of_class_two lines names ≡ None) × IsKept cells (pairs_before lines names (length lines))
+abbrev pub PassesSecond : Result (List (Option ℕ)) AsmFault → List (Option SourceLine) → Names
+    → Type 0
+PassesSecond (Ok cells) lines names =
+    (first_of_class_two lines names ≡ None)
+    × IsKept cells (pairs_before lines names (length lines))
 PassesSecond (Err f) lines names = IsFirst f.kind f.line (first_of_class_two lines names)
 
 -- the number of the line with this index, where it is refused

@@ -35,7 +35,8 @@ FailsAs NoMemory line wanted = line ≡ 0
 FailsAs (Refused f) line wanted = wanted ≡ Err (line, f)
 
 -- the image of the pairs that are wanted, or the fault that is wanted
-abbrev pub Assembles : Result (List (ℕ × ℕ)) AsmFault → Result (List (ℕ × ℕ)) (ℕ × SourceFault) → Type 0
+abbrev pub Assembles : Result (List (ℕ × ℕ)) AsmFault → Result (List (ℕ × ℕ)) (ℕ × SourceFault)
+    → Type 0
 Assembles (Ok image) wanted = (pairs : List (ℕ × ℕ)) × (wanted ≡ Ok pairs) × IsImageOf image pairs
 Assembles (Err f) wanted = FailsAs f.kind f.line wanted
 
@@ -108,4 +109,5 @@ IsNoData s = Unit {0}
 
 -- a map has the names with their values
 abbrev pub Tells : BTreeMap (Bor (List ℕ)) ℕ → Names → Type 0
-Tells values names = (w : List ℕ) → get_by (λ k. slice_cmp nat_cmp w k.now) values ≡ value_of w names
+Tells values names =
+    (w : List ℕ) → get_by (λ k. slice_cmp nat_cmp w k.now) values ≡ value_of w names

@@ -1,7 +1,7 @@
 //! The bytes that a statement spells.
 ghost use Rattle.std.specs.Prelude.{◌≡◌, ◌<◌, ◌≤◌, ◌/◌, ◌%◌, Bool, true, false, map, IfOk, length, nat_lt, Ok, Err, Some, option_map};
 ghost use Rattle.std.specs.List.{list_all};
-ghost use Rattle.mcs_source.specs.Lines.{Ldm, Bbl, Jun, Jms, Fim, Jcn, Isz};
+ghost use Rattle.mcs_source.specs.Lines.{Data, Ldm, Bbl, Jun, Jms, Fim, Jcn, Isz};
 ghost use Rattle.mcs_source.specs.Spelling.{spelling};
 ghost use Rattle.mcs_source.specs.Assembly.{value_in, values_in, bytes_at, line_bytes, is_near, if_known, if_in_range, if_on_page};
 ghost use Rattle.mcs_asm.specs.View.{operand_view, statement_view, line_view, words_view, StepsTo, GivesOp, SaysOp, IsNoData};
@@ -20,7 +20,8 @@ fn values<'a>(
     names: &Names<'a>,
     operands: &[Operand<'a>],
 ) -> Result<Option<Vec<u64>>, AllocError>
-    ensures { IfOk result (λ o. option_map (λ v. v.items) o ≡ values_in names.now.names (map operand_view operands.now)) }
+    ensures { IfOk result (λ o. option_map (λ v. v.items) o
+        ≡ values_in names.now.names (map operand_view operands.now)) }
 {
     let mut found = Vec::new(alloc);
     for operand in operands {
@@ -40,7 +41,7 @@ fn are_bytes(values: &[u64]) -> bool
 }
 
 /// Values below 256 as bytes.
-fn cut(alloc: Global, values: &[u64]) -> Result<Vec<u8>, AllocError>
+fn as_bytes(alloc: Global, values: &[u64]) -> Result<Vec<u8>, AllocError>
     requires { list_all (λ n. nat_lt n 256) values.now ≡ true }
     ensures { IfOk result (λ v. v.items ≡ values.now) }
 {
@@ -52,12 +53,13 @@ fn cut(alloc: Global, values: &[u64]) -> Result<Vec<u8>, AllocError>
 }
 
 /// The bytes of a `DB`.
-fn data<'a>(
+fn data_bytes<'a>(
     alloc: Global,
     names: &Names<'a>,
     operands: &[Operand<'a>],
 ) -> Result<Vec<u8>, FaultKind>
-    ensures { StepsTo (λ v. v.items) result (if_known (values_in names.now.names (map operand_view operands.now)) (λ ns. if_in_range (list_all (λ n. nat_lt n 256) ns) (Ok ns))) }
+    ensures { StepsTo (λ v. v.items) result
+        (bytes_at 0 names.now.names (Data (map operand_view operands.now))) }
 {
     let Some(values) = values(alloc, names, operands)? else {
         return Err(FaultKind::Refused(SourceFault::UnknownName));
@@ -65,7 +67,7 @@ fn data<'a>(
     if !are_bytes(&values) {
         return Err(FaultKind::Refused(SourceFault::OutOfRange));
     }
-    Ok(cut(alloc, &values)?)
+    Ok(as_bytes(alloc, &values)?)
 }
 
 /// The value of an operand; a name that no line defines is refused.
@@ -103,7 +105,7 @@ fn target(value: u64) -> Result<Addr, SourceFault>
 }
 
 /// The low byte of a target on the page after two words.
-fn near(at: u16, target: Addr) -> Result<u8, SourceFault>
+fn near_byte(at: u16, target: Addr) -> Result<u8, SourceFault>
     requires { at ≤ 4096 }
     ensures { result ≡ if_on_page (is_near at target) (Ok (target % 256)) }
 {
@@ -116,14 +118,16 @@ fn near(at: u16, target: Addr) -> Result<u8, SourceFault>
 
 /// The value of an operand, as a value of 0 to 15.
 fn nibble_value<'a>(names: &Names<'a>, operand: &Operand<'a>) -> Result<Nibble, SourceFault>
-    ensures { result ≡ if_known (value_in names.now.names (operand_view operand.now)) (λ n. if_in_range (nat_lt n 16) (Ok n)) }
+    ensures { result ≡ if_known (value_in names.now.names (operand_view operand.now))
+        (λ n. if_in_range (nat_lt n 16) (Ok n)) }
 {
     nibble(value(names, operand)?)
 }
 
 /// The value of an operand, as an address.
 fn target_value<'a>(names: &Names<'a>, operand: &Operand<'a>) -> Result<Addr, SourceFault>
-    ensures { result ≡ if_known (value_in names.now.names (operand_view operand.now)) (λ t. if_in_range (nat_lt t 4096) (Ok t)) }
+    ensures { result ≡ if_known (value_in names.now.names (operand_view operand.now))
+        (λ t. if_in_range (nat_lt t 4096) (Ok t)) }
 {
     target(value(names, operand)?)
 }
@@ -162,20 +166,21 @@ fn fim<'a>(names: &Names<'a>, pair: PairNo, v: &Operand<'a>) -> Result<Op, Sourc
 
 fn jcn<'a>(at: u16, names: &Names<'a>, v: &Operand<'a>, t: &Operand<'a>) -> Result<Op, SourceFault>
     requires { at ≤ 4096 }
-    ensures { GivesOp result (bytes_at at names.now.names (Jcn (operand_view v.now) (operand_view t.now))) }
+    ensures { GivesOp result
+        (bytes_at at names.now.names (Jcn (operand_view v.now) (operand_view t.now))) }
 {
     // Both values are looked up before one of them can be out of its range.
     let v = value(names, v)?;
     let t = value(names, t)?;
     let v = nibble(v)?;
-    Ok(Op::Jcn(v, near(at, target(t)?)?))
+    Ok(Op::Jcn(v, near_byte(at, target(t)?)?))
 }
 
 fn isz<'a>(at: u16, names: &Names<'a>, register: RegNo, t: &Operand<'a>) -> Result<Op, SourceFault>
     requires { at ≤ 4096 }
     ensures { GivesOp result (bytes_at at names.now.names (Isz register (operand_view t.now))) }
 {
-    Ok(Op::Isz(register, near(at, target_value(names, t)?)?))
+    Ok(Op::Isz(register, near_byte(at, target_value(names, t)?)?))
 }
 
 /// The instruction of a statement at an address; an `ORG` has none.
@@ -205,7 +210,7 @@ fn words(op: Op) -> Words
 }
 
 /// One or two words as a list.
-fn listed(alloc: Global, words: Words) -> Result<Vec<u8>, AllocError>
+fn word_list(alloc: Global, words: Words) -> Result<Vec<u8>, AllocError>
     ensures { IfOk result (λ v. v.items ≡ words_view words) }
 {
     let mut bytes = Vec::new(alloc);
@@ -224,13 +229,14 @@ fn statement_bytes<'a>(
     statement: &Statement<'a>,
 ) -> Result<Vec<u8>, FaultKind>
     requires { at ≤ 4096 }
-    ensures { StepsTo (λ v. v.items) result (bytes_at at names.now.names (statement_view statement.now)) }
+    ensures { StepsTo (λ v. v.items) result
+        (bytes_at at names.now.names (statement_view statement.now)) }
 {
     match statement {
-        Statement::Data(operands) => data(alloc, names, operands),
+        Statement::Data(operands) => data_bytes(alloc, names, operands),
         _ => match op(at, names, statement)? {
             None => Ok(Vec::new(alloc)),
-            Some(op) => Ok(listed(alloc, words(op))?),
+            Some(op) => Ok(word_list(alloc, words(op))?),
         },
     }
 }
@@ -243,7 +249,8 @@ pub fn line_bytes<'a>(
     line: &SourceLine<'a>,
 ) -> Result<Vec<u8>, FaultKind>
     requires { at ≤ 4096 }
-    ensures { StepsTo (λ v. v.items) result (line_bytes at names.now.names (Some (line_view line.now))) }
+    ensures { StepsTo (λ v. v.items) result
+        (line_bytes at names.now.names (Some (line_view line.now))) }
 {
     match line {
         SourceLine::Code(_, Some(statement)) => statement_bytes(alloc, at, names, statement),

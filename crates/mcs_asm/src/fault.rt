@@ -31,7 +31,7 @@ impl FaultKind {
 }
 
 /// The first fault of a text, with the number of its line from 1; 0 where memory was refused.
-#[derive(Clone, Copy, Debug, PartialEq, Eq, Error)]
+#[derive(Clone, Copy, Debug, Error)]
 #[error("line {line}: {kind}")]
 pub struct AsmFault {
     /// The number of the line.

@@ -37,7 +37,8 @@ impl<'a> Model for Names<'a> {
 
     ghost view = { λ n. record { at = n.at; names = map (λ e. (e.0.now, e.1)) n.names.items } };
 
-    ghost invariant = { λ n. (n.at ≤ 4096) × Tells n.values (map (λ e. (e.0.now, e.1)) n.names.items) };
+    ghost invariant = { λ n. (n.at ≤ 4096)
+        × Tells n.values (map (λ e. (e.0.now, e.1)) n.names.items) };
 }
 
 fn statement_size(statement: &Option<Statement<'_>>) -> usize
@@ -141,7 +142,8 @@ impl<'a> Names<'a> {
     fn define(&mut self, name: &'a [u8], value: u16) -> Result<(), AllocError>
         requires unknown { is_known name.now self.old.names ≡ false }
         requires room { length self.old.names < NAMES }
-        ensures added { OnOk result (self.new ≡ record { at = self.old.at; names = self.old.names ++ (name.now, value) ∷ [] }) }
+        ensures added { OnOk result (self.new
+            ≡ record { at = self.old.at; names = self.old.names ++ (name.now, value) ∷ [] }) }
         ensures unchanged { OnErr result (self.new ≡ self.old) }
     {
         self.values.insert(name, value)?;

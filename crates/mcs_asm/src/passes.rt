@@ -17,7 +17,7 @@ use mcs_model::image::Image;
 use std::alloc::{AllocError, Global};
 
 /// Adds what one more line says of names and addresses.
-fn step<'a>(alloc: Global, names: &mut Names<'a>, line: &'a [u8]) -> Result<(), FaultKind>
+fn add_line<'a>(alloc: Global, names: &mut Names<'a>, line: &'a [u8]) -> Result<(), FaultKind>
     ensures { Steps result names.new (before_with_line names.old (line_of (tokens line.now))) }
 {
     let Some(line) = read_line(alloc, line)? else {
@@ -60,7 +60,7 @@ fn first_pass<'a>(alloc: Global, lines: &[&'a [u8]]) -> Result<Names<'a>, AsmFau
 {
     let mut names = Names::new(alloc);
     for i in 0..lines.len() {
-        at_line(i, step(alloc, &mut names, lines[i]))?;
+        at_line(i, add_line(alloc, &mut names, lines[i]))?;
     }
     Ok(names)
 }
@@ -79,7 +79,9 @@ impl Spelt {
     fn add(&mut self, bytes: &[u8], next: u16) -> Result<(), SourceFault>
         requires room { self.old.at + length bytes.now ≤ 4096 }
         requires next { next ≤ 4096 }
-        ensures { (pairs : List (ℕ × ℕ)) → IsKept self.old.cells pairs → Keeps result self.new.at self.new.cells (spelt_with_bytes (record { at = self.old.at; pairs = pairs }) next (Ok bytes.now)) }
+        ensures { (pairs : List (ℕ × ℕ)) → IsKept self.old.cells pairs
+            → Keeps result self.new.at self.new.cells
+            (spelt_with_bytes (record { at = self.old.at; pairs = pairs }) next (Ok bytes.now)) }
     {
         let at = usize::from(self.at);
         if self.cells.is_taken(at, bytes.len()) {
@@ -98,7 +100,9 @@ impl Spelt {
         line: &'a [u8],
     ) -> Result<(), FaultKind>
         requires { HasNoFault self.old.at (line_of (tokens line.now)) }
-        ensures { (pairs : List (ℕ × ℕ)) → IsKept self.old.cells pairs → Adds result self.new.at self.new.cells (spelt_with_line names.now.names (record { at = self.old.at; pairs = pairs }) (line_of (tokens line.now))) }
+        ensures { (pairs : List (ℕ × ℕ)) → IsKept self.old.cells pairs
+            → Adds result self.new.at self.new.cells (spelt_with_line names.now.names
+            (record { at = self.old.at; pairs = pairs }) (line_of (tokens line.now))) }
     {
         let Some(line) = read_line(alloc, line)? else {
             return Err(FaultKind::Refused(SourceFault::BadStatement));

@@ -55,7 +55,7 @@ fn operand_in(word: &[u8]) -> Option<Operand<'_>>
 }
 
 /// The word that is all that is left.
-fn only<'a>(tokens: &mut Tokens<'a>) -> Option<&'a [u8]>
+fn only_word<'a>(tokens: &mut Tokens<'a>) -> Option<&'a [u8]>
     ensures { option_copied result ≡ word_only tokens.old }
 {
     let Some(Token::Word(word)) = tokens.next() else {
@@ -68,7 +68,7 @@ fn only<'a>(tokens: &mut Tokens<'a>) -> Option<&'a [u8]>
 }
 
 /// The word before a comma.
-fn first<'a>(tokens: &mut Tokens<'a>) -> Option<&'a [u8]>
+fn word_before_comma<'a>(tokens: &mut Tokens<'a>) -> Option<&'a [u8]>
     ensures { option_map (λ w. (w, tokens.new)) (option_copied result) ≡ word_first tokens.old }
 {
     let Some(Token::Word(word)) = tokens.next() else {
@@ -83,47 +83,47 @@ fn first<'a>(tokens: &mut Tokens<'a>) -> Option<&'a [u8]>
 fn one_operand<'a>(tokens: &mut Tokens<'a>) -> Option<Operand<'a>>
     ensures { option_map operand_view result ≡ one_operand tokens.old }
 {
-    operand_in(only(tokens)?)
+    operand_in(only_word(tokens)?)
 }
 
 fn one_number(tokens: &mut Tokens<'_>) -> Option<u64>
     ensures { result ≡ one_number tokens.old }
 {
-    number(only(tokens)?)
+    number(only_word(tokens)?)
 }
 
 fn one_register(tokens: &mut Tokens<'_>) -> Option<RegNo>
     ensures { result ≡ one_register tokens.old }
 {
-    register_named(only(tokens)?)
+    register_named(only_word(tokens)?)
 }
 
 fn one_pair(tokens: &mut Tokens<'_>) -> Option<PairNo>
     ensures { result ≡ one_pair tokens.old }
 {
-    pair_named(only(tokens)?)
+    pair_named(only_word(tokens)?)
 }
 
 fn first_operand<'a>(tokens: &mut Tokens<'a>) -> Option<Operand<'a>>
     ensures { option_map (λ v. (operand_view v, tokens.new)) result ≡ first_operand tokens.old }
 {
-    operand_in(first(tokens)?)
+    operand_in(word_before_comma(tokens)?)
 }
 
 fn first_register(tokens: &mut Tokens<'_>) -> Option<RegNo>
     ensures { option_map (λ r. (r, tokens.new)) result ≡ first_register tokens.old }
 {
-    register_named(first(tokens)?)
+    register_named(word_before_comma(tokens)?)
 }
 
 fn first_pair(tokens: &mut Tokens<'_>) -> Option<PairNo>
     ensures { option_map (λ p. (p, tokens.new)) result ≡ first_pair tokens.old }
 {
-    pair_named(first(tokens)?)
+    pair_named(word_before_comma(tokens)?)
 }
 
 /// An instruction without operands.
-fn nothing<'a>(op: Op, tokens: &mut Tokens<'a>) -> Option<Statement<'a>>
+fn without_operands<'a>(op: Op, tokens: &mut Tokens<'a>) -> Option<Statement<'a>>
     ensures { option_map statement_view result ≡ nothing op tokens.old }
 {
     if tokens.is_empty() {
@@ -135,7 +135,8 @@ fn nothing<'a>(op: Op, tokens: &mut Tokens<'a>) -> Option<Statement<'a>>
 
 /// The first operand, and whether a comma follows it.
 fn list_item<'a>(tokens: &mut Tokens<'a>) -> Option<(Operand<'a>, bool)>
-    ensures { option_map (λ x. (operand_view x.0, rest_if x.1 tokens.new)) result ≡ list_item tokens.old }
+    ensures { option_map (λ x. (operand_view x.0, rest_if x.1 tokens.new)) result
+        ≡ list_item tokens.old }
 {
     let Some(Token::Word(word)) = tokens.next() else {
         return None;
@@ -153,7 +154,8 @@ fn operands<'a>(
     alloc: Global,
     tokens: &mut Tokens<'a>,
 ) -> Result<Option<Vec<Operand<'a>>>, AllocError>
-    ensures { IfOk result (λ o. option_map (λ vs. map operand_view vs.items) o ≡ operands_of tokens.old) }
+    ensures { IfOk result (λ o. option_map (λ vs. map operand_view vs.items) o
+        ≡ operands_of tokens.old) }
 {
     let mut found = Vec::new(alloc);
     loop {
@@ -168,7 +170,7 @@ fn operands<'a>(
 }
 
 /// The operands of JCN.
-fn jump_if<'a>(tokens: &mut Tokens<'a>) -> Option<Statement<'a>>
+fn jump_on_condition<'a>(tokens: &mut Tokens<'a>) -> Option<Statement<'a>>
     ensures { option_map statement_view result ≡ after_mnemonic Jcn tokens.old }
 {
     let condition = first_operand(tokens)?;
@@ -177,7 +179,7 @@ fn jump_if<'a>(tokens: &mut Tokens<'a>) -> Option<Statement<'a>>
 }
 
 /// The operands of FIM.
-fn fetch<'a>(tokens: &mut Tokens<'a>) -> Option<Statement<'a>>
+fn fetch_immediate<'a>(tokens: &mut Tokens<'a>) -> Option<Statement<'a>>
     ensures { option_map statement_view result ≡ after_mnemonic Fim tokens.old }
 {
     let pair = first_pair(tokens)?;
@@ -186,7 +188,7 @@ fn fetch<'a>(tokens: &mut Tokens<'a>) -> Option<Statement<'a>>
 }
 
 /// The operands of ISZ.
-fn count<'a>(tokens: &mut Tokens<'a>) -> Option<Statement<'a>>
+fn increment_and_skip<'a>(tokens: &mut Tokens<'a>) -> Option<Statement<'a>>
     ensures { option_map statement_view result ≡ after_mnemonic Isz tokens.old }
 {
     let register = first_register(tokens)?;
@@ -217,9 +219,9 @@ fn plain_statement<'a>(mnemonic: Mnemonic, tokens: &mut Tokens<'a>) -> Option<St
     match mnemonic {
         Mnemonic::Db => None,
         Mnemonic::Org => origin(tokens),
-        Mnemonic::Jcn => jump_if(tokens),
-        Mnemonic::Fim => fetch(tokens),
-        Mnemonic::Isz => count(tokens),
+        Mnemonic::Jcn => jump_on_condition(tokens),
+        Mnemonic::Fim => fetch_immediate(tokens),
+        Mnemonic::Isz => increment_and_skip(tokens),
         Mnemonic::Jun => one_operand(tokens).map(Statement::Jun),
         Mnemonic::Jms => one_operand(tokens).map(Statement::Jms),
         Mnemonic::Bbl => one_operand(tokens).map(Statement::Bbl),
@@ -232,7 +234,7 @@ fn plain_statement<'a>(mnemonic: Mnemonic, tokens: &mut Tokens<'a>) -> Option<St
         Mnemonic::Sub => whole(one_register(tokens).map(Op::Sub)),
         Mnemonic::Ld => whole(one_register(tokens).map(Op::Ld)),
         Mnemonic::Xch => whole(one_register(tokens).map(Op::Xch)),
-        Mnemonic::Bare(op) => nothing(op, tokens),
+        Mnemonic::Bare(op) => without_operands(op, tokens),
     }
 }
 
@@ -268,12 +270,13 @@ fn read_statement<'a>(
 }
 
 /// What follows a label, or the whole line where there is none.
-fn rest<'a>(
+fn rest_of_line<'a>(
     alloc: Global,
     label: Option<&'a [u8]>,
     tokens: &mut Tokens<'a>,
 ) -> Result<Option<SourceLine<'a>>, AllocError>
-    ensures { IfOk result (λ o. option_map line_view o ≡ rest_of (option_copied label.entry) tokens.old) }
+    ensures { IfOk result (λ o. option_map line_view o
+        ≡ rest_of (option_copied label.entry) tokens.old) }
 {
     if tokens.is_empty() {
         return Ok(Some(SourceLine::Code(label, None)));
@@ -286,7 +289,8 @@ fn rest<'a>(
 
 /// The word before a colon, and what follows.
 fn label_of<'a>(line: &'a [u8]) -> Option<(&'a [u8], Tokens<'a>)>
-    ensures { MatchOption result (NoLabel (tokens line.now)) (λ x. tokens line.now ≡ Word x.0.now ∷ Colon ∷ x.1) }
+    ensures { MatchOption result (NoLabel (tokens line.now))
+        (λ x. tokens line.now ≡ Word x.0.now ∷ Colon ∷ x.1) }
 {
     let mut tokens = Tokens::new(line);
     match (tokens.next(), tokens.next()) {
@@ -297,7 +301,8 @@ fn label_of<'a>(line: &'a [u8]) -> Option<(&'a [u8], Tokens<'a>)>
 
 /// The word before a `=`, and what follows.
 fn definition_of<'a>(line: &'a [u8]) -> Option<(&'a [u8], Tokens<'a>)>
-    ensures { MatchOption result (NoDefinition (tokens line.now)) (λ x. tokens line.now ≡ Word x.0.now ∷ Equals ∷ x.1) }
+    ensures { MatchOption result (NoDefinition (tokens line.now))
+        (λ x. tokens line.now ≡ Word x.0.now ∷ Equals ∷ x.1) }
 {
     let mut tokens = Tokens::new(line);
     match (tokens.next(), tokens.next()) {
@@ -311,7 +316,7 @@ fn read_unlabelled<'a>(alloc: Global, line: &'a [u8]) -> Result<Option<SourceLin
     ensures { IfOk result (λ o. option_map line_view o ≡ unlabelled (tokens line.now)) }
 {
     match definition_of(line) {
-        None => rest(alloc, None, &mut Tokens::new(line)),
+        None => rest_of_line(alloc, None, &mut Tokens::new(line)),
         Some((name, mut tokens)) if is_name(name) => {
             Ok(one_number(&mut tokens).map(|n| SourceLine::Define(name, n)))
         }
@@ -325,7 +330,7 @@ pub fn read_line<'a>(alloc: Global, line: &'a [u8]) -> Result<Option<SourceLine<
 {
     match label_of(line) {
         None => read_unlabelled(alloc, line),
-        Some((name, mut tokens)) if is_name(name) => rest(alloc, Some(name), &mut tokens),
+        Some((name, mut tokens)) if is_name(name) => rest_of_line(alloc, Some(name), &mut tokens),
         Some(_) => Ok(None),
     }
 }

@@ -26,7 +26,7 @@ fn line_len(bytes: &[u8]) -> usize
 }
 
 /// A line without the CR that ends it.
-fn cut_cr(line: &[u8]) -> &[u8]
+fn without_cr(line: &[u8]) -> &[u8]
     ensures { result.now ≡ without_cr line.now }
 {
     match line {
@@ -37,16 +37,18 @@ fn cut_cr(line: &[u8]) -> &[u8]
 
 /// The first line, without its end, and what follows it.
 #[tactic(auto, using(crate::proofs::LineLists::no_lines, crate::proofs::LineLists::last_front, crate::proofs::LineLists::more_front))]
-fn front(bytes: &[u8]) -> Option<(&[u8], &[u8])>
-    ensures { MatchOption result (lines_of bytes.now ≡ []) (λ x. (lines_of bytes.now ≡ x.0.now ∷ lines_of x.1.now) × (length x.1.now < length bytes.now)) }
+fn first_line(bytes: &[u8]) -> Option<(&[u8], &[u8])>
+    ensures { MatchOption result (lines_of bytes.now ≡ [])
+        (λ x. (lines_of bytes.now ≡ x.0.now ∷ lines_of x.1.now)
+        × (length x.1.now < length bytes.now)) }
 {
     if bytes.is_empty() {
         return None;
     }
     let (line, rest) = bytes.split_at(line_len(bytes));
     match rest {
-        [] => Some((cut_cr(line), rest)),
-        [_, rest @ ..] => Some((cut_cr(line), rest)),
+        [] => Some((without_cr(line), rest)),
+        [_, rest @ ..] => Some((without_cr(line), rest)),
     }
 }
 
@@ -56,7 +58,7 @@ pub fn lines(alloc: Global, bytes: &[u8]) -> Result<Vec<&[u8]>, AllocError>
 {
     let mut found = Vec::new(alloc);
     let mut rest = bytes;
-    while let Some((line, after)) = front(rest) {
+    while let Some((line, after)) = first_line(rest) {
         found.push(line)?;
         rest = after;
     }

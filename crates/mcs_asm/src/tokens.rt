@@ -57,7 +57,7 @@ fn blank_len(bytes: &[u8]) -> usize
 
 /// A line without the spaces and tabs that it begins with.
 #[tactic(auto, using(crate::proofs::Lexing::trimmed_rules))]
-fn trimmed(line: &[u8]) -> &[u8]
+fn without_blanks(line: &[u8]) -> &[u8]
     ensures same { tokens result.now ≡ tokens line.now }
     ensures bare { prefix_len is_blank result.now ≡ 0 }
 {
@@ -83,7 +83,8 @@ fn symbol<'a>(b: u8) -> Token<'a>
 fn first_symbol(bytes: &[u8]) -> Option<(Token<'_>, &[u8])>
     requires no_word { prefix_len is_word_byte bytes.now ≡ 0 }
     requires no_blank { prefix_len is_blank bytes.now ≡ 0 }
-    ensures { MatchOption result (tokens bytes.now ≡ []) (λ x. tokens bytes.now ≡ token_view x.0 ∷ tokens x.1.now) }
+    ensures { MatchOption result (tokens bytes.now ≡ [])
+        (λ x. tokens bytes.now ≡ token_view x.0 ∷ tokens x.1.now) }
 {
     let [b, rest @ ..] = bytes else {
         return None;
@@ -96,10 +97,11 @@ fn first_symbol(bytes: &[u8]) -> Option<(Token<'_>, &[u8])>
 
 /// The first token of a line, and what follows it.
 #[tactic(auto, using(crate::proofs::Lexing::word_first))]
-fn front(line: &[u8]) -> Option<(Token<'_>, &[u8])>
-    ensures { MatchOption result (tokens line.now ≡ []) (λ x. tokens line.now ≡ token_view x.0 ∷ tokens x.1.now) }
+fn first_token(line: &[u8]) -> Option<(Token<'_>, &[u8])>
+    ensures { MatchOption result (tokens line.now ≡ [])
+        (λ x. tokens line.now ≡ token_view x.0 ∷ tokens x.1.now) }
 {
-    let bytes = trimmed(line);
+    let bytes = without_blanks(line);
     let len = word_len(bytes);
     if len == 0 {
         return first_symbol(bytes);
@@ -135,14 +137,14 @@ impl<'a> Tokens<'a> {
     pub fn is_empty(&self) -> bool
         ensures { IsTrue result ↔ (self.now ≡ []) }
     {
-        front(self.rest).is_none()
+        first_token(self.rest).is_none()
     }
 
     /// The next token.
     pub fn next(&mut self) -> Option<Token<'a>>
         ensures { MatchOption result (self.old ≡ []) (λ t. self.old ≡ token_view t ∷ self.new) }
     {
-        let (token, rest) = front(self.rest)?;
+        let (token, rest) = first_token(self.rest)?;
         self.rest = rest;
         Some(token)
     }

@@ -72,79 +72,79 @@ macro_rules! group_rows {
 
 /// `ORG`, `DB` and the instructions that name a condition, a pair or an address.
 #[tactic(auto, unfolding(mcs_source::specs::Mnemonics::orders))]
-fn order(w: &[u8]) -> Option<Mnemonic>
-    ensures { result ≡ orders w.now }
+fn order(word: &[u8]) -> Option<Mnemonic>
+    ensures { result ≡ orders word.now }
 {
-    if equals_ignoring_case(w, "ORG") {
+    if equals_ignoring_case(word, "ORG") {
         return Some(Mnemonic::Org);
     }
-    if equals_ignoring_case(w, "DB") {
+    if equals_ignoring_case(word, "DB") {
         return Some(Mnemonic::Db);
     }
-    instructions!(group_rows!(addressing, w))
+    instructions!(group_rows!(addressing, word))
 }
 
 /// `NOP` and the instructions that name a register or a value.
 #[tactic(auto, unfolding(mcs_source::specs::Mnemonics::on_registers))]
-fn on_register(w: &[u8]) -> Option<Mnemonic>
-    ensures { result ≡ on_registers w.now }
+fn on_register(word: &[u8]) -> Option<Mnemonic>
+    ensures { result ≡ on_registers word.now }
 {
-    instructions!(group_rows!(registers, w))
+    instructions!(group_rows!(registers, word))
 }
 
 /// The instructions that write to RAM and to ports.
 #[tactic(auto, unfolding(mcs_source::specs::Mnemonics::on_ports))]
-fn on_port(w: &[u8]) -> Option<Mnemonic>
-    ensures { result ≡ on_ports w.now }
+fn on_port(word: &[u8]) -> Option<Mnemonic>
+    ensures { result ≡ on_ports word.now }
 {
-    instructions!(group_rows!(ports, w))
+    instructions!(group_rows!(ports, word))
 }
 
 /// The instructions that read RAM and ports.
 #[tactic(auto, unfolding(mcs_source::specs::Mnemonics::on_memory))]
-fn on_memory_word(w: &[u8]) -> Option<Mnemonic>
-    ensures { result ≡ on_memory w.now }
+fn on_memory_word(word: &[u8]) -> Option<Mnemonic>
+    ensures { result ≡ on_memory word.now }
 {
-    instructions!(group_rows!(memory, w))
+    instructions!(group_rows!(memory, word))
 }
 
 /// The instructions on the accumulator.
 #[tactic(auto, unfolding(mcs_source::specs::Mnemonics::on_accumulator))]
-fn on_accumulator_word(w: &[u8]) -> Option<Mnemonic>
-    ensures { result ≡ on_accumulator w.now }
+fn on_accumulator_word(word: &[u8]) -> Option<Mnemonic>
+    ensures { result ≡ on_accumulator word.now }
 {
-    instructions!(group_rows!(accumulator, w))
+    instructions!(group_rows!(accumulator, word))
 }
 
 /// The instructions on the carry, and the conversions.
 #[tactic(auto, unfolding(mcs_source::specs::Mnemonics::on_carry))]
-fn on_carry_word(w: &[u8]) -> Option<Mnemonic>
-    ensures { result ≡ on_carry w.now }
+fn on_carry_word(word: &[u8]) -> Option<Mnemonic>
+    ensures { result ≡ on_carry word.now }
 {
-    instructions!(group_rows!(carry, w))
+    instructions!(group_rows!(carry, word))
 }
 
 /// What a word that begins a statement asks for.
 #[tactic(auto, unfolding(mcs_source::specs::Mnemonics::mnemonic_of))]
-pub fn mnemonic_in(w: &[u8]) -> Option<Mnemonic>
-    ensures { result ≡ mnemonic_of w.now }
+pub fn mnemonic_in(word: &[u8]) -> Option<Mnemonic>
+    ensures { result ≡ mnemonic_of word.now }
 {
-    if let Some(found) = order(w) {
+    if let Some(found) = order(word) {
         return Some(found);
     }
-    if let Some(found) = on_register(w) {
+    if let Some(found) = on_register(word) {
         return Some(found);
     }
-    if let Some(found) = on_port(w) {
+    if let Some(found) = on_port(word) {
         return Some(found);
     }
-    if let Some(found) = on_memory_word(w) {
+    if let Some(found) = on_memory_word(word) {
         return Some(found);
     }
-    if let Some(found) = on_accumulator_word(w) {
+    if let Some(found) = on_accumulator_word(word) {
         return Some(found);
     }
-    on_carry_word(w)
+    on_carry_word(word)
 }
 
 /// A number of 0 to 15 without leading zeros.

@@ -52,7 +52,8 @@ placed at (x ∷ xs) ys =
 
 -- ---- class one
 
--- before line i, whose statement stands at an address, where the lines before it define no name and have no fault of class one
+-- before line i, whose statement stands at an address, where the lines before it define no name and
+-- have no fault of class one
 record IsFineTo (lines : List (Option asm.SourceLine)) (i at : ℕ) : Type 0 where
   within : i ≤ length lines
   address : address_of lines i ≡ at
@@ -86,7 +87,8 @@ last_is lines i le e = omega (arith, le, length-drop i lines, ap length e)
 
 -- ---- class two
 
--- before line i, whose statement stands at an address, where the lines before it spell these pairs and have no fault of class two
+-- before line i, whose statement stands at an address, where the lines before it spell these pairs
+-- and have no fault of class two
 record IsSpeltTo (lines : List (Option asm.SourceLine)) (i at : ℕ) (pairs : List (ℕ × ℕ)) : Type 0 where
   within : i ≤ length lines
   address : address_of lines i ≡ at

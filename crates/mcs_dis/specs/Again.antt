@@ -26,6 +26,9 @@ statement at o = asm.Whole o
 abbrev pub ReadsAs : ℕ → Op → Type 0
 ReadsAs at o = asm.line_of (tokens (text_of at o)) ≡ Some (asm.Code None (Some (statement at o)))
 
--- the pairs of a range are exactly the pairs of an address `from` to below `to` and the byte of the ROM there
+-- the pairs of a range are exactly the pairs of an address `from` to below `to` and the byte of the
+-- ROM there
 abbrev pub AreItsPairs : List ℕ → ℕ → ℕ → Type 0
-AreItsPairs rom from to = (p : ℕ × ℕ) → Contains (from_address from (range rom from to)) p ↔ ((from ≤ p.0) × (p.0 < to) × (slice_index rom p.0 ≡ p.1))
+AreItsPairs rom from to =
+    (p : ℕ × ℕ) → Contains (from_address from (range rom from to)) p
+    ↔ ((from ≤ p.0) × (p.0 < to) × (slice_index rom p.0 ≡ p.1))

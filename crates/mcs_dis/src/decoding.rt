@@ -1,7 +1,8 @@
 //! What stands in front of some bytes: an instruction, or a byte that is none.
-ghost use Rattle.std.specs.Prelude.{◌≡◌, ◌<◌, ◌≤◌, [], length, slice_index, drop};
+ghost use Rattle.std.specs.Prelude.{◌≡◌, ◌<◌, ◌≤◌, [], length, drop};
 ghost use Rattle.std.specs.Option.{option_to_list};
 ghost use Rattle.mcs_source.specs.Text.{op_at, piece_size, second_of};
+ghost use Rattle.mcs_dis.specs.Front.{op_in_front};
 
 use mcs_code::{Op, decode, word_count, words};
 
@@ -31,9 +32,9 @@ pub fn op_of(first: u8, second: Option<u8>) -> Option<Op>
 
 /// The instruction that stands in front of some bytes and lies in them whole.
 #[tactic(auto, using(crate::proofs::Loops::two_front, crate::proofs::Loops::one_front))]
-pub fn front(bytes: &[u8]) -> Option<Op>
+pub fn op_in_front(bytes: &[u8]) -> Option<Op>
     requires { 0 < length bytes.now }
-    ensures { result ≡ op_at (slice_index bytes.now 0) (drop 1 bytes.now) }
+    ensures { result ≡ op_in_front bytes.now }
 {
     if bytes.len() < 2 {
         one_word_op(bytes[0])
@@ -43,7 +44,7 @@ pub fn front(bytes: &[u8]) -> Option<Op>
 }
 
 /// How many bytes a piece has.
-pub fn size(piece: &Option<Op>) -> usize
+pub fn piece_size(piece: &Option<Op>) -> usize
     ensures { result ≡ piece_size piece.now }
 {
     match piece {
@@ -57,7 +58,7 @@ pub fn second(bytes: &[u8], piece: &Option<Op>) -> Option<u8>
     requires { piece_size piece.now ≤ length bytes.now }
     ensures { result ≡ second_of piece.now (drop 1 bytes.now) }
 {
-    if size(piece) > 1 {
+    if piece_size(piece) > 1 {
         Some(bytes[1])
     } else {
         None

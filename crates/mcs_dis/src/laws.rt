@@ -14,6 +14,8 @@ pub fn reads_back()
 /// The source of a range of a ROM assembles, without a fault, to exactly the bytes of the range,
 /// each at its address.
 pub fn source_law()
-    ensures spelled { (rom : List ℕ) (from to : ℕ) → length rom ≡ 4096 → AllByRecursion (λ b. b < 256) rom → from < to → to ≤ 4096 → SpellsItself rom from to }
-    ensures pairs { (rom : List ℕ) (from to : ℕ) → length rom ≡ 4096 → to ≤ 4096 → AreItsPairs rom from to }
+    ensures spelled { (rom : List ℕ) (from to : ℕ) → length rom ≡ 4096
+        → AllByRecursion (λ b. b < 256) rom → from < to → to ≤ 4096 → SpellsItself rom from to }
+    ensures pairs { (rom : List ℕ) (from to : ℕ) → length rom ≡ 4096 → to ≤ 4096
+        → AreItsPairs rom from to }
 {}

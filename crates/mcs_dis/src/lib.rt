@@ -1,4 +1,5 @@
-//! The disassembler: texts of instructions, listings of a ROM, and sources that assemble to it again.
+//! The disassembler: texts of instructions, listings of a ROM, and sources that assemble to it
+//! again.
 #![tactic(auto)]
 
 mod decoding;

@@ -1,9 +1,10 @@
 //! The text of one instruction, the listing of a ROM, and the source of a range of it.
 ghost use Rattle.std.specs.Prelude.{◌≡◌, ◌<◌, ◌≤◌, ◌++◌, length, slice_index, drop, string_bytes, IfOk};
-ghost use Rattle.mcs_source.specs.Text.{op_at, piece_size, piece_text, listed_line, line_text, listing_text, source_text};
+ghost use Rattle.mcs_source.specs.Text.{piece_size, piece_text, listed_line, line_text, listing_text, source_text};
+ghost use Rattle.mcs_dis.specs.Front.{op_in_front};
 ghost use Rattle.mcs_model.specs.QueryText.{as_line};
 
-use crate::decoding::{front, op_of, second, size};
+use crate::decoding::{op_in_front, op_of, piece_size, second};
 use crate::texts::{push_columns, push_origin, push_piece};
 use mcs_nibble::Addr;
 use std::alloc::{AllocError, Global};
@@ -23,12 +24,13 @@ pub fn line_of(alloc: Global, at: Addr, first: u8, second: Option<u8>) -> Result
 #[tactic(auto, using(crate::proofs::Loops::front_fits, crate::proofs::Loops::front_some))]
 fn push_source_line(out: &mut String, at: Addr, bytes: &[u8]) -> Result<usize, AllocError>
     requires { 0 < length bytes.now }
-    ensures size { IfOk result (λ n. n ≡ piece_size (op_at (slice_index bytes.now 0) (drop 1 bytes.now))) }
+    ensures size { IfOk result (λ n. n ≡ piece_size (op_in_front bytes.now)) }
     ensures within { IfOk result (λ n. (0 < n) × (n ≤ length bytes.now)) }
-    ensures line { IfOk result (λ n. string_bytes out.new ≡ string_bytes out.old ++ as_line (piece_text at (slice_index bytes.now 0) (op_at (slice_index bytes.now 0) (drop 1 bytes.now)))) }
+    ensures line { IfOk result (λ n. string_bytes out.new ≡ string_bytes out.old
+        ++ as_line (piece_text at (slice_index bytes.now 0) (op_in_front bytes.now))) }
 {
-    let piece = front(bytes);
-    let size = size(&piece);
+    let piece = op_in_front(bytes);
+    let size = piece_size(&piece);
     push_piece(out, at, bytes[0], piece)?;
     out.push('\n')?;
     Ok(size)
@@ -38,12 +40,14 @@ fn push_source_line(out: &mut String, at: Addr, bytes: &[u8]) -> Result<usize, A
 #[tactic(auto, using(crate::proofs::Loops::front_fits, crate::proofs::Loops::front_some))]
 fn push_listed_line(out: &mut String, at: Addr, bytes: &[u8]) -> Result<usize, AllocError>
     requires { 0 < length bytes.now }
-    ensures size { IfOk result (λ n. n ≡ piece_size (op_at (slice_index bytes.now 0) (drop 1 bytes.now))) }
+    ensures size { IfOk result (λ n. n ≡ piece_size (op_in_front bytes.now)) }
     ensures within { IfOk result (λ n. (0 < n) × (n ≤ length bytes.now)) }
-    ensures line { IfOk result (λ n. string_bytes out.new ≡ string_bytes out.old ++ as_line (listed_line at (slice_index bytes.now 0) (drop 1 bytes.now) (op_at (slice_index bytes.now 0) (drop 1 bytes.now)))) }
+    ensures line { IfOk result (λ n. string_bytes out.new ≡ string_bytes out.old
+        ++ as_line (listed_line at (slice_index bytes.now 0) (drop 1 bytes.now)
+        (op_in_front bytes.now))) }
 {
-    let piece = front(bytes);
-    let size = size(&piece);
+    let piece = op_in_front(bytes);
+    let size = piece_size(&piece);
     push_columns(out, at, bytes[0], second(bytes, &piece))?;
     push_piece(out, at, bytes[0], piece)?;
     out.push('\n')?;

@@ -27,7 +27,8 @@ fn name(op: &Op) -> &'static str
 
 /// Writes a decimal number after a text.
 fn push_number(out: &mut String, front: &str, n: u8) -> Result<(), AllocError>
-    ensures { OnOk result (string_bytes out.new ≡ string_bytes out.old ++ (front.now ++ decimal n)) }
+    ensures { OnOk result (string_bytes out.new
+        ≡ string_bytes out.old ++ (front.now ++ decimal n)) }
 {
     write!(out, "{front}{n}")
 }
@@ -35,7 +36,8 @@ fn push_number(out: &mut String, front: &str, n: u8) -> Result<(), AllocError>
 /// Writes an address as `0xHHH` after a text.
 #[tactic(auto, using(std::proofs::lemmas::Fmt::hex_one_digit, std::proofs::lemmas::Fmt::hex_byte))]
 fn push_address(out: &mut String, front: &str, page: Nibble, word: u8) -> Result<(), AllocError>
-    ensures { OnOk result (string_bytes out.new ≡ string_bytes out.old ++ (front.now ++ address page word)) }
+    ensures { OnOk result (string_bytes out.new
+        ≡ string_bytes out.old ++ (front.now ++ address page word)) }
 {
     let page = page.get();
     write!(out, "{front}0x{page:X}{word:02X}")
@@ -44,14 +46,16 @@ fn push_address(out: &mut String, front: &str, page: Nibble, word: u8) -> Result
 /// Writes a pair and a byte.
 #[tactic(auto, using(std::proofs::lemmas::Fmt::hex_byte))]
 fn push_pair_and_byte(out: &mut String, pair: u8, byte: u8) -> Result<(), AllocError>
-    ensures { OnOk result (string_bytes out.new ≡ string_bytes out.old ++ (codes " P" ++ (decimal pair ++ (codes ", 0x" ++ hex_2 byte)))) }
+    ensures { OnOk result (string_bytes out.new
+        ≡ string_bytes out.old ++ (codes " P" ++ (decimal pair ++ (codes ", 0x" ++ hex_2 byte)))) }
 {
     write!(out, " P{pair}, 0x{byte:02X}")
 }
 
 /// Writes a number after a text, and an address on the page that JCN and ISZ at `at` reach.
 fn push_near(out: &mut String, front: &str, n: u8, at: Addr, word: u8) -> Result<(), AllocError>
-    ensures { OnOk result (string_bytes out.new ≡ string_bytes out.old ++ (front.now ++ (decimal n ++ (codes ", " ++ address (near_page at) word)))) }
+    ensures { OnOk result (string_bytes out.new ≡ string_bytes out.old
+        ++ (front.now ++ (decimal n ++ (codes ", " ++ address (near_page at) word)))) }
 {
     push_number(out, front, n)?;
     push_address(out, ", ", at.plus(2).page(), word)
@@ -119,7 +123,8 @@ pub fn push_piece(
     first: u8,
     piece: Option<Op>,
 ) -> Result<(), AllocError>
-    ensures { OnOk result (string_bytes out.new ≡ string_bytes out.old ++ piece_text at first piece) }
+    ensures { OnOk result (string_bytes out.new
+        ≡ string_bytes out.old ++ piece_text at first piece) }
 {
     match piece {
         None => write!(out, "DB 0x{first:02X}"),
@@ -129,7 +134,8 @@ pub fn push_piece(
 
 /// Writes the line that says where the bytes after it stand.
 pub fn push_origin(out: &mut String, at: Addr) -> Result<(), AllocError>
-    ensures { OnOk result (string_bytes out.new ≡ string_bytes out.old ++ as_line (origin_text at)) }
+    ensures { OnOk result (string_bytes out.new
+        ≡ string_bytes out.old ++ as_line (origin_text at)) }
 {
     push_address(out, "ORG ", at.page(), at.low())?;
     out.push('\n')?;
@@ -139,7 +145,8 @@ pub fn push_origin(out: &mut String, at: Addr) -> Result<(), AllocError>
 /// Writes the three digits of an address.
 #[tactic(auto, using(std::proofs::lemmas::Fmt::hex_one_digit, std::proofs::lemmas::Fmt::hex_byte))]
 fn push_digits(out: &mut String, at: Addr) -> Result<(), AllocError>
-    ensures { OnOk result (string_bytes out.new ≡ string_bytes out.old ++ address_digits (at / 256) (at % 256)) }
+    ensures { OnOk result (string_bytes out.new
+        ≡ string_bytes out.old ++ address_digits (at / 256) (at % 256)) }
 {
     let page = at.page().get();
     let word = at.low();
@@ -149,7 +156,8 @@ fn push_digits(out: &mut String, at: Addr) -> Result<(), AllocError>
 /// Writes the words that stand before a listed text, after the address.
 #[tactic(auto, using(std::proofs::lemmas::Fmt::hex_byte))]
 fn push_words(out: &mut String, first: u8, second: Option<u8>) -> Result<(), AllocError>
-    ensures { OnOk result (string_bytes out.new ≡ string_bytes out.old ++ word_columns first second) }
+    ensures { OnOk result (string_bytes out.new
+        ≡ string_bytes out.old ++ word_columns first second) }
 {
     match second {
         Some(second) => write!(out, " {first:02X} {second:02X} "),

@@ -1,4 +1,5 @@
--- Stretches of calls, one after another. `new` is a state of an honest disk wherever its laws are asked for.
+-- Stretches of calls, one after another. `new` is a state of an honest disk wherever its laws are
+-- asked for.
 use Rattle.std.proofs.Common.{◌≡◌, inl, inr, ⊎_elim, ◌+◌, ℕ, List, refl, arith, ◌∙◌, Result, Ok, Err}
 use Rattle.mcs_disk.specs.Disk.{DiskState, IsLawful}
 use Rattle.mcs_disk.specs.Moments.{Changes, Either, KeepsEarlierImages, LeavesOnly, AddsNoImage}

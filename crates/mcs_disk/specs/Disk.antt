@@ -1,5 +1,5 @@
--- What the calls of a disk do to its bytes, and what a power cut may leave. (Our own choice: a device that writes in ranges and
--- promises nothing before a sync.)
+-- What the calls of a disk do to its bytes, and what a power cut may leave. (Our own choice: a
+-- device that writes in ranges and promises nothing before a sync.)
 use Rattle.std.specs.Prelude.{◌<◌, ◌≡◌, ◌⊎◌, ◌↔◌, ℕ, zero, suc, ◌+◌, ◌-◌, ◌^◌, ◌≤◌, min, List, [], ◌∷◌, length, take, drop, slice_index, Result, OnOk, OnErr}
 
 -- all that a contract sees of a disk
@@ -46,32 +46,37 @@ Within some all = (c : List ℕ) → some c → all c
 abbrev pub most_faults : ℕ
 most_faults = 2 ^ 64 - 1
 
--- what each call does on any disk: the count of faults rises by one where it fails, and nowhere else
+-- what each call does on any disk: the count of faults rises by one where it fails, and nowhere
+-- else
 pub record IsCall {T E : Type 0} (old new : DiskState) (result : Result T E) : Type 0 where
   pub size : new.size ≡ old.size
   pub no_fault : OnOk result (new.faults ≡ old.faults)
   pub fault : OnErr result (new.faults ≡ min (old.faults + 1) most_faults)
   pub honest : new.honest ↔ old.honest
 
--- What each call does on an honest disk to its times: an Ok is one step of the clock, and since an earlier time a power cut may have
--- left what it might have by then, and what it may leave now.
+-- What each call does on an honest disk to its times: an Ok is one step of the clock, and since an
+-- earlier time a power cut may have left what it might have by then, and what it may leave now.
 pub record Elapses {T E : Type 0} (old new : DiskState) (result : Result T E) : Type 0 where
   pub ticks : OnOk result (new.clock ≡ old.clock + 1)
   pub stands : OnErr result (new.clock ≡ old.clock)
-  pub nothing_else : (t : ℕ) (c : List ℕ) → t ≤ old.clock → new.since t c → old.since t c ⊎ new.images c
+  pub nothing_else : (t : ℕ) (c : List ℕ) → t ≤ old.clock → new.since t c
+      → old.since t c ⊎ new.images c
   pub keeps : (t : ℕ) (c : List ℕ) → t ≤ old.clock → old.since t c → new.since t c
   pub fresh : OnOk result ((c : List ℕ) → new.since new.clock c → new.images c)
 
 -- a read on an honest disk: it gives the current bytes and makes no new image
-pub record Reads {T E : Type 0} (at : ℕ) (old_into into : List ℕ) (old new : DiskState) (result : Result T E) : Type 0 where
+pub record Reads {T E : Type 0} (at : ℕ) (old_into into : List ℕ) (old new : DiskState)
+    (result : Result T E) : Type 0 where
   pub given : OnOk result (into ≡ part at (length old_into) old.bytes)
   pub bytes : new.bytes ≡ old.bytes
   pub images : Within new.images old.images
   pub kept : Within old.images new.images
   pub time : Elapses old new result
 
--- a write on an honest disk: until a sync its range may hold any bytes after a power cut, and the rest stays
-pub record Writes {T E : Type 0} (at : ℕ) (from : List ℕ) (old new : DiskState) (result : Result T E) : Type 0 where
+-- a write on an honest disk: until a sync its range may hold any bytes after a power cut, and the
+-- rest stays
+pub record Writes {T E : Type 0} (at : ℕ) (from : List ℕ) (old new : DiskState)
+    (result : Result T E) : Type 0 where
   pub written : OnOk result (part at (length from) new.bytes ≡ from)
   -- also where it failed: then the range may hold any bytes
   pub outside : Torn at (length from) old.bytes new.bytes
@@ -80,7 +85,8 @@ pub record Writes {T E : Type 0} (at : ℕ) (from : List ℕ) (old new : DiskSta
   pub kept : Within old.images new.images
   pub time : Elapses old new result
 
--- a sync on an honest disk: after an Ok the current bytes are the only image, and after a failure nothing became stable
+-- a sync on an honest disk: after an Ok the current bytes are the only image, and after a failure
+-- nothing became stable
 pub record Syncs {T E : Type 0} (old new : DiskState) (result : Result T E) : Type 0 where
   pub durable : OnOk result (Only old.bytes new.images)
   pub bytes : new.bytes ≡ old.bytes

@@ -4,3 +4,4 @@ pub mod Memory
 pub mod MemoryLaws
 pub mod Moments
 pub mod PowerCut
+pub mod States

@@ -16,12 +16,14 @@ abbrev pub images_after : ℕ → List Call → List ℕ → Type 0
 images_after size [] c = c ≡ replicate size 0
 images_after size (Read ∷ calls) c = images_after size calls c
 images_after size (Sync ∷ calls) c = c ≡ bytes_after size calls
-images_after size (Write at from ∷ calls) c = (d : List ℕ) × images_after size calls d × Torn at (length from.items) d c
+images_after size (Write at from ∷ calls) c =
+    (d : List ℕ) × images_after size calls d × Torn at (length from.items) d c
 
 -- what a power cut after t or more of these calls may have left
 abbrev pub since_after : ℕ → List Call → ℕ → List ℕ → Type 0
 since_after size [] t c = images_after size [] c
-since_after size (call ∷ calls) t c = images_after size (call ∷ calls) c ⊎ ((t ≤ length calls) × since_after size calls t c)
+since_after size (call ∷ calls) t c =
+    images_after size (call ∷ calls) c ⊎ ((t ≤ length calls) × since_after size calls t c)
 
 -- what contracts see of such a disk; its calls stand in order
 abbrev pub memory_state : ℕ → List ℕ → List Call → DiskState

@@ -1,14 +1,16 @@
--- Stretches of calls on a disk, from one of its states to a later one: what stays, what a power cut at any moment may leave, and what is
--- safe after them. (Our own choice.)
+-- Stretches of calls on a disk, from one of its states to a later one: what stays, what a power cut
+-- at any moment may leave, and what is safe after them. (Our own choice.)
 use Rattle.std.specs.Prelude.{◌≡◌, ◌⊎◌, ◌↔◌, ℕ, ◌+◌, ◌≤◌, min, List, replicate, Result, OnOk}
 use Rattle.mcs_disk.specs.Disk.{DiskState, Only, most_faults}
 
--- all that is there is on the disk: a power cut now leaves the current bytes, and since this moment there is no other image
+-- all that is there is on the disk: a power cut now leaves the current bytes, and since this moment
+-- there is no other image
 pub record IsDurable (disk : DiskState) : Type 0 where
   pub only : Only disk.bytes disk.images
   pub fresh : (c : List ℕ) → disk.since disk.clock c → c ≡ disk.bytes
 
--- size and honesty stayed, and the count of faults rose by one where a call failed, and nowhere else
+-- size and honesty stayed, and the count of faults rose by one where a call failed, and nowhere
+-- else
 pub record CountsFault (old new : DiskState) (failed : Type 0) : Type 0 where
   pub size : new.size ≡ old.size
   pub honest : new.honest ↔ old.honest
@@ -46,11 +48,13 @@ pub record AddsNoImage (old new : DiskState) : Type 0 where
   pub nothing_else : (t : ℕ) (c : List ℕ) → t ≤ old.clock → new.since t c → old.since t c
   pub keeps : (t : ℕ) (c : List ℕ) → t ≤ old.clock → old.since t c → new.since t c
 
--- An image at a moment since the start has P. Since an earlier time there are what there was since then, and what there is since the start.
+-- An image at a moment since the start has P. Since an earlier time there are what there was since
+-- then, and what there is since the start.
 pub record LeavesOnly (old new : DiskState) (P : List ℕ → Type 0) : Type 0 where
   pub later : old.clock ≤ new.clock
   pub each : (c : List ℕ) → new.since old.clock c → P c
-  pub before : (t : ℕ) (c : List ℕ) → t ≤ old.clock → new.since t c → old.since t c ⊎ new.since old.clock c
+  pub before : (t : ℕ) (c : List ℕ) → t ≤ old.clock → new.since t c
+      → old.since t c ⊎ new.since old.clock c
   pub keeps : (t : ℕ) (c : List ℕ) → t ≤ old.clock → old.since t c → new.since t c
 
 -- nothing is said of what the stretch left after
@@ -61,8 +65,10 @@ KeepsEarlierImages old new = LeavesOnly old new (λ c. Unit {0})
 abbrev pub Either : (List ℕ → Type 0) → (List ℕ → Type 0) → List ℕ → Type 0
 Either P Q c = P c ⊎ Q c
 
--- A change in that many steps. Until Ok, a power cut leaves what has Before or what has After; from then on what has After alone.
-pub record Changes {T E : Type 0} (steps : ℕ) (old new : DiskState) (Before After : List ℕ → Type 0) (result : Result T E) : Type 0 where
+-- A change in that many steps. Until Ok, a power cut leaves what has Before or what has After; from
+-- then on what has After alone.
+pub record Changes {T E : Type 0} (steps : ℕ) (old new : DiskState)
+    (Before After : List ℕ → Type 0) (result : Result T E) : Type 0 where
   pub after : OnOk result (After new.bytes)
   pub durable : OnOk result (IsDurable new)
   pub ticks : OnOk result (new.clock ≡ old.clock + steps)

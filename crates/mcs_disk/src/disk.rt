@@ -11,8 +11,9 @@ pub struct DiskFault;
 
 /// A device of bytes that can be read and written in ranges, and synced.
 ///
-/// Every disk owes its size and the count of faults. The rest is owed by an honest disk alone: between two syncs a power cut may
-/// leave any bytes in a written range, and after a good sync it leaves the current bytes.
+/// Every disk owes its size and the count of faults. The rest is owed by an honest disk alone:
+/// between two syncs a power cut may leave any bytes in a written range, and after a good sync it
+/// leaves the current bytes.
 pub trait Disk {
     /// What contracts see.
     ghost state: { Self → DiskState };
@@ -28,7 +29,8 @@ pub trait Disk {
         ensures honest { (state self.old).honest
             → Reads at into.old into.new (state self.old) (state self.new) result };
 
-    /// Writes over the bytes from `at` on. Until a sync, a power cut may leave any bytes in that range.
+    /// Writes over the bytes from `at` on. Until a sync, a power cut may leave any bytes in that
+    /// range.
     fn write(&mut self, at: usize, from: &[u8]) -> Result<(), DiskFault>
         requires { at + length from.now ≤ (state self.old).size }
         ensures call { IsCall (state self.old) (state self.new) result }

@@ -2,13 +2,12 @@
 ghost use Rattle.std.specs.Prelude.{◌≡◌, ◌≤◌, ◌+◌, ◌↔◌, ℕ, length, min, OnErr, IsErr, IsTrue};
 ghost use Rattle.mcs_disk.specs.Disk.{most_faults, IsCall, Reads, Writes, Syncs};
 ghost use Rattle.mcs_disk.specs.Moments.{IsSame, IsUntouched};
-ghost use Rattle.mcs_disk.specs.Memory.{memory_state};
 ghost use Rattle.mcs_disk.specs.MemoryLaws.{memory_lawful};
 
 use crate::{Disk, DiskFault, MemDisk};
 
 /// Which of the calls to come fail.
-#[derive(Clone, Copy, Debug, PartialEq, Eq)]
+#[derive(Clone, Copy)]
 enum Fuse {
     /// None.
     Whole,
@@ -47,8 +46,8 @@ impl Fuse {
 
 /// A disk in memory that fails chosen calls, and does not pass them on.
 ///
-/// It goes on counting faults where the disk in it has come to, and is honest like that disk. A call that it passes on is answered
-/// as that disk answers it.
+/// It goes on counting faults where the disk in it has come to, and is honest like that disk. A
+/// call that it passes on is answered as that disk answers it.
 #[derive(Drop)]
 pub struct FuseDisk {
     disk: MemDisk,
@@ -58,10 +57,11 @@ pub struct FuseDisk {
 
 impl FuseDisk {
     ghost use Rattle.mcs_disk.specs.Fuse.{FailsAfter, inner_disk};
+    ghost use Rattle.mcs_disk.specs.States.{fuse_disk_state, mem_disk_state};
 
     /// The first `calls` calls go through; each later one fails.
     pub fn after(disk: MemDisk, calls: usize) -> FuseDisk
-        ensures disk { IsSame (⟦<MemDisk as Disk>⟧.state disk) (⟦<FuseDisk as Disk>⟧.state result) }
+        ensures disk { IsSame (mem_disk_state disk) (fuse_disk_state result) }
         ensures inner { inner_disk result ≡ disk }
         ensures fails { (n : ℕ) → FailsAfter result n ↔ (calls ≤ n) }
     {
@@ -75,7 +75,7 @@ impl FuseDisk {
 
     /// The call after the first `calls` fails; all others go through.
     pub fn once(disk: MemDisk, calls: usize) -> FuseDisk
-        ensures disk { IsSame (⟦<MemDisk as Disk>⟧.state disk) (⟦<FuseDisk as Disk>⟧.state result) }
+        ensures disk { IsSame (mem_disk_state disk) (fuse_disk_state result) }
         ensures inner { inner_disk result ≡ disk }
         ensures fails { (n : ℕ) → FailsAfter result n ↔ (n ≡ calls) }
     {
@@ -89,8 +89,7 @@ impl FuseDisk {
 
     /// Ends the failing: every later call goes through.
     pub fn mend(&mut self)
-        ensures disk { IsSame (⟦<FuseDisk as Disk>⟧.state self.old)
-            (⟦<FuseDisk as Disk>⟧.state self.new) }
+        ensures disk { IsSame (fuse_disk_state self.old) (fuse_disk_state self.new) }
         ensures inner { inner_disk self.new ≡ inner_disk self.old }
         ensures fails { (n : ℕ) → ¬ (FailsAfter self.new n) }
     {
@@ -110,29 +109,31 @@ impl FuseDisk {
 
 impl Disk for FuseDisk {
     ghost use Rattle.mcs_disk.specs.Fuse.{FailsAfter, inner_disk};
+    ghost use Rattle.mcs_disk.specs.States.{fuse_disk_state, mem_disk_state};
 
-    ghost state = { λ f. memory_state f.faults f.disk.bytes.items f.disk.calls.items };
+    ghost state = { fuse_disk_state };
 
-    ghost lawful = { λ f honest. memory_lawful f.faults f.disk.bytes.items f.disk.calls.items f.disk.kept };
+    ghost lawful = { λ f honest.
+        memory_lawful f.faults f.disk.bytes.items f.disk.calls.items f.disk.kept };
 
     fn size(&self) -> usize {
         self.disk.size()
     }
 
     fn read(&mut self, at: usize, into: &mut [u8]) -> Result<(), DiskFault>
-        requires { at + length into.old ≤ (⟦<FuseDisk as Disk>⟧.state self.old).size }
-        ensures call { IsCall (⟦<FuseDisk as Disk>⟧.state self.old)
-            (⟦<FuseDisk as Disk>⟧.state self.new) result }
-        ensures honest { (⟦<FuseDisk as Disk>⟧.state self.old).honest
-            → Reads at into.old into.new (⟦<FuseDisk as Disk>⟧.state self.old)
-            (⟦<FuseDisk as Disk>⟧.state self.new) result }
-        ensures refused { OnErr result (IsUntouched (⟦<FuseDisk as Disk>⟧.state self.old)
-            (⟦<FuseDisk as Disk>⟧.state self.new)) }
+        requires { at + length into.old ≤ (fuse_disk_state self.old).size }
+        ensures call { IsCall (fuse_disk_state self.old) (fuse_disk_state self.new) result }
+        ensures honest { (fuse_disk_state self.old).honest
+            → Reads at into.old into.new (fuse_disk_state self.old) (fuse_disk_state self.new)
+            result }
+        ensures refused { OnErr result
+            (IsUntouched (fuse_disk_state self.old) (fuse_disk_state self.new)) }
         ensures fails { FailsAfter self.old 0 → IsErr result }
         ensures kept_back { FailsAfter self.old 0 → inner_disk self.new ≡ inner_disk self.old }
         // What the disk in it answered: an Err comes only where that disk counted a fault.
-        ensures passed_on { ¬ (FailsAfter self.old 0) → IsCall (⟦<MemDisk as Disk>⟧.state (inner_disk self.old))
-            (⟦<MemDisk as Disk>⟧.state (inner_disk self.new)) result }
+        ensures passed_on { ¬ (FailsAfter self.old 0)
+            → IsCall (mem_disk_state (inner_disk self.old)) (mem_disk_state (inner_disk self.new))
+            result }
         ensures later { (n : ℕ) → FailsAfter self.new n ↔ FailsAfter self.old (n + 1) }
     {
         if self.fuse.blows() {
@@ -145,19 +146,18 @@ impl Disk for FuseDisk {
     }
 
     fn write(&mut self, at: usize, from: &[u8]) -> Result<(), DiskFault>
-        requires { at + length from.now ≤ (⟦<FuseDisk as Disk>⟧.state self.old).size }
-        ensures call { IsCall (⟦<FuseDisk as Disk>⟧.state self.old)
-            (⟦<FuseDisk as Disk>⟧.state self.new) result }
-        ensures honest { (⟦<FuseDisk as Disk>⟧.state self.old).honest
-            → Writes at from.now (⟦<FuseDisk as Disk>⟧.state self.old)
-            (⟦<FuseDisk as Disk>⟧.state self.new) result }
-        ensures refused { OnErr result (IsUntouched (⟦<FuseDisk as Disk>⟧.state self.old)
-            (⟦<FuseDisk as Disk>⟧.state self.new)) }
+        requires { at + length from.now ≤ (fuse_disk_state self.old).size }
+        ensures call { IsCall (fuse_disk_state self.old) (fuse_disk_state self.new) result }
+        ensures honest { (fuse_disk_state self.old).honest
+            → Writes at from.now (fuse_disk_state self.old) (fuse_disk_state self.new) result }
+        ensures refused { OnErr result
+            (IsUntouched (fuse_disk_state self.old) (fuse_disk_state self.new)) }
         ensures fails { FailsAfter self.old 0 → IsErr result }
         ensures kept_back { FailsAfter self.old 0 → inner_disk self.new ≡ inner_disk self.old }
         // What the disk in it answered: an Err comes only where that disk counted a fault.
-        ensures passed_on { ¬ (FailsAfter self.old 0) → IsCall (⟦<MemDisk as Disk>⟧.state (inner_disk self.old))
-            (⟦<MemDisk as Disk>⟧.state (inner_disk self.new)) result }
+        ensures passed_on { ¬ (FailsAfter self.old 0)
+            → IsCall (mem_disk_state (inner_disk self.old)) (mem_disk_state (inner_disk self.new))
+            result }
         ensures later { (n : ℕ) → FailsAfter self.new n ↔ FailsAfter self.old (n + 1) }
     {
         if self.fuse.blows() {
@@ -170,18 +170,17 @@ impl Disk for FuseDisk {
     }
 
     fn sync(&mut self) -> Result<(), DiskFault>
-        ensures call { IsCall (⟦<FuseDisk as Disk>⟧.state self.old)
-            (⟦<FuseDisk as Disk>⟧.state self.new) result }
-        ensures honest { (⟦<FuseDisk as Disk>⟧.state self.old).honest
-            → Syncs (⟦<FuseDisk as Disk>⟧.state self.old)
-            (⟦<FuseDisk as Disk>⟧.state self.new) result }
-        ensures refused { OnErr result (IsUntouched (⟦<FuseDisk as Disk>⟧.state self.old)
-            (⟦<FuseDisk as Disk>⟧.state self.new)) }
+        ensures call { IsCall (fuse_disk_state self.old) (fuse_disk_state self.new) result }
+        ensures honest { (fuse_disk_state self.old).honest
+            → Syncs (fuse_disk_state self.old) (fuse_disk_state self.new) result }
+        ensures refused { OnErr result
+            (IsUntouched (fuse_disk_state self.old) (fuse_disk_state self.new)) }
         ensures fails { FailsAfter self.old 0 → IsErr result }
         ensures kept_back { FailsAfter self.old 0 → inner_disk self.new ≡ inner_disk self.old }
         // What the disk in it answered: an Err comes only where that disk counted a fault.
-        ensures passed_on { ¬ (FailsAfter self.old 0) → IsCall (⟦<MemDisk as Disk>⟧.state (inner_disk self.old))
-            (⟦<MemDisk as Disk>⟧.state (inner_disk self.new)) result }
+        ensures passed_on { ¬ (FailsAfter self.old 0)
+            → IsCall (mem_disk_state (inner_disk self.old)) (mem_disk_state (inner_disk self.new))
+            result }
         ensures later { (n : ℕ) → FailsAfter self.new n ↔ FailsAfter self.old (n + 1) }
     {
         if self.fuse.blows() {

@@ -18,7 +18,8 @@ pub fn cut_leaves_what_is_durable<D: Disk, E: Disk>()
         → (E.state e).bytes ≡ (D.state d).bytes }
 {}
 
-/// A power cut after a stretch of calls, since a time before it, is one before the stretch, or one since its start.
+/// A power cut after a stretch of calls, since a time before it, is one before the stretch, or one
+/// since its start.
 pub fn cut_is_before_a_stretch_or_since_its_start<D: Disk, E: Disk>()
     ensures { (t : ℕ) (old new : D) (e : E) → t ≤ (D.state old).clock
         → (D.state new).size ≡ (D.state old).size → KeepsEarlierImages (D.state old) (D.state new)
@@ -26,7 +27,8 @@ pub fn cut_is_before_a_stretch_or_since_its_start<D: Disk, E: Disk>()
         ⊎ IsLeftByCut (D.state old).clock (D.state new) (E.state e) }
 {}
 
-/// A second power cut, before any call on what the first has left, leaves what the first one can leave.
+/// A second power cut, before any call on what the first has left, leaves what the first one can
+/// leave.
 pub fn cut_of_what_a_cut_left<D: Disk, E: Disk, F: Disk>()
     ensures { (t : ℕ) (d : D) (e : E) (f : F) → IsLeftByCut t (D.state d) (E.state e)
         → IsLeftByCut (E.state e).clock (E.state e) (F.state f)

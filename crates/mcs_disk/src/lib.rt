@@ -1,7 +1,7 @@
 //! Disks as the journal sees them: a fixed number of bytes, faults, and what a power cut may leave.
 //!
-//! [`Disk`] is the trait that the journal is written over. [`MemDisk`] is an honest disk in memory, and [`FuseDisk`] one
-//! that fails chosen calls, for tests.
+//! [`Disk`] is the trait that the journal is written over. [`MemDisk`] is an honest disk in memory,
+//! and [`FuseDisk`] one that fails chosen calls, for tests.
 #![tactic(auto)]
 
 mod disk;

@@ -2,7 +2,7 @@
 ghost use Rattle.std.specs.Prelude.{◌≡◌, ◌+◌, ◌-◌, ◌^◌, ◌≤◌, [], ◌∷◌, ◌++◌, length, reverse, IfOk, OnOk, OnErr, min};
 ghost use Rattle.mcs_disk.specs.Disk.{most_faults, put, IsCall, Reads, Writes, Syncs};
 ghost use Rattle.mcs_disk.specs.Moments.{IsNew, IsUntouched};
-ghost use Rattle.mcs_disk.specs.Memory.{bytes_after, memory_state};
+ghost use Rattle.mcs_disk.specs.Memory.{bytes_after};
 ghost use Rattle.mcs_disk.specs.MemoryLaws.{memory_lawful};
 
 use crate::{Disk, DiskFault};
@@ -18,8 +18,9 @@ pub(crate) enum Call {
 
 /// An honest disk in memory.
 ///
-/// It keeps a record of the calls that answered Ok, from which contracts read what a power cut may have left at each moment. Where
-/// that record cannot grow, the call is a device fault, and changes nothing but the count of faults.
+/// It keeps a record of the calls that answered Ok, from which contracts read what a power cut may
+/// have left at each moment. Where that record cannot grow, the call is a device fault, and changes
+/// nothing but the count of faults.
 #[derive(Drop)]
 pub struct MemDisk {
     alloc: Global,
@@ -30,9 +31,11 @@ pub struct MemDisk {
 }
 
 impl MemDisk {
+    ghost use Rattle.mcs_disk.specs.States.{mem_disk_state};
+
     /// A disk of `size` bytes of 0.
     pub fn new(alloc: Global, size: usize) -> Result<MemDisk, AllocError>
-        ensures { IfOk result (λ disk. IsNew size (⟦<MemDisk as Disk>⟧.state disk)) }
+        ensures { IfOk result (λ disk. IsNew size (mem_disk_state disk)) }
     {
         Ok(MemDisk {
             alloc,
@@ -78,7 +81,9 @@ fn overwrite(bytes: &mut [u8], at: usize, from: &[u8])
 }
 
 impl Disk for MemDisk {
-    ghost state = { λ m. memory_state m.faults m.bytes.items m.calls.items };
+    ghost use Rattle.mcs_disk.specs.States.{mem_disk_state};
+
+    ghost state = { mem_disk_state };
 
     ghost lawful = { λ m honest. memory_lawful m.faults m.bytes.items m.calls.items m.kept };
 
@@ -87,14 +92,13 @@ impl Disk for MemDisk {
     }
 
     fn read(&mut self, at: usize, into: &mut [u8]) -> Result<(), DiskFault>
-        requires { at + length into.old ≤ (⟦<MemDisk as Disk>⟧.state self.old).size }
-        ensures call { IsCall (⟦<MemDisk as Disk>⟧.state self.old)
-            (⟦<MemDisk as Disk>⟧.state self.new) result }
-        ensures honest { (⟦<MemDisk as Disk>⟧.state self.old).honest
-            → Reads at into.old into.new (⟦<MemDisk as Disk>⟧.state self.old)
-            (⟦<MemDisk as Disk>⟧.state self.new) result }
-        ensures refused { OnErr result (IsUntouched (⟦<MemDisk as Disk>⟧.state self.old)
-            (⟦<MemDisk as Disk>⟧.state self.new)) }
+        requires { at + length into.old ≤ (mem_disk_state self.old).size }
+        ensures call { IsCall (mem_disk_state self.old) (mem_disk_state self.new) result }
+        ensures honest { (mem_disk_state self.old).honest
+            → Reads at into.old into.new (mem_disk_state self.old) (mem_disk_state self.new)
+            result }
+        ensures refused { OnErr result
+            (IsUntouched (mem_disk_state self.old) (mem_disk_state self.new)) }
     {
         keep(&mut self.calls, &mut self.faults, Call::Read)?;
         into.copy_from_slice(&self.bytes[at..at + into.len()]);
@@ -102,14 +106,12 @@ impl Disk for MemDisk {
     }
 
     fn write(&mut self, at: usize, from: &[u8]) -> Result<(), DiskFault>
-        requires { at + length from.now ≤ (⟦<MemDisk as Disk>⟧.state self.old).size }
-        ensures call { IsCall (⟦<MemDisk as Disk>⟧.state self.old)
-            (⟦<MemDisk as Disk>⟧.state self.new) result }
-        ensures honest { (⟦<MemDisk as Disk>⟧.state self.old).honest
-            → Writes at from.now (⟦<MemDisk as Disk>⟧.state self.old)
-            (⟦<MemDisk as Disk>⟧.state self.new) result }
-        ensures refused { OnErr result (IsUntouched (⟦<MemDisk as Disk>⟧.state self.old)
-            (⟦<MemDisk as Disk>⟧.state self.new)) }
+        requires { at + length from.now ≤ (mem_disk_state self.old).size }
+        ensures call { IsCall (mem_disk_state self.old) (mem_disk_state self.new) result }
+        ensures honest { (mem_disk_state self.old).honest
+            → Writes at from.now (mem_disk_state self.old) (mem_disk_state self.new) result }
+        ensures refused { OnErr result
+            (IsUntouched (mem_disk_state self.old) (mem_disk_state self.new)) }
     {
         let Ok(copy) = from.to_vec(self.alloc) else {
             return Err(self.fail());
@@ -120,13 +122,11 @@ impl Disk for MemDisk {
     }
 
     fn sync(&mut self) -> Result<(), DiskFault>
-        ensures call { IsCall (⟦<MemDisk as Disk>⟧.state self.old)
-            (⟦<MemDisk as Disk>⟧.state self.new) result }
-        ensures honest { (⟦<MemDisk as Disk>⟧.state self.old).honest
-            → Syncs (⟦<MemDisk as Disk>⟧.state self.old)
-            (⟦<MemDisk as Disk>⟧.state self.new) result }
-        ensures refused { OnErr result (IsUntouched (⟦<MemDisk as Disk>⟧.state self.old)
-            (⟦<MemDisk as Disk>⟧.state self.new)) }
+        ensures call { IsCall (mem_disk_state self.old) (mem_disk_state self.new) result }
+        ensures honest { (mem_disk_state self.old).honest
+            → Syncs (mem_disk_state self.old) (mem_disk_state self.new) result }
+        ensures refused { OnErr result
+            (IsUntouched (mem_disk_state self.old) (mem_disk_state self.new)) }
     {
         keep(&mut self.calls, &mut self.faults, Call::Sync)
     }

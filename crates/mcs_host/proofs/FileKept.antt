@@ -8,7 +8,8 @@ use Rattle.mcs_host.specs.FileDisk.{file_state}
 use Rattle.mcs_host.specs.FileLaws.{current, untorn}
 use Rattle.mcs_host.specs.declared.call_record.CallRecord.{CallRecord}
 
--- the record before and after a call; how many faults there are and which bytes does not matter to the times
+-- the record before and after a call; how many faults there are and which bytes does not matter to
+-- the times
 module _ (f g : ℕ) (b d : List ℕ) (h h' : CallRecord) (call : FileCall) (noted : h' ≡ record h { calls = call ∷ h.calls }) where
   pub images_are : (c : List ℕ) → images_after h'.start h'.calls c ≡ images_after h.start (call ∷ h.calls) c
   images_are c = λ k. images_after (noted k).start (noted k).calls c

@@ -1,4 +1,5 @@
--- The command line of the program, and what its words mean by clap's definition of the matches. (Our own choice.)
+-- The command line of the program, and what its words mean by clap's definition of the matches.
+-- (Our own choice.)
 use Rattle.std.specs.Prelude.{List, Bool, true, codes, Option, None, ◌||◌, if◌then◌else◌, option_map, option_and_then}
 use Rattle.std.specs.Str.{bytes_eq}
 use Rattle.clap.specs.Words.{App, Row, Rule, Text, first_of, new_app, new_rule, subcommand_of, takes, with_rule, with_subcommand}
@@ -15,7 +16,9 @@ over_file name = with_rule (new_app name) file_rule
 
 -- `mcs4 new FILE` and `mcs4 open FILE`
 abbrev pub program : App
-program = with_subcommand (with_subcommand (new_app (codes "mcs4")) (over_file (codes "new")).top) (over_file (codes "open")).top
+program =
+    with_subcommand (with_subcommand (new_app (codes "mcs4")) (over_file (codes "new")).top)
+    (over_file (codes "open")).top
 
 -- clap's definition takes these words, the program's name first
 unfoldable pub takes_words : List Text → Bool
@@ -23,7 +26,8 @@ takes_words words = takes program words
 
 -- `new` or `open`, with its FILE
 abbrev pub file_in : Text × List Row → Option (Text × Text)
-file_in entered = if bytes_eq entered.0 (codes "new") || bytes_eq entered.0 (codes "open")
+file_in entered =
+    if bytes_eq entered.0 (codes "new") || bytes_eq entered.0 (codes "open")
     then option_map (λ file. (entered.0, file)) (first_of (codes "FILE") entered.1) else None
 
 -- the subcommand and the FILE that clap's definition of the matches gives for these words

@@ -21,20 +21,24 @@ pub record IsCutInWrite (calls cut : List FileCall) : Type 0 where
   pub whole : calls ≡ Wrote at bytes ∷ before
   pub torn : cut ≡ Failed at bytes ∷ before
 
--- The file was left at a clock of t or later, after some first part of its calls. Lists of calls have the newest first, so that part is
--- the tail of the list; the newest call of it may be a write that was cut off.
+-- The file was left at a clock of t or later, after some first part of its calls. Lists of calls
+-- have the newest first, so that part is the tail of the list; the newest call of it may be a write
+-- that was cut off.
 pub record IsLeftSince (t : ℕ) (file : FileDisk) : Type 0 where
   pub never_made : List FileCall
   pub made : List FileCall
   pub all : file.history.calls ≡ never_made ++ made
-  pub by_the_end : (file.history.calls_by_the_end ≡ made) ⊎ IsCutInWrite made file.history.calls_by_the_end
+  pub by_the_end : (file.history.calls_by_the_end ≡ made)
+      ⊎ IsCutInWrite made file.history.calls_by_the_end
   pub late : t ≤ clock_of file.history.calls_by_the_end
 
 -- what is found after the end is an image after the calls by then
 abbrev pub IsFoundAfterTheEnd : FileDisk → Type 0
-IsFoundAfterTheEnd file = images_after file.history.start file.history.calls_by_the_end (found_in file)
+IsFoundAfterTheEnd file =
+    images_after file.history.start file.history.calls_by_the_end (found_in file)
 
--- This file is like that one in all that any call has told of it, it was left after all of its calls, and these bytes are found in it.
+-- This file is like that one in all that any call has told of it, it was left after all of its
+-- calls, and these bytes are found in it.
 pub record IsFoundWith (c : List ℕ) (file like : FileDisk) : Type 0 where
   pub faults : like.faults ≡ file.faults
   pub bytes : like.bytes.items ≡ file.bytes.items

@@ -1,5 +1,6 @@
--- A file of the host as a disk, by the calls on it, the newest first. (Our own choice: what a file that was synced as it was opened owes
--- by POSIX's read, write and fdatasync, where a power cut may leave any bytes in a range that was written and not synced.)
+-- A file of the host as a disk, by the calls on it, the newest first. (Our own choice: what a file
+-- that was synced as it was opened owes by POSIX's read, write and fdatasync, where a power cut may
+-- leave any bytes in a range that was written and not synced.)
 use Rattle.std.specs.Prelude.{◌≡◌, ◌⊎◌, ℕ, ◌+◌, ◌≤◌, List, [], ◌∷◌, length}
 use Rattle.mcs_disk.specs.Disk.{Torn, put}
 use Rattle.mcs_host.specs.declared.call_record.Call.{Call}
@@ -11,7 +12,8 @@ pub data FileCall : Type 0 where
   WasRead : FileCall
   -- these bytes were written from this offset on
   Wrote : ℕ → List ℕ → FileCall
-  -- a write of these bytes from this offset on failed, or was cut off, and any bytes may have come into its range
+  -- a write of these bytes from this offset on failed, or was cut off, and any bytes may have come
+  -- into its range
   Failed : ℕ → List ℕ → FileCall
   -- all that the file holds was made stable
   Synced : FileCall
@@ -35,8 +37,10 @@ bytes_after start (Synced ∷ calls) = bytes_after start calls
 abbrev pub images_after : List ℕ → List FileCall → List ℕ → Type 0
 images_after start [] c = c ≡ start
 images_after start (WasRead ∷ calls) c = images_after start calls c
-images_after start (Wrote at from ∷ calls) c = (d : List ℕ) × images_after start calls d × Torn at (length from) d c
-images_after start (Failed at from ∷ calls) c = (d : List ℕ) × images_after start calls d × Torn at (length from) d c
+images_after start (Wrote at from ∷ calls) c =
+    (d : List ℕ) × images_after start calls d × Torn at (length from) d c
+images_after start (Failed at from ∷ calls) c =
+    (d : List ℕ) × images_after start calls d × Torn at (length from) d c
 images_after start (Synced ∷ calls) c = c ≡ bytes_after start calls
 
 -- how many of these calls have answered Ok
@@ -50,4 +54,5 @@ clock_of (Synced ∷ calls) = clock_of calls + 1
 -- what a power cut after these calls, or when t or more of them had answered Ok, may leave
 abbrev pub since_after : List ℕ → List FileCall → ℕ → List ℕ → Type 0
 since_after start [] t c = images_after start [] c
-since_after start (call ∷ calls) t c = images_after start (call ∷ calls) c ⊎ ((t ≤ clock_of calls) × since_after start calls t c)
+since_after start (call ∷ calls) t c =
+    images_after start (call ∷ calls) c ⊎ ((t ≤ clock_of calls) × since_after start calls t c)

@@ -5,8 +5,9 @@ use Rattle.mcs_disk.specs.Moments.{IsDurable}
 use Rattle.mcs_host.specs.FileCalls.{clock_of, images_after, since_after}
 use Rattle.mcs_host.specs.declared.call_record.CallRecord.{CallRecord}
 
--- The premise on the host, and on programs that write the file without asking for its lock: what is found in the file after the end is an
--- image after the calls by then, of which a write that was under way is one that failed.
+-- The premise on the host, and on programs that write the file without asking for its lock: what is
+-- found in the file after the end is an image after the calls by then, of which a write that was
+-- under way is one that failed.
 abbrev pub IsHonest : CallRecord → Type 0
 IsHonest history = images_after history.start history.calls_by_the_end history.found
 

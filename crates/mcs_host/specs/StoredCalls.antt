@@ -26,5 +26,12 @@ of_parts-parts_of Synced = refl
 of_parts-parts_of (Wrote at bytes) = refl
 of_parts-parts_of (Failed at bytes) = refl
 
+-- an offset and the bytes from it on
+abbrev coded_write : Coded (ℕ × List ℕ)
+coded_write = coded× coded_ℕ (coded_list coded_ℕ)
+
+abbrev coded_parts : Coded Parts
+coded_parts = coded⊎ coded_unit (coded⊎ coded_unit (coded⊎ coded_write coded_write))
+
 abbrev pub coded_call : Coded FileCall
-coded_call = code_by Parts (coded⊎ coded_unit (coded⊎ coded_unit (coded⊎ (coded× coded_ℕ (coded_list coded_ℕ)) (coded× coded_ℕ (coded_list coded_ℕ))))) parts_of of_parts of_parts-parts_of
+coded_call = code_by Parts coded_parts parts_of of_parts of_parts-parts_of

@@ -22,8 +22,9 @@ pub(crate) enum Call {
 
 /// The calls on an open file, for contracts alone: no memory holds them.
 ///
-/// Two of its parts speak of the end, when the file is left by a close, a kill or a power cut: the calls that were made by then, and the
-/// bytes that the next one to open the file finds. No code can tell them and no proof knows them.
+/// Two of its parts speak of the end, when the file is left by a close, a kill or a power cut: the
+/// calls that were made by then, and the bytes that the next one to open the file finds. No code
+/// can tell them and no proof knows them.
 #[derive(Drop)]
 pub(crate) struct CallRecord {
     marker: PhantomData<u8>,
@@ -53,6 +54,7 @@ impl CallRecord {
 
     /// Adds a call. `_bytes` are those that it wrote, if it wrote.
     pub(crate) fn note(&mut self, _call: &Call, _bytes: &[u8])
-        ensures { self.new ≡ record self.old { calls = call_of _call.now _bytes.now ∷ self.old.calls } }
+        ensures { self.new
+            ≡ record self.old { calls = call_of _call.now _bytes.now ∷ self.old.calls } }
     {}
 }

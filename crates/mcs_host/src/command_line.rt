@@ -22,8 +22,10 @@ impl Choice {
 
 // The matches of the words by clap's definition.
 fn matches<'a, S: AsStr>(alloc: Global, words: &'a [S]) -> Result<ArgMatches<'a>, Error>
-    ensures ok { IfOk result (λ m. subcommand_rows_of m ≡ subcommand_of program (map S.text words.entry.now)) }
-    ensures err { IfErr result (λ e. takes_words (map S.text words.entry.now) ≡ true → kind_of e ≡ ErrorKind.OutOfMemory) }
+    ensures ok { IfOk result (λ m. subcommand_rows_of m
+        ≡ subcommand_of program (map S.text words.entry.now)) }
+    ensures err { IfErr result (λ e. takes_words (map S.text words.entry.now) ≡ true
+        → kind_of e ≡ ErrorKind.OutOfMemory) }
 {
     let new_file = Arg::new(alloc, "FILE").required(true);
     let making = Command::new(alloc, "new").arg(new_file)?;
@@ -35,12 +37,15 @@ fn matches<'a, S: AsStr>(alloc: Global, words: &'a [S]) -> Result<ArgMatches<'a>
     with_both.try_get_matches_from(words)
 }
 
-/// What the words choose, of which the first is the program's name: the subcommand and the FILE that clap's definition of the matches
-/// gives. `Usage` comes only where that definition does not take the words, or gives none, as for a request for help. `NoMemory` comes
-/// where a growth was refused.
+/// What the words choose, of which the first is the program's name: the subcommand and the FILE
+/// that clap's definition of the matches gives. `Usage` comes only where that definition does not
+/// take the words, or gives none, as for a request for help. `NoMemory` comes where a growth was
+/// refused.
 pub fn choice<S: AsStr>(alloc: Global, words: &[S]) -> Result<Choice, WordsFault>
     ensures given { IfOk result (λ c. chosen (map S.text words.entry.now) ≡ Some (meant c)) }
-    ensures usage { IsErrOf result WordsFault.Usage → (takes_words (map S.text words.entry.now) ≡ true → chosen (map S.text words.entry.now) ≡ None) }
+    ensures usage { IsErrOf result WordsFault.Usage
+        → (takes_words (map S.text words.entry.now) ≡ true
+        → chosen (map S.text words.entry.now) ≡ None) }
 {
     let found = match matches(alloc, words) {
         Ok(found) => found,

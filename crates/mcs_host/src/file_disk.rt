@@ -15,11 +15,13 @@ use std::rt::Files;
 
 /// A session file of the host, as a disk.
 ///
-/// The file stays open. Its bytes are read once, as it is opened, and kept in step with each write from then on. So a read that gives
-/// other bytes than those is found out, and is a device fault. What no call can find out is the premise, `honest`: that what is found in
-/// the file after a power cut is one of the images of a disk with these calls.
+/// The file stays open. Its bytes are read once, as it is opened, and kept in step with each write
+/// from then on. So a read that gives other bytes than those is found out, and is a device fault.
+/// What no call can find out is the premise, `honest`: that what is found in the file after a power
+/// cut is one of the images of a disk with these calls.
 ///
-/// Of a file of more than [`FILE_SIZE`] bytes only one byte more than these is seen. No session file has that size.
+/// Of a file of more than [`FILE_SIZE`] bytes only one byte more than these is seen. No session
+/// file has that size.
 #[derive(Drop)]
 pub struct FileDisk {
     file: File,
@@ -33,10 +35,12 @@ impl FileDisk {
     ghost use Rattle.mcs_host.specs.Ending.{as_disk};
     ghost use Rattle.mcs_host.specs.FileDisk.{IsOpened};
 
-    /// Opens a file for reading and writing. Where `make` is true, the file is made where it is not there, and filled with
-    /// [`FILE_SIZE`] zero bytes where it is empty. What it holds is on the device by then.
+    /// Opens a file for reading and writing. Where `make` is true, the file is made where it is not
+    /// there, and filled with [`FILE_SIZE`] zero bytes where it is empty. What it holds is on the
+    /// device by then.
     ///
-    /// `Device` comes where the host refuses the file, and `NoMemory` where there is no memory for its bytes.
+    /// `Device` comes where the host refuses the file, and `NoMemory` where there is no memory for
+    /// its bytes.
     pub fn open_at<R: Files<File = File>>(
         rt: &R,
         alloc: Global,
@@ -111,7 +115,8 @@ impl Disk for FileDisk {
         ensures honest { (as_disk self.old).honest → Reads at into.old into.new
             (as_disk self.old) (as_disk self.new) result }
         // On every file, honest or not.
-        ensures given { OnOk result (into.new ≡ part at (length into.old) (as_disk self.old).bytes) }
+        ensures given { OnOk result
+            (into.new ≡ part at (length into.old) (as_disk self.old).bytes) }
     {
         let answer = self.file.read_exact_at(into, at as u64);
         if answer.is_err() || !self.holds(at, into) {

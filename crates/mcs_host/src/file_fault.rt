@@ -7,7 +7,8 @@ use std::fs::TryLockError;
 use std::io::{self, ErrorKind};
 use thiserror::Error;
 
-/// Why a file was not opened. All but `NoMemory` are refusals of the host; those that somebody can do something about have a name.
+/// Why a file was not opened. All but `NoMemory` are refusals of the host; those that somebody can
+/// do something about have a name.
 #[derive(Clone, Copy, Debug, PartialEq, Eq, Error)]
 pub enum FileFault {
     /// Another program has the file in use: it holds the lock.

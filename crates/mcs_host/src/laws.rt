@@ -1,5 +1,5 @@
-//! What the premise on a file, that it is honest, says and gives, and that it can hold. The contract of each call is the law; the call
-//! does nothing.
+//! What the premise on a file, that it is honest, says and gives, and that it can hold. The
+//! contract of each call is the law; the call does nothing.
 ghost use Rattle.std.specs.Prelude.{◌≡◌, ◌↔◌, ℕ, List};
 ghost use Rattle.mcs_disk.specs.PowerCut.{IsLeftByCut};
 ghost use Rattle.mcs_host.specs.Ending.{IsFoundAfterTheEnd, IsFoundWith, IsLeftSince, as_disk, found_in};
@@ -7,13 +7,15 @@ ghost use Rattle.mcs_host.specs.FileDisk.{IsOpened};
 
 use crate::FileDisk;
 
-/// Where an honest file was left after some first part of its calls, at a clock of t or later, what is found in it is an image since t.
+/// Where an honest file was left after some first part of its calls, at a clock of t or later, what
+/// is found in it is an image since t.
 pub fn what_is_found_is_an_image()
     ensures { (t : ℕ) (file : FileDisk) → (as_disk file).honest
         → IsLeftSince t file → (as_disk file).since t (found_in file) }
 {}
 
-/// The file that is opened again with what is found in it, and is honest from then on, is what a power cut since t leaves.
+/// The file that is opened again with what is found in it, and is honest from then on, is what a
+/// power cut since t leaves.
 pub fn opened_again_is_left_by_cut()
     ensures { (t : ℕ) (file again : FileDisk) → (as_disk file).honest
         → IsLeftSince t file → (as_disk again).honest
@@ -22,13 +24,15 @@ pub fn opened_again_is_left_by_cut()
         → IsLeftByCut t (as_disk file) (as_disk again) }
 {}
 
-/// A file is honest exactly where what is found in it after the end is an image after the calls by then.
+/// A file is honest exactly where what is found in it after the end is an image after the calls by
+/// then.
 pub fn honest_where_an_image_is_found()
     ensures { (file : FileDisk) → (as_disk file).honest ↔ IsFoundAfterTheEnd file }
 {}
 
-/// The premise can hold, of a file that was just opened and of any other: whatever image its calls have left, there is an honest file
-/// of which all that was told is the same, and in which that image is found after the end. So no answer of a file refutes the premise.
+/// The premise can hold, of a file that was just opened and of any other: whatever image its calls
+/// have left, there is an honest file of which all that was told is the same, and in which that
+/// image is found after the end. So no answer of a file refutes the premise.
 pub fn each_image_may_be_found()
     ensures { (file : FileDisk) (c : List ℕ) → (as_disk file).images c
         → (like : FileDisk) × (as_disk like).honest × IsFoundWith c file like }

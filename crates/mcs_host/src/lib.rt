@@ -1,7 +1,9 @@
-//! The host's side of the program: what the words of its command line choose, and a session file as a disk.
+//! The host's side of the program: what the words of its command line choose, and a session file as
+//! a disk.
 //!
-//! [`choice`] reads the command line. [`FileDisk`] is a file of the host after the trait `Disk` of mcs_disk; that it keeps what
-//! it was given over a power cut is a premise on the host and no theorem.
+//! [`choice`] reads the command line. [`FileDisk`] is a file of the host after the trait `Disk` of
+//! mcs_disk; that it keeps what it was given over a power cut is a premise on the host and no
+//! theorem.
 #![tactic(auto)]
 
 mod call_record;

@@ -10,12 +10,14 @@ use std::os::unix::fs::{FileExt, MetadataExt};
 use std::path::Path;
 use std::rt::Files;
 
-/// So much is seen of a longer file: one byte more than a session file has, so that its size tells that it is none.
+/// So much is seen of a longer file: one byte more than a session file has, so that its size tells
+/// that it is none.
 pub(crate) const MOST_BYTES: usize = FILE_SIZE + 1;
 
-/// Opens a file for reading and writing, takes its lock, and reads it into `bytes`, which are zeros. Where `make` is true, the file is
-/// made where it is not there, and filled with [`FILE_SIZE`] zero bytes where it is empty; a file that cannot be filled is empty again,
-/// and one that was made for nothing is removed.
+/// Opens a file for reading and writing, takes its lock, and reads it into `bytes`, which are
+/// zeros. Where `make` is true, the file is made where it is not there, and filled with
+/// [`FILE_SIZE`] zero bytes where it is empty; a file that cannot be filled is empty again, and one
+/// that was made for nothing is removed.
 pub(crate) fn open_and_read<R: Files<File = File>>(
     rt: &R,
     alloc: Global,
@@ -28,7 +30,7 @@ pub(crate) fn open_and_read<R: Files<File = File>>(
     ensures not_empty { IsTrue make → IfOk result (λ _. 0 < vec_len bytes.new) }
 {
     let (opened, is_made) = open_or_make(rt, file, make)?;
-    match begin(rt, &opened, file, make, bytes) {
+    match lock_and_read(rt, &opened, file, make, bytes) {
         Ok(()) => Ok(opened),
         Err(fault) => {
             if is_made && fault != FileFault::InUse {
@@ -53,9 +55,9 @@ fn open_or_make<R: Files<File = File>>(rt: &R, file: &str, make: bool) -> io::Re
     }
 }
 
-// Locks a file before anything else is asked of it, fills it where it is to be filled, and reads it. What it holds is on the device by
-// then.
-fn begin<R: Files<File = File>>(
+// Locks a file before anything else is asked of it, fills it where it is to be filled, and reads
+// it. What it holds is on the device by then.
+fn lock_and_read<R: Files<File = File>>(
     rt: &R,
     opened: &File,
     file: &str,
@@ -87,7 +89,8 @@ fn begin<R: Files<File = File>>(
     Ok(())
 }
 
-// The name still stands for the file that was opened. Another program may have removed it before the lock was had.
+// The name still stands for the file that was opened. Another program may have removed it before
+// the lock was had.
 fn is_named<R: Files<File = File>>(rt: &R, opened: &File, file: &str) -> io::Result<bool> {
     let (named, ours) = (fs::metadata(rt, file)?, opened.metadata()?);
     Ok(named.dev() == ours.dev() && named.ino() == ours.ino())
@@ -103,8 +106,9 @@ fn fill<R: Files<File = File>>(rt: &R, opened: &File, file: &str, zeros: &[u8]) 
     filled
 }
 
-// Writes all of a file, so that each byte has its place on the device, and makes it and its name stable. It has its size at once, so
-// that a stop half way leaves a file that a new session can still be begun in.
+// Writes all of a file, so that each byte has its place on the device, and makes it and its name
+// stable. It has its size at once, so that a stop half way leaves a file that a new session can
+// still be begun in.
 fn write_whole<R: Files<File = File>>(
     rt: &R,
     opened: &File,

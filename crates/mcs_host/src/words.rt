@@ -43,7 +43,7 @@ pub enum Choice {
 }
 
 /// Why words choose nothing.
-#[derive(Clone, Copy, Debug, PartialEq, Eq, Error)]
+#[derive(Clone, Copy, Debug, Error)]
 pub enum WordsFault {
     /// The words are none of the program's: the usage is shown.
     #[error("usage: mcs4 new FILE or mcs4 open FILE")]

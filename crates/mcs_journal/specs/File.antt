@@ -1,5 +1,5 @@
--- What a session file holds: a snapshot and the records after it. (Our own choice; the layout is told in docs/FORMAT.md, its sizes are
--- the constants of src/format.rt.)
+-- What a session file holds: a snapshot and the records after it. (Our own choice; the layout is
+-- told in docs/FORMAT.md, its sizes are the constants of src/format.rt.)
 use Rattle.std.specs.Prelude.{◌≡◌, ◌≢◌, ◌==◌, ℕ, ◌+◌, ◌/◌, ◌%◌, ◌≤◌, List, [], ◌∷◌, ◌++◌, length, slice_index, if◌then◌else◌}
 use Rattle.mcs_disk.specs.Disk.{part}
 use Rattle.mcs_journal.specs.declared.format.TheConstants.{AREA_SIZE, FILE_SIZE, FIRST_SLOT, LOG_SIZE, MOST_RECORD, MOST_SNAPSHOT, NAME, SECOND_SLOT, ZEROS}
@@ -53,8 +53,8 @@ pub record IsLog (records : List (List ℕ)) (log : List ℕ) : Type 0 where
   pub closed : commit_byte ≢ 1
   pub records_ok : AreRecords records
 
--- a file holds a snapshot and records: the name, the selector, seven zeros, and in the slot that the selector names the
--- snapshot after its length, and the log of the records
+-- a file holds a snapshot and records: the name, the selector, seven zeros, and in the slot that
+-- the selector names the snapshot after its length, and the log of the records
 pub record Holds (file : List ℕ) (snap : List ℕ) (records : List (List ℕ)) : Type 0 where
   pub size : length file ≡ FILE_SIZE
   pub name : part 0 8 file ≡ NAME
@@ -66,15 +66,19 @@ pub record Holds (file : List ℕ) (snap : List ℕ) (records : List (List ℕ))
 
 -- a file holds at most one pair
 abbrev pub ContentsAreUnique : Type 0
-ContentsAreUnique = (file snap other : List ℕ) (records more : List (List ℕ)) → Holds file snap records → Holds file other more → (snap ≡ other) × (records ≡ more)
+ContentsAreUnique =
+    (file snap other : List ℕ) (records more : List (List ℕ))
+    → Holds file snap records → Holds file other more → (snap ≡ other) × (records ≡ more)
 
--- a record of that many bytes has room after that many bytes of records: commit byte, length and bytes, and one more commit byte after it
+-- a record of that many bytes has room after that many bytes of records: commit byte, length and
+-- bytes, and one more commit byte after it
 abbrev pub HasRoom : ℕ → ℕ → Type 0
 HasRoom used len = used + 3 + len + 1 ≤ LOG_SIZE
 
 abbrev pub sixteen_zeros : List ℕ
 sixteen_zeros = 0 ∷ 0 ∷ 0 ∷ 0 ∷ 0 ∷ 0 ∷ 0 ∷ 0 ∷ 0 ∷ 0 ∷ 0 ∷ 0 ∷ 0 ∷ 0 ∷ 0 ∷ 0 ∷ []
 
--- a disk that a session may be made on: it has the size of a session file, and its first 16 bytes are 0
+-- a disk that a session may be made on: it has the size of a session file, and its first 16 bytes
+-- are 0
 abbrev pub IsBlank : ℕ → List ℕ → Type 0
 IsBlank size file = (size ≡ FILE_SIZE) × (part 0 16 file ≡ sixteen_zeros)

@@ -23,7 +23,8 @@ pub record IsSettledStore (disk : DiskState) (slot : Slot) (used : ℕ) : Type 0
   pub count : used ≡ length (spelled records)
 
 -- what the fields keep; the buffer has room for a snapshot area and a commit byte
-pub record IsStore (disk : DiskState) (live : Bool) (slot : Slot) (used : ℕ) (buffer : List ℕ) : Type 0 where
+pub record IsStore (disk : DiskState) (live : Bool) (slot : Slot) (used : ℕ) (buffer : List ℕ)
+    : Type 0 where
   pub disk_size : disk.size ≡ FILE_SIZE
   pub within : used + 1 ≤ LOG_SIZE
   pub room : length buffer ≡ STAGE_SIZE

@@ -52,11 +52,14 @@ pub record IsSnapshot (file : List ℕ) (start : ℕ) (snap : List ℕ) : Type 0
   pub snap_bytes : part (start + 4) (length snap) file ≡ snap
 
 -- a write of these bytes, and a sync
-pub record Commits {T E : Type 0} (at : ℕ) (from : List ℕ) (old new : DiskState) (result : Result T E) : Type 0 where
+pub record Commits {T E : Type 0} (at : ℕ) (from : List ℕ) (old new : DiskState)
+    (result : Result T E) : Type 0 where
   pub written : OnOk result (part at (length from) new.bytes ≡ from)
   pub outside : Torn at (length from) old.bytes new.bytes
   pub durable : OnOk result (IsDurable new)
   pub ticks : OnOk result (new.clock ≡ old.clock + 2)
   pub later : old.clock ≤ new.clock
-  pub moments : (t : ℕ) (c : List ℕ) → t ≤ old.clock → new.since t c → old.since t c ⊎ (new.since old.clock c × ((d : List ℕ) × old.images d × Torn at (length from) d c))
+  pub moments : (t : ℕ) (c : List ℕ) → t ≤ old.clock → new.since t c
+      → old.since t c
+      ⊎ (new.since old.clock c × ((d : List ℕ) × old.images d × Torn at (length from) d c))
   pub keeps : (t : ℕ) (c : List ℕ) → t ≤ old.clock → old.since t c → new.since t c

@@ -12,37 +12,46 @@ pub const MOST_RECORD: usize = 8_192;
 /// The header: the name, the selector, and zeros.
 pub const HEADER_SIZE: usize = 16;
 
+/// The name, with which a session file begins.
 pub const NAME: [u8; 8] = *b"MCS4BEN1";
 
+/// The size of the name.
 pub const NAME_SIZE: usize = 8;
 
+/// Where the selector stands, a byte: even names the first slot, odd the second.
 pub const SELECTOR_PLACE: usize = 8;
 
+/// Where the zeros of the header start.
 pub const ZEROS_PLACE: usize = 9;
 
+/// The zeros of the header.
 pub const ZEROS: [u8; 7] = [0; 7];
 
 /// A header that names the first slot.
 pub const FIRST_HEADER: [u8; HEADER_SIZE] = *b"MCS4BEN1\0\0\0\0\0\0\0\0";
 
-/// Where the slots start.
+/// Where the first slot starts.
 pub const FIRST_SLOT: usize = 16;
 
+/// Where the second slot starts.
 pub const SECOND_SLOT: usize = 81_936;
 
 /// A slot's snapshot area: a length of four bytes, and the snapshot.
 pub const AREA_SIZE: usize = 16_384;
 
+/// Where the snapshot stands in its area, after its length.
 pub const SNAPSHOT_PLACE: usize = 4;
 
 /// A slot's log, after its snapshot area.
 pub const LOG_SIZE: usize = 65_536;
 
-/// A record's commit byte and its length of two bytes stand before its bytes.
+/// Where the bytes of a record stand in it, after its commit byte and its length of two bytes.
 pub const RECORD_PLACE: usize = 3;
 
+/// The commit byte of a record that counts.
 pub const COMMITTED: u8 = 1;
 
+/// A commit byte that ends the log.
 pub const NOT_COMMITTED: u8 = 0;
 
 /// A snapshot area and the first commit byte of the log after it, which are written as one range.

@@ -31,7 +31,8 @@ pub fn read_at<D: Disk>(disk: &mut D, at: usize, into: &mut [u8]) -> Result<(), 
     disk.read(at, into)
 }
 
-/// Reads the record at `at`, of which `room` bytes of the log are left. None: its commit byte is not 1.
+/// Reads the record at `at`, of which `room` bytes of the log are left. None: its commit byte is
+/// not 1.
 pub fn read_record<D: Disk>(
     alloc: Global,
     disk: &mut D,
@@ -41,7 +42,8 @@ pub fn read_record<D: Disk>(
     requires inside { at + room ≤ (D.state disk.old).size }
     requires fits { (D.state disk.old).size < 2 ^ 64 }
     requires some { 1 ≤ room }
-    ensures tells { CountsFault (D.state disk.old) (D.state disk.new) (IsErrOf result OpenFault.Device) }
+    ensures tells { CountsFault (D.state disk.old) (D.state disk.new)
+        (IsErrOf result OpenFault.Device) }
     ensures rests { (D.state disk.old).honest → AddsNoImage (D.state disk.old) (D.state disk.new) }
     ensures durable { (D.state disk.old).honest → IsDurable (D.state disk.old)
         → OnOk result (IsDurable (D.state disk.new)) }
@@ -84,7 +86,8 @@ pub struct Log {
 pub fn read_log<D: Disk>(alloc: Global, disk: &mut D, at: usize) -> Result<Log, OpenFault>
     requires inside { at + LOG_SIZE ≤ (D.state disk.old).size }
     requires fits { (D.state disk.old).size < 2 ^ 64 }
-    ensures tells { CountsFault (D.state disk.old) (D.state disk.new) (IsErrOf result OpenFault.Device) }
+    ensures tells { CountsFault (D.state disk.old) (D.state disk.new)
+        (IsErrOf result OpenFault.Device) }
     ensures rests { (D.state disk.old).honest → AddsNoImage (D.state disk.old) (D.state disk.new) }
     ensures durable { (D.state disk.old).honest → IsDurable (D.state disk.old)
         → OnOk result (IsDurable (D.state disk.new)) }
@@ -109,7 +112,8 @@ pub fn read_log<D: Disk>(alloc: Global, disk: &mut D, at: usize) -> Result<Log, 
 /// Reads the header: the slot that its selector names.
 pub fn read_header<D: Disk>(disk: &mut D) -> Result<Slot, OpenFault>
     requires size { (D.state disk.old).size ≡ FILE_SIZE }
-    ensures tells { CountsFault (D.state disk.old) (D.state disk.new) (IsErrOf result OpenFault.Device) }
+    ensures tells { CountsFault (D.state disk.old) (D.state disk.new)
+        (IsErrOf result OpenFault.Device) }
     ensures rests { (D.state disk.old).honest → AddsNoImage (D.state disk.old) (D.state disk.new) }
     ensures durable { (D.state disk.old).honest → IsDurable (D.state disk.old)
         → OnOk result (IsDurable (D.state disk.new)) }
@@ -118,8 +122,8 @@ pub fn read_header<D: Disk>(disk: &mut D) -> Result<Slot, OpenFault>
     ensures no_session { (D.state disk.old).honest → IsErrOf result OpenFault.NotASession
         → part 0 8 (D.state disk.old).bytes ≢ NAME }
     ensures damaged { (D.state disk.old).honest → IsErrOf result OpenFault.Damaged
-        → (part 0 8 (D.state disk.old).bytes ≡ NAME) × (part 9 7
-        (D.state disk.old).bytes ≢ ZEROS) }
+        → (part 0 8 (D.state disk.old).bytes ≡ NAME)
+        × (part 9 7 (D.state disk.old).bytes ≢ ZEROS) }
 {
     let mut header = [0u8; HEADER_SIZE];
     read_at(disk, 0, &mut header)?;
@@ -136,7 +140,8 @@ pub fn read_header<D: Disk>(disk: &mut D) -> Result<Slot, OpenFault>
 pub fn read_snapshot<D: Disk>(alloc: Global, disk: &mut D, start: usize) -> Result<Bytes, OpenFault>
     requires inside { start + AREA_SIZE ≤ (D.state disk.old).size }
     requires fits { (D.state disk.old).size < 2 ^ 64 }
-    ensures tells { CountsFault (D.state disk.old) (D.state disk.new) (IsErrOf result OpenFault.Device) }
+    ensures tells { CountsFault (D.state disk.old) (D.state disk.new)
+        (IsErrOf result OpenFault.Device) }
     ensures rests { (D.state disk.old).honest → AddsNoImage (D.state disk.old) (D.state disk.new) }
     ensures durable { (D.state disk.old).honest → IsDurable (D.state disk.old)
         → OnOk result (IsDurable (D.state disk.new)) }
@@ -170,7 +175,8 @@ pub struct Found {
 /// Without the sync, what is read may be lost by a power cut that comes after the answer.
 pub fn read_contents<D: Disk>(alloc: Global, disk: &mut D) -> Result<Found, OpenFault>
     requires size { (D.state disk.old).size ≡ FILE_SIZE }
-    ensures tells { CountsFault (D.state disk.old) (D.state disk.new) (IsErrOf result OpenFault.Device) }
+    ensures tells { CountsFault (D.state disk.old) (D.state disk.new)
+        (IsErrOf result OpenFault.Device) }
     ensures rests { (D.state disk.old).honest → AddsNoImage (D.state disk.old) (D.state disk.new) }
     ensures within { IfOk result (λ found. found.log.used + 1 ≤ LOG_SIZE) }
     ensures durable { (D.state disk.old).honest → OnOk result (IsDurable (D.state disk.new)) }

@@ -4,9 +4,11 @@ ghost use Rattle.std.specs.Prelude.{◌≡◌};
 use crate::format::{FIRST_SLOT, SECOND_SLOT};
 
 /// A slot: a snapshot area and a log.
-#[derive(Clone, Copy, Debug, PartialEq, Eq)]
+#[derive(Clone, Copy)]
 pub enum Slot {
+    /// The first slot of the file.
     A,
+    /// The second.
     B,
 }
 

@@ -17,8 +17,8 @@ use std::marker::Model;
 
 /// A snapshot and the records after it, on a disk.
 ///
-/// Once a call on it has answered a device fault, it is closed: what the disk then holds is the pair of before that call or of
-/// after it, and opening it again tells which.
+/// Once a call on it has answered a device fault, it is closed: what the disk then holds is the
+/// pair of before that call or of after it, and opening it again tells which.
 #[derive(Drop)]
 pub struct Store<D: Disk + Drop> {
     disk: D,
@@ -49,9 +49,11 @@ pub struct Opened<D: Disk + Drop> {
 }
 
 impl<D: Disk + Drop> Store<D> {
-    /// Makes a store of `snap` and no records, on a disk of [`FILE_SIZE`](crate::FILE_SIZE) bytes whose first 16 are 0.
+    /// Makes a store of `snap` and no records, on a disk of [`FILE_SIZE`](crate::FILE_SIZE) bytes
+    /// whose first 16 are 0.
     ///
-    /// A refusal hands the disk back, and `NotBlank` has written nothing. A power cut inside the call may leave anything.
+    /// A refusal hands the disk back, and `NotBlank` has written nothing. A power cut inside the
+    /// call may leave anything.
     pub fn create(alloc: Global, disk: D, snap: &[u8]) -> Result<Store<D>, (CreateFault, D)>
         requires short { length snap.now ≤ MOST_SNAPSHOT }
 
@@ -171,7 +173,8 @@ impl<D: Disk + Drop> Store<D> {
         ensures live { self.new.live ≡ is_ok result }
         ensures used { OnOk result (self.new.used ≡ self.old.used + 3 + length payload.now) }
         ensures same_used { OnErr result (self.new.used ≡ self.old.used) }
-        ensures counts { CountsFault (D.state self.old.disk) (D.state self.new.disk) (IsErr result) }
+        ensures counts { CountsFault (D.state self.old.disk) (D.state self.new.disk)
+            (IsErr result) }
         ensures appends { (D.state self.old.disk).honest
             → (snap : List ℕ) (records : List (List ℕ))
             → Holds (D.state self.old.disk).bytes snap records
@@ -192,15 +195,16 @@ impl<D: Disk + Drop> Store<D> {
         }
     }
 
-    /// Puts a snapshot of at most 16,380 bytes and no records in the place of what it holds. At a device fault the store is
-    /// closed.
+    /// Puts a snapshot of at most 16,380 bytes and no records in the place of what it holds. At a
+    /// device fault the store is closed.
     pub fn replace(&mut self, snap: &[u8]) -> Result<(), DiskFault>
         requires live { IsTrue self.old.live }
         requires short { length snap.now ≤ MOST_SNAPSHOT }
         ensures live { self.new.live ≡ is_ok result }
         ensures used { OnOk result (self.new.used ≡ 0) }
         ensures same_used { OnErr result (self.new.used ≡ self.old.used) }
-        ensures counts { CountsFault (D.state self.old.disk) (D.state self.new.disk) (IsErr result) }
+        ensures counts { CountsFault (D.state self.old.disk) (D.state self.new.disk)
+            (IsErr result) }
         ensures replaces { (D.state self.old.disk).honest
             → (old_snap : List ℕ) (records : List (List ℕ))
             → Holds (D.state self.old.disk).bytes old_snap records

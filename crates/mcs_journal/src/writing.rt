@@ -1,5 +1,6 @@
-//! The writes of a store. Each change is two steps: bytes that nothing reads yet, and the byte that makes them count. Each step
-//! is a write and a sync, so that the second byte never reaches the disk before the bytes that it speaks of.
+//! The writes of a store. Each change is two steps: bytes that nothing reads yet, and the byte that
+//! makes them count. Each step is a write and a sync, so that the second byte never reaches the
+//! disk before the bytes that it speaks of.
 ghost use Rattle.std.specs.Prelude.{◌≡◌, ◌≤◌, ◌+◌, List, [], ◌∷◌, ◌++◌, ℕ, length, take, slice_index, OnOk, IsErrOf};
 ghost use Rattle.mcs_disk.specs.Disk.{IsCall};
 ghost use Rattle.mcs_disk.specs.Moments.{Changes, CountsFault, KeepsEarlierImages, IsDurable, AddsNoImage};
@@ -129,14 +130,16 @@ pub fn check_blank<D: Disk>(disk: &mut D) -> Result<(), CreateFault>
     Ok(())
 }
 
-/// Writes a first pair into the first slot: the snapshot and no records. Then it writes the header that names the slot.
+/// Writes a first pair into the first slot: the snapshot and no records. Then it writes the header
+/// that names the slot.
 pub fn write_first<D: Disk>(disk: &mut D, buffer: &mut [u8], snap: &[u8]) -> Result<(), DiskFault>
     requires size { (D.state disk.old).size ≡ FILE_SIZE }
     requires room { length buffer.old ≡ STAGE_SIZE }
     requires short { length snap.now ≤ MOST_SNAPSHOT }
     ensures call { IsCall (D.state disk.old) (D.state disk.new) result }
     ensures room { length buffer.new ≡ STAGE_SIZE }
-    ensures goes_on { (D.state disk.old).honest → KeepsEarlierImages (D.state disk.old) (D.state disk.new) }
+    ensures goes_on { (D.state disk.old).honest
+        → KeepsEarlierImages (D.state disk.old) (D.state disk.new) }
     ensures ticks { (D.state disk.old).honest
         → OnOk result ((D.state disk.new).clock ≡ (D.state disk.old).clock + 4) }
     ensures made { (D.state disk.old).honest

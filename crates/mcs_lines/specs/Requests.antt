@@ -12,15 +12,15 @@ use Rattle.mcs_lines.specs.declared.requests.Request.{Request}
 use Rattle.mcs_lines.specs.declared.requests.Request.TheVariants.{Nothing, Refused, Ask, Listing, Board, Change, Begin}
 use Rattle.mcs_lines.specs.declared.requests.TextKind.TheVariants.{Wire, Asm}
 use Rattle.mcs_lines.specs.declared.requests.LineFault.TheVariants.{NotACommand, BadNumber, LineTooLong, NotAscii}
-use Rattle.mcs_lines.specs.Cutting.{cut_at}
-use Rattle.mcs_lines.specs.Words.{is_dot, is_plain_byte, words_of}
+use Rattle.mcs_lines.specs.Words.{is_plain_byte, parts_of, words_of}
 
 abbrev pub is_number : List ℕ → Bool
 is_number word = is_some (number_written word)
 
 -- what a number asks for; a word that is none, or whose number is above `most`, is refused
 abbrev pub with_number : ℕ → List ℕ → (ℕ → Request) → Request
-with_number most word ask = elim (number_up_to most word) [ None ↦ Refused BadNumber | Some n ↦ ask n ]
+with_number most word ask =
+    elim (number_up_to most word) [ None ↦ Refused BadNumber | Some n ↦ ask n ]
 
 -- what was read, or the refusal of a number
 abbrev pub or_bad_number : Option Request → Request
@@ -43,17 +43,21 @@ poke_rom a value = with_number 4095 a (λ at. poked 255 value (λ byte. Rom at b
 
 -- `ram.B.S`
 abbrev pub poke_ram : List ℕ → List ℕ → List ℕ → Request
-poke_ram b s value = with_number 7 b (λ bank. with_number 255 s (λ src. poked 15 value (λ n. Ram bank src n)))
+poke_ram b s value =
+    with_number 7 b (λ bank. with_number 255 s (λ src. poked 15 value (λ n. Ram bank src n)))
 
 -- `st.B.H.K`
 abbrev pub poke_status : List ℕ → List ℕ → List ℕ → List ℕ → Request
 poke_status b h k value =
-    with_number 7 b (λ bank. with_number 15 h (λ high. with_number 3 k (λ k. poked 15 value (λ n. Status bank high k n))))
+    with_number 7 b (λ bank.
+    with_number 15 h (λ high.
+    with_number 3 k (λ k. poked 15 value (λ n. Status bank high k n))))
 
 -- a name that is `r` and a number, or else of no known place
 abbrev pub poke_numbered : List ℕ → List ℕ → Request
 poke_numbered [] value = Refused NotACommand
-poke_numbered (b ∷ k) value = if (b == 114) && is_number k then poke_register k value else Refused NotACommand
+poke_numbered (b ∷ k) value =
+    if (b == 114) && is_number k then poke_register k value else Refused NotACommand
 
 -- a place without dots
 abbrev pub poke_plain : List ℕ → List ℕ → Request
@@ -64,19 +68,22 @@ poke_plain name value =
     else if bytes_eq name (codes "dcl") then poked 7 value (λ bank. Dcl bank)
     else poke_numbered name value
 
--- by the number of parts between dots; that a place has no known form is told before a number out of range
+-- by the number of parts between dots; that a place has no known form is told before a number out
+-- of range
 abbrev pub poke_parts : List (List ℕ) → List ℕ → Request
 poke_parts (name ∷ []) value = poke_plain name value
 poke_parts (name ∷ a ∷ []) value =
     if bytes_eq name (codes "rom") && is_number a then poke_rom a value else Refused NotACommand
 poke_parts (name ∷ b ∷ s ∷ []) value =
-    if bytes_eq name (codes "ram") && (is_number b && is_number s) then poke_ram b s value else Refused NotACommand
+    if bytes_eq name (codes "ram") && (is_number b && is_number s)
+    then poke_ram b s value else Refused NotACommand
 poke_parts (name ∷ b ∷ h ∷ k ∷ []) value =
-    if bytes_eq name (codes "st") && (is_number b && (is_number h && is_number k)) then poke_status b h k value else Refused NotACommand
+    if bytes_eq name (codes "st") && (is_number b && (is_number h && is_number k))
+    then poke_status b h k value else Refused NotACommand
 poke_parts parts value = Refused NotACommand
 
 abbrev pub poke_of : List ℕ → List ℕ → Request
-poke_of place value = poke_parts (cut_at is_dot place) value
+poke_of place value = poke_parts (parts_of place) value
 
 -- ---- lines
 
@@ -118,10 +125,14 @@ list_of a n = with_number 4095 a (λ at. with_number LISTING_LINES n (λ lines. 
 abbrev pub request_with_two : List ℕ → List ℕ → List ℕ → Request
 request_with_two word a b =
     if bytes_eq word (codes "poke") then poke_of a b
-    else if bytes_eq word (codes "press") then with_number 255 a (λ row. with_number 255 b (λ column. Change (Press row column)))
-    else if bytes_eq word (codes "release") then with_number 255 a (λ row. with_number 255 b (λ column. Change (Release row column)))
-    else if bytes_eq word (codes "watch") then with_number 7 a (λ bank. with_number 255 b (λ src. Change (Watch bank src)))
-    else if bytes_eq word (codes "unwatch") then with_number 7 a (λ bank. with_number 255 b (λ src. Change (Unwatch bank src)))
+    else if bytes_eq word (codes "press")
+    then with_number 255 a (λ row. with_number 255 b (λ column. Change (Press row column)))
+    else if bytes_eq word (codes "release")
+    then with_number 255 a (λ row. with_number 255 b (λ column. Change (Release row column)))
+    else if bytes_eq word (codes "watch")
+    then with_number 7 a (λ bank. with_number 255 b (λ src. Change (Watch bank src)))
+    else if bytes_eq word (codes "unwatch")
+    then with_number 7 a (λ bank. with_number 255 b (λ src. Change (Unwatch bank src)))
     else if bytes_eq word (codes "list") then list_of a b
     else Refused NotACommand
 
@@ -133,7 +144,8 @@ request_of_words (word ∷ a ∷ []) = request_with_one word a
 request_of_words (word ∷ a ∷ b ∷ []) = request_with_two word a b
 request_of_words words = Refused NotACommand
 
--- What a line asks for. That it is too long is told first, and then that it has a byte that no command line may have.
+-- What a line asks for. That it is too long is told first, and then that it has a byte that no
+-- command line may have.
 unfoldable pub request_of : List ℕ → Request
 request_of line =
     if nat_lt LINE_BYTES (length line) then Refused LineTooLong

@@ -35,6 +35,10 @@ EndsWord word rest = HasNone is_blank_byte word × EndsAtFront rest
 abbrev pub is_dot : ℕ → Bool
 is_dot b = b == 46
 
+-- the parts of a word: what stands before, between and after its dots
+abbrev pub parts_of : List ℕ → List (List ℕ)
+parts_of word = cut_at is_dot word
+
 -- what has no byte, or a dot at its front
 abbrev pub EndsAtDot : List ℕ → Type 0
 EndsAtDot [] = Unit {0}

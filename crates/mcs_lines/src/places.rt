@@ -5,7 +5,7 @@ ghost use Rattle.mcs_lines.specs.declared.requests.Request.TheVariants.{Change};
 ghost use Rattle.mcs_lines.specs.Requests.{or_bad_number, poke_numbered, poke_of, poke_parts, poke_plain, poke_ram, poke_register, poke_rom, poke_status};
 
 use crate::numbers::{address, bank, bit, byte, is_number, nibble, register, status};
-use crate::requests::{LineFault, Request, in_range};
+use crate::requests::{LineFault, Request, or_bad_number};
 use crate::words::{equals, next_part};
 use mcs_model::command::{Command, Place};
 
@@ -23,21 +23,24 @@ fn read_register(k: &[u8], value: &[u8]) -> Option<Request>
     poke(Place::Register(register(k)?, nibble(value)?))
 }
 
-/// What `poke rom.A` with a value asks for; none where one of them is no number, or out of its range.
+/// What `poke rom.A` with a value asks for; none where one of them is no number, or out of its
+/// range.
 fn read_rom(a: &[u8], value: &[u8]) -> Option<Request>
     ensures { or_bad_number result ≡ poke_rom a.now value.now }
 {
     poke(Place::Rom(address(a)?, byte(value)?))
 }
 
-/// What `poke ram.B.S` with a value asks for; none where one of them is no number, or out of its range.
+/// What `poke ram.B.S` with a value asks for; none where one of them is no number, or out of its
+/// range.
 fn read_ram(b: &[u8], s: &[u8], value: &[u8]) -> Option<Request>
     ensures { or_bad_number result ≡ poke_ram b.now s.now value.now }
 {
     poke(Place::Ram(bank(b)?, byte(s)?, nibble(value)?))
 }
 
-/// What `poke st.B.H.K` with a value asks for; none where one of them is no number, or out of its range.
+/// What `poke st.B.H.K` with a value asks for; none where one of them is no number, or out of its
+/// range.
 fn read_status(b: &[u8], h: &[u8], k: &[u8], value: &[u8]) -> Option<Request>
     ensures { or_bad_number result ≡ poke_status b.now h.now k.now value.now }
 {
@@ -49,12 +52,13 @@ fn read_numbered(name: &[u8], value: &[u8]) -> Request
     ensures { result ≡ poke_numbered name.now value.now }
 {
     match name {
-        [b'r', k @ ..] if is_number(k) => in_range(read_register(k, value)),
+        [b'r', k @ ..] if is_number(k) => or_bad_number(read_register(k, value)),
         _ => Request::Refused(LineFault::NotACommand),
     }
 }
 
-/// What `poke` with a place of one part asks for; none where its value is no number, or out of its range.
+/// What `poke` with a place of one part asks for; none where its value is no number, or out of its
+/// range.
 fn read_plain(name: &[u8], value: &[u8]) -> Option<Request>
     ensures { or_bad_number result ≡ poke_plain name.now value.now }
 {
@@ -76,7 +80,7 @@ fn read_two_parts(name: &[u8], a: &[u8], value: &[u8]) -> Request
     ensures { result ≡ poke_parts (name.now ∷ a.now ∷ []) value.now }
 {
     if equals(name, b"rom") && is_number(a) {
-        in_range(read_rom(a, value))
+        or_bad_number(read_rom(a, value))
     } else {
         Request::Refused(LineFault::NotACommand)
     }
@@ -87,7 +91,7 @@ fn read_three_parts(name: &[u8], b: &[u8], s: &[u8], value: &[u8]) -> Request
     ensures { result ≡ poke_parts (name.now ∷ b.now ∷ s.now ∷ []) value.now }
 {
     if equals(name, b"ram") && is_number(b) && is_number(s) {
-        in_range(read_ram(b, s, value))
+        or_bad_number(read_ram(b, s, value))
     } else {
         Request::Refused(LineFault::NotACommand)
     }
@@ -98,7 +102,7 @@ fn read_four_parts(name: &[u8], b: &[u8], h: &[u8], k: &[u8], value: &[u8]) -> R
     ensures { result ≡ poke_parts (name.now ∷ b.now ∷ h.now ∷ k.now ∷ []) value.now }
 {
     if equals(name, b"st") && is_number(b) && is_number(h) && is_number(k) {
-        in_range(read_status(b, h, k, value))
+        or_bad_number(read_status(b, h, k, value))
     } else {
         Request::Refused(LineFault::NotACommand)
     }
@@ -108,20 +112,20 @@ fn read_four_parts(name: &[u8], b: &[u8], h: &[u8], k: &[u8], value: &[u8]) -> R
 pub fn read_poke(place: &[u8], value: &[u8]) -> Request
     ensures { result ≡ poke_of place.now value.now }
 {
-    let (name, behind) = next_part(place);
-    let Some(rest) = behind else {
-        return in_range(read_plain(name, value));
+    let (name, after) = next_part(place);
+    let Some(rest) = after else {
+        return or_bad_number(read_plain(name, value));
     };
-    let (first, behind) = next_part(rest);
-    let Some(rest) = behind else {
+    let (first, after) = next_part(rest);
+    let Some(rest) = after else {
         return read_two_parts(name, first, value);
     };
-    let (second, behind) = next_part(rest);
-    let Some(rest) = behind else {
+    let (second, after) = next_part(rest);
+    let Some(rest) = after else {
         return read_three_parts(name, first, second, value);
     };
-    let (third, behind) = next_part(rest);
-    match behind {
+    let (third, after) = next_part(rest);
+    match after {
         None => read_four_parts(name, first, second, third, value),
         Some(_) => Request::Refused(LineFault::NotACommand),
     }

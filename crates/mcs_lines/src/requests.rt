@@ -17,7 +17,7 @@ use mcs_nibble::Addr;
 use thiserror::Error;
 
 /// Why a line is refused.
-#[derive(Clone, Copy, Debug, PartialEq, Eq, Error)]
+#[derive(Clone, Copy, Debug, Error)]
 pub enum LineFault {
     /// Its words are no command.
     #[error("not a command")]
@@ -48,7 +48,7 @@ impl LineFault {
 }
 
 /// What a text describes.
-#[derive(Clone, Copy, Debug, PartialEq, Eq)]
+#[derive(Clone, Copy, Debug)]
 pub enum TextKind {
     /// A board.
     Wire,
@@ -107,7 +107,7 @@ fn read_alone(word: &[u8]) -> Request
 }
 
 /// What was read, or the refusal of a number.
-pub(crate) fn in_range(request: Option<Request>) -> Request
+pub(crate) fn or_bad_number(request: Option<Request>) -> Request
     ensures { result ≡ or_bad_number request }
 {
     match request {
@@ -136,7 +136,8 @@ fn read_with_one(word: &[u8], a: &[u8]) -> Option<Request>
     Some(request)
 }
 
-/// What `list` with an address and a number of lines asks for; none where one is no number, or out of its range.
+/// What `list` with an address and a number of lines asks for; none where one is no number, or out
+/// of its range.
 fn read_list(a: &[u8], n: &[u8]) -> Option<Request>
     ensures { or_bad_number result ≡ list_of a.now n.now }
 {
@@ -163,7 +164,7 @@ fn read_with_two(word: &[u8], a: &[u8], b: &[u8]) -> Option<Request>
     } else if equals(word, b"unwatch") {
         Request::Change(Command::Unwatch(bank(a)?, byte(b)?))
     } else if equals(word, b"list") {
-        in_range(read_list(a, b))
+        or_bad_number(read_list(a, b))
     } else {
         Request::Refused(LineFault::NotACommand)
     };
@@ -181,10 +182,10 @@ fn read_words(line: &[u8]) -> Request
         return read_alone(word);
     };
     let Some((second, rest)) = next_word(rest) else {
-        return in_range(read_with_one(word, first));
+        return or_bad_number(read_with_one(word, first));
     };
     match next_word(rest) {
-        None => in_range(read_with_two(word, first, second)),
+        None => or_bad_number(read_with_two(word, first, second)),
         Some(_) => Request::Refused(LineFault::NotACommand),
     }
 }

@@ -1,8 +1,7 @@
 //! The words of a line, and the parts of a word.
 ghost use Rattle.std.specs.Prelude.{◌≡◌, ◌≤◌, ◌∷◌, [], MatchOption, length, take, drop};
 ghost use Rattle.std.specs.Str.{bytes_eq};
-ghost use Rattle.mcs_lines.specs.Cutting.{HasNone, cut_at};
-ghost use Rattle.mcs_lines.specs.Words.{BeginsWord, EndsPart, EndsWord, is_blank_byte, is_dot, is_plain_byte, words_of};
+ghost use Rattle.mcs_lines.specs.Words.{BeginsWord, EndsPart, EndsWord, is_blank_byte, is_plain_byte, parts_of, words_of};
 
 /// Whether a byte separates words.
 pub fn is_blank_byte(byte: u8) -> bool
@@ -53,7 +52,8 @@ fn word_at_front(line: &[u8]) -> usize
 
 /// The first word of a line, and what follows it; or none, where the line is blank.
 pub fn next_word(line: &[u8]) -> Option<(&[u8], &[u8])>
-    ensures { MatchOption result (words_of line.now ≡ []) (λ found. words_of line.now ≡ found.0.now ∷ words_of found.1.now) }
+    ensures { MatchOption result (words_of line.now ≡ [])
+        (λ found. words_of line.now ≡ found.0.now ∷ words_of found.1.now) }
 {
     let line = without_blanks(line);
     if line.is_empty() {
@@ -78,7 +78,8 @@ fn part_at_front(word: &[u8]) -> usize
 
 /// The first part of a word, and what follows the dot after it, if there is one.
 pub fn next_part(word: &[u8]) -> (&[u8], Option<&[u8]>)
-    ensures { MatchOption result.1 (cut_at is_dot word.now ≡ result.0.now ∷ []) (λ rest. cut_at is_dot word.now ≡ result.0.now ∷ cut_at is_dot rest.now) }
+    ensures { MatchOption result.1 (parts_of word.now ≡ result.0.now ∷ [])
+        (λ rest. parts_of word.now ≡ result.0.now ∷ parts_of rest.now) }
 {
     let end = part_at_front(word);
     if end < word.len() {

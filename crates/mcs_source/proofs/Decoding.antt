@@ -9,7 +9,8 @@ use Rattle.mcs_model.specs.declared.op.Op.TheVariants.{Jcn, Fim, Jun, Jms, Isz}
 use Rattle.mcs_model.specs.Table.{word_count_of, Row, rows, covers, row_of, decoded}
 use Rattle.mcs_source.specs.Spelling.{IsOp, spelling, IsSpelledBy}
 
--- the words of an instruction are these two, or the first; where the second is a byte, its operands are in their ranges
+-- the words of an instruction are these two, or the first; where the second is a byte, its operands
+-- are in their ranges
 abbrev pub Spells : ℕ → ℕ → Op → Type 0
 Spells first second o = (second < 256 → IsOp o) × (spelling o ≡ take (word_count_of o) (first ∷ second ∷ []))
 

@@ -1,6 +1,6 @@
--- What a source text assembles to: the (address, byte) pairs that its lines spell, or its first fault. (Our own choice.)
--- Each definition speaks of line i in the list of all lines. Lines count from 0 here, and from 1 in a fault.
--- Faults go by their numbers, 30 to 37 (`Refusal`).
+-- What a source text assembles to: the (address, byte) pairs that its lines spell, or its first
+-- fault. (Our own choice.) Each definition speaks of line i in the list of all lines. Lines count
+-- from 0 here, and from 1 in a fault. Faults go by their numbers, 30 to 37 (`Refusal`).
 use Rattle.std.specs.Prelude.{ℕ, zero, suc, ◌+◌, ◌-◌, take, slice_index, slice_index_or, ◌/◌, ◌%◌, Bool, true, false, not, ◌&&◌, ◌||◌, List, [], ◌∷◌, ◌++◌, length, map, find, Option, Some, None, is_some, option_map, Result, Ok, Err, nat_lt, nat_le, ◌==◌, if◌then◌else◌}
 use Rattle.std.specs.List.{list_any, list_all, flat_map, filter_map, range_with_len}
 use Rattle.std.specs.Str.{bytes_eq}
@@ -31,7 +31,8 @@ last_line (b ∷ line) = without_cr (b ∷ line) ∷ []
 -- the lines from within a line on
 unfoldable pub lines_after : List ℕ → List ℕ → List (List ℕ)
 lines_after line [] = last_line line
-lines_after line (b ∷ bytes) = if b == 10 then without_cr line ∷ lines_after [] bytes else lines_after (line ++ b ∷ []) bytes
+lines_after line (b ∷ bytes) =
+    if b == 10 then without_cr line ∷ lines_after [] bytes else lines_after (line ++ b ∷ []) bytes
 
 abbrev pub lines_of : List ℕ → List (List ℕ)
 lines_of text = lines_after [] text
@@ -85,8 +86,8 @@ address_of lines (suc i) = next_at (ith_line lines i) (address_of lines i)
 abbrev pub Names : Type 0
 Names = List (List ℕ × ℕ)
 
--- the name that a line defines, with its value: a label has the address of its line's statement, which is the one before an
--- `ORG`; a `NAME = NUMBER` has its number
+-- the name that a line defines, with its value: a label has the address of its line's statement,
+-- which is the one before an `ORG`; a `NAME = NUMBER` has its number
 abbrev pub definition : Option SourceLine → ℕ → Option (List ℕ × ℕ)
 definition (Some (Code label s)) at = option_map (λ w. (w, at)) label
 definition (Some (Define w n)) at = Some (w, n)
@@ -94,7 +95,8 @@ definition None at = None
 
 -- the names that the lines before line i define, with their values
 unfoldable pub names_before : List (Option SourceLine) → ℕ → Names
-names_before lines i = filter_map (λ j. definition (ith_line lines j) (address_of lines j)) (range_with_len 0 i)
+names_before lines i =
+    filter_map (λ j. definition (ith_line lines j) (address_of lines j)) (range_with_len 0 i)
 
 -- the names of all lines
 abbrev pub all_names : List (Option SourceLine) → Names
@@ -126,10 +128,11 @@ is_bad_place (Code label s) = is_bad_statement s
 -- fault 36: a label at 4096, or a byte at 4096 or later
 abbrev pub passes_end : SourceLine → ℕ → Bool
 passes_end (Define w n) at = false
-passes_end (Code label s) at = (is_some label && nat_le 4096 at) || nat_lt 4096 (at + statement_size s)
+passes_end (Code label s) at =
+    (is_some label && nat_le 4096 at) || nat_lt 4096 (at + statement_size s)
 
--- the first of the faults 30, 33, 31, 37 and 36 that a line has, if any. Its statement stands at `at`, and the lines before it
--- define `names`; 37 is that it defines one more than `NAMES`
+-- the first of the faults 30, 33, 31, 37 and 36 that a line has, if any. Its statement stands at
+-- `at`, and the lines before it define `names`; 37 is that it defines one more than `NAMES`
 abbrev pub fault_one : ℕ → Names → Option SourceLine → Option SourceFault
 fault_one at names None = Some BadStatement
 fault_one at names (Some line) =
@@ -144,7 +147,8 @@ class_one_fault lines i = fault_one (address_of lines i) (names_before lines i) 
 
 -- ---- the bytes of a line, where all names have their values
 
--- the value of a name: the one that the first line that defines it gives it, if there is such a line
+-- the value of a name: the one that the first line that defines it gives it, if there is such a
+-- line
 abbrev pub value_of : List ℕ → Names → Option ℕ
 value_of w [] = None
 value_of w (n ∷ names) = if bytes_eq n.0 w then Some n.1 else value_of w names
@@ -176,18 +180,33 @@ if_on_page true next = next
 abbrev pub is_near : ℕ → ℕ → Bool
 is_near at t = t / 256 == page_of (at + 2)
 
--- the bytes that a statement at an address spells, or the first of the faults 32, 33 and 34 that it has
+-- the bytes that a statement at an address spells, or the first of the faults 32, 33 and 34 that it
+-- has
 abbrev pub bytes_at : ℕ → Names → Statement → Result (List ℕ) SourceFault
 bytes_at at names (Origin n) = Ok []
-bytes_at at names (Data vs) = if_known (values_in names vs) (λ ns. if_in_range (list_all (λ n. nat_lt n 256) ns) (Ok ns))
+bytes_at at names (Data vs) =
+    if_known (values_in names vs) (λ ns. if_in_range (list_all (λ n. nat_lt n 256) ns) (Ok ns))
 bytes_at at names (Whole o) = Ok (spelling o)
-bytes_at at names (Ldm v) = if_known (value_in names v) (λ n. if_in_range (nat_lt n 16) (Ok (spelling (op.Ldm n))))
-bytes_at at names (Bbl v) = if_known (value_in names v) (λ n. if_in_range (nat_lt n 16) (Ok (spelling (op.Bbl n))))
-bytes_at at names (Jun v) = if_known (value_in names v) (λ t. if_in_range (nat_lt t 4096) (Ok (spelling (op.Jun (t / 256) (t % 256)))))
-bytes_at at names (Jms v) = if_known (value_in names v) (λ t. if_in_range (nat_lt t 4096) (Ok (spelling (op.Jms (t / 256) (t % 256)))))
-bytes_at at names (Fim p v) = if_known (value_in names v) (λ n. if_in_range (nat_lt n 256) (Ok (spelling (op.Fim p n))))
-bytes_at at names (Jcn v w) = if_known (value_in names v) (λ n. if_known (value_in names w) (λ t. if_in_range (nat_lt n 16 && nat_lt t 4096) (if_on_page (is_near at t) (Ok (spelling (op.Jcn n (t % 256)))))))
-bytes_at at names (Isz r w) = if_known (value_in names w) (λ t. if_in_range (nat_lt t 4096) (if_on_page (is_near at t) (Ok (spelling (op.Isz r (t % 256))))))
+bytes_at at names (Ldm v) =
+    if_known (value_in names v) (λ n. if_in_range (nat_lt n 16) (Ok (spelling (op.Ldm n))))
+bytes_at at names (Bbl v) =
+    if_known (value_in names v) (λ n. if_in_range (nat_lt n 16) (Ok (spelling (op.Bbl n))))
+bytes_at at names (Jun v) =
+    if_known (value_in names v) (λ t.
+    if_in_range (nat_lt t 4096) (Ok (spelling (op.Jun (t / 256) (t % 256)))))
+bytes_at at names (Jms v) =
+    if_known (value_in names v) (λ t.
+    if_in_range (nat_lt t 4096) (Ok (spelling (op.Jms (t / 256) (t % 256)))))
+bytes_at at names (Fim p v) =
+    if_known (value_in names v) (λ n. if_in_range (nat_lt n 256) (Ok (spelling (op.Fim p n))))
+bytes_at at names (Jcn v w) =
+    if_known (value_in names v) (λ n.
+    if_known (value_in names w) (λ t.
+    if_in_range (nat_lt n 16 && nat_lt t 4096)
+    (if_on_page (is_near at t) (Ok (spelling (op.Jcn n (t % 256)))))))
+bytes_at at names (Isz r w) =
+    if_known (value_in names w) (λ t.
+    if_in_range (nat_lt t 4096) (if_on_page (is_near at t) (Ok (spelling (op.Isz r (t % 256))))))
 
 -- the bytes of a line whose statement stands at an address
 abbrev pub line_bytes : ℕ → Names → Option SourceLine → Result (List ℕ) SourceFault
@@ -200,7 +219,9 @@ bytes_or_none (Err f) = []
 
 -- the (address, byte) pairs of line i; none where it has one of these faults
 abbrev pub line_pairs : List (Option SourceLine) → Names → ℕ → List (ℕ × ℕ)
-line_pairs lines names i = from_address (address_of lines i) (bytes_or_none (line_bytes (address_of lines i) names (ith_line lines i)))
+line_pairs lines names i =
+    from_address (address_of lines i)
+    (bytes_or_none (line_bytes (address_of lines i) names (ith_line lines i)))
 
 -- the pairs of the lines before line i, line by line
 unfoldable pub pairs_before : List (Option SourceLine) → Names → ℕ → List (ℕ × ℕ)
@@ -208,21 +229,25 @@ pairs_before lines names i = flat_map (line_pairs lines names) (range_with_len 0
 
 -- ---- faults of class two
 
--- the first of the faults 32, 33, 34 and 35 that a line has, if any: of its bytes; else 35 where `pairs`, those of the lines
--- before it, have one of its addresses
+-- the first of the faults 32, 33, 34 and 35 that a line has, if any: of its bytes; else 35 where
+-- `pairs`, those of the lines before it, have one of its addresses
 abbrev pub fault_two : ℕ → List (ℕ × ℕ) → Result (List ℕ) SourceFault → Option SourceFault
 fault_two at pairs (Err f) = Some f
 fault_two at pairs (Ok bytes) = if overlaps pairs at (length bytes) then Some Overlap else None
 
--- the fault of class two of line i, if it has one: it depends on this line, on those before it and on the values of all names
+-- the fault of class two of line i, if it has one: it depends on this line, on those before it and
+-- on the values of all names
 unfoldable pub class_two_fault : List (Option SourceLine) → Names → ℕ → Option SourceFault
-class_two_fault lines names i = fault_two (address_of lines i) (pairs_before lines names i) (line_bytes (address_of lines i) names (ith_line lines i))
+class_two_fault lines names i =
+    fault_two (address_of lines i) (pairs_before lines names i)
+    (line_bytes (address_of lines i) names (ith_line lines i))
 
 -- ---- the whole
 
 -- the first of n lines that has a fault: its number, which counts from 1, and the fault
 abbrev pub first_fault : (ℕ → Option SourceFault) → ℕ → Option (ℕ × SourceFault)
-first_fault fault n = find (λ i. is_some (fault i)) (range_with_len 0 n) >>= λ i. fault i >>= λ f. Some (i + 1, f)
+first_fault fault n =
+    find (λ i. is_some (fault i)) (range_with_len 0 n) >>= λ i. fault i >>= λ f. Some (i + 1, f)
 
 abbrev pub first_of_class_one : List (Option SourceLine) → Option (ℕ × SourceFault)
 first_of_class_one lines = first_fault (class_one_fault lines) (length lines)
@@ -234,12 +259,15 @@ abbrev pub unless_fault : {A E : Type 0} → Option E → Result A E → Result 
 unless_fault (Some f) answer = Err f
 unless_fault None answer = answer
 
--- the first fault of class one if there is one, else the first one of class two, else the pairs of all lines
+-- the first fault of class one if there is one, else the first one of class two, else the pairs of
+-- all lines
 unfoldable pub spelt : List (Option SourceLine) → Result (List (ℕ × ℕ)) (ℕ × SourceFault)
 spelt lines =
     unless_fault (first_of_class_one lines)
-    (unless_fault (first_of_class_two lines (all_names lines)) (Ok (pairs_before lines (all_names lines) (length lines))))
+    (unless_fault (first_of_class_two lines (all_names lines))
+    (Ok (pairs_before lines (all_names lines) (length lines))))
 
--- the pairs that a text spells, in the order of its lines, or its first fault with the number of its line
+-- the pairs that a text spells, in the order of its lines, or its first fault with the number of
+-- its line
 abbrev pub assembled : List ℕ → Result (List (ℕ × ℕ)) (ℕ × SourceFault)
 assembled text = spelt (read (lines_of text))

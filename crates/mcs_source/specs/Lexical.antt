@@ -1,7 +1,8 @@
 -- The tokens of a line of a source text. (Our own choice.)
 use Rattle.std.specs.Prelude.{ℕ, Bool, ◌&&◌, ◌||◌, List, [], ◌∷◌, ◌++◌, nat_le, ◌==◌, if◌then◌else◌}
 
--- a word is a run of letters, digits and `_`; `Other` is a byte that no form of a line has, as one that is not ASCII
+-- a word is a run of letters, digits and `_`; `Other` is a byte that no form of a line has, as one
+-- that is not ASCII
 pub data Token : Type 0 where
   Word : List ℕ → Token
   Comma : Token
@@ -34,7 +35,9 @@ unfoldable pub tokens_after : List ℕ → List ℕ → List Token
 tokens_after word [] = word_then word []
 tokens_after word (b ∷ bytes) =
     if is_word_byte b then tokens_after (word ++ b ∷ []) bytes else
-    word_then word (if is_blank b then tokens_after [] bytes else if b == 59 then [] else symbol b ∷ tokens_after [] bytes)
+    word_then word
+    (if is_blank b then tokens_after [] bytes else
+    if b == 59 then [] else symbol b ∷ tokens_after [] bytes)
 
 -- the tokens of a line; a `;` begins a comment
 abbrev pub tokens : List ℕ → List Token

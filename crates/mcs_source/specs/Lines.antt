@@ -1,5 +1,6 @@
--- What the tokens of a line say. A line is an optional label, an optional statement and an optional comment,
--- or a definition of a name. (Our own choice, with the operands of the MCS-4 Users Manual.)
+-- What the tokens of a line say. A line is an optional label, an optional statement and an optional
+-- comment, or a definition of a name. (Our own choice, with the operands of the MCS-4 Users
+-- Manual.)
 use Rattle.std.specs.Prelude.{ℕ, ◌-◌, Bool, true, false, not, ◌&&◌, ◌||◌, List, [], ◌∷◌, Option, Some, None, is_some, nat_le, ◌==◌, if◌then◌else◌, codes, length}
 use Rattle.std.specs.Str.{str_eq_ignore_ascii_case}
 use Rattle.mcs_source.specs.Lexical.{Token, Word, Comma, Colon, Equals, is_within}
@@ -21,7 +22,8 @@ pub data Operand : Type 0 where
   Number : ℕ → Operand
   Name : List ℕ → Operand
 
--- a statement as it is written; `Whole` is an instruction that needs no name's value, with its registers or pair
+-- a statement as it is written; `Whole` is an instruction that needs no name's value, with its
+-- registers or pair
 pub data Statement : Type 0 where
   Origin : ℕ → Statement
   Data : List Operand → Statement
@@ -52,9 +54,12 @@ abbrev pub pair_named : List ℕ → Option ℕ
 pair_named (b ∷ d ∷ []) = if (b == 80 || b == 112) && is_within 48 55 d then Some (d - 48) else None
 pair_named word = None
 
--- a word that cannot be a name, in upper or lower case: a mnemonic, `ORG`, `DB`, `WPM`, a register or a pair
+-- a word that cannot be a name, in upper or lower case: a mnemonic, `ORG`, `DB`, `WPM`, a register
+-- or a pair
 unfoldable pub is_reserved : List ℕ → Bool
-is_reserved w = is_some (mnemonic_of w) || (str_eq_ignore_ascii_case w (codes "WPM") || (is_some (register_named w) || is_some (pair_named w)))
+is_reserved w =
+    is_some (mnemonic_of w) || (str_eq_ignore_ascii_case w (codes "WPM")
+    || (is_some (register_named w) || is_some (pair_named w)))
 
 -- a name begins with a letter or `_`, has at most `NAME_BYTES` bytes, and is not reserved
 abbrev pub is_name : List ℕ → Bool
@@ -164,7 +169,8 @@ rest_of label (t ∷ ts) = statement_of (t ∷ ts) >>= λ s. Some (Code label (S
 
 -- a line without a label
 abbrev pub unlabelled : List Token → Option SourceLine
-unlabelled (Word w ∷ Equals ∷ ts) = if is_name w then (one_number ts >>= λ n. Some (Define w n)) else None
+unlabelled (Word w ∷ Equals ∷ ts) =
+    if is_name w then (one_number ts >>= λ n. Some (Define w n)) else None
 unlabelled ts = rest_of None ts
 
 -- what a line says, if it has a form

@@ -8,7 +8,8 @@ use Rattle.mcs_source.specs.Names.{name}
 use Rattle.mcs_source.specs.declared.mnemonic.Mnemonic.{Mnemonic}
 use Rattle.mcs_source.specs.declared.mnemonic.Mnemonic.TheVariants as m
 
--- what stands beside a word in a table, in either case. (An instruction stands in it by its name, whatever its operands.)
+-- what stands beside a word in a table, in either case. (An instruction stands in it by its name,
+-- whatever its operands.)
 abbrev pub named : List ℕ → List (List ℕ × Mnemonic) → Option Mnemonic
 named w [] = None
 named w (row ∷ rows) = if str_eq_ignore_ascii_case w row.0 then Some row.1 else named w rows
@@ -19,27 +20,41 @@ bare o = (name o, m.Bare o)
 
 -- `ORG`, `DB` and the instructions that name a condition, a pair or an address
 unfoldable pub orders : List ℕ → Option Mnemonic
-orders w = named w ((codes "ORG", m.Org) ∷ (codes "DB", m.Db) ∷ (name (op.Jcn 0 0), m.Jcn) ∷ (name (op.Fim 0 0), m.Fim) ∷ (name (op.Src 0), m.Src) ∷ (name (op.Fin 0), m.Fin) ∷ (name (op.Jin 0), m.Jin) ∷ (name (op.Jun 0 0), m.Jun) ∷ (name (op.Jms 0 0), m.Jms) ∷ [])
+orders w = named w (
+    (codes "ORG", m.Org) ∷ (codes "DB", m.Db) ∷ (name (op.Jcn 0 0), m.Jcn)
+    ∷ (name (op.Fim 0 0), m.Fim) ∷ (name (op.Src 0), m.Src) ∷ (name (op.Fin 0), m.Fin)
+    ∷ (name (op.Jin 0), m.Jin) ∷ (name (op.Jun 0 0), m.Jun) ∷ (name (op.Jms 0 0), m.Jms) ∷ [])
 
 -- `NOP`, and the instructions that name a register or a value
 unfoldable pub on_registers : List ℕ → Option Mnemonic
-on_registers w = named w (bare op.Nop ∷ (name (op.Inc 0), m.Inc) ∷ (name (op.Isz 0 0), m.Isz) ∷ (name (op.Add 0), m.Add) ∷ (name (op.Sub 0), m.Sub) ∷ (name (op.Ld 0), m.Ld) ∷ (name (op.Xch 0), m.Xch) ∷ (name (op.Bbl 0), m.Bbl) ∷ (name (op.Ldm 0), m.Ldm) ∷ [])
+on_registers w = named w (
+    bare op.Nop ∷ (name (op.Inc 0), m.Inc) ∷ (name (op.Isz 0 0), m.Isz)
+    ∷ (name (op.Add 0), m.Add) ∷ (name (op.Sub 0), m.Sub) ∷ (name (op.Ld 0), m.Ld)
+    ∷ (name (op.Xch 0), m.Xch) ∷ (name (op.Bbl 0), m.Bbl) ∷ (name (op.Ldm 0), m.Ldm) ∷ [])
 
 -- the instructions that write to RAM and to ports
 unfoldable pub on_ports : List ℕ → Option Mnemonic
-on_ports w = named w (bare op.Wrm ∷ bare op.Wmp ∷ bare op.Wrr ∷ bare op.Wr0 ∷ bare op.Wr1 ∷ bare op.Wr2 ∷ bare op.Wr3 ∷ [])
+on_ports w = named w (
+    bare op.Wrm ∷ bare op.Wmp ∷ bare op.Wrr ∷ bare op.Wr0 ∷ bare op.Wr1 ∷ bare op.Wr2
+    ∷ bare op.Wr3 ∷ [])
 
 -- the instructions that read RAM and ports
 unfoldable pub on_memory : List ℕ → Option Mnemonic
-on_memory w = named w (bare op.Sbm ∷ bare op.Rdm ∷ bare op.Rdr ∷ bare op.Adm ∷ bare op.Rd0 ∷ bare op.Rd1 ∷ bare op.Rd2 ∷ bare op.Rd3 ∷ [])
+on_memory w = named w (
+    bare op.Sbm ∷ bare op.Rdm ∷ bare op.Rdr ∷ bare op.Adm ∷ bare op.Rd0 ∷ bare op.Rd1
+    ∷ bare op.Rd2 ∷ bare op.Rd3 ∷ [])
 
 -- the instructions on the accumulator
 unfoldable pub on_accumulator : List ℕ → Option Mnemonic
-on_accumulator w = named w (bare op.Clb ∷ bare op.Clc ∷ bare op.Iac ∷ bare op.Cmc ∷ bare op.Cma ∷ bare op.Ral ∷ bare op.Rar ∷ [])
+on_accumulator w = named w (
+    bare op.Clb ∷ bare op.Clc ∷ bare op.Iac ∷ bare op.Cmc ∷ bare op.Cma ∷ bare op.Ral
+    ∷ bare op.Rar ∷ [])
 
 -- the instructions on the carry, and the converting ones
 unfoldable pub on_carry : List ℕ → Option Mnemonic
-on_carry w = named w (bare op.Tcc ∷ bare op.Dac ∷ bare op.Tcs ∷ bare op.Stc ∷ bare op.Daa ∷ bare op.Kbp ∷ bare op.Dcl ∷ [])
+on_carry w = named w (
+    bare op.Tcc ∷ bare op.Dac ∷ bare op.Tcs ∷ bare op.Stc ∷ bare op.Daa ∷ bare op.Kbp
+    ∷ bare op.Dcl ∷ [])
 
 abbrev pub otherwise : Option Mnemonic → Option Mnemonic → Option Mnemonic
 otherwise None o = o
@@ -47,4 +62,9 @@ otherwise (Some x) o = Some x
 
 -- what a word that begins a statement asks for; None where no statement begins with it
 unfoldable pub mnemonic_of : List ℕ → Option Mnemonic
-mnemonic_of w = otherwise (orders w) (otherwise (on_registers w) (otherwise (on_ports w) (otherwise (on_memory w) (otherwise (on_accumulator w) (on_carry w)))))
+mnemonic_of w =
+    otherwise (orders w)
+    (otherwise (on_registers w)
+    (otherwise (on_ports w)
+    (otherwise (on_memory w)
+    (otherwise (on_accumulator w) (on_carry w)))))

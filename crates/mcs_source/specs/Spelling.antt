@@ -1,4 +1,5 @@
--- The words of an instruction, in the order of the code table. (MCS-4 Users Manual, instruction set.)
+-- The words of an instruction, in the order of the code table. (MCS-4 Users Manual, instruction
+-- set.)
 use Rattle.std.specs.Prelude.{◌≡◌, take, ℕ, ◌+◌, ◌*◌, ◌<◌, List, [], ◌∷◌}
 use Rattle.mcs_model.specs.declared.op.Op.{Op}
 use Rattle.mcs_model.specs.Table.{word_count_of}
@@ -77,6 +78,7 @@ IsOp (Bbl r) = r < 16
 IsOp (Ldm r) = r < 16
 IsOp o = Unit {0}
 
--- two words spell an instruction: its operands are in their ranges, and its words are the first of the two, or both
+-- two words spell an instruction: its operands are in their ranges, and its words are the first of
+-- the two, or both
 abbrev pub IsSpelledBy : ℕ → ℕ → Op → Type 0
 IsSpelledBy first second o = IsOp o × (spelling o ≡ take (word_count_of o) (first ∷ second ∷ []))

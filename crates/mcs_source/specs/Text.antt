@@ -32,7 +32,8 @@ near_page at = page_of (at + 2)
 abbrev pub byte_text : ℕ → List ℕ
 byte_text b = codes "DB 0x" ++ hex_2 b
 
--- the operands of an instruction, as they follow the name: registers, pairs and small values in decimal, bytes and addresses in hexadecimal
+-- the operands of an instruction, as they follow the name: registers, pairs and small values in
+-- decimal, bytes and addresses in hexadecimal
 abbrev pub operands : ℕ → Op → List ℕ
 operands at (Jcn c b) = codes " " ++ (decimal c ++ (codes ", " ++ address (near_page at) b))
 operands at (Fim p b) = codes " P" ++ (decimal p ++ (codes ", 0x" ++ hex_2 b))
@@ -55,8 +56,8 @@ operands at o = []
 abbrev pub text_of : ℕ → Op → List ℕ
 text_of at o = name o ++ operands at o
 
--- the instruction of some bytes, where it lies in them whole; a code outside the table, and a first word whose second word
--- lies past the end, is a byte
+-- the instruction of some bytes, where it lies in them whole; a code outside the table, and a first
+-- word whose second word lies past the end, is a byte
 abbrev pub whole_or_byte : Option Op → ℕ → List ℕ → Option Op
 whole_or_byte None b rest = None
 whole_or_byte (Some o) b rest = if nat_le (word_count_of o) (1 + length rest) then Some o else None
@@ -87,7 +88,8 @@ unfoldable pub piece_texts : ℕ → ℕ → List ℕ → List (List ℕ)
 piece_texts zero at bytes = []
 piece_texts (suc most) at [] = []
 piece_texts (suc most) at (b ∷ rest) =
-    piece_text at b (op_at b rest) ∷ piece_texts most (at + piece_size (op_at b rest)) (drop (piece_size (op_at b rest) - 1) rest)
+    piece_text at b (op_at b rest)
+    ∷ piece_texts most (at + piece_size (op_at b rest)) (drop (piece_size (op_at b rest) - 1) rest)
 
 -- ---- the source of a range
 
@@ -105,9 +107,11 @@ range rom from to = take (to - from) (drop from rom)
 abbrev pub source_text : List ℕ → ℕ → ℕ → List ℕ
 source_text rom from to = source_of from (range rom from to)
 
--- the law: the source of a range has no fault, and spells exactly the bytes of the range, each at its address
+-- the law: the source of a range has no fault, and spells exactly the bytes of the range, each at
+-- its address
 abbrev pub SpellsItself : List ℕ → ℕ → ℕ → Type 0
-SpellsItself rom from to = assembled (source_text rom from to) ≡ Ok (from_address from (range rom from to))
+SpellsItself rom from to =
+    assembled (source_text rom from to) ≡ Ok (from_address from (range rom from to))
 
 -- ---- the listing
 
@@ -122,7 +126,8 @@ second_of piece rest = if nat_lt 1 (piece_size piece) then Some (second_word res
 
 -- ` BB BB `
 abbrev pub word_columns : ℕ → Option ℕ → List ℕ
-word_columns first second = codes " " ++ (hex_2 first ++ (codes " " ++ (second_column second ++ codes " ")))
+word_columns first second =
+    codes " " ++ (hex_2 first ++ (codes " " ++ (second_column second ++ codes " ")))
 
 -- `AAA BB BB `, before the text of a piece
 abbrev pub columns : ℕ → ℕ → Option ℕ → List ℕ
@@ -137,8 +142,11 @@ unfoldable pub listing_lines : ℕ → ℕ → List ℕ → List (List ℕ)
 listing_lines zero at bytes = []
 listing_lines (suc most) at [] = []
 listing_lines (suc most) at (b ∷ rest) =
-    listed_line at b rest (op_at b rest) ∷ listing_lines most (at + piece_size (op_at b rest)) (drop (piece_size (op_at b rest) - 1) rest)
+    listed_line at b rest (op_at b rest)
+    ∷ listing_lines most (at + piece_size (op_at b rest))
+    (drop (piece_size (op_at b rest) - 1) rest)
 
--- the listing of a ROM from an address on: that many lines, or fewer where address FFF comes first; each ends with LF
+-- the listing of a ROM from an address on: that many lines, or fewer where address FFF comes first;
+-- each ends with LF
 abbrev pub listing_text : List ℕ → ℕ → ℕ → List ℕ
 listing_text rom from lines = flat_map as_line (listing_lines lines from (drop from rom))

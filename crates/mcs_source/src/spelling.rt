@@ -7,5 +7,6 @@ ghost use Rattle.mcs_model.specs.Table.{decoded};
 /// The law on the code table: what it reads from two words is spelled by those words. It holds for
 /// each code; the function does nothing.
 pub fn spelling_law()
-    ensures { (first second : ℕ) (o : Op) → second < 256 → decoded first second ≡ Some o → IsSpelledBy first second o }
+    ensures { (first second : ℕ) (o : Op) → second < 256
+        → decoded first second ≡ Some o → IsSpelledBy first second o }
 {}

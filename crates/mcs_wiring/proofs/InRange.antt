@@ -19,7 +19,7 @@ use Rattle.mcs_wiring.specs.Flaws.{judgement_of, board_of_parts}
 use Rattle.mcs_wiring.specs.declared.sections.Numbered.{Numbered}
 use Rattle.mcs_wiring.specs.declared.sections.Section.{Section}
 use Rattle.mcs_wiring.specs.declared.sections.Section.TheVariants.{Rom, Ram, Chain, Keys, Lamp}
-use Rattle.mcs_wiring.specs.Names.{is_digit, below_or_none, number_below, rest_behind, rom_line, ram_line, chain_line, line_named, parts_around_dot}
+use Rattle.mcs_wiring.specs.Names.{is_digit, below_or_none, number_below, rest_after, rom_line, ram_line, chain_line, line_named, parts_around_dot}
 use Rattle.mcs_wiring.specs.Wiring.{within_or_none, number_at, line_of, line_at, part_of, ram_in, chain_in, matrix_in, lamp_in, values_at, is_no_line, are_bad_columns, has_bad_columns, is_malformed, has_bad_value, section_values, any_section, lacks_array, keys_table, part_at, rams_of, parts_of}
 use Rattle.mcs_wiring.specs.Format.{sections}
 
@@ -101,7 +101,7 @@ named_in_range None (Some rest) c l e = ram_in_range rest l e
 named_in_range None None c l e = let (rest, _, read) = bound c chain_line l e in chain_in_range rest l read
 
 line_in_range : (text : List ℕ) (l : Line) → line_named text ≡ Some l → boards.in_range l ≡ true
-line_in_range text l e = named_in_range (rest_behind (codes "rom") text) (rest_behind (codes "ram") text) (rest_behind (codes "chain") text) l e
+line_in_range text l e = named_in_range (rest_after (codes "rom") text) (rest_after (codes "ram") text) (rest_after (codes "chain") text) l e
 
 -- whether a line is out of range: never
 abbrev is_out : Line → Bool

@@ -27,19 +27,21 @@ quoted_name line = quoted_text (line_name line)
 abbrev pub rom_lines : ℕ → Option (List LineMask) → List (List ℕ)
 rom_lines chip None = []
 rom_lines chip (Some masks) =
-    codes "[[rom]]" ∷ entry (codes "chip") (decimal chip) ∷ entry (codes "port") (quoted_text (port_name masks)) ∷ []
+    codes "[[rom]]" ∷ entry (codes "chip") (decimal chip)
+    ∷ entry (codes "port") (quoted_text (port_name masks)) ∷ []
 
 -- the lines of a bank, where it has chips
 abbrev pub ram_lines : ℕ → ℕ → List (List ℕ)
 ram_lines bank chips =
     if nat_lt 0 chips
-    then codes "[[ram]]" ∷ entry (codes "bank") (decimal bank) ∷ entry (codes "chips") (decimal chips) ∷ []
+    then codes "[[ram]]" ∷ entry (codes "bank") (decimal bank)
+    ∷ entry (codes "chips") (decimal chips) ∷ []
     else []
 
 abbrev pub chain_lines : ChainPart → List (List ℕ)
 chain_lines c =
-    codes "[[chain]]" ∷ entry (codes "clock") (quoted_name c.clock) ∷ entry (codes "data") (quoted_name c.data_in)
-    ∷ entry (codes "chips") (decimal c.chips) ∷ []
+    codes "[[chain]]" ∷ entry (codes "clock") (quoted_name c.clock)
+    ∷ entry (codes "data") (quoted_name c.data_in) ∷ entry (codes "chips") (decimal c.chips) ∷ []
 
 -- the names of columns between brackets, separated by `, `
 abbrev pub columns_text : List Line → List ℕ
@@ -47,13 +49,15 @@ columns_text lines = codes "[" ++ (join_by quoted_name (codes ", ") lines ++ cod
 
 abbrev pub matrix_lines : KeyMatrix → List (List ℕ)
 matrix_lines m =
-    codes "[keys]" ∷ entry (codes "chain") (decimal m.chain) ∷ entry (codes "first") (decimal m.first)
-    ∷ entry (codes "rows") (decimal m.rows) ∷ entry (codes "columns") (columns_text m.columns.items) ∷ []
+    codes "[keys]" ∷ entry (codes "chain") (decimal m.chain)
+    ∷ entry (codes "first") (decimal m.first) ∷ entry (codes "rows") (decimal m.rows)
+    ∷ entry (codes "columns") (columns_text m.columns.items) ∷ []
 
 abbrev pub lamp_lines : Line → List (List ℕ)
 lamp_lines line = codes "[[lamp]]" ∷ entry (codes "line") (quoted_name line) ∷ []
 
--- the lines of a board: the ROMs by rising chip, the RAM by rising bank, the chains, the key matrix, the lamps
+-- the lines of a board: the ROMs by rising chip, the RAM by rising bank, the chains, the key
+-- matrix, the lamps
 abbrev pub board_lines : BoardParts → List (List ℕ)
 board_lines b =
     flat_map (λ chip. rom_lines chip (masks_on b chip)) (range_with_len 0 ROMS)
@@ -70,7 +74,8 @@ text_of lines = flat_map as_line lines
 abbrev pub board_text : BoardParts → List ℕ
 board_text b = text_of (board_lines b)
 
--- the answer to the query `board`: the line `board`, then the lines of the board; its text ends without a line feed
+-- the answer to the query `board`: the line `board`, then the lines of the board; its text ends
+-- without a line feed
 abbrev pub query_lines : BoardParts → List (List ℕ)
 query_lines b = codes "board" ∷ board_lines b
 

@@ -47,7 +47,8 @@ abbrev pub judgement_of : BoardParts → Option BoardFault → Result BoardParts
 judgement_of parts None = Ok parts
 judgement_of parts (Some fault) = Err (refusal_of fault)
 
--- what is left to say of parts whose numbers are in range, and of a table that has nothing of 21, 22, 23 and 27
+-- what is left to say of parts whose numbers are in range, and of a table that has nothing of 21,
+-- 22, 23 and 27
 abbrev pub board_of_parts : BoardParts → Result BoardParts WiringFault
 board_of_parts parts =
     if lacks_line parts then Err NoSuchLine

@@ -22,17 +22,21 @@ is_digit c = nat_le 48 c && nat_le c 57
 abbrev pub below_or_none : ℕ → ℕ → Option ℕ
 below_or_none limit n = if nat_lt n limit then Some n else None
 
--- the number below a limit that one or two decimal digits are, without a leading zero (no number of a line has three)
+-- the number below a limit that one or two decimal digits are, without a leading zero; no number of
+-- a line has three digits
 abbrev pub number_below : ℕ → List ℕ → Option ℕ
 number_below limit (d ∷ []) = if is_digit d then below_or_none limit (d - 48) else None
-number_below limit (t ∷ d ∷ []) = if (is_digit t && is_digit d) && not (t == 48) then below_or_none limit (10 * (t - 48) + (d - 48)) else None
+number_below limit (t ∷ d ∷ []) =
+    if (is_digit t && is_digit d) && not (t == 48)
+    then below_or_none limit (10 * (t - 48) + (d - 48)) else None
 number_below limit text = None
 
 -- ---- lines: `romC.K`, `ramB.C.K`, `chainN.I`
 
 -- what stands after a word, if the text begins with it
-abbrev pub rest_behind : List ℕ → List ℕ → Option (List ℕ)
-rest_behind word text = if bytes_eq (take (length word) text) word then Some (drop (length word) text) else None
+abbrev pub rest_after : List ℕ → List ℕ → Option (List ℕ)
+rest_after word text =
+    if bytes_eq (take (length word) text) word then Some (drop (length word) text) else None
 
 -- what stands before and after the first dot
 abbrev pub parts_around_dot : List ℕ → Option (List ℕ × List ℕ)
@@ -63,15 +67,19 @@ chain_line text =
 -- the line that a text names, if it has the form of a line
 abbrev pub line_named : List ℕ → Option Line
 line_named text =
-    elim (rest_behind (codes "rom") text) [
+    elim (rest_after (codes "rom") text) [
       | Some rest ↦ rom_line rest
-      | None ↦ elim (rest_behind (codes "ram") text) [ Some rest ↦ ram_line rest | None ↦ rest_behind (codes "chain") text >>= chain_line ]
+      | None ↦ elim (rest_after (codes "ram") text) [
+        | Some rest ↦ ram_line rest
+        | None ↦ rest_after (codes "chain") text >>= chain_line
+      ]
     ]
 
 -- the name of a line
 abbrev pub line_name : Line → List ℕ
 line_name (Rom chip k) = codes "rom" ++ (decimal chip ++ (codes "." ++ decimal k))
-line_name (Ram bank chip k) = codes "ram" ++ (decimal bank ++ (codes "." ++ (decimal chip ++ (codes "." ++ decimal k))))
+line_name (Ram bank chip k) =
+    codes "ram" ++ (decimal bank ++ (codes "." ++ (decimal chip ++ (codes "." ++ decimal k))))
 line_name (Chain n i) = codes "chain" ++ (decimal n ++ (codes "." ++ decimal i))
 
 -- ---- ports: four characters, line 3 first
@@ -79,9 +87,14 @@ line_name (Chain n i) = codes "chain" ++ (decimal n ++ (codes "." ++ decimal i))
 -- the masks of a port, line 0 first, that a text names
 abbrev pub masks_named : List ℕ → Option (List LineMask)
 masks_named (c3 ∷ c2 ∷ c1 ∷ c0 ∷ []) =
-    mask_of c0 >>= (λ m0. mask_of c1 >>= (λ m1. mask_of c2 >>= (λ m2. mask_of c3 >>= (λ m3. Some (m0 ∷ m1 ∷ m2 ∷ m3 ∷ [])))))
+    mask_of c0 >>= (λ m0.
+    mask_of c1 >>= (λ m1.
+    mask_of c2 >>= (λ m2.
+    mask_of c3 >>= (λ m3. Some (m0 ∷ m1 ∷ m2 ∷ m3 ∷ [])))))
 masks_named text = None
 
 -- the name of a port
 abbrev pub port_name : List LineMask → List ℕ
-port_name masks = mask_character (mask_at masks 3) ∷ mask_character (mask_at masks 2) ∷ mask_character (mask_at masks 1) ∷ mask_character (mask_at masks 0) ∷ []
+port_name masks =
+    mask_character (mask_at masks 3) ∷ mask_character (mask_at masks 2)
+    ∷ mask_character (mask_at masks 1) ∷ mask_character (mask_at masks 0) ∷ []

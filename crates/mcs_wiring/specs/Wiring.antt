@@ -40,7 +40,8 @@ array_values d = []
 abbrev pub values_at : List ℕ → Members → List Data
 values_at key ms = array_values (get_member key ms)
 
--- the values that stand in the place of a section's tables: at `keys` the one value, else the values of the array
+-- the values that stand in the place of a section's tables: at `keys` the one value, else the
+-- values of the array
 abbrev pub section_values : Section → Members → List Data
 section_values Keys ms = option_to_list (get_member (codes "keys") ms)
 section_values s ms = values_at (section_key s) ms
@@ -56,7 +57,8 @@ has_other_key s (table ms) = list_any (λ key. not (is_section_key s key)) (keys
 has_other_key s d = false
 
 abbrev pub has_unknown_key : Members → Bool
-has_unknown_key ms = list_any (λ key. not (is_board_key key)) (keys_of ms) || any_section has_other_key ms
+has_unknown_key ms =
+    list_any (λ key. not (is_board_key key)) (keys_of ms) || any_section has_other_key ms
 
 -- ---- 22: a table that stands in its place lacks a key
 
@@ -113,7 +115,12 @@ matrix_in ms =
     number_at (codes "chain") 0 (CHAINS - 1) ms >>= (λ chain.
     number_at (codes "first") 0 (CHAIN_BITS - 1) ms >>= (λ first.
     number_at (codes "rows") 1 KEY_ROWS ms >>= (λ rows.
-    Some (record { chain = chain; first = first; rows = rows; columns = record { items = filter_map line_of (values_at (codes "columns") ms) } }))))
+    Some (record {
+      chain = chain;
+      first = first;
+      rows = rows;
+      columns = record { items = filter_map line_of (values_at (codes "columns") ms) };
+    }))))
 
 -- no array, an empty one, or one with something that is no line
 abbrev pub is_no_line : Data → Bool
@@ -138,7 +145,8 @@ abbrev pub is_malformed : Section → Data → Bool
 is_malformed Rom d = is_none (part_of rom_in d)
 is_malformed Ram d = is_none (part_of ram_in d)
 is_malformed Chain d = is_none (part_of chain_in d)
-is_malformed Keys d = is_none (part_of matrix_in d) || option_map_or has_bad_columns (as_table d) true
+is_malformed Keys d =
+    is_none (part_of matrix_in d) || option_map_or has_bad_columns (as_table d) true
 is_malformed Lamp d = is_none (part_of lamp_in d)
 
 -- whether no array stands where a section has one
@@ -206,8 +214,8 @@ parts_of ms = record {
   lamps = record { items = filter_map (part_of lamp_in) (values_at (codes "lamp") ms) };
 }
 
--- the board that a table describes, or the first refusal that holds of it; 25: a line, a chain or a row's bit that is not
--- there; 26: a line of the wrong direction
+-- the board that a table describes, or the first refusal that holds of it; 25: a line, a chain or
+-- a row's bit that is not there; 26: a line of the wrong direction
 unfoldable pub board_of_table : Members → Result BoardParts WiringFault
 board_of_table ms =
     if has_unknown_key ms then Err UnknownKey
@@ -221,7 +229,8 @@ board_of_table ms =
 
 -- the board of a text: 20 where it is not TOML, else that of its table
 abbrev pub board_of_text : List ℕ → Result BoardParts WiringFault
-board_of_text text = elim (parse_document text) [ None ↦ Err BadToml | Some ms ↦ board_of_table ms ]
+board_of_text text =
+    elim (parse_document text) [ None ↦ Err BadToml | Some ms ↦ board_of_table ms ]
 
 -- an answer is what is wanted, or memory was refused
 abbrev pub Answers : Result BoardParts WiringFault → Result BoardParts WiringFault → Type 0

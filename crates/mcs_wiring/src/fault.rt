@@ -6,8 +6,8 @@ use mcs_model::board::BoardFault;
 use mcs_model::refusal_numbers;
 use thiserror::Error;
 
-/// Why a text has no board: the first of these that holds of it, in the order in which they stand here, where memory
-/// was not refused.
+/// Why a text has no board: the first of these that holds of it, in the order in which they stand
+/// here, where memory was not refused.
 #[derive(Clone, Copy, Debug, PartialEq, Eq, Error)]
 pub enum WiringFault {
     /// The text is not TOML.
@@ -31,7 +31,8 @@ pub enum WiringFault {
     /// A line, a chain or a row's bit that the board lacks.
     #[error("no such line on the board")]
     NoSuchLine,
-    /// A clock or data line that is no output line, a column that is no input line, or a lamp at an input line.
+    /// A clock or data line that is no output line, a column that is no input line, or a lamp at an
+    /// input line.
     #[error("a line of the wrong direction")]
     WrongDirection,
     /// Memory was refused, so nothing is said of the text.

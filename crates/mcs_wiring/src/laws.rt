@@ -8,14 +8,17 @@ ghost use Rattle.mcs_nibble.specs.declared.lines.LineMask.{LineMask};
 ghost use Rattle.mcs_wiring.specs.BoardText.{board_text, query_text};
 ghost use Rattle.mcs_wiring.specs.Names.{line_name, line_named, port_name, masks_named};
 
-/// The name of each line is read back as that line, and the name of each port as its masks. So no two lines, and no two
-/// ports, have one name.
+/// The name of each line is read back as that line, and the name of each port as its masks. So no
+/// two lines, and no two ports, have one name.
 pub fn names_are_read_back()
     ensures lines { (line : Line) → in_range line ≡ true → line_named (line_name line) ≡ Some line }
-    ensures ports { (m0 m1 m2 m3 : LineMask) → masks_named (port_name (m0 ∷ m1 ∷ m2 ∷ m3 ∷ [])) ≡ Some (m0 ∷ m1 ∷ m2 ∷ m3 ∷ []) }
+    ensures ports { (m0 m1 m2 m3 : LineMask)
+        → masks_named (port_name (m0 ∷ m1 ∷ m2 ∷ m3 ∷ [])) ≡ Some (m0 ∷ m1 ∷ m2 ∷ m3 ∷ []) }
 {}
 
-/// The answer to the query `board`, with the line feed that ends it, is the line `board` and the text of the board.
+/// The answer to the query `board`, with the line feed that ends it, is the line `board` and the
+/// text of the board.
 pub fn query_text_is_the_board_text()
-    ensures { (board : BoardParts) → query_text board ++ 10 ∷ [] ≡ as_line (codes "board") ++ board_text board }
+    ensures { (board : BoardParts)
+        → query_text board ++ 10 ∷ [] ≡ as_line (codes "board") ++ board_text board }
 {}

@@ -31,7 +31,8 @@ fn has_other_board_key(table: &Table) -> bool
 
 /// Whether a table has a key that the tables of a section have not.
 fn has_key_beside(section: Section, table: &Table) -> bool
-    ensures { result ≡ list_any (λ key. not (is_section_key section (string_bytes key))) (keys table.now) }
+    ensures { result
+        ≡ list_any (λ key. not (is_section_key section (string_bytes key))) (keys table.now) }
 {
     table.keys().any(|key| !section.has_key(key.as_str()))
 }
@@ -117,14 +118,16 @@ fn any_flawed(flaw: Flaw, section: Section, values: &[Value]) -> bool
 
 /// Whether some value of the array at a section's key has a flaw.
 fn has_flaw_in_array(flaw: Flaw, table: &Table, section: Section) -> bool
-    ensures { result ≡ list_any (has_flaw flaw section) (values_at (section_key section) (table_view table.now)) }
+    ensures { result ≡ list_any (has_flaw flaw section)
+        (values_at (section_key section) (table_view table.now)) }
 {
     any_flawed(flaw, section, values_at(table, section.key()))
 }
 
 /// Whether some value in the place of a section's tables has a flaw.
 fn has_flaw_in(flaw: Flaw, table: &Table, section: Section) -> bool
-    ensures { result ≡ list_any (has_flaw flaw section) (section_values section (table_view table.now)) }
+    ensures { result ≡ list_any (has_flaw flaw section)
+        (section_values section (table_view table.now)) }
 {
     match section {
         Section::Keys => match member(table, "keys") {

@@ -36,7 +36,8 @@ fn push_name(out: &mut String, line: Line) -> Result<(), AllocError>
 
 /// Writes the lines of a ROM, where it is there.
 fn push_rom(out: &mut String, chip: u8, masks: Option<[LineMask; 4]>) -> Result<(), AllocError>
-    ensures { OnOk result (string_bytes out.new ≡ string_bytes out.old ++ text_of (rom_lines chip masks)) }
+    ensures { OnOk result (string_bytes out.new
+        ≡ string_bytes out.old ++ text_of (rom_lines chip masks)) }
 {
     let Some(masks) = masks else {
         return Ok(());
@@ -51,7 +52,8 @@ fn push_rom(out: &mut String, chip: u8, masks: Option<[LineMask; 4]>) -> Result<
 
 /// Writes the lines of a bank of RAM, where it has chips.
 fn push_ram(out: &mut String, bank: u8, chips: u8) -> Result<(), AllocError>
-    ensures { OnOk result (string_bytes out.new ≡ string_bytes out.old ++ text_of (ram_lines bank chips)) }
+    ensures { OnOk result (string_bytes out.new
+        ≡ string_bytes out.old ++ text_of (ram_lines bank chips)) }
 {
     if chips == 0 {
         return Ok(());
@@ -61,7 +63,8 @@ fn push_ram(out: &mut String, bank: u8, chips: u8) -> Result<(), AllocError>
 
 /// Writes the lines of a chain.
 fn push_chain(out: &mut String, chain: &ChainPart) -> Result<(), AllocError>
-    ensures { OnOk result (string_bytes out.new ≡ string_bytes out.old ++ text_of (chain_lines chain.now)) }
+    ensures { OnOk result (string_bytes out.new
+        ≡ string_bytes out.old ++ text_of (chain_lines chain.now)) }
 {
     out.push_str("[[chain]]\nclock = ")?;
     push_name(out, chain.clock)?;
@@ -74,7 +77,8 @@ fn push_chain(out: &mut String, chain: &ChainPart) -> Result<(), AllocError>
 
 /// Writes the names of columns, separated by `, `.
 fn push_names(out: &mut String, lines: &[Line]) -> Result<(), AllocError>
-    ensures { OnOk result (string_bytes out.new ≡ string_bytes out.old ++ join_by quoted_name (codes ", ") lines.now) }
+    ensures { OnOk result (string_bytes out.new
+        ≡ string_bytes out.old ++ join_by quoted_name (codes ", ") lines.now) }
 {
     let [first, rest @ ..] = lines else {
         return Ok(());
@@ -89,7 +93,8 @@ fn push_names(out: &mut String, lines: &[Line]) -> Result<(), AllocError>
 
 /// Writes the lines of a key matrix.
 fn push_matrix(out: &mut String, keys: &KeyMatrix) -> Result<(), AllocError>
-    ensures { OnOk result (string_bytes out.new ≡ string_bytes out.old ++ text_of (matrix_lines keys.now)) }
+    ensures { OnOk result (string_bytes out.new
+        ≡ string_bytes out.old ++ text_of (matrix_lines keys.now)) }
 {
     let (chain, first, rows) = (keys.chain, keys.first, keys.rows);
     write!(
@@ -103,7 +108,8 @@ fn push_matrix(out: &mut String, keys: &KeyMatrix) -> Result<(), AllocError>
 
 /// Writes the lines of a lamp.
 fn push_lamp(out: &mut String, line: Line) -> Result<(), AllocError>
-    ensures { OnOk result (string_bytes out.new ≡ string_bytes out.old ++ text_of (lamp_lines line)) }
+    ensures { OnOk result (string_bytes out.new
+        ≡ string_bytes out.old ++ text_of (lamp_lines line)) }
 {
     out.push_str("[[lamp]]\nline = ")?;
     push_name(out, line)?;
@@ -113,7 +119,8 @@ fn push_lamp(out: &mut String, line: Line) -> Result<(), AllocError>
 
 /// Writes the ROMs of a board, by rising chip.
 fn push_roms(out: &mut String, board: &Board) -> Result<(), AllocError>
-    ensures { OnOk result (string_bytes out.new ≡ string_bytes out.old ++ roms_text board.now ROMS) }
+    ensures { OnOk result (string_bytes out.new
+        ≡ string_bytes out.old ++ roms_text board.now ROMS) }
 {
     for chip in 0..ROMS {
         push_rom(out, chip as u8, board.mask(chip as u8))?;
@@ -123,7 +130,8 @@ fn push_roms(out: &mut String, board: &Board) -> Result<(), AllocError>
 
 /// Writes the banks of RAM of a board, by rising number.
 fn push_rams(out: &mut String, board: &Board) -> Result<(), AllocError>
-    ensures { OnOk result (string_bytes out.new ≡ string_bytes out.old ++ rams_text board.now BANKS) }
+    ensures { OnOk result (string_bytes out.new
+        ≡ string_bytes out.old ++ rams_text board.now BANKS) }
 {
     for bank in 0..BANKS {
         push_ram(out, bank as u8, board.bank_chips(bank as u8))?;
@@ -133,7 +141,8 @@ fn push_rams(out: &mut String, board: &Board) -> Result<(), AllocError>
 
 /// Writes chains.
 fn push_chains(out: &mut String, chains: &[ChainPart]) -> Result<(), AllocError>
-    ensures { OnOk result (string_bytes out.new ≡ string_bytes out.old ++ flat_map (λ c. text_of (chain_lines c)) chains.now) }
+    ensures { OnOk result (string_bytes out.new
+        ≡ string_bytes out.old ++ flat_map (λ c. text_of (chain_lines c)) chains.now) }
 {
     for chain in chains {
         push_chain(out, chain)?;
@@ -143,7 +152,8 @@ fn push_chains(out: &mut String, chains: &[ChainPart]) -> Result<(), AllocError>
 
 /// Writes the key matrix, if there is one.
 fn push_keys(out: &mut String, keys: &Option<KeyMatrix>) -> Result<(), AllocError>
-    ensures { OnOk result (string_bytes out.new ≡ string_bytes out.old ++ text_of (option_map_or matrix_lines keys.now [])) }
+    ensures { OnOk result (string_bytes out.new
+        ≡ string_bytes out.old ++ text_of (option_map_or matrix_lines keys.now [])) }
 {
     match keys {
         Some(keys) => push_matrix(out, keys),
@@ -153,7 +163,8 @@ fn push_keys(out: &mut String, keys: &Option<KeyMatrix>) -> Result<(), AllocErro
 
 /// Writes lamps.
 fn push_lamps(out: &mut String, lamps: &[Line]) -> Result<(), AllocError>
-    ensures { OnOk result (string_bytes out.new ≡ string_bytes out.old ++ flat_map (λ l. text_of (lamp_lines l)) lamps.now) }
+    ensures { OnOk result (string_bytes out.new
+        ≡ string_bytes out.old ++ flat_map (λ l. text_of (lamp_lines l)) lamps.now) }
 {
     for line in lamps {
         push_lamp(out, *line)?;
@@ -161,8 +172,8 @@ fn push_lamps(out: &mut String, lamps: &[Line]) -> Result<(), AllocError>
     Ok(())
 }
 
-/// The text of a board in TOML: the ROMs by rising chip, the RAM by rising bank, the chains, the key matrix and the lamps,
-/// each line ended by LF.
+/// The text of a board in TOML: the ROMs by rising chip, the RAM by rising bank, the chains, the
+/// key matrix and the lamps, each line ended by LF.
 pub fn board_text(alloc: Global, board: &Board) -> Result<String, AllocError>
     ensures { IfOk result (λ s. string_bytes s ≡ board_text board.now) }
 {

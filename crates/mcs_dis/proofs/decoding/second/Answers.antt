@@ -3,7 +3,7 @@ use Rattle.mcs_source.specs.Text.{piece_size}
 use Rattle.mcs_dis.proofs.Loops.{second_there}
 use Rattle.mcs_dis.proofs.decoding.second.Goals as goal
 
-pub returns-then-size-gt1 : goal.returns-then-size-gt1
-returns-then-size-gt1 c =
-    let more : 1 < piece_size c.args.piece.now = subst (λ (n : ℕ). 1 < n) c.size.ensures c.if-size-gt1.true in
+pub returns-then-piece_size-gt1 : goal.returns-then-piece_size-gt1
+returns-then-piece_size-gt1 c =
+    let more : 1 < piece_size c.args.piece.now = subst (λ (n : ℕ). 1 < n) c.piece_size.ensures c.if-piece_size-gt1.true in
     second_there c.args.piece.now c.args.bytes.now more c.requires

@@ -1,5 +1,6 @@
--- A record is made: it has no bytes, so its ghost fields are what is said here. Of the end it has to name something, which no
--- caller learns: an end at once, at which the bytes of the start are found, so that a file is honest here.
+-- A record is made: it has no bytes, so its ghost fields are what is said here. Of the end it has
+-- to name something, which no caller learns: an end at once, at which the bytes of the start are
+-- found, so that a file is honest here.
 use Rattle.std.proofs.Common.{ℕ, List, [], ◌∷◌, refl, length, ◌<◌, ◌^◌}
 use seplogic.Ra.Ura.{Ura}
 use mir.Syntax.{named}
