@@ -9,11 +9,11 @@ use Rattle.mcs_journal.specs.declared.fault.OpenFault.TheVariants as open_fault
 use Rattle.mcs_journal.specs.declared.fault.CreateFault.{CreateFault}
 use Rattle.mcs_journal.specs.declared.fault.CreateFault.TheVariants as create_fault
 
--- the size is another than that of a session file, or the name is
+-- not a session file: its size or its name is another
 abbrev pub IsNoSession : DiskState → Type 0
 IsNoSession disk = (disk.size ≢ FILE_SIZE) ⊎ (part 0 8 disk.bytes ≢ NAME)
 
--- the disk holds no pair of a snapshot and records
+-- the disk holds no contents: no snapshot with its records
 abbrev pub HoldsNone : DiskState → Type 0
 HoldsNone disk = (snap : List ℕ) (records : List (List ℕ)) → Holds disk.bytes snap records → ⊥
 
@@ -24,7 +24,7 @@ RefusesOpen open_fault.Damaged disk = ¬ (IsNoSession disk) × HoldsNone disk
 RefusesOpen open_fault.Device disk = Unit {0}
 RefusesOpen open_fault.NoMemory disk = Unit {0}
 
--- the disk held this pair and was not written, and every image holds the pair
+-- the disk held these contents and was not written, and every image holds them
 pub record Opens (old new : DiskState) (snap : List ℕ) (records : List (List ℕ)) : Type 0 where
   pub holds : Holds old.bytes snap records
   pub rests : AddsNoImage old new

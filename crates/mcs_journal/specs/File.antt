@@ -15,10 +15,11 @@ start_of B = SECOND_SLOT
 abbrev pub slot_named : ℕ → Slot
 slot_named selector = if selector % 2 == 0 then A else B
 
--- the slot that a file's selector names, and where it starts
+-- the slot that a file's selector names
 abbrev pub slot_of : List ℕ → Slot
 slot_of file = slot_named (slice_index file 8)
 
+-- where that slot starts
 abbrev pub slot_at : List ℕ → ℕ
 slot_at file = start_of (slot_of file)
 
@@ -64,14 +65,14 @@ pub record Holds (file : List ℕ) (snap : List ℕ) (records : List (List ℕ))
   pub snap_bytes : part (slot_at file + 4) (length snap) file ≡ snap
   pub log : IsLog records (part (slot_at file + AREA_SIZE) LOG_SIZE file)
 
--- a file holds at most one pair
+-- a file holds at most one snapshot and list of records
 abbrev pub ContentsAreUnique : Type 0
 ContentsAreUnique =
     (file snap other : List ℕ) (records more : List (List ℕ))
     → Holds file snap records → Holds file other more → (snap ≡ other) × (records ≡ more)
 
--- a record of that many bytes has room after that many bytes of records: commit byte, length and
--- bytes, and one more commit byte after it
+-- after `used` bytes of frames a record of `len` bytes has room: its commit byte, its length, its bytes,
+-- and one more commit byte after it
 abbrev pub HasRoom : ℕ → ℕ → Type 0
 HasRoom used len = used + 3 + len + 1 ≤ LOG_SIZE
 

@@ -13,7 +13,8 @@ pub record StoreView (D : Type 0) : Type 0 where
   -- how many bytes of records its log holds
   pub used : ℕ
 
--- an open store on an honest disk: its pair stands on the disk, and the log is as long as is kept
+-- an open store on an honest disk: the disk holds its contents, and `used` is how many bytes their
+-- frames take in the log
 pub record IsSettledStore (disk : DiskState) (slot : Slot) (used : ℕ) : Type 0 where
   pub durable : IsDurable disk
   pub active : slot_of disk.bytes ≡ slot

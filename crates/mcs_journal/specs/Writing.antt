@@ -51,7 +51,8 @@ pub record IsSnapshot (file : List ℕ) (start : ℕ) (snap : List ℕ) : Type 0
   pub snap_length : part start 4 file ≡ be32 (length snap)
   pub snap_bytes : part (start + 4) (length snap) file ≡ snap
 
--- a write of these bytes, and a sync
+-- A write of these bytes, and a sync. At any moment since an earlier time an image is one of before, or
+-- since this step began one of before with the written range torn.
 pub record Commits {T E : Type 0} (at : ℕ) (from : List ℕ) (old new : DiskState)
     (result : Result T E) : Type 0 where
   pub written : OnOk result (part at (length from) new.bytes ≡ from)

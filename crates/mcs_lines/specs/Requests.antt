@@ -17,7 +17,7 @@ use Rattle.mcs_lines.specs.Words.{is_plain_byte, parts_of, words_of}
 abbrev pub is_number : List ℕ → Bool
 is_number word = is_some (number_written word)
 
--- what a number asks for; a word that is none, or whose number is above `most`, is refused
+-- the request of a word's number; 11 where the word is not a number, or its number is above `most`
 abbrev pub with_number : ℕ → List ℕ → (ℕ → Request) → Request
 with_number most word ask =
     elim (number_up_to most word) [ None ↦ Refused BadNumber | Some n ↦ ask n ]
@@ -53,7 +53,7 @@ poke_status b h k value =
     with_number 15 h (λ high.
     with_number 3 k (λ k. poked 15 value (λ n. Status bank high k n))))
 
--- a name that is `r` and a number, or else of no known place
+-- `rK`; any other name is no place
 abbrev pub poke_numbered : List ℕ → List ℕ → Request
 poke_numbered [] value = Refused NotACommand
 poke_numbered (b ∷ k) value =
@@ -68,8 +68,7 @@ poke_plain name value =
     else if bytes_eq name (codes "dcl") then poked 7 value (λ bank. Dcl bank)
     else poke_numbered name value
 
--- by the number of parts between dots; that a place has no known form is told before a number out
--- of range
+-- by the number of parts between dots: the form of the place (10) is judged before any range (11)
 abbrev pub poke_parts : List (List ℕ) → List ℕ → Request
 poke_parts (name ∷ []) value = poke_plain name value
 poke_parts (name ∷ a ∷ []) value =
@@ -144,8 +143,8 @@ request_of_words (word ∷ a ∷ []) = request_with_one word a
 request_of_words (word ∷ a ∷ b ∷ []) = request_with_two word a b
 request_of_words words = Refused NotACommand
 
--- What a line asks for. That it is too long is told first, and then that it has a byte that no
--- command line may have.
+-- What a line asks for. Too long (12) is judged first, then a byte that no command line may have (14);
+-- only then is it read.
 unfoldable pub request_of : List ℕ → Request
 request_of line =
     if nat_lt LINE_BYTES (length line) then Refused LineTooLong

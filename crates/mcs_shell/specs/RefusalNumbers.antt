@@ -15,7 +15,7 @@ use Rattle.mcs_shell.specs.declared.refusal.Refusal.TheVariants as refusal
 use Rattle.mcs_shell.specs.declared.texts.TextFault.{TextFault}
 use Rattle.mcs_shell.specs.declared.texts.TextFault.TheVariants as text_fault
 
--- the numbers that texts are reported as that are refused whatever their lines say
+-- the numbers of texts that are refused whatever their lines say
 abbrev pub text_fault_number : TextFault → ℕ
 text_fault_number text_fault.NoEnd = NO_END
 text_fault_number text_fault.TextTooLong = TEXT_TOO_LONG

@@ -28,7 +28,7 @@ abbrev pub last_line : List ℕ → List (List ℕ)
 last_line [] = []
 last_line (b ∷ line) = without_cr (b ∷ line) ∷ []
 
--- the lines from within a line on
+-- the lines of a text, where `line` is what was already read of the first
 unfoldable pub lines_after : List ℕ → List ℕ → List (List ℕ)
 lines_after line [] = last_line line
 lines_after line (b ∷ bytes) =
@@ -86,8 +86,8 @@ address_of lines (suc i) = next_at (ith_line lines i) (address_of lines i)
 abbrev pub Names : Type 0
 Names = List (List ℕ × ℕ)
 
--- the name that a line defines, with its value: a label has the address of its line's statement,
--- which is the one before an `ORG`; a `NAME = NUMBER` has its number
+-- the name that a line defines, with its value: a label has the address of its line's statement (on
+-- an `ORG` line: the address before it); a `NAME = NUMBER` has its number
 abbrev pub definition : Option SourceLine → ℕ → Option (List ℕ × ℕ)
 definition (Some (Code label s)) at = option_map (λ w. (w, at)) label
 definition (Some (Define w n)) at = Some (w, n)
@@ -102,7 +102,7 @@ names_before lines i =
 abbrev pub all_names : List (Option SourceLine) → Names
 all_names lines = names_before lines (length lines)
 
--- ---- faults of class one
+-- ---- faults of class one: 30, 31, 36, 37, and 33 of `ORG` and `=`. They show from a line and those before it.
 
 -- fault 31: a name that an earlier line defines
 abbrev pub is_known : List ℕ → Names → Bool
@@ -217,7 +217,7 @@ abbrev pub bytes_or_none : Result (List ℕ) SourceFault → List ℕ
 bytes_or_none (Ok bytes) = bytes
 bytes_or_none (Err f) = []
 
--- the (address, byte) pairs of line i; none where it has one of these faults
+-- the (address, byte) pairs of line i; none where it has one of the faults 32, 33 and 34
 abbrev pub line_pairs : List (Option SourceLine) → Names → ℕ → List (ℕ × ℕ)
 line_pairs lines names i =
     from_address (address_of lines i)
@@ -227,7 +227,8 @@ line_pairs lines names i =
 unfoldable pub pairs_before : List (Option SourceLine) → Names → ℕ → List (ℕ × ℕ)
 pairs_before lines names i = flat_map (line_pairs lines names) (range_with_len 0 i)
 
--- ---- faults of class two
+-- ---- faults of class two: 32 to 35. They need the values of all names, and are looked for only where no line
+-- has one of class one.
 
 -- the first of the faults 32, 33, 34 and 35 that a line has, if any: of its bytes; else 35 where
 -- `pairs`, those of the lines before it, have one of its addresses
