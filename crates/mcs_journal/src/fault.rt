@@ -11,7 +11,7 @@ pub enum OpenFault {
     /// The size or the name is not that of a session file (50).
     #[error("the disk holds no session file")]
     NotASession,
-    /// Size and name are right, and the bytes hold no pair of a snapshot and records (51).
+    /// Size and name are right, and the bytes hold no contents: no snapshot with its records (51).
     #[error("the session file is damaged")]
     Damaged,
     /// A call on the disk failed (53).

@@ -7,7 +7,7 @@ ghost use Rattle.mcs_journal.specs.File.{Holds, ContentsAreUnique};
 
 use mcs_disk::Disk;
 
-/// Any file holds at most one pair of a snapshot and records, so what [`open`](crate::Store::open)
+/// Any file holds at most one snapshot and list of records, so what [`open`](crate::Store::open)
 /// answers is determined by the bytes.
 pub fn contents_are_unique()
     ensures { ContentsAreUnique }

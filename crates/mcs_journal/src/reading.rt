@@ -1,4 +1,4 @@
-//! Reads the pair that a disk holds. Nothing here writes.
+//! Reads the contents of a disk: its snapshot and records. Nothing here writes.
 ghost use Rattle.std.specs.Prelude.{◌≡◌, ◌≢◌, ◌≤◌, ◌<◌, ◌+◌, ◌^◌, List, ℕ, length, slice_index, IfOk, IfSome, IfNone, OnOk, IsErrOf};
 ghost use Rattle.mcs_disk.specs.Disk.{IsCall, part};
 ghost use Rattle.mcs_disk.specs.Moments.{CountsFault, IsDurable, AddsNoImage};
@@ -170,7 +170,7 @@ pub struct Found {
     pub log: Log,
 }
 
-/// Syncs, and reads the pair that the disk holds.
+/// Syncs, and reads the contents that the disk holds.
 ///
 /// Without the sync, what is read may be lost by a power cut that comes after the answer.
 pub fn read_contents<D: Disk>(alloc: Global, disk: &mut D) -> Result<Found, OpenFault>

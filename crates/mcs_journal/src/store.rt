@@ -98,7 +98,7 @@ impl<D: Disk + Drop> Store<D> {
         }
     }
 
-    /// Opens the pair that the disk holds. It writes nothing, and a refusal hands the disk back.
+    /// Opens the contents that the disk holds. It writes nothing, and a refusal hands the disk back.
     pub fn open(alloc: Global, disk: D) -> Result<Opened<D>, (OpenFault, D)>
         // on any disk
         ensures live { IfOk result (λ opened. IsTrue opened.store.live) }

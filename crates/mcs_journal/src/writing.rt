@@ -83,7 +83,7 @@ pub fn encode_snapshot(buffer: &mut [u8], snap: &[u8])
     buffer[AREA_SIZE] = NOT_COMMITTED;
 }
 
-/// Writes the pair of a snapshot and no records into the slot that is not named, and then names it.
+/// Writes a snapshot and no records into the slot that is not named, and then names it.
 pub fn replace_contents<D: Disk>(
     disk: &mut D,
     buffer: &mut [u8],
