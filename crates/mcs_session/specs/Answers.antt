@@ -65,8 +65,7 @@ LeftRefused fault old new = AddsNoImage old new
 
 -- ---- `apply` and `settle`
 
--- from this state the command leads to that answer and that state, on a session that is open or is
--- not
+-- from this state the command leads to that answer and state, on an open session or a closed one
 abbrev pub Applied : Bool → BenchState → Command → Result Reply SessionFault → BenchState → Type 0
 Applied true s c (Ok r) t = (refusal s c ≡ None) × (r ≡ reply s c) × (t ≡ after s c)
 Applied true s c (Err (Refused f)) t = (refusal s c ≡ Some f) × (t ≡ s)

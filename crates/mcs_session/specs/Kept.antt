@@ -28,8 +28,7 @@ acknowledged_by t moments = count_by (λ m. nat_le m t) moments
 
 -- ---- prefixes
 
--- t is the state after a prefix of these commands from s on, which holds the first j of them at
--- least
+-- t is the state after a prefix of these commands from s on, with the first j of them at least
 pub record IsAfterPrefix
     (s : BenchState) (cs : List Command) (j : ℕ) (t : BenchState) : Type 0 where
   pub count : ℕ

@@ -39,8 +39,7 @@ pub fn what_a_power_cut_left_is_opened<D: Disk, E: Disk>()
         → (fault ≡ OpenFault.Device) ⊎ (fault ≡ OpenFault.NoMemory) }
 {}
 
-/// What a power cut since the acknowledgement of a command left holds that command and those before
-/// it.
+/// What a power cut since a command was acknowledged left holds it and those before it.
 pub fn since_an_acknowledgement_its_commands_are_kept<D: Disk>()
     ensures { (old new : D) (s : BenchState) (done reached : List Command)
         (kept : Kept (D.state old) (D.state new) s done reached) (j moment : ℕ) (image : List ℕ)

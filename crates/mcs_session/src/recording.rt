@@ -1,6 +1,6 @@
 //! The log of a session: the records of its commands, and a snapshot in their place where there is
 //! no room for one more.
-ghost use Rattle.std.specs.Prelude.{◌≡◌, ◌+◌, ◌≤◌, ℕ, List, None, IfOk, IsErr, IsTrue, OnOk, is_ok, length, take};
+ghost use Rattle.std.specs.Prelude.{◌≡◌, ◌+◌, ◌≤◌, None, IfOk, IsErr, IsTrue, OnOk, is_ok, length, take};
 ghost use Rattle.mcs_codec.specs.Codec.{Spells, SpellsState};
 ghost use Rattle.mcs_codec.specs.CommandBytes.{command_bytes};
 ghost use Rattle.mcs_disk.specs.Moments.{CountsFault, LeavesOnly};

@@ -1,6 +1,6 @@
 //! A bench whose commands are recorded on a disk.
 ghost use Rattle.std.specs.Prelude.{◌≡◌, ◌≢◌, ◌⊎◌, ◌↔◌, IsTrue, true, false, IsErrAnd, IfOk, IfErr};
-ghost use Rattle.mcs_disk.specs.Moments.{CountsFault, AddsNoImage};
+ghost use Rattle.mcs_disk.specs.Moments.{CountsFault};
 ghost use Rattle.mcs_journal.specs.Answers.{RefusesCreate};
 ghost use Rattle.mcs_model.specs.BenchState.{new_bench_state};
 ghost use Rattle.mcs_session.specs.Stands.{StandsFor, IsAt};
@@ -148,8 +148,7 @@ impl<D: Disk + Drop> Session<D> {
         &self.bench
     }
 
-    /// Does a command and records it. It is acknowledged by `Ok`: from then on no power cut loses
-    /// it.
+    /// Does a command and records it. By `Ok` it is acknowledged: from then on no power cut loses it.
     ///
     /// Where its record has no room in the log, by its bytes or by the cycles that the log counts,
     /// the state before the command first takes the place of the snapshot and of all records.
