@@ -21,7 +21,7 @@ use Rattle.mcs_version1.specs.Fold.{fold_1}
 use Rattle.mcs_version1.specs.Lift.{lift}
 use Rattle.mcs_version1.proofs.Lifting.{command-lifts}
 use Rattle.mcs_session.specs.Version1.{Replays1, RecordsStandFor1, StandsForLifted}
-use Rattle.mcs_session.specs.Stands.{Replays, RecordsStandFor, StandsFor, StandsByEither, HoldsState, IsAt}
+use Rattle.mcs_session.specs.Stands.{Replays, RecordsStandFor, StandsFor, StandsByEither, StandsSince, HoldsState, IsAt, IsAtLifted}
 use Rattle.mcs_session.specs.Answers.{CreatesSession, FailsMigrating, LeftRefused, MayMigrate, OpensSession, RefusesSession}
 use Rattle.mcs_session.specs.Invariant.{IsRecorded, IsReplayed, MayReplace, Replaced}
 use Rattle.mcs_session.proofs.Records.{same_pair_state}
@@ -247,18 +247,17 @@ one_either file s t (inr a) (inl b) = sym (one_state file t s b (inr a))
 one_either file s t (inr a) (inr b) = one_first file s t a b
 
 -- a disk whose every image stands for a state by version 1
-pub stays_first : (old new : DiskState) (s u : BenchState) → MayMigrate old new u → u ≡ s → ((image : List ℕ) → old.since old.clock image → StandsForLifted image s) → (image : List ℕ) → new.since old.clock image → StandsByEither image s
+pub stays_first : (old new : DiskState) (s u : BenchState) → MayMigrate old new u → u ≡ s → IsAtLifted old s → StandsSince old.clock new s
 stays_first old new s u moments same each image left = ⊎_elim (λ before. inr (each image before)) (λ now. subst (λ (x : BenchState). StandsByEither image x) same now) (moments.each image left)
 
-pub opens_first : (old new : DiskState) (s u : BenchState) → IsLawful old → ((image : List ℕ) → old.since old.clock image → StandsForLifted image s) → OpensSession old new u
-    → (u ≡ s) × (HoldsState new.bytes s × ((image : List ℕ) → new.since old.clock image → StandsByEither image s))
+pub opens_first : (old new : DiskState) (s u : BenchState) → IsLawful old → IsAtLifted old s → OpensSession old new u
+    → (u ≡ s) × (HoldsState new.bytes s × StandsSince old.clock new s)
 opens_first old new s u lawful each opens =
     let here : StandsForLifted old.bytes s = each old.bytes (lawful.counts_now old.clock old.bytes (omega arith) lawful.current) in
     let same : u ≡ s = one_either old.bytes u s opens.stands (inr here) in
     (same, (subst (HoldsState new.bytes) same (opens.migrated (subst (StandsForLifted old.bytes) (sym same) here)), stays_first old new s u opens.moments same each))
 
-pub fails_first : (old new : DiskState) (s : BenchState) → IsLawful old → ((image : List ℕ) → old.since old.clock image → StandsForLifted image s) → FailsMigrating old new
-    → (image : List ℕ) → new.since old.clock image → StandsByEither image s
+pub fails_first : (old new : DiskState) (s : BenchState) → IsLawful old → IsAtLifted old s → FailsMigrating old new → StandsSince old.clock new s
 fails_first old new s lawful each fails =
     let here : StandsForLifted old.bytes s = each old.bytes (lawful.counts_now old.clock old.bytes (omega arith) lawful.current) in
     stays_first old new s fails.state fails.moments (one_first old.bytes fails.state s fails.stands here) each

@@ -25,12 +25,14 @@ pub record CreatesSession (old new : DiskState) : Type 0 where
   pub ticks : new.clock ≡ old.clock + 5
   pub moments : KeepsEarlierImages old new
 
--- an image that a power cut may leave of this stretch: one that the disk had before, or one that stands for this state
+-- an image that a power cut may leave of this stretch: one that the disk had before, or one that
+-- stands for this state
 abbrev pub MayMigrate : DiskState → DiskState → BenchState → Type 0
-MayMigrate old new s = LeavesOnly old new (Either (old.since old.clock) (λ file. StandsByEither file s))
+MayMigrate old new s =
+    LeavesOnly old new (Either (old.since old.clock) (λ file. StandsByEither file s))
 
--- The disk stood for this state, and now every image stands for it. A file of version 2 is not written; one of version 1 is
--- replaced by a snapshot of version 2.
+-- The disk stood for this state, and now every image stands for it. A file of version 2 is not
+-- written; one of version 1 is replaced by a snapshot of version 2.
 pub record OpensSession (old new : DiskState) (s : BenchState) : Type 0 where
   pub stands : StandsByEither old.bytes s
   pub moments : MayMigrate old new s
@@ -55,14 +57,15 @@ pub record FailsMigrating (old new : DiskState) : Type 0 where
   pub stands : StandsForLifted old.bytes state
   pub moments : MayMigrate old new state
 
--- what a refused `open` did to the disk: nothing, except for a device fault while a file of version 1 was replaced
+-- what a refused `open` did to the disk: nothing, except for a device fault while a file of version
+-- 1 was replaced
 abbrev pub LeftRefused : OpenFault → DiskState → DiskState → Type 0
 LeftRefused open_fault.Device old new = AddsNoImage old new ⊎ FailsMigrating old new
 LeftRefused fault old new = AddsNoImage old new
 
 -- ---- `apply` and `settle`
 
--- from this state the command leads to that answer and that state, on a session that is open or is not
+-- from this state the command leads to that answer and state, on an open session or a closed one
 abbrev pub Applied : Bool → BenchState → Command → Result Reply SessionFault → BenchState → Type 0
 Applied true s c (Ok r) t = (refusal s c ≡ None) × (r ≡ reply s c) × (t ≡ after s c)
 Applied true s c (Err (Refused f)) t = (refusal s c ≡ Some f) × (t ≡ s)
@@ -73,25 +76,32 @@ Applied live s c result t = ⊥
 -- the session is closed where the device failed, and the count of faults rose there alone
 abbrev pub Closes : {T : Type 0} → Bool → ℕ → Result T SessionFault → Bool → ℕ → Type 0
 Closes live faults (Ok r) new_live new_faults = (new_live ≡ live) × (new_faults ≡ faults)
-Closes live faults (Err Device) new_live new_faults = (new_live ≡ false) × (new_faults ≡ min (faults + 1) most_faults)
+Closes live faults (Err Device) new_live new_faults =
+    (new_live ≡ false) × (new_faults ≡ min (faults + 1) most_faults)
 Closes live faults (Err fault) new_live new_faults = (new_live ≡ live) × (new_faults ≡ faults)
 
 -- at every moment of this stretch a power cut leaves the one state or the other
 abbrev pub MayLeave : DiskState → DiskState → BenchState → BenchState → Type 0
-MayLeave old new s t = LeavesOnly old new (Either (λ file. StandsFor file s) (λ file. StandsFor file t))
+MayLeave old new s t =
+    LeavesOnly old new (Either (λ file. StandsFor file s) (λ file. StandsFor file t))
 
--- an acknowledged command takes four steps of the clock where there was room for its record, and eight where there was none
+-- an acknowledged command takes four steps of the clock where there was room for its record, and
+-- eight where there was none
 abbrev pub Ticks : DiskState → DiskState → Command → Type 0
-Ticks old new c = (HasRoomFor old.bytes c × (new.clock ≡ old.clock + 4)) ⊎ (¬ (HasRoomFor old.bytes c) × (new.clock ≡ old.clock + 8))
+Ticks old new c =
+    (HasRoomFor old.bytes c × (new.clock ≡ old.clock + 4))
+    ⊎ (¬ (HasRoomFor old.bytes c) × (new.clock ≡ old.clock + 8))
 
--- Until the command is acknowledged, a power cut leaves the state before or after, and from then on the state after.
+-- Until the command is acknowledged, a power cut leaves the state before or after, and from then on
+-- the state after.
 pub record Acknowledges (old new : DiskState) (s : BenchState) (c : Command) : Type 0 where
   pub moments : MayLeave old new s (after s c)
   pub ticks : Ticks old new c
   pub now : IsAt new (after s c)
 
 -- what the command does to an honest disk
-abbrev pub Recorded : Result Reply SessionFault → DiskState → DiskState → BenchState → Command → Type 0
+abbrev pub Recorded : Result Reply SessionFault → DiskState → DiskState → BenchState
+    → Command → Type 0
 Recorded (Ok r) old new s c = Acknowledges old new s c
 Recorded (Err Device) old new s c = MayLeave old new s (after s c)
 Recorded (Err fault) old new s c = IsUntouched old new
@@ -107,8 +117,8 @@ MaySettle live result = ⊥
 abbrev pub KeepsState : DiskState → DiskState → BenchState → Type 0
 KeepsState old new s = LeavesOnly old new (λ file. StandsFor file s)
 
--- The disk stood for this state, and now, four steps later, it holds a snapshot of it and no records. At every moment between it stood
--- for this state.
+-- The disk stood for this state, and now, four steps later, it holds a snapshot of it and no
+-- records. At every moment between it stood for this state.
 pub record Settles (old new : DiskState) (s : BenchState) : Type 0 where
   pub stood : StandsFor old.bytes s
   pub holds : HoldsState new.bytes s
@@ -117,7 +127,8 @@ pub record Settles (old new : DiskState) (s : BenchState) : Type 0 where
   pub now : IsAt new s
 
 -- what settling does to an honest disk
-abbrev pub Settled : {T : Type 0} → Result T SessionFault → DiskState → DiskState → BenchState → Type 0
+abbrev pub Settled : {T : Type 0} → Result T SessionFault → DiskState → DiskState
+    → BenchState → Type 0
 Settled (Ok x) old new s = Settles old new s
 Settled (Err Device) old new s = StandsFor old.bytes s × KeepsState old new s
 Settled (Err fault) old new s = IsUntouched old new

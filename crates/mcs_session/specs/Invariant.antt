@@ -1,7 +1,7 @@
 -- What the fields of a session keep, and what its steps do.
-use Rattle.std.specs.Prelude.{◌≡◌, ◌⊎◌, ◌+◌, ◌≤◌, ℕ, List, Bool, IsTrue, length}
+use Rattle.std.specs.Prelude.{◌≡◌, ◌⊎◌, ◌+◌, ◌≤◌, ℕ, List, Bool, IsTrue, Result, length}
 use Rattle.mcs_disk.specs.Disk.{DiskState}
-use Rattle.mcs_disk.specs.Moments.{Either, IsDurable, LeavesOnly}
+use Rattle.mcs_disk.specs.Moments.{Changes, Either, IsDurable, LeavesOnly}
 use Rattle.mcs_journal.specs.File.{Holds}
 use Rattle.mcs_journal.specs.declared.format.TheConstants.{MOST_RECORD, MOST_SNAPSHOT}
 use Rattle.mcs_model.specs.declared.limits.TheConstants.{REPLAY_CYCLES}
@@ -9,32 +9,40 @@ use Rattle.mcs_model.specs.BenchState.{BenchState}
 use Rattle.mcs_session.specs.Cycles.{log_cycles}
 use Rattle.mcs_session.specs.Stands.{HoldsState, HasSpace, RecordsStandFor, StandsFor}
 
--- an honest disk of an open session: whatever a power cut leaves stands for the state of the bench, by a log of that many cycles
+-- an honest disk of an open session: whatever a power cut leaves stands for the state of the bench,
+-- by a log of that many cycles
 pub record IsRecorded (disk : DiskState) (cycles : ℕ) (s : BenchState) : Type 0 where
   pub durable : IsDurable disk
   pub stands : StandsFor disk.bytes s
   pub count : cycles ≡ log_cycles stands.stand.commands
 
--- there is room for the bytes of a command and for a snapshot, and the cycles of the log are within their limit
+-- there is room for the bytes of a command and for a snapshot, and the cycles of the log are within
+-- their limit
 pub record IsReady (cycles : ℕ) (text snapshot : List ℕ) : Type 0 where
   pub text_lent : length text ≡ MOST_RECORD
   pub snapshot_lent : length snapshot ≡ MOST_SNAPSHOT
   pub within : cycles ≤ REPLAY_CYCLES
 
 -- what an open session did is recorded on an honest disk
-pub record IsSession (disk : DiskState) (live : Bool) (cycles : ℕ) (s : BenchState) (text snapshot : List ℕ) : Type 0 where
+pub record IsSession
+    (disk : DiskState) (live : Bool) (cycles : ℕ) (s : BenchState)
+    (text snapshot : List ℕ) : Type 0 where
   pub ready : IsReady cycles text snapshot
   pub recorded : IsTrue live → disk.honest → IsRecorded disk cycles s
 
--- a snapshot and records, of version 1 where `first` is true, stand for this state, by commands of that many cycles
-pub record IsReplayed (first : Bool) (snap : List ℕ) (records : List (List ℕ)) (cycles : ℕ) (s : BenchState) : Type 0 where
+-- a snapshot and records, of version 1 where `first` is true, stand for this state, by commands of
+-- that many cycles
+pub record IsReplayed
+    (first : Bool) (snap : List ℕ) (records : List (List ℕ)) (cycles : ℕ)
+    (s : BenchState) : Type 0 where
   pub stand : RecordsStandFor first snap records s
   pub count : cycles ≡ log_cycles stand.commands
 
--- Room was made for a record of that many bytes and that many cycles, in no step where there was room and else in four. The disk stands
--- for the same state still, by a log of that many cycles.
+-- Room was made for a record of that many bytes and that many cycles, in no step where there was
+-- room and else in four. The disk stands for the same state still, by a log of that many cycles.
 pub record HasMadeRoom (old new : DiskState) (bytes more cycles : ℕ) (s : BenchState) : Type 0 where
-  pub ticks : (HasSpace old.bytes bytes more × (new.clock ≡ old.clock)) ⊎ (¬ (HasSpace old.bytes bytes more) × (new.clock ≡ old.clock + 4))
+  pub ticks : (HasSpace old.bytes bytes more × (new.clock ≡ old.clock))
+      ⊎ (¬ (HasSpace old.bytes bytes more) × (new.clock ≡ old.clock + 4))
   pub recorded : IsRecorded new cycles s
 
 -- a pair stands on an honest disk, and it is all that is there
@@ -45,10 +53,30 @@ pub record IsHeld (disk : DiskState) : Type 0 where
 
 -- until a snapshot of this state is there, the pair of before is
 abbrev pub MayReplace : DiskState → DiskState → List ℕ → List (List ℕ) → BenchState → Type 0
-MayReplace old new snap records s = LeavesOnly old new (Either (λ c. Holds c snap records) (λ c. HoldsState c s))
+MayReplace old new snap records s =
+    LeavesOnly old new (Either (λ c. Holds c snap records) (λ c. HoldsState c s))
 
 -- and now it is there
-pub record Replaced (old new : DiskState) (snap : List ℕ) (records : List (List ℕ)) (s : BenchState) : Type 0 where
+pub record Replaced
+    (old new : DiskState) (snap : List ℕ) (records : List (List ℕ)) (s : BenchState) : Type 0 where
   pub moments : MayReplace old new snap records s
   pub held : HoldsState new.bytes s
   pub durable : IsDurable new
+
+-- a snapshot of this state takes the place of the pair that the disk holds, in four steps
+abbrev pub ReplacesAll : {T E : Type 0} → DiskState → DiskState → BenchState → Result T E → Type 0
+ReplacesAll old new s result =
+    (snap : List ℕ) (records : List (List ℕ)) → Holds old.bytes snap records
+    → Changes 4 old new (λ c. Holds c snap records) (λ c. HoldsState c s) result
+
+-- until a snapshot of this state is there, the pair that the disk held is
+abbrev pub MayReplaceAll : DiskState → DiskState → BenchState → Type 0
+MayReplaceAll old new s =
+    (snap : List ℕ) (records : List (List ℕ)) → Holds old.bytes snap records
+    → MayReplace old new snap records s
+
+-- and now it is there
+abbrev pub ReplacedAll : DiskState → DiskState → BenchState → Type 0
+ReplacedAll old new s =
+    (snap : List ℕ) (records : List (List ℕ)) → Holds old.bytes snap records
+    → Replaced old new snap records s

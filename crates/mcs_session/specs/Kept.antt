@@ -7,7 +7,7 @@ use Rattle.mcs_model.specs.declared.command.Command.{Command}
 use Rattle.mcs_model.specs.BenchState.{BenchState}
 use Rattle.mcs_model.specs.Fold.{fold}
 use Rattle.mcs_session.specs.Answers.{OpensSession}
-use Rattle.mcs_session.specs.Standing.{SessionState, standing_after}
+use Rattle.mcs_session.specs.Standing.{Premise, SessionState, standing_after}
 use Rattle.mcs_session.specs.Stands.{StandsFor, IsAt}
 
 -- ---- the moments of a run: what the clock was as each of its commands was acknowledged
@@ -28,29 +28,34 @@ acknowledged_by t moments = count_by (λ m. nat_le m t) moments
 
 -- ---- prefixes
 
--- t is the state after a prefix of these commands from s on, which holds the first j of them at least
-pub record IsAfterPrefix (s : BenchState) (cs : List Command) (j : ℕ) (t : BenchState) : Type 0 where
+-- t is the state after a prefix of these commands from s on, with the first j of them at least
+pub record IsAfterPrefix
+    (s : BenchState) (cs : List Command) (j : ℕ) (t : BenchState) : Type 0 where
   pub count : ℕ
   pub at_least : j ≤ count
   pub at_most : count ≤ length cs
   pub state : t ≡ fold s (take count cs)
 
 -- the file stands for the state after such a prefix
-pub record StandsForPrefix (s : BenchState) (cs : List Command) (j : ℕ) (file : List ℕ) : Type 0 where
+pub record StandsForPrefix
+    (s : BenchState) (cs : List Command) (j : ℕ) (file : List ℕ) : Type 0 where
   pub state : BenchState
   pub stands : StandsFor file state
   pub after : IsAfterPrefix s cs j state
 
 -- ---- a run
 
--- From the state s the commands `done` were acknowledged, each at its moment, and all of `reached` may have reached the disk.
+-- From the state s the commands `done` were acknowledged, each at its moment, and all of `reached`
+-- may have reached the disk.
 pub record Kept (old new : DiskState) (s : BenchState) (done reached : List Command) : Type 0 where
   pub moments : List ℕ
   pub count : length moments ≡ length done
   pub spaced : IsSpaced old.clock moments
   pub within : last_moment old.clock moments ≤ new.clock
-  -- whatever a power cut at some moment since t left stands for a prefix that holds what was acknowledged by t
-  pub each : (t : ℕ) (image : List ℕ) → old.clock ≤ t → new.since t image → StandsForPrefix s reached (acknowledged_by t moments) image
+  -- whatever a power cut at some moment since t left stands for a prefix that holds what was
+  -- acknowledged by t
+  pub each : (t : ℕ) (image : List ℕ) → old.clock ≤ t → new.since t image
+      → StandsForPrefix s reached (acknowledged_by t moments) image
   pub stretch : KeepsEarlierImages old new
   pub lawful : IsLawful new
 
@@ -60,7 +65,7 @@ pub record KeptWhole (old new : DiskState) (s : BenchState) (cs : List Command) 
   pub now : new.clock ≡ last_moment old.clock kept.moments
 
 -- the premise of what is kept: an open session on an honest disk
-abbrev pub IsOpenOnHonestDisk : SessionState → Type 0
+abbrev pub IsOpenOnHonestDisk : Premise
 IsOpenOnHonestDisk a = IsTrue a.standing.live × a.disk.honest
 
 -- whatever a power cut now leaves stands for this state
@@ -74,7 +79,7 @@ pub record IsSettled (a : SessionState) : Type 0 where
   pub settled : IsSettledAt a.disk a.standing.state
 
 -- The session went on by these commands. `Given` is the premise of what the disk keeps.
-pub record Carries (Given : SessionState → Type 0) (a b : SessionState) (cs : List Command) : Type 0 where
+pub record Carries (Given : Premise) (a b : SessionState) (cs : List Command) : Type 0 where
   pub standing : b.standing ≡ standing_after a.standing cs
   pub same_faults : b.disk.faults ≡ a.disk.faults
   pub size : b.disk.size ≡ a.disk.size
@@ -83,7 +88,8 @@ pub record Carries (Given : SessionState → Type 0) (a b : SessionState) (cs : 
 
 -- ---- reopening
 
--- a power cut of `ran`, now or at some moment since the time t, left a disk that was opened in the state u
+-- a power cut of `ran`, now or at some moment since the time t, left a disk that was opened in the
+-- state u
 pub record IsReopened (t : ℕ) (ran found opened : DiskState) (u : BenchState) : Type 0 where
   pub cut : IsLeftByCut t ran found
   pub opens : OpensSession found opened u

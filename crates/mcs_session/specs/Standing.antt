@@ -26,6 +26,11 @@ pub record SessionState : Type 1 where
   pub standing : Standing
   pub disk : DiskState
 
+-- what holds of a session, as a premise of what follows
+abbrev pub Premise : Type 1
+Premise = SessionState → Type 0
+
 -- the same, where `state_of` is what contracts see of a disk
 abbrev pub session_state : {D : Type 0} → (D → DiskState) → SessionView D → SessionState
-session_state state_of s = record { standing = record { live = s.live; state = s.state }; disk = state_of s.disk }
+session_state state_of s =
+    record { standing = record { live = s.live; state = s.state }; disk = state_of s.disk }

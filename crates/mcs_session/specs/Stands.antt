@@ -1,5 +1,6 @@
--- What a session file stands for, and what it has room for. Where a definition takes a Boolean first, that is true where the
--- snapshot and the records are of version 1; what they stand for is then what version 2 makes of them.
+-- What a session file stands for, and what it has room for. Where a definition takes a Boolean
+-- first, that is true where the snapshot and the records are of version 1; what they stand for is
+-- then what version 2 makes of them.
 use Rattle.std.specs.Prelude.{◌≡◌, ◌⊎◌, ◌+◌, ◌≤◌, ℕ, Bool, false, List, [], ◌∷◌, None, length}
 use Rattle.mcs_codec.specs.Codec.{SpellsBy, SpellsState, SpellsStateBy}
 use Rattle.mcs_codec.specs.CommandBytes.{command_bytes}
@@ -18,10 +19,12 @@ abbrev pub Replays : Bool → BenchState → List (List ℕ) → List Command �
 Replays first s [] [] = Unit {0}
 Replays first s [] (c ∷ cs) = ⊥
 Replays first s (r ∷ rs) [] = ⊥
-Replays first s (r ∷ rs) (c ∷ cs) = SpellsBy first r c × (refusal s c ≡ None) × Replays first (after s c) rs cs
+Replays first s (r ∷ rs) (c ∷ cs) =
+    SpellsBy first r c × (refusal s c ≡ None) × Replays first (after s c) rs cs
 
 -- a snapshot and the records after it stand for this state
-pub record RecordsStandFor (first : Bool) (snap : List ℕ) (records : List (List ℕ)) (s : BenchState) : Type 0 where
+pub record RecordsStandFor
+    (first : Bool) (snap : List ℕ) (records : List (List ℕ)) (s : BenchState) : Type 0 where
   pub start : BenchState
   pub snapshot : SpellsStateBy first snap start
   pub commands : List Command
@@ -49,6 +52,14 @@ pub record HoldsState (file : List ℕ) (s : BenchState) : Type 0 where
 -- whatever a power cut now leaves stands for this state
 abbrev pub IsAt : DiskState → BenchState → Type 0
 IsAt disk s = (image : List ℕ) → disk.since disk.clock image → StandsFor image s
+
+-- the same by version 1: the disk stands for the state carried over from it
+abbrev pub IsAtLifted : DiskState → BenchState → Type 0
+IsAtLifted disk s = (image : List ℕ) → disk.since disk.clock image → StandsForLifted image s
+
+-- whatever a power cut at some moment since this time left stands for this state, by either version
+abbrev pub StandsSince : ℕ → DiskState → BenchState → Type 0
+StandsSince t disk s = (image : List ℕ) → disk.since t image → StandsByEither image s
 
 -- a file has room for one more record of that many bytes, and for that many more cycles in its log
 pub record HasSpace (file : List ℕ) (bytes cycles : ℕ) : Type 0 where

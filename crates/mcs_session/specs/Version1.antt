@@ -16,10 +16,12 @@ abbrev pub Replays1 : BenchState1 → List (List ℕ) → List Command → Type 
 Replays1 s [] [] = Unit {0}
 Replays1 s [] (c ∷ cs) = ⊥
 Replays1 s (r ∷ rs) [] = ⊥
-Replays1 s (r ∷ rs) (c ∷ cs) = (Spells r c × (in_version_1 c ≡ true)) × (refusal_1 s c ≡ None) × Replays1 (after_1 s c) rs cs
+Replays1 s (r ∷ rs) (c ∷ cs) =
+    (Spells r c × (in_version_1 c ≡ true)) × (refusal_1 s c ≡ None) × Replays1 (after_1 s c) rs cs
 
 -- a snapshot and the records after it stand for this state of version 1
-pub record RecordsStandFor1 (snap : List ℕ) (records : List (List ℕ)) (s : BenchState1) : Type 0 where
+pub record RecordsStandFor1
+    (snap : List ℕ) (records : List (List ℕ)) (s : BenchState1) : Type 0 where
   pub start : BenchState1
   pub snapshot : SpellsState1 snap start
   pub commands : List Command

@@ -1,4 +1,5 @@
-//! Laws of session files and of what a disk keeps. The contract of each call is the law; the call does nothing.
+//! Laws of session files and of what a disk keeps. The contract of each call is the law; the call
+//! does nothing.
 ghost use Rattle.std.specs.Prelude.{◌≡◌, ◌⊎◌, ◌+◌, ◌≤◌, ℕ, List, length, slice_get};
 ghost use Rattle.mcs_disk.specs.PowerCut.{IsLeftByCut};
 ghost use Rattle.mcs_journal.specs.declared.fault.OpenFault.{OpenFault};
@@ -6,36 +7,39 @@ ghost use Rattle.mcs_model.specs.declared.command.Command.{Command};
 ghost use Rattle.mcs_model.specs.BenchState.{BenchState};
 ghost use Rattle.mcs_model.specs.Fold.{fold};
 ghost use Rattle.mcs_session.specs.Answers.{FailsMigrating, OpensSession, RefusesSession};
-ghost use Rattle.mcs_session.specs.Version1.{StandsForLifted};
 ghost use Rattle.mcs_session.specs.Kept.{IsAfterPrefix, IsReopened, Kept, StandsForPrefix, acknowledged_by};
-ghost use Rattle.mcs_session.specs.Stands.{HoldsState, StandsByEither, StandsFor};
+ghost use Rattle.mcs_session.specs.Stands.{HoldsState, IsAtLifted, StandsByEither, StandsFor, StandsSince};
 
 use mcs_disk::Disk;
 use mcs_journal::OpenFault;
 
 /// A file stands for at most one state, whichever version it has.
 pub fn file_stands_for_one_state()
-    ensures { (file : List ℕ) (s t : BenchState) → StandsByEither file s → StandsByEither file t → s ≡ t }
+    ensures { (file : List ℕ) (s t : BenchState)
+        → StandsByEither file s → StandsByEither file t → s ≡ t }
 {}
 
-/// Where a power cut, at some moment since a time of a run, leaves a disk that is then opened: the bench stands as after a
-/// prefix of the commands that may have reached the disk, and the prefix holds each one acknowledged by that time.
+/// Where a power cut, at some moment since a time of a run, leaves a disk that is then opened: the
+/// bench stands as after a prefix of the commands that may have reached the disk, and the prefix
+/// holds each one acknowledged by that time.
 pub fn reopened_bench_holds_what_was_acknowledged<D: Disk, E: Disk>()
-    ensures { (t : ℕ) (old new : D) (found opened : E) (s u : BenchState) (done reached : List Command)
-        (kept : Kept (D.state old) (D.state new) s done reached) → (D.state old).clock ≤ t
+    ensures { (t : ℕ) (old new : D) (found opened : E) (s u : BenchState)
+        (done reached : List Command) (kept : Kept (D.state old) (D.state new) s done reached)
+        → (D.state old).clock ≤ t
         → IsReopened t (D.state new) (E.state found) (E.state opened) u
         → IsAfterPrefix s reached (acknowledged_by t kept.moments) u }
 {}
 
 /// What a power cut leaves of a run is opened, except for lack of memory and a device fault.
 pub fn what_a_power_cut_left_is_opened<D: Disk, E: Disk>()
-    ensures { (t : ℕ) (old new : D) (found : E) (s : BenchState) (done reached : List Command) (fault : OpenFault)
+    ensures { (t : ℕ) (old new : D) (found : E) (s : BenchState) (done reached : List Command)
+        (fault : OpenFault)
         → Kept (D.state old) (D.state new) s done reached → (D.state old).clock ≤ t
         → IsLeftByCut t (D.state new) (E.state found) → RefusesSession fault (E.state found)
         → (fault ≡ OpenFault.Device) ⊎ (fault ≡ OpenFault.NoMemory) }
 {}
 
-/// What a power cut since the acknowledgement of a command left holds that command and those before it.
+/// What a power cut since a command was acknowledged left holds it and those before it.
 pub fn since_an_acknowledgement_its_commands_are_kept<D: Disk>()
     ensures { (old new : D) (s : BenchState) (done reached : List Command)
         (kept : Kept (D.state old) (D.state new) s done reached) (j moment : ℕ) (image : List ℕ)
@@ -43,27 +47,26 @@ pub fn since_an_acknowledgement_its_commands_are_kept<D: Disk>()
         → StandsForPrefix s reached (j + 1) image }
 {}
 
-/// What a power cut at the end of a run leaves holds all that was acknowledged; where no call failed, it stands for the
-/// state after all commands.
+/// What a power cut at the end of a run leaves holds all that was acknowledged; where no call
+/// failed, it stands for the state after all commands.
 pub fn at_the_end_all_is_kept<D: Disk>()
-    ensures acknowledged { (old new : D) (s : BenchState) (done reached : List Command) (image : List ℕ)
-        → Kept (D.state old) (D.state new) s done reached → (D.state new).images image
-        → StandsForPrefix s reached (length done) image }
+    ensures acknowledged { (old new : D) (s : BenchState) (done reached : List Command)
+        (image : List ℕ) → Kept (D.state old) (D.state new) s done reached
+        → (D.state new).images image → StandsForPrefix s reached (length done) image }
     ensures whole { (old new : D) (s : BenchState) (commands : List Command) (image : List ℕ)
         → Kept (D.state old) (D.state new) s commands commands → (D.state new).images image
         → StandsFor image (fold s commands) }
 {}
 
-/// A session of version 1 is opened in the state that it stood for, carried over. Whatever a power cut since the opening
-/// began leaves stands for that state, also where the opening failed; once it is open, the disk holds a snapshot of version 2
-/// and no records.
+/// A session of version 1 is opened in the state that it stood for, carried over. Whatever a power
+/// cut since the opening began leaves stands for that state, also where the opening failed; once it
+/// is open, the disk holds a snapshot of version 2 and no records.
 pub fn a_file_of_version_1_keeps_its_state<D: Disk>()
     ensures opened { (old new : D) (s u : BenchState) → (D.state old).honest
-        → ((image : List ℕ) → (D.state old).since (D.state old).clock image → StandsForLifted image s)
-        → OpensSession (D.state old) (D.state new) u
-        → (u ≡ s) × (HoldsState (D.state new).bytes s × ((image : List ℕ) → (D.state new).since (D.state old).clock image → StandsByEither image s)) }
+        → IsAtLifted (D.state old) s → OpensSession (D.state old) (D.state new) u
+        → (u ≡ s) × (HoldsState (D.state new).bytes s
+        × StandsSince (D.state old).clock (D.state new) s) }
     ensures failed { (old new : D) (s : BenchState) → (D.state old).honest
-        → ((image : List ℕ) → (D.state old).since (D.state old).clock image → StandsForLifted image s)
-        → FailsMigrating (D.state old) (D.state new)
-        → (image : List ℕ) → (D.state new).since (D.state old).clock image → StandsByEither image s }
+        → IsAtLifted (D.state old) s → FailsMigrating (D.state old) (D.state new)
+        → StandsSince (D.state old).clock (D.state new) s }
 {}

@@ -1,21 +1,23 @@
-//! The log of a session: the records of its commands, and a snapshot in their place where there is no room for one more.
-ghost use Rattle.std.specs.Prelude.{◌≡◌, ◌+◌, ◌≤◌, ℕ, List, None, IsErr, IsTrue, OnOk, is_ok, length, take};
+//! The log of a session: the records of its commands, and a snapshot in their place where there is
+//! no room for one more.
+ghost use Rattle.std.specs.Prelude.{◌≡◌, ◌+◌, ◌≤◌, None, IfOk, IsErr, IsTrue, OnOk, is_ok, length, take};
 ghost use Rattle.mcs_codec.specs.Codec.{Spells, SpellsState};
 ghost use Rattle.mcs_codec.specs.CommandBytes.{command_bytes};
-ghost use Rattle.mcs_disk.specs.Moments.{Changes, CountsFault, LeavesOnly};
-ghost use Rattle.mcs_journal.specs.File.{HasRoom, Holds};
+ghost use Rattle.mcs_disk.specs.Moments.{CountsFault, LeavesOnly};
+ghost use Rattle.mcs_journal.specs.File.{HasRoom};
 ghost use Rattle.mcs_model.specs.Command.{after, refusal};
 ghost use Rattle.mcs_session.specs.Answers.{Acknowledges, MayLeave};
-ghost use Rattle.mcs_session.specs.Invariant.{HasMadeRoom, IsReady, IsRecorded};
-ghost use Rattle.mcs_session.specs.Stands.{HoldsState, StandsFor};
+ghost use Rattle.mcs_session.specs.Invariant.{HasMadeRoom, IsReady, IsRecorded, ReplacesAll};
+ghost use Rattle.mcs_session.specs.Stands.{StandsFor};
 
 use crate::replaying::replay_cycles;
 use mcs_bench::Bench;
-use mcs_codec::{command_bytes, state_bytes};
+use mcs_codec::{COMMAND_BYTES, STATE_BYTES, command_bytes, state_bytes};
 use mcs_disk::{Disk, DiskFault};
 use mcs_journal::{MOST_RECORD, MOST_SNAPSHOT, Store};
 use mcs_model::command::Command;
 use mcs_model::limits::REPLAY_CYCLES;
+use std::alloc::{AllocError, Global};
 
 /// A store whose records are those of commands, and what it takes to add one.
 #[derive(Drop)]
@@ -27,6 +29,16 @@ pub struct CommandLog<D: Disk + Drop> {
     pub payload: Vec<u8>,
     /// Room for a snapshot.
     pub snapshot: Vec<u8>,
+}
+
+/// Room for the bytes of a command, and room for a snapshot.
+pub(crate) fn log_buffers(alloc: Global) -> Result<(Vec<u8>, Vec<u8>), AllocError>
+    ensures { IfOk result (λ buffers. (length buffers.0.items ≡ MOST_RECORD)
+        × (length buffers.1.items ≡ MOST_SNAPSHOT)) }
+{
+    let payload = vec![in alloc; 0u8; COMMAND_BYTES]?;
+    let snapshot = vec![in alloc; 0u8; STATE_BYTES]?;
+    Ok((payload, snapshot))
 }
 
 /// Spells a command at the front of a buffer, and answers how many bytes it took.
@@ -56,14 +68,14 @@ impl<D: Disk + Drop> CommandLog<D> {
         requires live { IsTrue self.old.store.live }
         requires ready { IsReady self.old.cycles self.old.payload.items self.old.snapshot.items }
         ensures live { self.new.store.live ≡ is_ok result }
-        ensures counts { CountsFault (D.state self.old.store.disk) (D.state self.new.store.disk) (IsErr result) }
+        ensures counts { CountsFault (D.state self.old.store.disk) (D.state self.new.store.disk)
+            (IsErr result) }
         ensures payload { self.new.payload ≡ self.old.payload }
         ensures used { OnOk result ((self.new.store.used ≡ 0) × (self.new.cycles ≡ 0)) }
         ensures ready { IsReady self.new.cycles self.new.payload.items self.new.snapshot.items }
         ensures replaces { (D.state self.old.store.disk).honest
-            → (snap : List ℕ) (records : List (List ℕ)) → Holds (D.state self.old.store.disk).bytes snap records
-            → Changes 4 (D.state self.old.store.disk) (D.state self.new.store.disk)
-            (λ c. Holds c snap records) (λ c. HoldsState c bench.now) result }
+            → ReplacesAll (D.state self.old.store.disk) (D.state self.new.store.disk)
+            bench.now result }
     {
         let length = encode_state(&mut self.snapshot, bench);
         match self.store.replace(&self.snapshot.as_slice()[..length]) {
@@ -75,15 +87,16 @@ impl<D: Disk + Drop> CommandLog<D> {
         }
     }
 
-    /// Makes room for a record of `count` bytes and for `more` cycles: where there is none, a snapshot of the bench takes the
-    /// place of all that the store holds.
+    /// Makes room for a record of `count` bytes and for `more` cycles: where there is none, a
+    /// snapshot of the bench takes the place of all that the store holds.
     fn make_room(&mut self, bench: &Bench, count: usize, more: u32) -> Result<(), DiskFault>
         requires live { IsTrue self.old.store.live }
         requires count { count ≤ MOST_RECORD }
         requires more { more ≤ REPLAY_CYCLES }
         requires ready { IsReady self.old.cycles self.old.payload.items self.old.snapshot.items }
         ensures live { self.new.store.live ≡ is_ok result }
-        ensures counts { CountsFault (D.state self.old.store.disk) (D.state self.new.store.disk) (IsErr result) }
+        ensures counts { CountsFault (D.state self.old.store.disk) (D.state self.new.store.disk)
+            (IsErr result) }
         ensures payload { self.new.payload ≡ self.old.payload }
         ensures ready { IsReady self.new.cycles self.new.payload.items self.new.snapshot.items }
         ensures room { OnOk result
@@ -109,7 +122,8 @@ impl<D: Disk + Drop> CommandLog<D> {
         requires accepted { refusal bench.now command.now ≡ None }
         requires ready { IsReady self.old.cycles self.old.payload.items self.old.snapshot.items }
         ensures live { self.new.store.live ≡ is_ok result }
-        ensures counts { CountsFault (D.state self.old.store.disk) (D.state self.new.store.disk) (IsErr result) }
+        ensures counts { CountsFault (D.state self.old.store.disk) (D.state self.new.store.disk)
+            (IsErr result) }
         ensures ready { IsReady self.new.cycles self.new.payload.items self.new.snapshot.items }
         ensures moments { (D.state self.old.store.disk).honest
             → IsRecorded (D.state self.old.store.disk) self.old.cycles bench.now

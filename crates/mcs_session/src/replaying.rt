@@ -48,7 +48,8 @@ fn may_stand(first: bool, command: &Command) -> bool
     !first || in_version_1(command)
 }
 
-/// The bench that a snapshot and the records after it stand for, or none. All are of the version that the snapshot tells.
+/// The bench that a snapshot and the records after it stand for, or none. All are of the version
+/// that the snapshot tells.
 pub(crate) fn replay(
     alloc: Global,
     snap: &[u8],

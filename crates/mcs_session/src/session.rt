@@ -1,18 +1,16 @@
 //! A bench whose commands are recorded on a disk.
-ghost use Rattle.std.specs.Prelude.{◌≡◌, ◌≢◌, ◌⊎◌, ◌↔◌, IsTrue, ℕ, List, true, false, IsErrAnd, IfOk, IfErr};
-ghost use Rattle.mcs_disk.specs.Moments.{CountsFault, AddsNoImage};
+ghost use Rattle.std.specs.Prelude.{◌≡◌, ◌≢◌, ◌⊎◌, ◌↔◌, IsTrue, true, false, IsErrAnd, IfOk, IfErr};
+ghost use Rattle.mcs_disk.specs.Moments.{CountsFault};
 ghost use Rattle.mcs_journal.specs.Answers.{RefusesCreate};
 ghost use Rattle.mcs_model.specs.BenchState.{new_bench_state};
 ghost use Rattle.mcs_session.specs.Stands.{StandsFor, IsAt};
-ghost use Rattle.mcs_journal.specs.File.{Holds};
 ghost use Rattle.mcs_session.specs.Answers.{Applied, Closes, CreatesSession, LeftRefused, MaySettle, OpensSession, Recorded, RefusesSession, Settled};
-ghost use Rattle.mcs_session.specs.Invariant.{IsHeld, IsReady, IsRecorded, MayReplace, Replaced};
+ghost use Rattle.mcs_session.specs.Invariant.{IsHeld, IsReady, IsRecorded, MayReplaceAll, ReplacedAll};
 
 use crate::fault::SessionFault;
-use crate::recording::{CommandLog, encode_state};
+use crate::recording::{CommandLog, encode_state, log_buffers};
 use crate::replaying::{Replayed, replay};
 use mcs_bench::Bench;
-use mcs_codec::{COMMAND_BYTES, STATE_BYTES};
 use mcs_disk::{Disk, DiskFault};
 use mcs_journal::{CreateFault, FILE_SIZE, OpenFault, Opened, Store};
 use mcs_model::command::{Command, Reply};
@@ -21,8 +19,8 @@ use std::marker::Model;
 
 /// A bench on a disk: each accepted command is recorded there before it is answered.
 ///
-/// Once a command was answered with a device fault the session is closed. The disk then stands for the state before that
-/// command or after it, and opening it again tells which.
+/// Once a command was answered with a device fault the session is closed. The disk then stands for
+/// the state before that command or after it, and opening it again tells which.
 #[derive(Drop)]
 pub struct Session<D: Disk + Drop> {
     log: CommandLog<D>,
@@ -35,17 +33,19 @@ impl<D: Disk + Drop> Model for Session<D> {
 
     ghost Value = { SessionView D };
 
-    ghost view = { λ s. record { disk = s.log.store.disk; live = s.log.store.live; state = s.bench } };
+    ghost view = { λ s.
+        record { disk = s.log.store.disk; live = s.log.store.live; state = s.bench } };
 
-    ghost invariant = { λ s. IsSession (D.state s.log.store.disk) s.log.store.live s.log.cycles s.bench
-        s.log.payload.items s.log.snapshot.items };
+    ghost invariant = { λ s. IsSession (D.state s.log.store.disk) s.log.store.live s.log.cycles
+        s.bench s.log.payload.items s.log.snapshot.items };
 }
 
 impl<D: Disk + Drop> Session<D> {
     /// Makes the session of a new bench on a blank disk.
     ///
-    /// It is refused for lack of memory (90), where the disk is not blank (55; nothing is written then), and where a call on
-    /// it failed (53; what the disk then holds is not said). A refusal hands the disk back.
+    /// It is refused for lack of memory (90), where the disk is not blank (55; nothing is written
+    /// then), and where a call on it failed (53; what the disk then holds is not said). A refusal
+    /// hands the disk back.
     pub fn create(alloc: Global, disk: D) -> Result<Session<D>, (CreateFault, D)>
         // on any disk
         ensures open { IfOk result (λ s. IsTrue s.live) }
@@ -65,10 +65,7 @@ impl<D: Disk + Drop> Session<D> {
         ensures refused { (D.state disk).honest → IfErr result (λ refused.
             RefusesCreate refused.0 (D.state disk) (D.state refused.1)) }
     {
-        let Ok(payload) = vec![in alloc; 0u8; COMMAND_BYTES] else {
-            return Err((CreateFault::NoMemory, disk));
-        };
-        let Ok(mut snapshot) = vec![in alloc; 0u8; STATE_BYTES] else {
+        let Ok((payload, mut snapshot)) = log_buffers(alloc) else {
             return Err((CreateFault::NoMemory, disk));
         };
         let Ok(bench) = Bench::new(alloc) else {
@@ -89,11 +86,13 @@ impl<D: Disk + Drop> Session<D> {
         }
     }
 
-    /// Opens the session that a disk holds. Nothing is written to a file of version 2. In a file of version 1 a snapshot of
-    /// version 2 takes the place of what it holds, once all memory was taken: it stands for the same state at every moment.
+    /// Opens the session that a disk holds. Nothing is written to a file of version 2. In a file of
+    /// version 1 a snapshot of version 2 takes the place of what it holds, once all memory was
+    /// taken: it stands for the same state at every moment.
     ///
-    /// It is refused for lack of memory (90), where size or name is not that of a session file (50), where the bytes stand
-    /// for no state otherwise (51), and where a call on the disk failed (53). A refusal hands the disk back.
+    /// It is refused for lack of memory (90), where size or name is not that of a session file
+    /// (50), where the bytes stand for no state otherwise (51), and where a call on the disk failed
+    /// (53). A refusal hands the disk back.
     pub fn open(alloc: Global, disk: D) -> Result<Session<D>, (OpenFault, D)>
         // on any disk
         ensures open { IfOk result (λ s. IsTrue s.live) }
@@ -108,12 +107,10 @@ impl<D: Disk + Drop> Session<D> {
         ensures opened { (D.state disk).honest → IfOk result (λ s.
             OpensSession (D.state disk) (D.state s.disk) s.state) }
         ensures refused { (D.state disk).honest → IfErr result (λ refused.
-            RefusesSession refused.0 (D.state disk) × LeftRefused refused.0 (D.state disk) (D.state refused.1)) }
+            RefusesSession refused.0 (D.state disk)
+            × LeftRefused refused.0 (D.state disk) (D.state refused.1)) }
     {
-        let Ok(payload) = vec![in alloc; 0u8; COMMAND_BYTES] else {
-            return Err((OpenFault::NoMemory, disk));
-        };
-        let Ok(snapshot) = vec![in alloc; 0u8; STATE_BYTES] else {
+        let Ok(buffers) = log_buffers(alloc) else {
             return Err((OpenFault::NoMemory, disk));
         };
         match Store::open(alloc, disk) {
@@ -124,26 +121,10 @@ impl<D: Disk + Drop> Session<D> {
                     records,
                 },
             ) => match replay(alloc, snap.bytes(), &records) {
-                Ok(
-                    Some(
-                        Replayed {
-                            bench,
-                            cycles,
-                            first,
-                        },
-                    ),
-                ) => {
-                    let log = CommandLog {
-                        store,
-                        cycles,
-                        payload,
-                        snapshot,
-                    };
-                    match begin(log, bench, first) {
-                        Ok(session) => Ok(session),
-                        Err(refused) => Err(refused),
-                    }
-                }
+                Ok(Some(replayed)) => match begin(store, buffers, replayed) {
+                    Ok(session) => Ok(session),
+                    Err(refused) => Err(refused),
+                },
                 Ok(None) => Err((OpenFault::Damaged, store.into_disk())),
                 Err(_) => Err((OpenFault::NoMemory, store.into_disk())),
             },
@@ -167,13 +148,13 @@ impl<D: Disk + Drop> Session<D> {
         &self.bench
     }
 
-    /// Does a command and records it. It is acknowledged by `Ok`: from then on no power cut loses it.
+    /// Does a command and records it. By `Ok` it is acknowledged: from then on no power cut loses it.
     ///
-    /// Where its record has no room in the log, by its bytes or by the cycles that the log counts, the state before the command
-    /// first takes the place of the snapshot and of all records.
+    /// Where its record has no room in the log, by its bytes or by the cycles that the log counts,
+    /// the state before the command first takes the place of the snapshot and of all records.
     ///
-    /// It is refused on a closed session (54), where the bench refuses it (41 to 47), and where a call on the disk failed
-    /// (53). Each refusal but the last leaves the disk untouched.
+    /// It is refused on a closed session (54), where the bench refuses it (41 to 47), and where a
+    /// call on the disk failed (53). Each refusal but the last leaves the disk untouched.
     pub fn apply(&mut self, command: &Command) -> Result<Reply, SessionFault>
         // on any disk
         ensures applied { Applied self.old.live self.old.state command.now result self.new.state }
@@ -186,7 +167,8 @@ impl<D: Disk + Drop> Session<D> {
 
         // on an honest disk
         ensures records { (D.state self.old.disk).honest
-            → Recorded result (D.state self.old.disk) (D.state self.new.disk) self.old.state command.now }
+            → Recorded result (D.state self.old.disk) (D.state self.new.disk)
+            self.old.state command.now }
     {
         if !self.log.store.is_open() {
             return Err(SessionFault::Closed);
@@ -198,8 +180,8 @@ impl<D: Disk + Drop> Session<D> {
         }
     }
 
-    /// Puts a snapshot of the bench in the place of all that the disk holds: opening it then has no command to do again. The
-    /// state stays, and at every moment the disk stands for it.
+    /// Puts a snapshot of the bench in the place of all that the disk holds: opening it then has no
+    /// command to do again. The state stays, and at every moment the disk stands for it.
     ///
     /// It is refused on a closed session (54), and where a call on the disk failed (53).
     pub fn settle(&mut self) -> Result<(), SessionFault>
@@ -243,26 +225,36 @@ impl<D: Disk + Drop> Session<D> {
     }
 }
 
-/// The session of a log that was replayed, of version 1 where `first` is true: a snapshot of the bench then takes the place of
-/// all that the disk holds.
+/// The session of a store whose log was replayed. Where that is of version 1, a snapshot of the
+/// bench takes the place of all that the disk holds.
 fn begin<D: Disk + Drop>(
-    mut log: CommandLog<D>,
-    bench: Bench,
-    first: bool,
+    store: Store<D>,
+    buffers: (Vec<u8>, Vec<u8>),
+    replayed: Replayed,
 ) -> Result<Session<D>, (OpenFault, D)>
-    requires live { IsTrue log.store.live }
-    requires ready { IsReady log.cycles log.payload.items log.snapshot.items }
-    requires recorded { first ≡ false → (D.state log.store.disk).honest → IsRecorded (D.state log.store.disk) log.cycles bench }
-    requires held { (D.state log.store.disk).honest → IsHeld (D.state log.store.disk) }
-    ensures open { IfOk result (λ s. IsTrue s.live × (s.state ≡ bench)) }
-    ensures counts { IfOk result (λ s. CountsFault (D.state log.store.disk) (D.state s.disk) ⊥) }
-    ensures same { first ≡ false → IfOk result (λ s. s.disk ≡ log.store.disk) }
-    ensures first { first ≡ true → (D.state log.store.disk).honest → (snap : List ℕ) (records : List (List ℕ))
-        → Holds (D.state log.store.disk).bytes snap records → IfOk result (λ s. Replaced (D.state log.store.disk) (D.state s.disk) snap records bench) }
-    ensures refused { IfErr result (λ r. (r.0 ≡ OpenFault.Device) × ((first ≡ true) × CountsFault (D.state log.store.disk) (D.state r.1) (Unit {0}))) }
-    ensures failed { (D.state log.store.disk).honest → (snap : List ℕ) (records : List (List ℕ))
-        → Holds (D.state log.store.disk).bytes snap records → IfErr result (λ r. MayReplace (D.state log.store.disk) (D.state r.1) snap records bench) }
+    requires live { IsTrue store.live }
+    requires ready { IsReady replayed.cycles buffers.0.items buffers.1.items }
+    requires recorded { replayed.first ≡ false → (D.state store.disk).honest
+        → IsRecorded (D.state store.disk) replayed.cycles replayed.bench }
+    requires held { (D.state store.disk).honest → IsHeld (D.state store.disk) }
+    ensures open { IfOk result (λ s. IsTrue s.live × (s.state ≡ replayed.bench)) }
+    ensures counts { IfOk result (λ s. CountsFault (D.state store.disk) (D.state s.disk) ⊥) }
+    ensures same { replayed.first ≡ false → IfOk result (λ s. s.disk ≡ store.disk) }
+    ensures first { replayed.first ≡ true → (D.state store.disk).honest
+        → IfOk result (λ s. ReplacedAll (D.state store.disk) (D.state s.disk) replayed.bench) }
+    ensures refused { IfErr result (λ r. (r.0 ≡ OpenFault.Device) × ((replayed.first ≡ true)
+        × CountsFault (D.state store.disk) (D.state r.1) (Unit {0}))) }
+    ensures failed { (D.state store.disk).honest
+        → IfErr result (λ r. MayReplaceAll (D.state store.disk) (D.state r.1) replayed.bench) }
 {
+    let (payload, snapshot) = buffers;
+    let (bench, first) = (replayed.bench, replayed.first);
+    let mut log = CommandLog {
+        store,
+        cycles: replayed.cycles,
+        payload,
+        snapshot,
+    };
     if !first {
         return Ok(Session { log, bench });
     }

@@ -1,5 +1,5 @@
 -- The headline: what is found again after a power cut at any moment of a run.
-use Rattle.std.specs.Prelude.{◌≡◌, ◌⊎◌, ◌≤◌, ℕ, List, [], ◌∷◌, ◌++◌, length, Option}
+use Rattle.std.specs.Prelude.{◌≡◌, ◌⊎◌, ◌≤◌, ℕ, List, [], ◌∷◌, ◌++◌, length}
 use mathlib.Core.Logic.{inl, inr}
 use Rattle.mcs_disk.specs.Disk.{DiskState}
 use Rattle.mcs_disk.specs.PowerCut.{IsLeftByCut}
@@ -12,44 +12,65 @@ use Rattle.mcs_session.specs.Standing.{SessionState}
 use Rattle.mcs_shell.specs.declared.ends.ShellEnd.{ShellEnd}
 use Rattle.mcs_shell.specs.declared.ends.ShellEnd.TheVariants.{End, ReadFault, WriteFault, DeviceFault, InputLimit, NoMemory}
 use Rattle.mcs_shell.specs.declared.outcome.Outcome.TheVariants.{Device}
-use Rattle.mcs_shell.specs.Shell.{EndsBy, LoopRan, Ran, Run}
-use Rattle.mcs_shell.specs.Stage.{Stage, staged}
+use Rattle.mcs_shell.specs.Shell.{Began, EndsBy, LoopRan, Ran, Run}
+use Rattle.mcs_shell.specs.Stage.{KnownBytes, Stage, staged, with_out}
 use Rattle.mcs_shell.specs.Transcript.{Served, all_commands, all_reached}
 
--- the inputs that a run met, in turn, each with what came of it; the last one may have been answered in part
-abbrev pub met_by_end : (end : ShellEnd) (bytes : List ℕ) (left : Option (List ℕ)) (a b : Stage) → EndsBy IsOpenOnHonestDisk end bytes left a b → Served
+-- the inputs that a run met, in turn, each with what came of it; the last one may have been
+-- answered in part
+abbrev pub met_by_end : (end : ShellEnd) (bytes : List ℕ) (left : KnownBytes) (a b : Stage)
+    → EndsBy IsOpenOnHonestDisk end bytes left a b → Served
 met_by_end End bytes left a b h = h.1.served
 met_by_end ReadFault bytes left a b h = h.1.served
 met_by_end InputLimit bytes left a b h = h.1.served
-met_by_end WriteFault bytes left a b h = h.2.some.served ++ (h.2.some.last, h.2.some.ended.outcome) ∷ []
+met_by_end WriteFault bytes left a b h =
+    h.2.some.served ++ (h.2.some.last, h.2.some.ended.outcome) ∷ []
 met_by_end DeviceFault bytes left a b h = h.2.some.served ++ (h.2.some.last, Device) ∷ []
 met_by_end NoMemory bytes left a b h = []
 
-abbrev pub met_in_loop : (end : ShellEnd) (reader reader' : Option (List ℕ)) (a b : Stage) → LoopRan IsOpenOnHonestDisk end reader reader' a b → Served
+abbrev pub met_in_loop : (end : ShellEnd) (reader reader' : KnownBytes) (a b : Stage)
+    → LoopRan IsOpenOnHonestDisk end reader reader' a b → Served
 met_in_loop end reader reader' a b h = met_by_end end h.bytes reader' a b h.ends
 
-abbrev pub inputs_met : (end : ShellEnd) (reader reader' : Option (List ℕ)) (a b : Stage) → Ran end reader reader' a b → Served
+-- the same of a run that wrote its first line
+abbrev pub met_once_begun : (end : ShellEnd) (reader reader' : KnownBytes) (a b : Stage)
+    → Began IsOpenOnHonestDisk end reader reader' a b → Served
+met_once_begun end reader reader' a b began =
+    met_in_loop end reader reader' (with_out a began.started) b began.ran
+
+abbrev pub inputs_met : (end : ShellEnd) (reader reader' : KnownBytes) (a b : Stage)
+    → Ran end reader reader' a b → Served
 inputs_met NoMemory reader reader' a b ran = []
 inputs_met WriteFault reader reader' a b (inl untouched) = []
-inputs_met WriteFault reader reader' a b (inr began) = met_in_loop WriteFault reader reader' (record { session = a.session; out = began.started }) b began.ran
-inputs_met End reader reader' a b began = met_in_loop End reader reader' (record { session = a.session; out = began.started }) b began.ran
-inputs_met ReadFault reader reader' a b began = met_in_loop ReadFault reader reader' (record { session = a.session; out = began.started }) b began.ran
-inputs_met DeviceFault reader reader' a b began = met_in_loop DeviceFault reader reader' (record { session = a.session; out = began.started }) b began.ran
-inputs_met InputLimit reader reader' a b began = met_in_loop InputLimit reader reader' (record { session = a.session; out = began.started }) b began.ran
+inputs_met WriteFault reader reader' a b (inr began) =
+    met_once_begun WriteFault reader reader' a b began
+inputs_met End reader reader' a b began = met_once_begun End reader reader' a b began
+inputs_met ReadFault reader reader' a b began = met_once_begun ReadFault reader reader' a b began
+inputs_met DeviceFault reader reader' a b began =
+    met_once_begun DeviceFault reader reader' a b began
+inputs_met InputLimit reader reader' a b began = met_once_begun InputLimit reader reader' a b began
 
 abbrev pub inputs_of : {D : Type 0} {state_of : D → DiskState} → Run state_of → Served
-inputs_of {state_of = state_of} run = inputs_met run.end run.reader run.reader' (staged state_of run.before run.out) (staged state_of run.after run.out') run.ran
+inputs_of {state_of = state_of} run =
+    inputs_met run.end run.reader run.reader'
+    (staged state_of run.before run.out) (staged state_of run.after run.out') run.ran
 
--- A run met these inputs, from one session to the disk that it left. Each command that it answered `ok` was acknowledged at
--- its moment. A power cut at any time of the run left a disk (`state_of` is what contracts see of one): opened, it gives the
--- bench as it is after a prefix of the commands answered `ok` and the one answered `no 53`, and the prefix holds each one
--- acknowledged by that time. It is refused for lack of memory and for a device fault alone.
-pub record SurvivesPowerCuts {E : Type 0} (state_of : E → DiskState) (a : SessionState) (ran : DiskState) (met : Served) : Type 0 where
+-- A run met these inputs, from one session to the disk that it left. Each command that it answered
+-- `ok` was acknowledged at its moment. A power cut at any time of the run left a disk (`state_of`
+-- is what contracts see of one): opened, it gives the bench as it is after a prefix of the commands
+-- answered `ok` and the one answered `no 53`, and the prefix holds each one acknowledged by that
+-- time. It is refused for lack of memory and for a device fault alone.
+pub record SurvivesPowerCuts
+    {E : Type 0} (state_of : E → DiskState) (a : SessionState) (ran : DiskState)
+    (met : Served) : Type 0 where
   pub moments : List ℕ
   pub count : length moments ≡ length (all_commands a.standing.state met)
   pub spaced : IsSpaced a.disk.clock moments
   pub within : last_moment a.disk.clock moments ≤ ran.clock
-  pub reopened : (t : ℕ) (found opened : E) (u : BenchState) → a.disk.clock ≤ t → IsReopened t ran (state_of found) (state_of opened) u
-      → IsAfterPrefix a.standing.state (all_reached a.standing.state met) (acknowledged_by t moments) u
-  pub not_refused : (t : ℕ) (found : E) (fault : OpenFault) → a.disk.clock ≤ t → IsLeftByCut t ran (state_of found) → RefusesSession fault (state_of found)
+  pub reopened : (t : ℕ) (found opened : E) (u : BenchState) → a.disk.clock ≤ t
+      → IsReopened t ran (state_of found) (state_of opened) u
+      → IsAfterPrefix a.standing.state (all_reached a.standing.state met)
+      (acknowledged_by t moments) u
+  pub not_refused : (t : ℕ) (found : E) (fault : OpenFault) → a.disk.clock ≤ t
+      → IsLeftByCut t ran (state_of found) → RefusesSession fault (state_of found)
       → (fault ≡ open_fault.Device) ⊎ (fault ≡ open_fault.NoMemory)

@@ -36,7 +36,8 @@ is_text_byte b = (b == 10) || is_plain_byte b
 unfoldable pub text_fault_of : List ℕ → Option TextFault
 text_fault_of text =
     if nat_lt TEXT_BYTES (length text) then Some TextTooLong
-    else if list_all is_short (cut_at is_line_feed text) then (if list_all is_text_byte text then None else Some HasBadByte)
+    else if list_all is_short (cut_at is_line_feed text)
+    then (if list_all is_text_byte text then None else Some HasBadByte)
     else Some HasLongLine
 
 abbrev pub text_or_fault : TextKind → List ℕ → Option TextFault → Input
@@ -58,15 +59,19 @@ abbrev pub begun : Request → Option TextKind
 begun (Begin kind) = Some kind
 begun request = None
 
--- A text is the lines after the one that began it, up to one that is a dot, each followed by a line feed. It has no end
--- where input ended before that.
+-- A text is the lines after the one that began it, up to one that is a dot, each followed by a line
+-- feed. It has no end where input ended before that.
 unfoldable pub group : Bool → Mode → List (List ℕ) → List Input
 group whole Commands [] = []
 group whole (InText kind text) [] = if whole then BadText NoEnd ∷ [] else []
 group whole Commands (l ∷ ls) =
-    elim (begun (request_of l)) [ None ↦ Line (request_of l) ∷ group whole Commands ls | Some kind ↦ group whole (InText kind []) ls ]
+    elim (begun (request_of l)) [
+      | None ↦ Line (request_of l) ∷ group whole Commands ls
+      | Some kind ↦ group whole (InText kind []) ls
+    ]
 group whole (InText kind text) (l ∷ ls) =
-    if is_dot_line l then judged_text kind text ∷ group whole Commands ls else group whole (InText kind (text ++ (l ++ 10 ∷ []))) ls
+    if is_dot_line l then judged_text kind text ∷ group whole Commands ls
+    else group whole (InText kind (text ++ (l ++ 10 ∷ []))) ls
 
 -- the inputs that the bytes spell; `whole` says that input ended there, else it was cut
 unfoldable pub inputs : List ℕ → Bool → List Input

@@ -40,7 +40,8 @@ open_fault_number open_fault.Damaged = DAMAGED
 open_fault_number open_fault.Device = DEVICE
 open_fault_number open_fault.NoMemory = NO_MEMORY
 
--- the numbers that refusals to open a file are reported as: whatever the host has against it, there is no device to work on
+-- the numbers that refusals to open a file are reported as: whatever the host has against it, there
+-- is no device to work on
 abbrev pub file_fault_number : FileFault → ℕ
 file_fault_number file_fault.InUse = DEVICE
 file_fault_number file_fault.NoLock = DEVICE

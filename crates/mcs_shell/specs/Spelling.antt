@@ -23,7 +23,9 @@ wire_command (Err fault) = Err (Wiring fault)
 -- a pair among pairs that rise by address
 abbrev pub placed : ℕ × ℕ → List (ℕ × ℕ) → List (ℕ × ℕ)
 placed p [] = p ∷ []
-placed p (q ∷ qs) = if nat_lt p.0 q.0 then p ∷ q ∷ qs else (if nat_lt q.0 p.0 then q ∷ placed p qs else q ∷ qs)
+placed p (q ∷ qs) =
+    if nat_lt p.0 q.0 then p ∷ q ∷ qs
+    else (if nat_lt q.0 p.0 then q ∷ placed p qs else q ∷ qs)
 
 -- these pairs by rising address
 abbrev pub by_address : List (ℕ × ℕ) → List (ℕ × ℕ)

@@ -16,13 +16,18 @@ abbrev pub HasNoDot : List (List ℕ) → Type 0
 HasNoDot [] = Unit {0}
 HasNoDot (l ∷ ls) = (is_dot_line l ≡ false) × HasNoDot ls
 
--- a line that begins a text, lines of which none is a dot, and a dot: they are one input, and the lines after it are judged as
--- if nothing had come before
+-- a line that begins a text, lines of which none is a dot, and a dot: they are one input, and the
+-- lines after it are judged as if nothing had come before
 abbrev pub TextEndsAtDot : Type 0
-TextEndsAtDot = (whole : Bool) (kind : TextKind) (line : List ℕ) (text rest : List (List ℕ)) → request_of line ≡ Begin kind → HasNoDot text
-    → group whole Commands (line ∷ (text ++ codes "." ∷ rest)) ≡ judged_text kind (with_feeds text) ∷ group whole Commands rest
+TextEndsAtDot =
+    (whole : Bool) (kind : TextKind) (line : List ℕ) (text rest : List (List ℕ))
+    → request_of line ≡ Begin kind → HasNoDot text
+    → group whole Commands (line ∷ (text ++ codes "." ∷ rest))
+    ≡ judged_text kind (with_feeds text) ∷ group whole Commands rest
 
 -- the same without a dot, where input ended
 abbrev pub HasNoEnd : Type 0
-HasNoEnd = (kind : TextKind) (line : List ℕ) (text : List (List ℕ)) → request_of line ≡ Begin kind → HasNoDot text
+HasNoEnd =
+    (kind : TextKind) (line : List ℕ) (text : List (List ℕ))
+    → request_of line ≡ Begin kind → HasNoDot text
     → group true Commands (line ∷ text) ≡ BadText NoEnd ∷ []

@@ -1,5 +1,5 @@
 -- What is answered to inputs, and what they do.
-use Rattle.std.specs.Prelude.{◌≡◌, ◌≢◌, ◌⊎◌, Bool, true, false, ℕ, List, [], ◌∷◌, ◌++◌, Option, Some, None, Result, Ok, Err}
+use Rattle.std.specs.Prelude.{◌≡◌, ◌≢◌, ◌⊎◌, Bool, true, false, ℕ, List, [], ◌∷◌, ◌++◌, map, Option, Some, None, Result, Ok, Err}
 use Rattle.std.specs.Result.{result_ok}
 use Rattle.mcs_model.specs.declared.command.Command.{Command}
 use Rattle.mcs_model.specs.BenchState.{BenchState}
@@ -31,15 +31,17 @@ abbrev pub accepted : BenchState → Option Command → List Command
 accepted s (Some c) = elim (refusal s c) [ None ↦ c ∷ [] | Some fault ↦ [] ]
 accepted s None = []
 
--- whether an input takes memory, which may be refused: a text, a listing, and the wiring of the board
+-- whether an input takes memory, which may be refused: a text, a listing, and the wiring of the
+-- board
 abbrev pub takes_memory : Input → Bool
 takes_memory (Text kind text) = true
 takes_memory (Line (Listing at lines)) = true
 takes_memory (Line Board) = true
 takes_memory i = false
 
--- What may come of an input: it is answered by the state; or its command was accepted, and the device failed as it was
--- recorded; or its command met a closed session; or memory for it was refused.
+-- What may come of an input: it is answered by the state; or its command was accepted, and the
+-- device failed as it was recorded; or its command met a closed session; or memory for it was
+-- refused.
 unfoldable pub MayEnd : Standing → Input → Outcome → Type 0
 MayEnd m i Plain = (asked i ≡ None) ⊎ (m.live ≡ true)
 MayEnd m i Device = (accepted m.state (asked i) ≢ []) × (m.live ≡ true)
@@ -63,7 +65,11 @@ reached s i o = []
 
 -- the answer to a command by the state
 abbrev pub change_answer : BenchState → Command → List ℕ
-change_answer s c = elim (refusal s c) [ None ↦ ok_text (reply s c) (after s c) | Some fault ↦ no_text (bench_fault_number fault) ]
+change_answer s c =
+    elim (refusal s c) [
+      | None ↦ ok_text (reply s c) (after s c)
+      | Some fault ↦ no_text (bench_fault_number fault)
+    ]
 
 -- the answer to a text, by the command that it spells or why it spells none
 abbrev pub spelled_answer : BenchState → Result Command TextRefusal → List ℕ
@@ -93,6 +99,10 @@ answer s i NoMemory = no_text NO_MEMORY
 
 abbrev pub Served : Type 0
 Served = List (Input × Outcome)
+
+-- the inputs alone
+abbrev pub inputs_in : Served → List Input
+inputs_in served = map (λ p. p.0) served
 
 -- the answers, in turn
 unfoldable pub transcript : BenchState → Served → List ℕ

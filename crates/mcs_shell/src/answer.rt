@@ -96,7 +96,8 @@ impl Answer {
         put_query(&mut self.short, query, bench);
     }
 
-    /// Tells a listing of the ROM. It fails where memory is refused, and then nothing is said of what is told.
+    /// Tells a listing of the ROM. It fails where memory is refused, and then nothing is said of
+    /// what is told.
     pub(crate) fn tell_listing(
         &mut self,
         alloc: Global,
@@ -111,7 +112,8 @@ impl Answer {
         Ok(())
     }
 
-    /// Tells the wiring of the board. It fails where memory is refused, and then nothing is said of what is told.
+    /// Tells the wiring of the board. It fails where memory is refused, and then nothing is said of
+    /// what is told.
     pub(crate) fn tell_board(&mut self, alloc: Global, bench: &Bench) -> Result<(), AllocError>
         ensures { OnOk result (self.new ≡ board_answer bench.now) }
     {
@@ -122,8 +124,10 @@ impl Answer {
 
     /// Writes all of it. On an `Err` the writer has got less, the first bytes.
     pub(crate) fn send<W: Write>(&self, writer: &mut W) -> Result<(), WriteStopped>
-        ensures ok { OnOk result (Appends (W.contents writer.old) (W.contents writer.new) self.now) }
-        ensures err { OnErr result (GotSome (W.contents writer.old) (W.contents writer.new) self.now) }
+        ensures ok { OnOk result
+            (Appends (W.contents writer.old) (W.contents writer.new) self.now) }
+        ensures err { OnErr result
+            (GotSome (W.contents writer.old) (W.contents writer.new) self.now) }
     {
         match &self.long {
             None => send(writer, self.short.as_slice()),

@@ -37,8 +37,8 @@ fn answer_change<D: Disk + Drop>(
     session: &mut Session<D>,
     answer: &mut Answer,
 ) -> Outcome
-    ensures { Answered (session_state D.state session.old) (Line (Change command.now)) result answer.new
-        (session_state D.state session.new) }
+    ensures { Answered (session_state D.state session.old) (Line (Change command.now)) result
+        answer.new (session_state D.state session.new) }
 {
     match session.apply(command) {
         Ok(reply) => {
@@ -52,7 +52,8 @@ fn answer_change<D: Disk + Drop>(
     }
 }
 
-/// What comes of a request whose answer takes memory. Where that was refused, this is told in its place.
+/// What comes of a request whose answer takes memory. Where that was refused, this is told in its
+/// place.
 fn unless_refused(told: Result<(), AllocError>, answer: &mut Answer) -> Outcome
     ensures told { OnOk told ((result ≡ Outcome.Plain) × (answer.new ≡ answer.old)) }
     ensures refused { OnErr told ((result ≡ Outcome.NoMemory) × (answer.new ≡ no_text NO_MEMORY)) }
@@ -66,8 +67,8 @@ fn unless_refused(told: Result<(), AllocError>, answer: &mut Answer) -> Outcome
     }
 }
 
-/// Does what a line outside a text asks for, and tells of it in an empty answer. A line that begins a text has no answer of
-/// its own.
+/// Does what a line outside a text asks for, and tells of it in an empty answer. A line that begins
+/// a text has no answer of its own.
 pub(crate) fn answer_request<D: Disk + Drop>(
     alloc: Global,
     request: &Request,
@@ -75,8 +76,8 @@ pub(crate) fn answer_request<D: Disk + Drop>(
     answer: &mut Answer,
 ) -> Outcome
     requires { answer.old ≡ [] }
-    ensures { Answered (session_state D.state session.old) (Line request.now) result answer.new
-        (session_state D.state session.new) }
+    ensures { Answered (session_state D.state session.old) (Line request.now) result
+        answer.new (session_state D.state session.new) }
 {
     match request {
         Request::Nothing => Outcome::Plain,
@@ -109,8 +110,8 @@ pub(crate) fn answer_text<D: Disk + Drop>(
     session: &mut Session<D>,
     answer: &mut Answer,
 ) -> Outcome
-    ensures { Answered (session_state D.state session.old) (judged_text kind text.now) result answer.new
-        (session_state D.state session.new) }
+    ensures { Answered (session_state D.state session.old) (judged_text kind text.now) result
+        answer.new (session_state D.state session.new) }
 {
     if let Some(fault) = text_fault(text) {
         answer.tell_refusal(fault.number());

@@ -1,4 +1,5 @@
-//! The shell of the bench, and the program over it: lines in, answers out, each command recorded before it is answered.
+//! The shell of the bench, and the program over it: lines in, answers out, each command recorded
+//! before it is answered.
 #![tactic(auto)]
 
 mod answer;

@@ -1,7 +1,7 @@
 //! What comes of an input, and what halts a shell.
 
 /// What came of an input.
-#[derive(Clone, Copy, Debug, PartialEq, Eq)]
+#[derive(Clone, Copy)]
 pub enum Outcome {
     /// It was answered by the state of the bench.
     Plain,
@@ -14,7 +14,7 @@ pub enum Outcome {
 }
 
 /// What halts a shell before its input ends.
-#[derive(Clone, Copy, Debug, PartialEq, Eq)]
+#[derive(Clone, Copy)]
 pub enum Halt {
     /// An answer could not be written whole.
     Write,

@@ -31,7 +31,8 @@ const WRONG_WORDS: u8 = 2;
 /// The exit status where the session is refused.
 const REFUSED: u8 = 3;
 
-/// The words of the command line, the program's name first. Those that are no text are none of the program's.
+/// The words of the command line, the program's name first. Those that are no text are none of the
+/// program's.
 fn given_words(rt: &HostRuntime) -> Result<Vec<String>, WordsFault> {
     match env::args(rt) {
         Ok(words) => Ok(words.collect(rt.alloc())?),
@@ -50,8 +51,10 @@ pub fn refuse(rt: &HostRuntime, number: u8) -> io::Result<ExitCode>
 
 /// Tells that the words choose nothing, or that there was no memory to read them.
 pub fn refuse_words(rt: &HostRuntime, fault: WordsFault) -> io::Result<ExitCode>
-    ensures usage { fault ≡ WordsFault.Usage → IfOk result (λ code. exit_status code ≡ WRONG_WORDS) }
-    ensures no_memory { fault ≡ WordsFault.NoMemory → IfOk result (λ code. exit_status code ≡ REFUSED) }
+    ensures usage { fault ≡ WordsFault.Usage
+        → IfOk result (λ code. exit_status code ≡ WRONG_WORDS) }
+    ensures no_memory { fault ≡ WordsFault.NoMemory
+        → IfOk result (λ code. exit_status code ≡ REFUSED) }
 {
     match fault {
         WordsFault::Usage => {
@@ -66,13 +69,15 @@ pub fn refuse_words(rt: &HostRuntime, fault: WordsFault) -> io::Result<ExitCode>
     }
 }
 
-/// Begins the session that a choice asks for, on the disk that opening its file gave; or why there is none.
+/// Begins the session that a choice asks for, on the disk that opening its file gave; or why there
+/// is none.
 pub fn session_on<D: Disk + Drop>(
     alloc: Global,
     choice: &Choice,
     opened: Result<D, FileFault>,
 ) -> Result<Session<D>, Refusal>
-    ensures begun { IfOk opened (λ disk. IfOk result (λ session. IsBegunOn D.state choice.now disk session)) }
+    ensures begun { IfOk opened (λ disk. IfOk result (λ session.
+        IsBegunOn D.state choice.now disk session)) }
     ensures refused { IfOk opened (λ disk. IfErr result (λ refusal.
         IsRefusedWith D.state choice.now disk (refusal_number refusal))) }
     ensures unopened { IfErr opened (λ fault. result ≡ Err (Refusal.File fault)) }
@@ -97,7 +102,8 @@ pub fn session_on<D: Disk + Drop>(
 pub fn session_in(rt: &HostRuntime, choice: &Choice) -> Result<Session<FileDisk>, Refusal>
     ensures begun { IfOk result (λ session. (disk : FileDisk) × IsOpened (as_disk disk)
         × IsBegunOn as_disk choice.now disk session) }
-    ensures refused { IfErr result (λ refusal. ((fault : FileFault) × (refusal ≡ Refusal.File fault))
+    ensures refused { IfErr result (λ refusal.
+        ((fault : FileFault) × (refusal ≡ Refusal.File fault))
         ⊎ ((disk : FileDisk) × IsOpened (as_disk disk)
         × IsRefusedWith as_disk choice.now disk (refusal_number refusal))) }
 {
@@ -107,8 +113,9 @@ pub fn session_in(rt: &HostRuntime, choice: &Choice) -> Result<Session<FileDisk>
     session_on(alloc, choice, opened)
 }
 
-/// Serves the session of this file over a reader and a writer, and gives the exit status of the shell's end. An `Err` comes only where memory
-/// for the shell was refused and that could not be told; then nothing was read or done.
+/// Serves the session of this file over a reader and a writer, and gives the exit status of the
+/// shell's end. An `Err` comes only where memory for the shell was refused and that could not be
+/// told; then nothing was read or done.
 pub fn serve<R: Read, W: Write, D: Disk + Drop>(
     rt: &HostRuntime,
     reader: &mut R,
@@ -120,7 +127,8 @@ pub fn serve<R: Read, W: Write, D: Disk + Drop>(
         (R.remaining reader.old) (R.remaining reader.new)
         (staged D.state session.old (W.contents writer.old))
         (staged D.state session.new (W.contents writer.new))) }
-    ensures untold { OnErr result (Ran ShellEnd.NoMemory (R.remaining reader.old) (R.remaining reader.new)
+    ensures untold { OnErr result (Ran ShellEnd.NoMemory
+        (R.remaining reader.old) (R.remaining reader.new)
         (staged D.state session.old (W.contents writer.old))
         (staged D.state session.new (W.contents writer.new))) }
 {
@@ -136,7 +144,8 @@ pub fn serve<R: Read, W: Write, D: Disk + Drop>(
 /// Runs the bench by these words, the program's name first: session, shell, exit status.
 pub fn run_words<S: AsStr>(rt: &HostRuntime, words: &[S]) -> io::Result<ExitCode>
     ensures usage { IfOk result (λ code. exit_status code ≡ WRONG_WORDS
-        → takes_words (map S.text words.entry.now) ≡ true → chosen (map S.text words.entry.now) ≡ None) }
+        → takes_words (map S.text words.entry.now) ≡ true
+        → chosen (map S.text words.entry.now) ≡ None) }
     ensures status { IfOk result (λ code. (exit_status code ≡ WRONG_WORDS)
         ⊎ ((exit_status code ≡ REFUSED)
         ⊎ ServedAsChosen as_disk (chosen (map S.text words.entry.now)) (exit_status code))) }

@@ -7,7 +7,7 @@ use mcs_host::FileFault;
 use mcs_journal::{CreateFault, OpenFault};
 
 /// Why there is no session.
-#[derive(Clone, Copy, Debug, PartialEq, Eq)]
+#[derive(Clone, Copy)]
 pub enum Refusal {
     /// Its file was not opened.
     File(FileFault),

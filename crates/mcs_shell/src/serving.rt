@@ -85,9 +85,11 @@ pub(crate) fn end_line<W: Write, D: Disk + Drop>(
 ) -> Result<(), Halt>
     requires { HasNoFeed unfinished.old.line }
     ensures ok { OnOk result (WentFurther (staged D.state session.old (W.contents writer.old))
-        (staged D.state session.new (W.contents writer.new)) unfinished.old unfinished.new (10 ∷ [])) }
+        (staged D.state session.new (W.contents writer.new))
+        unfinished.old unfinished.new (10 ∷ [])) }
     ensures empty { OnOk result (length unfinished.new.line ≡ 0) }
-    ensures err { IfErr result (λ halt. Stopped halt (staged D.state session.old (W.contents writer.old))
+    ensures err { IfErr result (λ halt. Stopped halt
+        (staged D.state session.old (W.contents writer.old))
         (staged D.state session.new (W.contents writer.new)) unfinished.old (10 ∷ [])) }
 {
     let line = without_return(unfinished.line());
@@ -124,7 +126,8 @@ pub(crate) fn end_line<W: Write, D: Disk + Drop>(
 
 /// The bytes before the first line feed, and those after it; or none, where there is no line feed.
 fn split_line(bytes: &[u8]) -> Option<(&[u8], &[u8])>
-    ensures { MatchOption result (HasNoFeed bytes.now) (λ p. HasNoFeed p.0.now × (bytes.now ≡ p.0.now ++ 10 ∷ p.1.now)) }
+    ensures { MatchOption result (HasNoFeed bytes.now) (λ p.
+        HasNoFeed p.0.now × (bytes.now ≡ p.0.now ++ 10 ∷ p.1.now)) }
 {
     for (at, byte) in bytes.iter().enumerate() {
         if *byte == b'\n' {
@@ -144,8 +147,10 @@ pub(crate) fn serve_chunk<W: Write, D: Disk + Drop>(
 ) -> Result<(), Halt>
     requires { HasNoFeed unfinished.old.line }
     ensures ok { OnOk result (WentFurther (staged D.state session.old (W.contents writer.old))
-        (staged D.state session.new (W.contents writer.new)) unfinished.old unfinished.new chunk.now) }
-    ensures err { IfErr result (λ halt. Stopped halt (staged D.state session.old (W.contents writer.old))
+        (staged D.state session.new (W.contents writer.new))
+        unfinished.old unfinished.new chunk.now) }
+    ensures err { IfErr result (λ halt. Stopped halt
+        (staged D.state session.old (W.contents writer.old))
         (staged D.state session.new (W.contents writer.new)) unfinished.old chunk.now) }
 {
     let mut rest = chunk;

@@ -28,7 +28,8 @@ struct ReadFailed;
 fn read_some<R: Read>(reader: &mut R, buffer: &mut [u8], most: usize) -> Result<usize, ReadFailed>
     requires some { 0 < most }
     requires room { most ≤ length buffer.old }
-    ensures ok { IfOk result (λ n. ReadSome n most (R.remaining reader.old) (R.remaining reader.new) (take n buffer.new)) }
+    ensures ok { IfOk result (λ n.
+        ReadSome n most (R.remaining reader.old) (R.remaining reader.new) (take n buffer.new)) }
     ensures err { OnErr result (Keeps (R.remaining reader.old) (R.remaining reader.new)) }
 {
     match reader.read(&mut buffer[..most]) {
@@ -122,10 +123,12 @@ fn run_loop<R: Read, W: Write, D: Disk + Drop>(
     ShellEnd::InputLimit
 }
 
-/// Serves the lines of a reader on a session, until input ends, something fails, or the limit of input is reached.
+/// Serves the lines of a reader on a session, until input ends, something fails, or the limit of
+/// input is reached.
 ///
-/// Each command is answered after it was recorded. Wherever the machine stops, what the disk then holds opens to the state
-/// after some first commands of those that were accepted, and each acknowledged one is among them.
+/// Each command is answered after it was recorded. Wherever the machine stops, what the disk then
+/// holds opens to the state after some first commands of those that were accepted, and each
+/// acknowledged one is among them.
 pub fn run_shell<R: Read, W: Write, D: Disk + Drop>(
     alloc: Global,
     reader: &mut R,

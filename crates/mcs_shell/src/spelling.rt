@@ -12,17 +12,19 @@ use std::alloc::{AllocError, Global};
 use thiserror::Error;
 
 /// Why a text spells nothing.
-#[derive(Clone, Copy, Debug, PartialEq, Eq, Error)]
+#[derive(Clone, Copy, Debug, Error)]
 pub enum TextRefusal {
     /// It has no board.
     #[error("{0}")]
     Wiring(WiringFault),
-    /// It is no program: the number of the line that is at fault, from 1, and what is wrong with it.
+    /// It is no program: the number of the line that is at fault, from 1, and what is wrong with
+    /// it.
     #[error("line {0}: {1}")]
     Program(usize, SourceFault),
 }
 
-/// The command to put the board of a text in place, or why the text has none. It fails where memory is refused.
+/// The command to put the board of a text in place, or why the text has none. It fails where memory
+/// is refused.
 fn read_board(alloc: Global, text: &str) -> Result<Result<Command, TextRefusal>, AllocError>
     ensures { IfOk result (λ spelled. spelled ≡ wire_command (board_of_text text.now)) }
 {
@@ -33,7 +35,8 @@ fn read_board(alloc: Global, text: &str) -> Result<Result<Command, TextRefusal>,
     }
 }
 
-/// The command to load the bytes of a program, or why the text is none. It fails where memory is refused.
+/// The command to load the bytes of a program, or why the text is none. It fails where memory is
+/// refused.
 fn read_program(alloc: Global, text: &str) -> Result<Result<Command, TextRefusal>, AllocError>
     ensures { IfOk result (λ spelled. spelled ≡ load_command (assembled text.now)) }
 {

@@ -1,12 +1,14 @@
-//! What standard error gets, for people: a line where a session is refused or ends by a fault, and the usage. What could not be written
-//! there is not told elsewhere. Standard output and the exit status are those without it.
+//! What standard error gets, for people: a line where a session is refused or ends by a fault, and
+//! the usage. What could not be written there is not told elsewhere. Standard output and the exit
+//! status are those without it.
 use crate::ends::ShellEnd;
 use crate::refusal::Refusal;
 use mcs_host::{Choice, FileFault};
 use mcs_journal::{CreateFault, OpenFault};
 use std::io;
 
-/// What wrong words get: what the words are, where the manual is, and the versions of the program and of its session files.
+/// What wrong words get: what the words are, where the manual is, and the versions of the program
+/// and of its session files.
 pub fn tell_usage(rt: &HostRuntime) -> io::Result<()> {
     eprintln!(rt; "usage: mcs4 new FILE or mcs4 open FILE")?;
     eprintln!(rt; "manual: docs/MANUAL.md in the folder that mcs4 was built in")?;

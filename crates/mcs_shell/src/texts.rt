@@ -13,7 +13,7 @@ use std::str;
 use thiserror::Error;
 
 /// Why a text is refused, whatever its lines say.
-#[derive(Clone, Copy, Debug, PartialEq, Eq, Error)]
+#[derive(Clone, Copy, Debug, Error)]
 pub enum TextFault {
     /// Input ended inside it.
     #[error("no end of text")]

@@ -13,7 +13,7 @@ invariant_of-result-in-Ok g c = record {
       let was = c.in-Ok.ensures.counts.honest.0 honest in
       let held = c.requires.held was in
       let changes = c.in-Ok.ensures.replaces was held.snap held.records held.holds in
-      subst (λ n. IsRecorded (g.D.Disk.state c.checkpoint.new.self.store.disk) n c.args.bench) (sym c.in-Ok.ensures.used.1) (recorded_new (g.D.Disk.state c.checkpoint.new.self.store.disk) changes.after.snap c.args.bench changes.after.spells changes.after.holds changes.durable);
+      subst (λ n. IsRecorded (g.D.Disk.state c.checkpoint.new.self.store.disk) n c.args.replayed.bench) (sym c.in-Ok.ensures.used.1) (recorded_new (g.D.Disk.state c.checkpoint.new.self.store.disk) changes.after.snap c.args.replayed.bench changes.after.spells changes.after.holds changes.durable);
 }
 
 pub returns-in-Ok-clause-first : goal.returns-in-Ok-clause-first
