@@ -56,10 +56,15 @@ class Driven:
         self.actions({"type": "key", "id": "keyboard", "actions": steps})
 
     def until(self, code, wanted, seconds=10):
-        """Waits until a script answers what is wanted, or a text that has a pattern; gives what it answered last."""
+        """Waits until a script answers what is wanted, or a text that has a pattern; gives what it answered last. A script that fails,
+        as one does while the page goes, is tried again."""
         end = time.monotonic() + seconds
         while True:
-            found = self.script(code)
-            if fits(found, wanted) or time.monotonic() > end:
-                return found
+            try:
+                found = self.script(code)
+                if fits(found, wanted) or time.monotonic() > end:
+                    return found
+            except Fault:
+                if time.monotonic() > end:
+                    raise
             time.sleep(0.05)
