@@ -385,7 +385,7 @@ def check_poor_browsers(browser, page, folder):
     for lack, code in NO_STORE.items():
         verdict(lack, told_at_start(browser, poor(page, folder, code)), re.compile("keeps nothing"))
         works(browser, lack)
-        verdict("a line is answered", lines_answered(browser, "poke r5 9"), re.compile(r"poke r5 9ok \d+$"))
+        verdict("a line is answered", lines_answered(browser, "poke r5 9"), re.compile(r"poke r5 9ok \d+"))
         browser.click("#sessions-button")
         comes(browser, "the sessions of this page are shown", "return document.querySelectorAll('#kept li').length", 1)
         browser.click("#close-sessions")
