@@ -34,14 +34,24 @@ class Bench {
     this.renew();
   }
 
-  // Starts the module, in the place of an instance that has stopped.
+  // Starts the module, in the place of an instance that has stopped. Where there is no memory for it, the next call tries again.
   renew() {
-    this.calls = new WebAssembly.Instance(this.module, {}).exports;
+    this.isFit = false;
+    this.calls = this.instance();
     this.size = Number(this.calls.page_file_size());
     this.file = this.buffer(this.size + TOLD_SIZE);
     this.input = this.buffer(ROOM_AT_FIRST);
     this.answers = this.buffer(ROOM_AT_FIRST);
     this.told = this.buffer(TOLD_SIZE);
+    this.isFit = true;
+  }
+
+  instance() {
+    try {
+      return new WebAssembly.Instance(this.module, {}).exports;
+    } catch (fault) {
+      throw fault instanceof RangeError ? new BenchRefusal(NO_MEMORY) : fault;
+    }
   }
 
   buffer(room) {
@@ -75,12 +85,14 @@ class Bench {
 
   // The file of a new session.
   begin() {
+    if (!this.isFit) this.renew();
     if (!this.call("page_begin", this.file.place, BigInt(this.size))) throw new BenchRefusal(NO_MEMORY);
     return this.view(this.file, this.size).slice();
   }
 
   // Serves lines on the session of a file. The answers are without `session N`; `file` is a new copy.
   serve(file, lines) {
+    if (!this.isFit) this.renew();
     const input = new TextEncoder().encode(lines);
     this.input = this.larger(this.input, input.length);
     this.view(this.input, input.length).set(input);
@@ -110,6 +122,7 @@ class Bench {
 
   // The same session by a snapshot without records, which is opened at once; or the file as it was, where there is no memory.
   settle(file) {
+    if (!this.isFit) this.renew();
     this.view(this.file, file.length).set(file);
     if (!this.call("page_settle", this.file.place, BigInt(file.length))) return file;
     return this.view(this.file, file.length).slice();

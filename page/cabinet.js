@@ -15,14 +15,28 @@ class Cabinet {
     return this.page.session;
   }
 
+  // The sessions that are kept, the one that was changed last before the others.
+  async kept() {
+    try {
+      return (await this.store.all()).sort((a, b) => b.changed - a.changed);
+    } catch (fault) {
+      this.refuse(`The sessions that are kept could not be read: ${wordsOfStoreFault(fault)}.`);
+      return [];
+    }
+  }
+
+  async keptRecord(id) {
+    const record = await this.store.get(id);
+    if (!record) throw new NotKept("it is no longer kept here");
+    return record;
+  }
+
   // Opens a session that is kept; false where it is in use elsewhere, gone or damaged, which is told.
   async open(id) {
     const release = await lockSession(id);
     if (!release) return this.refuse(IN_ANOTHER_TAB);
     try {
-      const record = await this.store.get(id);
-      if (!record) throw new NotKept("it is no longer kept here");
-      await this.page.use(record, release);
+      await this.page.use(await this.keptRecord(id), release);
       return true;
     } catch (fault) {
       release();
@@ -45,7 +59,7 @@ class Cabinet {
   // Makes a record, takes its lock and uses it.
   async useNew(make) {
     try {
-      const record = make();
+      const record = await make();
       await this.page.use(record, await lockSession(record.id));
       return true;
     } catch (fault) {
@@ -55,8 +69,10 @@ class Cabinet {
 
   async copy(id) {
     if (this.session && this.session.record.id === id) await this.page.keep();
-    const record = await this.store.get(id);
-    return this.useNew(() => newRecord(`${record.name}, a copy`, record.file, record.boardText, record.programText));
+    return this.useNew(async () => {
+      const record = await this.keptRecord(id);
+      return newRecord(`${record.name}, a copy`, record.file, record.boardText, record.programText);
+    });
   }
 
   // A file becomes a new session. The bench itself says whether it is one.

@@ -1,9 +1,12 @@
 // Time: while it runs, each frame of the browser serves the cycles that are due, with the changes of keys between them, in one call.
+// While the page is hidden it stands still, and so it does while the browser or the machine does not run the page at all.
 
 // The real chip does 92,593 cycles a second.
 const REAL_CYCLES = 92593;
-// A frame owes at most so many: what a sleeping tab has missed is left out.
+// A frame owes at most so many: what a slow browser has missed is left out.
 const MOST_DUE = 20000;
+// Frames that are so many milliseconds apart: time stood still between them.
+const LONG_GAP = 1000;
 // At full speed a frame takes about so many milliseconds.
 const FRAME_TIME = 16;
 const FIRST_BATCH = 50000;
@@ -19,18 +22,35 @@ class Clock {
     this.host = host;
     this.queue = new KeyQueue();
     this.isRunning = false;
-    this.isFull = false;
     this.batch = FIRST_BATCH;
     this.rate = { since: 0, cycles: 0, told: 0 };
+  }
+
+  // The field is asked each time, since some browsers fill it in again after a reload.
+  get isFull() {
+    return byId("speed").value === "full";
   }
 
   start() {
     if (this.isRunning) return;
     this.isRunning = true;
-    this.before = this.kept = performance.now();
-    this.owed = 0;
-    this.rate = { since: this.before, cycles: 0, told: 0 };
+    this.kept = performance.now();
+    this.goOn(this.kept, Date.now());
     this.again();
+  }
+
+  // From these times on, nothing is owed: `now` of the frames, and `wall` of the clock on the wall, which goes on while a machine sleeps.
+  goOn(now, wall) {
+    this.before = now;
+    this.seen = wall;
+    this.wasHidden = document.hidden;
+    this.owed = 0;
+    this.rate = { since: now, cycles: 0, told: 0 };
+  }
+
+  // The page is hidden. The next frame after it is shown again says for how long.
+  hide() {
+    this.wasHidden = true;
   }
 
   stop() {
@@ -50,8 +70,24 @@ class Clock {
     return due;
   }
 
+  // Goes on after a time that is left out, and tells of it where it was long.
+  skipGap(now, wall) {
+    const { wasHidden } = this;
+    const gap = wall - this.seen;
+    this.seen = wall;
+    if (!wasHidden && gap < LONG_GAP) return;
+    this.goOn(now, wall);
+    if (gap >= LONG_GAP) this.host.stoodStill(gap, wasHidden);
+  }
+
   frame(now) {
     if (!this.isRunning) return;
+    // Some browsers call a hidden page now and then.
+    if (document.hidden) {
+      this.again();
+      return;
+    }
+    this.skipGap(now, Date.now());
     const due = this.due(now);
     this.before = now;
     try {

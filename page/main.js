@@ -3,12 +3,15 @@
 const NO_MEMORY64 = "This browser has no 64-bit WebAssembly memory (Memory64), which the bench needs. Chrome, Edge and the other "
   + "browsers on Chromium have it from version 133 on, Firefox from 134 on; Safari had none when this page was made.";
 
-const NO_STORE = "This browser keeps nothing for this page: it has no IndexedDB here. All works, but save the session to a file before "
-  + "you leave.";
+const NO_STORE = "This browser keeps nothing for this page: it has no IndexedDB here, or its settings block the data of sites. All works, "
+  + "but save the session to a file before you leave.";
+// A store that does not answer in so many milliseconds counts as none.
+const TIME_OF_STORE = 10000;
 
 async function openStore() {
+  const late = new Promise((_, fail) => setTimeout(fail, TIME_OF_STORE));
   try {
-    return await Store.open();
+    return await Promise.race([Store.open(), late]);
   } catch {
     return new Forgetful();
   }
@@ -23,8 +26,7 @@ function sessionOfAddress() {
 async function openFirst(page) {
   const named = sessionOfAddress();
   if (named && (await page.cabinet.open(named))) return;
-  const records = (await page.store.all()).sort((a, b) => b.changed - a.changed);
-  for (const record of records) {
+  for (const record of await page.cabinet.kept()) {
     if (await page.cabinet.open(record.id)) return;
     if (!named) page.notice.hide("session");
   }
@@ -38,9 +40,6 @@ function listen(page) {
   onClick(byId("test"), () => page.act(`test ${byId("test").textContent === "TEST 1" ? 0 : 1}\n`));
   onClick(byId("from-rom"), () => page.takeFromRom());
   onClick(byId("send"), () => sendLines(page));
-  byId("speed").addEventListener("change", (event) => {
-    page.clock.isFull = event.target.value === "full";
-  });
   for (const id of ["follow", "from"]) {
     byId(id).addEventListener("change", () => {
       if (id === "from") byId("follow").checked = false;
@@ -54,6 +53,9 @@ function listen(page) {
     sendLines(page);
   });
   addEventListener("keydown", (event) => shortcut(page, event));
+  // What fails where nothing waits for it is told all the same.
+  addEventListener("error", (event) => page.failed(event.error || event.message));
+  addEventListener("unhandledrejection", (event) => page.failed(event.reason));
   // Another session is named in the address.
   addEventListener("hashchange", () => {
     const named = sessionOfAddress();
@@ -75,10 +77,12 @@ function shortcut(page, event) {
   acts[event.key]();
 }
 
-// What the browser tells when the page goes away: the session is kept at once.
+// What the browser tells when the page goes away: time stands still, and the session is kept at once.
 function listenToLeaving(page) {
   document.addEventListener("visibilitychange", () => {
-    if (document.visibilityState === "hidden" && page.session) page.session.keepNow();
+    if (!document.hidden || !page.session) return;
+    page.clock.hide();
+    page.session.keepNow();
   });
   addEventListener("pagehide", () => page.session && page.session.keepNow());
   addEventListener("beforeunload", (event) => {
@@ -104,5 +108,5 @@ async function main() {
 }
 
 main().catch((fault) => {
-  new Notice().show(`The bench could not be started: ${fault.message || fault}.`);
+  new Notice().show(`The bench could not be started: ${wordsOfFault(fault)}.`);
 });

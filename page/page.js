@@ -44,6 +44,7 @@ class Page {
     this.look();
     location.replace(`#session=${record.id}`);
     byId("bench").hidden = false;
+    byId("session-bar").hidden = false;
     await this.keep();
     if (record.runs) this.run();
     else this.halt("Stopped.");
@@ -157,6 +158,12 @@ class Page {
     setText(byId("status"), "Time runs.");
     this.clock.start();
     this.keep();
+  }
+
+  // Time stood still for so many milliseconds, and runs on.
+  stoodStill(time, wasHidden) {
+    const why = wasHidden ? "this page was hidden" : "the browser did not run this page";
+    setText(byId("status"), `Time runs. It stood still for ${wordsOfTime(time)} while ${why}.`);
   }
 
   // Time stands still from here on; the words tell why.

@@ -50,7 +50,7 @@ class Session {
     try {
       this.record.file = this.bench.settle(this.record.file);
     } catch (fault) {
-      if (!(fault instanceof BenchTrap)) throw fault;
+      if (!(fault instanceof BenchTrap || fault instanceof BenchRefusal)) throw fault;
     }
   }
 
@@ -69,8 +69,7 @@ class Session {
 
   // The same for a page that is just going away and cannot wait. Without locks each write needs the answer to the one before.
   keepNow() {
-    if (!navigator.locks) return this.keep();
-    return this.write();
+    return hasLocks ? this.write() : this.keep();
   }
 
   async write() {

@@ -30,8 +30,7 @@ class SessionsView {
   }
 
   async draw() {
-    const records = (await this.host.store.all()).sort((a, b) => b.changed - a.changed);
-    byId("kept").replaceChildren(...records.map((record) => this.keptLine(record)));
+    byId("kept").replaceChildren(...(await this.host.kept()).map((record) => this.keptLine(record)));
   }
 
   keptLine(record) {

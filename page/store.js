@@ -3,6 +3,9 @@
 // What went wrong where a session was not kept, in words.
 class NotKept extends Error {}
 
+// A browser that blocks the data of sites has the call for locks, and refuses them all.
+let hasLocks = Boolean(navigator.locks);
+
 const CHANGED_ELSEWHERE = "another tab has changed or deleted this session meanwhile";
 
 class Store {
@@ -42,7 +45,7 @@ class Store {
   // Keeps a record; it is on the disk when the promise is kept. All is asked for at once, so that a page that is just being closed
   // still gets it through: nothing has to come back to it.
   put(record) {
-    if (!navigator.locks) return this.putNext(record);
+    if (!hasLocks) return this.putNext(record);
     return new Promise((done, fail) => {
       const change = this.change(done, fail);
       record.revision += 1;
@@ -125,7 +128,7 @@ const WAIT_FOR_LOCK = 150;
 // Takes the lock of a session for this tab: gives a call that gives it back, or null where another tab has it. A page that is just
 // being reloaded may still hold it for a moment, so it is asked for more than once.
 async function lockSession(id) {
-  if (!navigator.locks) return () => {};
+  if (!hasLocks) return () => {};
   for (let tries = 0; tries < TRIES_FOR_LOCK; tries++) {
     const release = await tryLock(`fethsaim session ${id}`);
     if (release) return release;
@@ -136,12 +139,16 @@ async function lockSession(id) {
 
 function tryLock(name) {
   return new Promise((done) => {
-    navigator.locks.request(name, { ifAvailable: true }, (lock) => {
+    const asked = navigator.locks.request(name, { ifAvailable: true }, (lock) => {
       if (lock === null) {
         done(null);
         return undefined;
       }
       return new Promise((release) => done(release));
+    });
+    asked.catch(() => {
+      hasLocks = false;
+      done(() => {});
     });
   });
 }

@@ -21,6 +21,14 @@ function numberOf(word) {
   return /^(0x[0-9a-f]+|\d+)$/i.test(word) ? Number(word) : NaN;
 }
 
+// A time in its two largest parts, as `1 hour 2 minutes`, from a second on.
+function wordsOfTime(milliseconds) {
+  const seconds = Math.round(milliseconds / 1000);
+  const parts = [[Math.floor(seconds / 3600), "hour"], [Math.floor(seconds / 60) % 60, "minute"], [seconds % 60, "second"]];
+  const told = parts.filter(([count]) => count > 0).map(([count, word]) => `${count} ${word}${count === 1 ? "" : "s"}`);
+  return told.slice(0, 2).join(" ");
+}
+
 // The inputs among lines: each command or question with its first word, and the text of `wire` and `asm`.
 function readInputs(lines) {
   const inputs = [];

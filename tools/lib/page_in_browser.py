@@ -23,13 +23,39 @@ WITHOUT_NAMES = """
 return [...document.querySelectorAll("button, input, select, textarea")].filter((each) => !each.textContent.trim() && !each.ariaLabel
   && !each.labels?.length && !each.getAttribute("aria-labelledby")).length"""
 
-# The cycles that are due in the first frame after an hour, and in the next one 10 ms later.
+# What is told after an hour, in milliseconds and in words, and the cycles that are due then, 10 ms later and 0.9 s later.
 AFTER_AN_HOUR = """
-const clock = new Clock({});
-Object.assign(clock, { before: 0, owed: 0 });
-const due = clock.due(3600000);
-clock.before = 3600000;
-return [due, clock.due(3600010)]"""
+const found = [];
+const clock = new Clock({ stoodStill: (...told) => found.push(...told) });
+clock.goOn(0, 0);
+clock.hide();
+for (const time of [3600000, 3600010, 3600910]) {
+  clock.skipGap(time, time);
+  found.push(clock.due(time));
+  clock.before = time;
+}
+return [...found, wordsOfTime(3600000), wordsOfTime(3723000)]"""
+
+# Takes note of the kept session while the page is hidden and at the moment when it is shown again.
+WATCH_HIDDEN = """
+window.keptWhenHidden = [];
+const id = location.hash.slice("#session=".length);
+indexedDB.open("fethsaim", 1).onsuccess = (opened) => {
+  const note = () => {
+    const asked = opened.target.result.transaction("sessions").objectStore("sessions").get(id);
+    asked.onsuccess = () => window.keptWhenHidden.push(`${asked.result.revision} ${asked.result.file.join("")}`);
+  };
+  document.addEventListener("visibilitychange", () => (document.hidden ? setTimeout(note, 1000) : note()));
+}"""
+KEPT_WHEN_HIDDEN = "const kept = window.keptWhenHidden; return [kept.length, new Set(kept).size]"
+
+# The browser runs nothing of the page for so many milliseconds.
+BLOCK = "const end = performance.now() + arguments[0]; while (performance.now() < end);"
+
+RATE = "return Number(document.getElementById('rate').textContent.replace(/\\D/g, ''))"
+SHOWN_CONTROLS = """
+return [...document.querySelectorAll("button, input, select, textarea")].filter((each) => each.checkVisibility())
+  .map((each) => each.textContent)"""
 
 # The next call of the module traps.
 TRAP = """
@@ -48,6 +74,23 @@ Bench.prototype.tryToServe = function () {
   throw new BenchRefusal(90);
 }"""
 
+# The next call of the module traps, and then there is no memory for another instance.
+NO_ROOM_FOR_MODULE = TRAP + """
+const made = WebAssembly.Instance;
+WebAssembly.Instance = function () {
+  WebAssembly.Instance = made;
+  throw new RangeError("out of memory");
+}"""
+
+# Ways to have no store.
+NO_STORE = {
+    "no IndexedDB": "Object.defineProperty(window, 'indexedDB', { value: undefined })",
+    "IndexedDB and locks are refused": "IDBFactory.prototype.open = () => { throw new DOMException('', 'SecurityError'); };"
+                                       "LockManager.prototype.request = async () => { throw new DOMException('', 'SecurityError'); }",
+    "a store that does not answer": "IDBFactory.prototype.open = () => ({})",
+}
+NO_READING = "IDBObjectStore.prototype.getAll = () => { throw new DOMException('', 'UnknownError'); }"
+
 # The browser's store takes nothing more.
 FULL_STORE = """
 window.put = IDBObjectStore.prototype.put;
@@ -63,12 +106,12 @@ new MutationObserver((_, own) => {
 }).observe(document.getElementById("digits"), { childList: true, characterData: true, subtree: true })"""
 
 CYCLES_A_SECOND = """
-const done = arguments[0];
+window.cyclesASecond = 0;
 Bench.load(MODULE).then((bench) => {
   const file = bench.serve(bench.begin(), linesOfExample(EXAMPLES[0])).file;
   const begun = performance.now();
   bench.serve(file, "run 100000\\n".repeat(500));
-  done((5e7 / (performance.now() - begun)) * 1000);
+  window.cyclesASecond = (5e7 / (performance.now() - begun)) * 1000;
 })"""
 
 
@@ -195,7 +238,8 @@ def focused(browser, key, code, most=40):
 
 
 def check_keyboard_alone(browser):
-    browser.script("document.activeElement.blur(); scrollTo(0, 0)")
+    # After its last element the browser has its own.
+    browser.script("document.getElementById('name').focus()")
     verdict("Tab comes to Step", focused(browser, TAB, "e.id === 'step'"), True)
     browser.keys([ENTER])
     comes(browser, "Enter steps", STATUS, "One instruction was done.")
@@ -213,8 +257,35 @@ def check_narrow(browser):
     browser.command("Emulation.clearDeviceMetricsOverride")
 
 
-def check_sleep(browser):
-    verdict("after an hour in the background no more than a frame is owed", browser.script(AFTER_AN_HOUR), [20000, 925])
+def check_hidden(browser):
+    """A hidden page stands still, and so does one that the browser does not run."""
+    browser.script(WATCH_HIDDEN)
+    shown = browser.tab()
+    browser.new_tab()
+    time.sleep(2.5)
+    browser.close_tab(shown)
+    comes(browser, "a page that was hidden says for how long it stood still", STATUS,
+          re.compile(r"^Time runs\. It stood still for \d+ seconds while this page was hidden\.$"))
+    comes(browser, "what is kept did not change meanwhile", KEPT_WHEN_HIDDEN, [2, 1])
+    comes(browser, "and it runs on as fast as it should", RATE, re.compile("^9[0-4]...$"))
+    browser.script(BLOCK, 1500)
+    comes(browser, "the same where the browser did not run the page", STATUS,
+          re.compile(r"stood still for \d+ seconds while the browser did not run this page\.$"))
+    verdict("after an hour in the background nothing is owed, and a slow frame owes little", browser.inside(AFTER_AN_HOUR),
+            [3600000, True, 0, 925, 20000, "1 hour", "1 hour 2 minutes"])
+
+
+def check_speed_field(browser):
+    """Some browsers fill in a field again after a reload, others where the page is come back to: the speed is the one that it says."""
+    for what, come_again in {"a reload": lambda: browser.script("setTimeout(() => location.reload(), 50)"),
+                             "coming back": lambda: (browser.go("about:blank"), browser.script("history.back()"))}.items():
+        browser.type_into("#speed", "full")
+        browser.script("delete document.body.dataset.ready")
+        come_again()
+        browser.until(READY, True)
+        is_full = browser.script("return document.getElementById('speed').value") == "full"
+        verdict(f"the speed after {what} is the one in its field", browser.until(RATE, re.compile("[1-9]")) > 200000, is_full)
+    browser.script(SPEED, "real")
 
 
 def told_of(browser, editor, text):
@@ -251,15 +322,13 @@ def lines_answered(browser, lines):
 
 def check_two_tabs(browser):
     address = browser.script("return location.href")
-    first = browser.do("GET", "/window")
-    second = browser.do("POST", "/window/new", {"type": "tab"})["handle"]
-    browser.do("POST", "/window", {"handle": second})
+    first = browser.tab()
+    browser.new_tab()
     browser.go(address)
     browser.until(READY, True)
     verdict("a second tab on the session is told so", browser.script(NOTICE), re.compile("open in another tab"))
     verdict("and shows another session", browser.script("return location.href") != address, True)
-    browser.do("DELETE", "/window")
-    browser.do("POST", "/window", {"handle": first})
+    browser.close_tab(first)
 
 
 def check_failures(browser):
@@ -267,14 +336,14 @@ def check_failures(browser):
     choose_example(browser, "calculator")
     browser.keys([ESCAPE, "1", "2"])
     browser.until(DIGITS, "12")
-    browser.script(TRAP)
+    browser.inside(TRAP)
     comes(browser, "a trap is told", NOTICE, re.compile("the module stopped inside a call .unreachable. and was started anew"))
     verdict("the session is as it was", browser.script(DIGITS), "12")
     browser.click("#notice button")
     browser.click("#run")
     browser.keys(["3"])
     comes(browser, "and goes on", DIGITS, "123")
-    browser.script(WANT_OF_MEMORY)
+    browser.inside(WANT_OF_MEMORY)
     comes(browser, "want of memory is told", NOTICE, re.compile("no 90: there was no memory"))
     comes(browser, "the session is as it was then, too", DIGITS, "123")
     browser.script(FULL_STORE)
@@ -283,28 +352,59 @@ def check_failures(browser):
     browser.script("IDBObjectStore.prototype.put = window.put")
     lines_answered(browser, "seq")
     verdict("once it is kept the notice goes", browser.script(NOTICE), "")
+    browser.inside(NO_ROOM_FOR_MODULE)
+    browser.click("#step")
+    comes(browser, "no memory for the module after a trap is told", NOTICE, re.compile("no 90: there was no memory"))
+    verdict("and the session is as it was", browser.script(DIGITS), "123")
 
 
-def with_script(browser, code, page):
-    """The page, begun in a browser that lacks something."""
-    number = browser.command("Page.addScriptToEvaluateOnNewDocument", source=code)["identifier"]
+def poor(page, folder, code):
+    """A page like this one, in a browser that lacks something; it waits for a store for a short time alone."""
+    text = page.read_text().replace("const TIME_OF_STORE = 10000;", "const TIME_OF_STORE = 300;")
+    made = folder / "poor.html"
+    made.write_text(text.replace("<body>", f"<body><script>{code}</script>", 1))
+    return made
+
+
+def told_at_start(browser, page):
     browser.go("about:blank")
     browser.go(page.as_uri())
-    found = browser.until(NOTICE, re.compile("."))
-    browser.command("Page.removeScriptToEvaluateOnNewDocument", identifier=number)
-    return found
+    return browser.until(NOTICE, re.compile("."))
 
 
-def check_poor_browsers(browser, page):
-    verdict("no 64-bit memory", with_script(browser, "WebAssembly.validate = () => false", page), re.compile(r"Memory64.*133.*134"))
-    told = with_script(browser, "Object.defineProperty(window, 'indexedDB', { value: undefined })", page)
-    verdict("no store", told, re.compile("keeps nothing"))
-    browser.until(READY, True)
-    comes(browser, "and the bench works all the same", DIGITS, "0")
-    browser.script("window.onbeforeunload = null")
+def works(browser, what):
+    comes(browser, what, READY, True)
+    browser.keys([ESCAPE, "6", "*", "7", ENTER])
+    comes(browser, "and the bench works all the same", DIGITS, "42")
 
 
-def check_all(browser, page, folder, mcs4):
+def check_poor_browsers(browser, page, folder):
+    verdict("no 64-bit memory", told_at_start(browser, poor(page, folder, "WebAssembly.validate = () => false")),
+            re.compile(r"Memory64.*133.*134"))
+    verdict("no button without a use", browser.script(SHOWN_CONTROLS), ["Dismiss"])
+    for lack, code in NO_STORE.items():
+        verdict(lack, told_at_start(browser, poor(page, folder, code)), re.compile("keeps nothing"))
+        works(browser, lack)
+        verdict("a line is answered", lines_answered(browser, "poke r5 9"), re.compile(r"poke r5 9ok \d+"))
+        browser.click("#sessions-button")
+        comes(browser, "the sessions of this page are shown", "return document.querySelectorAll('#kept li').length", 1)
+        browser.click("#close-sessions")
+    verdict("a store that cannot be read", told_at_start(browser, poor(page, folder, NO_READING)), re.compile("could not be read"))
+    works(browser, "a store that cannot be read")
+
+
+def check_blocked(kind, page, folder):
+    """The page in a browser whose settings block the data of all sites."""
+    browser = kind(folder / f"blocked{kind.name}", str(folder / "downloads"), **kind.blocks_data)
+    try:
+        verdict("blocked data of sites", told_at_start(browser, page), re.compile("its settings block the data of sites"))
+        works(browser, "blocked data of sites")
+    finally:
+        browser.end()
+
+
+def check_use(browser, page, folder, mcs4):
+    """What the page does in a browser that has all."""
     browser.go(page.as_uri())
     comes(browser, "the page is ready", READY, True)
     verdict("without a notice", browser.script(NOTICE), "")
@@ -314,12 +414,22 @@ def check_all(browser, page, folder, mcs4):
     check_stops(browser)
     check_keyboard_alone(browser)
     check_texts(browser)
-    check_narrow(browser)
-    check_sleep(browser)
     check_two_tabs(browser)
-    verdict("no fault in the browser's log", [line for line in browser.log() if "favicon" not in line], [])
+    choose_example(browser, "calculator")
+    check_hidden(browser)
+    check_speed_field(browser)
+
+
+def check_lacks(browser, page, folder):
+    """What it does where something fails or is missing."""
     check_failures(browser)
-    check_poor_browsers(browser, page)
+    check_poor_browsers(browser, page, folder)
+
+
+def check_by_chromium(browser):
+    """What Chromium's driver alone can show."""
+    check_narrow(browser)
+    verdict("no fault in the browser's log", [line for line in browser.log() if "favicon" not in line], [])
 
 
 def figures(browser, page):
@@ -335,12 +445,13 @@ def figures(browser, page):
         times.append(browser.until("return window.seen > 0 ? 1 : 0", 1) and browser.script("return window.seen"))
         if len(times) == len(DIGIT_KEYS):
             browser.keys([ESCAPE])
-    speed = browser.wait_script(CYCLES_A_SECOND)
+    browser.inside(CYCLES_A_SECOND)
+    speed = browser.until("return window.cyclesASecond", re.compile("[1-9]"), 60)
     times.sort()
     size = len(module_of_page(page))
     median = times[len(times) // 2]
     return (f"the page has {page.stat().st_size} bytes, its module {size}; it starts in {start} ms; a key shows after {median:.0f} ms"
-            f" (at most {times[-1]:.0f}); {speed / 1e6:.0f} million cycles a second in Chromium")
+            f" (at most {times[-1]:.0f}); {speed / 1e6:.0f} million cycles a second in {browser.name} {browser.version}")
 
 
 def take_picture(browser, page, path):

@@ -2,7 +2,7 @@
 
 import sys
 
-from web_driver import fits
+from driven import fits
 
 counts = {"passed": 0, "failed": 0}
 

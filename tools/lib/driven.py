@@ -1,0 +1,70 @@
+"""What can be done to a page in any browser that is driven; web_driver.py and marionette.py say how each is told."""
+
+import re
+import time
+
+ELEMENT = "element-6066-11e4-a52e-4f735466cecf"
+# Between one finger and the next.
+PAUSE = {"type": "pause", "duration": 10}
+
+
+class Fault(Exception):
+    """What the driver or the page answered instead of a value."""
+
+
+def fits(found, wanted):
+    """Whether a value is what is wanted; a pattern has to be found in it."""
+    return bool(wanted.search(str(found))) if isinstance(wanted, re.Pattern) else found == wanted
+
+
+class Driven:
+    def show(self, selector):
+        """Scrolls an element to the middle, where nothing else lies over it."""
+        self.script("document.querySelector(arguments[0]).scrollIntoView({ block: 'center' })", selector)
+
+    def click(self, selector):
+        self.show(selector)
+        self.click_element(self.find(selector))
+
+    def type_into(self, selector, text):
+        self.send_to_element(self.find(selector), text)
+
+    def text(self, selector):
+        return self.script("return document.querySelector(arguments[0]).textContent", selector)
+
+    def fingers(self, selectors, time_down):
+        """As many fingers, each on one element: they go down one after the other, are down together for so many milliseconds, and go up."""
+        self.show(selectors[0])
+        self.actions(*[{
+            "type": "pointer", "id": f"finger{number}", "parameters": {"pointerType": "touch"},
+            "actions": [
+                {"type": "pointerMove", "duration": 0, "x": 0, "y": 0, "origin": {ELEMENT: self.find(selector)}},
+                *[PAUSE] * number,
+                {"type": "pointerDown", "button": 0},
+                *[PAUSE] * (len(selectors) - 1 - number),
+                {"type": "pause", "duration": time_down},
+                {"type": "pointerUp", "button": 0},
+            ],
+        } for number, selector in enumerate(selectors)])
+
+    def keys(self, keys, time_down=70, time_up=60):
+        """Keys of the keyboard, one after the other."""
+        steps = []
+        for key in keys:
+            steps += [{"type": "keyDown", "value": key}, {"type": "pause", "duration": time_down},
+                      {"type": "keyUp", "value": key}, {"type": "pause", "duration": time_up}]
+        self.actions({"type": "key", "id": "keyboard", "actions": steps})
+
+    def until(self, code, wanted, seconds=10):
+        """Waits until a script answers what is wanted, or a text that has a pattern; gives what it answered last. A script that fails,
+        as one does while the page goes, is tried again."""
+        end = time.monotonic() + seconds
+        while True:
+            try:
+                found = self.script(code)
+                if fits(found, wanted) or time.monotonic() > end:
+                    return found
+            except Fault:
+                if time.monotonic() > end:
+                    raise
+            time.sleep(0.05)
