@@ -26,22 +26,20 @@ asked (Line (Change c)) = Some c
 asked (Text kind text) = result_ok (command_of_text kind text)
 asked i = None
 
--- the same, where the state does not refuse it
+-- that command as a list: empty where there is none or the state refuses it
 abbrev pub accepted : BenchState → Option Command → List Command
 accepted s (Some c) = elim (refusal s c) [ None ↦ c ∷ [] | Some fault ↦ [] ]
 accepted s None = []
 
--- whether an input takes memory, which may be refused: a text, a listing, and the wiring of the
--- board
+-- whether an input takes memory, which may be refused: a text, `list` and `board`
 abbrev pub takes_memory : Input → Bool
 takes_memory (Text kind text) = true
 takes_memory (Line (Listing at lines)) = true
 takes_memory (Line Board) = true
 takes_memory i = false
 
--- What may come of an input: it is answered by the state; or its command was accepted, and the
--- device failed as it was recorded; or its command met a closed session; or memory for it was
--- refused.
+-- What may come of an input: the state gave the answer; or its command was accepted, and the device
+-- failed as it was recorded; or its command met a closed session; or memory for it was refused.
 unfoldable pub MayEnd : Standing → Input → Outcome → Type 0
 MayEnd m i Plain = (asked i ≡ None) ⊎ (m.live ≡ true)
 MayEnd m i Device = (accepted m.state (asked i) ≢ []) × (m.live ≡ true)
@@ -63,7 +61,7 @@ reached s i Plain = accepted s (asked i)
 reached s i Device = accepted s (asked i)
 reached s i o = []
 
--- the answer to a command by the state
+-- the answer that the state gives to a command
 abbrev pub change_answer : BenchState → Command → List ℕ
 change_answer s c =
     elim (refusal s c) [
@@ -71,12 +69,12 @@ change_answer s c =
       | Some fault ↦ no_text (bench_fault_number fault)
     ]
 
--- the answer to a text, by the command that it spells or why it spells none
+-- the answer that the state gives to a text: to the command that it spells, or why it spells none
 abbrev pub spelled_answer : BenchState → Result Command TextRefusal → List ℕ
 spelled_answer s (Ok c) = change_answer s c
 spelled_answer s (Err why) = text_refusal why
 
--- the answer to an input by the state
+-- the answer that the state gives to an input
 abbrev pub plain_answer : BenchState → Input → List ℕ
 plain_answer s (Line Nothing) = []
 plain_answer s (Line (Begin kind)) = []
