@@ -7,7 +7,7 @@ use Rattle.std.proofs.lemmas.List.{take_at, drop_at, take-append-drop, append-ni
 use Rattle.std.proofs.lemmas.Nat.{be_bytes_2, be_bytes_4, from_be_bytes-to_be_bytes_2, from_be_bytes-to_be_bytes_4}
 use Rattle.mcs_codec.specs.BoardBytes.{counted}
 use Rattle.mcs_codec.specs.CommandBytes.{address}
-use Rattle.mcs_codec.specs.Reading.{◌>>=◌, giving, byte_at, number_at, address_at, bytes_at, passing, only, depending, both, many, small_at, nothing_after, whole, decoding, decoded, giving_rest, done_at, counted_at}
+use Rattle.mcs_codec.specs.Reading.{◌>>=◌, and_then, Read, Reading, giving, byte_at, number_at, address_at, bytes_at, only, many, small_at, whole_value, whole, counted_at}
 
 -- ---- bytes
 
@@ -17,9 +17,9 @@ IsBytes bytes = (i : ℕ) → get_or bytes i 0 < 256
 pub IsBytes-rest : (b : ℕ) (bytes : List ℕ) → IsBytes (b ∷ bytes) → IsBytes bytes
 IsBytes-rest b bytes h i = h (suc i)
 
-pub IsBytes-behind : (front rest : List ℕ) → IsBytes (front ++ rest) → IsBytes rest
-IsBytes-behind [] rest h = h
-IsBytes-behind (b ∷ front) rest h = IsBytes-behind front rest (IsBytes-rest b (front ++ rest) h)
+pub IsBytes-after : (front rest : List ℕ) → IsBytes (front ++ rest) → IsBytes rest
+IsBytes-after [] rest h = h
+IsBytes-after (b ∷ front) rest h = IsBytes-after front rest (IsBytes-rest b (front ++ rest) h)
 
 IsBytes-take : (n : ℕ) (bytes : List ℕ) → IsBytes bytes → IsBytes (take n bytes)
 IsBytes-take n bytes h i =
@@ -28,15 +28,12 @@ IsBytes-take n bytes h i =
       | inr le ↦ rw (get_or_past (take n bytes) i 0 (omega (arith, length-take n bytes))) (omega arith)
     ]
 
--- ---- options
+-- ---- steps
 
-pub bind_some : {A B : Type 0} (r : Option A) (f : A → Option B) (y : B) → (r >>= f) ≡ Some y → (x : A) × (r ≡ Some x) × (f x ≡ Some y)
-bind_some (Some x) f y e = (x, refl, e)
-bind_some None f y e = absurd cc
-
-pub giving_some : {A B : Type 0} (f : A → B) (r : Option (A × List ℕ)) (y : B × List ℕ) → giving f r ≡ Some y → (x : A × List ℕ) × (r ≡ Some x) × ((f x.0, x.1) ≡ y)
-giving_some f (Some x) y e = (x, refl, cc)
-giving_some f None y e = absurd cc
+-- a step that reads, and reading that goes on, have each given something
+pub then_some : {A B : Type 0} (r : Read A) (next : A → Reading B) (y : B × List ℕ) → and_then r next ≡ Some y → (x : A × List ℕ) × (r ≡ Some x) × (next x.0 x.1 ≡ Some y)
+then_some (Some x) next y e = (x, refl, e)
+then_some None next y e = absurd cc
 
 guarded : {A : Type 0} (b : Bool) (x y : A) → cond b None (Some x) ≡ Some y → (b ≡ false) × (x ≡ y)
 guarded true x y e = absurd cc
@@ -46,15 +43,10 @@ kept : {A : Type 0} (b : Bool) (x y : A) → cond b (Some x) None ≡ Some y →
 kept true x y e = (refl, cc)
 kept false x y e = absurd cc
 
-decoded_some : {A B : Type 0} (decode : A → Option B) (a : A × List ℕ) (x : B × List ℕ) → decoded decode a ≡ Some x → (b : B) × (decode a.0 ≡ Some b) × ((b, a.1) ≡ x)
-decoded_some {A} {B} decode a x e =
-    let Q : Option B → Type 0 = λ o. (decode a.0 ≡ o) → giving_rest a.1 o ≡ Some x → (b : B) × (decode a.0 ≡ Some b) × ((b, a.1) ≡ x) in
-    (elim (decode a.0) as Q [ Some b ↦ λ is h. (b, is, cc) | None ↦ λ is h. absurd cc ]) refl e
-
 -- ---- the law
 
 -- what is read is spelled and in range, and what is in range is read from its spelling, whatever follows
-pub record IsCodec {A : Type 0} (spell : A → List ℕ) (fits : A → Type 0) (read : List ℕ → Option (A × List ℕ)) : Type 0 where
+pub record IsCodec {A : Type 0} (spell : A → List ℕ) (fits : A → Type 0) (read : Reading A) : Type 0 where
   pub takes : (bytes : List ℕ) (x : A × List ℕ) → IsBytes bytes → read bytes ≡ Some x → (bytes ≡ spell x.0 ++ x.1) × fits x.0
   pub again : (a : A) (rest : List ℕ) → fits a → read (spell a ++ rest) ≡ Some (a, rest)
 
@@ -140,52 +132,76 @@ bytes_codec count = record {
 -- ---- combinators
 
 -- a value that passes a test
-pub only_codec : {A : Type 0} {s : A → List ℕ} {f : A → Type 0} {r : List ℕ → Option (A × List ℕ)} (test : A → Bool) → IsCodec s f r → IsCodec s (λ a. f a × (test a ≡ true)) (only test r)
+pub only_codec : {A : Type 0} {s : A → List ℕ} {f : A → Type 0} {r : Reading A} (test : A → Bool) → IsCodec s f r → IsCodec s (λ a. f a × (test a ≡ true)) (only test r)
 only_codec {A} {s} {f} {r} test codec = record {
   takes = λ bytes x all e.
-      let b = bind_some (r bytes) (passing test) x e in
+      let b = then_some (r bytes) (λ a rest. cond (test a) (Some (a, rest)) None) x e in
       let g = kept (test b.0.0) b.0 x b.2 in
       let t = codec.takes bytes b.0 all b.1 in
       subst (λ (y : A × List ℕ). (bytes ≡ s y.0 ++ y.1) × (f y.0 × (test y.0 ≡ true))) g.1 (t.0, (t.1, g.0));
   again = λ a rest h. rw (codec.again a rest h.0) (rw h.1 refl);
 }
 
--- a value, and another whose spelling depends on it
-pub depending_codec : {A B : Type 0} {s : A → List ℕ} {f : A → Type 0} {r : List ℕ → Option (A × List ℕ)} {t : A → B → List ℕ} {g : A → B → Type 0} {q : A → List ℕ → Option (B × List ℕ)} → IsCodec s f r → ((a : A) → f a → IsCodec (t a) (g a) (q a))
-    → IsCodec (λ (p : A × B). s p.0 ++ t p.0 p.1) (λ p. f p.0 × g p.0 p.1) (depending r q)
-depending_codec {A} {B} {s} {f} {r} {t} {g} {q} first second = record {
+-- The steps of a block, c, are read one after the other, and then the block ends.
+pub record Steps {C B : Type 0} (s : C → List ℕ) (f : C → Type 0) (end : C → Reading B) (read : Reading B) : Type 0 where
+  pub takes : (bytes : List ℕ) (x : B × List ℕ) → IsBytes bytes → read bytes ≡ Some x → (c : C × List ℕ) × (bytes ≡ s c.0 ++ c.1) × f c.0 × (end c.0 c.1 ≡ Some x)
+  pub again : (c : C) (rest : List ℕ) → f c → read (s c ++ rest) ≡ end c rest
+
+-- one step, and the end
+pub last : {A B : Type 0} {s : A → List ℕ} {f : A → Type 0} {r : Reading A} (end : A → Reading B) → IsCodec s f r → Steps s f end (r >>= end)
+last {A} {B} {s} {f} {r} end codec = record {
   takes = λ bytes x all e.
-      let a = bind_some (r bytes) (λ (a : A × List ℕ). giving (λ b. (a.0, b)) (q a.0 a.1)) x e in
-      let b = giving_some (λ b. (a.0.0, b)) (q a.0.0 a.0.1) x a.2 in
-      let one = first.takes bytes a.0 all a.1 in
-      let two = (second a.0.0 one.1).takes a.0.1 b.0 (IsBytes-behind (s a.0.0) a.0.1 (subst IsBytes one.0 all)) b.1 in
-      let parts : bytes ≡ (s a.0.0 ++ t a.0.0 b.0.0) ++ b.0.1 = one.0 ∙ ap (λ (l : List ℕ). s a.0.0 ++ l) two.0 ∙ sym (append_assoc (s a.0.0) (t a.0.0 b.0.0) b.0.1) in
-      subst (λ (y : (A × B) × List ℕ). (bytes ≡ (s y.0.0 ++ t y.0.0 y.0.1) ++ y.1) × (f y.0.0 × g y.0.0 y.0.1)) b.2 (parts, (one.1, two.1));
-  again = λ p rest h.
-      ap (depending r q) (append_assoc (s p.0) (t p.0 p.1) rest) ∙ rw (first.again p.0 (t p.0 p.1 ++ rest) h.0) (rw ((second p.0 h.0).again p.1 rest h.1) refl);
+      let a = then_some (r bytes) end x e in
+      let t = codec.takes bytes a.0 all a.1 in
+      (a.0, t.0, t.1, a.2);
+  again = λ c rest h. rw (codec.again c rest h) refl;
 }
 
--- one value after the other
-pub both_codec : {A B : Type 0} {s : A → List ℕ} {f : A → Type 0} {r : List ℕ → Option (A × List ℕ)} {t : B → List ℕ} {g : B → Type 0} {q : List ℕ → Option (B × List ℕ)} → IsCodec s f r → IsCodec t g q
-    → IsCodec (λ (p : A × B). s p.0 ++ t p.1) (λ p. f p.0 × g p.1) (both r q)
-both_codec first second = depending_codec first (λ _ _. second)
+-- one step, and nothing after it
+pub tail : {A : Type 0} {s : A → List ℕ} {f : A → Type 0} {r : Reading A} → IsCodec s f r → Steps s f giving r
+tail codec = record {
+  takes = λ bytes x all e. let t = codec.takes bytes x all e in (x, t.0, t.1, refl);
+  again = λ c rest h. codec.again c rest h;
+}
+
+-- no step
+pub no_step : {B : Type 0} (end : Unit {0} → Reading B) → Steps (λ (_ : Unit {0}). []) (λ _. Unit {0}) end (end tt)
+no_step end = record {
+  takes = λ bytes x all e. ((tt, bytes), refl, tt, e);
+  again = λ c rest h. refl;
+}
+
+-- one step, and more, which may depend on it
+pub next : {A C B : Type 0} {s : A → List ℕ} {f : A → Type 0} {r : Reading A} {t : A → C → List ℕ} {g : A → C → Type 0} {q : A → Reading B} (end : A × C → Reading B)
+    → IsCodec s f r → ((a : A) → f a → Steps (t a) (g a) (λ c. end (a, c)) (q a)) → Steps (λ (p : A × C). s p.0 ++ t p.0 p.1) (λ p. f p.0 × g p.0 p.1) end (r >>= q)
+next {A} {C} {B} {s} {f} {r} {t} {g} {q} end first second = record {
+  takes = λ bytes x all e.
+      let a = then_some (r bytes) q x e in
+      let one = first.takes bytes a.0 all a.1 in
+      let two = (second a.0.0 one.1).takes a.0.1 x (IsBytes-after (s a.0.0) a.0.1 (subst IsBytes one.0 all)) a.2 in
+      let parts : bytes ≡ (s a.0.0 ++ t a.0.0 two.0.0) ++ two.0.1 = one.0 ∙ ap (λ (l : List ℕ). s a.0.0 ++ l) two.1 ∙ sym (append_assoc (s a.0.0) (t a.0.0 two.0.0) two.0.1) in
+      (((a.0.0, two.0.0), two.0.1), parts, (one.1, two.2), two.3);
+  again = λ p rest h.
+      ap (r >>= q) (append_assoc (s p.0) (t p.0 p.1) rest) ∙ rw (first.again p.0 (t p.0 p.1 ++ rest) h.0) ((second p.0 h.0).again p.1 rest h.1);
+}
 
 -- that many values
-many_takes : {A : Type 0} {s : A → List ℕ} {f : A → Type 0} {r : List ℕ → Option (A × List ℕ)} → IsCodec s f r → (n : ℕ) (bytes : List ℕ) (x : List A × List ℕ) → IsBytes bytes → many n r bytes ≡ Some x
+many_takes : {A : Type 0} {s : A → List ℕ} {f : A → Type 0} {r : Reading A} → IsCodec s f r → (n : ℕ) (bytes : List ℕ) (x : List A × List ℕ) → IsBytes bytes → many n r bytes ≡ Some x
     → (bytes ≡ flat_map s x.0 ++ x.1) × ((length x.0 ≡ n) × AllByRecursion f x.0)
 unfolding many
 many_takes {A} {s} {f} {r} codec zero bytes x all e =
     let same : ([], bytes) ≡ x = cc in
     subst (λ (y : List A × List ℕ). (bytes ≡ flat_map s y.0 ++ y.1) × ((length y.0 ≡ 0) × AllByRecursion f y.0)) same (refl, (refl, tt))
 many_takes {A} {s} {f} {r} codec (suc n) bytes x all e =
-    let a = bind_some (r bytes) (λ (a : A × List ℕ). giving (λ rest. a.0 ∷ rest) (many n r a.1)) x e in
-    let b = giving_some (λ rest. a.0.0 ∷ rest) (many n r a.0.1) x a.2 in
+    let a = then_some (r bytes) (λ first. many n r >>= λ others. giving (first ∷ others)) x e in
+    let b = then_some (many n r a.0.1) (λ others. giving (a.0.0 ∷ others)) x a.2 in
+    let made : (a.0.0 ∷ b.0.0, b.0.1) ≡ x = let i = b.2 in cc in
     let one = codec.takes bytes a.0 all a.1 in
-    let two = many_takes codec n a.0.1 b.0 (IsBytes-behind (s a.0.0) a.0.1 (subst IsBytes one.0 all)) b.1 in
+    let two = many_takes codec n a.0.1 b.0 (IsBytes-after (s a.0.0) a.0.1 (subst IsBytes one.0 all)) b.1 in
     let parts : bytes ≡ (s a.0.0 ++ flat_map s b.0.0) ++ b.0.1 = one.0 ∙ ap (λ (l : List ℕ). s a.0.0 ++ l) two.0 ∙ sym (append_assoc (s a.0.0) (flat_map s b.0.0) b.0.1) in
-    subst (λ (y : List A × List ℕ). (bytes ≡ flat_map s y.0 ++ y.1) × ((length y.0 ≡ suc n) × AllByRecursion f y.0)) b.2 (parts, (ap suc two.1.0, (one.1, two.1.1)))
+    subst (λ (y : List A × List ℕ). (bytes ≡ flat_map s y.0 ++ y.1) × ((length y.0 ≡ suc n) × AllByRecursion f y.0)) made (parts, (ap suc two.1.0, (one.1, two.1.1)))
 
-many_again : {A : Type 0} {s : A → List ℕ} {f : A → Type 0} {r : List ℕ → Option (A × List ℕ)} → IsCodec s f r → (n : ℕ) (l : List A) (rest : List ℕ) → length l ≡ n → AllByRecursion f l → many n r (flat_map s l ++ rest) ≡ Some (l, rest)
+many_again : {A : Type 0} {s : A → List ℕ} {f : A → Type 0} {r : Reading A} → IsCodec s f r → (n : ℕ) (l : List A) (rest : List ℕ) → length l ≡ n → AllByRecursion f l → many n r (flat_map s l ++ rest) ≡ Some (l, rest)
 unfolding many
 many_again codec zero [] rest len h = refl
 many_again codec zero (a ∷ l) rest len h = absurd cc
@@ -194,41 +210,42 @@ many_again {A} {s} {f} {r} codec (suc n) (a ∷ l) rest len h =
     let short : length l ≡ n = cc in
     ap (many (suc n) r) (append_assoc (s a) (flat_map s l) rest) ∙ rw (codec.again a (flat_map s l ++ rest) h.0) (rw (many_again codec n l rest short h.1) refl)
 
-pub many_codec : {A : Type 0} {s : A → List ℕ} {f : A → Type 0} {r : List ℕ → Option (A × List ℕ)} (n : ℕ) → IsCodec s f r → IsCodec (flat_map s) (λ l. (length l ≡ n) × AllByRecursion f l) (many n r)
+pub many_codec : {A : Type 0} {s : A → List ℕ} {f : A → Type 0} {r : Reading A} (n : ℕ) → IsCodec s f r → IsCodec (flat_map s) (λ l. (length l ≡ n) × AllByRecursion f l) (many n r)
 many_codec n codec = record { takes = many_takes codec n; again = λ l rest h. many_again codec n l rest h.0 h.1 }
 
--- a value made of what is read
-pub giving_codec : {A B : Type 0} {s : A → List ℕ} {f : A → Type 0} {r : List ℕ → Option (A × List ℕ)} (make : A → B) (parts : B → A) (spell : B → List ℕ) (fits : B → Type 0) → IsCodec s f r
-    → ((a : A) → f a → (spell (make a) ≡ s a) × fits (make a)) → ((b : B) → fits b → (make (parts b) ≡ b) × f (parts b)) → IsCodec spell fits (λ bytes. giving make (r bytes))
-giving_codec {A} {B} {s} {f} {r} make parts spell fits codec made unmade = record {
+-- ---- blocks
+
+-- what the end of a block says of a value b that is read and of the steps c
+pub record Ends {C B : Type 0} (s : C → List ℕ) (f : C → Type 0) (spell : B → List ℕ) (fits : B → Type 0) (end : C → Reading B) : Type 0 where
+  pub made : (c : C) (rest : List ℕ) (x : B × List ℕ) → f c → end c rest ≡ Some x → (spell x.0 ≡ s c) × (rest ≡ x.1) × fits x.0
+  pub unmade : (b : B) → fits b → (c : C) × (spell b ≡ s c) × f c × ((rest : List ℕ) → end c rest ≡ Some (b, rest))
+
+pub block_codec : {B C : Type 0} {s : C → List ℕ} {f : C → Type 0} {spell : B → List ℕ} {fits : B → Type 0} {end : C → Reading B} {q : Reading B} → Steps s f end q → Ends s f spell fits end → IsCodec spell fits q
+block_codec {B} {C} {s} {f} {spell} {fits} {end} {q} steps ends = record {
   takes = λ bytes x all e.
-      let a = giving_some make (r bytes) x e in
-      let t = codec.takes bytes a.0 all a.1 in
-      let m = made a.0.0 t.1 in
-      subst (λ (y : B × List ℕ). (bytes ≡ spell y.0 ++ y.1) × fits y.0) a.2 (t.0 ∙ ap (λ (l : List ℕ). l ++ a.0.1) (sym m.0), m.1);
+      let c = steps.takes bytes x all e in
+      let m = ends.made c.0.0 c.0.1 x c.2 c.3 in
+      (c.1 ∙ ap (λ (l : List ℕ). s c.0.0 ++ l) m.1 ∙ ap (λ (l : List ℕ). l ++ x.1) (sym m.0), m.2);
   again = λ b rest h.
-      let u = unmade b h in
-      let text : spell b ≡ s (parts b) = sym (ap spell u.0) ∙ (made (parts b) u.1).0 in
-      rw text (rw (codec.again (parts b) rest u.1) (ap (λ (v : B). Some (v, rest)) u.0));
+      let u = ends.unmade b h in
+      ap (λ (l : List ℕ). q (l ++ rest)) u.1 ∙ steps.again u.0 rest u.2 ∙ u.3 rest;
 }
 
--- a value that some of what is read stands for
-pub decoding_codec : {A B : Type 0} {s : A → List ℕ} {f : A → Type 0} {r : List ℕ → Option (A × List ℕ)} (decode : A → Option B) (spell : B → List ℕ) (fits : B → Type 0) → IsCodec s f r
-    → ((a : A) (b : B) → f a → decode a ≡ Some b → (spell b ≡ s a) × fits b) → ((b : B) → fits b → (a : A) × (spell b ≡ s a) × f a × (decode a ≡ Some b)) → IsCodec spell fits (decoding decode r)
-decoding_codec {A} {B} {s} {f} {r} decode spell fits codec made unmade = record {
-  takes = λ bytes x all e.
-      let a = bind_some (r bytes) (decoded decode) x e in
-      let d = decoded_some decode a.0 x a.2 in
-      let t = codec.takes bytes a.0 all a.1 in
-      let m = made a.0.0 d.0 t.1 d.1 in
-      subst (λ (y : B × List ℕ). (bytes ≡ spell y.0 ++ y.1) × fits y.0) d.2 (t.0 ∙ ap (λ (l : List ℕ). l ++ a.0.1) (sym m.0), m.1);
-  again = λ b rest h.
+-- a block that ends by giving a value made of its steps
+pub giving_codec : {C B : Type 0} {s : C → List ℕ} {f : C → Type 0} {q : Reading B} (make : C → B) (parts : B → C) (spell : B → List ℕ) (fits : B → Type 0) → Steps s f (λ c. giving (make c)) q
+    → ((c : C) → f c → (spell (make c) ≡ s c) × fits (make c)) → ((b : B) → fits b → (make (parts b) ≡ b) × f (parts b)) → IsCodec spell fits q
+giving_codec {C} {B} {s} {f} {q} make parts spell fits steps made unmade = block_codec steps (record {
+  made = λ c rest x h e.
+      let same : (make c, rest) ≡ x = cc in
+      let m = made c h in
+      subst (λ (y : B × List ℕ). (spell y.0 ≡ s c) × (rest ≡ y.1) × fits y.0) same (m.0, refl, m.1);
+  unmade = λ b h.
       let u = unmade b h in
-      rw u.1 (rw (codec.again u.0 rest u.2) (rw u.3 refl));
-}
+      (parts b, sym (ap spell u.0) ∙ (made (parts b) u.1).0, u.1, λ rest. ap (λ (v : B). Some (v, rest)) u.0);
+})
 
 -- another way to say the range
-pub refit_codec : {A : Type 0} {s : A → List ℕ} {f : A → Type 0} {r : List ℕ → Option (A × List ℕ)} (fits : A → Type 0) → ((a : A) → f a → fits a) → ((a : A) → fits a → f a) → IsCodec s f r → IsCodec s fits r
+pub refit_codec : {A : Type 0} {s : A → List ℕ} {f : A → Type 0} {r : Reading A} (fits : A → Type 0) → ((a : A) → f a → fits a) → ((a : A) → fits a → f a) → IsCodec s f r → IsCodec s fits r
 refit_codec fits to from codec = record {
   takes = λ bytes x all e. let t = codec.takes bytes x all e in (t.0, to x.0 t.1);
   again = λ a rest h. codec.again a rest (from a h);
@@ -242,15 +259,11 @@ small_codec limit le = refit_codec (λ b. b < limit) (λ b h. ltb-true _ _ h.1) 
 pub address_codec : IsCodec address (λ n. n < 4096) address_at
 address_codec = refit_codec (λ n. n < 4096) (λ n h. ltb-true _ _ h.1) (λ n h. (omega arith, lt-ltb _ _ h)) (only_codec (λ n. ltb n 4096) word_codec)
 
--- nothing at all
-pub done_codec : IsCodec (λ (u : Unit {0}). []) (λ _. Unit {0}) done_at
-done_codec = record { takes = λ bytes x all e. let same : (tt, bytes) ≡ x = cc in subst (λ (y : Unit {0} × List ℕ). (bytes ≡ y.1) × Unit {0}) same (refl, tt); again = λ a rest h. refl }
-
 -- a count, and that many values
-pub counted_codec : {A : Type 0} {s : A → List ℕ} {f : A → Type 0} {r : List ℕ → Option (A × List ℕ)} (limit : ℕ) → limit < 256 → IsCodec s f r → IsCodec (counted s) (λ l. (length l ≤ limit) × AllByRecursion f l) (counted_at limit r)
+pub counted_codec : {A : Type 0} {s : A → List ℕ} {f : A → Type 0} {r : Reading A} (limit : ℕ) → limit < 256 → IsCodec s f r → IsCodec (counted s) (λ l. (length l ≤ limit) × AllByRecursion f l) (counted_at limit r)
 unfolding counted_at
 counted_codec {A} {s} {f} {r} limit lt codec = giving_codec (λ (p : ℕ × List A). p.1) (λ l. (length l, l)) (counted s) (λ l. (length l ≤ limit) × AllByRecursion f l)
-    (depending_codec (only_codec (λ n. leb n limit) byte_codec) (λ n h. many_codec n codec))
+    (next _ (only_codec (λ n. leb n limit) byte_codec) (λ n h. tail (many_codec n codec)))
     (λ p h. let le : p.0 ≤ limit = leb-true _ _ h.0.1 in (ap (λ n. n ∷ flat_map s p.1) h.1.0, (omega (arith, h.1.0), h.1.1)))
     (λ l h. (refl, ((omega (arith, h.0), le-leb _ _ h.0), (refl, h.1))))
 
@@ -258,7 +271,7 @@ all_units : {A : Type 0} (l : List A) → AllByRecursion (λ _. Unit {0}) l
 all_units [] = tt
 all_units (a ∷ l) = (tt, all_units l)
 
-pub any_counted_codec : {A : Type 0} {s : A → List ℕ} {r : List ℕ → Option (A × List ℕ)} (limit : ℕ) → limit < 256 → IsCodec s (λ _. Unit {0}) r → IsCodec (counted s) (λ l. length l ≤ limit) (counted_at limit r)
+pub any_counted_codec : {A : Type 0} {s : A → List ℕ} {r : Reading A} (limit : ℕ) → limit < 256 → IsCodec s (λ _. Unit {0}) r → IsCodec (counted s) (λ l. length l ≤ limit) (counted_at limit r)
 any_counted_codec limit lt codec = refit_codec (λ l. length l ≤ limit) (λ l h. h.0) (λ l h. (h, all_units l)) (counted_codec limit lt codec)
 
 -- ---- the rows of a tag
@@ -268,39 +281,38 @@ abbrev pub Spelled : {P : Type 0} → (P → List ℕ) → (P → Type 0) → �
 Spelled spell fits tag bytes x = (tag ∷ bytes ≡ spell x.0 ++ x.1) × fits x.0
 
 -- a row of the table of tags
-pub row : {A P : Type 0} {s : A → List ℕ} {f : A → Type 0} {r : List ℕ → Option (A × List ℕ)} {tag : ℕ} {bytes : List ℕ} {x : P × List ℕ} {other : Option (P × List ℕ)} (spell : P → List ℕ) (fits : P → Type 0) (k : ℕ) (make : A → P)
-    → IsBytes bytes → IsCodec s f r → ((a : A) → f a → (spell (make a) ≡ k ∷ s a) × fits (make a))
-    → (other ≡ Some x → Spelled spell fits tag bytes x) → cond (eqb tag k) (giving make (r bytes)) other ≡ Some x → Spelled spell fits tag bytes x
-row {A} {P} {s} {f} {r} {tag} {bytes} {x} {other} spell fits k make all codec made next e =
-    let Q : Bool → Type 0 = λ b. (eqb tag k ≡ b) → cond b (giving make (r bytes)) other ≡ Some x → Spelled spell fits tag bytes x in
+pub row : {C P : Type 0} {s : C → List ℕ} {f : C → Type 0} {read : Reading P} {tag : ℕ} {bytes : List ℕ} {x : P × List ℕ} (spell : P → List ℕ) (fits : P → Type 0) (k : ℕ) (make : C → P) (other : Reading P)
+    → IsBytes bytes → Steps s f (λ c. giving (make c)) read → ((c : C) → f c → (spell (make c) ≡ k ∷ s c) × fits (make c))
+    → (other bytes ≡ Some x → Spelled spell fits tag bytes x) → cond (eqb tag k) read other bytes ≡ Some x → Spelled spell fits tag bytes x
+row {C} {P} {s} {f} {read} {tag} {bytes} {x} spell fits k make other all steps made otherwise e =
+    let Q : Bool → Type 0 = λ b. (eqb tag k ≡ b) → cond b read other bytes ≡ Some x → Spelled spell fits tag bytes x in
     (elim (eqb tag k) as Q [
       | true ↦ λ yes h.
-          let a = giving_some make (r bytes) x h in
-          let t = codec.takes bytes a.0 all a.1 in
-          let m = made a.0.0 t.1 in
-          let parts : tag ∷ bytes ≡ spell (make a.0.0) ++ a.0.1 = rw (m.0, eqb-true _ _ yes) (ap (λ (l : List ℕ). k ∷ l) t.0) in
-          subst (λ (y : P × List ℕ). Spelled spell fits tag bytes y) a.2 (parts, m.1)
-      | false ↦ λ no h. next h
+          let c = steps.takes bytes x all h in
+          let same : (make c.0.0, c.0.1) ≡ x = let i = c.3 in cc in
+          let m = made c.0.0 c.2 in
+          let parts : tag ∷ bytes ≡ spell (make c.0.0) ++ c.0.1 = rw (m.0, eqb-true _ _ yes) (ap (λ (l : List ℕ). k ∷ l) c.1) in
+          subst (λ (y : P × List ℕ). Spelled spell fits tag bytes y) same (parts, m.1)
+      | false ↦ λ no h. otherwise h
     ]) refl e
 
 -- ---- all of the bytes
 
-all_read : {A : Type 0} (x : A × List ℕ) (a : A) → nothing_after x ≡ Some a → (x.0 ≡ a) × (x.1 ≡ [])
-all_read (x, []) a e = (cc, refl)
-all_read (x, b ∷ rest) a e = absurd cc
+all_read : {A : Type 0} (r : Read A) (a : A) → whole_value r ≡ Some a → r ≡ Some (a, [])
+all_read (Some (x, [])) a e = let same : x ≡ a = cc in ap (λ v. Some (v, [])) same
+all_read (Some (x, b ∷ rest)) a e = absurd cc
+all_read None a e = absurd cc
 
-pub whole_takes : {A : Type 0} {s : A → List ℕ} {f : A → Type 0} {r : List ℕ → Option (A × List ℕ)} → IsCodec s f r → (bytes : List ℕ) (a : A) → IsBytes bytes → whole r bytes ≡ Some a → (bytes ≡ s a) × f a
+pub whole_takes : {A : Type 0} {s : A → List ℕ} {f : A → Type 0} {r : Reading A} → IsCodec s f r → (bytes : List ℕ) (a : A) → IsBytes bytes → whole r bytes ≡ Some a → (bytes ≡ s a) × f a
 whole_takes {A} {s} {f} {r} codec bytes a all e =
-    let b = bind_some (r bytes) nothing_after a e in
-    let g = all_read b.0 a b.2 in
-    let t = codec.takes bytes b.0 all b.1 in
-    subst (λ (v : A). (bytes ≡ s v) × f v) g.0 (t.0 ∙ ap (λ (l : List ℕ). s b.0.0 ++ l) g.1 ∙ append-nil (s b.0.0), t.1)
+    let t = codec.takes bytes (a, []) all (all_read (r bytes) a e) in
+    (t.0 ∙ append-nil (s a), t.1)
 
-pub whole_again : {A : Type 0} {s : A → List ℕ} {f : A → Type 0} {r : List ℕ → Option (A × List ℕ)} → IsCodec s f r → (a : A) → f a → whole r (s a) ≡ Some a
+pub whole_again : {A : Type 0} {s : A → List ℕ} {f : A → Type 0} {r : Reading A} → IsCodec s f r → (a : A) → f a → whole r (s a) ≡ Some a
 whole_again {A} {s} {f} {r} codec a h = ap (whole r) (sym (append-nil (s a))) ∙ rw (codec.again a [] h) refl
 
 -- no bytes spell two values
-pub same_value : {A : Type 0} {s : A → List ℕ} {f : A → Type 0} {r : List ℕ → Option (A × List ℕ)} → IsCodec s f r → (a b : A) → f a → f b → s a ≡ s b → a ≡ b
+pub same_value : {A : Type 0} {s : A → List ℕ} {f : A → Type 0} {r : Reading A} → IsCodec s f r → (a b : A) → f a → f b → s a ≡ s b → a ≡ b
 same_value {A} {s} {f} {r} codec a b h k e =
     let one : Some a ≡ Some b = sym (whole_again codec a h) ∙ ap (whole r) e ∙ whole_again codec b k in
     cc

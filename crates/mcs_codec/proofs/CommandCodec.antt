@@ -5,11 +5,11 @@ use Rattle.mcs_model.specs.declared.command.Place.{Place}
 use Rattle.mcs_model.specs.declared.command.Place.TheVariants.{Acc, Cy, Pc, Register, Dcl, Rom, Ram, Status}
 use Rattle.mcs_model.specs.declared.command.Command.{Command}
 use Rattle.mcs_model.specs.declared.command.Command.TheVariants.{Wire, Load, Press, Release, Run, Step, Poke, Test, Reset, Break, Unbreak, Watch, Unwatch}
-use Rattle.mcs_codec.specs.Reading.{giving, small_at, whole}
+use Rattle.mcs_codec.specs.Reading.{◌>>=◌, Reading, giving, small_at, whole}
 use Rattle.mcs_codec.specs.CommandBytes.{place_bytes, command_bytes, IsPlace, IsCommand}
-use Rattle.mcs_codec.specs.CommandReading.{place_at, command_at, all_behind}
+use Rattle.mcs_codec.specs.CommandReading.{place_at, command_at, command_after_tag}
 use Rattle.mcs_codec.specs.Codec.{Spells}
-use Rattle.mcs_codec.proofs.Codecs.{IsCodec, IsBytes, IsBytes-rest, byte_codec, long_codec, address_codec, small_codec, both_codec, done_codec, row, whole_takes, whole_again, same_value}
+use Rattle.mcs_codec.proofs.Codecs.{IsCodec, IsBytes, IsBytes-rest, Steps, byte_codec, long_codec, address_codec, small_codec, last, next, no_step, row, whole_takes, whole_again, same_value}
 use Rattle.mcs_codec.proofs.BoardCodec.{board_codec}
 use Rattle.mcs_codec.proofs.ImageCodec.{image_codec}
 
@@ -25,70 +25,95 @@ bank_codec = small_codec 8 (omega arith)
 status_codec : IsCodec (λ n. n ∷ []) (λ n. n < 4) (small_at 4)
 status_codec = small_codec 4 (omega arith)
 
+-- ---- the steps of a row
+
+one : {A P : Type 0} {s : A → List ℕ} {f : A → Type 0} {r : Reading A} (make : A → P) → IsCodec s f r → Steps s f (λ a. giving (make a)) (do a ← r; giving (make a))
+one make a = last _ a
+
+two : {A B P : Type 0} {s : A → List ℕ} {f : A → Type 0} {r : Reading A} {t : B → List ℕ} {g : B → Type 0} {q : Reading B} (make : A → B → P) → IsCodec s f r → IsCodec t g q
+    → Steps (λ (p : A × B). s p.0 ++ t p.1) (λ p. f p.0 × g p.1) (λ p. giving (make p.0 p.1)) (do a ← r; b ← q; giving (make a b))
+two make a b = next _ a (λ _ _. last _ b)
+
+three : {A B C P : Type 0} {s : A → List ℕ} {f : A → Type 0} {r : Reading A} {t : B → List ℕ} {g : B → Type 0} {q : Reading B} {u : C → List ℕ} {h : C → Type 0} {w : Reading C} (make : A → B → C → P) → IsCodec s f r → IsCodec t g q → IsCodec u h w
+    → Steps (λ (p : A × (B × C)). s p.0 ++ (t p.1.0 ++ u p.1.1)) (λ p. f p.0 × (g p.1.0 × h p.1.1)) (λ p. giving (make p.0 p.1.0 p.1.1)) (do a ← r; b ← q; c ← w; giving (make a b c))
+three make a b c = next _ a (λ _ _. next _ b (λ _ _. last _ c))
+
+-- a status character: bank, upper nibble of the SRC byte, number, value
+abbrev StatusParts : Type 0
+StatusParts = ℕ × (ℕ × (ℕ × ℕ))
+
+status_steps : Steps (λ (p : StatusParts). p.0 ∷ p.1.0 ∷ p.1.1.0 ∷ p.1.1.1 ∷ []) (λ p. (p.0 < 8) × ((p.1.0 < 16) × ((p.1.1.0 < 4) × (p.1.1.1 < 16)))) (λ p. giving (Status p.0 p.1.0 p.1.1.0 p.1.1.1))
+    (do bank ← small_at 8; high ← small_at 16; k ← small_at 4; n ← small_at 16; giving (Status bank high k n))
+status_steps = next _ bank_codec (λ _ _. next _ nibble_codec (λ _ _. next _ status_codec (λ _ _. last _ nibble_codec)))
+
+-- ---- places
+
 place_takes : (bytes : List ℕ) (x : Place × List ℕ) → IsBytes bytes → place_at bytes ≡ Some x → (bytes ≡ place_bytes x.0 ++ x.1) × IsPlace x.0
 unfolding place_at
 place_takes [] x all e = absurd cc
 place_takes (tag ∷ bytes) x all e =
     let rest = IsBytes-rest tag bytes all in
-    row place_bytes IsPlace 0 Acc rest nibble_codec (λ a h. (refl, h))
-    (row place_bytes IsPlace 1 Cy rest bit_codec (λ a h. (refl, h))
-    (row place_bytes IsPlace 2 Pc rest address_codec (λ a h. (refl, h))
-    (row place_bytes IsPlace 3 (λ p. Register p.0 p.1) rest (both_codec nibble_codec nibble_codec) (λ a h. (refl, h))
-    (row place_bytes IsPlace 4 Dcl rest bank_codec (λ a h. (refl, h))
-    (row place_bytes IsPlace 5 (λ p. Rom p.0 p.1) rest (both_codec address_codec byte_codec) (λ a h. (refl, h))
-    (row place_bytes IsPlace 6 (λ p. Ram p.0 p.1.0 p.1.1) rest (both_codec bank_codec (both_codec byte_codec nibble_codec)) (λ a h. (refl, h))
-    (row place_bytes IsPlace 7 (λ p. Status p.0 p.1.0 p.1.1.0 p.1.1.1) rest (both_codec bank_codec (both_codec nibble_codec (both_codec status_codec nibble_codec))) (λ a h. (refl, h))
+    row place_bytes IsPlace 0 Acc _ rest (one Acc nibble_codec) (λ a h. (refl, h))
+    (row place_bytes IsPlace 1 Cy _ rest (one Cy bit_codec) (λ a h. (refl, h))
+    (row place_bytes IsPlace 2 Pc _ rest (one Pc address_codec) (λ a h. (refl, h))
+    (row place_bytes IsPlace 3 (λ p. Register p.0 p.1) _ rest (two Register nibble_codec nibble_codec) (λ a h. (refl, h))
+    (row place_bytes IsPlace 4 Dcl _ rest (one Dcl bank_codec) (λ a h. (refl, h))
+    (row place_bytes IsPlace 5 (λ p. Rom p.0 p.1) _ rest (two Rom address_codec byte_codec) (λ a h. (refl, h))
+    (row place_bytes IsPlace 6 (λ p. Ram p.0 p.1.0 p.1.1) _ rest (three Ram bank_codec byte_codec nibble_codec) (λ a h. (refl, h))
+    (row place_bytes IsPlace 7 (λ p. Status p.0 p.1.0 p.1.1.0 p.1.1.1) _ rest status_steps (λ a h. (refl, h))
     (λ none. absurd cc)))))))) e
 
 place_again : (p : Place) (rest : List ℕ) → IsPlace p → place_at (place_bytes p ++ rest) ≡ Some (p, rest)
 unfolding place_at
-place_again (Acc n) rest h = ap (giving Acc) (nibble_codec.again n rest h)
-place_again (Cy b) rest h = ap (giving Cy) (bit_codec.again b rest h)
-place_again (Pc at) rest h = ap (giving Pc) (address_codec.again at rest h)
-place_again (Register r n) rest h = ap (giving (λ p. Register p.0 p.1)) ((both_codec nibble_codec nibble_codec).again (r, n) rest h)
-place_again (Dcl bank) rest h = ap (giving Dcl) (bank_codec.again bank rest h)
-place_again (Rom at byte) rest h = ap (giving (λ p. Rom p.0 p.1)) ((both_codec address_codec byte_codec).again (at, byte) rest h)
-place_again (Ram bank src n) rest h = ap (giving (λ p. Ram p.0 p.1.0 p.1.1)) ((both_codec bank_codec (both_codec byte_codec nibble_codec)).again (bank, (src, n)) rest h)
-place_again (Status bank high k n) rest h = ap (giving (λ p. Status p.0 p.1.0 p.1.1.0 p.1.1.1)) ((both_codec bank_codec (both_codec nibble_codec (both_codec status_codec nibble_codec))).again (bank, (high, (k, n))) rest h)
+place_again (Acc n) rest h = (one Acc nibble_codec).again n rest h
+place_again (Cy b) rest h = (one Cy bit_codec).again b rest h
+place_again (Pc at) rest h = (one Pc address_codec).again at rest h
+place_again (Register r n) rest h = (two Register nibble_codec nibble_codec).again (r, n) rest h
+place_again (Dcl bank) rest h = (one Dcl bank_codec).again bank rest h
+place_again (Rom at byte) rest h = (two Rom address_codec byte_codec).again (at, byte) rest h
+place_again (Ram bank src n) rest h = (three Ram bank_codec byte_codec nibble_codec).again (bank, (src, n)) rest h
+place_again (Status bank high k n) rest h = status_steps.again (bank, (high, (k, n))) rest h
 
 pub place_codec : IsCodec place_bytes IsPlace place_at
 place_codec = record { takes = place_takes; again = place_again }
 
+-- ---- commands
+
 command_takes : (bytes : List ℕ) (x : Command × List ℕ) → IsBytes bytes → command_at bytes ≡ Some x → (bytes ≡ command_bytes x.0 ++ x.1) × IsCommand x.0
-unfolding command_at all_behind
+unfolding command_at command_after_tag
 command_takes [] x all e = absurd cc
 command_takes (tag ∷ bytes) x all e =
     let rest = IsBytes-rest tag bytes all in
-    row command_bytes IsCommand 2 Load rest image_codec (λ a h. (refl, h))
-    (row command_bytes IsCommand 1 Wire rest board_codec (λ a h. (refl, h))
-    (row command_bytes IsCommand 3 (λ p. Press p.0 p.1) rest (both_codec byte_codec byte_codec) (λ a h. (refl, h))
-    (row command_bytes IsCommand 4 (λ p. Release p.0 p.1) rest (both_codec byte_codec byte_codec) (λ a h. (refl, h))
-    (row command_bytes IsCommand 5 Run rest long_codec (λ a h. (refl, h))
-    (row command_bytes IsCommand 6 (λ _. Step) rest done_codec (λ a h. (refl, h))
-    (row command_bytes IsCommand 7 Poke rest place_codec (λ a h. (refl, h))
-    (row command_bytes IsCommand 8 Test rest bit_codec (λ a h. (refl, h))
-    (row command_bytes IsCommand 9 (λ _. Reset) rest done_codec (λ a h. (refl, h))
-    (row command_bytes IsCommand 10 Break rest address_codec (λ a h. (refl, h))
-    (row command_bytes IsCommand 11 Unbreak rest address_codec (λ a h. (refl, h))
-    (row command_bytes IsCommand 12 (λ p. Watch p.0 p.1) rest (both_codec bank_codec byte_codec) (λ a h. (refl, h))
-    (row command_bytes IsCommand 13 (λ p. Unwatch p.0 p.1) rest (both_codec bank_codec byte_codec) (λ a h. (refl, h))
+    row command_bytes IsCommand 2 Load _ rest (one Load image_codec) (λ a h. (refl, h))
+    (row command_bytes IsCommand 1 Wire _ rest (one Wire board_codec) (λ a h. (refl, h))
+    (row command_bytes IsCommand 3 (λ p. Press p.0 p.1) _ rest (two Press byte_codec byte_codec) (λ a h. (refl, h))
+    (row command_bytes IsCommand 4 (λ p. Release p.0 p.1) _ rest (two Release byte_codec byte_codec) (λ a h. (refl, h))
+    (row command_bytes IsCommand 5 Run _ rest (one Run long_codec) (λ a h. (refl, h))
+    (row command_bytes IsCommand 6 (λ _. Step) _ rest (no_step _) (λ a h. (refl, h))
+    (row command_bytes IsCommand 7 Poke _ rest (one Poke place_codec) (λ a h. (refl, h))
+    (row command_bytes IsCommand 8 Test _ rest (one Test bit_codec) (λ a h. (refl, h))
+    (row command_bytes IsCommand 9 (λ _. Reset) _ rest (no_step _) (λ a h. (refl, h))
+    (row command_bytes IsCommand 10 Break _ rest (one Break address_codec) (λ a h. (refl, h))
+    (row command_bytes IsCommand 11 Unbreak _ rest (one Unbreak address_codec) (λ a h. (refl, h))
+    (row command_bytes IsCommand 12 (λ p. Watch p.0 p.1) _ rest (two Watch bank_codec byte_codec) (λ a h. (refl, h))
+    (row command_bytes IsCommand 13 (λ p. Unwatch p.0 p.1) _ rest (two Unwatch bank_codec byte_codec) (λ a h. (refl, h))
     (λ none. absurd cc))))))))))))) e
 
 command_again : (c : Command) (rest : List ℕ) → IsCommand c → command_at (command_bytes c ++ rest) ≡ Some (c, rest)
-unfolding command_at all_behind
-command_again (Wire board) rest h = ap (giving Wire) (board_codec.again board rest h)
-command_again (Load image) rest h = ap (giving Load) (image_codec.again image rest h)
+unfolding command_at command_after_tag
+command_again (Wire board) rest h = (one Wire board_codec).again board rest h
+command_again (Load image) rest h = (one Load image_codec).again image rest h
 command_again (Press r k) rest h = refl
 command_again (Release r k) rest h = refl
-command_again (Run n) rest h = ap (giving Run) (long_codec.again n rest h)
+command_again (Run n) rest h = (one Run long_codec).again n rest h
 command_again Step rest h = refl
-command_again (Poke p) rest h = ap (giving Poke) (place_codec.again p rest h)
-command_again (Test b) rest h = ap (giving Test) (bit_codec.again b rest h)
+command_again (Poke p) rest h = (one Poke place_codec).again p rest h
+command_again (Test b) rest h = (one Test bit_codec).again b rest h
 command_again Reset rest h = refl
-command_again (Break at) rest h = ap (giving Break) (address_codec.again at rest h)
-command_again (Unbreak at) rest h = ap (giving Unbreak) (address_codec.again at rest h)
-command_again (Watch bank src) rest h = ap (giving (λ p. Watch p.0 p.1)) ((both_codec bank_codec byte_codec).again (bank, src) rest h)
-command_again (Unwatch bank src) rest h = ap (giving (λ p. Unwatch p.0 p.1)) ((both_codec bank_codec byte_codec).again (bank, src) rest h)
+command_again (Break at) rest h = (one Break address_codec).again at rest h
+command_again (Unbreak at) rest h = (one Unbreak address_codec).again at rest h
+command_again (Watch bank src) rest h = (two Watch bank_codec byte_codec).again (bank, src) rest h
+command_again (Unwatch bank src) rest h = (two Unwatch bank_codec byte_codec).again (bank, src) rest h
 
 pub command_codec : IsCodec command_bytes IsCommand command_at
 command_codec = record { takes = command_takes; again = command_again }

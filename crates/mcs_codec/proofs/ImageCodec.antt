@@ -12,11 +12,11 @@ use Rattle.std.proofs.lemmas.Bool.Decides.{nat_tests}
 use Rattle.mcs_nibble.specs.Bits.{bit_of}
 use Rattle.mcs_nibble.specs.Tabled.{tabled}
 use Rattle.mcs_nibble.proofs.TabledLemmas.{tabled_from, get_or-tabled, length-tabled}
-use Rattle.mcs_codec.specs.Reading.{giving, byte_at}
+use Rattle.mcs_codec.specs.Reading.{◌>>=◌, giving, byte_at}
 use Rattle.mcs_model.specs.Images.{IsImage}
 use Rattle.mcs_codec.specs.CommandBytes.{mark, byte_of, map_bytes, image_bytes, values}
 use Rattle.mcs_codec.specs.CommandReading.{map_bit_at, pairs_at, image_at}
-use Rattle.mcs_codec.proofs.Codecs.{AreCells, IsCodec, IsBytes, IsBytes-rest, bind_some, giving_some, byte_codec, bytes_codec, depending_codec, giving_codec, refit_codec}
+use Rattle.mcs_codec.proofs.Codecs.{AreCells, IsCodec, IsBytes, IsBytes-rest, then_some, byte_codec, bytes_codec, next, tail, giving_codec, refit_codec}
 
 -- by rising address from one on, below a limit
 abbrev pub AreFrom : ℕ → ℕ → List (ℕ × ℕ) → Type 0
@@ -67,15 +67,16 @@ pairs_takes marks (suc n) at limit bytes x k all e =
     elim (bit_cases marks at) [
       | inl h ↦
           let e' = rw h at e in
-          let a = bind_some (byte_at bytes) (λ (b : ℕ × List ℕ). giving (λ rest. (at, b.0) ∷ rest) (pairs_at marks n (at + 1) b.1)) x e' in
-          let b = giving_some (λ rest. (at, a.0.0) ∷ rest) (pairs_at marks n (at + 1) a.0.1) x a.2 in
+          let a = then_some (byte_at bytes) (λ byte. pairs_at marks n (at + 1) >>= λ others. giving ((at, byte) ∷ others)) x e' in
+          let b = then_some (pairs_at marks n (at + 1) a.0.1) (λ others. giving ((at, a.0.0) ∷ others)) x a.2 in
+          let made : ((at, a.0.0) ∷ b.0.0, b.0.1) ≡ x = let i = b.2 in cc in
           let one = byte_codec.takes bytes a.0 all a.1 in
           let two = pairs_takes marks n (at + 1) limit a.0.1 b.0 (omega arith) (IsBytes-rest a.0.0 a.0.1 (subst IsBytes one.0 all)) b.1 in
           let marked : IsMarked marks at limit ((at, a.0.0) ∷ b.0.0) = λ v le lt. elim (above at v le) [
             | inl more ↦ later_mark (at, a.0.0) b.0.0 v more ∙ two.1.1 v (omega arith) lt
             | inr is ↦ own_mark (at, a.0.0) b.0.0 v (sym is) ∙ sym h ∙ ap (map_bit_at marks) (sym is)
           ] in
-          subst (λ (y : List (ℕ × ℕ) × List ℕ). (bytes ≡ values y.0 ++ y.1) × (AreFrom at limit y.0 × IsMarked marks at limit y.0)) b.2
+          subst (λ (y : List (ℕ × ℕ) × List ℕ). (bytes ≡ values y.0 ++ y.1) × (AreFrom at limit y.0 × IsMarked marks at limit y.0)) made
           (one.0 ∙ ap (λ (l : List ℕ). a.0.0 ∷ l) two.0, ((omega arith, omega arith, one.1, two.1.0), marked))
       | inr h ↦
           let e' = rw h at e in
@@ -106,8 +107,8 @@ pairs_again marks (suc n) at limit (p ∷ image) rest k h m =
       | inr is ↦
           let same : mark (p ∷ image) at ≡ 1 = own_mark p image at is in
           let some : map_bit_at marks at ≡ 1 = sym (m at (omega arith) (omega arith)) ∙ same in
-          let tail : AreFrom (at + 1) limit image = rw is at h.3 in
-          let back = pairs_again marks n (at + 1) limit image rest (omega arith) tail (λ v le lt. sym (later_mark p image v (omega arith)) ∙ m v (omega arith) lt) in
+          let later : AreFrom (at + 1) limit image = rw is at h.3 in
+          let back = pairs_again marks n (at + 1) limit image rest (omega arith) later (λ v le lt. sym (later_mark p image v (omega arith)) ∙ m v (omega arith) lt) in
           rw (some, back) (rw (← is) refl)
     ]
 
@@ -180,7 +181,7 @@ map_cells image =
 rising_codec : IsCodec image_bytes (AreFrom 0 4096) image_at
 unfolding image_at
 rising_codec = giving_codec (λ (p : List ℕ × List (ℕ × ℕ)). p.1) (λ image. (map_bytes image, image)) image_bytes (AreFrom 0 4096)
-    (depending_codec (bytes_codec 512) (λ marks _. pairs_codec marks))
+    (next _ (bytes_codec 512) (λ marks _. tail (pairs_codec marks)))
     (λ p h. (ap (λ (l : List ℕ). l ++ values p.1) (same_map p.0 p.1 h.0 h.1.1), h.1.0))
     (λ image h. (refl, (map_cells image, (h, map_marks image))))
 

@@ -8,12 +8,12 @@ use Rattle.mcs_nibble.specs.Ports.{mask_at, mask_character}
 use Rattle.mcs_model.specs.declared.board.BoardParts.{BoardParts}
 use Rattle.mcs_model.specs.Validity.{IsValidBoard}
 use Rattle.mcs_version1.specs.Boards.{is_small}
-use Rattle.mcs_codec.specs.Reading.{giving, only}
+use Rattle.mcs_codec.specs.Reading.{◌>>=◌, giving, only}
 use Rattle.mcs_codec.specs.BoardBytes.{rom_bytes, board_bytes}
 use Rattle.mcs_codec.specs.BoardReading.{board_at}
 use Rattle.mcs_codec.specs.Marked.{marked_bytes, is_marked, marked_at, watches_bytes, watches_at}
 use Rattle.mcs_codec.specs.Codec.{version_told}
-use Rattle.mcs_codec.proofs.Codecs.{IsCodec, IsBytes, IsBytes-rest, giving_some, counted_codec, only_codec, word_codec}
+use Rattle.mcs_codec.proofs.Codecs.{IsCodec, IsBytes, IsBytes-rest, Steps, last, counted_codec, only_codec, word_codec}
 use Rattle.mcs_codec.proofs.BoardCodec.{board_codec}
 
 -- ---- the first byte of a board
@@ -47,31 +47,38 @@ FitsMark x = IsValidBoard x.1 × (x.0 ≡ true → is_small x.1 ≡ true)
 small_codec : IsCodec board_bytes (λ b. IsValidBoard b × (is_small b ≡ true)) (only is_small board_at)
 small_codec = only_codec is_small board_codec
 
+-- what is read after the mark, and where there is none
+marked_steps : Steps {B = Bool × BoardParts} board_bytes IsValidBoard (λ b. giving (false, b)) (do board ← board_at; giving (false, board))
+marked_steps = last _ board_codec
+
+small_steps : Steps {B = Bool × BoardParts} board_bytes (λ b. IsValidBoard b × (is_small b ≡ true)) (λ b. giving (true, b)) (do board ← only is_small board_at; giving (true, board))
+small_steps = last _ small_codec
+
+small-takes : (bytes : List ℕ) (x : (Bool × BoardParts) × List ℕ) → IsBytes bytes → (only is_small board_at >>= λ board. giving (true, board)) bytes ≡ Some x → (bytes ≡ marked_bytes x.0 ++ x.1) × FitsMark x.0
+small-takes bytes x all e =
+    let t = small_steps.takes bytes x all e in
+    let same : ((true, t.0.0), t.0.1) ≡ x = let i = t.3 in cc in
+    subst (λ (y : (Bool × BoardParts) × List ℕ). (bytes ≡ marked_bytes y.0 ++ y.1) × FitsMark y.0) same (t.1, (t.2.0, λ _. t.2.1))
+
 by-first : (n : ℕ) (bytes : List ℕ) (x : (Bool × BoardParts) × List ℕ) → IsBytes (n ∷ bytes) → (v : Bool) → eqb n 2 ≡ v
-    → cond v (giving (λ (b : BoardParts). (false, b)) (board_at bytes)) (giving (λ (b : BoardParts). (true, b)) (only is_small board_at (n ∷ bytes))) ≡ Some x
+    → cond v (board_at >>= λ board. giving (false, board)) (only is_small board_at >>= λ board. giving (true, board)) (cond v bytes (n ∷ bytes)) ≡ Some x
     → (n ∷ bytes ≡ marked_bytes x.0 ++ x.1) × FitsMark x.0
 by-first n bytes x all true is e =
-    let g = giving_some (λ (b : BoardParts). (false, b)) (board_at bytes) x e in
-    let t = board_codec.takes bytes g.0 (IsBytes-rest n bytes all) g.1 in
+    let t = marked_steps.takes bytes x (IsBytes-rest n bytes all) e in
+    let same : ((false, t.0.0), t.0.1) ≡ x = let i = t.3 in cc in
     let two : n ≡ 2 = eqb-true n 2 is in
-    subst (λ (y : (Bool × BoardParts) × List ℕ). (n ∷ bytes ≡ marked_bytes y.0 ++ y.1) × FitsMark y.0) g.2 (ap (λ m. m ∷ bytes) two ∙ ap (λ l. 2 ∷ l) t.0, (t.1, λ no. absurd (cc)))
-by-first n bytes x all false is e =
-    let g = giving_some (λ (b : BoardParts). (true, b)) (only is_small board_at (n ∷ bytes)) x e in
-    let t = small_codec.takes (n ∷ bytes) g.0 all g.1 in
-    subst (λ (y : (Bool × BoardParts) × List ℕ). (n ∷ bytes ≡ marked_bytes y.0 ++ y.1) × FitsMark y.0) g.2 (t.0, (t.1.0, λ _. t.1.1))
+    subst (λ (y : (Bool × BoardParts) × List ℕ). (n ∷ bytes ≡ marked_bytes y.0 ++ y.1) × FitsMark y.0) same (ap (λ m. m ∷ bytes) two ∙ ap (λ l. 2 ∷ l) t.1, (t.2, λ no. absurd (cc)))
+by-first n bytes x all false is e = small-takes (n ∷ bytes) x all e
 
 marked-takes : (bytes : List ℕ) (x : (Bool × BoardParts) × List ℕ) → IsBytes bytes → marked_at bytes ≡ Some x → (bytes ≡ marked_bytes x.0 ++ x.1) × FitsMark x.0
 unfolding marked_at
-marked-takes [] x all e =
-    let g = giving_some (λ (b : BoardParts). (true, b)) (only is_small board_at []) x e in
-    let t = small_codec.takes [] g.0 all g.1 in
-    subst (λ (y : (Bool × BoardParts) × List ℕ). ([] ≡ marked_bytes y.0 ++ y.1) × FitsMark y.0) g.2 (t.0, (t.1.0, λ _. t.1.1))
+marked-takes [] x all e = small-takes [] x all e
 marked-takes (n ∷ bytes) x all e = by-first n bytes x all (eqb n 2) refl e
 
 marked-again : (x : Bool × BoardParts) (rest : List ℕ) → FitsMark x → marked_at (marked_bytes x ++ rest) ≡ Some (x, rest)
 unfolding marked_at
-marked-again (false, b) rest h = ap (giving (λ (c : BoardParts). (false, c))) (board_codec.again b rest h.0)
-marked-again (true, b) rest h = rw ((board-begins b rest h.0).unmarked) (ap (giving (λ (c : BoardParts). (true, c))) (small_codec.again b rest (h.0, h.1 refl)))
+marked-again (false, b) rest h = marked_steps.again b rest h.0
+marked-again (true, b) rest h = rw ((board-begins b rest h.0).unmarked) (small_steps.again b rest (h.0, h.1 refl))
 
 pub marked_codec : IsCodec marked_bytes FitsMark marked_at
 marked_codec = record { takes = marked-takes; again = marked-again }

@@ -14,16 +14,17 @@ use Rattle.mcs_model.specs.declared.command.Command.TheVariants.{Wire, Load, Pre
 use Rattle.mcs_model.specs.declared.command.Place.{Place}
 use Rattle.mcs_model.specs.declared.command.Place.TheVariants.{Acc, Cy, Pc, Register, Dcl, Rom, Ram, Status}
 use Rattle.mcs_model.specs.declared.limits.TheConstants.{CHAIN_CHIPS, CHAIN_BITS}
+use Rattle.mcs_model.specs.declared.regs.Regs.{Regs}
 use Rattle.mcs_model.specs.Boards.{board_fault_of}
 use Rattle.mcs_model.specs.Bus.{BusState}
 use Rattle.mcs_model.specs.BenchState.{BenchState}
 use Rattle.mcs_model.specs.Validity.{IsValid}
 use Rattle.mcs_codec.specs.BoardBytes.{rom_bytes, line_bytes, chain_bytes, counted, keys_bytes, board_bytes}
 use Rattle.mcs_codec.specs.CommandBytes.{address, place_bytes, command_bytes, IsCommand}
-use Rattle.mcs_codec.specs.StateBytes.{memory_bytes, registers_bytes, sources_bytes, wiring_bytes, groups_bytes, state_bytes}
+use Rattle.mcs_codec.specs.StateBytes.{memory_bytes, registers_bytes, sources_bytes, wiring_bytes, after_board, state_bytes}
 use Rattle.mcs_codec.proofs.BoardLengths.{IsMask, IsKeys, HasLengths, lengths_of, chips_of, keys_of}
 use Rattle.mcs_codec.proofs.ImageCodec.{length-image}
-use Rattle.mcs_codec.proofs.StateCodec.{AreRows, HasMemory, HasRegisters, HasWiring, shape_of}
+use Rattle.mcs_codec.proofs.StateCodec.{AreRows, HasMemory, HasRegisters, HasSources, HasWiring, memory_of, registers_of, sources_of, wiring_state, shape_of}
 
 pub each_is : {A : Type 0} (s : A → List ℕ) (f : A → Type 0) (k : ℕ) → ((a : A) → f a → length (s a) ≡ k) → (l : List A) → AllByRecursion f l → length (flat_map s l) ≡ length l * k
 each_is s f k one [] h = omega arith
@@ -80,7 +81,7 @@ length-rows (c ∷ chains) (row ∷ rows) h few =
     let rest : length (flat_map (λ row. row) rows) ≤ length chains * CHAIN_BITS = length-rows chains rows h.1 few.1 in
     omega (arith, h.0.len, few.0, length-append row (flat_map (λ row. row) rows))
 
-length-memory : (b : BusState) → HasMemory b → length (memory_bytes b) ≡ 6704
+length-memory : (b : BusState) → HasMemory (memory_of b) → length (memory_bytes b) ≡ 6704
 length-memory b h =
     let four = b.ram_ports ++ b.rom_ports in
     let three = b.status ++ four in
@@ -101,15 +102,14 @@ length-memory b h =
 addresses : (l : List ℕ) → length (flat_map address l) ≡ length l * 2
 addresses l = each_is address (λ _. Unit {0}) 2 (λ a h. refl) l (units l)
 
-length-registers : (s : BenchState) → HasRegisters s → length (registers_bytes s.processor) ≡ 26
-length-registers s h =
-    let p = s.processor in
+length-registers : (p : Regs) → HasRegisters (registers_of p) → length (registers_bytes p) ≡ 26
+length-registers p h =
     omega (arith, h.r.len, h.ret.0, addresses p.ret, length-append p.r (address p.pc ++ flat_map address p.ret), length-append (address p.pc) (flat_map address p.ret))
 
-length-sources : (s : BenchState) → HasRegisters s → length (sources_bytes s.processor.dcl s.bus.rom_src s.bus.ram_src s.processor.owed) ≡ 11
+length-sources : (s : BenchState) → HasSources (sources_of s) → length (sources_bytes s.processor s.bus) ≡ 11
 length-sources s h = omega (arith, h.ram_src.len, length-append s.bus.ram_src (s.processor.owed ∷ []))
 
-length-wiring : (s : BenchState) → HasLengths s.bus.board → board_fault_of s.bus.board ≡ None → HasWiring s → length (wiring_bytes s.bus.chains s.bus.keys s.bus.test s.breakpoints) ≤ 466
+length-wiring : (s : BenchState) → HasLengths s.bus.board → board_fault_of s.bus.board ≡ None → HasWiring s.bus.board (wiring_state s) → length (wiring_bytes s.bus s.breakpoints) ≤ 466
 length-wiring s b sound h =
     let rows = length-rows s.bus.board.chains.items s.bus.chains h.chains (chips_of s.bus.board sound) in
     let keys = keys_of s.bus.board b.keys sound in
@@ -121,12 +121,12 @@ length-state s valid =
     let h = shape_of s valid in
     let lengths = lengths_of s.bus.board h.board in
     let m = length-memory s.bus h.memory in
-    let r = length-registers s h.registers in
-    let x = length-sources s h.registers in
+    let r = length-registers s.processor h.registers in
+    let x = length-sources s h.sources in
     let w = length-wiring s lengths h.board.valid h.wiring in
     let b = length-board s.bus.board lengths in
-    let wiring = wiring_bytes s.bus.chains s.bus.keys s.bus.test s.breakpoints in
-    let sources = sources_bytes s.processor.dcl s.bus.rom_src s.bus.ram_src s.processor.owed in
+    let wiring = wiring_bytes s.bus s.breakpoints in
+    let sources = sources_bytes s.processor s.bus in
     let watches = counted address s.watches in
     let three = sources ++ (wiring ++ watches) in
     let two = registers_bytes s.processor ++ three in
@@ -143,7 +143,7 @@ length-state s valid =
       length-append (registers_bytes s.processor) three,
       length-append sources (wiring ++ watches),
       length-append wiring watches,
-      length-append (board_bytes s.bus.board) (groups_bytes s.processor s.bus s.breakpoints watches),
+      length-append (board_bytes s.bus.board) (after_board s),
     )
 
 -- ---- a command

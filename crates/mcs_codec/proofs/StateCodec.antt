@@ -9,7 +9,7 @@ use Rattle.mcs_model.specs.BenchState.{BenchState}
 use Rattle.mcs_model.specs.Boards.{no_chain}
 use Rattle.mcs_model.specs.Bus.{BusState}
 use Rattle.mcs_model.specs.Validity.{AreBelow, IsValid, IsValidBoard}
-use Rattle.mcs_codec.specs.Reading.{giving, bytes_at, whole}
+use Rattle.mcs_codec.specs.Reading.{◌>>=◌, giving, bytes_at, whole}
 use Rattle.mcs_codec.specs.BoardBytes.{counted}
 use Rattle.mcs_codec.specs.CommandBytes.{address}
 use Rattle.mcs_version1.specs.Boards.{is_small}
@@ -18,9 +18,13 @@ use Rattle.mcs_version1.specs.Lift.{lift}
 use Rattle.mcs_version1.specs.Validity.{IsValid1}
 use Rattle.mcs_version1.proofs.Limits.{small-then, valid-now, valid-then}
 use Rattle.mcs_codec.specs.StateBytes.{bytes_by}
-use Rattle.mcs_codec.specs.StateReading.{memory_at, registers_at, sources_at, rows_at, breakpoints_at, wiring_at, state_at}
+use Rattle.mcs_codec.specs.StateReading.{WiringState, memory_at, registers_at, sources_at, rows_at, breakpoints_at, wiring_at, state_from, state_at}
+use Rattle.mcs_codec.specs.declared.restoring.Memory.{Memory}
+use Rattle.mcs_codec.specs.declared.restoring.Registers.{Registers}
+use Rattle.mcs_codec.specs.declared.restoring.Sources.{Sources}
+use Rattle.mcs_model.specs.declared.regs.Regs.{Regs}
 use Rattle.mcs_codec.specs.Codec.{SpellsStateBy, version_of, is_first}
-use Rattle.mcs_codec.proofs.Codecs.{AreCells, IsCodec, IsBytes, IsBytes-behind, bind_some, giving_some, byte_codec, bytes_codec, word_codec, long_codec, both_codec, depending_codec, many_codec, counted_codec, giving_codec, whole_takes, whole_again}
+use Rattle.mcs_codec.proofs.Codecs.{AreCells, IsCodec, IsBytes, IsBytes-after, then_some, byte_codec, bytes_codec, word_codec, long_codec, last, next, many_codec, counted_codec, giving_codec, whole_takes, whole_again}
 use Rattle.mcs_codec.proofs.MarkedCodec.{FitsWatches, marked_codec, watches_codec, board-begins}
 
 -- ---- widths and lengths
@@ -34,61 +38,48 @@ AreRows [] [] = Unit {0}
 AreRows (c ∷ chains) (row ∷ rows) = AreCells (10 * c.chips) 256 row × AreRows chains rows
 AreRows _ _ = ⊥
 
-pub record HasMemory (b : BusState) : Type 0 where
-  pub rom : AreCells 4096 256 b.rom
-  pub ram : AreCells 2048 256 b.ram
-  pub status : AreCells 512 256 b.status
-  pub ram_ports : AreCells 32 256 b.ram_ports
-  pub rom_ports : AreCells 16 256 b.rom_ports
-
-pub record HasRegisters (s : BenchState) : Type 0 where
-  pub acc : s.processor.acc < 256
-  pub cy : s.processor.cy < 256
-  pub r : AreCells 16 256 s.processor.r
-  pub pc : s.processor.pc < 2 ^ 16
-  pub ret : (length s.processor.ret ≡ 3) × AreWords s.processor.ret
-  pub dcl : s.processor.dcl < 256
-  pub rom_src : s.bus.rom_src < 256
-  pub ram_src : AreCells 8 256 s.bus.ram_src
-  pub owed : s.processor.owed < 256
-
-pub record HasWiring (s : BenchState) : Type 0 where
-  pub chains : AreRows s.bus.board.chains.items s.bus.chains
-  pub keys : AreCells (key_count s.bus.board) 256 s.bus.keys
-  pub test : s.bus.test < 256
-  pub breakpoints : (length s.breakpoints ≤ 32) × AreWords s.breakpoints
-
-pub record HasShape (first : Bool) (s : BenchState) : Type 0 where
-  pub seq : s.seq < 2 ^ 32
-  pub board : IsValidBoard s.bus.board
-  pub small : first ≡ true → is_small s.bus.board ≡ true
-  pub memory : HasMemory s.bus
-  pub registers : HasRegisters s
-  pub wiring : HasWiring s
-  pub watches : FitsWatches first s.watches
-
 -- ---- groups
 
-abbrev Memory : Type 0
-Memory = List ℕ × (List ℕ × (List ℕ × (List ℕ × List ℕ)))
+pub record HasMemory (m : Memory) : Type 0 where
+  pub rom : AreCells 4096 256 m.rom
+  pub ram : AreCells 2048 256 m.ram
+  pub status : AreCells 512 256 m.status
+  pub ram_ports : AreCells 32 256 m.ram_ports
+  pub rom_ports : AreCells 16 256 m.rom_ports
 
-memory_codec : IsCodec (λ (m : Memory). m.0 ++ (m.1.0 ++ (m.1.1.0 ++ (m.1.1.1.0 ++ m.1.1.1.1)))) (λ m. AreCells 4096 256 m.0 × (AreCells 2048 256 m.1.0 × (AreCells 512 256 m.1.1.0 × (AreCells 32 256 m.1.1.1.0 × AreCells 16 256 m.1.1.1.1)))) memory_at
+memory_codec : IsCodec (λ (m : Memory). m.rom ++ (m.ram ++ (m.status ++ (m.ram_ports ++ m.rom_ports)))) HasMemory memory_at
 unfolding memory_at
-memory_codec = both_codec (bytes_codec 4096) (both_codec (bytes_codec 2048) (both_codec (bytes_codec 512) (both_codec (bytes_codec 32) (bytes_codec 16))))
+memory_codec = giving_codec (λ p. record { rom = p.0; ram = p.1.0; status = p.1.1.0; ram_ports = p.1.1.1.0; rom_ports = p.1.1.1.1 }) (λ m. (m.rom, (m.ram, (m.status, (m.ram_ports, m.rom_ports))))) _ HasMemory
+    (next _ (bytes_codec 4096) (λ _ _. next _ (bytes_codec 2048) (λ _ _. next _ (bytes_codec 512) (λ _ _. next _ (bytes_codec 32) (λ _ _. last _ (bytes_codec 16))))))
+    (λ p h. (refl, record { rom = h.0; ram = h.1.0; status = h.1.1.0; ram_ports = h.1.1.1.0; rom_ports = h.1.1.1.1 }))
+    (λ m h. (refl, (h.rom, (h.ram, (h.status, (h.ram_ports, h.rom_ports))))))
 
-abbrev Registers : Type 0
-Registers = ℕ × (ℕ × (List ℕ × (ℕ × List ℕ)))
+pub record HasRegisters (p : Registers) : Type 0 where
+  pub acc : p.acc < 256
+  pub cy : p.cy < 256
+  pub r : AreCells 16 256 p.r
+  pub pc : p.pc < 2 ^ 16
+  pub ret : (length p.ret ≡ 3) × AreWords p.ret
 
-registers_codec : IsCodec (λ (r : Registers). r.0 ∷ r.1.0 ∷ (r.1.1.0 ++ (address r.1.1.1.0 ++ flat_map address r.1.1.1.1))) (λ r. (r.0 < 256) × ((r.1.0 < 256) × (AreCells 16 256 r.1.1.0 × ((r.1.1.1.0 < 2 ^ 16) × ((length r.1.1.1.1 ≡ 3) × AreWords r.1.1.1.1))))) registers_at
+registers_codec : IsCodec (λ (p : Registers). p.acc ∷ p.cy ∷ (p.r ++ (address p.pc ++ flat_map address p.ret))) HasRegisters registers_at
 unfolding registers_at
-registers_codec = both_codec byte_codec (both_codec byte_codec (both_codec (bytes_codec 16) (both_codec word_codec (many_codec 3 word_codec))))
+registers_codec = giving_codec (λ p. record { acc = p.0; cy = p.1.0; r = p.1.1.0; pc = p.1.1.1.0; ret = p.1.1.1.1 }) (λ p. (p.acc, (p.cy, (p.r, (p.pc, p.ret))))) _ HasRegisters
+    (next _ byte_codec (λ _ _. next _ byte_codec (λ _ _. next _ (bytes_codec 16) (λ _ _. next _ word_codec (λ _ _. last _ (many_codec 3 word_codec))))))
+    (λ p h. (refl, record { acc = h.0; cy = h.1.0; r = h.1.1.0; pc = h.1.1.1.0; ret = h.1.1.1.1 }))
+    (λ p h. (refl, (h.acc, (h.cy, (h.r, (h.pc, h.ret))))))
 
-abbrev Sources : Type 0
-Sources = ℕ × (ℕ × (List ℕ × ℕ))
+pub record HasSources (x : Sources) : Type 0 where
+  pub dcl : x.dcl < 256
+  pub rom_src : x.rom_src < 256
+  pub ram_src : AreCells 8 256 x.ram_src
+  pub owed : x.owed < 256
 
-sources_codec : IsCodec (λ (x : Sources). x.0 ∷ x.1.0 ∷ (x.1.1.0 ++ x.1.1.1 ∷ [])) (λ x. (x.0 < 256) × ((x.1.0 < 256) × (AreCells 8 256 x.1.1.0 × (x.1.1.1 < 256)))) sources_at
+sources_codec : IsCodec (λ (x : Sources). x.dcl ∷ x.rom_src ∷ (x.ram_src ++ x.owed ∷ [])) HasSources sources_at
 unfolding sources_at
-sources_codec = both_codec byte_codec (both_codec byte_codec (both_codec (bytes_codec 8) byte_codec))
+sources_codec = giving_codec (λ p. record { dcl = p.0; rom_src = p.1.0; ram_src = p.1.1.0; owed = p.1.1.1 }) (λ x. (x.dcl, (x.rom_src, (x.ram_src, x.owed)))) _ HasSources
+    (next _ byte_codec (λ _ _. next _ byte_codec (λ _ _. next _ (bytes_codec 8) (λ _ _. last _ byte_codec))))
+    (λ p h. (refl, record { dcl = h.0; rom_src = h.1.0; ram_src = h.1.1.0; owed = h.1.1.1 }))
+    (λ x h. (refl, (h.dcl, (h.rom_src, (h.ram_src, h.owed)))))
 
 -- ---- the rows of the chains
 
@@ -98,12 +89,13 @@ rows_takes [] bytes x all e =
     let same : ([], bytes) ≡ x = cc in
     subst (λ (y : List (List ℕ) × List ℕ). (bytes ≡ flat_map (λ row. row) y.0 ++ y.1) × AreRows [] y.0) same (refl, tt)
 rows_takes (c ∷ chains) bytes x all e =
-    let a = bind_some (bytes_at (10 * c.chips) bytes) (λ (a : List ℕ × List ℕ). giving (λ rows. a.0 ∷ rows) (rows_at chains a.1)) x e in
-    let b = giving_some (λ rows. a.0.0 ∷ rows) (rows_at chains a.0.1) x a.2 in
+    let a = then_some (bytes_at (10 * c.chips) bytes) (λ row. rows_at chains >>= λ rows. giving (row ∷ rows)) x e in
+    let b = then_some (rows_at chains a.0.1) (λ rows. giving (a.0.0 ∷ rows)) x a.2 in
+    let made : (a.0.0 ∷ b.0.0, b.0.1) ≡ x = let i = b.2 in cc in
     let one = (bytes_codec (10 * c.chips)).takes bytes a.0 all a.1 in
-    let two = rows_takes chains a.0.1 b.0 (IsBytes-behind a.0.0 a.0.1 (subst IsBytes one.0 all)) b.1 in
+    let two = rows_takes chains a.0.1 b.0 (IsBytes-after a.0.0 a.0.1 (subst IsBytes one.0 all)) b.1 in
     let parts : bytes ≡ (a.0.0 ++ flat_map (λ row. row) b.0.0) ++ b.0.1 = one.0 ∙ ap (λ (l : List ℕ). a.0.0 ++ l) two.0 ∙ sym (append_assoc a.0.0 (flat_map (λ row. row) b.0.0) b.0.1) in
-    subst (λ (y : List (List ℕ) × List ℕ). (bytes ≡ flat_map (λ row. row) y.0 ++ y.1) × AreRows (c ∷ chains) y.0) b.2 (parts, (one.1, two.1))
+    subst (λ (y : List (List ℕ) × List ℕ). (bytes ≡ flat_map (λ row. row) y.0 ++ y.1) × AreRows (c ∷ chains) y.0) made (parts, (one.1, two.1))
 
 rows_again : (chains : List ChainPart) (rows : List (List ℕ)) (rest : List ℕ) → AreRows chains rows → rows_at chains (flat_map (λ row. row) rows ++ rest) ≡ Some (rows, rest)
 unfolding rows_at
@@ -122,69 +114,70 @@ breakpoints_codec : IsCodec (counted address) (λ l. (length l ≤ 32) × AreWor
 unfolding breakpoints_at
 breakpoints_codec = counted_codec 32 (omega arith) word_codec
 
-abbrev Wiring : Type 0
-Wiring = List (List ℕ) × (List ℕ × (ℕ × List ℕ))
+pub record HasWiring (board : BoardParts) (w : WiringState) : Type 0 where
+  pub chains : AreRows board.chains.items w.chains
+  pub keys : AreCells (key_count board) 256 w.keys
+  pub test : w.test < 256
+  pub breakpoints : (length w.breakpoints ≤ 32) × AreWords w.breakpoints
 
-wiring_codec : (board : BoardParts) → IsCodec (λ (w : Wiring). flat_map (λ row. row) w.0 ++ (w.1.0 ++ (w.1.1.0 ∷ counted address w.1.1.1))) (λ w. AreRows board.chains.items w.0 × (AreCells (key_count board) 256 w.1.0 × ((w.1.1.0 < 256) × ((length w.1.1.1 ≤ 32) × AreWords w.1.1.1)))) (wiring_at board)
+wiring_codec : (board : BoardParts) → IsCodec (λ (w : WiringState). flat_map (λ row. row) w.chains ++ (w.keys ++ (w.test ∷ counted address w.breakpoints))) (HasWiring board) (wiring_at board)
 unfolding wiring_at
-wiring_codec board = both_codec (rows_codec board.chains.items) (both_codec (bytes_codec (key_count board)) (both_codec byte_codec breakpoints_codec))
+wiring_codec board = giving_codec (λ p. record { chains = p.0; keys = p.1.0; test = p.1.1.0; breakpoints = p.1.1.1 }) (λ w. (w.chains, (w.keys, (w.test, w.breakpoints)))) _ (HasWiring board)
+    (next _ (rows_codec board.chains.items) (λ _ _. next _ (bytes_codec (key_count board)) (λ _ _. next _ byte_codec (λ _ _. last _ breakpoints_codec))))
+    (λ p h. (refl, record { chains = h.0; keys = h.1.0; test = h.1.1.0; breakpoints = h.1.1.1 }))
+    (λ w h. (refl, (h.chains, (h.keys, (h.test, h.breakpoints)))))
+
+-- ---- the groups of a state
+
+abbrev pub memory_of : BusState → Memory
+memory_of b = record { rom = b.rom; ram = b.ram; status = b.status; ram_ports = b.ram_ports; rom_ports = b.rom_ports }
+
+abbrev pub registers_of : Regs → Registers
+registers_of p = record { acc = p.acc; cy = p.cy; r = p.r; pc = p.pc; ret = p.ret }
+
+abbrev pub sources_of : BenchState → Sources
+sources_of s = record { dcl = s.processor.dcl; rom_src = s.bus.rom_src; ram_src = s.bus.ram_src; owed = s.processor.owed }
+
+abbrev pub wiring_state : BenchState → WiringState
+wiring_state s = record { chains = s.bus.chains; keys = s.bus.keys; test = s.bus.test; breakpoints = s.breakpoints }
+
+pub record HasShape (first : Bool) (s : BenchState) : Type 0 where
+  pub seq : s.seq < 2 ^ 32
+  pub board : IsValidBoard s.bus.board
+  pub small : first ≡ true → is_small s.bus.board ≡ true
+  pub memory : HasMemory (memory_of s.bus)
+  pub registers : HasRegisters (registers_of s.processor)
+  pub sources : HasSources (sources_of s)
+  pub wiring : HasWiring s.bus.board (wiring_state s)
+  pub watches : FitsWatches first s.watches
 
 abbrev Parts : Type 0
-Parts = ℕ × ((Bool × BoardParts) × (Memory × (Registers × (Sources × (Wiring × List ℕ)))))
+Parts = ℕ × ((Bool × BoardParts) × (Memory × (Registers × (Sources × (WiringState × List ℕ)))))
 
 abbrev parts_of : Bool × BenchState → Parts
-parts_of x = let s = x.1 in (
-  s.seq,
-  (
-    (x.0, s.bus.board),
-    (
-      (s.bus.rom, (s.bus.ram, (s.bus.status, (s.bus.ram_ports, s.bus.rom_ports)))),
-      (
-        (s.processor.acc, (s.processor.cy, (s.processor.r, (s.processor.pc, s.processor.ret)))),
-        (
-          (s.processor.dcl, (s.bus.rom_src, (s.bus.ram_src, s.processor.owed))),
-          ((s.bus.chains, (s.bus.keys, (s.bus.test, s.breakpoints))), s.watches),
-        ),
-      ),
-    ),
-  ),
-)
+parts_of x = let s = x.1 in (s.seq, ((x.0, s.bus.board), (memory_of s.bus, (registers_of s.processor, (sources_of s, (wiring_state s, s.watches))))))
+
+abbrev from_parts : Parts → Bool × BenchState
+from_parts p = (p.1.0.0, state_from p.0 p.1.0.1 p.1.1.0 p.1.1.1.0 p.1.1.1.1.0 p.1.1.1.1.1.0 p.1.1.1.1.1.1)
 
 pub state_codec : IsCodec bytes_by (λ x. HasShape x.0 x.1) state_at
 unfolding state_at
-state_codec = giving_codec _ parts_of bytes_by (λ x. HasShape x.0 x.1)
-    (both_codec long_codec (depending_codec marked_codec (λ x _. both_codec memory_codec (both_codec registers_codec (both_codec sources_codec (both_codec (wiring_codec x.1) (watches_codec x.0)))))))
+state_codec = giving_codec from_parts parts_of bytes_by (λ x. HasShape x.0 x.1)
+    (next _ long_codec (λ _ _. next _ marked_codec (λ x _. next _ memory_codec (λ _ _. next _ registers_codec (λ _ _. next _ sources_codec (λ _ _. next _ (wiring_codec x.1) (λ _ _. last _ (watches_codec x.0))))))))
     (λ p h. (
       refl,
-      let m = h.1.1.0 in let r = h.1.1.1.0 in let x = h.1.1.1.1.0 in let w = h.1.1.1.1.1.0 in record {
+      record {
         seq = h.0;
         board = h.1.0.0;
         small = h.1.0.1;
-        memory = record { rom = m.0; ram = m.1.0; status = m.1.1.0; ram_ports = m.1.1.1.0; rom_ports = m.1.1.1.1 };
-        registers = record { acc = r.0; cy = r.1.0; r = r.1.1.0; pc = r.1.1.1.0; ret = r.1.1.1.1; dcl = x.0; rom_src = x.1.0; ram_src = x.1.1.0; owed = x.1.1.1 };
-        wiring = record { chains = w.0; keys = w.1.0; test = w.1.1.0; breakpoints = w.1.1.1 };
+        memory = h.1.1.0;
+        registers = h.1.1.1.0;
+        sources = h.1.1.1.1.0;
+        wiring = h.1.1.1.1.1.0;
         watches = h.1.1.1.1.1.1;
       },
     ))
-    (λ s h. let m = h.memory in let c = h.registers in let w = h.wiring in (
-      refl,
-      (
-        h.seq,
-        (
-          (h.board, h.small),
-          (
-            (m.rom, (m.ram, (m.status, (m.ram_ports, m.rom_ports)))),
-            (
-              (c.acc, (c.cy, (c.r, (c.pc, c.ret)))),
-              (
-                (c.dcl, (c.rom_src, (c.ram_src, c.owed))),
-                ((w.chains, (w.keys, (w.test, w.breakpoints))), h.watches),
-              ),
-            ),
-          ),
-        ),
-      ),
-    ))
+    (λ x h. (refl, (h.seq, ((h.board, h.small), (h.memory, (h.registers, (h.sources, (h.wiring, h.watches))))))))
 
 -- ---- a valid state has these widths
 
@@ -221,6 +214,8 @@ shape_by first s h small watches =
         r = cells_of 16 16 s.processor.r (omega arith) p.r;
         pc = omega (arith, p.pc);
         ret = (p.ret.count_is, words_of s.processor.ret p.ret.below);
+      };
+      sources = record {
         dcl = omega (arith, p.dcl);
         rom_src = r.rom_src;
         ram_src = cells_of 8 256 s.bus.ram_src (omega arith) r.ram_src;

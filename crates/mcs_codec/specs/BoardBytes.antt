@@ -11,7 +11,12 @@ use Rattle.mcs_model.specs.declared.board.Line.TheVariants.{Rom, Ram, Chain}
 
 -- the four port lines of a ROM, lines 3, 2, 1, 0 in this order, or `----` where it is absent
 abbrev pub rom_bytes : Option (List LineMask) → List ℕ
-rom_bytes (Some mask) = mask_character (mask_at mask 3) ∷ mask_character (mask_at mask 2) ∷ mask_character (mask_at mask 1) ∷ mask_character (mask_at mask 0) ∷ []
+rom_bytes (Some mask) =
+    mask_character (mask_at mask 3)
+    ∷ mask_character (mask_at mask 2)
+    ∷ mask_character (mask_at mask 1)
+    ∷ mask_character (mask_at mask 0)
+    ∷ []
 rom_bytes None = 45 ∷ 45 ∷ 45 ∷ 45 ∷ []
 
 -- four bytes: the kind of line, and its numbers

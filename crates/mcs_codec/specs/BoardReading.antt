@@ -1,4 +1,4 @@
--- How a board is read.
+-- Nothing to believe: this reading is proved to invert the bytes of `BoardBytes`.
 use Rattle.std.specs.Prelude.{ℕ, ◌==◌, ◌&&◌, List, [], ◌∷◌, Option, Some, None, is_none, if◌then◌else◌}
 use Rattle.mcs_nibble.specs.declared.lines.LineMask.{LineMask}
 use Rattle.mcs_nibble.specs.Ports.{mask_of}
@@ -9,50 +9,93 @@ use Rattle.mcs_model.specs.declared.board.Line.{Line}
 use Rattle.mcs_model.specs.declared.board.Line.TheVariants.{Rom, Ram, Chain}
 use Rattle.mcs_model.specs.declared.limits.TheConstants.{BANKS, CHAINS, KEY_COLUMNS, LAMPS, ROMS}
 use Rattle.mcs_model.specs.Boards.{board_fault_of}
-use Rattle.mcs_codec.specs.Reading.{◌>>=◌, giving, byte_at, only, both, many, bytes_at, decoding, four_at, done_at, counted_at}
+use Rattle.mcs_codec.specs.Reading.{◌>>=◌, Reading, giving, giving_some, refusing, byte_at, only, many, bytes_at, counted_at}
 
-abbrev pub rom_of : ℕ × (ℕ × (ℕ × ℕ)) → Option (Option (List LineMask))
-rom_of x =
-    if x.0 == 45 && x.1.0 == 45 && x.1.1.0 == 45 && x.1.1.1 == 45 then Some None
-    else (mask_of x.0 >>= λ a. mask_of x.1.0 >>= λ b. mask_of x.1.1.0 >>= λ c. mask_of x.1.1.1 >>= λ d. Some (Some (d ∷ c ∷ b ∷ a ∷ [])))
+-- the port lines that four characters stand for
+abbrev pub lines_of : ℕ → ℕ → ℕ → ℕ → Reading (List LineMask)
+lines_of a b c d = do
+  line_3 ← giving_some (mask_of a)
+  line_2 ← giving_some (mask_of b)
+  line_1 ← giving_some (mask_of c)
+  line_0 ← giving_some (mask_of d)
+  giving (line_0 ∷ line_1 ∷ line_2 ∷ line_3 ∷ [])
 
-unfoldable pub rom_at : List ℕ → Option (Option (List LineMask) × List ℕ)
-rom_at = decoding rom_of four_at
+-- what four characters stand for: an absent ROM is `----`
+abbrev pub rom_of : ℕ → ℕ → ℕ → ℕ → Reading (Option (List LineMask))
+rom_of a b c d =
+    if a == 45 && b == 45 && c == 45 && d == 45 then giving None
+    else (do lines ← lines_of a b c d; giving (Some lines))
 
-abbrev pub line_of : ℕ × (ℕ × (ℕ × ℕ)) → Option Line
-line_of x =
-    if x.0 == 0 && x.1.1.1 == 0 then Some (Rom x.1.0 x.1.1.0)
-    else if x.0 == 1 then Some (Ram x.1.0 x.1.1.0 x.1.1.1)
-    else if x.0 == 2 && x.1.1.1 == 0 then Some (Chain x.1.0 x.1.1.0)
-    else None
+unfoldable pub rom_at : Reading (Option (List LineMask))
+rom_at = do
+  a ← byte_at
+  b ← byte_at
+  c ← byte_at
+  d ← byte_at
+  rom_of a b c d
 
-unfoldable pub line_at : List ℕ → Option (Line × List ℕ)
-line_at = decoding line_of four_at
+-- the line of a kind with these numbers
+abbrev pub line_of : ℕ → ℕ → ℕ → ℕ → Reading Line
+line_of kind a b c =
+    if kind == 0 && c == 0 then giving (Rom a b)
+    else if kind == 1 then giving (Ram a b c)
+    else if kind == 2 && c == 0 then giving (Chain a b)
+    else refusing
 
-unfoldable pub chain_at : List ℕ → Option (ChainPart × List ℕ)
-chain_at bytes = giving (λ p. record { clock = p.0; data_in = p.1.0; chips = p.1.1 }) (both line_at (both line_at byte_at) bytes)
+unfoldable pub line_at : Reading Line
+line_at = do
+  kind ← byte_at
+  a ← byte_at
+  b ← byte_at
+  c ← byte_at
+  line_of kind a b c
 
-unfoldable pub matrix_at : List ℕ → Option (KeyMatrix × List ℕ)
-matrix_at bytes = giving (λ p. record { chain = p.0; first = p.1.0; rows = p.1.1.0; columns = record { items = p.1.1.1 } }) (both byte_at (both byte_at (both byte_at (counted_at KEY_COLUMNS line_at))) bytes)
+unfoldable pub chain_at : Reading ChainPart
+chain_at = do
+  clock ← line_at
+  data_in ← line_at
+  chips ← byte_at
+  giving (record { clock = clock; data_in = data_in; chips = chips })
 
-abbrev pub keys_behind : ℕ → List ℕ → Option (Option KeyMatrix × List ℕ)
-keys_behind tag bytes =
-    if tag == 0 then giving (λ _. None) (done_at bytes) else
-    if tag == 1 then giving Some (matrix_at bytes) else None
+unfoldable pub matrix_at : Reading KeyMatrix
+matrix_at = do
+  chain ← byte_at
+  first ← byte_at
+  rows ← byte_at
+  columns ← counted_at KEY_COLUMNS line_at
+  giving (record {
+    chain = chain;
+    first = first;
+    rows = rows;
+    columns = record { items = columns };
+  })
 
-unfoldable pub keys_at : List ℕ → Option (Option KeyMatrix × List ℕ)
-keys_at bytes = byte_at bytes >>= λ tag. keys_behind tag.0 tag.1
+abbrev pub keys_after_tag : ℕ → Reading (Option KeyMatrix)
+keys_after_tag tag =
+    if tag == 0 then giving None else
+    if tag == 1 then (do matrix ← matrix_at; giving (Some matrix)) else refusing
+
+unfoldable pub keys_at : Reading (Option KeyMatrix)
+keys_at = do
+  tag ← byte_at
+  keys_after_tag tag
 
 -- the parts, whether or not they make a board
-unfoldable pub parts_at : List ℕ → Option (BoardParts × List ℕ)
-parts_at bytes = giving (λ p. record {
-  roms = p.0;
-  banks = p.1.0;
-  chains = record { items = p.1.1.0 };
-  keys = p.1.1.1.0;
-  lamps = record { items = p.1.1.1.1 };
-}) (both (many ROMS rom_at) (both (bytes_at BANKS) (both (counted_at CHAINS chain_at) (both keys_at (counted_at LAMPS line_at)))) bytes)
+unfoldable pub parts_at : Reading BoardParts
+parts_at = do
+  roms ← many ROMS rom_at
+  banks ← bytes_at BANKS
+  chains ← counted_at CHAINS chain_at
+  keys ← keys_at
+  lamps ← counted_at LAMPS line_at
+  giving (record {
+    roms = roms;
+    banks = banks;
+    chains = record { items = chains };
+    keys = keys;
+    lamps = record { items = lamps };
+  })
 
 -- the parts with which nothing is wrong
-unfoldable pub board_at : List ℕ → Option (BoardParts × List ℕ)
+unfoldable pub board_at : Reading BoardParts
 board_at = only (λ b. is_none (board_fault_of b)) parts_at

@@ -50,7 +50,10 @@ SpellsStateBy true bytes s = SpellsLifted bytes s
 -- version 1, and 02 in version 2
 abbrev pub version_told : List ℕ → Option ℕ
 version_told [] = None
-version_told (b ∷ bytes) = if b == 105 || b == 48 || b == 49 || b == 45 then Some 1 else if b == 2 then Some 2 else None
+version_told (b ∷ bytes) =
+    if b == 105 || b == 48 || b == 49 || b == 45 then Some 1
+    else if b == 2 then Some 2
+    else None
 
 abbrev pub version_of : List ℕ → Option ℕ
 version_of bytes = version_told (drop 4 bytes)

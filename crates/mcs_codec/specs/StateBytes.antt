@@ -20,30 +20,41 @@ abbrev pub registers_bytes : Regs → List ℕ
 registers_bytes p = p.acc ∷ p.cy ∷ (p.r ++ (address p.pc ++ flat_map address p.ret))
 
 -- the command register, the SRC bytes of the ROMs and of the banks, the owed cycles
-abbrev pub sources_bytes : ℕ → ℕ → List ℕ → ℕ → List ℕ
-sources_bytes dcl rom_src ram_src owed = dcl ∷ rom_src ∷ (ram_src ++ owed ∷ [])
+abbrev pub sources_bytes : Regs → BusState → List ℕ
+sources_bytes p b = p.dcl ∷ b.rom_src ∷ (b.ram_src ++ p.owed ∷ [])
 
 -- the bits of the chains, the keys, TEST, the breakpoints
-abbrev pub wiring_bytes : List (List ℕ) → List ℕ → ℕ → List ℕ → List ℕ
-wiring_bytes chains keys test breakpoints = flat_map (λ row. row) chains ++ (keys ++ (test ∷ counted address breakpoints))
+abbrev pub wiring_bytes : BusState → List ℕ → List ℕ
+wiring_bytes b breakpoints =
+    flat_map (λ row. row) b.chains ++ (b.keys ++ (b.test ∷ counted address breakpoints))
 
 -- the groups after the board, and what comes after the breakpoints
 abbrev pub groups_bytes : Regs → BusState → List ℕ → List ℕ → List ℕ
 groups_bytes p b breakpoints rest =
     memory_bytes b
     ++ (registers_bytes p
-    ++ (sources_bytes p.dcl b.rom_src b.ram_src p.owed
-    ++ (wiring_bytes b.chains b.keys b.test breakpoints
+    ++ (sources_bytes p b
+    ++ (wiring_bytes b breakpoints
     ++ rest)))
+
+-- what comes after the board in version 2: the groups, the watches
+abbrev pub after_board : BenchState → List ℕ
+after_board s = groups_bytes s.processor s.bus s.breakpoints (counted address s.watches)
 
 -- a state in version 2: the count of accepted commands, 02, the board, the groups, the watches
 abbrev pub state_bytes : BenchState → List ℕ
-state_bytes s = to_be_bytes w32 s.seq ++ (2 ∷ (board_bytes s.bus.board ++ groups_bytes s.processor s.bus s.breakpoints (counted address s.watches)))
+state_bytes s = to_be_bytes w32 s.seq ++ (2 ∷ (board_bytes s.bus.board ++ after_board s))
 
 -- a state in version 1: the count of accepted commands, the board, the groups
 abbrev pub state_bytes_1 : BenchState1 → List ℕ
-state_bytes_1 s = to_be_bytes w32 s.seq ++ (board_bytes s.bus.board ++ groups_bytes s.processor s.bus s.breakpoints [])
+state_bytes_1 s =
+    to_be_bytes w32 s.seq
+    ++ (board_bytes s.bus.board
+    ++ groups_bytes s.processor s.bus s.breakpoints [])
 
--- a state in the one or the other: in version 1 where `first` is true
+-- a state in the one or the other: in version 1 where `first` is true (nothing to believe: for the proofs)
 abbrev pub bytes_by : Bool × BenchState → List ℕ
-bytes_by x = to_be_bytes w32 x.1.seq ++ (marked_bytes (x.0, x.1.bus.board) ++ groups_bytes x.1.processor x.1.bus x.1.breakpoints (watches_bytes x.0 x.1.watches))
+bytes_by (first, s) =
+    to_be_bytes w32 s.seq
+    ++ (marked_bytes (first, s.bus.board)
+    ++ groups_bytes s.processor s.bus s.breakpoints (watches_bytes first s.watches))

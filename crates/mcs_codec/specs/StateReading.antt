@@ -1,64 +1,129 @@
--- How the fields of a state are read. Whether they make a valid state is asked of all of them afterwards.
-use Rattle.std.specs.Prelude.{ℕ, ◌*◌, Bool, List, [], ◌∷◌, Option, Some}
+-- Nothing to believe: this reading is proved to invert the bytes of `StateBytes`. It reads the fields of a state, group by
+-- group; whether they make a valid state is asked of all of them afterwards.
+use Rattle.std.specs.Prelude.{ℕ, ◌*◌, Bool, List, [], ◌∷◌}
 use Rattle.std.specs.Int.{w16, w32}
 use Rattle.mcs_model.specs.declared.board.BoardParts.{BoardParts}
 use Rattle.mcs_model.specs.declared.board.ChainPart.{ChainPart}
 use Rattle.mcs_model.specs.declared.limits.TheConstants.{BANKS, BREAKPOINTS}
 use Rattle.mcs_model.specs.Boards.{key_count}
 use Rattle.mcs_model.specs.BenchState.{BenchState}
-use Rattle.mcs_codec.specs.Reading.{◌>>=◌, giving, byte_at, number_at, bytes_at, depending, both, many, counted_at}
+use Rattle.mcs_bench.specs.States.{rows_of}
+use Rattle.mcs_codec.specs.declared.restoring.Memory.{Memory}
+use Rattle.mcs_codec.specs.declared.restoring.Registers.{Registers}
+use Rattle.mcs_codec.specs.declared.restoring.Sources.{Sources}
+use Rattle.mcs_codec.specs.declared.restoring.Wiring.{Wiring}
+use Rattle.mcs_codec.specs.Reading.{◌>>=◌, Reading, giving, byte_at, number_at, bytes_at, many, counted_at}
 use Rattle.mcs_codec.specs.Marked.{marked_at, watches_at}
 
-unfoldable pub memory_at : List ℕ → Option ((List ℕ × (List ℕ × (List ℕ × (List ℕ × List ℕ)))) × List ℕ)
-memory_at = both (bytes_at 4096) (both (bytes_at 2048) (both (bytes_at 512) (both (bytes_at 32) (bytes_at 16))))
+-- what the ROMs and the RAM chips hold, and their ports
+unfoldable pub memory_at : Reading Memory
+memory_at = do
+  rom ← bytes_at 4096
+  ram ← bytes_at 2048
+  status ← bytes_at 512
+  ram_ports ← bytes_at 32
+  rom_ports ← bytes_at 16
+  giving (record {
+    rom = rom;
+    ram = ram;
+    status = status;
+    ram_ports = ram_ports;
+    rom_ports = rom_ports;
+  })
 
-unfoldable pub registers_at : List ℕ → Option ((ℕ × (ℕ × (List ℕ × (ℕ × List ℕ)))) × List ℕ)
-registers_at = both byte_at (both byte_at (both (bytes_at 16) (both (number_at w16) (many 3 (number_at w16)))))
+-- the accumulator, the carry, the index registers, the counter, the return addresses
+unfoldable pub registers_at : Reading Registers
+registers_at = do
+  acc ← byte_at
+  cy ← byte_at
+  r ← bytes_at 16
+  pc ← number_at w16
+  ret ← many 3 (number_at w16)
+  giving (record { acc = acc; cy = cy; r = r; pc = pc; ret = ret })
 
-unfoldable pub sources_at : List ℕ → Option ((ℕ × (ℕ × (List ℕ × ℕ))) × List ℕ)
-sources_at = both byte_at (both byte_at (both (bytes_at BANKS) byte_at))
+-- the command register, the SRC bytes of the ROMs and of the banks, the owed cycles
+unfoldable pub sources_at : Reading Sources
+sources_at = do
+  dcl ← byte_at
+  rom_src ← byte_at
+  ram_src ← bytes_at BANKS
+  owed ← byte_at
+  giving (record { dcl = dcl; rom_src = rom_src; ram_src = ram_src; owed = owed })
 
 -- the rows of the chains
-unfoldable pub rows_at : List ChainPart → List ℕ → Option (List (List ℕ) × List ℕ)
-rows_at [] bytes = Some ([], bytes)
-rows_at (c ∷ chains) bytes = bytes_at (10 * c.chips) bytes >>= λ row. giving (λ rows. row.0 ∷ rows) (rows_at chains row.1)
+unfoldable pub rows_at : List ChainPart → Reading (List (List ℕ))
+rows_at [] = giving []
+rows_at (c ∷ chains) = do
+  row ← bytes_at (10 * c.chips)
+  rows ← rows_at chains
+  giving (row ∷ rows)
 
-unfoldable pub breakpoints_at : List ℕ → Option (List ℕ × List ℕ)
+unfoldable pub breakpoints_at : Reading (List ℕ)
 breakpoints_at = counted_at BREAKPOINTS (number_at w16)
 
-unfoldable pub wiring_at : BoardParts → List ℕ → Option ((List (List ℕ) × (List ℕ × (ℕ × List ℕ))) × List ℕ)
-wiring_at board = both (rows_at board.chains.items) (both (bytes_at (key_count board)) (both byte_at breakpoints_at))
+-- what the chains and the keys of a board hold, TEST, and the breakpoints
+pub record WiringState : Type 0 where
+  pub chains : List (List ℕ)
+  pub keys : List ℕ
+  pub test : ℕ
+  pub breakpoints : List ℕ
+
+-- the same, of what the code keeps it in
+abbrev pub wiring_of : Wiring → WiringState
+wiring_of w = record {
+  chains = rows_of w.chains.items;
+  keys = w.keys.items;
+  test = w.test;
+  breakpoints = w.breakpoints.items;
+}
+
+unfoldable pub wiring_at : BoardParts → Reading WiringState
+wiring_at board = do
+  chains ← rows_at board.chains.items
+  keys ← bytes_at (key_count board)
+  test ← byte_at
+  breakpoints ← breakpoints_at
+  giving (record { chains = chains; keys = keys; test = test; breakpoints = breakpoints })
+
+-- the state of these parts
+abbrev pub state_from : ℕ → BoardParts → Memory → Registers → Sources → WiringState → List ℕ
+    → BenchState
+state_from seq board memory registers sources wiring watches = record {
+  processor = record {
+    acc = registers.acc;
+    cy = registers.cy;
+    r = registers.r;
+    pc = registers.pc;
+    ret = registers.ret;
+    dcl = sources.dcl;
+    owed = sources.owed;
+  };
+  bus = record {
+    board = board;
+    rom = memory.rom;
+    ram = memory.ram;
+    status = memory.status;
+    ram_ports = memory.ram_ports;
+    rom_ports = memory.rom_ports;
+    rom_src = sources.rom_src;
+    ram_src = sources.ram_src;
+    chains = wiring.chains;
+    keys = wiring.keys;
+    test = wiring.test;
+  };
+  breakpoints = wiring.breakpoints;
+  watches = watches;
+  seq = seq;
+}
 
 -- whether in version 1, and all fields, in their order
-unfoldable pub state_at : List ℕ → Option ((Bool × BenchState) × List ℕ)
-state_at bytes = giving (λ p. (
-  p.1.0.0,
-  record {
-    processor = record {
-      acc = p.1.1.1.0.0;
-      cy = p.1.1.1.0.1.0;
-      r = p.1.1.1.0.1.1.0;
-      pc = p.1.1.1.0.1.1.1.0;
-      ret = p.1.1.1.0.1.1.1.1;
-      dcl = p.1.1.1.1.0.0;
-      owed = p.1.1.1.1.0.1.1.1;
-    };
-    bus = record {
-      board = p.1.0.1;
-      rom = p.1.1.0.0;
-      ram = p.1.1.0.1.0;
-      status = p.1.1.0.1.1.0;
-      ram_ports = p.1.1.0.1.1.1.0;
-      rom_ports = p.1.1.0.1.1.1.1;
-      rom_src = p.1.1.1.1.0.1.0;
-      ram_src = p.1.1.1.1.0.1.1.0;
-      chains = p.1.1.1.1.1.0.0;
-      keys = p.1.1.1.1.1.0.1.0;
-      test = p.1.1.1.1.1.0.1.1.0;
-    };
-    breakpoints = p.1.1.1.1.1.0.1.1.1;
-    watches = p.1.1.1.1.1.1;
-    seq = p.0;
-  },
-))
-    (both (number_at w32) (depending marked_at (λ x. both memory_at (both registers_at (both sources_at (both (wiring_at x.1) (watches_at x.0)))))) bytes)
+unfoldable pub state_at : Reading (Bool × BenchState)
+state_at = do
+  seq ← number_at w32
+  (first, board) ← marked_at
+  memory ← memory_at
+  registers ← registers_at
+  sources ← sources_at
+  wiring ← wiring_at board
+  watches ← watches_at first
+  giving (first, state_from seq board memory registers sources wiring watches)

@@ -3,7 +3,7 @@ ghost use Rattle.std.specs.Prelude.{◌≡◌, ℕ, ◌+◌, ◌≤◌, ◌<◌,
 ghost use Rattle.mcs_model.specs.declared.command.Command.{Command};
 ghost use Rattle.mcs_codec.specs.Reading.{whole};
 ghost use Rattle.mcs_codec.specs.CommandBytes.{command_bytes, IsCommand};
-ghost use Rattle.mcs_codec.specs.CommandReading.{command_behind, all_behind, command_at};
+ghost use Rattle.mcs_codec.specs.CommandReading.{command_without_image, command_after_tag, command_at};
 ghost use Rattle.mcs_codec.specs.Codec.{BeginsAsLoad, Spells};
 
 use crate::boards::{put_board, read_board};
@@ -102,9 +102,9 @@ pub fn command_bytes(command: &Command, into: &mut [u8]) -> usize
     put_command(command, into, 0)
 }
 
-/// Reads what stands after a tag, where reading it takes no memory.
-fn read_behind(tag: u8, reader: &mut Reader<'_>) -> Option<Command>
-    ensures { option_map (λ x. (x, reader.new)) result ≡ command_behind tag reader.old }
+/// Reads what stands after a tag, where reading it takes no memory: any command but a load.
+fn read_without_image(tag: u8, reader: &mut Reader<'_>) -> Option<Command>
+    ensures { option_map (λ x. (x, reader.new)) result ≡ command_without_image tag reader.old }
 {
     match tag {
         1 => Some(Command::Wire(read_board(reader)?)),
@@ -136,9 +136,14 @@ fn read_behind(tag: u8, reader: &mut Reader<'_>) -> Option<Command>
 }
 
 /// Reads what stands after a tag.
-#[tactic(auto, unfolding(crate::specs::CommandReading::all_behind))]
-fn read_any(alloc: Global, tag: u8, reader: &mut Reader<'_>) -> Result<Option<Command>, AllocError>
-    ensures read { IfOk result (λ found. option_map (λ x. (x, reader.new)) found ≡ all_behind tag reader.old) }
+#[tactic(auto, unfolding(crate::specs::CommandReading::command_after_tag))]
+fn read_after_tag(
+    alloc: Global,
+    tag: u8,
+    reader: &mut Reader<'_>,
+) -> Result<Option<Command>, AllocError>
+    ensures read { IfOk result (λ found.
+        option_map (λ x. (x, reader.new)) found ≡ command_after_tag tag reader.old) }
     ensures memory { OnErr result (tag ≡ 2) }
 {
     if tag == 2 {
@@ -147,7 +152,7 @@ fn read_any(alloc: Global, tag: u8, reader: &mut Reader<'_>) -> Result<Option<Co
             None => Ok(None),
         }
     } else {
-        Ok(read_behind(tag, reader))
+        Ok(read_without_image(tag, reader))
     }
 }
 
@@ -161,7 +166,7 @@ fn read_command(alloc: Global, bytes: &[u8]) -> Result<Option<Command>, AllocErr
     let Some(tag) = reader.byte() else {
         return Ok(None);
     };
-    match read_any(alloc, tag, &mut reader)? {
+    match read_after_tag(alloc, tag, &mut reader)? {
         Some(command) => {
             if reader.is_empty() {
                 Ok(Some(command))

@@ -55,7 +55,8 @@ pub fn put_all<T: Encode>(items: &[T], out: &mut [u8], at: usize) -> usize
 
 /// Reads a value into each place.
 pub fn fill<T: Decode>(reader: &mut Reader<'_>, items: &mut [T]) -> Option<()>
-    ensures { option_map (λ _. (items.new, reader.new)) result ≡ many (length items.old) T.reading reader.old }
+    ensures { option_map (λ _. (items.new, reader.new)) result
+        ≡ many (length items.old) T.reading reader.old }
 {
     for i in 0..items.len() {
         items[i] = T::read(reader)?;

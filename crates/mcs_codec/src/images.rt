@@ -95,7 +95,8 @@ fn read_pairs(
     marks: &[u8],
 ) -> Result<Option<Image>, AllocError>
     requires { length marks.now ≡ 512 }
-    ensures { IfOk result (λ found. option_map (λ x. (x, reader.new)) found ≡ pairs_at marks.now 4096 0 reader.old) }
+    ensures { IfOk result (λ found.
+        option_map (λ x. (x, reader.new)) found ≡ pairs_at marks.now 4096 0 reader.old) }
 {
     let mut image = Image::new(alloc)?;
     for at in 0..4096 {

@@ -88,7 +88,7 @@ impl<'a> Reader<'a> {
     /// That many bytes.
     #[tactic(auto, unfolding(crate::specs::Reading::bytes_at))]
     pub fn bytes(&mut self, count: usize) -> Option<&'a [u8]>
-        ensures read { option_map (λ bytes. (bytes.now, self.new)) result ≡ bytes_at count self.old }
+        ensures read { option_map (λ x. (x.now, self.new)) result ≡ bytes_at count self.old }
         ensures count { IfSome result (λ bytes. length bytes.now ≡ count) }
     {
         if self.rest.len() < count {
@@ -102,7 +102,8 @@ impl<'a> Reader<'a> {
     /// That many bytes as there are cells, into the cells.
     #[tactic(auto, unfolding(crate::specs::Reading::bytes_at))]
     pub fn fill(&mut self, cells: &mut [u8]) -> Option<()>
-        ensures { option_map (λ _. (cells.new, self.new)) result ≡ bytes_at (length cells.old) self.old }
+        ensures { option_map (λ _. (cells.new, self.new)) result
+            ≡ bytes_at (length cells.old) self.old }
     {
         let bytes = self.bytes(cells.len())?;
         cells.copy_from_slice(bytes);

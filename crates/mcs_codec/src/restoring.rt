@@ -1,11 +1,11 @@
 //! A bench from the bytes of its state.
-ghost use Rattle.std.specs.Prelude.{◌≡◌, ℕ, ◌*◌, ◌≤◌, List, Bool, All, length, map, option_map, IfOk, IfSome, IfNone};
+ghost use Rattle.std.specs.Prelude.{◌≡◌, ℕ, ◌*◌, ◌≤◌, List, Bool, All, length, option_map, IfOk, IfSome, IfNone};
 ghost use Rattle.mcs_model.specs.Boards.{key_count};
 ghost use Rattle.mcs_model.specs.BenchState.{BenchState};
-ghost use Rattle.mcs_bench.specs.States.{state_of};
+ghost use Rattle.mcs_bench.specs.States.{rows_of, state_of};
 ghost use Rattle.mcs_codec.specs.Reading.{bytes_at, whole};
 ghost use Rattle.mcs_codec.specs.Marked.{marked_at, watches_at};
-ghost use Rattle.mcs_codec.specs.StateReading.{memory_at, registers_at, sources_at, rows_at, breakpoints_at, wiring_at, state_at};
+ghost use Rattle.mcs_codec.specs.StateReading.{memory_at, registers_at, sources_at, rows_at, breakpoints_at, wiring_of, wiring_at, state_from, state_at};
 ghost use Rattle.mcs_codec.specs.Codec.{SpellsStateBy, is_first};
 
 use crate::boards::read_board;
@@ -22,15 +22,45 @@ use std::alloc::{AllocError, Global};
 type Row = ArrayVec<u8, CHAIN_PLACES>;
 
 /// What a 4004 keeps in registers and return addresses.
-type Registers = (u8, u8, [u8; 16], u16, [u16; 3]);
+#[derive(Drop)]
+struct Registers {
+    /// The accumulator.
+    acc: u8,
+    /// The carry.
+    cy: u8,
+    /// The index registers.
+    r: [u8; 16],
+    /// The program counter.
+    pc: u16,
+    /// The return addresses, the one that BBL takes first.
+    ret: [u16; 3],
+}
+
+/// Where instructions on ports and RAM go, and the owed cycles.
+#[derive(Drop)]
+struct Sources {
+    /// The command register.
+    dcl: u8,
+    /// The SRC byte that the ROMs keep.
+    rom_src: u8,
+    /// The SRC byte that each bank keeps.
+    ram_src: [u8; BANKS],
+    /// How many idle cycles are owed.
+    owed: u8,
+}
 
 /// What the chains and the keys of a board hold, TEST, and the breakpoints.
-type Wiring = (
-    ArrayVec<Row, CHAINS>,
-    ArrayVec<u8, KEYS>,
-    u8,
-    ArrayVec<u16, BREAKPOINTS>,
-);
+#[derive(Drop)]
+struct Wiring {
+    /// The bits of each chain, bit 0 first.
+    chains: ArrayVec<Row, CHAINS>,
+    /// The keys, row by row: 1 where one is down.
+    keys: ArrayVec<u8, KEYS>,
+    /// The level of the TEST pin.
+    test: u8,
+    /// The breakpoints.
+    breakpoints: ArrayVec<u16, BREAKPOINTS>,
+}
 
 impl Decode for u16 {
     ghost use Rattle.std.specs.Int.{w16};
@@ -45,7 +75,8 @@ impl Decode for u16 {
 
 /// Reads a byte into each cell.
 fn read_cells(reader: &mut Reader<'_>, cells: &mut Cells) -> Option<()>
-    ensures { option_map (λ _. (cells.new, reader.new)) result ≡ bytes_at (length cells.old) reader.old }
+    ensures { option_map (λ _. (cells.new, reader.new)) result
+        ≡ bytes_at (length cells.old) reader.old }
 {
     let bytes = reader.bytes(cells.len())?;
     for i in 0..bytes.len() {
@@ -67,13 +98,18 @@ fn read_bytes<const CAP: usize>(reader: &mut Reader<'_>, count: usize) -> Option
     Some(items)
 }
 
-/// The lists whose lengths are the same in every state.
+/// The lists whose lengths are the same in every state: what the ROMs and the RAM chips hold, and their ports.
 #[derive(Drop)]
 struct Memory {
+    /// The bytes of the ROMs, by address.
     rom: Cells,
+    /// The RAM characters, by bank and SRC byte.
     ram: Cells,
+    /// The status characters, by bank, upper nibble of the SRC byte, and number.
     status: Cells,
+    /// The port latches of the RAM chips, by bank and chip.
     ram_ports: Cells,
+    /// The port latches of the ROMs.
     rom_ports: Cells,
 }
 
@@ -104,7 +140,7 @@ impl Memory {
         requires status { length self.status ≡ 512 }
         requires ram_ports { length self.ram_ports ≡ 32 }
         requires rom_ports { length self.rom_ports ≡ 16 }
-        ensures { option_map (λ m. ((m.rom, (m.ram, (m.status, (m.ram_ports, m.rom_ports)))), reader.new)) result ≡ memory_at reader.old }
+        ensures { option_map (λ m. (m, reader.new)) result ≡ memory_at reader.old }
     {
         read_cells(reader, &mut self.rom)?;
         read_cells(reader, &mut self.ram)?;
@@ -118,7 +154,7 @@ impl Memory {
 /// Reads the accumulator, the carry, the index registers, the counter and the return addresses.
 #[tactic(auto, unfolding(crate::specs::StateReading::registers_at))]
 fn read_registers(reader: &mut Reader<'_>) -> Option<Registers>
-    ensures { option_map (λ x. ((x.0, (x.1, (x.2, (x.3, x.4)))), reader.new)) result ≡ registers_at reader.old }
+    ensures { option_map (λ x. (x, reader.new)) result ≡ registers_at reader.old }
 {
     let acc = reader.byte()?;
     let cy = reader.byte()?;
@@ -127,27 +163,39 @@ fn read_registers(reader: &mut Reader<'_>) -> Option<Registers>
     let pc = reader.number()?;
     let mut ret = [0; 3];
     fill(reader, &mut ret)?;
-    Some((acc, cy, r, pc, ret))
+    Some(Registers {
+        acc,
+        cy,
+        r,
+        pc,
+        ret,
+    })
 }
 
 /// Reads the command register, the SRC bytes of the ROMs and of the banks, and the owed cycles.
 #[tactic(auto, unfolding(crate::specs::StateReading::sources_at))]
-fn read_sources(reader: &mut Reader<'_>) -> Option<(u8, u8, [u8; BANKS], u8)>
-    ensures { option_map (λ x. ((x.0, (x.1, (x.2, x.3))), reader.new)) result ≡ sources_at reader.old }
+fn read_sources(reader: &mut Reader<'_>) -> Option<Sources>
+    ensures { option_map (λ x. (x, reader.new)) result ≡ sources_at reader.old }
 {
     let dcl = reader.byte()?;
     let rom_src = reader.byte()?;
     let mut ram_src = [0; BANKS];
     reader.fill(&mut ram_src)?;
     let owed = reader.byte()?;
-    Some((dcl, rom_src, ram_src, owed))
+    Some(Sources {
+        dcl,
+        rom_src,
+        ram_src,
+        owed,
+    })
 }
 
 /// Reads the bits of each chain.
 fn read_rows(reader: &mut Reader<'_>, chains: &[ChainPart]) -> Option<ArrayVec<Row, CHAINS>>
     requires few { length chains.now ≤ CHAINS }
     requires short { All (λ c. c.chips ≤ CHAIN_CHIPS) chains.now }
-    ensures { option_map (λ rows. (map (λ row. row.items) rows.items, reader.new)) result ≡ rows_at chains.now reader.old }
+    ensures { option_map (λ x. (rows_of x.items, reader.new)) result
+        ≡ rows_at chains.now reader.old }
 {
     let mut rows = ArrayVec::new();
     for chain in chains {
@@ -169,7 +217,8 @@ fn keys_on(board: &Board) -> usize
 
 /// Reads which keys of a board are down.
 fn read_keys_down(reader: &mut Reader<'_>, board: &Board) -> Option<ArrayVec<u8, KEYS>>
-    ensures { option_map (λ x. (x.items, reader.new)) result ≡ bytes_at (key_count board.now) reader.old }
+    ensures { option_map (λ x. (x.items, reader.new)) result
+        ≡ bytes_at (key_count board.now) reader.old }
 {
     read_bytes(reader, keys_on(board))
 }
@@ -185,13 +234,18 @@ fn read_breakpoints(reader: &mut Reader<'_>) -> Option<ArrayVec<u16, BREAKPOINTS
 /// Reads what the chains and the keys of a board hold, TEST, and the breakpoints.
 #[tactic(auto, unfolding(crate::specs::StateReading::wiring_at))]
 fn read_wiring(reader: &mut Reader<'_>, board: &Board) -> Option<Wiring>
-    ensures { option_map (λ x. ((map (λ row. row.items) x.0.items, (x.1.items, (x.2, x.3.items))), reader.new)) result ≡ wiring_at board.now reader.old }
+    ensures { option_map (λ x. (wiring_of x, reader.new)) result ≡ wiring_at board.now reader.old }
 {
     let chains = read_rows(reader, board.parts().chains.as_slice())?;
     let keys = read_keys_down(reader, board)?;
     let test = reader.byte()?;
     let breakpoints = read_breakpoints(reader)?;
-    Some((chains, keys, test, breakpoints))
+    Some(Wiring {
+        chains,
+        keys,
+        test,
+        breakpoints,
+    })
 }
 
 /// Reads the board after the count of commands, and whether the bytes are of version 1: they have no mark then.
@@ -222,6 +276,47 @@ fn read_watches(reader: &mut Reader<'_>, first: bool) -> Option<ArrayVec<u16, WA
     counted(reader)
 }
 
+/// The flat state of these parts.
+fn flat_from(
+    seq: u32,
+    board: Board,
+    memory: Memory,
+    registers: Registers,
+    sources: Sources,
+    wiring: Wiring,
+    watches: ArrayVec<u16, WATCHES>,
+) -> Flat
+    ensures { state_of result
+        ≡ state_from seq board memory registers sources (wiring_of wiring) watches.items }
+{
+    let r = registers.r;
+    let ret = registers.ret;
+    let ram_src = sources.ram_src;
+    Flat {
+        seq,
+        board,
+        rom: memory.rom,
+        ram: memory.ram,
+        status: memory.status,
+        ram_ports: memory.ram_ports,
+        rom_ports: memory.rom_ports,
+        acc: registers.acc,
+        cy: registers.cy,
+        r,
+        pc: registers.pc,
+        ret,
+        dcl: sources.dcl,
+        rom_src: sources.rom_src,
+        ram_src,
+        owed: sources.owed,
+        chains: wiring.chains,
+        keys: wiring.keys,
+        test: wiring.test,
+        breakpoints: wiring.breakpoints,
+        watches,
+    }
+}
+
 /// Reads the fields of a state, into these lists and others, and whether it is one of version 1.
 #[tactic(auto, unfolding(crate::specs::StateReading::state_at))]
 fn read_state(reader: &mut Reader<'_>, memory: Memory) -> Option<(bool, Flat)>
@@ -234,40 +329,12 @@ fn read_state(reader: &mut Reader<'_>, memory: Memory) -> Option<(bool, Flat)>
 {
     let seq = reader.long_number()?;
     let (first, board) = read_marked(reader)?;
-    let Memory {
-        rom,
-        ram,
-        status,
-        ram_ports,
-        rom_ports,
-    } = memory.read(reader)?;
-    let (acc, cy, r, pc, ret) = read_registers(reader)?;
-    let (dcl, rom_src, ram_src, owed) = read_sources(reader)?;
-    let (chains, keys, test, breakpoints) = read_wiring(reader, &board)?;
+    let memory = memory.read(reader)?;
+    let registers = read_registers(reader)?;
+    let sources = read_sources(reader)?;
+    let wiring = read_wiring(reader, &board)?;
     let watches = read_watches(reader, first)?;
-    let flat = Flat {
-        seq,
-        board,
-        rom,
-        ram,
-        status,
-        ram_ports,
-        rom_ports,
-        acc,
-        cy,
-        r,
-        pc,
-        ret,
-        dcl,
-        rom_src,
-        ram_src,
-        owed,
-        chains,
-        keys,
-        test,
-        breakpoints,
-        watches,
-    };
+    let flat = flat_from(seq, board, memory, registers, sources, wiring, watches);
     Some((first, flat))
 }
 
@@ -292,8 +359,10 @@ fn read_whole(bytes: &[u8], memory: Memory) -> Option<(bool, Flat)>
 ///
 /// Where memory is refused.
 pub fn bench_of(alloc: Global, bytes: &[u8]) -> Result<Option<Bench>, AllocError>
-    ensures some { IfOk result (λ found. IfSome found (λ s. SpellsStateBy (is_first bytes.now) bytes.now s)) }
-    ensures none { IfOk result (λ found. IfNone found ((first : Bool) (s : BenchState) → SpellsStateBy first bytes.now s → ⊥)) }
+    ensures some { IfOk result (λ found.
+        IfSome found (λ s. SpellsStateBy (is_first bytes.now) bytes.now s)) }
+    ensures none { IfOk result (λ found.
+        IfNone found ((first : Bool) (s : BenchState) → SpellsStateBy first bytes.now s → ⊥)) }
 {
     let memory = Memory::new(alloc)?;
     let Some((_first, flat)) = read_whole(bytes, memory) else {

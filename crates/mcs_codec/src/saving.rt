@@ -4,9 +4,7 @@ ghost use Rattle.std.specs.List.{flat_map};
 ghost use Rattle.mcs_model.specs.Boards.{chain_bits, chain_count, key_count};
 ghost use Rattle.mcs_model.specs.Validity.{IsValid};
 ghost use Rattle.mcs_codec.specs.Parts.{part_list, part_count};
-ghost use Rattle.mcs_codec.specs.StateBytes.{memory_bytes, registers_bytes, sources_bytes, wiring_bytes, groups_bytes, state_bytes};
-ghost use Rattle.mcs_codec.specs.BoardBytes.{counted};
-ghost use Rattle.mcs_codec.specs.CommandBytes.{address};
+ghost use Rattle.mcs_codec.specs.StateBytes.{memory_bytes, registers_bytes, sources_bytes, wiring_bytes, after_board, state_bytes};
 ghost use Rattle.mcs_codec.specs.Codec.{SpellsState};
 
 use crate::boards::put_board;
@@ -148,9 +146,10 @@ fn put_registers(bench: &Bench, out: &mut [u8], at: usize) -> usize
 /// Puts the command register, the SRC bytes of the ROMs and of the banks, and the owed cycles.
 fn put_sources(bench: &Bench, out: &mut [u8], at: usize) -> usize
     requires valid { IsValid bench.now }
-    requires room { at + length (sources_bytes bench.now.processor.dcl bench.now.bus.rom_src bench.now.bus.ram_src bench.now.processor.owed) ≤ length out.old }
-    ensures end { result ≡ at + length (sources_bytes bench.now.processor.dcl bench.now.bus.rom_src bench.now.bus.ram_src bench.now.processor.owed) }
-    ensures front { take result out.new ≡ take at out.old ++ sources_bytes bench.now.processor.dcl bench.now.bus.rom_src bench.now.bus.ram_src bench.now.processor.owed }
+    requires room { at + length (sources_bytes bench.now.processor bench.now.bus) ≤ length out.old }
+    ensures end { result ≡ at + length (sources_bytes bench.now.processor bench.now.bus) }
+    ensures front { take result out.new
+        ≡ take at out.old ++ sources_bytes bench.now.processor bench.now.bus }
 {
     let registers = bench.regs();
     let at = put(out, at, &[registers.dcl, bench.rom_src()]);
@@ -163,7 +162,8 @@ fn put_rows(bench: &Bench, out: &mut [u8], at: usize) -> usize
     requires valid { IsValid bench.now }
     requires room { at + length (flat_map (λ row. row) bench.now.bus.chains) ≤ length out.old }
     ensures end { result ≡ at + length (flat_map (λ row. row) bench.now.bus.chains) }
-    ensures front { take result out.new ≡ take at out.old ++ flat_map (λ row. row) bench.now.bus.chains }
+    ensures front { take result out.new
+        ≡ take at out.old ++ flat_map (λ row. row) bench.now.bus.chains }
 {
     let mut end = at;
     for n in 0..bench.board().chain_count() {
@@ -175,9 +175,10 @@ fn put_rows(bench: &Bench, out: &mut [u8], at: usize) -> usize
 /// Puts what the chains and the keys hold, TEST, and the breakpoints.
 fn put_wiring(bench: &Bench, out: &mut [u8], at: usize) -> usize
     requires valid { IsValid bench.now }
-    requires room { at + length (wiring_bytes bench.now.bus.chains bench.now.bus.keys bench.now.bus.test bench.now.breakpoints) ≤ length out.old }
-    ensures end { result ≡ at + length (wiring_bytes bench.now.bus.chains bench.now.bus.keys bench.now.bus.test bench.now.breakpoints) }
-    ensures front { take result out.new ≡ take at out.old ++ wiring_bytes bench.now.bus.chains bench.now.bus.keys bench.now.bus.test bench.now.breakpoints }
+    requires room { at + length (wiring_bytes bench.now.bus bench.now.breakpoints) ≤ length out.old }
+    ensures end { result ≡ at + length (wiring_bytes bench.now.bus bench.now.breakpoints) }
+    ensures front { take result out.new
+        ≡ take at out.old ++ wiring_bytes bench.now.bus bench.now.breakpoints }
 {
     let at = put_rows(bench, out, at);
     let at = Part::Keys.put(bench, out, at);
@@ -188,9 +189,9 @@ fn put_wiring(bench: &Bench, out: &mut [u8], at: usize) -> usize
 /// Puts the groups after the board, and the watches.
 fn put_groups(bench: &Bench, out: &mut [u8], at: usize) -> usize
     requires valid { IsValid bench.now }
-    requires room { at + length (groups_bytes bench.now.processor bench.now.bus bench.now.breakpoints (counted address bench.now.watches)) ≤ length out.old }
-    ensures end { result ≡ at + length (groups_bytes bench.now.processor bench.now.bus bench.now.breakpoints (counted address bench.now.watches)) }
-    ensures front { take result out.new ≡ take at out.old ++ groups_bytes bench.now.processor bench.now.bus bench.now.breakpoints (counted address bench.now.watches) }
+    requires room { at + length (after_board bench.now) ≤ length out.old }
+    ensures end { result ≡ at + length (after_board bench.now) }
+    ensures front { take result out.new ≡ take at out.old ++ after_board bench.now }
 {
     let at = put_memory(bench, out, at);
     let at = put_registers(bench, out, at);

@@ -17,7 +17,8 @@ const FIRST_CHAIN_CHIPS: u8 = 4;
 
 /// Whether a board has a chain that is too long for version 1.
 fn has_long_chain(board: &Board) -> bool
-    ensures { result ≡ list_any (λ chain. nat_lt FIRST_CHAIN_CHIPS chain.chips) board.now.chains.items }
+    ensures { result
+        ≡ list_any (λ chain. nat_lt FIRST_CHAIN_CHIPS chain.chips) board.now.chains.items }
 {
     board
         .parts()
@@ -74,7 +75,10 @@ pub fn version_of(bytes: &[u8]) -> Option<u8>
 /// A law: no bytes spell two states, nor states of both versions, and the fifth byte tells the version of the state that they
 /// spell. (And each state has one spelling in each version that has it: the definitions give one.)
 pub fn one_state()
-    ensures states { (bytes : List ℕ) (v w : Bool) (s t : BenchState) → SpellsStateBy v bytes s → SpellsStateBy w bytes t → s ≡ t }
-    ensures versions { (bytes : List ℕ) (v w : Bool) (s t : BenchState) → SpellsStateBy v bytes s → SpellsStateBy w bytes t → v ≡ w }
-    ensures told { (bytes : List ℕ) (first : Bool) (s : BenchState) → SpellsStateBy first bytes s → version_of bytes ≡ Some (if first then 1 else 2) }
+    ensures states { (bytes : List ℕ) (v w : Bool) (s t : BenchState)
+        → SpellsStateBy v bytes s → SpellsStateBy w bytes t → s ≡ t }
+    ensures versions { (bytes : List ℕ) (v w : Bool) (s t : BenchState)
+        → SpellsStateBy v bytes s → SpellsStateBy w bytes t → v ≡ w }
+    ensures told { (bytes : List ℕ) (first : Bool) (s : BenchState)
+        → SpellsStateBy first bytes s → version_of bytes ≡ Some (if first then 1 else 2) }
 {}
