@@ -1,8 +1,8 @@
 -- What a call of the page does with the bytes of a session file.
 use Rattle.std.specs.Prelude.{◌≡◌, ◌≤◌, ◌<◌, ℕ, List, [], Option, Some, length, take, drop}
 use Rattle.mcs_disk.specs.Disk.{DiskState}
-use Rattle.mcs_disk.specs.declared.memory.MemDisk.{MemDisk}
 use Rattle.mcs_disk.specs.Memory.{memory_state}
+use Rattle.mcs_disk.specs.declared.memory.MemDisk.{MemDisk}
 use Rattle.mcs_journal.specs.declared.fault.OpenFault.{OpenFault}
 use Rattle.mcs_journal.specs.declared.fault.OpenFault.TheVariants as open_fault
 use Rattle.mcs_model.specs.BenchState.{BenchState, new_bench_state}
@@ -36,14 +36,15 @@ pub record Resumes (file : List ℕ) (session : SessionView MemDisk) : Type 0 wh
   pub held : HasBytes file (seen disk)
   pub begun : GoesOnWith (seen disk) (seen session.disk) session.live session.state
 
--- The session that the bytes of a file hold went on, the shell read this input and wrote these answers, and these are the bytes that
--- its disk has then.
+-- The session that the bytes of a file hold went on, the shell read this input and wrote these
+-- answers, and these are the bytes that its disk has then.
 pub record ServedOn (file input : List ℕ) (end : ShellEnd) (answers after : List ℕ) : Type 0 where
   pub session : SessionView MemDisk
   pub resumes : Resumes file session
   pub rest : Option (List ℕ)
   pub left : SessionView MemDisk
-  pub ran : Ran end (Some input) rest (staged seen session (Some [])) (staged seen left (Some answers))
+  pub ran : Ran end (Some input) rest (staged seen session (Some []))
+      (staged seen left (Some answers))
   pub kept : HasBytes after (seen left.disk)
 
 -- all of the input was served, or as much of it as a shell reads
@@ -53,21 +54,24 @@ IsWhole InputLimit = Unit {0}
 IsWhole end = ⊥
 
 -- the input was served, and the answers are that many bytes at the front of the buffer
-pub record Answers (file input : List ℕ) (end : ShellEnd) (count : ℕ) (buffer buffer' after : List ℕ) : Type 0 where
+pub record Answers (file input : List ℕ) (end : ShellEnd) (count : ℕ)
+    (buffer buffer' after : List ℕ) : Type 0 where
   pub whole : IsWhole end
   pub within : count ≤ length buffer
   pub served : ServedOn file input end (take count buffer') after
   pub rest : drop count buffer' ≡ drop count buffer
 
--- Opening the file is refused: by what its bytes are, or for lack of memory. A disk in memory has no other fault.
+-- Opening the file is refused: by what its bytes are, or for want of memory. A disk in memory has no
+-- other fault.
 abbrev pub IsRefused : OpenFault → List ℕ → Type 0
 IsRefused open_fault.NoMemory file = Unit {0}
 IsRefused open_fault.Device file = ⊥
 IsRefused fault file = (disk : MemDisk) × HasBytes file (seen disk) × RefusesSession fault (seen disk)
 
--- the answers to this input would be that many bytes, more than the buffer has room for
+-- this input was served whole: its answers are that many bytes, more than the buffer has room for
 pub record LacksRoom (file input : List ℕ) (count room : ℕ) : Type 0 where
   pub end : ShellEnd
+  pub whole : IsWhole end
   pub answers : List ℕ
   pub after : List ℕ
   pub served : ServedOn file input end answers after

@@ -1,11 +1,11 @@
 //! Disks in memory, from the bytes of a file and back.
-ghost use Rattle.std.specs.Prelude.{◌≡◌, IfErr, IfOk};
+ghost use Rattle.std.specs.Prelude.{◌≡◌, length, IfErr, IfOk, OnErr, OnOk};
 ghost use Rattle.mcs_page.specs.Page.{HasBytes, IsRefused, Resumes, seen};
 
 use mcs_disk::{Disk, DiskFault, MemDisk};
 use mcs_journal::OpenFault;
 use mcs_session::session::Session;
-use std::alloc::Global;
+use std::alloc::{AllocError, Global};
 
 /// A disk that has these bytes; it fails only for lack of memory.
 fn disk_of(alloc: Global, bytes: &[u8]) -> Result<MemDisk, DiskFault>
@@ -35,13 +35,20 @@ pub(crate) fn resume(alloc: Global, file: &[u8]) -> Result<Session<MemDisk>, Ope
     }
 }
 
-/// The bytes of a disk; it fails only for lack of memory.
-pub(crate) fn bytes_of(alloc: Global, disk: &mut MemDisk) -> Result<Vec<u8>, DiskFault>
-    ensures { IfOk result (λ bytes. HasBytes bytes.items (seen disk.old)) }
+/// Puts the bytes of a disk in the place of a file's. Where there is no memory for that, they stay.
+pub(crate) fn write_back(
+    alloc: Global,
+    mut disk: MemDisk,
+    file: &mut [u8],
+) -> Result<(), AllocError>
+    requires size { length file.old ≡ (seen disk).size }
+    ensures written { OnOk result (file.new ≡ (seen disk).bytes) }
+    ensures stays { OnErr result (file.new ≡ file.old) }
 {
-    let Ok(mut bytes) = vec![in alloc; 0u8; disk.size()] else {
-        return Err(DiskFault);
+    let mut bytes = vec![in alloc; 0u8; disk.size()]?;
+    let Ok(()) = disk.read(0, bytes.as_mut_slice()) else {
+        return Err(AllocError);
     };
-    disk.read(0, bytes.as_mut_slice())?;
-    Ok(bytes)
+    file.copy_from_slice(bytes.as_slice());
+    Ok(())
 }

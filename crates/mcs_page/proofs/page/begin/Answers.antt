@@ -1,7 +1,10 @@
-use Rattle.std.proofs.Common.{sym}
+use Rattle.std.proofs.Common.{◌≡◌, sym}
+use Rattle.std.proofs.lemmas.Result.{on_ok_weaker}
 use Rattle.mcs_page.proofs.page.begin.Goals as goal
 
-pub returns-in-Ok-bytes_of-clause-made : goal.returns-in-Ok-bytes_of-clause-made
-returns-in-Ok-bytes_of-clause-made c =
-    let made = (c.in-Ok.ensures.created tt).stands in
-    rw (c.copy_from_slice.ensures.after, c.as_slice.ensures.value) (rw c.in-Ok-bytes_of.ensures.bytes at (rw (sym c.into_disk.ensures.is) at made))
+pub returns-clause-made : goal.returns-clause-made
+returns-clause-made c =
+    let made = rw (sym c.into_disk.ensures.is) at ((c.in-Ok.ensures.created tt).stands) in
+    on_ok_weaker c.write_back.result
+    (λ (written : c.write_back.new.file ≡ c.into_disk.result.bytes.items). rw written made)
+    c.write_back.ensures.written
