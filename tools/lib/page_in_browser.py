@@ -8,6 +8,7 @@ import time
 from page_module import module_of_page
 from picture import write_picture
 from verdicts import comes, verdict
+from web_driver import Chromium
 
 TOP = pathlib.Path(__file__).resolve().parent.parent.parent
 DIGITS = "return document.getElementById('digits').textContent"
@@ -366,10 +367,10 @@ def poor(page, folder, code):
     return made
 
 
-def told_at_start(browser, page):
+def told_at_start(browser, page, code=NOTICE, wanted=re.compile(".")):
     browser.go("about:blank")
     browser.go(page.as_uri())
-    return browser.until(NOTICE, re.compile("."))
+    return browser.until(code, wanted)
 
 
 def works(browser, what):
@@ -391,6 +392,25 @@ def check_poor_browsers(browser, page, folder):
         browser.click("#close-sessions")
     verdict("a store that cannot be read", told_at_start(browser, poor(page, folder, NO_READING)), re.compile("could not be read"))
     works(browser, "a store that cannot be read")
+    check_no_locks(browser, page, folder)
+
+
+def check_no_locks(browser, page, folder):
+    """Two tabs on one session, where the browser has no locks: neither overwrites what the other has written."""
+    told_at_start(browser, poor(page, folder, "Object.defineProperty(Navigator.prototype, 'locks', { value: undefined })"), READY, True)
+    address = browser.script("return location.href")
+    first = browser.tab()
+    browser.click("#run")
+    browser.until(STATUS, "Stopped.")
+    browser.new_tab()
+    browser.go(address)
+    browser.until(READY, True)
+    verdict("the second tab keeps its line", lines_answered(browser, "poke r5 9"), re.compile(r"poke r5 9ok \d+"))
+    browser.close_tab(first)
+    verdict("the first one is told", lines_answered(browser, "poke r5 3"), re.compile("not kept: another tab has changed"))
+    browser.reload()
+    browser.until(READY, True)
+    verdict("and what the second one wrote is there", lines_answered(browser, "regs"), re.compile(" r .{5}9"))
 
 
 def check_blocked(kind, page, folder):
@@ -399,6 +419,24 @@ def check_blocked(kind, page, folder):
     try:
         verdict("blocked data of sites", told_at_start(browser, page), re.compile("its settings block the data of sites"))
         works(browser, "blocked data of sites")
+    finally:
+        browser.end()
+
+
+def check_little_memory(page, folder):
+    """A browser that gives the module 80 pages of memory, 5 MB: lines that need more are refused, and the session is as it was."""
+    browser = Chromium(folder / "little", str(folder / "downloads"), ["--js-flags=--wasm-max-mem-pages=80"])
+    try:
+        browser.go(page.as_uri())
+        browser.until(READY, True)
+        browser.click("#run")
+        browser.until(STATUS, "Stopped.")
+        before = lines_answered(browser, "seq")
+        browser.script("document.getElementById('lines').value = 'poke r5 9\\n'.repeat(30000)")
+        browser.click("#send")
+        comes(browser, "want of memory in the module is told", NOTICE, re.compile("no 90: there was no memory.*The session is as it was"))
+        browser.script("document.getElementById('lines').value = ''")
+        verdict("and the session is as it was", lines_answered(browser, "seq"), before)
     finally:
         browser.end()
 
