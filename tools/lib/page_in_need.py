@@ -136,7 +136,7 @@ def check_blocked(kind, page, folder):
     """The page in a browser whose settings block the data of all sites."""
     browser = kind(folder / f"blocked{kind.name}", str(folder / "downloads"), **kind.blocks_data)
     try:
-        verdict("blocked data of sites", told_at_start(browser, page), re.compile("its settings block the data of sites"))
+        verdict("blocked data of sites", told_at_start(browser, page), re.compile("blocked by the settings"))
         works(browser, "blocked data of sites")
     finally:
         browser.end()
