@@ -228,7 +228,7 @@ def check_hidden(browser):
     comes(browser, "and it runs on as fast as it should", RATE, re.compile("^9[0-4]...$"))
     browser.script(BLOCK, 1500)
     comes(browser, "the same where the browser did not run the page", STATUS,
-          re.compile(r"stood still for \d+ seconds while the browser did not run this page\.$"))
+          re.compile(r"stood still for \d+ seconds while this page could not run on\.$"))
     verdict("after an hour in the background nothing is owed, and a slow frame owes little", browser.inside(AFTER_AN_HOUR),
             [3600000, True, 0, 925, 20000, "1 hour", "1 hour 2 minutes"])
 
