@@ -22,6 +22,8 @@ class Clock {
     this.host = host;
     this.queue = new KeyQueue();
     this.isRunning = false;
+    // The frame that is asked for.
+    this.next = 0;
     this.batch = FIRST_BATCH;
     this.rate = { since: 0, cycles: 0, told: 0 };
   }
@@ -55,10 +57,11 @@ class Clock {
 
   stop() {
     this.isRunning = false;
+    cancelAnimationFrame(this.next);
   }
 
   again() {
-    requestAnimationFrame((now) => this.frame(Math.max(now, this.before)));
+    this.next = requestAnimationFrame((now) => this.frame(Math.max(now, this.before)));
   }
 
   // The cycles that are due at this time.

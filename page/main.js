@@ -3,8 +3,8 @@
 const NO_MEMORY64 = "This browser has no 64-bit WebAssembly memory (Memory64), which the bench needs. Chrome, Edge and the other "
   + "browsers on Chromium have it from version 133 on, Firefox from 134 on; Safari had none when this page was made.";
 
-const NO_STORE = "This browser keeps nothing for this page: it has no IndexedDB here, or its settings block the data of sites. All works, "
-  + "but save the session to a file before you leave.";
+const NO_STORE = "This browser keeps nothing for this page: its store (IndexedDB) is missing, is blocked by the settings, or does not "
+  + "answer. All works, but save the session to a file before you leave.";
 // A store that does not answer in so many milliseconds counts as none.
 const TIME_OF_STORE = 10000;
 

@@ -14,12 +14,12 @@ class Chromium(Driven):
     # With these settings it keeps no data of any site.
     blocks_data = {"profile.default_content_setting_values.cookies": 2}
 
-    def __init__(self, folder, downloads, **settings):
+    def __init__(self, folder, downloads, flags=(), **settings):
         self.driver = subprocess.Popen(["chromedriver", "--port=0"], stdout=subprocess.PIPE, stderr=subprocess.DEVNULL, text=True)
         self.root = f"http://127.0.0.1:{self._port()}"
         options = {
             "args": ["--headless=new", "--no-sandbox", "--disable-gpu", "--hide-scrollbars", "--window-size=1280,900",
-                     f"--user-data-dir={folder}"],
+                     f"--user-data-dir={folder}", *flags],
             "prefs": {"download.default_directory": downloads, "download.prompt_for_download": False, **settings},
         }
         asked = {"capabilities": {"alwaysMatch": {"goog:chromeOptions": options, "goog:loggingPrefs": {"browser": "ALL"}}}}
