@@ -1,95 +1,124 @@
+//! Files of the host as disks, and the words of the command line.
 use crate::checks::equal;
+use crate::files::{remove, write};
 use mcs_disk::{Disk, DiskFault};
 use mcs_host::{Choice, FileDisk, FileFault, WordsFault, choice};
 use std::alloc::Global;
-use std::fs::{self, OpenOptions};
+use std::fs::OpenOptions;
 use std::os::unix::fs::FileExt;
-use std::test::Fail;
+use std::process::Abort;
 
-#[test]
-fn a_new_file_is_blank_and_keeps_what_is_written(rt: HostRuntime) -> Result<(), Fail> {
-    let path = "mcs_host_file_disk_test.mcs";
-    let _ = fs::remove_file(&rt, path);
-    equal(
-        &rt,
-        FileDisk::open_at(&rt, rt.alloc(), path, false).err(),
-        Some(FileFault::NotThere),
-    );
-    let mut disk = FileDisk::open_at(&rt, rt.alloc(), path, true)?;
-    assert!(rt; disk.size() == 163_856);
-    let mut bytes = [1u8; 4];
-    disk.read(163_852, &mut bytes)?;
-    equal(&rt, bytes, [0, 0, 0, 0]);
-    disk.write(2, &[7, 8])?;
-    disk.sync()?;
-    drop(disk);
-    let mut again = FileDisk::open_at(&rt, rt.alloc(), path, true)?;
-    assert!(rt; again.size() == 163_856);
-    again.read(0, &mut bytes)?;
-    equal(&rt, bytes, [0, 0, 7, 8]);
-    // Another program, which heeds no lock, writes here, so what is read is not what was written.
-    let other = OpenOptions::new().write(true).open(&rt, path)?;
-    other.write_all_at(&[9], 2)?;
-    equal(&rt, again.read(0, &mut bytes), Err(DiskFault));
-    fs::remove_file(&rt, path)?;
-    Ok(())
+/// The disk over a file. With `make`, a file that is not there is made.
+fn disk_at(rt: &HostRuntime, path: &str, make: bool) -> Result<FileDisk, FileFault> {
+    FileDisk::open_at(rt, rt.alloc(), path, make)
+}
+
+/// Why there is no disk over a file, if there is none.
+fn fault_at(rt: &HostRuntime, path: &str, make: bool) -> Option<FileFault> {
+    disk_at(rt, path, make).err()
+}
+
+/// A disk that was not refused, of that many bytes.
+fn of_size(rt: &impl Abort, disk: Result<FileDisk, FileFault>, size: usize) -> FileDisk {
+    match disk {
+        Ok(disk) => {
+            equal(rt, disk.size(), size);
+            disk
+        }
+        Err(_) => panic!(rt; "not opened"),
+    }
+}
+
+/// Reads what a disk holds there.
+fn read(rt: &impl Abort, disk: &mut FileDisk, at: usize, into: &mut [u8]) -> Result<(), DiskFault> {
+    assert!(rt; at <= disk.size() && into.len() <= disk.size() - at);
+    disk.read(at, into)
+}
+
+/// A disk holds these bytes there, at most four.
+fn expect_bytes(rt: &impl Abort, disk: &mut FileDisk, at: usize, want: &[u8]) {
+    let mut got = [0xAAu8; 4];
+    assert!(rt; want.len() <= 4);
+    let found = &mut got[..want.len()];
+    equal(rt, read(rt, disk, at, found), Ok(()));
+    equal(rt, &*found, want);
+}
+
+/// Writes bytes to a disk, and syncs it.
+fn keep(rt: &impl Abort, disk: &mut FileDisk, at: usize, bytes: &[u8]) {
+    assert!(rt; at <= disk.size() && bytes.len() <= disk.size() - at);
+    equal(rt, disk.write(at, bytes), Ok(()));
+    equal(rt, disk.sync(), Ok(()));
+}
+
+/// Writes a byte into a file without regard to its lock. It answers whether it is written.
+fn write_unlocked(rt: &HostRuntime, path: &str) -> bool {
+    match OpenOptions::new().write(true).open(rt, path) {
+        Ok(other) => other.write_all_at(&[9], 2).is_ok(),
+        Err(_) => false,
+    }
+}
+
+/// The disk of a new file is blank, and has these bytes at 2 then.
+fn expect_blank(rt: &impl Abort, mut disk: FileDisk) {
+    expect_bytes(rt, &mut disk, 163_852, &[0, 0, 0, 0]);
+    keep(rt, &mut disk, 2, &[7, 8]);
 }
 
 #[test]
-fn a_file_is_in_use_by_one_disk(rt: HostRuntime) -> Result<(), Fail> {
+fn a_new_file_is_blank_and_keeps_what_is_written(rt: HostRuntime) {
+    let path = "mcs_host_file_disk_test.mcs";
+    let _ = remove(&rt, path);
+    equal(&rt, fault_at(&rt, path, false), Some(FileFault::NotThere));
+    expect_blank(&rt, of_size(&rt, disk_at(&rt, path, true), 163_856));
+    let mut again = of_size(&rt, disk_at(&rt, path, true), 163_856);
+    expect_bytes(&rt, &mut again, 0, &[0, 0, 7, 8]);
+    // another program writes here without a lock, so what is read is not what was written
+    equal(&rt, write_unlocked(&rt, path), true);
+    equal(&rt, read(&rt, &mut again, 0, &mut [0u8; 4]), Err(DiskFault));
+    equal(&rt, remove(&rt, path), true);
+}
+
+#[test]
+fn a_file_is_in_use_by_one_disk(rt: HostRuntime) {
     let path = "mcs_host_lock_test.mcs";
-    let _ = fs::remove_file(&rt, path);
-    let disk = FileDisk::open_at(&rt, rt.alloc(), path, true)?;
+    let _ = remove(&rt, path);
+    let disk = of_size(&rt, disk_at(&rt, path, true), 163_856);
     for make in [true, false] {
-        equal(
-            &rt,
-            FileDisk::open_at(&rt, rt.alloc(), path, make).err(),
-            Some(FileFault::InUse),
-        );
+        equal(&rt, fault_at(&rt, path, make), Some(FileFault::InUse));
     }
     drop(disk);
-    let again = FileDisk::open_at(&rt, rt.alloc(), path, false)?;
-    assert!(rt; again.size() == 163_856);
-    fs::remove_file(&rt, path)?;
-    Ok(())
+    drop(of_size(&rt, disk_at(&rt, path, false), 163_856));
+    equal(&rt, remove(&rt, path), true);
 }
 
+/// Names of what is no file, with the reason why each is refused.
+const NO_FILES: [(&str, FileFault); 4] = [
+    (".", FileFault::Folder),
+    ("/dev/null", FileFault::NotAFile),
+    ("none/s.mcs", FileFault::NotThere),
+    ("", FileFault::NotThere),
+];
+
 #[test]
-fn what_is_no_file_is_refused_by_name(rt: HostRuntime) -> Result<(), Fail> {
-    let rows = [
-        (".", FileFault::Folder),
-        ("/dev/null", FileFault::NotAFile),
-        ("none/s.mcs", FileFault::NotThere),
-        ("", FileFault::NotThere),
-    ];
-    for (path, fault) in rows {
+fn what_is_no_file_is_refused_by_name(rt: HostRuntime) {
+    for (path, fault) in NO_FILES.iter() {
         for make in [true, false] {
-            equal(
-                &rt,
-                FileDisk::open_at(&rt, rt.alloc(), path, make).err(),
-                Some(fault),
-            );
+            equal(&rt, fault_at(&rt, path, make), Some(*fault));
         }
     }
-    Ok(())
 }
 
 #[test]
-fn a_file_of_another_size_is_seen_as_one(rt: HostRuntime) -> Result<(), Fail> {
+fn a_file_of_another_size_is_seen_as_one(rt: HostRuntime) {
     let path = "mcs_host_file_size_test.mcs";
-    fs::write(&rt, path, b"short".as_slice())?;
-    let short = FileDisk::open_at(&rt, rt.alloc(), path, true)?;
-    assert!(rt; short.size() == 5);
-    drop(short);
-    let long = vec![in rt.alloc(); 1u8; 163_900]?;
-    fs::write(&rt, path, long.as_slice())?;
-    let mut seen = FileDisk::open_at(&rt, rt.alloc(), path, true)?;
-    assert!(rt; seen.size() == 163_857);
-    let mut last = [0u8; 1];
-    seen.read(163_856, &mut last)?;
-    equal(&rt, last, [1]);
-    fs::remove_file(&rt, path)?;
-    Ok(())
+    equal(&rt, write(&rt, path, b"short"), true);
+    drop(of_size(&rt, disk_at(&rt, path, true), 5));
+    let long = vec![in rt.alloc(); 1u8; 163_900].expect(&rt, "memory");
+    equal(&rt, write(&rt, path, long.as_slice()), true);
+    let mut seen = of_size(&rt, disk_at(&rt, path, true), 163_857);
+    expect_bytes(&rt, &mut seen, 163_856, &[1]);
+    equal(&rt, remove(&rt, path), true);
 }
 
 /// Whether the words choose a new session in this file.
@@ -108,7 +137,7 @@ fn opens(alloc: Global, words: &[&str], name: &str) -> bool {
     }
 }
 
-/// Whether the words are none of the program's.
+/// Whether the words are not the program's.
 fn is_usage(alloc: Global, words: &[&str]) -> bool {
     match choice(alloc, words) {
         Err(WordsFault::Usage) => true,
@@ -116,17 +145,23 @@ fn is_usage(alloc: Global, words: &[&str]) -> bool {
     }
 }
 
+/// Words that are not the program's.
+const USAGE: [&[&str]; 7] = [
+    &["mcs4"],
+    &["mcs4", "frob"],
+    &["mcs4", "new"],
+    &["mcs4", "open"],
+    &["mcs4", "--help"],
+    &["mcs4", "help"],
+    &["mcs4", "new", "a", "b"],
+];
+
 #[test]
-fn words_choose(rt: HostRuntime) -> Result<(), Fail> {
+fn words_choose(rt: HostRuntime) {
     let alloc = rt.alloc();
     equal(&rt, makes(alloc, &["mcs4", "new", "s.mcs"], "s.mcs"), true);
     equal(&rt, opens(alloc, &["mcs4", "open", "s.mcs"], "s.mcs"), true);
-    equal(&rt, is_usage(alloc, &["mcs4"]), true);
-    equal(&rt, is_usage(alloc, &["mcs4", "frob"]), true);
-    equal(&rt, is_usage(alloc, &["mcs4", "new"]), true);
-    equal(&rt, is_usage(alloc, &["mcs4", "open"]), true);
-    equal(&rt, is_usage(alloc, &["mcs4", "--help"]), true);
-    equal(&rt, is_usage(alloc, &["mcs4", "help"]), true);
-    equal(&rt, is_usage(alloc, &["mcs4", "new", "a", "b"]), true);
-    Ok(())
+    for words in USAGE.iter() {
+        equal(&rt, is_usage(alloc, words), true);
+    }
 }
