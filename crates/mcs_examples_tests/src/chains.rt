@@ -3,7 +3,7 @@
 
 /// Texts of twenty rows: keys, a colon, and the display after them: minus, `!` for an overflow, `?` for a division by zero, and
 /// eight digits, each with its point or a blank.
-pub(crate) const CHAINS: [&str; 2] = [
+const CHAINS: [&str; 2] = [
     r#"C578~/6=:-  9 6.3 3 3 3 3 3 
 C395~-1389.=:-  0 0 0 0 1 7 8 4.
 C3.-849.*7.8-57=:-  0 0 0 6 6 5 5.8 
@@ -47,3 +47,8 @@ C7.*05.=:   0 0 0 0 0 0 3 5.
 C01/2.=:   0 0 0 0 0 0 0.5 
 "#,
 ];
+
+/// The texts. A function that names them in its own body would have all of their bytes in its proof.
+pub(crate) fn chains() -> &'static [&'static str] {
+    &CHAINS
+}

@@ -6,6 +6,8 @@ mod calculator;
 #[cfg(test)]
 mod chains;
 #[cfg(test)]
+mod checks;
+#[cfg(test)]
 mod scripts;
 #[cfg(test)]
 mod texts;
