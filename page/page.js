@@ -162,8 +162,8 @@ class Page {
 
   // Time stood still for so many milliseconds, and runs on.
   stoodStill(time, wasHidden) {
-    const why = wasHidden ? "was hidden" : "could not run on";
-    setText(byId("status"), `Time runs. It stood still for ${wordsOfTime(time)} while this page ${why}.`);
+    const why = wasHidden ? "while hidden" : "while the page was held up";
+    setText(byId("status"), `Time runs. It stood still for ${wordsOfTime(time)} ${why}.`);
   }
 
   // Time stands still from here on; the words tell why.
