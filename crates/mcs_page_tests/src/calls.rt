@@ -1,7 +1,7 @@
 //! The calls of the page: sessions over several calls, refused files, buffers that are too short.
 use crate::checks::equal;
 use crate::files::{
-    answers, copy, expect_answers, file_of_version_1, new_file, put, served, settled,
+    CARRIED_OVER, answers, copy, expect_answers, file_of_version_1, new_file, put, served, settled,
 };
 use mcs_disk::{Disk, MemDisk};
 use mcs_journal::{FILE_SIZE, OpenFault};
@@ -11,8 +11,19 @@ use mcs_shell::shell::run_shell;
 use std::alloc::Global;
 use std::process::Abort;
 
-const FIRST: &[u8] =
-    b"wire\n[[rom]]\nchip = 0\nport = \"0000\"\n.\npoke r5 9\nasm\nLDM 3\nXCH R4\nJUN 2\n.\nrun 1000\n";
+const FIRST: &[u8] = b"wire
+[[rom]]
+chip = 0
+port = \"0000\"
+.
+poke r5 9
+asm
+LDM 3
+XCH R4
+JUN 2
+.
+run 1000
+";
 
 const SECOND: &[u8] = b"seq\nregs\n";
 
@@ -89,11 +100,8 @@ fn a_settled_file_has_no_records(rt: HostRuntime) {
     }
 }
 
-/// What the file of version 1 tells of its registers.
-const CARRIED_OVER: &[u8] =
-    b"session 1\nacc 0 cy 0 pc 000 owed 0 dcl 0 test 1 r 0000090000000000 ret 000 000 000\n";
-
-/// The file holds a snapshot of version 2 in the slot that its selector names, and tells the registers.
+/// The file holds a snapshot of version 2 in the slot that its selector names, and tells the
+/// registers.
 fn expect_carried_over(alloc: Global, rt: &impl Abort, file: &mut [u8]) {
     let at = if file.get(8) == Some(&0) { 24 } else { 81_944 };
     equal(rt, file.get(at), Some(&2));
@@ -151,7 +159,8 @@ fn files_of_one_byte_over_and_over(rt: HostRuntime) {
 fn files_that_hold_no_session(rt: HostRuntime) {
     let alloc = rt.alloc();
     let made = new_file(alloc, &rt);
-    // another name, the length of the snapshot, a state of a version to come, a record that spells no command
+    // another name, the length of the snapshot, a state of a version to come, a record that spells
+    // no command
     let changes: [(usize, &[u8], OpenFault); 4] = [
         (7, b"2", OpenFault::NotASession),
         (19, &[0], OpenFault::Damaged),

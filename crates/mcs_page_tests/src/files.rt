@@ -1,5 +1,6 @@
 //! Session files as a page keeps them, and what is asked of them.
 use crate::checks::equal;
+use mcs_fixtures::files::{NEW_BENCH, POKE};
 use mcs_journal::{FILE_SIZE, OpenFault};
 use mcs_page::fault::NotServed;
 use mcs_page::page::{Served, begin, serve, settle};
@@ -26,22 +27,25 @@ pub(crate) fn copy(alloc: Global, rt: &impl Abort, bytes: &[u8]) -> Vec<u8> {
     bytes.to_vec(alloc).expect(rt, "memory")
 }
 
-/// The file of a session of version 1: a new bench, 6,822 bytes of state, of which the ROMs are dashes and TEST is 1; and the record
-/// of `poke r5 9`.
-pub(crate) fn file_of_version_1(alloc: Global, rt: &impl Abort) -> Vec<u8> {
-    let stretches: [(usize, &[u8]); 5] = [
-        (0, b"MCS4BEN1"),
-        (18, &[0x1A, 0xA6]),
-        (24, &[b'-'; 64]),
-        (6_840, &[1]),
-        (16_400, &[1, 0, 4, 7, 3, 5, 9]),
-    ];
-    let mut file = vec![in alloc; 0u8; FILE_SIZE].expect(rt, "memory");
-    for (at, bytes) in stretches {
-        put(file.as_mut_slice(), at, bytes);
+/// Makes a file one of version 1: a new bench, and the record of `poke r5 9`.
+pub(crate) fn put_version_1(file: &mut [u8]) {
+    file.fill(0);
+    for (at, bytes) in NEW_BENCH {
+        put(file, at, bytes);
     }
+    put(file, POKE.0, POKE.1);
+}
+
+/// The file of that session.
+pub(crate) fn file_of_version_1(alloc: Global, rt: &impl Abort) -> Vec<u8> {
+    let mut file = vec![in alloc; 0u8; FILE_SIZE].expect(rt, "memory");
+    put_version_1(file.as_mut_slice());
     file
 }
+
+/// What it answers to `regs`.
+pub(crate) const CARRIED_OVER: &[u8] =
+    b"session 1\nacc 0 cy 0 pc 000 owed 0 dcl 0 test 1 r 0000090000000000 ret 000 000 000\n";
 
 /// Serves an input on a file, with the answers put into a buffer.
 pub(crate) fn served(

@@ -7,9 +7,10 @@ use Rattle.mcs_shell.specs.RefusalNumbers.{open_fault_number}
 use Rattle.mcs_shell.specs.Shell.{exit_status_of}
 use Rattle.mcs_shell.specs.declared.ends.ShellEnd.{ShellEnd}
 
--- the input was served on the session of the file, the number is the exit status of the shell's end, and that many bytes at the front of
--- the buffer are the answers
-pub record TellsOf (file input : List ℕ) (number count : ℕ) (buffer buffer' after : List ℕ) : Type 0 where
+-- the input was served on the session of the file, the number is the exit status of the shell's end,
+-- and that many bytes at the front of the buffer are the answers
+pub record TellsOf (file input : List ℕ) (number count : ℕ) (buffer buffer' after : List ℕ)
+    : Type 0 where
   pub end : ShellEnd
   pub told : number ≡ exit_status_of end
   pub answers : Answers file input end count buffer buffer' after

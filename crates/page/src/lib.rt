@@ -16,8 +16,8 @@ use std::alloc::Global;
 #[derive(Clone, Copy)]
 #[repr(C)]
 pub struct Told {
-    /// Where input was served the exit status of the shell's end, and else the number of the refusal, or 0 where the answers have
-    /// no room.
+    /// Where input was served the exit status of the shell's end, and else the number of the
+    /// refusal, or 0 where the answers have no room.
     pub number: u32,
     /// How many bytes of answers there are, or would be where they have no room.
     pub count: usize,
@@ -31,7 +31,8 @@ pub extern "C" fn page_file_size() -> usize
     mcs_journal::FILE_SIZE
 }
 
-/// Makes the file of a new session. Where it answers false, there was no memory, and the bytes stay.
+/// Makes the file of a new session. Where it answers false, there was no memory, and the bytes
+/// stay.
 #[unsafe(no_mangle)]
 pub extern "C" fn page_begin(alloc: Global, file: &mut [u8]) -> bool
     requires size { length file.old ≡ FILE_SIZE }
@@ -41,8 +42,9 @@ pub extern "C" fn page_begin(alloc: Global, file: &mut [u8]) -> bool
     begin(alloc, file).is_ok()
 }
 
-/// Goes on with the session that the bytes of a file hold, serves the lines of an input on it, and puts the bytes that its disk has
-/// then in their place. Where it answers false, nothing was done, and `told` tells why.
+/// Goes on with the session that the bytes of a file hold, serves the lines of an input on it,
+/// writes the answers to the front of a buffer, and puts the bytes that its disk has then in the
+/// place of the file's. Where it answers false, nothing was done, and `told` tells why.
 #[unsafe(no_mangle)]
 pub extern "C" fn page_serve(
     alloc: Global,
@@ -51,8 +53,10 @@ pub extern "C" fn page_serve(
     answers: &mut [u8],
     told: &mut Told,
 ) -> bool
-    ensures served { result ≡ true → TellsOf file.old input.now told.new.number told.new.count answers.old answers.new file.new }
-    ensures refused { result ≡ false → TellsWhyNot file.old input.now told.new.number told.new.count (length answers.old) }
+    ensures served { result ≡ true → TellsOf file.old input.now told.new.number told.new.count
+        answers.old answers.new file.new }
+    ensures refused { result ≡ false → TellsWhyNot file.old input.now told.new.number told.new.count
+        (length answers.old) }
     ensures stays { result ≡ false → (file.new ≡ file.old) × (answers.new ≡ answers.old) }
 {
     match serve(alloc, file, input, answers) {
@@ -77,8 +81,8 @@ pub extern "C" fn page_serve(
     }
 }
 
-/// Puts a snapshot in the place of the records of a session's file. Where it answers false, the bytes hold no session or there was
-/// no memory, and they stay.
+/// Puts a snapshot in the place of the records of a session's file. Where it answers false, the
+/// bytes hold no session or there was no memory, and they stay.
 #[unsafe(no_mangle)]
 pub extern "C" fn page_settle(alloc: Global, file: &mut [u8]) -> bool
     ensures settled { result ≡ true → StandsForTheSame file.old file.new }
