@@ -16,7 +16,7 @@ use Rattle.mcs_nibble.specs.Ports.{mask_character, mask_of}
 use Rattle.mcs_codec.specs.BoardBytes.{rom_bytes, line_bytes, chain_bytes, counted, keys_bytes, board_bytes}
 use Rattle.mcs_codec.specs.BoardReading.{rom_of, rom_at, lines_of, line_of, line_at, chain_at, keys_at, matrix_at, parts_at, board_at}
 use Rattle.mcs_codec.proofs.BoardLengths.{IsMask, IsKeys, HasLengths, lengths_of, valid_of}
-use Rattle.mcs_codec.proofs.Codecs.{IsCodec, IsBytes, IsBytes-rest, Steps, Ends, then_some, any_codec, bytes_codec, many_codec, any_counted_codec, last, next, no_step, block_codec, giving_codec, only_codec, refit_codec, row}
+use Rattle.mcs_codec.proofs.Codecs.{IsCodec, IsBytes, IsBytes-rest, Steps, then_some, any_codec, bytes_codec, many_codec, any_counted_codec, last, next, no_step, block_codec, giving_codec, only_codec, refit_codec, row}
 
 -- four bytes
 abbrev pub Four : Type 0

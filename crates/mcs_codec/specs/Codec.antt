@@ -1,5 +1,5 @@
--- Which bytes spell a command, and which spell a state, in version 2 and in version 1. (Our own choice.) Where a definition
--- takes a Boolean, that is true of version 1.
+-- Which bytes spell a command, and which spell a state, in version 2 and in version 1. (Our own
+-- choice.) Where a definition takes a Boolean, that is true of version 1.
 use Rattle.std.specs.Prelude.{◌≡◌, ℕ, Bool, true, false, ◌==◌, ◌||◌, List, [], ◌∷◌, take, drop, Option, Some, None, unwrap_or, if◌then◌else◌}
 use Rattle.mcs_model.specs.BenchState.{BenchState}
 use Rattle.mcs_model.specs.Validity.{IsValid}
@@ -16,7 +16,8 @@ pub record Spells (bytes : List ℕ) (c : Command) : Type 0 where
   pub is : bytes ≡ command_bytes c
   pub in_range : IsCommand c
 
--- these bytes spell this command in a session of version 1, or of version 2: version 1 has fewer commands
+-- these bytes spell this command in a session of version 1, or of version 2: version 1 has fewer
+-- commands
 abbrev pub SpellsBy : Bool → List ℕ → Command → Type 0
 SpellsBy false bytes c = Spells bytes c
 SpellsBy true bytes c = Spells bytes c × (in_version_1 c ≡ true)
@@ -46,8 +47,8 @@ abbrev pub SpellsStateBy : Bool → List ℕ → BenchState → Type 0
 SpellsStateBy false bytes s = SpellsState bytes s
 SpellsStateBy true bytes s = SpellsLifted bytes s
 
--- the version that the byte after the count of commands tells: a port character (`i`, `0`, `1` or `-`) stands there in
--- version 1, and 02 in version 2
+-- the version that the byte after the count of commands tells: a port character (`i`, `0`, `1` or
+-- `-`) stands there in version 1, and 02 in version 2
 abbrev pub version_told : List ℕ → Option ℕ
 version_told [] = None
 version_told (b ∷ bytes) =

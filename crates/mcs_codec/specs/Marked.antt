@@ -1,7 +1,8 @@
--- The version of a state's bytes. A state of version 1 has its board after the count of commands and ends with its
--- breakpoints; one of version 2 has the byte 02 before its board, and its watches after the breakpoints. (Our own choice.)
--- Here `first` is true of version 1. Nothing to believe: this says both versions at once, and the reading is proved to invert
--- the bytes of `StateBytes` in each.
+-- The version of a state's bytes. A state of version 1 has its board after the count of commands
+-- and ends with its breakpoints; one of version 2 has the byte 02 before its board, and its watches
+-- after the breakpoints. (Our own choice.) Here `first` is true of version 1. Nothing to believe:
+-- this says both versions at once, and the reading is proved to invert the bytes of `StateBytes` in
+-- each.
 use Rattle.std.specs.Prelude.{ℕ, Bool, true, false, ◌==◌, List, [], ◌∷◌, Some, drop, if◌then◌else◌}
 use Rattle.std.specs.Int.{w16}
 use Rattle.mcs_model.specs.declared.board.BoardParts.{BoardParts}

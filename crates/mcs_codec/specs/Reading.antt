@@ -1,6 +1,7 @@
--- Nothing to believe: what is put together from these steps is proved to invert the bytes of `BoardBytes`, `CommandBytes` and
--- `StateBytes`. A reading goes from left to right: it gives a value, and the bytes after it, or nothing where the bytes spell
--- no such value. In a `do` block each step reads on where the one before it stopped.
+-- Nothing to believe: what is put together from these steps is proved to invert the bytes of
+-- `BoardBytes`, `CommandBytes` and `StateBytes`. A reading goes from left to right: it gives a
+-- value, and the bytes after it, or nothing where the bytes spell no such value. In a `do` block
+-- each step reads on where the one before it stopped.
 use Rattle.std.specs.Prelude.{ℕ, zero, suc, Bool, List, [], ◌∷◌, length, take, drop, Option, Some, None, nat_lt, nat_le, if◌then◌else◌}
 use Rattle.std.specs.Int.{Width, w16, byte_len, from_be_bytes}
 

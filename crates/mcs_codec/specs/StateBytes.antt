@@ -1,5 +1,5 @@
--- The bytes that spell a state, by groups. Each number of a list, and each single number of no other width, is one byte.
--- (Our own choice.)
+-- The bytes that spell a state, by groups. Each number of a list, and each single number of no
+-- other width, is one byte. (Our own choice.)
 use Rattle.std.specs.Prelude.{ℕ, Bool, List, [], ◌∷◌, ◌++◌}
 use Rattle.std.specs.List.{flat_map}
 use Rattle.std.specs.Int.{w32, to_be_bytes}
@@ -11,7 +11,8 @@ use Rattle.mcs_codec.specs.CommandBytes.{address}
 use Rattle.mcs_codec.specs.Marked.{marked_bytes, watches_bytes}
 use Rattle.mcs_version1.specs.BenchState.{BenchState1}
 
--- the bytes of the ROMs, the characters and the status characters of the RAM chips, the port latches of both
+-- the bytes of the ROMs, the characters and the status characters of the RAM chips, the port
+-- latches of both
 abbrev pub memory_bytes : BusState → List ℕ
 memory_bytes b = b.rom ++ (b.ram ++ (b.status ++ (b.ram_ports ++ b.rom_ports)))
 
@@ -52,7 +53,8 @@ state_bytes_1 s =
     ++ (board_bytes s.bus.board
     ++ groups_bytes s.processor s.bus s.breakpoints [])
 
--- a state in the one or the other: in version 1 where `first` is true (nothing to believe: for the proofs)
+-- a state in the one or the other: in version 1 where `first` is true (nothing to believe: for the
+-- proofs)
 abbrev pub bytes_by : Bool × BenchState → List ℕ
 bytes_by (first, s) =
     to_be_bytes w32 s.seq

@@ -1,5 +1,6 @@
--- Nothing to believe: this reading is proved to invert the bytes of `StateBytes`. It reads the fields of a state, group by
--- group; whether they make a valid state is asked of all of them afterwards.
+-- Nothing to believe: this reading is proved to invert the bytes of `StateBytes`. It reads the
+-- fields of a state, group by group; whether they make a valid state is asked of all of them
+-- afterwards.
 use Rattle.std.specs.Prelude.{ℕ, ◌*◌, Bool, List, [], ◌∷◌}
 use Rattle.std.specs.Int.{w16, w32}
 use Rattle.mcs_model.specs.declared.board.BoardParts.{BoardParts}
@@ -68,7 +69,7 @@ pub record WiringState : Type 0 where
   pub test : ℕ
   pub breakpoints : List ℕ
 
--- the same, of what the code keeps it in
+-- the same, of a `Wiring` of the code
 abbrev pub wiring_of : Wiring → WiringState
 wiring_of w = record {
   chains = rows_of w.chains.items;

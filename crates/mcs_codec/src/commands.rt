@@ -90,7 +90,8 @@ fn put_command(command: &Command, out: &mut [u8], at: usize) -> usize
     }
 }
 
-/// Spells a command at the front of these bytes, and answers how many it took: 1 to 4,609. Nothing is said of those after.
+/// Spells a command at the front of these bytes, and answers how many it took: 1 to 4,609. Nothing
+/// is said of those after.
 pub fn command_bytes(command: &Command, into: &mut [u8]) -> usize
     requires lent { COMMAND_BYTES ≤ length into.old }
     ensures spells { Spells (take result into.new) command.now }
@@ -191,7 +192,8 @@ pub fn command_of(alloc: Global, bytes: &[u8]) -> Result<Option<Command>, AllocE
     read_command(alloc, bytes)
 }
 
-/// A law: no bytes spell two commands. (And each command has one spelling: the definition gives one.)
+/// A law: no bytes spell two commands. (And each command has one spelling: the definition gives
+/// one.)
 pub fn one_command()
     ensures { (bytes : List ℕ) (c d : Command) → Spells bytes c → Spells bytes d → c ≡ d }
 {}

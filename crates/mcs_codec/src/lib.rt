@@ -1,8 +1,9 @@
 //! The bytes of commands and of whole states, as a session file has them.
 //!
-//! Every command and every state has exactly one spelling, and no bytes spell two of them. States of version 1, whose bytes
-//! begin otherwise, are read too, and carried over; nothing is written in version 1. A value out of its range, a
-//! board with which something is wrong, bytes that are left over and bytes that are missing spell nothing.
+//! Every command and every state has exactly one spelling, and no bytes spell two of them. States
+//! of version 1, whose bytes begin otherwise, are read too, and carried over; nothing is written in
+//! version 1. A value out of its range, a board with which something is wrong, bytes that are left
+//! over and bytes that are missing spell nothing.
 #![tactic(auto)]
 
 mod boards;

@@ -98,7 +98,8 @@ fn read_bytes<const CAP: usize>(reader: &mut Reader<'_>, count: usize) -> Option
     Some(items)
 }
 
-/// The lists whose lengths are the same in every state: what the ROMs and the RAM chips hold, and their ports.
+/// The lists whose lengths are the same in every state: what the ROMs and the RAM chips hold, and
+/// their ports.
 #[derive(Drop)]
 struct Memory {
     /// The bytes of the ROMs, by address.
@@ -248,7 +249,8 @@ fn read_wiring(reader: &mut Reader<'_>, board: &Board) -> Option<Wiring>
     })
 }
 
-/// Reads the board after the count of commands, and whether the bytes are of version 1: they have no mark then.
+/// Reads the board after the count of commands, and whether the bytes are of version 1: they have
+/// no mark then.
 #[tactic(auto, unfolding(crate::specs::Marked::marked_at))]
 fn read_marked(reader: &mut Reader<'_>) -> Option<(bool, Board)>
     ensures { option_map (λ x. ((x.0, x.1), reader.new)) result ≡ marked_at reader.old }
@@ -352,8 +354,8 @@ fn read_whole(bytes: &[u8], memory: Memory) -> Option<(bool, Flat)>
     if reader.is_empty() { Some(read) } else { None }
 }
 
-/// The bench whose state these bytes spell, in the version that they tell, or none where they spell no state. A state of
-/// version 1 is carried over: nothing is watched.
+/// The bench whose state these bytes spell, in the version that they tell, or none where they spell
+/// no state. A state of version 1 is carried over: nothing is watched.
 ///
 /// # Errors
 ///

@@ -175,7 +175,8 @@ fn put_rows(bench: &Bench, out: &mut [u8], at: usize) -> usize
 /// Puts what the chains and the keys hold, TEST, and the breakpoints.
 fn put_wiring(bench: &Bench, out: &mut [u8], at: usize) -> usize
     requires valid { IsValid bench.now }
-    requires room { at + length (wiring_bytes bench.now.bus bench.now.breakpoints) ≤ length out.old }
+    requires room { at + length (wiring_bytes bench.now.bus bench.now.breakpoints)
+        ≤ length out.old }
     ensures end { result ≡ at + length (wiring_bytes bench.now.bus bench.now.breakpoints) }
     ensures front { take result out.new
         ≡ take at out.old ++ wiring_bytes bench.now.bus bench.now.breakpoints }
@@ -213,8 +214,8 @@ fn put_state(bench: &Bench, into: &mut [u8]) -> usize
     put_groups(bench, into, at)
 }
 
-/// Spells the state of a bench at the front of these bytes, and answers how many it took: at most 7,632. Nothing is said of
-/// those after.
+/// Spells the state of a bench at the front of these bytes, and answers how many it took: at most
+/// 7,632. Nothing is said of those after.
 pub fn state_bytes(bench: &Bench, into: &mut [u8]) -> usize
     requires lent { STATE_BYTES ≤ length into.old }
     ensures spells { SpellsState (take result into.new) bench.now }

@@ -57,8 +57,8 @@ pub fn in_version_1(command: &Command) -> bool
     }
 }
 
-/// The version that the bytes of a state tell by their fifth: 1 where it is a port character, `i`, `0`, `1` or `-`, and 2
-/// where it is 02; else none. Whether they spell a state is not asked.
+/// The version that the bytes of a state tell by their fifth: 1 where it is a port character, `i`,
+/// `0`, `1` or `-`, and 2 where it is 02; else none. Whether they spell a state is not asked.
 pub fn version_of(bytes: &[u8]) -> Option<u8>
     ensures { result ≡ version_of bytes.now }
 {
@@ -72,8 +72,9 @@ pub fn version_of(bytes: &[u8]) -> Option<u8>
     }
 }
 
-/// A law: no bytes spell two states, nor states of both versions, and the fifth byte tells the version of the state that they
-/// spell. (And each state has one spelling in each version that has it: the definitions give one.)
+/// A law: no bytes spell two states, nor states of both versions, and the fifth byte tells the
+/// version of the state that they spell. (And each state has one spelling in each version that has
+/// it: the definitions give one.)
 pub fn one_state()
     ensures states { (bytes : List ℕ) (v w : Bool) (s t : BenchState)
         → SpellsStateBy v bytes s → SpellsStateBy w bytes t → s ≡ t }
