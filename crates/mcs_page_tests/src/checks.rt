@@ -1,5 +1,5 @@
-//! Comparisons. One `assert_eq!` here costs the proofs of the tests less than one in each place. A library may not end the
-//! program, so each crate of tests has its own.
+//! Comparisons. One `assert_eq!` here costs the proofs of the tests less than one in each place. A
+//! library may not end the program, so each crate of tests has its own.
 use std::fmt::Debug;
 use std::process::Abort;
 
