@@ -8,7 +8,7 @@ use Rattle.mcs_model.specs.declared.board.BoardParts.{BoardParts}
 use Rattle.mcs_model.specs.declared.board.BoardFault.{BoardFault}
 use Rattle.mcs_model.specs.declared.board.BoardFault.TheVariants.{BadValue}
 use Rattle.mcs_model.specs.Boards.{board_fault_of, has_bad_value}
-use Rattle.mcs_model.specs.Bus.{BusState, wired_of}
+use Rattle.mcs_model.specs.Bus.{BusState, chips_of}
 use Rattle.mcs_model.specs.QueryText.{as_line, chip_lines, digit_text, port_line, ram_lines, register_line}
 use Rattle.mcs_wiring.proofs.PartTexts.{text_of-flat_map}
 use Rattle.mcs_answers.proofs.Growing.{joined_lines}
@@ -32,15 +32,15 @@ chip_is s bank chip a b c registers port =
 
 -- the lines of a bank: how many chips it has, and then those of its chips
 pub ram_is : (s : BusState) (bank : ℕ) (a b : List ℕ)
-    → a ≡ as_line (codes "ram " ++ digit_text bank ++ codes " chips " ++ digit_text (wired_of s bank))
-    → b ≡ a ++ flat_map (λ chip. flat_map as_line (chip_lines s bank chip)) (range_with_len 0 (wired_of s bank))
+    → a ≡ as_line (codes "ram " ++ digit_text bank ++ codes " chips " ++ digit_text (chips_of s bank))
+    → b ≡ a ++ flat_map (λ chip. flat_map as_line (chip_lines s bank chip)) (range_with_len 0 (chips_of s bank))
     → b ≡ join_with_byte 10 (ram_lines s bank) ++ 10 ∷ []
 ram_is s bank a b head chips =
-    let first = codes "ram " ++ digit_text bank ++ codes " chips " ++ digit_text (wired_of s bank) in
-    let others = flat_map (chip_lines s bank) (range_with_len 0 (wired_of s bank)) in
+    let first = codes "ram " ++ digit_text bank ++ codes " chips " ++ digit_text (chips_of s bank) in
+    let others = flat_map (chip_lines s bank) (range_with_len 0 (chips_of s bank)) in
     chips
-    ∙ ap (λ v. v ++ flat_map (λ chip. flat_map as_line (chip_lines s bank chip)) (range_with_len 0 (wired_of s bank))) head
-    ∙ ap (λ v. as_line first ++ v) (sym (text_of-flat_map (chip_lines s bank) (range_with_len 0 (wired_of s bank))))
+    ∙ ap (λ v. v ++ flat_map (λ chip. flat_map as_line (chip_lines s bank chip)) (range_with_len 0 (chips_of s bank))) head
+    ∙ ap (λ v. as_line first ++ v) (sym (text_of-flat_map (chip_lines s bank) (range_with_len 0 (chips_of s bank))))
     ∙ sym (joined_lines first others)
 
 or_left : (a b : Bool) → (a || b) ≡ false → a ≡ false

@@ -36,7 +36,7 @@ fn put_marks(answer: &mut ArrayVec<u8, ANSWER_BYTES>, bench: &Bench)
 /// Tells the levels of the lamps, in an empty answer.
 pub fn put_lamps(answer: &mut ArrayVec<u8, ANSWER_BYTES>, bench: &Bench)
     requires { answer.old.items ≡ [] }
-    ensures { answer.new.items ≡ lamps_text bench.now ++ line_feed }
+    ensures { answer.new.items ≡ lamps_text bench.now.bus ++ line_feed }
 {
     put(answer, b"lamps ");
     if bench.board().parts().lamps.is_empty() {
@@ -62,7 +62,7 @@ fn put_addresses(answer: &mut ArrayVec<u8, ANSWER_BYTES>, list: &[Addr])
 /// Tells the breakpoints, in an empty answer.
 pub fn put_breaks(answer: &mut ArrayVec<u8, ANSWER_BYTES>, bench: &Bench)
     requires { answer.old.items ≡ [] }
-    ensures { answer.new.items ≡ breaks_text bench.now ++ line_feed }
+    ensures { answer.new.items ≡ breaks_text bench.now.breakpoints ++ line_feed }
 {
     match bench.breaks() {
         [] => put(answer, b"breaks -\n"),
@@ -100,7 +100,7 @@ fn put_places(answer: &mut ArrayVec<u8, ANSWER_BYTES>, list: &[Addr])
 /// Tells the watched characters, in an empty answer.
 pub fn put_watches(answer: &mut ArrayVec<u8, ANSWER_BYTES>, bench: &Bench)
     requires { answer.old.items ≡ [] }
-    ensures { answer.new.items ≡ watches_text bench.now ++ line_feed }
+    ensures { answer.new.items ≡ watches_text bench.now.watches ++ line_feed }
 {
     match bench.watches() {
         [] => put(answer, b"watches -\n"),

@@ -2,7 +2,7 @@
 ghost use Rattle.std.specs.Prelude.{◌≡◌, ℕ, ◌+◌, ◌*◌, ◌++◌, ◌<◌, ◌≤◌, [], length, map};
 ghost use Rattle.std.specs.List.{flat_map, join_with_byte};
 ghost use Rattle.arrayvec.specs.ArrayVec.{array_vec_len};
-ghost use Rattle.mcs_model.specs.Bus.{wired_of};
+ghost use Rattle.mcs_model.specs.Bus.{chips_of};
 ghost use Rattle.mcs_model.specs.QueryText.{as_line, chip_lines, hex_digit, port_line, ram_lines, register_line, stretch};
 ghost use Rattle.mcs_answers.specs.AnswerTexts.{line_feed};
 
@@ -16,7 +16,7 @@ use mcs_nibble::Nibble;
 fn are_whole(bench: &Bench)
     ensures ram { length bench.now.bus.ram ≡ 2048 }
     ensures status { length bench.now.bus.status ≡ 512 }
-    ensures chips { (bank : ℕ) → wired_of bench.now.bus bank ≤ 4 }
+    ensures chips { (bank : ℕ) → chips_of bench.now.bus bank ≤ 4 }
 {
     bench.show_state_is_valid();
 }
@@ -109,7 +109,7 @@ fn put_chip(answer: &mut ArrayVec<u8, ANSWER_BYTES>, bench: &Bench, bank: u8, ch
 /// How many chips a bank has: 4 at most.
 fn chips_of(bench: &Bench, bank: u8) -> u8
     requires { bank < 8 }
-    ensures chips { result ≡ wired_of bench.now.bus bank }
+    ensures chips { result ≡ chips_of bench.now.bus bank }
     ensures few { result ≤ 4 }
 {
     are_whole(bench);

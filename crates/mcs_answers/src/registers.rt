@@ -11,7 +11,7 @@ use mcs_bench::Bench;
 /// Tells the registers and the TEST pin of a bench, in an empty answer.
 pub fn put_registers(answer: &mut ArrayVec<u8, ANSWER_BYTES>, bench: &Bench)
     requires { answer.old.items ≡ [] }
-    ensures { answer.new.items ≡ regs_text bench.now ++ line_feed }
+    ensures { answer.new.items ≡ regs_text bench.now.processor bench.now.bus.test ++ line_feed }
 {
     let regs = bench.regs();
     put_digit(answer, b"acc ", regs.acc.get());

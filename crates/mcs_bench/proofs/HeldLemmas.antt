@@ -114,7 +114,7 @@ absent-of s v Characters i l e =
     let place : i / 256 * 256 + i % 256 ≡ i = omega arith in
     rw place at (v.ram (i / 256) (i % 256) (omega arith) (le-from _ _ e))
 absent-of s v StatusCharacters i below e =
-    let place : (i / 64 * 16 + i % 64 / 4) * 4 + i % 4 ≡ i = omega arith in
+    let place : i / 64 * 64 + (i % 64 / 4 * 4 + i % 4) ≡ i = omega arith in
     let chip : i % 64 / 4 / 4 ≡ i % 64 / 16 = omega arith in
     rw place at (v.status (i / 64) (i % 64 / 4) (i % 4) (omega arith) (omega arith) (let l = le-from _ _ e in omega arith))
 absent-of s v RamPorts i l e =
@@ -138,9 +138,9 @@ absent-from s v zero ports = record {
         | inr g ↦ past s.ram (bank * 256 + src) (let e = v.ram.count_is in omega arith)
       ];
   status = λ bank high k h16 k4 gone.
-      elim (cases_lt ((bank * 16 + high) * 4 + k) 512) [
-        | inl h ↦ zero StatusCharacters ((bank * 16 + high) * 4 + k) h (let b : ((bank * 16 + high) * 4 + k) / 64 ≡ bank = omega arith in let c : ((bank * 16 + high) * 4 + k) % 64 / 16 ≡ high / 4 = omega arith in rw (b, c) (to-le (slice_index s.board.banks bank) (high / 4) gone))
-        | inr g ↦ past s.status ((bank * 16 + high) * 4 + k) (let e = v.status.count_is in omega arith)
+      elim (cases_lt (bank * 64 + (high * 4 + k)) 512) [
+        | inl h ↦ zero StatusCharacters (bank * 64 + (high * 4 + k)) h (let b : (bank * 64 + (high * 4 + k)) / 64 ≡ bank = omega arith in let c : (bank * 64 + (high * 4 + k)) % 64 / 16 ≡ high / 4 = omega arith in rw (b, c) (to-le (slice_index s.board.banks bank) (high / 4) gone))
+        | inr g ↦ past s.status (bank * 64 + (high * 4 + k)) (let e = v.status.count_is in omega arith)
       ];
   ram_ports = λ bank chip l gone.
       elim (cases_lt (bank * 4 + chip) 32) [

@@ -10,11 +10,11 @@ use Rattle.mcs_nibble.specs.declared.lines.LineMask.{LineMask}
 use Rattle.std.specs.List.{list_all, range_with_len}
 use Rattle.mcs_model.specs.Table.{decoded, row_of}
 use Rattle.mcs_model.specs.Boards.{masks_on}
-use Rattle.mcs_model.specs.Bus.{BusState, after_src, after_ram, after_status, src_of, wired_of, has_chip, with_ram, with_status}
+use Rattle.mcs_model.specs.Bus.{BusState, after_src, after_ram, after_status, src_of, chips_of, has_chip, with_ram, with_status}
 use Rattle.mcs_model.specs.Levels.{after_ram_port, after_rom_port, chains_clocked}
 use Rattle.mcs_model.specs.Effect.{cycle_of, effect, bus_after, instruction_at}
 use Rattle.mcs_model.specs.Running.{Machine, cycled, has_changed}
-use Rattle.mcs_model.specs.Breakpoints.{is_breakpoint}
+use Rattle.mcs_model.specs.Listed.{is_listed}
 
 either-ram : (b : Bool) (x y : BusState) (ram : List ℕ) → x.ram ≡ ram → y.ram ≡ ram → (cond b x y).ram ≡ ram
 either-ram true x y ram e f = e
@@ -22,11 +22,11 @@ either-ram false x y ram e f = f
 
 src-keeps : (m : BusState) (bank byte : ℕ) → (after_src m bank byte).ram ≡ m.ram
 unfolding after_src
-src-keeps m bank byte = either-ram (nat_lt 0 (wired_of m bank)) _ _ m.ram refl refl
+src-keeps m bank byte = either-ram (nat_lt 0 (chips_of m bank)) _ _ m.ram refl refl
 
 status-keeps : (m : BusState) (bank k n : ℕ) → (after_status m bank k n).ram ≡ m.ram
 unfolding after_status with_status
-status-keeps m bank k n = either-ram (nat_lt (src_of m bank / 16 / 4) (wired_of m bank)) _ _ m.ram refl refl
+status-keeps m bank k n = either-ram (nat_lt (src_of m bank / 16 / 4) (chips_of m bank)) _ _ m.ram refl refl
 
 ram-port-keeps : (m : BusState) (bank n : ℕ) → (after_ram_port m bank n).ram ≡ m.ram
 unfolding after_ram_port chains_clocked
@@ -123,13 +123,13 @@ absorbs false true = refl
 absorbs false false = refl
 
 -- where no place but one has changed, a watched one has if it is that one
-pub one-changed : (watches : List ℕ) (s t : Machine) (place : ℕ) → ((w : ℕ) → w ≢ place → slice_index s.1.ram w ≡ slice_index t.1.ram w) → has_changed watches s t ≡ (is_breakpoint watches place && not (eqb (slice_index s.1.ram place) (slice_index t.1.ram place)))
+pub one-changed : (watches : List ℕ) (s t : Machine) (place : ℕ) → ((w : ℕ) → w ≢ place → slice_index s.1.ram w ≡ slice_index t.1.ram w) → has_changed watches s t ≡ (is_listed watches place && not (eqb (slice_index s.1.ram place) (slice_index t.1.ram place)))
 one-changed [] s t place others = refl
 one-changed (w ∷ ws) s t place others =
     elim (cases_eq w place) [
       | inl e ↦ (
           let on : eqb w place ≡ true = eq-eqb w place e in
-          rw (on, one-changed ws s t place others, e) (absorbs (not (eqb (slice_index s.1.ram place) (slice_index t.1.ram place))) (is_breakpoint ws place)))
+          rw (on, one-changed ws s t place others, e) (absorbs (not (eqb (slice_index s.1.ram place) (slice_index t.1.ram place))) (is_listed ws place)))
       | inr ne ↦ (
           let off : eqb w place ≡ false = grind (arith, nat_tests) in
           let same : eqb (slice_index s.1.ram w) (slice_index t.1.ram w) ≡ true = eq-eqb _ _ (others w ne) in

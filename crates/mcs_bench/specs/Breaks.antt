@@ -2,13 +2,13 @@
 use Rattle.mcs_model.specs.declared.limits.TheConstants.{WATCHES}
 use Rattle.std.specs.Prelude.{◌≡◌, ℕ, ◌<◌, ◌≤◌, All, Bool, false, List, length, slice_index_or}
 use Rattle.std.specs.List.Sorted.{IsStrictlyIncreasing}
-use Rattle.mcs_model.specs.Breakpoints.{is_breakpoint}
+use Rattle.mcs_model.specs.Listed.{is_listed}
 
 -- rising, with a mark for each address, true at the breakpoints
 pub record IsMarked (marks : List Bool) (breakpoints : List ℕ) : Type 0 where
   pub rising : IsStrictlyIncreasing breakpoints
   pub whole : length marks ≡ 4096
-  pub at : (a : ℕ) → a < 4096 → slice_index_or marks a false ≡ is_breakpoint breakpoints a
+  pub at : (a : ℕ) → a < 4096 → slice_index_or marks a false ≡ is_listed breakpoints a
 
 -- at most 8 places of RAM characters
 pub record AreFew (places : List ℕ) : Type 0 where

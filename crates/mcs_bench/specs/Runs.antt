@@ -6,8 +6,8 @@ use Rattle.mcs_model.specs.declared.stop.Stop.{Stop}
 use Rattle.mcs_model.specs.declared.stop.Stop.TheVariants.{Breakpoint, Watched}
 use Rattle.mcs_model.specs.Command.{changed}
 use Rattle.mcs_model.specs.BenchState.{BenchState}
-use Rattle.mcs_model.specs.Breakpoints.{is_breakpoint}
-use Rattle.mcs_model.specs.Bus.{src_of, after_ram}
+use Rattle.mcs_model.specs.Listed.{is_listed}
+use Rattle.mcs_model.specs.Bus.{src_of, ram_at, after_ram}
 use Rattle.mcs_model.specs.Effect.{instruction_at}
 use Rattle.mcs_model.specs.Running.{Machine, Stops, is_outside, cycled, at_break, has_changed, stop_after, run_length, after_run, run_stop, step_length, after_step, step_stop}
 
@@ -30,7 +30,7 @@ pub record RanOn (stops : Stops) (n : ℕ) (s t : Machine) (k : ℕ) (mark : Opt
 
 -- the place of the selected character
 abbrev pub selected : Machine → ℕ
-selected t = t.0.dcl * 256 + src_of t.1 t.0.dcl
+selected t = ram_at t.0.dcl (src_of t.1 t.0.dcl)
 
 -- whether WRM gives the selected character another value
 abbrev pub alters_selected : Machine → Bool
@@ -43,7 +43,7 @@ abbrev pub WillChange : List ℕ → Machine → Bool → Type 0
 WillChange watches t b =
     ((instruction_at t.0 t.1 ≢ Some Wrm) × (b ≡ false))
     ⊎ ((instruction_at t.0 t.1 ≡ Some Wrm) ×
-    (b ≡ (is_breakpoint watches (selected t) && alters_selected t)))
+    (b ≡ (is_listed watches (selected t) && alters_selected t)))
 
 -- whether a watched character changed in the last of the d cycles of an instruction from t on; none did before
 pub record Seen (watches : List ℕ) (t : Machine) (d : ℕ) (changed : Bool) : Type 0 where

@@ -3,7 +3,7 @@ ghost use Rattle.std.specs.Prelude.{◌≡◌, ◌<◌, ◌≤◌, ◌||◌, tru
 ghost use Rattle.std.specs.List.{insert};
 ghost use Rattle.std.specs.List.Sorted.{IsStrictlyIncreasing};
 ghost use Rattle.mcs_model.specs.Validity.{AreBreakpoints};
-ghost use Rattle.mcs_model.specs.Breakpoints.{is_breakpoint, inserted, with_breakpoint, without_breakpoint};
+ghost use Rattle.mcs_model.specs.Listed.{is_listed, inserted, with_listed, without_listed};
 
 use crate::laws::are_addresses;
 use arrayvec::ArrayVec;
@@ -44,7 +44,7 @@ fn place_of(list: &[Addr], at: Addr) -> usize
 
 /// The other addresses.
 fn others(list: &ArrayVec<Addr, BREAKPOINTS>, at: Addr) -> ArrayVec<Addr, BREAKPOINTS>
-    ensures { result.items ≡ without_breakpoint list.now.items at }
+    ensures { result.items ≡ without_listed list.now.items at }
 {
     let mut kept = ArrayVec::new();
     for address in list.as_slice() {
@@ -77,22 +77,22 @@ impl Breaks {
 
     /// Whether an address is one.
     pub(crate) fn contains(&self, at: Addr) -> bool
-        ensures { result ≡ is_breakpoint self.now at }
+        ensures { result ≡ is_listed self.now at }
     {
         self.marks[usize::from(at.get())]
     }
 
     /// Whether an address is one, or can be made one.
     pub(crate) fn has_room_for(&self, at: Addr) -> bool
-        ensures { result ≡ (is_breakpoint self.now at || nat_lt (length self.now) BREAKPOINTS) }
+        ensures { result ≡ (is_listed self.now at || nat_lt (length self.now) BREAKPOINTS) }
     {
         self.contains(at) || self.list.len() < BREAKPOINTS
     }
 
     /// Makes an address one; nothing where it was.
     pub(crate) fn set(&mut self, at: Addr)
-        requires { (is_breakpoint self.old at || nat_lt (length self.old) BREAKPOINTS) ≡ true }
-        ensures { self.new ≡ with_breakpoint self.old at }
+        requires { (is_listed self.old at || nat_lt (length self.old) BREAKPOINTS) ≡ true }
+        ensures { self.new ≡ with_listed self.old at }
     {
         if !self.contains(at) {
             let place = place_of(self.list.as_slice(), at);
@@ -103,7 +103,7 @@ impl Breaks {
 
     /// Makes an address none; nothing where it was none.
     pub(crate) fn clear(&mut self, at: Addr)
-        ensures { self.new ≡ without_breakpoint self.old at }
+        ensures { self.new ≡ without_listed self.old at }
     {
         self.list = others(&self.list, at);
         self.marks[usize::from(at.get())] = false;

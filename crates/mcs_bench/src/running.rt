@@ -3,7 +3,7 @@ ghost use Rattle.std.specs.Prelude.{◌≡◌, ◌≢◌, ◌<◌, ◌*◌, ◌+
 ghost use Rattle.mcs_model.specs.Bus.{src_of};
 ghost use Rattle.mcs_model.specs.Effect.{cycle_of, instruction_at};
 ghost use Rattle.mcs_model.specs.Running.{InstructionRan, is_outside};
-ghost use Rattle.mcs_model.specs.Breakpoints.{is_breakpoint};
+ghost use Rattle.mcs_model.specs.Listed.{is_listed};
 ghost use Rattle.mcs_bench.specs.Runs.{RanOn, RanTo, Seen, SteppedTo, WillChange, mark_of};
 
 use crate::breaks::Breaks;
@@ -23,7 +23,7 @@ fn is_outside(cpu: &Cpu, rig: &BenchRig) -> bool
 /// Why a run stops after a cycle, where the processor's counter is at an address, except for a code outside and its end.
 #[inline(always)]
 fn mark_at(cpu: &Cpu, at: Addr, breaks: &Breaks, changed: bool) -> Option<Stop>
-    ensures { result ≡ mark_of (cpu.now.owed == 0 && is_breakpoint breaks.now at) changed }
+    ensures { result ≡ mark_of (cpu.now.owed == 0 && is_listed breaks.now at) changed }
 {
     if breaks.contains(at) && cpu.regs().owed == 0 {
         Some(Stop::Breakpoint)

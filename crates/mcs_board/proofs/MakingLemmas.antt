@@ -145,6 +145,7 @@ pub record IsRewired (old new : RigParts) : Type 0 where
 
 -- the state of a rig on a new board
 pub wire-state : (old new : RigParts) → IsRewired old new → rig_of new ≡ after_wire (rig_of old) new.board
+unfolding zero_bus
 wire-state old new w =
     let z = blank-zeros new.banks (slice_index new.board.banks) w.banks in
     let bytes = kept-bytes new.board old.roms new.roms w.roms in
@@ -155,6 +156,7 @@ wire-state old new w =
 
 -- the state of a rig after a reset
 pub reset-state : (p : RigParts) (roms : List (Option RomState)) (banks : List BankState) (chains : List (List ℕ)) (wired : ℕ → ℕ) → ((k : ℕ) → get_or roms k None ≡ silenced (get_or p.roms k None)) → AllBlank banks wired → chain_count p.board ≤ length chains → ((k : ℕ) → k < chain_count p.board → get_or chains k [] ≡ replicate (chain_bits p.board k) 0) → rig_of (record p { roms = roms; banks = banks; chains = chains; rom_src = 0 }) ≡ after_reset (rig_of p)
+unfolding zero_bus
 reset-state p roms banks chains wired every blank fit rows =
     let z = blank-zeros banks wired blank in
     let bytes = same_grid 16 256 bytes_of_rom None roms p.roms (λ k. ap bytes_of_rom (every k) ∙ silenced-bytes (get_or p.roms k None)) in

@@ -101,8 +101,7 @@ valid-state p rom_places bank_places chain_places board v chips bits keys test =
               | inr h ↦ let len = length-grid 8 256 (λ (x : BankState). x.main) no_bank p.banks in get_or_past (grid 8 256 (λ (x : BankState). x.main) no_bank p.banks) (n * 256 + src) 0 (omega arith)
             ];
         status = λ n high k h4 k4 gone.
-            ap (slice_index (grid 8 64 (λ (x : BankState). x.status) no_bank p.banks)) (let e : (n * 16 + high) * 4 + k ≡ n * 64 + (high * 4 + k) = omega arith in e)
-            ∙ elim (cases_lt n 8) [
+            elim (cases_lt n 8) [
               | inl h ↦ status-of p.banks n (high * 4 + k) (get_or p.banks n no_bank) h (omega arith) refl ∙ bank (λ b. b.wired ≤ high / 4 → slice_index b.status (high * 4 + k) ≡ 0) (λ _. refl) (λ b w. w.absent_status high k h4 k4) n (let e = v.wired n in omega arith)
               | inr h ↦ let len = length-grid 8 64 (λ (x : BankState). x.status) no_bank p.banks in get_or_past (grid 8 64 (λ (x : BankState). x.status) no_bank p.banks) (n * 64 + (high * 4 + k)) 0 (omega arith)
             ];

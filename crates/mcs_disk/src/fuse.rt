@@ -108,8 +108,8 @@ impl FuseDisk {
 }
 
 impl Disk for FuseDisk {
-    ghost use Rattle.mcs_disk.specs.Fuse.{FailsAfter, inner_disk};
-    ghost use Rattle.mcs_disk.specs.States.{fuse_disk_state, mem_disk_state};
+    ghost use Rattle.mcs_disk.specs.Fuse.{FuseCall};
+    ghost use Rattle.mcs_disk.specs.States.{fuse_disk_state};
 
     ghost state = { fuse_disk_state };
 
@@ -128,13 +128,7 @@ impl Disk for FuseDisk {
             result }
         ensures refused { OnErr result
             (IsUntouched (fuse_disk_state self.old) (fuse_disk_state self.new)) }
-        ensures fails { FailsAfter self.old 0 → IsErr result }
-        ensures kept_back { FailsAfter self.old 0 → inner_disk self.new ≡ inner_disk self.old }
-        // What the disk in it answered: an Err comes only where that disk counted a fault.
-        ensures passed_on { ¬ (FailsAfter self.old 0)
-            → IsCall (mem_disk_state (inner_disk self.old)) (mem_disk_state (inner_disk self.new))
-            result }
-        ensures later { (n : ℕ) → FailsAfter self.new n ↔ FailsAfter self.old (n + 1) }
+        ensures fuse { FuseCall self.old self.new result }
     {
         if self.fuse.blows() {
             return Err(self.fail());
@@ -152,13 +146,7 @@ impl Disk for FuseDisk {
             → Writes at from.now (fuse_disk_state self.old) (fuse_disk_state self.new) result }
         ensures refused { OnErr result
             (IsUntouched (fuse_disk_state self.old) (fuse_disk_state self.new)) }
-        ensures fails { FailsAfter self.old 0 → IsErr result }
-        ensures kept_back { FailsAfter self.old 0 → inner_disk self.new ≡ inner_disk self.old }
-        // What the disk in it answered: an Err comes only where that disk counted a fault.
-        ensures passed_on { ¬ (FailsAfter self.old 0)
-            → IsCall (mem_disk_state (inner_disk self.old)) (mem_disk_state (inner_disk self.new))
-            result }
-        ensures later { (n : ℕ) → FailsAfter self.new n ↔ FailsAfter self.old (n + 1) }
+        ensures fuse { FuseCall self.old self.new result }
     {
         if self.fuse.blows() {
             return Err(self.fail());
@@ -175,13 +163,7 @@ impl Disk for FuseDisk {
             → Syncs (fuse_disk_state self.old) (fuse_disk_state self.new) result }
         ensures refused { OnErr result
             (IsUntouched (fuse_disk_state self.old) (fuse_disk_state self.new)) }
-        ensures fails { FailsAfter self.old 0 → IsErr result }
-        ensures kept_back { FailsAfter self.old 0 → inner_disk self.new ≡ inner_disk self.old }
-        // What the disk in it answered: an Err comes only where that disk counted a fault.
-        ensures passed_on { ¬ (FailsAfter self.old 0)
-            → IsCall (mem_disk_state (inner_disk self.old)) (mem_disk_state (inner_disk self.new))
-            result }
-        ensures later { (n : ℕ) → FailsAfter self.new n ↔ FailsAfter self.old (n + 1) }
+        ensures fuse { FuseCall self.old self.new result }
     {
         if self.fuse.blows() {
             return Err(self.fail());

@@ -10,9 +10,9 @@ pub record BusState : Type 0 where
   pub board : BoardParts
   -- the bytes of the ROMs, by address: 4,096, those of absent ROMs 0
   pub rom : List ℕ
-  -- the RAM characters, at bank * 256 + SRC byte: 2,048, absent ones 0
+  -- the RAM characters, each where `ram_at` says: 2,048, absent ones 0
   pub ram : List ℕ
-  -- the status characters, at bank * 64 + upper nibble of SRC * 4 + k: 512, absent ones 0
+  -- the status characters, each where `status_at` says: 512, absent ones 0
   pub status : List ℕ
   -- the port latches of the RAM chips, at bank * 4 + chip: 32, absent ones 0
   pub ram_ports : List ℕ
@@ -50,8 +50,8 @@ unfoldable pub fetch_of : BusState → ℕ → ℕ
 fetch_of s at = slice_index s.rom at
 
 -- how many chips a bank has; a bank is named by its DCL code (our own choice)
-abbrev pub wired_of : BusState → ℕ → ℕ
-wired_of s bank = slice_index s.board.banks bank
+abbrev pub chips_of : BusState → ℕ → ℕ
+chips_of s bank = slice_index s.board.banks bank
 
 -- the SRC byte that a bank keeps: its upper two bits select the chip, the next two the register, the
 -- lower nibble the character (4002 data sheet)
@@ -60,25 +60,29 @@ src_of s bank = slice_index s.ram_src bank
 
 -- whether a bank has the chip that an SRC byte selects
 abbrev pub has_chip : BusState → ℕ → ℕ → Bool
-has_chip s bank src = nat_lt (src / 64) (wired_of s bank)
+has_chip s bank src = nat_lt (src / 64) (chips_of s bank)
 
 -- SRC sends a byte: the ROMs keep it, and so does the designated bank if it has chips
 -- (MCS-4 Users Manual, SRC; that the other banks keep their own is our own choice)
 unfoldable pub after_src : BusState → ℕ → ℕ → BusState
 after_src s bank byte =
-    if nat_lt 0 (wired_of s bank)
+    if nat_lt 0 (chips_of s bank)
     then record s { rom_src = byte; ram_src = slice_set s.ram_src bank byte }
     else record s { rom_src = byte }
 
+-- where the character of a bank and an SRC byte stands
+abbrev pub ram_at : ℕ → ℕ → ℕ
+ram_at bank src = bank * 256 + src
+
 -- the selected character of a bank (4002 data sheet); an absent one reads 0 (our own choice)
 unfoldable pub ram_of : BusState → ℕ → ℕ
-ram_of s bank = slice_index s.ram (bank * 256 + src_of s bank)
+ram_of s bank = slice_index s.ram (ram_at bank (src_of s bank))
 
 -- a RAM character is written, by its bank and its SRC byte (4002 data sheet); lost where the chip is absent (our own choice)
 unfoldable pub with_ram : BusState → ℕ → ℕ → ℕ → BusState
 with_ram s bank src n =
     if has_chip s bank src
-    then record s { ram = slice_set s.ram (bank * 256 + src) n }
+    then record s { ram = slice_set s.ram (ram_at bank src) n }
     else s
 
 -- a write to the selected character of a bank
@@ -97,7 +101,7 @@ status_of s bank k = slice_index s.status (status_at bank (src_of s bank / 16) k
 -- is absent (our own choice)
 unfoldable pub with_status : BusState → ℕ → ℕ → ℕ → ℕ → BusState
 with_status s bank high k n =
-    if nat_lt (high / 4) (wired_of s bank)
+    if nat_lt (high / 4) (chips_of s bank)
     then record s { status = slice_set s.status (status_at bank high k) n }
     else s
 

@@ -14,8 +14,8 @@ use Rattle.mcs_model.specs.declared.refusals.BenchFault.{BenchFault}
 use Rattle.mcs_model.specs.declared.refusals.BenchFault.TheVariants.{NoKey, NoRom, NoSuchPlace, BadCount, BreaksFull, Worn, WatchesFull}
 use Rattle.mcs_model.specs.declared.regs.Regs.{Regs}
 use Rattle.mcs_model.specs.Boards.{has_key, masks_on}
-use Rattle.mcs_model.specs.Breakpoints.{is_breakpoint, with_breakpoint, without_breakpoint}
-use Rattle.mcs_model.specs.Bus.{BusState, has_chip, wired_of, with_ram, with_status}
+use Rattle.mcs_model.specs.Listed.{is_listed, with_listed, without_listed}
+use Rattle.mcs_model.specs.Bus.{BusState, has_chip, chips_of, ram_at, with_ram, with_status}
 use Rattle.mcs_model.specs.BenchState.{BenchState, new_regs}
 use Rattle.mcs_model.specs.Places.{with_rom_byte, with_rom_bytes, with_key, after_reset, after_wire}
 use Rattle.mcs_model.specs.Running.{Machine, Stops, run_length, after_run, run_stop, step_length, after_step, step_stop}
@@ -31,14 +31,10 @@ abbrev pub place_refusal : BusState → Place → Option BenchFault
 place_refusal s (Rom at byte) = if lacks_rom s.board at then Some NoRom else None
 place_refusal s (Ram bank src n) = if has_chip s bank src then None else Some NoSuchPlace
 place_refusal s (Status bank high k n) =
-    if nat_lt (high / 4) (wired_of s bank)
+    if nat_lt (high / 4) (chips_of s bank)
     then None
     else Some NoSuchPlace
 place_refusal s _ = None
-
--- where the character of a bank and an SRC byte stands
-abbrev pub watch_place : ℕ → ℕ → ℕ
-watch_place bank src = bank * 256 + src
 
 -- why a state refuses a command for the command's own sake, if it does
 abbrev pub own_refusal : BenchState → Command → Option BenchFault
@@ -51,11 +47,11 @@ own_refusal s (Release row column) = if has_key s.bus.board row column then None
 own_refusal s (Run n) = if nat_le 1 n && nat_le n RUN_CYCLES then None else Some BadCount
 own_refusal s (Poke place) = place_refusal s.bus place
 own_refusal s (Break at) =
-    if is_breakpoint s.breakpoints at || nat_lt (length s.breakpoints) BREAKPOINTS
+    if is_listed s.breakpoints at || nat_lt (length s.breakpoints) BREAKPOINTS
     then None
     else Some BreaksFull
 own_refusal s (Watch bank src) =
-    if is_breakpoint s.watches (watch_place bank src) || nat_lt (length s.watches) WATCHES
+    if is_listed s.watches (ram_at bank src) || nat_lt (length s.watches) WATCHES
     then None
     else Some WatchesFull
 own_refusal s _ = None
@@ -106,11 +102,11 @@ changed s Step = with_machine s (after_step (machine_of s))
 changed s (Poke place) = with_place s place
 changed s (Test bit) = with_bus s (record s.bus { test = bit })
 changed s Reset = with_machine s (new_regs, after_reset s.bus)
-changed s (Break at) = record s { breakpoints = with_breakpoint s.breakpoints at }
-changed s (Unbreak at) = record s { breakpoints = without_breakpoint s.breakpoints at }
-changed s (Watch bank src) = record s { watches = with_breakpoint s.watches (watch_place bank src) }
+changed s (Break at) = record s { breakpoints = with_listed s.breakpoints at }
+changed s (Unbreak at) = record s { breakpoints = without_listed s.breakpoints at }
+changed s (Watch bank src) = record s { watches = with_listed s.watches (ram_at bank src) }
 changed s (Unwatch bank src) =
-    record s { watches = without_breakpoint s.watches (watch_place bank src) }
+    record s { watches = without_listed s.watches (ram_at bank src) }
 
 -- the state after an accepted command: each raises the count by one, also where nothing else changes
 abbrev pub after : BenchState → Command → BenchState

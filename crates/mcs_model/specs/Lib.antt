@@ -4,6 +4,7 @@ pub mod Images
 pub mod Boards
 pub mod Bus
 pub mod Levels
+pub mod Listed
 pub mod Places
 pub mod BenchState
 pub mod Validity
@@ -12,7 +13,6 @@ pub mod Table
 pub mod Registers
 pub mod Effect
 pub mod Running
-pub mod Breakpoints
 pub mod Command
 pub mod Fold
 pub mod QueryText

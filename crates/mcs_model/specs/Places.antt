@@ -7,7 +7,7 @@ use Rattle.mcs_nibble.specs.Ports.{latch_value}
 use Rattle.mcs_model.specs.declared.board.BoardParts.{BoardParts}
 use Rattle.mcs_model.specs.declared.board.ChainPart.{ChainPart}
 use Rattle.mcs_model.specs.Boards.{masks_on, key_count, key_place}
-use Rattle.mcs_model.specs.Bus.{BusState, wired_of}
+use Rattle.mcs_model.specs.Bus.{BusState, chips_of, zero_bus}
 use Rattle.mcs_model.specs.Levels.{with_rom_ports_at, with_ram_ports_at}
 
 -- the ROM byte at an address; lost where the ROM is absent
@@ -25,7 +25,7 @@ with_rom_bytes s (p ∷ image) = with_rom_bytes (with_rom_byte s p.0 p.1) image
 -- the port latch of a RAM chip, nothing being clocked; lost where the chip is absent
 unfoldable pub with_ram_latch : BusState → ℕ → ℕ → ℕ → BusState
 with_ram_latch s bank chip n =
-    if nat_lt chip (wired_of s bank)
+    if nat_lt chip (chips_of s bank)
     then with_ram_ports_at s (bank * 4 + chip) n
     else s
 
@@ -41,7 +41,7 @@ with_rom_latch s chip n =
 -- the SRC byte that a bank keeps; one without chips stays at 0
 unfoldable pub with_ram_src : BusState → ℕ → ℕ → BusState
 with_ram_src s bank byte =
-    if nat_lt 0 (wired_of s bank)
+    if nat_lt 0 (chips_of s bank)
     then record s { ram_src = slice_set s.ram_src bank byte }
     else s
 
@@ -58,16 +58,15 @@ with_key s row column bit = record s { keys = slice_set s.keys (key_place s.boar
 abbrev pub blank_chains : BoardParts → List (List ℕ)
 blank_chains b = map (λ (c : ChainPart). replicate (10 * c.chips) 0) b.chains.items
 
--- a power cycle: RAM, port latches, SRC bytes and chains become 0; nothing is shifted; ROM, keys, TEST and the board stay
+-- a power cycle: the board, ROM, keys and TEST stay; all else (RAM, port latches, SRC bytes, chains) becomes 0, and nothing
+-- is shifted
 abbrev pub after_reset : BusState → BusState
-after_reset s = record s {
-  ram = replicate 2048 0;
-  status = replicate 512 0;
-  ram_ports = replicate 32 0;
-  rom_ports = replicate 16 0;
-  rom_src = 0;
-  ram_src = replicate 8 0;
+after_reset s = record zero_bus {
+  board = s.board;
+  rom = s.rom;
   chains = blank_chains s.board;
+  keys = s.keys;
+  test = s.test;
 }
 
 -- the bytes of the ROMs that a board has, 0 at the others

@@ -3,10 +3,11 @@ use Rattle.std.specs.Prelude.{ℕ, ◌+◌, ◌*◌, ◌/◌, ◌%◌, ◌==◌,
 use Rattle.std.specs.Fmt.{decimal}
 use Rattle.std.specs.List.{flat_map, join_by, join_with_byte, range_with_len}
 use Rattle.mcs_model.specs.declared.query.Query.{Query}
-use Rattle.mcs_model.specs.declared.query.Query.TheVariants.{Lamps, Regs, Ram, Breaks, Watches, Ports, Seq}
+use Rattle.mcs_model.specs.declared.query.Query.TheVariants as query
+use Rattle.mcs_model.specs.declared.regs.Regs.{Regs}
 use Rattle.mcs_model.specs.declared.limits.TheConstants.{BANKS, ROMS}
 use Rattle.mcs_model.specs.Boards.{chain_bits, chain_count, key_place, masks_on}
-use Rattle.mcs_model.specs.Bus.{BusState, wired_of}
+use Rattle.mcs_model.specs.Bus.{BusState, chips_of}
 use Rattle.mcs_model.specs.BenchState.{BenchState}
 use Rattle.mcs_model.specs.Levels.{chain_bit, level, port_at}
 
@@ -36,27 +37,27 @@ abbrev pub stretch : List ℕ → ℕ → ℕ → List ℕ
 stretch items from count = take count (drop from items)
 
 -- `regs`: the registers of the processor and the TEST pin
-abbrev pub regs_text : BenchState → List ℕ
-regs_text s =
-    codes "acc " ++ digit_text s.processor.acc
-    ++ codes " cy " ++ digit_text s.processor.cy
-    ++ codes " pc " ++ address_text s.processor.pc
-    ++ codes " owed " ++ digit_text s.processor.owed
-    ++ codes " dcl " ++ digit_text s.processor.dcl
-    ++ codes " test " ++ digit_text s.bus.test
-    ++ codes " r " ++ map hex_digit s.processor.r
-    ++ codes " ret " ++ address_text (slice_index s.processor.ret 0)
-    ++ codes " " ++ address_text (slice_index s.processor.ret 1)
-    ++ codes " " ++ address_text (slice_index s.processor.ret 2)
+abbrev pub regs_text : Regs → ℕ → List ℕ
+regs_text registers test =
+    codes "acc " ++ digit_text registers.acc
+    ++ codes " cy " ++ digit_text registers.cy
+    ++ codes " pc " ++ address_text registers.pc
+    ++ codes " owed " ++ digit_text registers.owed
+    ++ codes " dcl " ++ digit_text registers.dcl
+    ++ codes " test " ++ digit_text test
+    ++ codes " r " ++ map hex_digit registers.r
+    ++ codes " ret " ++ address_text (slice_index registers.ret 0)
+    ++ codes " " ++ address_text (slice_index registers.ret 1)
+    ++ codes " " ++ address_text (slice_index registers.ret 2)
 
 -- the mark of a lamp: `*` where it is lit
 abbrev pub lamp_mark : ℕ → ℕ
 lamp_mark level = if level == 1 then 42 else 46
 
 -- `lamps`: a mark for each lamp of the board, in order
-abbrev pub lamps_text : BenchState → List ℕ
+abbrev pub lamps_text : BusState → List ℕ
 lamps_text s =
-    codes "lamps " ++ or_dash (map (λ line. lamp_mark (level s.bus line)) s.bus.board.lamps.items)
+    codes "lamps " ++ or_dash (map (λ line. lamp_mark (level s line)) s.board.lamps.items)
 
 -- register r of a RAM chip, named by bank, chip and register: its 16 characters, and its four status characters
 abbrev pub register_line : BusState → ℕ → ℕ → ℕ → List ℕ
@@ -79,12 +80,12 @@ chip_lines s bank chip =
 -- `ram`: how many chips a bank has, and what each of them holds
 abbrev pub ram_lines : BusState → ℕ → List (List ℕ)
 ram_lines s bank =
-    (codes "ram " ++ digit_text bank ++ codes " chips " ++ digit_text (wired_of s bank))
-    ∷ flat_map (chip_lines s bank) (range_with_len 0 (wired_of s bank))
+    (codes "ram " ++ digit_text bank ++ codes " chips " ++ digit_text (chips_of s bank))
+    ∷ flat_map (chip_lines s bank) (range_with_len 0 (chips_of s bank))
 
 -- `breaks`: the breakpoints, rising
-abbrev pub breaks_text : BenchState → List ℕ
-breaks_text s = codes "breaks " ++ or_dash (join_by address_text (codes " ") s.breakpoints)
+abbrev pub breaks_text : List ℕ → List ℕ
+breaks_text breakpoints = codes "breaks " ++ or_dash (join_by address_text (codes " ") breakpoints)
 
 -- the two digits of a byte
 abbrev pub byte_text : ℕ → List ℕ
@@ -95,8 +96,8 @@ abbrev pub watch_text : ℕ → List ℕ
 watch_text w = digit_text (w / 256) ++ codes "." ++ byte_text (w % 256)
 
 -- `watches`: the watched characters, rising
-abbrev pub watches_text : BenchState → List ℕ
-watches_text s = codes "watches " ++ or_dash (join_by watch_text (codes " ") s.watches)
+abbrev pub watches_text : List ℕ → List ℕ
+watches_text watches = codes "watches " ++ or_dash (join_by watch_text (codes " ") watches)
 
 -- after a word, texts that each begin with a space; a list of nothing is told as a dash
 abbrev pub spaced_or_dash : List ℕ → List ℕ
@@ -106,7 +107,7 @@ spaced_or_dash text = text
 -- the SRC byte that a bank keeps, where it has chips
 abbrev pub bank_src_text : BusState → ℕ → List ℕ
 bank_src_text s bank =
-    if nat_lt 0 (wired_of s bank)
+    if nat_lt 0 (chips_of s bank)
     then codes " " ++ digit_text bank ++ codes "." ++ byte_text (slice_index s.ram_src bank)
     else []
 
@@ -166,15 +167,15 @@ ports_lines s =
     ++ key_lines s
 
 -- `seq`: how many commands were accepted
-abbrev pub seq_text : BenchState → List ℕ
-seq_text s = codes "seq " ++ decimal s.seq
+abbrev pub seq_text : ℕ → List ℕ
+seq_text seq = codes "seq " ++ decimal seq
 
 -- the answer to a query
 abbrev pub text : Query → BenchState → List ℕ
-text Lamps s = lamps_text s
-text Regs s = regs_text s
-text (Ram bank) s = join_with_byte 10 (ram_lines s.bus bank)
-text Breaks s = breaks_text s
-text Watches s = watches_text s
-text Ports s = join_with_byte 10 (ports_lines s.bus)
-text Seq s = seq_text s
+text query.Lamps s = lamps_text s.bus
+text query.Regs s = regs_text s.processor s.bus.test
+text (query.Ram bank) s = join_with_byte 10 (ram_lines s.bus bank)
+text query.Breaks s = breaks_text s.breakpoints
+text query.Watches s = watches_text s.watches
+text query.Ports s = join_with_byte 10 (ports_lines s.bus)
+text query.Seq s = seq_text s.seq

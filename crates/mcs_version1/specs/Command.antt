@@ -12,7 +12,7 @@ use Rattle.mcs_model.specs.declared.refusals.BenchFault.{BenchFault}
 use Rattle.mcs_model.specs.declared.refusals.BenchFault.TheVariants.{NoKey, NoRom, BadCount, BreaksFull, Worn}
 use Rattle.mcs_model.specs.declared.regs.Regs.{Regs}
 use Rattle.mcs_model.specs.Boards.{has_key}
-use Rattle.mcs_model.specs.Breakpoints.{is_breakpoint, with_breakpoint, without_breakpoint}
+use Rattle.mcs_model.specs.Listed.{is_listed, with_listed, without_listed}
 use Rattle.mcs_model.specs.Bus.{BusState, with_ram, with_status}
 use Rattle.mcs_model.specs.Command.{lacks_rom, place_refusal}
 use Rattle.mcs_model.specs.BenchState.{new_regs}
@@ -42,7 +42,7 @@ own_refusal_1 s (Release row column) = if has_key s.bus.board row column then No
 own_refusal_1 s (Run n) = if nat_le 1 n && nat_le n RUN_CYCLES then None else Some BadCount
 own_refusal_1 s (Poke place) = place_refusal s.bus place
 own_refusal_1 s (Break at) =
-    if is_breakpoint s.breakpoints at || nat_lt (length s.breakpoints) BREAKPOINTS
+    if is_listed s.breakpoints at || nat_lt (length s.breakpoints) BREAKPOINTS
     then None
     else Some BreaksFull
 own_refusal_1 s _ = None
@@ -88,8 +88,8 @@ changed_1 s Step = with_machine_1 s (after_step (machine_of_1 s))
 changed_1 s (Poke place) = with_place_1 s place
 changed_1 s (Test bit) = with_bus_1 s (record s.bus { test = bit })
 changed_1 s Reset = with_machine_1 s (new_regs, after_reset s.bus)
-changed_1 s (Break at) = record s { breakpoints = with_breakpoint s.breakpoints at }
-changed_1 s (Unbreak at) = record s { breakpoints = without_breakpoint s.breakpoints at }
+changed_1 s (Break at) = record s { breakpoints = with_listed s.breakpoints at }
+changed_1 s (Unbreak at) = record s { breakpoints = without_listed s.breakpoints at }
 changed_1 s _ = s
 
 -- the state after an accepted command: each raises the count by one, also where nothing else changes

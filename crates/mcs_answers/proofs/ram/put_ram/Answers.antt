@@ -1,6 +1,6 @@
 use Rattle.std.proofs.Common.{◌≡◌, ◌∷◌, [], ◌++◌, codes, arith, ap, ◌∙◌}
 use Rattle.std.specs.List.{flat_map, range_with_len}
-use Rattle.mcs_model.specs.Bus.{wired_of}
+use Rattle.mcs_model.specs.Bus.{chips_of}
 use Rattle.mcs_model.specs.QueryText.{as_line, chip_lines, digit_text}
 use Rattle.mcs_answers.proofs.Growing.{pieced}
 use Rattle.mcs_answers.proofs.RamTexts.{ram_is}
@@ -14,7 +14,7 @@ loop-chip-preserved c = record {
 
 pub returns : goal.returns
 returns c =
-    let all : c.loop-chip.chip ≡ wired_of c.args.bench.now.bus c.args.bank = omega (arith, c.chips_of-chips.ensures.chips) in
+    let all : c.loop-chip.chip ≡ chips_of c.args.bench.now.bus c.args.bank = omega (arith, c.chips_of-chips.ensures.chips) in
     ram_is c.args.bench.now.bus c.args.bank _ _
     (c.put.ensures.text
     ∙ ap (λ v. v ++ 10 ∷ []) (c.put_digit-2.ensures.text ∙ ap (λ v. v ++ codes " chips " ++ digit_text c.chips_of-chips.result) (c.put_digit.ensures.text ∙ ap (λ v. v ++ codes "ram " ++ digit_text c.args.bank) c.requires.empty))

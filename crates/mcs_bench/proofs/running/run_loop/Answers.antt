@@ -1,5 +1,5 @@
 use Rattle.std.proofs.Common.{◌≡◌, ◌≢◌, ℕ, ◌<◌, ◌-◌, ◌∙◌, ◌&&◌, false, Some, None, sym, ap, subst, arith, eqb}
-use Rattle.mcs_model.specs.Breakpoints.{is_breakpoint}
+use Rattle.mcs_model.specs.Listed.{is_listed}
 use Rattle.mcs_bench.specs.Runs.{RanOn, mark_of}
 use Rattle.mcs_model.specs.declared.regs.Regs.{Regs}
 use Rattle.mcs_model.specs.Running.{Machine, Stops}
@@ -16,7 +16,7 @@ returns-in-Some g c =
     let owed : c.args.cpu.now.owed ≡ 1 = sym (ap (λ (r : Regs). r.owed) c.regs.ensures.same) ∙ c.if-regs-eq1.true in
     let on = sym c.mark_at.ensures ∙ c.in-Some.is in
     subst (λ (r : Regs). RanOn stops c.args.n s (record r { pc = counter }, c.args.rig.now) 1 (Some c.in-Some.why)) (sym c.set_owed.ensures)
-    (begun-marks stops c.args.n s counter c.in-Some.why c.if-n-gt0.true owed there (subst (λ (r : Regs). mark_of (eqb r.owed 0 && is_breakpoint c.args.breaks.now counter) false ≡ Some c.in-Some.why) c.set_owed.ensures on))
+    (begun-marks stops c.args.n s counter c.in-Some.why c.if-n-gt0.true owed there (subst (λ (r : Regs). mark_of (eqb r.owed 0 && is_listed c.args.breaks.now counter) false ≡ Some c.in-Some.why) c.set_owed.ensures on))
 
 pub loop-left-init : goal.loop-left-init
 loop-left-init g c =
@@ -28,7 +28,7 @@ loop-left-init g c =
       | then-n-gt0+then-regs-eq1+in_default w ↦ (
           let owed : c.args.cpu.now.owed ≡ 1 = sym (ap (λ (r : Regs). r.owed) w.regs.ensures.same) ∙ w.if-regs-eq1.true in
           let off = sym w.mark_at.ensures ∙ w.in_default.is in
-          let first = starts-begun stops c.args.n s counter w.if-n-gt0.true owed there (subst (λ (r : Regs). mark_of (eqb r.owed 0 && is_breakpoint c.args.breaks.now counter) false ≡ None) w.set_owed.ensures off) in
+          let first = starts-begun stops c.args.n s counter w.if-n-gt0.true owed there (subst (λ (r : Regs). mark_of (eqb r.owed 0 && is_listed c.args.breaks.now counter) false ≡ None) w.set_owed.ensures off) in
           subst (λ l. Keeps stops c.args.n l s (record c.if-n-gt0.cpu { pc = counter }, c.args.rig.now)) (sym w.left-is)
           (subst (λ (r : Regs). Keeps stops c.args.n (c.args.n - 1) s (record r { pc = counter }, c.args.rig.now)) (sym (w.cpu-is ∙ w.set_owed.ensures)) first))
       | else-n-gt0 w ↦ (

@@ -2,7 +2,7 @@ use Rattle.std.proofs.Common.{◌≡◌, ◌∙◌, ◌+◌, ◌%◌, ◌*◌, �
 use Rattle.std.proofs.lemmas.Bool.{eqb-true}
 use Rattle.mcs_model.specs.declared.regs.Regs.{Regs}
 use Rattle.mcs_model.specs.declared.board.BoardParts.{BoardParts}
-use Rattle.mcs_model.specs.Breakpoints.{is_breakpoint}
+use Rattle.mcs_model.specs.Listed.{is_listed}
 use Rattle.mcs_model.specs.Bus.{fetch_of, has_chip, src_of}
 use Rattle.mcs_model.specs.Running.{Machine}
 use Rattle.mcs_bench.specs.Runs.{selected}
@@ -43,4 +43,4 @@ returns c =
     let chips : c.bank_chips.result ≡ slice_index c.args.rig.now.board.banks c.args.cpu.now.dcl = c.bank_chips.ensures ∙ ap (λ (b : BoardParts). slice_index b.banks c.regs-regs.result.dcl) c.board.ensures ∙ ap (slice_index c.args.rig.now.board.banks) dcl in
     let there : has_chip c.args.rig.now c.args.cpu.now.dcl (src_of c.args.rig.now c.args.cpu.now.dcl) ≡ nat_lt (c.ram_src-src.result / 64) c.bank_chips.result = ap (λ n. nat_lt (n / 64) (slice_index c.args.rig.now.board.banks c.args.cpu.now.dcl)) (sym src) ∙ ap (nat_lt (c.ram_src-src.result / 64)) (sym chips) in
     told-new c.args.watches.now t _ (code-writes (slice_index c.args.rig.now.rom c.args.at) (slice_index c.args.rig.now.rom ((c.args.at + 1) % 4096)) (sym c.rom_byte.ensures ∙ c.if-rom_byte.false))
-    (ap (is_breakpoint c.args.watches.now) (sym place) ∙ sym c.contains.ensures ∙ c.if-not-contains.false) new inside there
+    (ap (is_listed c.args.watches.now) (sym place) ∙ sym c.contains.ensures ∙ c.if-not-contains.false) new inside there

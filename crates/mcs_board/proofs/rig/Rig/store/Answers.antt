@@ -1,6 +1,6 @@
 use Rattle.std.proofs.Common.{arith, sym, ap, ◌∙◌, ◌≡◌}
 use Rattle.mcs_ram4002.specs.RamBank.{BankState}
-use Rattle.mcs_model.specs.Bus.{wired_of}
+use Rattle.mcs_model.specs.Bus.{chips_of}
 use Rattle.mcs_board.specs.RigState.{after_bank_write}
 use Rattle.mcs_board.specs.RigFields.{parts_of}
 use Rattle.mcs_board.proofs.FittedLemmas.{fitted-bank}
@@ -26,5 +26,5 @@ pub returns-else-at-len : goal.returns-else-at-len
 returns-else-at-len g c =
     let i = c.self.inside in
     let here = bank_absent i.banks.items c.args.bank c.from-at.result c.from-at.ensures (omega arith) in
-    let none : wired_of c.args.self.now c.args.bank ≡ 0 = ap (λ s. wired_of s c.args.bank) (sym c.self.view_is) ∙ sym (c.self.invariant.wired c.args.bank) ∙ ap (λ (b : BankState). b.wired) here in
+    let none : chips_of c.args.self.now c.args.bank ≡ 0 = ap (λ s. chips_of s c.args.bank) (sym c.self.view_is) ∙ sym (c.self.invariant.wired c.args.bank) ∙ ap (λ (b : BankState). b.wired) here in
     sym (bank_write-lost c.args.self.now c.args.bank c.args.write (omega arith))
