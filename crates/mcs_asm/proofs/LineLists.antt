@@ -2,32 +2,33 @@
 use Rattle.std.proofs.Common.{◌≡◌, ℕ, suc, ◌+◌, ◌-◌, ◌<◌, ◌≤◌, Bool, true, false, cond, not, eqb, List, [], ◌∷◌, ◌++◌, length, take, drop, refl, sym, ap, ◌∙◌, append_assoc, arith}
 use Rattle.std.specs.List.{prefix_len}
 use Rattle.std.proofs.lemmas.List.{append-nil, length-take, length-drop, take_all}
-use Rattle.mcs_source.specs.Assembly.{without_cr, last_line, lines_after, lines_of}
+use Rattle.std.specs.Str.Lines.{strip_carriage_return}
+use Rattle.mcs_model.specs.TextLines.{last_line, lines_after, lines_of}
 use Rattle.mcs_asm.specs.View.{no_lf}
 
 -- the lines, where one ends
 abbrev pub ended : List ℕ → List ℕ → List (List ℕ)
-ended line [] = last_line line
-ended line (b ∷ bytes) = without_cr line ∷ lines_of bytes
+ended line [] = last_line true line
+ended line (b ∷ bytes) = strip_carriage_return line ∷ lines_of bytes
 
-pub line_ends : (line bytes : List ℕ) → lines_after line bytes ≡ ended (line ++ take (prefix_len no_lf bytes) bytes) (drop (prefix_len no_lf bytes) bytes)
+pub line_ends : (line bytes : List ℕ) → lines_after true line bytes ≡ ended (line ++ take (prefix_len no_lf bytes) bytes) (drop (prefix_len no_lf bytes) bytes)
 unfolding lines_after
-line_ends line [] = ap last_line (sym (append-nil line))
+line_ends line [] = ap (last_line true) (sym (append-nil line))
 line_ends line (b ∷ bytes) =
     let n : ℕ = prefix_len no_lf bytes in
     let up : 1 + n ≡ suc n = omega arith in
-    let Q : Bool → Type 0 = λ t. cond t (without_cr line ∷ lines_of bytes) (lines_after (line ++ b ∷ []) bytes) ≡ ended (line ++ take (cond (not t) (1 + n) 0) (b ∷ bytes)) (drop (cond (not t) (1 + n) 0) (b ∷ bytes)) in
+    let Q : Bool → Type 0 = λ t. cond t (strip_carriage_return line ∷ lines_of bytes) (lines_after true (line ++ b ∷ []) bytes) ≡ ended (line ++ take (cond (not t) (1 + n) 0) (b ∷ bytes)) (drop (cond (not t) (1 + n) 0) (b ∷ bytes)) in
     elim (eqb b 10) as Q [
-      | true ↦ ap (λ (l : List ℕ). without_cr l ∷ lines_of bytes) (sym (append-nil line))
+      | true ↦ ap (λ (l : List ℕ). strip_carriage_return l ∷ lines_of bytes) (sym (append-nil line))
       | false ↦ line_ends (line ++ b ∷ []) bytes ∙ rw (up, append_assoc line (b ∷ []) (take n bytes)) refl
     ]
 
-none_last : (line : List ℕ) → 0 < length line → last_line line ≡ without_cr line ∷ []
+none_last : (line : List ℕ) → 0 < length line → last_line true line ≡ strip_carriage_return line ∷ []
 none_last [] some = absurd (omega (arith, some))
 none_last (b ∷ line) some = refl
 
 -- the last line
-pub last_front : (text line rest cut : List ℕ) (n : ℕ) → n ≡ prefix_len no_lf text → n ≤ length text → 0 < length text → line ≡ take n text → rest ≡ drop n text → length rest ≡ 0 → cut ≡ without_cr line
+pub last_front : (text line rest cut : List ℕ) (n : ℕ) → n ≡ prefix_len no_lf text → n ≤ length text → 0 < length text → line ≡ take n text → rest ≡ drop n text → length rest ≡ 0 → cut ≡ strip_carriage_return line
     → (lines_of text ≡ cut ∷ lines_of rest) × (length rest < length text)
 unfolding lines_after
 last_front text line [] cut n len within some front back none is =
@@ -37,7 +38,7 @@ last_front text line [] cut n len within some front back none is =
 last_front text line (b ∷ rest) cut n len within some front back none is = absurd (omega (arith, none))
 
 -- a line before another
-pub more_front : (text line rest cut : List ℕ) (n : ℕ) → n ≡ prefix_len no_lf text → n ≤ length text → line ≡ take n text → rest ≡ drop n text → 1 ≤ length rest → cut ≡ without_cr line
+pub more_front : (text line rest cut : List ℕ) (n : ℕ) → n ≡ prefix_len no_lf text → n ≤ length text → line ≡ take n text → rest ≡ drop n text → 1 ≤ length rest → cut ≡ strip_carriage_return line
     → (lines_of text ≡ cut ∷ lines_of (take (length rest - 1) (drop 1 rest))) × (length (take (length rest - 1) (drop 1 rest)) < length text)
 more_front text line [] cut n len within front back some is = absurd (omega (arith, some))
 more_front text line (b ∷ rest) cut n len within front back some is =

@@ -10,7 +10,8 @@ use Rattle.mcs_source.specs.declared.fault.SourceFault.TheVariants.{DoubleName, 
 use Rattle.mcs_source.specs.Lexical.{tokens}
 use Rattle.mcs_source.specs.Lines.{SourceLine, Code, Define, line_of}
 use Rattle.mcs_model.specs.Images.{from_address, overlaps}
-use Rattle.mcs_source.specs.Assembly.{assembled, spelt, lines_of, read, ith_line, Names, definition, address_of, names_before, all_names, pairs_before, unless_fault, first_fault, fault_one, fault_two, class_one_fault, class_two_fault, first_of_class_one, first_of_class_two, next_at, line_bytes, bytes_or_none, defined_name, is_known_name, is_bad_place, passes_end}
+use Rattle.mcs_model.specs.TextLines.{lines_of}
+use Rattle.mcs_source.specs.Assembly.{assembled, spelt, read, ith_line, Names, definition, address_of, names_before, all_names, pairs_before, unless_fault, first_fault, fault_one, fault_two, class_one_fault, class_two_fault, first_of_class_one, first_of_class_two, next_at, line_bytes, bytes_or_none, defined_name, is_known_name, is_bad_place, passes_end}
 use Rattle.mcs_source.proofs.LineByLine.{address_next, names_next, pairs_next, NoneBefore, none_before_next, none_first, first_at, none_below}
 use Rattle.mcs_asm.specs.ByteMap.{IsKept}
 use Rattle.mcs_asm.specs.View.{FailsAs}

@@ -1,9 +1,10 @@
 //! The lines of a source text.
 ghost use Rattle.std.specs.Prelude.{◌≡◌, ◌≤◌, ◌<◌, map, length, IfOk, MatchOption, ◌∷◌, ◌++◌, [], take, drop};
 ghost use Rattle.std.specs.List.{prefix_len};
-ghost use Rattle.mcs_source.specs.Assembly.{without_cr, lines_of};
+ghost use Rattle.mcs_model.specs.TextLines.{lines_of};
 ghost use Rattle.mcs_asm.specs.View.{no_lf};
 
+use mcs_model::text_lines::without_return;
 use std::alloc::{AllocError, Global};
 
 fn no_lf(b: u8) -> bool
@@ -25,16 +26,6 @@ fn line_len(bytes: &[u8]) -> usize
     bytes.len()
 }
 
-/// A line without the CR that ends it.
-fn without_cr(line: &[u8]) -> &[u8]
-    ensures { result.now ≡ without_cr line.now }
-{
-    match line {
-        [front @ .., b'\r'] => front,
-        _ => line,
-    }
-}
-
 /// The first line, without its end, and what follows it.
 #[tactic(auto, using(crate::proofs::LineLists::no_lines, crate::proofs::LineLists::last_front, crate::proofs::LineLists::more_front))]
 fn first_line(bytes: &[u8]) -> Option<(&[u8], &[u8])>
@@ -47,8 +38,8 @@ fn first_line(bytes: &[u8]) -> Option<(&[u8], &[u8])>
     }
     let (line, rest) = bytes.split_at(line_len(bytes));
     match rest {
-        [] => Some((without_cr(line), rest)),
-        [_, rest @ ..] => Some((without_cr(line), rest)),
+        [] => Some((without_return(line), rest)),
+        [_, rest @ ..] => Some((without_return(line), rest)),
     }
 }
 

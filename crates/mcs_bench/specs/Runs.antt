@@ -1,5 +1,5 @@
 -- What a run and a step of a bench answer.
-use Rattle.std.specs.Prelude.{◌≡◌, ◌≢◌, ◌⊎◌, ℕ, ◌+◌, ◌-◌, ◌*◌, slice_index, ◌&&◌, ◌==◌, not, ◌<◌, ◌≤◌, false, Bool, Option, None, Some, List, [], if◌then◌else◌}
+use Rattle.std.specs.Prelude.{◌≡◌, ◌≢◌, ◌⊎◌, ℕ, ◌+◌, ◌-◌, slice_index, ◌&&◌, ◌==◌, not, ◌<◌, ◌≤◌, false, Bool, Option, None, Some, List, [], if◌then◌else◌}
 use Rattle.mcs_model.specs.declared.command.Command.TheVariants.{Run}
 use Rattle.mcs_model.specs.declared.op.Op.TheVariants.{Wrm}
 use Rattle.mcs_model.specs.declared.stop.Stop.{Stop}

@@ -6,11 +6,11 @@ use Rattle.std.specs.Fmt.{decimal, digits}
 use Rattle.mcs_model.specs.QueryText.{hex_digit}
 use Rattle.mcs_model.specs.declared.op.Op.{Op}
 use Rattle.mcs_model.specs.declared.op.Op.TheVariants.{Nop, Jcn, Fim, Src, Fin, Jin, Jun, Jms, Inc, Isz, Add, Sub, Ld, Xch, Bbl, Ldm, Wrm, Wmp, Wrr, Wr0, Wr1, Wr2, Wr3, Sbm, Rdm, Rdr, Adm, Rd0, Rd1, Rd2, Rd3, Clb, Clc, Iac, Cmc, Cma, Ral, Rar, Tcc, Dac, Tcs, Stc, Daa, Kbp, Dcl}
-use Rattle.mcs_source.specs.Assembly.{ends_in_cr}
 use Rattle.mcs_source.specs.Text.{text_of, hex_2, address, near_page, byte_text}
 use Rattle.mcs_source.specs.Spelling.{IsOp}
 use Rattle.mcs_dis.proofs.ReadBack.{one_below, near_small}
-use Rattle.mcs_dis.proofs.LinesAgain.{no_lf, IsLine}
+use Rattle.mcs_model.proofs.LineLemmas.{no_lf}
+use Rattle.mcs_dis.proofs.LinesAgain.{ends_in_cr, IsLine}
 
 abbrev pub is_clean : ℕ → Bool
 is_clean b = not (eqb b 10) && not (eqb b 13)

@@ -8,7 +8,8 @@ use Rattle.mcs_source.specs.Lexical.{tokens}
 use Rattle.mcs_source.specs.Lines as asm
 use Rattle.mcs_model.specs.Images.{from_address, overlaps}
 use Rattle.mcs_source.specs.declared.fault.SourceFault.{SourceFault}
-use Rattle.mcs_source.specs.Assembly.{assembled, lines_of, read, ith_line, Names, definition, address_of, names_before, pairs_before, next_at, fault_one, fault_two, line_bytes, bytes_or_none, class_one_fault, class_two_fault}
+use Rattle.mcs_model.specs.TextLines.{lines_of}
+use Rattle.mcs_source.specs.Assembly.{assembled, read, ith_line, Names, definition, address_of, names_before, pairs_before, next_at, fault_one, fault_two, line_bytes, bytes_or_none, class_one_fault, class_two_fault}
 use Rattle.mcs_source.proofs.LineByLine.{NoneBefore, address_next, names_next, pairs_next, none_before_next, none_first, first_of_rest, all_passed}
 use Rattle.mcs_source.specs.Text.{SpellsItself, origin_text, source_of, op_at, second_word, piece_text, piece_size, piece_texts}
 use Rattle.mcs_dis.proofs.Clean.{line_is, address_clean}

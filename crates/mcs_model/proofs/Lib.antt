@@ -1,3 +1,4 @@
 pub mod Digits
 pub mod Rising
 pub mod RunLemmas
+pub mod LineLemmas

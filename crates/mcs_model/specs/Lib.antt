@@ -1,5 +1,6 @@
 pub mod Numbers
 pub mod Numerals
+pub mod TextLines
 pub mod Images
 pub mod Boards
 pub mod Bus

@@ -14,3 +14,4 @@ pub mod refusal_numbers;
 pub mod refusals;
 pub mod regs;
 pub mod stop;
+pub mod text_lines;

@@ -10,7 +10,7 @@ use Rattle.mcs_shell.specs.declared.outcome.Halt.TheVariants as halt
 use Rattle.mcs_shell.specs.declared.ends.ShellEnd.{ShellEnd}
 use Rattle.mcs_shell.specs.declared.ends.ShellEnd.TheVariants.{End, ReadFault, WriteFault, DeviceFault, InputLimit, NoMemory}
 use Rattle.mcs_model.specs.declared.limits.TheConstants.{INPUT_BYTES}
-use Rattle.mcs_shell.specs.Lines.{HasNoFeed}
+use Rattle.mcs_shell.specs.LineFeeds.{HasNoFeed}
 use Rattle.mcs_shell.specs.Inputs.{Input, BadText, Commands, InText, Pending, fresh, inputs, inputs_after}
 use Rattle.mcs_lines.specs.declared.requests.TextKind.{TextKind}
 use Rattle.mcs_shell.specs.declared.texts.TextFault.TheVariants.{NoEnd}

@@ -8,13 +8,13 @@ use Rattle.mcs_shell.specs.declared.outcome.Outcome.{Outcome}
 use Rattle.mcs_shell.specs.declared.outcome.Outcome.TheVariants.{Device}
 use Rattle.mcs_shell.specs.declared.outcome.Halt.{Halt}
 use Rattle.mcs_shell.specs.declared.outcome.Halt.TheVariants as halt
-use Rattle.mcs_shell.specs.Lines.{HasNoFeed, is_line_feed}
+use Rattle.mcs_shell.specs.LineFeeds.{HasNoFeed, is_line_feed}
 use Rattle.mcs_shell.specs.Inputs.{Input, Line, Pending, Commands, InText, begun, fresh, inputs_after, is_dot_line, judged_text}
 use Rattle.mcs_shell.specs.Reading.{Gathers, GathersLine}
 use Rattle.mcs_lines.specs.declared.requests.TextKind.{TextKind}
 use Rattle.mcs_lines.specs.declared.requests.Request.TheVariants.{Begin}
 use Rattle.mcs_lines.specs.Requests.{request_of}
-use Rattle.std.specs.Io.BufRead.{strip_last}
+use Rattle.std.specs.Str.Lines.{strip_carriage_return}
 use Rattle.mcs_session.specs.Standing.{SessionState, Standing, standing_after}
 use Rattle.mcs_shell.specs.Stage.{Stage}
 use Rattle.mcs_shell.specs.Transcript.{MayGo, Went, answer, commands, reached, transcript, all_commands}
@@ -114,28 +114,28 @@ went_kept a p q bytes f g e = let P : Pending → Type 0 = λ x. WentFurther a a
 fresh_feed : (q : Pending) → q ≡ fresh → HasNoFeed q.line
 fresh_feed q e = subst (λ (x : Pending). HasNoFeed x.line) (sym e) tt
 
-pub went_command : (a b : Stage) (p q : Pending) (line : List ℕ) → HasNoFeed p.line → p.mode ≡ Commands → line ≡ strip_last 13 p.line → begun (request_of line) ≡ None → q ≡ fresh
+pub went_command : (a b : Stage) (p q : Pending) (line : List ℕ) → HasNoFeed p.line → p.mode ≡ Commands → line ≡ strip_carriage_return p.line → begun (request_of line) ≡ None → q ≡ fresh
     → WentOn a (Line (request_of line)) b → WentFurther a b p q (10 ∷ [])
 went_command a b p q line f is e none new h =
-    let none2 : begun (request_of (strip_last 13 p.line)) ≡ None = ap (λ l. begun (request_of l)) (sym e) ∙ none in
+    let none2 : begun (request_of (strip_carriage_return p.line)) ≡ None = ap (λ l. begun (request_of l)) (sym e) ∙ none in
     went_one a b p q (10 ∷ []) (Line (request_of line)) (fresh_feed q new) (λ more whole. feed-command p q more whole f is none2 new ∙ ap (λ l. Line (request_of l) ∷ inputs_after q more whole) (sym e)) h
 
-pub went_begun : (a : Stage) (p q : Pending) (line : List ℕ) (kind : TextKind) → HasNoFeed p.line → p.mode ≡ Commands → line ≡ strip_last 13 p.line → request_of line ≡ Begin kind
+pub went_begun : (a : Stage) (p q : Pending) (line : List ℕ) (kind : TextKind) → HasNoFeed p.line → p.mode ≡ Commands → line ≡ strip_carriage_return p.line → request_of line ≡ Begin kind
     → q ≡ record { mode = InText kind []; line = [] } → WentFurther a a p q (10 ∷ [])
 went_begun a p q line kind f is e some new =
-    let some2 : request_of (strip_last 13 p.line) ≡ Begin kind = ap request_of (sym e) ∙ some in
+    let some2 : request_of (strip_carriage_return p.line) ≡ Begin kind = ap request_of (sym e) ∙ some in
     went_none a p q (10 ∷ []) (subst (λ (x : Pending). HasNoFeed x.line) (sym new) tt) (λ more whole. feed-begun p q more whole kind f is some2 new)
 
-pub went_text : (a b : Stage) (p q : Pending) (line : List ℕ) (kind : TextKind) (text : List ℕ) → HasNoFeed p.line → p.mode ≡ InText kind text → line ≡ strip_last 13 p.line → is_dot_line line ≡ true → q ≡ fresh
+pub went_text : (a b : Stage) (p q : Pending) (line : List ℕ) (kind : TextKind) (text : List ℕ) → HasNoFeed p.line → p.mode ≡ InText kind text → line ≡ strip_carriage_return p.line → is_dot_line line ≡ true → q ≡ fresh
     → WentOn a (judged_text kind text) b → WentFurther a b p q (10 ∷ [])
 went_text a b p q line kind text f is e dot new h =
-    let dot2 : is_dot_line (strip_last 13 p.line) ≡ true = ap is_dot_line (sym e) ∙ dot in
+    let dot2 : is_dot_line (strip_carriage_return p.line) ≡ true = ap is_dot_line (sym e) ∙ dot in
     went_one a b p q (10 ∷ []) (judged_text kind text) (fresh_feed q new) (λ more whole. feed-dot p q more whole kind text f is dot2 new) h
 
-pub went_line : (a : Stage) (p q : Pending) (line : List ℕ) (kind : TextKind) (text : List ℕ) → HasNoFeed p.line → p.mode ≡ InText kind text → line ≡ strip_last 13 p.line → is_dot_line line ≡ false
+pub went_line : (a : Stage) (p q : Pending) (line : List ℕ) (kind : TextKind) (text : List ℕ) → HasNoFeed p.line → p.mode ≡ InText kind text → line ≡ strip_carriage_return p.line → is_dot_line line ≡ false
     → GathersLine p q → WentFurther a a p q (10 ∷ [])
 went_line a p q line kind text f is e dot h =
-    let dot2 : is_dot_line (strip_last 13 p.line) ≡ false = ap is_dot_line (sym e) ∙ dot in
+    let dot2 : is_dot_line (strip_carriage_return p.line) ≡ false = ap is_dot_line (sym e) ∙ dot in
     let g : Gathers (InText kind text) p.line q = subst (λ m. Gathers m p.line q) is h in
     went_none a p q (10 ∷ []) (subst (λ (x : Pending). HasNoFeed x.line) (sym (g.2)) tt) (λ more whole. feed-line p q more whole kind text (g.0) f is dot2 (g.1) (g.2))
 
@@ -242,16 +242,16 @@ stopped_one : (halt : Halt) (a b : Stage) (p : Pending) (bytes : List ℕ) (i : 
 stopped_one halt.Write = stopped_first CutShort cut_after
 stopped_one halt.Device = stopped_first Failed failed_after
 
-pub stopped_command : (halt : Halt) (a b : Stage) (p : Pending) (line : List ℕ) → HasNoFeed p.line → p.mode ≡ Commands → line ≡ strip_last 13 p.line → begun (request_of line) ≡ None
+pub stopped_command : (halt : Halt) (a b : Stage) (p : Pending) (line : List ℕ) → HasNoFeed p.line → p.mode ≡ Commands → line ≡ strip_carriage_return p.line → begun (request_of line) ≡ None
     → StopsAt halt a (Line (request_of line)) b → Stopped halt a b p (10 ∷ [])
 stopped_command halt a b p line f is e none h =
-    let none2 : begun (request_of (strip_last 13 p.line)) ≡ None = ap (λ l. begun (request_of l)) (sym e) ∙ none in
+    let none2 : begun (request_of (strip_carriage_return p.line)) ≡ None = ap (λ l. begun (request_of l)) (sym e) ∙ none in
     stopped_one halt a b p (10 ∷ []) (Line (request_of line)) (λ more whole. (inputs_after fresh more whole, feed-command p fresh more whole f is none2 refl ∙ ap (λ l. Line (request_of l) ∷ inputs_after fresh more whole) (sym e))) h
 
-pub stopped_text : (halt : Halt) (a b : Stage) (p : Pending) (line : List ℕ) (kind : TextKind) (text : List ℕ) → HasNoFeed p.line → p.mode ≡ InText kind text → line ≡ strip_last 13 p.line → is_dot_line line ≡ true
+pub stopped_text : (halt : Halt) (a b : Stage) (p : Pending) (line : List ℕ) (kind : TextKind) (text : List ℕ) → HasNoFeed p.line → p.mode ≡ InText kind text → line ≡ strip_carriage_return p.line → is_dot_line line ≡ true
     → StopsAt halt a (judged_text kind text) b → Stopped halt a b p (10 ∷ [])
 stopped_text halt a b p line kind text f is e dot h =
-    let dot2 : is_dot_line (strip_last 13 p.line) ≡ true = ap is_dot_line (sym e) ∙ dot in
+    let dot2 : is_dot_line (strip_carriage_return p.line) ≡ true = ap is_dot_line (sym e) ∙ dot in
     stopped_one halt a b p (10 ∷ []) (judged_text kind text) (λ more whole. (inputs_after fresh more whole, feed-dot p fresh more whole kind text f is dot2 refl)) h
 
 -- ---- a chunk, line by line

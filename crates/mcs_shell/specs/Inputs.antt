@@ -11,7 +11,8 @@ use Rattle.mcs_shell.specs.declared.texts.TextFault.TheVariants.{NoEnd, TextTooL
 use Rattle.mcs_lines.specs.Cutting.{cut_at}
 use Rattle.mcs_lines.specs.Requests.{request_of}
 use Rattle.mcs_lines.specs.Words.{is_plain_byte}
-use Rattle.mcs_shell.specs.Lines.{is_line_feed, lines}
+use Rattle.mcs_model.specs.TextLines.{lines}
+use Rattle.mcs_shell.specs.LineFeeds.{is_line_feed}
 
 -- what a line outside a text asks for, a text, or a text that is refused whatever its lines say
 pub data Input : Type 0 where

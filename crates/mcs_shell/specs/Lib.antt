@@ -1,5 +1,5 @@
 pub mod Told
-pub mod Lines
+pub mod LineFeeds
 pub mod Inputs
 pub mod TextLaws
 pub mod Reading

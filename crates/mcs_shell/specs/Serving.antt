@@ -11,7 +11,7 @@ use Rattle.mcs_session.specs.declared.fault.SessionFault.{SessionFault}
 use Rattle.mcs_session.specs.declared.fault.SessionFault.TheVariants as session_fault
 use Rattle.mcs_shell.specs.declared.outcome.Halt.{Halt}
 use Rattle.mcs_shell.specs.declared.outcome.Halt.TheVariants as halt
-use Rattle.mcs_shell.specs.Lines.{HasNoFeed}
+use Rattle.mcs_shell.specs.LineFeeds.{HasNoFeed}
 use Rattle.mcs_shell.specs.Inputs.{Input, Pending, inputs_after}
 use Rattle.mcs_session.specs.Standing.{Premise, Standing, SessionState, standing_after}
 use Rattle.mcs_shell.specs.Stage.{KnownBytes, Stage}

@@ -8,7 +8,6 @@ pub mod ends;
 pub mod faults;
 pub mod headline;
 pub mod laws;
-pub mod lines;
 pub mod outcome;
 pub mod program;
 pub mod refusal;

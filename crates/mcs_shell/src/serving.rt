@@ -1,14 +1,14 @@
 //! Lines as they come, in pieces.
 ghost use Rattle.std.specs.Prelude.{◌≡◌, ◌∷◌, ◌++◌, [], MatchOption, OnOk, IfErr, length};
 ghost use Rattle.mcs_shell.specs.declared.texts.TextFault.TheVariants.{NoEnd};
-ghost use Rattle.mcs_shell.specs.Lines.{HasNoFeed};
+ghost use Rattle.mcs_shell.specs.LineFeeds.{HasNoFeed};
 ghost use Rattle.mcs_shell.specs.Inputs.{BadText, Line, judged_text};
 ghost use Rattle.mcs_shell.specs.Stage.{staged};
 ghost use Rattle.mcs_shell.specs.Serving.{Sent, ServedLine, Stopped, WentFurther};
 
 use crate::answer::Answer;
 use crate::answering::{answer_request, answer_text};
-use crate::lines::without_return;
+use mcs_model::text_lines::without_return;
 use crate::outcome::{Halt, Outcome};
 use crate::sending::WriteStopped;
 use crate::texts::{TextFault, ends_text};

@@ -1,7 +1,7 @@
 //! The shell: it reads lines, does what they ask for, and writes the answers.
 ghost use Rattle.std.specs.Prelude.{◌≡◌, ◌<◌, ◌≤◌, take, length, IfOk, OnErr};
 ghost use Rattle.std.specs.Io.KnownBytes.{Keeps};
-ghost use Rattle.mcs_shell.specs.Lines.{HasNoFeed};
+ghost use Rattle.mcs_shell.specs.LineFeeds.{HasNoFeed};
 ghost use Rattle.mcs_shell.specs.Stage.{staged};
 ghost use Rattle.mcs_shell.specs.Shell.{LoopSettled, Ran, ReadSome, end_of_halt};
 ghost use Rattle.mcs_shell.specs.Finishing.{FinishedBy};

@@ -2,7 +2,7 @@
 ghost use Rattle.std.specs.Prelude.{◌≡◌, None};
 ghost use Rattle.std.specs.List.{list_all};
 ghost use Rattle.mcs_lines.specs.Cutting.{cut_at};
-ghost use Rattle.mcs_shell.specs.Lines.{is_line_feed};
+ghost use Rattle.mcs_shell.specs.LineFeeds.{is_line_feed};
 ghost use Rattle.mcs_shell.specs.Inputs.{text_fault_of, is_dot_line, is_short, is_text_byte};
 ghost use Rattle.mcs_shell.specs.RefusalNumbers.{text_fault_number};
 

@@ -1,7 +1,7 @@
 -- What a source text assembles to: the (address, byte) pairs that its lines spell, or its first
 -- fault. (Our own choice.) Each definition speaks of line i in the list of all lines. Lines count
 -- from 0 here, and from 1 in a fault. Faults go by their numbers, 30 to 37 (`Refusal`).
-use Rattle.std.specs.Prelude.{ℕ, zero, suc, ◌+◌, ◌-◌, take, slice_index, slice_index_or, ◌/◌, ◌%◌, Bool, true, false, not, ◌&&◌, ◌||◌, List, [], ◌∷◌, ◌++◌, length, map, find, Option, Some, None, is_some, option_map, Result, Ok, Err, nat_lt, nat_le, ◌==◌, if◌then◌else◌}
+use Rattle.std.specs.Prelude.{ℕ, zero, suc, ◌+◌, slice_index_or, ◌/◌, ◌%◌, Bool, true, false, not, ◌&&◌, ◌||◌, List, [], ◌∷◌, length, map, find, Option, Some, None, is_some, option_map, Result, Ok, Err, nat_lt, nat_le, ◌==◌, if◌then◌else◌}
 use Rattle.std.specs.List.{list_any, list_all, flat_map, filter_map, range_with_len}
 use Rattle.std.specs.Str.{bytes_eq}
 use Rattle.mcs_model.specs.declared.limits.TheConstants.{NAMES}
@@ -10,32 +10,13 @@ use Rattle.mcs_source.specs.declared.fault.SourceFault.{SourceFault}
 use Rattle.mcs_source.specs.declared.fault.SourceFault.TheVariants.{BadStatement, DoubleName, UnknownName, OutOfRange, WrongPage, Overlap, PastEnd, TooManyNames}
 use Rattle.mcs_source.specs.Lexical.{tokens}
 use Rattle.mcs_source.specs.Lines.{◌>>=◌, Operand, Number, Name, Statement, Origin, Data, Whole, Ldm, Bbl, Jun, Jms, Fim, Jcn, Isz, SourceLine, Code, Define, line_of}
+use Rattle.mcs_model.specs.TextLines.{lines_of}
 use Rattle.mcs_model.specs.Images.{from_address, overlaps}
 use Rattle.mcs_source.specs.Spelling.{spelling}
 use Rattle.mcs_model.specs.Numbers.{page_of}
 use Rattle.mcs_model.specs.Table.{word_count_of}
 
--- ---- the lines of a text: up to LF, or up to the end where something is left
-
-abbrev pub ends_in_cr : List ℕ → Bool
-ends_in_cr line = slice_index line (length line - 1) == 13
-
--- a CR that ends a line is dropped
-abbrev pub without_cr : List ℕ → List ℕ
-without_cr line = if ends_in_cr line then take (length line - 1) line else line
-
-abbrev pub last_line : List ℕ → List (List ℕ)
-last_line [] = []
-last_line (b ∷ line) = without_cr (b ∷ line) ∷ []
-
--- the lines of a text, where `line` is what was already read of the first
-unfoldable pub lines_after : List ℕ → List ℕ → List (List ℕ)
-lines_after line [] = last_line line
-lines_after line (b ∷ bytes) =
-    if b == 10 then without_cr line ∷ lines_after [] bytes else lines_after (line ++ b ∷ []) bytes
-
-abbrev pub lines_of : List ℕ → List (List ℕ)
-lines_of text = lines_after [] text
+-- ---- the lines of a text, and what they say
 
 -- what each line says; None where it has no form
 abbrev pub read : List (List ℕ) → List (Option SourceLine)

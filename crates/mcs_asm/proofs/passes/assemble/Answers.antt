@@ -2,7 +2,8 @@ use Rattle.std.proofs.Common.{◌≡◌, ◌∙◌, sym, subst, ap, ℕ, List, B
 use Rattle.std.specs.Prelude.{IsErrAnd}
 use Rattle.mcs_model.specs.Images.{IsImageOf}
 use Rattle.mcs_source.specs.declared.fault.SourceFault.{SourceFault}
-use Rattle.mcs_source.specs.Assembly.{lines_of, all_names, first_of_class_one, pairs_before, assembled}
+use Rattle.mcs_model.specs.TextLines.{lines_of}
+use Rattle.mcs_source.specs.Assembly.{all_names, first_of_class_one, pairs_before, assembled}
 use Rattle.mcs_source.proofs.LineByLine.{all_passed}
 use Rattle.mcs_asm.specs.declared.fault.AsmFault.{AsmFault}
 use Rattle.mcs_asm.specs.View.{Assembles, FailsAs}

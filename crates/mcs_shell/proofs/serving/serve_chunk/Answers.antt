@@ -1,5 +1,5 @@
 use Rattle.std.proofs.Common.{◌≡◌, ◌++◌, ◌∷◌}
-use Rattle.mcs_shell.specs.Lines.{HasNoFeed}
+use Rattle.mcs_shell.specs.LineFeeds.{HasNoFeed}
 use Rattle.mcs_shell.proofs.Steps.{kept_feed, served_rest, served_to_line, served_to_nothing, stopped_line}
 use Rattle.mcs_shell.proofs.serving.serve_chunk.Goals as goal
 
