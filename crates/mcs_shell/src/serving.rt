@@ -8,13 +8,13 @@ ghost use Rattle.mcs_shell.specs.Serving.{Sent, ServedLine, Stopped, WentFurther
 
 use crate::answer::Answer;
 use crate::answering::{answer_request, answer_text};
-use mcs_model::text_lines::without_return;
 use crate::outcome::{Halt, Outcome};
 use crate::sending::WriteStopped;
 use crate::texts::{TextFault, ends_text};
 use crate::unfinished::Unfinished;
 use mcs_disk::Disk;
 use mcs_lines::requests::{Request, TextKind, read_request};
+use mcs_model::text_lines::without_return;
 use mcs_session::session::Session;
 use std::alloc::Global;
 use std::io::Write;
