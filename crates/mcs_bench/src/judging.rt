@@ -69,16 +69,6 @@ fn is_rising(numbers: &[u16]) -> bool
     true
 }
 
-/// How many keys a board has.
-fn key_count(board: &Board) -> usize
-    ensures { result ≡ key_count board.now }
-{
-    match &board.parts().keys {
-        Some(matrix) => usize::from(matrix.rows) * matrix.columns.len(),
-        None => 0,
-    }
-}
-
 /// Whether there are that many bits for each chain of a board.
 fn are_chains(board: &Board, rows: &[ArrayVec<u8, CHAIN_PLACES>]) -> bool
     ensures { IsTrue result
@@ -179,7 +169,7 @@ impl Flat {
         if !are_chains(&self.board, self.chains.as_slice()) {
             return false;
         }
-        are_below(self.keys.as_slice(), key_count(&self.board), 2)
+        are_below(self.keys.as_slice(), self.board.key_count(), 2)
     }
 
     /// Whether the numbers of absent chips in a list are 0.

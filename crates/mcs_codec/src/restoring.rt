@@ -205,23 +205,12 @@ fn read_rows(reader: &mut Reader<'_>, chains: &[ChainPart]) -> Option<ArrayVec<R
     Some(rows)
 }
 
-/// How many keys a board has.
-fn keys_on(board: &Board) -> usize
-    ensures count { result ≡ key_count board.now }
-    ensures few { result ≤ KEYS }
-{
-    match &board.parts().keys {
-        Some(matrix) => usize::from(matrix.rows) * matrix.columns.len(),
-        None => 0,
-    }
-}
-
 /// Reads which keys of a board are down.
 fn read_keys_down(reader: &mut Reader<'_>, board: &Board) -> Option<ArrayVec<u8, KEYS>>
     ensures { option_map (λ x. (x.items, reader.new)) result
         ≡ bytes_at (key_count board.now) reader.old }
 {
-    read_bytes(reader, keys_on(board))
+    read_bytes(reader, board.key_count())
 }
 
 /// Reads the breakpoints.

@@ -150,18 +150,6 @@ fn up(rows: u8, columns: usize) -> ArrayVec<Bit, KEYS>
     down
 }
 
-/// The same columns.
-fn copied(columns: &ArrayVec<Line, KEY_COLUMNS>) -> ArrayVec<Line, KEY_COLUMNS>
-    ensures same { result.items ≡ columns.now.items }
-    ensures few { length result.items ≤ KEY_COLUMNS }
-{
-    let mut copy = ArrayVec::new();
-    for column in columns.as_slice() {
-        copy.push(*column);
-    }
-    copy
-}
-
 impl KeyPad {
     /// The keys of a board without keys.
     pub fn none() -> KeyPad
@@ -183,17 +171,13 @@ impl KeyPad {
           down = replicate (matrix.now.rows * length matrix.now.columns.items) 0;
         } }
     {
-        let columns = copied(&matrix.columns);
-        let down = up(matrix.rows, columns.len());
-        let rows = row_bytes(down.as_slice(), matrix.rows, columns.len());
-        let lines = line_bytes(columns.as_slice());
+        let matrix = matrix.copy();
+        let columns = matrix.columns.len();
+        let down = up(matrix.rows, columns);
+        let rows = row_bytes(down.as_slice(), matrix.rows, columns);
+        let lines = line_bytes(matrix.columns.as_slice());
         KeyPad {
-            matrix: KeyMatrix {
-                chain: matrix.chain,
-                first: matrix.first,
-                rows: matrix.rows,
-                columns,
-            },
+            matrix,
             down,
             rows,
             lines,

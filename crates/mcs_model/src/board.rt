@@ -1,13 +1,13 @@
 //! What is on a board.
 
-ghost use Rattle.std.specs.Prelude.{◌≡◌, ◌<◌, ◌*◌, ◌||◌, ℕ, List, not, MatchOption, Ok, Err, Some, None, nat_lt, nat_le, length, slice_get, slice_index};
+ghost use Rattle.std.specs.Prelude.{◌≤◌, ◌≡◌, ◌<◌, ◌*◌, ◌||◌, ℕ, List, not, MatchOption, Ok, Err, Some, None, nat_lt, nat_le, length, slice_get, slice_index};
 ghost use Rattle.std.specs.List.{list_any};
 ghost use Rattle.mcs_nibble.specs.declared.lines.LineMask.{LineMask};
-ghost use Rattle.mcs_model.specs.Boards.{board_fault_of, in_range, exists_on, masks_on, is_input_line, is_output_line, is_chain_size, is_matrix_size, has_bad_matrix, has_bad_value, lacks_rows, lacks_line, has_wrong_direction, any_chain_line, any_column, any_lamp, any_line, input_on, chain_bits, chain_count, chain_part, has_key, empty_parts, IsSized};
+ghost use Rattle.mcs_model.specs.Boards.{board_fault_of, in_range, exists_on, masks_on, is_input_line, is_output_line, is_chain_size, is_matrix_size, has_bad_matrix, has_bad_value, lacks_rows, lacks_line, has_wrong_direction, any_chain_line, any_column, any_lamp, any_line, input_on, chain_bits, chain_count, chain_part, has_key, key_count, empty_parts, IsSized};
 ghost use Rattle.mcs_model.specs.Refusal.{board_fault_number};
 
 use crate::limits::{
-    BANK_CHIPS, BANKS, CHAIN_BITS, CHAIN_CHIPS, CHAINS, KEY_COLUMNS, KEY_ROWS, LAMPS, ROMS,
+    BANK_CHIPS, BANKS, CHAIN_BITS, CHAIN_CHIPS, CHAINS, KEY_COLUMNS, KEY_ROWS, KEYS, LAMPS, ROMS,
 };
 use crate::refusal_numbers;
 use arrayvec::ArrayVec;
@@ -63,6 +63,20 @@ pub struct KeyMatrix {
     pub rows: u8,
     /// The line that each column pulls.
     pub columns: ArrayVec<Line, KEY_COLUMNS>,
+}
+
+impl KeyMatrix {
+    /// An equal matrix.
+    pub fn copy(&self) -> KeyMatrix
+        ensures { result ≡ self.now }
+    {
+        KeyMatrix {
+            chain: self.chain,
+            first: self.first,
+            rows: self.rows,
+            columns: copied(&self.columns),
+        }
+    }
 }
 
 /// The parts of a board. They may be any: whether they make a board is asked of them.
@@ -455,12 +469,7 @@ impl BoardParts {
     {
         let keys = match &self.keys {
             None => None,
-            Some(keys) => Some(KeyMatrix {
-                chain: keys.chain,
-                first: keys.first,
-                rows: keys.rows,
-                columns: copied(&keys.columns),
-            }),
+            Some(keys) => Some(keys.copy()),
         };
         BoardParts {
             roms: self.roms,
@@ -560,6 +569,17 @@ impl Board {
         ensures { result ≡ chain_count self.now }
     {
         self.parts.chains.len()
+    }
+
+    /// How many keys the board has: at most `KEYS`.
+    pub fn key_count(&self) -> usize
+        ensures count { result ≡ key_count self.now }
+        ensures few { result ≤ KEYS }
+    {
+        match &self.parts.keys {
+            Some(matrix) => usize::from(matrix.rows) * matrix.columns.len(),
+            None => 0,
+        }
     }
 
     /// Chain `n`, counted from 0.

@@ -24,7 +24,7 @@ returns c =
       ram_src = c.are_eight.ensures;
       chains = rows-count f.chains.items ∙ subst (λ (rows : List (ArrayVec ℕ)). length rows ≡ chain_count f.board) c.as_slice.ensures.value chains.0;
       chain_bits = subst (λ (rows : List (ArrayVec ℕ)). (i : ℕ) → i < chain_count f.board → AreBelow (chain_bits f.board i) 2 (get_or (rows_of rows) i [])) c.as_slice.ensures.value chains.1;
-      keys = subst (λ n. AreBelow n 2 f.keys.items) c.key_count.ensures (subst (λ (xs : List ℕ). AreBelow c.key_count.result 2 xs) keys p);
+      keys = subst (λ n. AreBelow n 2 f.keys.items) c.key_count.ensures.count (subst (λ (xs : List ℕ). AreBelow c.key_count.result 2 xs) keys p);
       test = omega arith;
     })
-    (λ v. subst (λ n. AreBelow n 2 c.as_slice-2.result.now) (sym c.key_count.ensures) (subst (λ (xs : List ℕ). AreBelow (key_count f.board) 2 xs) (sym keys) v.keys))
+    (λ v. subst (λ n. AreBelow n 2 c.as_slice-2.result.now) (sym c.key_count.ensures.count) (subst (λ (xs : List ℕ). AreBelow (key_count f.board) 2 xs) (sym keys) v.keys))
