@@ -1,6 +1,6 @@
 //! A disk of a fixed size, honest or not.
 ghost use Rattle.std.specs.Prelude.{◌≡◌, ◌≤◌, ◌+◌, length};
-ghost use Rattle.mcs_disk.specs.Disk.{DiskState, IsCall, Reads, Writes, Syncs, IsLawful};
+ghost use Rattle.mcs_disk.specs.Disk.{DiskState, put, IsCall, Reads, Writes, Syncs, IsLawful};
 
 use thiserror::Error;
 
@@ -44,4 +44,14 @@ pub trait Disk {
 
     /// What holds of an honest disk at each moment.
     ghost lawful: { (disk : Self) → (state disk).honest → IsLawful (state disk) };
+}
+
+/// Writes `from` over the bytes from `at` on, and leaves the other bytes as they are.
+///
+/// The range `at..at + from.len()` must lie within `bytes`.
+pub fn overwrite(bytes: &mut [u8], at: usize, from: &[u8])
+    requires { at + length from.now ≤ length bytes.old }
+    ensures { bytes.new ≡ put at from.now bytes.old }
+{
+    bytes[at..at + from.len()].copy_from_slice(from);
 }

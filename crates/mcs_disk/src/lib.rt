@@ -9,7 +9,7 @@ mod fuse;
 mod laws;
 mod memory;
 
-pub use disk::{Disk, DiskFault};
+pub use disk::{Disk, DiskFault, overwrite};
 pub use fuse::FuseDisk;
 pub use laws::{
     cut_is_before_a_stretch_or_since_its_start, cut_is_since_an_earlier_time,

@@ -1,11 +1,11 @@
 //! A disk in memory.
 ghost use Rattle.std.specs.Prelude.{◌≡◌, ◌+◌, ◌-◌, ◌^◌, ◌≤◌, [], ◌∷◌, ◌++◌, length, reverse, IfOk, OnOk, OnErr, min};
-ghost use Rattle.mcs_disk.specs.Disk.{most_faults, put, IsCall, Reads, Writes, Syncs};
+ghost use Rattle.mcs_disk.specs.Disk.{most_faults, IsCall, Reads, Writes, Syncs};
 ghost use Rattle.mcs_disk.specs.Moments.{IsNew, IsUntouched};
 ghost use Rattle.mcs_disk.specs.Memory.{bytes_after};
 ghost use Rattle.mcs_disk.specs.MemoryLaws.{memory_lawful};
 
-use crate::{Disk, DiskFault};
+use crate::{Disk, DiskFault, overwrite};
 use std::alloc::{AllocError, Global};
 
 /// A call that answered Ok.
@@ -70,14 +70,6 @@ fn keep(calls: &mut Vec<Call>, faults: &mut u64, call: Call) -> Result<(), DiskF
             Err(DiskFault)
         }
     }
-}
-
-// Writes over the bytes from `at` on.
-fn overwrite(bytes: &mut [u8], at: usize, from: &[u8])
-    requires { at + length from.now ≤ length bytes.old }
-    ensures { bytes.new ≡ put at from.now bytes.old }
-{
-    bytes[at..at + from.len()].copy_from_slice(from);
 }
 
 impl Disk for MemDisk {

@@ -1,12 +1,12 @@
 //! A session file of the host, as a disk.
 ghost use Rattle.std.specs.Prelude.{◌≡◌, ◌↔◌, ◌<◌, ◌≤◌, ◌^◌, ◌+◌, ℕ, List, IfOk, OnOk, IsTrue, length, min, vec_len};
-ghost use Rattle.mcs_disk.specs.Disk.{most_faults, part, put, IsCall, Reads, Torn, Writes};
+ghost use Rattle.mcs_disk.specs.Disk.{most_faults, part, IsCall, Reads, Torn, Writes};
 ghost use Rattle.mcs_host.specs.FileCalls.{bytes_after};
 
 use crate::call_record::{Call, CallRecord};
 use crate::file_fault::FileFault;
 use crate::opening::{MOST_BYTES, open_and_read};
-use mcs_disk::{Disk, DiskFault};
+use mcs_disk::{Disk, DiskFault, overwrite};
 use mcs_journal::FILE_SIZE;
 use std::alloc::{AllocError, Global};
 use std::fs::File;
@@ -87,14 +87,6 @@ fn zeros(alloc: Global, size: usize) -> Result<Vec<u8>, AllocError>
     ensures { IfOk result (λ bytes. vec_len bytes ≡ size) }
 {
     vec![in alloc; 0u8; size]
-}
-
-// Writes over the bytes from `at` on.
-fn overwrite(bytes: &mut [u8], at: usize, from: &[u8])
-    requires { at + length from.now ≤ length bytes.old }
-    ensures { bytes.new ≡ put at from.now bytes.old }
-{
-    bytes[at..at + from.len()].copy_from_slice(from);
 }
 
 impl Disk for FileDisk {

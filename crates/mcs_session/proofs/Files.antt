@@ -1,7 +1,7 @@
 -- What a session's disk stands for when it is made and opened.
-use Rattle.std.proofs.Common.{◌≡◌, ◌+◌, min, inl, inr, ⊎_elim, Bool, true, false, None, ap, List, [], ◌∷◌, ℕ, sym, ◌∙◌, subst, refl, arith}
-use Rattle.mcs_disk.specs.Disk.{DiskState, IsLawful, most_faults}
-use Rattle.mcs_disk.specs.Moments.{CountsFault, IsDurable, AddsNoImage}
+use Rattle.std.proofs.Common.{◌≡◌, inl, inr, ⊎_elim, Bool, true, false, None, ap, List, [], ◌∷◌, ℕ, sym, ◌∙◌, subst, refl, arith}
+use Rattle.mcs_disk.specs.Disk.{DiskState, IsLawful}
+use Rattle.mcs_disk.specs.Moments.{IsDurable, AddsNoImage}
 use Rattle.mcs_journal.specs.Answers.{Creates, IsNoSession, Opens, RefusesOpen}
 use Rattle.mcs_journal.specs.File.{Holds}
 use Rattle.mcs_journal.specs.declared.fault.OpenFault.{OpenFault}
@@ -223,14 +223,6 @@ failed_by true old mid new snap records cycles s e lawful opened replayed moment
 
 pub refused_by : (fault : OpenFault) (old new : DiskState) → fault ≡ Device → FailsMigrating old new → RefusesSession fault old × LeftRefused fault old new
 refused_by fault old new e fails = rw e (tt, inr fails)
-
-pub counts_both : (old mid new : DiskState) (P : Type 0) → CountsFault old mid ⊥ → CountsFault mid new P → CountsFault old new P
-counts_both old mid new P a b = record {
-  size = b.size ∙ a.size;
-  honest = (λ h. a.honest.0 (b.honest.0 h), λ h. b.honest.1 (a.honest.1 h));
-  fault = λ p. b.fault p ∙ ap (λ n. min (n + 1) most_faults) (a.no_fault (λ x. x));
-  no_fault = λ no. b.no_fault no ∙ a.no_fault (λ x. x);
-}
 
 pub recorded_by : (v : Bool) (old new : DiskState) (snap : List ℕ) (records : List (List ℕ)) (cycles : ℕ) (s : BenchState) → v ≡ false → Opens old new snap records → IsReplayed v snap records cycles s → IsRecorded new cycles s
 recorded_by false old new snap records cycles s e opened replayed = recorded_opened old new snap records cycles s opened replayed

@@ -1,6 +1,6 @@
 use Rattle.std.proofs.Common.{◌+◌, ◌-◌, ◌++◌, List, ℕ, length, take, drop, sym, ◌∙◌, ap, arith}
 use Rattle.mcs_disk.proofs.Kept.{put_is}
-use Rattle.mcs_disk.proofs.memory.overwrite.Goals as goal
+use Rattle.mcs_disk.proofs.disk.overwrite.Goals as goal
 
 pub returns : goal.returns
 returns c =

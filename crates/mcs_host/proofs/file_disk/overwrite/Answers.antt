@@ -1,9 +1,0 @@
-use Rattle.std.proofs.Common.{◌+◌, ◌-◌, ◌++◌, List, ℕ, length, take, drop, sym, ◌∙◌, ap, arith}
-use Rattle.mcs_disk.proofs.Kept.{put_is}
-use Rattle.mcs_host.proofs.file_disk.overwrite.Goals as goal
-
-pub returns : goal.returns
-returns c =
-    let n = c.args.at + length c.args.from.now - c.args.at in
-    ap (λ (l : List ℕ). take c.args.at c.args.bytes.now ++ (l ++ drop n (drop c.args.at c.args.bytes.now))) c.copy_from_slice.ensures.after
-    ∙ sym (put_is c.args.at n c.args.from.now c.args.bytes.now c.requires (omega arith))
