@@ -4,7 +4,8 @@ use Rattle.std.specs.List.{prefix_len}
 use Rattle.std.proofs.lemmas.Bool.{eqb-true}
 use Rattle.std.proofs.lemmas.Bool.Decides.{eqb_tells}
 use Rattle.std.proofs.lemmas.List.{append-nil, length-take, take_all}
-use Rattle.mcs_source.specs.Lexical.{Token, Word, is_word_byte, is_blank, symbol, word_then, tokens_after, tokens}
+use Rattle.mcs_source.specs.Lexical.{Token, Word, is_word_byte, symbol, word_then, tokens_after, tokens}
+use Rattle.mcs_model.specs.TextLines.{is_blank}
 
 -- what comes after the end of a word
 abbrev pub after_word : List ℕ → List Token

@@ -3,8 +3,8 @@ use Rattle.std.proofs.Common.{◌≡◌, ℕ, suc, ◌+◌, ◌-◌, ◌<◌, �
 use Rattle.std.specs.List.{prefix_len}
 use Rattle.std.proofs.lemmas.List.{append-nil, length-take, length-drop, take_all}
 use Rattle.std.specs.Str.Lines.{strip_carriage_return}
-use Rattle.mcs_model.specs.TextLines.{last_line, lines_after, lines_of}
-use Rattle.mcs_asm.specs.View.{no_lf}
+use Rattle.mcs_model.specs.TextLines.{last_line, lines_after, lines_of, no_lf}
+use Rattle.mcs_model.proofs.LineLemmas.{some_last}
 
 -- the lines, where one ends
 abbrev pub ended : List ℕ → List ℕ → List (List ℕ)
@@ -23,10 +23,6 @@ line_ends line (b ∷ bytes) =
       | false ↦ line_ends (line ++ b ∷ []) bytes ∙ rw (up, append_assoc line (b ∷ []) (take n bytes)) refl
     ]
 
-none_last : (line : List ℕ) → 0 < length line → last_line true line ≡ strip_carriage_return line ∷ []
-none_last [] some = absurd (omega (arith, some))
-none_last (b ∷ line) some = refl
-
 -- the last line
 pub last_front : (text line rest cut : List ℕ) (n : ℕ) → n ≡ prefix_len no_lf text → n ≤ length text → 0 < length text → line ≡ take n text → rest ≡ drop n text → length rest ≡ 0 → cut ≡ strip_carriage_return line
     → (lines_of text ≡ cut ∷ lines_of rest) × (length rest < length text)
@@ -34,7 +30,7 @@ unfolding lines_after
 last_front text line [] cut n len within some front back none is =
     let short : 0 ≡ length text - n = ap length back ∙ length-drop n text in
     let full : 0 < length line = omega (arith, ap length front ∙ length-take n text, short, within, some) in
-    (line_ends [] text ∙ rw (← len, ← back, ← front) (none_last line full ∙ rw is refl), omega (arith, some))
+    (line_ends [] text ∙ rw (← len, ← back, ← front) (some_last line full ∙ rw is refl), omega (arith, some))
 last_front text line (b ∷ rest) cut n len within some front back none is = absurd (omega (arith, none))
 
 -- a line before another

@@ -1,5 +1,5 @@
 -- What `assemble` promises, and what the code's tokens, statements and lines stand for.
-use Rattle.std.specs.Prelude.{◌≡◌, ◌∷◌, [], List, ℕ, map, option_map, Option, Some, Result, Ok, Err, None, Bool, not, ◌==◌}
+use Rattle.std.specs.Prelude.{◌≡◌, ◌∷◌, [], List, ℕ, map, option_map, Option, Some, Result, Ok, Err, None}
 use Rattle.std.specs.Option.{option_copied, option_to_list}
 use Rattle.std.specs.Borrow.{Bor}
 use Rattle.std.specs.Ordering.{nat_cmp}
@@ -75,10 +75,6 @@ NoLabel ts = lines.line_of ts ≡ lines.unlabelled ts
 
 abbrev pub NoDefinition : List spec.Token → Type 0
 NoDefinition ts = lines.unlabelled ts ≡ lines.rest_of None ts
-
--- a byte that does not end a line
-abbrev pub no_lf : ℕ → Bool
-no_lf b = not (b == 10)
 
 abbrev pub words_view : Words → List ℕ
 words_view w = w.first ∷ option_to_list w.second

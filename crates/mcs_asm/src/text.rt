@@ -1,29 +1,17 @@
 //! The lines of a source text.
 ghost use Rattle.std.specs.Prelude.{◌≡◌, ◌≤◌, ◌<◌, map, length, IfOk, MatchOption, ◌∷◌, ◌++◌, [], take, drop};
 ghost use Rattle.std.specs.List.{prefix_len};
-ghost use Rattle.mcs_model.specs.TextLines.{lines_of};
-ghost use Rattle.mcs_asm.specs.View.{no_lf};
+ghost use Rattle.mcs_model.specs.TextLines.{lines_of, no_lf};
 
 use mcs_model::text_lines::without_return;
 use std::alloc::{AllocError, Global};
-
-fn no_lf(b: u8) -> bool
-    ensures { result ≡ no_lf b }
-{
-    b != b'\n'
-}
 
 /// How many bytes come before the first LF.
 fn line_len(bytes: &[u8]) -> usize
     ensures len { result ≡ prefix_len no_lf bytes.now }
     ensures within { result ≤ length bytes.now }
 {
-    for (i, b) in bytes.iter().enumerate() {
-        if !no_lf(*b) {
-            return i;
-        }
-    }
-    bytes.len()
+    bytes.iter().take_while(|b| **b != b'\n').count()
 }
 
 /// The first line, without its end, and what follows it.

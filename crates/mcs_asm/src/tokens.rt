@@ -1,9 +1,11 @@
 //! The tokens of a line.
 ghost use Rattle.std.specs.Prelude.{◌≡◌, ◌≤◌, ◌∷◌, [], length, drop, IsTrue, ◌↔◌, MatchOption};
 ghost use Rattle.std.specs.List.{prefix_len};
-ghost use Rattle.mcs_source.specs.Lexical.{is_word_byte, is_blank, symbol, tokens};
+ghost use Rattle.mcs_source.specs.Lexical.{is_word_byte, symbol, tokens};
+ghost use Rattle.mcs_model.specs.TextLines.{is_blank};
 ghost use Rattle.mcs_asm.specs.View.{token_view};
 
+use mcs_model::text_lines::is_blank;
 use std::marker::Model;
 
 /// A token; `Other` is a byte that belongs to no form of a line.
@@ -23,23 +25,12 @@ fn is_word_byte(b: u8) -> bool
     b.is_ascii_digit() || b.is_ascii_uppercase() || b.is_ascii_lowercase() || b == b'_'
 }
 
-fn is_blank(b: u8) -> bool
-    ensures { result ≡ is_blank b }
-{
-    b == b' ' || b == b'\t'
-}
-
 /// How many bytes the word at the front has, 0 where there is none.
 fn word_len(bytes: &[u8]) -> usize
     ensures len { result ≡ prefix_len is_word_byte bytes.now }
     ensures within { result ≤ length bytes.now }
 {
-    for (i, b) in bytes.iter().enumerate() {
-        if !is_word_byte(*b) {
-            return i;
-        }
-    }
-    bytes.len()
+    bytes.iter().take_while(|b| is_word_byte(**b)).count()
 }
 
 /// How many spaces and tabs the line begins with.
@@ -47,12 +38,7 @@ fn blank_len(bytes: &[u8]) -> usize
     ensures len { result ≡ prefix_len is_blank bytes.now }
     ensures within { result ≤ length bytes.now }
 {
-    for (i, b) in bytes.iter().enumerate() {
-        if !is_blank(*b) {
-            return i;
-        }
-    }
-    bytes.len()
+    bytes.iter().take_while(|b| is_blank(**b)).count()
 }
 
 /// A line without the spaces and tabs that it begins with.

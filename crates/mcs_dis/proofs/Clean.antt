@@ -3,13 +3,13 @@ use Rattle.std.proofs.Common.{◌≡◌, ℕ, suc, zero, ◌-◌, ◌/◌, ◌%�
 use Rattle.std.proofs.lemmas.Bool.{and_parts, not-true}
 use Rattle.std.specs.List.{list_all}
 use Rattle.std.specs.Fmt.{decimal, digits}
-use Rattle.mcs_model.specs.QueryText.{hex_digit}
+use Rattle.mcs_model.specs.QueryText.{hex_2, hex_digit}
 use Rattle.mcs_model.specs.declared.op.Op.{Op}
 use Rattle.mcs_model.specs.declared.op.Op.TheVariants.{Nop, Jcn, Fim, Src, Fin, Jin, Jun, Jms, Inc, Isz, Add, Sub, Ld, Xch, Bbl, Ldm, Wrm, Wmp, Wrr, Wr0, Wr1, Wr2, Wr3, Sbm, Rdm, Rdr, Adm, Rd0, Rd1, Rd2, Rd3, Clb, Clc, Iac, Cmc, Cma, Ral, Rar, Tcc, Dac, Tcs, Stc, Daa, Kbp, Dcl}
-use Rattle.mcs_source.specs.Text.{text_of, hex_2, address, near_page, byte_text}
+use Rattle.mcs_source.specs.Text.{text_of, address, near_page, byte_text}
 use Rattle.mcs_source.specs.Spelling.{IsOp}
 use Rattle.mcs_dis.proofs.ReadBack.{one_below, near_small}
-use Rattle.mcs_model.proofs.LineLemmas.{no_lf}
+use Rattle.mcs_model.specs.TextLines.{no_lf}
 use Rattle.mcs_dis.proofs.LinesAgain.{ends_in_cr, IsLine}
 
 abbrev pub is_clean : ℕ → Bool

@@ -1,8 +1,8 @@
 -- Lines that were written, each followed by LF, are read again.
 use Rattle.std.proofs.Common.{◌≡◌, ℕ, ◌-◌, Bool, true, false, eqb, length, slice_index, List, [], ◌∷◌, refl, ap, ◌∙◌, append_assoc}
 use Rattle.std.specs.List.{list_all, flat_map, AllByRecursion}
-use Rattle.mcs_model.specs.TextLines.{lines_after, lines_of}
-use Rattle.mcs_model.proofs.LineLemmas.{no_lf, line_begun}
+use Rattle.mcs_model.specs.TextLines.{lines_after, lines_of, no_lf}
+use Rattle.mcs_model.proofs.LineLemmas.{line_begun}
 use Rattle.mcs_model.specs.QueryText.{as_line}
 
 abbrev pub ends_in_cr : List ℕ → Bool

@@ -3,7 +3,7 @@ use Rattle.std.proofs.Common.{◌≡◌, ℕ, suc, zero, ◌+◌, ◌*◌, ◌/�
 use Rattle.std.proofs.lemmas.Bool.{eqb-true, and_parts, cases_eq, lt-ltb, ltb-true}
 use Rattle.std.specs.List.{list_all}
 use Rattle.std.specs.Fmt.{decimal, digits}
-use Rattle.mcs_model.specs.QueryText.{hex_digit}
+use Rattle.mcs_model.specs.QueryText.{hex_2, hex_digit}
 use Rattle.std.specs.Char.{digit_value}
 use Rattle.mcs_model.specs.declared.op.Op.{Op}
 use Rattle.mcs_model.specs.declared.op.Op.TheVariants.{Nop, Jcn, Fim, Src, Fin, Jin, Jun, Jms, Inc, Isz, Add, Sub, Ld, Xch, Bbl, Ldm, Wrm, Wmp, Wrr, Wr0, Wr1, Wr2, Wr3, Sbm, Rdm, Rdr, Adm, Rd0, Rd1, Rd2, Rd3, Clb, Clc, Iac, Cmc, Cma, Ral, Rar, Tcc, Dac, Tcs, Stc, Daa, Kbp, Dcl}
@@ -11,7 +11,7 @@ use Rattle.mcs_source.specs.Lexical.{Token, Word, Comma, tokens, tokens_after, w
 use Rattle.mcs_model.specs.Numerals.{capped, number_written}
 use Rattle.mcs_source.specs.Mnemonics.{mnemonic_of, orders, on_registers, on_ports, on_memory, on_accumulator, on_carry}
 use Rattle.mcs_source.specs.Lines as asm
-use Rattle.mcs_source.specs.Text.{byte_text, origin_text, hex_2, address, near_page}
+use Rattle.mcs_source.specs.Text.{byte_text, origin_text, address, near_page}
 use Rattle.mcs_source.specs.Assembly.{Names, bytes_at, size, next_statement, is_bad_statement}
 use Rattle.mcs_model.specs.Table.{word_count_of}
 use Rattle.mcs_source.specs.Spelling.{spelling, IsOp}

@@ -2,8 +2,8 @@
 ghost use Rattle.std.specs.Prelude.{◌≡◌, ◌++◌, ◌/◌, ◌%◌, codes, string_bytes, OnOk};
 ghost use Rattle.std.specs.Fmt.{decimal};
 ghost use Rattle.mcs_source.specs.Names.{name};
-ghost use Rattle.mcs_source.specs.Text.{hex_2, address, near_page, operands, text_of, piece_text, origin_text, address_digits, word_columns, columns};
-ghost use Rattle.mcs_model.specs.QueryText.{as_line};
+ghost use Rattle.mcs_source.specs.Text.{address, near_page, operands, text_of, piece_text, origin_text, address_digits, word_columns, columns};
+ghost use Rattle.mcs_model.specs.QueryText.{as_line, hex_2};
 
 use mcs_code::{Op, instructions, taken};
 use mcs_nibble::{Addr, Nibble};

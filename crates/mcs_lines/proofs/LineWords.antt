@@ -3,7 +3,8 @@ use Rattle.std.proofs.Common.{◌≡◌, ℕ, zero, suc, ◌+◌, ◌-◌, ◌<�
 use Rattle.std.proofs.lemmas.Grind.{common_steps}
 use Rattle.std.proofs.lemmas.List.{drop_more}
 use Rattle.mcs_lines.specs.Cutting.{HasNone, cut_at}
-use Rattle.mcs_lines.specs.Words.{BeginsWord, EndsAtFront, EndsWord, is_blank_byte, words_of}
+use Rattle.mcs_lines.specs.Words.{BeginsWord, EndsAtFront, EndsWord, words_of}
+use Rattle.mcs_model.specs.TextLines.{is_blank}
 use Rattle.mcs_lines.proofs.Cutting.{before, cut_at-append, cut_at-cut, cut_at-nothing, nil_right}
 
 abbrev pub is_word_piece : List ℕ → Bool
@@ -13,17 +14,17 @@ no_piece : (ps : List (List ℕ)) → filter is_word_piece ([] ∷ ps) ≡ filte
 no_piece ps = refl
 
 -- a blank in front changes no word
-pub words_of-blank : (b : ℕ) (bs : List ℕ) → is_blank_byte b ≡ true → words_of (b ∷ bs) ≡ words_of bs
+pub words_of-blank : (b : ℕ) (bs : List ℕ) → is_blank b ≡ true → words_of (b ∷ bs) ≡ words_of bs
 unfolding words_of
-words_of-blank b bs e = ap (filter is_word_piece) (cut_at-cut is_blank_byte b bs e) ∙ no_piece (cut_at is_blank_byte bs)
+words_of-blank b bs e = ap (filter is_word_piece) (cut_at-cut is_blank b bs e) ∙ no_piece (cut_at is_blank bs)
 
 -- what is empty, or has a blank in front, has an empty first piece
-ends_first : (rest : List ℕ) → EndsAtFront rest → (ps : List (List ℕ)) × (cut_at is_blank_byte rest ≡ [] ∷ ps)
-ends_first [] h = ([], cut_at-nothing is_blank_byte)
-ends_first (b ∷ bs) h = (cut_at is_blank_byte bs, cut_at-cut is_blank_byte b bs h)
+ends_first : (rest : List ℕ) → EndsAtFront rest → (ps : List (List ℕ)) × (cut_at is_blank rest ≡ [] ∷ ps)
+ends_first [] h = ([], cut_at-nothing is_blank)
+ends_first (b ∷ bs) h = (cut_at is_blank bs, cut_at-cut is_blank b bs h)
 
-cut_at-word : (word rest : List ℕ) (ps : List (List ℕ)) → HasNone is_blank_byte word → cut_at is_blank_byte rest ≡ [] ∷ ps → cut_at is_blank_byte (word ++ rest) ≡ word ∷ ps
-cut_at-word word rest ps h e = cut_at-append is_blank_byte word rest h ∙ ap (before word) e ∙ ap (λ v. v ∷ ps) (nil_right word)
+cut_at-word : (word rest : List ℕ) (ps : List (List ℕ)) → HasNone is_blank word → cut_at is_blank rest ≡ [] ∷ ps → cut_at is_blank (word ++ rest) ≡ word ∷ ps
+cut_at-word word rest ps h e = cut_at-append is_blank word rest h ∙ ap (before word) e ∙ ap (λ v. v ∷ ps) (nil_right word)
 
 filter_first : (b : ℕ) (word : List ℕ) (ps : List (List ℕ)) → nat_lt 0 (length (b ∷ word)) ≡ true → filter is_word_piece ((b ∷ word) ∷ ps) ≡ (b ∷ word) ∷ filter is_word_piece ps
 filter_first b word ps e = rw e refl
@@ -40,7 +41,7 @@ words_of-word b word rest h =
     ∙ filter_first b word (first.0) (some_bytes b word)
     ∙ ap (λ v. (b ∷ word) ∷ v) (sym (ap (filter is_word_piece) (first.1) ∙ no_piece (first.0)))
 
-no_front : (b : ℕ) → is_blank_byte b ≡ false → is_blank_byte b ≡ true → ⊥
+no_front : (b : ℕ) → is_blank b ≡ false → is_blank b ≡ true → ⊥
 no_front b h k = cc (h, k)
 
 -- the word of n bytes that a line begins with is its first
@@ -51,7 +52,7 @@ words_of-front (b ∷ bs) (suc n) some begins ends =
     ap words_of (sym (take-append-drop (suc n) (b ∷ bs))) ∙ words_of-word b (take n bs) (drop n bs) ends
 
 -- what follows where a line is blank
-pub ends_at : (line : List ℕ) (n : ℕ) → n < length line → is_blank_byte (get_or line n 0) ≡ true → EndsAtFront (drop n line)
+pub ends_at : (line : List ℕ) (n : ℕ) → n < length line → is_blank (get_or line n 0) ≡ true → EndsAtFront (drop n line)
 ends_at [] n inside e = absurd (omega arith)
 ends_at (b ∷ bs) zero inside e = e
 ends_at (b ∷ bs) (suc n) inside e = ends_at bs n (omega arith) e
@@ -64,10 +65,10 @@ ends_past (b ∷ bs) = ends_past bs
 pub tail_whole : (at : ℕ) (line : List ℕ) → take (length line - at) (drop at line) ≡ drop at line
 tail_whole at line = grind (arith, common_steps)
 
-pub words_of-past : (line : List ℕ) (at : ℕ) → at < length line → is_blank_byte (get_or line at 0) ≡ true → words_of (drop (at + 1) line) ≡ words_of (drop at line)
+pub words_of-past : (line : List ℕ) (at : ℕ) → at < length line → is_blank (get_or line at 0) ≡ true → words_of (drop (at + 1) line) ≡ words_of (drop at line)
 words_of-past line at inside e = sym (ap words_of (drop_more line at 0 inside) ∙ words_of-blank (get_or line at 0) (drop (at + 1) line) e)
 
-pub begins_at : (line : List ℕ) (at : ℕ) → at < length line → is_blank_byte (get_or line at 0) ≡ false → BeginsWord (drop at line)
+pub begins_at : (line : List ℕ) (at : ℕ) → at < length line → is_blank (get_or line at 0) ≡ false → BeginsWord (drop at line)
 begins_at line at inside e = subst BeginsWord (sym (drop_more line at 0 inside)) e
 
 pub drop_all : (line : List ℕ) (n : ℕ) → length line ≤ n → drop n line ≡ []
@@ -75,5 +76,5 @@ drop_all line n h = grind (arith, common_steps)
 
 pub no_words : (line : List ℕ) → length line ≡ 0 → words_of line ≡ []
 unfolding words_of
-no_words [] e = ap (filter is_word_piece) (cut_at-nothing is_blank_byte)
+no_words [] e = ap (filter is_word_piece) (cut_at-nothing is_blank)
 no_words (b ∷ bs) e = absurd (omega (arith, e))

@@ -1,34 +1,31 @@
 -- The words of a line. (Our own choice.)
 use Rattle.std.specs.Prelude.{◌≡◌, ◌==◌, ◌&&◌, ◌||◌, Bool, true, false, ℕ, List, [], ◌∷◌, length, filter, nat_lt}
 use Rattle.mcs_lines.specs.Cutting.{HasNone, cut_at}
+use Rattle.mcs_model.specs.TextLines.{is_blank}
 
 -- a tab, or a character of ASCII that prints
 abbrev pub is_plain_byte : ℕ → Bool
 is_plain_byte b = (b == 9) || (nat_lt 31 b && nat_lt b 127)
 
--- spaces and tabs separate words
-abbrev pub is_blank_byte : ℕ → Bool
-is_blank_byte b = (b == 32) || (b == 9)
-
 -- the words of a line: what stands between spaces and tabs
 unfoldable pub words_of : List ℕ → List (List ℕ)
-words_of line = filter (λ w. nat_lt 0 (length w)) (cut_at is_blank_byte line)
+words_of line = filter (λ w. nat_lt 0 (length w)) (cut_at is_blank line)
 
 -- ---- where words begin and end
 
 -- a line that has no blank at its front
 abbrev pub BeginsWord : List ℕ → Type 0
 BeginsWord [] = Unit {0}
-BeginsWord (b ∷ bs) = is_blank_byte b ≡ false
+BeginsWord (b ∷ bs) = is_blank b ≡ false
 
 -- a line that has no byte, or a blank at its front
 abbrev pub EndsAtFront : List ℕ → Type 0
 EndsAtFront [] = Unit {0}
-EndsAtFront (b ∷ bs) = is_blank_byte b ≡ true
+EndsAtFront (b ∷ bs) = is_blank b ≡ true
 
 -- a word, and what follows it
 abbrev pub EndsWord : List ℕ → List ℕ → Type 0
-EndsWord word rest = HasNone is_blank_byte word × EndsAtFront rest
+EndsWord word rest = HasNone is_blank word × EndsAtFront rest
 
 -- ---- the parts of a word
 

@@ -1,14 +1,9 @@
 //! The words of a line, and the parts of a word.
 ghost use Rattle.std.specs.Prelude.{◌≡◌, ◌≤◌, ◌∷◌, [], MatchOption, length, take, drop};
 ghost use Rattle.std.specs.Str.{bytes_eq};
-ghost use Rattle.mcs_lines.specs.Words.{BeginsWord, EndsPart, EndsWord, is_blank_byte, is_plain_byte, parts_of, words_of};
+ghost use Rattle.mcs_lines.specs.Words.{BeginsWord, EndsPart, EndsWord, is_plain_byte, parts_of, words_of};
 
-/// Whether a byte separates words.
-pub fn is_blank_byte(byte: u8) -> bool
-    ensures { result ≡ is_blank_byte byte }
-{
-    byte == b' ' || byte == b'\t'
-}
+use mcs_model::text_lines::is_blank;
 
 /// Whether a byte is a tab, or a character of ASCII that prints.
 pub fn is_plain_byte(byte: u8) -> bool
@@ -30,7 +25,7 @@ fn without_blanks(line: &[u8]) -> &[u8]
     ensures begins { BeginsWord result.now }
 {
     for (at, byte) in line.iter().enumerate() {
-        if !is_blank_byte(*byte) {
+        if !is_blank(*byte) {
             return &line[at..];
         }
     }
@@ -43,7 +38,7 @@ fn word_at_front(line: &[u8]) -> usize
     ensures word { EndsWord (take result line.now) (drop result line.now) }
 {
     for (at, byte) in line.iter().enumerate() {
-        if is_blank_byte(*byte) {
+        if is_blank(*byte) {
             return at;
         }
     }

@@ -87,13 +87,13 @@ ram_lines s bank =
 abbrev pub breaks_text : List ℕ → List ℕ
 breaks_text breakpoints = codes "breaks " ++ or_dash (join_by address_text (codes " ") breakpoints)
 
--- the two digits of a byte
-abbrev pub byte_text : ℕ → List ℕ
-byte_text b = hex_digit (b / 16) ∷ hex_digit (b % 16) ∷ []
+-- a byte as two upper case hexadecimal digits
+abbrev pub hex_2 : ℕ → List ℕ
+hex_2 b = hex_digit (b / 16) ∷ hex_digit (b % 16) ∷ []
 
 -- a watched character: its bank, and its SRC byte
 abbrev pub watch_text : ℕ → List ℕ
-watch_text w = digit_text (w / 256) ++ codes "." ++ byte_text (w % 256)
+watch_text w = digit_text (w / 256) ++ codes "." ++ hex_2 (w % 256)
 
 -- `watches`: the watched characters, rising
 abbrev pub watches_text : List ℕ → List ℕ
@@ -108,13 +108,13 @@ spaced_or_dash text = text
 abbrev pub bank_src_text : BusState → ℕ → List ℕ
 bank_src_text s bank =
     if nat_lt 0 (chips_of s bank)
-    then codes " " ++ digit_text bank ++ codes "." ++ byte_text (slice_index s.ram_src bank)
+    then codes " " ++ digit_text bank ++ codes "." ++ hex_2 (slice_index s.ram_src bank)
     else []
 
 -- the SRC byte that the ROMs keep, and those of the banks, rising
 abbrev pub src_line : BusState → List ℕ
 src_line s =
-    codes "src " ++ byte_text s.rom_src ++ flat_map (bank_src_text s) (range_with_len 0 BANKS)
+    codes "src " ++ hex_2 s.rom_src ++ flat_map (bank_src_text s) (range_with_len 0 BANKS)
 
 -- the port of a ROM that is there: what its latch holds, and what is read there
 abbrev pub rom_port_lines : BusState → ℕ → List (List ℕ)

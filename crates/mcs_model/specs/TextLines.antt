@@ -1,6 +1,14 @@
 -- The lines of a text: of a source text, and of what the shell reads. (Our own choice.)
-use Rattle.std.specs.Prelude.{ℕ, ◌==◌, Bool, true, false, List, [], ◌∷◌, ◌++◌, if◌then◌else◌}
+use Rattle.std.specs.Prelude.{ℕ, ◌==◌, ◌||◌, Bool, not, true, false, List, [], ◌∷◌, ◌++◌, if◌then◌else◌}
 use Rattle.std.specs.Str.Lines.{strip_carriage_return}
+
+-- a space or a tab
+abbrev pub is_blank : ℕ → Bool
+is_blank b = b == 32 || b == 9
+
+-- a byte that is not an LF
+abbrev pub no_lf : ℕ → Bool
+no_lf b = not (b == 10)
 
 -- what follows the last LF: a line where the text ends there (`whole`) and it has bytes; else none
 abbrev pub last_line : Bool → List ℕ → List (List ℕ)

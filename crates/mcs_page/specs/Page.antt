@@ -1,7 +1,7 @@
 -- What a call of the page does with the bytes of a session file.
 use Rattle.std.specs.Prelude.{◌≡◌, ◌≤◌, ◌<◌, ℕ, List, [], Option, Some, length, take, drop}
 use Rattle.mcs_disk.specs.Disk.{DiskState}
-use Rattle.mcs_disk.specs.Memory.{memory_state}
+use Rattle.mcs_disk.specs.States.{mem_disk_state}
 use Rattle.mcs_disk.specs.declared.memory.MemDisk.{MemDisk}
 use Rattle.mcs_journal.specs.declared.fault.OpenFault.{OpenFault}
 use Rattle.mcs_journal.specs.declared.fault.OpenFault.TheVariants as open_fault
@@ -17,10 +17,6 @@ use Rattle.mcs_shell.specs.Stage.{staged}
 use Rattle.mcs_shell.specs.declared.ends.ShellEnd.{ShellEnd}
 use Rattle.mcs_shell.specs.declared.ends.ShellEnd.TheVariants.{End, InputLimit}
 
--- what contracts see of a disk in memory
-abbrev pub seen : MemDisk → DiskState
-seen m = memory_state m.faults m.bytes.items m.calls.items
-
 -- an honest disk that has these bytes
 pub record HasBytes (file : List ℕ) (disk : DiskState) : Type 0 where
   pub honest : disk.honest
@@ -33,8 +29,8 @@ IsNewFile file = StandsFor file new_bench_state
 -- the session of a file goes on: a disk that has its bytes was opened
 pub record Resumes (file : List ℕ) (session : SessionView MemDisk) : Type 0 where
   pub disk : MemDisk
-  pub held : HasBytes file (seen disk)
-  pub begun : GoesOnWith (seen disk) (seen session.disk) session.live session.state
+  pub held : HasBytes file (mem_disk_state disk)
+  pub begun : GoesOnWith (mem_disk_state disk) (mem_disk_state session.disk) session.live session.state
 
 -- The session that the bytes of a file hold went on, the shell read this input and wrote these
 -- answers, and these are the bytes that its disk has then.
@@ -43,9 +39,9 @@ pub record ServedOn (file input : List ℕ) (end : ShellEnd) (answers after : Li
   pub resumes : Resumes file session
   pub rest : Option (List ℕ)
   pub left : SessionView MemDisk
-  pub ran : Ran end (Some input) rest (staged seen session (Some []))
-      (staged seen left (Some answers))
-  pub kept : HasBytes after (seen left.disk)
+  pub ran : Ran end (Some input) rest (staged mem_disk_state session (Some []))
+      (staged mem_disk_state left (Some answers))
+  pub kept : HasBytes after (mem_disk_state left.disk)
 
 -- all of the input was served, or as much of it as a shell reads
 abbrev pub IsWhole : ShellEnd → Type 0
@@ -66,7 +62,7 @@ pub record Answers (file input : List ℕ) (end : ShellEnd) (count : ℕ)
 abbrev pub IsRefused : OpenFault → List ℕ → Type 0
 IsRefused open_fault.NoMemory file = Unit {0}
 IsRefused open_fault.Device file = ⊥
-IsRefused fault file = (disk : MemDisk) × HasBytes file (seen disk) × RefusesSession fault (seen disk)
+IsRefused fault file = (disk : MemDisk) × HasBytes file (mem_disk_state disk) × RefusesSession fault (mem_disk_state disk)
 
 -- this input was served whole: its answers are that many bytes, more than the buffer has room for
 pub record LacksRoom (file input : List ℕ) (count room : ℕ) : Type 0 where

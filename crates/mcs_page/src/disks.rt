@@ -1,6 +1,7 @@
 //! Disks in memory, from the bytes of a file and back.
 ghost use Rattle.std.specs.Prelude.{◌≡◌, length, IfErr, IfOk, OnErr, OnOk};
-ghost use Rattle.mcs_page.specs.Page.{HasBytes, IsRefused, Resumes, seen};
+ghost use Rattle.mcs_disk.specs.States.{mem_disk_state};
+ghost use Rattle.mcs_page.specs.Page.{HasBytes, IsRefused, Resumes};
 
 use mcs_disk::{Disk, DiskFault, MemDisk};
 use mcs_journal::OpenFault;
@@ -9,7 +10,7 @@ use std::alloc::{AllocError, Global};
 
 /// A disk that has these bytes; it fails only for lack of memory.
 fn disk_of(alloc: Global, bytes: &[u8]) -> Result<MemDisk, DiskFault>
-    ensures { IfOk result (λ disk. HasBytes bytes.now (seen disk)) }
+    ensures { IfOk result (λ disk. HasBytes bytes.now (mem_disk_state disk)) }
 {
     let Ok(mut disk) = MemDisk::new(alloc, bytes.len()) else {
         return Err(DiskFault);
@@ -41,8 +42,8 @@ pub(crate) fn write_back(
     mut disk: MemDisk,
     file: &mut [u8],
 ) -> Result<(), AllocError>
-    requires size { length file.old ≡ (seen disk).size }
-    ensures written { OnOk result (file.new ≡ (seen disk).bytes) }
+    requires size { length file.old ≡ (mem_disk_state disk).size }
+    ensures written { OnOk result (file.new ≡ (mem_disk_state disk).bytes) }
     ensures stays { OnErr result (file.new ≡ file.old) }
 {
     let mut bytes = vec![in alloc; 0u8; disk.size()]?;

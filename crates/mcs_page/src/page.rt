@@ -1,6 +1,6 @@
 //! What a page calls.
 ghost use Rattle.std.specs.Prelude.{◌≡◌, ◌↔◌, length, IfErr, IfOk, IsTrue, OnErr, OnOk};
-ghost use Rattle.mcs_page.specs.Page.{seen, Answers, IsNewFile, IsRefused, IsWhole, IsWhyNot};
+ghost use Rattle.mcs_page.specs.Page.{Answers, IsNewFile, IsRefused, IsWhole, IsWhyNot};
 ghost use Rattle.mcs_page.specs.Page.{StandsForTheSame};
 ghost use Rattle.mcs_journal.specs.declared.format.TheConstants.{FILE_SIZE};
 

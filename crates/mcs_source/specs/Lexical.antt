@@ -1,5 +1,6 @@
 -- The tokens of a line of a source text. (Our own choice.)
 use Rattle.std.specs.Prelude.{ℕ, Bool, ◌&&◌, ◌||◌, List, [], ◌∷◌, ◌++◌, nat_le, ◌==◌, if◌then◌else◌}
+use Rattle.mcs_model.specs.TextLines.{is_blank}
 
 -- a word is a run of letters, digits and `_`; `Other` is a byte that no form of a line has, as one
 -- that is not ASCII
@@ -16,10 +17,6 @@ is_within low high b = nat_le low b && nat_le b high
 -- a letter, a digit or `_`
 abbrev pub is_word_byte : ℕ → Bool
 is_word_byte b = ((is_within 48 57 b || is_within 65 90 b) || is_within 97 122 b) || b == 95
-
--- a space or a tab
-abbrev pub is_blank : ℕ → Bool
-is_blank b = b == 32 || b == 9
 
 -- the token of a byte that is not in a word
 abbrev pub symbol : ℕ → Token

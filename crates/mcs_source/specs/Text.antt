@@ -7,15 +7,11 @@ use Rattle.std.specs.Fmt.{decimal}
 use Rattle.mcs_model.specs.declared.op.Op.{Op}
 use Rattle.mcs_model.specs.declared.op.Op.TheVariants.{Jcn, Fim, Src, Fin, Jin, Jun, Jms, Inc, Isz, Add, Sub, Ld, Xch, Bbl, Ldm}
 use Rattle.mcs_model.specs.Numbers.{page_of}
-use Rattle.mcs_model.specs.QueryText.{as_line, hex_digit}
+use Rattle.mcs_model.specs.QueryText.{as_line, hex_2, hex_digit}
 use Rattle.mcs_model.specs.Table.{decoded, word_count_of}
 use Rattle.mcs_model.specs.Images.{from_address}
 use Rattle.mcs_source.specs.Assembly.{assembled}
 use Rattle.mcs_source.specs.Names.{name}
-
--- two upper case hexadecimal digits
-abbrev pub hex_2 : ℕ → List ℕ
-hex_2 n = hex_digit (n / 16) ∷ hex_digit (n % 16) ∷ []
 
 -- the three digits of an address, by its page and its word
 abbrev pub address_digits : ℕ → ℕ → List ℕ

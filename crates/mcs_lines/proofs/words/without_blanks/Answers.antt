@@ -5,14 +5,14 @@ use Rattle.mcs_lines.proofs.LineWords.{begins_at, drop_all, tail_whole, words_of
 use Rattle.mcs_lines.proofs.words.without_blanks.Goals as goal
 
 pub loop-at-preserved : goal.loop-at-preserved
-loop-at-preserved c = words_of-past c.args.line.now c.loop-at.at c.loop-at-test.true (sym c.is_blank_byte.ensures ∙ c.if-not-is_blank_byte.false) ∙ c.loop-at.invariant
+loop-at-preserved c = words_of-past c.args.line.now c.loop-at.at c.loop-at-test.true (sym c.is_blank.ensures ∙ c.if-not-is_blank.false) ∙ c.loop-at.invariant
 
-pub returns-then-not-is_blank_byte-clause-words : goal.returns-then-not-is_blank_byte-clause-words
-returns-then-not-is_blank_byte-clause-words c = ap words_of (tail_whole c.loop-at.at c.args.line.now) ∙ c.loop-at.invariant
+pub returns-then-not-is_blank-clause-words : goal.returns-then-not-is_blank-clause-words
+returns-then-not-is_blank-clause-words c = ap words_of (tail_whole c.loop-at.at c.args.line.now) ∙ c.loop-at.invariant
 
-pub returns-then-not-is_blank_byte-clause-begins : goal.returns-then-not-is_blank_byte-clause-begins
-returns-then-not-is_blank_byte-clause-begins c = subst BeginsWord (sym (tail_whole c.loop-at.at c.args.line.now))
-    (begins_at c.args.line.now c.loop-at.at c.loop-at-test.true (sym c.is_blank_byte.ensures ∙ c.if-not-is_blank_byte.true))
+pub returns-then-not-is_blank-clause-begins : goal.returns-then-not-is_blank-clause-begins
+returns-then-not-is_blank-clause-begins c = subst BeginsWord (sym (tail_whole c.loop-at.at c.args.line.now))
+    (begins_at c.args.line.now c.loop-at.at c.loop-at-test.true (sym c.is_blank.ensures ∙ c.if-not-is_blank.true))
 
 pub returns-clause-words : goal.returns-clause-words
 returns-clause-words c = ap words_of (sym (drop_all c.args.line.now c.loop-at.at c.loop-at-test.false)) ∙ c.loop-at.invariant
