@@ -1,4 +1,4 @@
-//! The lines of a text.
+//! The lines of a text, and the blanks in them.
 ghost use Rattle.std.specs.Prelude.{◌≡◌};
 ghost use Rattle.std.specs.Str.Lines.{strip_carriage_return};
 ghost use Rattle.mcs_model.specs.TextLines.{is_blank};
