@@ -30,7 +30,8 @@ IsNewFile file = StandsFor file new_bench_state
 pub record Resumes (file : List ℕ) (session : SessionView MemDisk) : Type 0 where
   pub disk : MemDisk
   pub held : HasBytes file (mem_disk_state disk)
-  pub begun : GoesOnWith (mem_disk_state disk) (mem_disk_state session.disk) session.live session.state
+  pub begun : GoesOnWith (mem_disk_state disk) (mem_disk_state session.disk) session.live
+    session.state
 
 -- The session that the bytes of a file hold went on, the shell read this input and wrote these
 -- answers, and these are the bytes that its disk has then.
@@ -62,7 +63,8 @@ pub record Answers (file input : List ℕ) (end : ShellEnd) (count : ℕ)
 abbrev pub IsRefused : OpenFault → List ℕ → Type 0
 IsRefused open_fault.NoMemory file = Unit {0}
 IsRefused open_fault.Device file = ⊥
-IsRefused fault file = (disk : MemDisk) × HasBytes file (mem_disk_state disk) × RefusesSession fault (mem_disk_state disk)
+IsRefused fault file = (disk : MemDisk) × HasBytes file (mem_disk_state disk)
+  × RefusesSession fault (mem_disk_state disk)
 
 -- this input was served whole: its answers are that many bytes, more than the buffer has room for
 pub record LacksRoom (file input : List ℕ) (count room : ℕ) : Type 0 where
