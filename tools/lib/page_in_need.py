@@ -64,7 +64,7 @@ def check_failures(browser):
     browser.keys(["3"])
     comes(browser, "and goes on", DIGITS, "123")
     browser.inside(WANT_OF_MEMORY)
-    comes(browser, "want of memory is told", NOTICE, re.compile("no 90: there was no memory"))
+    comes(browser, "lack of memory is told", NOTICE, re.compile("no 90: there was no memory"))
     comes(browser, "the session is as it was then, too", DIGITS, "123")
     browser.script(FULL_STORE)
     verdict("an answer that is not kept says so", lines_answered(browser, "poke r5 9"), re.compile("not kept: "))
@@ -153,7 +153,7 @@ def check_little_memory(page, folder):
         before = lines_answered(browser, "seq")
         browser.script("document.getElementById('lines').value = 'poke r5 9\\n'.repeat(30000)")
         browser.click("#send")
-        comes(browser, "want of memory in the module is told", NOTICE, re.compile("no 90: there was no memory.*The session is as it was"))
+        comes(browser, "lack of memory in the module is told", NOTICE, re.compile("no 90: there was no memory.*The session is as it was"))
         browser.script("document.getElementById('lines').value = ''")
         verdict("and the session is as it was", lines_answered(browser, "seq"), before)
     finally:

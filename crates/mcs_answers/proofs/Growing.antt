@@ -46,14 +46,6 @@ pieced f n a b c so_far here =
     ∙ append_assoc a (flat_map f (range_with_len 0 n)) (f n)
     ∙ ap (λ v. a ++ v) (sym (one_more f n))
 
--- lines joined by LF, with one more at the end, are lines that LF ends
-pub joined_lines : (x : List ℕ) (xs : List (List ℕ)) → join_with_byte 10 (x ∷ xs) ++ 10 ∷ [] ≡ flat_map as_line (x ∷ xs)
-joined_lines x [] = sym (append-nil (as_line x))
-joined_lines x (y ∷ ys) =
-    let more = flat_map as_line (y ∷ ys) in
-    append_assoc x (10 ∷ join_with_byte 10 (y ∷ ys)) (10 ∷ [])
-    ∙ (ap (λ t. x ++ 10 ∷ t) (joined_lines y ys) ∙ sym (append_assoc x (10 ∷ []) more))
-
 -- a list of something is told as it is
 pub some_or_dash : (xs : List ℕ) → 0 < length xs → or_dash xs ≡ xs
 some_or_dash [] h = absurd (omega arith)

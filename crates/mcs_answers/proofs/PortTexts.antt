@@ -8,7 +8,7 @@ use Rattle.mcs_model.specs.Boards.{chain_count}
 use Rattle.mcs_model.specs.Bus.{BusState}
 use Rattle.mcs_model.specs.QueryText.{as_line, chain_line, key_lines, ports_lines, rom_port_lines, src_line}
 use Rattle.mcs_wiring.proofs.PartTexts.{text_of-flat_map}
-use Rattle.mcs_answers.proofs.Growing.{joined_lines}
+use Rattle.mcs_wiring.proofs.QueryLines.{joined_lines}
 
 grouped : (p s r c k : List ℕ) → (((p ++ s) ++ r) ++ c) ++ k ≡ p ++ (s ++ ((r ++ c) ++ k))
 grouped p s r c k = simp append_assoc

@@ -4,6 +4,7 @@ use Rattle.std.proofs.lemmas.Bool.Decides.{nat_tests}
 use Rattle.std.proofs.lemmas.Grind.{flat_map-append}
 use Rattle.std.proofs.lemmas.List.Folds.{flat_map-map}
 use Rattle.std.specs.List.{flat_map, join_with_byte, list_any, range_with_len}
+use Rattle.std.proofs.lemmas.Bool.{or_parts}
 use Rattle.mcs_model.specs.declared.board.BoardParts.{BoardParts}
 use Rattle.mcs_model.specs.declared.board.BoardFault.{BoardFault}
 use Rattle.mcs_model.specs.declared.board.BoardFault.TheVariants.{BadValue}
@@ -11,7 +12,8 @@ use Rattle.mcs_model.specs.Boards.{board_fault_of, has_bad_value}
 use Rattle.mcs_model.specs.Bus.{BusState, chips_of}
 use Rattle.mcs_model.specs.QueryText.{as_line, chip_lines, digit_text, port_line, ram_lines, register_line}
 use Rattle.mcs_wiring.proofs.PartTexts.{text_of-flat_map}
-use Rattle.mcs_answers.proofs.Growing.{joined_lines}
+use Rattle.mcs_wiring.proofs.QueryLines.{joined_lines}
+use Rattle.mcs_model.proofs.SoundBoards.{sound}
 
 -- the lines of a chip: those of its registers, and then that of its port
 pub chip_is : (s : BusState) (bank chip : ℕ) (a b c : List ℕ)
@@ -43,26 +45,12 @@ ram_is s bank a b head chips =
     ∙ ap (λ v. as_line first ++ v) (sym (text_of-flat_map (chip_lines s bank) (range_with_len 0 (chips_of s bank))))
     ∙ sym (joined_lines first others)
 
-or_left : (a b : Bool) → (a || b) ≡ false → a ≡ false
-or_left false b e = refl
-or_left true b e = absurd (cc)
-
-or_right : (a b : Bool) → (a || b) ≡ false → b ≡ false
-or_right false b e = e
-or_right true b e = absurd (cc)
-
 -- where no number of a list is above 4
 none_above : (xs : List ℕ) (i : ℕ) → list_any (λ n. nat_lt 4 n) xs ≡ false → get_or xs i 0 ≤ 4
 none_above [] i e = omega arith
-none_above (x ∷ xs) zero e = let small : nat_lt 4 x ≡ false = or_left (nat_lt 4 x) (list_any (λ n. nat_lt 4 n) xs) e in grind (arith, nat_tests)
-none_above (x ∷ xs) (suc i) e = none_above xs i (or_right (nat_lt 4 x) (list_any (λ n. nat_lt 4 n) xs) e)
-
-no_bad_value : (a : Bool) (x : Option BoardFault) → cond a (Some BadValue) x ≡ None → a ≡ false
-no_bad_value true x e = absurd (cc)
-no_bad_value false x e = refl
+none_above (x ∷ xs) zero e = let small : nat_lt 4 x ≡ false = (or_parts (nat_lt 4 x) (list_any (λ n. nat_lt 4 n) xs) e).0 in grind (arith, nat_tests)
+none_above (x ∷ xs) (suc i) e = none_above xs i (or_parts (nat_lt 4 x) (list_any (λ n. nat_lt 4 n) xs) e).1
 
 -- a bank of a valid board has at most four chips
 pub few_chips : (b : BoardParts) (bank : ℕ) → board_fault_of b ≡ None → get_or b.banks bank 0 ≤ 4
-few_chips b bank e =
-    let fine = no_bad_value (has_bad_value b) _ e in
-    none_above b.banks bank (or_left _ _ (or_left _ _ (or_left _ _ fine)))
+few_chips b bank e = none_above b.banks bank (sound b e).values.banks

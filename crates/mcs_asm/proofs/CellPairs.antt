@@ -8,6 +8,7 @@ use Rattle.std.proofs.lemmas.List.Kept.{AllPairs-cons}
 use Rattle.std.proofs.lemmas.List.{get_or-replicate, length-replicate, replicate_more, get_or_past, get_or-drop}
 use Rattle.std.proofs.lemmas.Bool.{cases_eq, cases_lt, lt-ltb, le-leb, leb-true, ltb-true, and_parts, true≢false, false≢true}
 use Rattle.std.proofs.lemmas.List.Folds.{list_any_at}
+use Rattle.std.proofs.lemmas.Option.{none-some}
 use Rattle.mcs_model.specs.Images.{from_address, overlaps, IsRising, IsImageOf}
 use Rattle.mcs_asm.specs.ByteMap.{written, raised, IsKept}
 
@@ -75,17 +76,14 @@ free_from pairs x n untaken y low high b has =
 
 -- ---- in order of addresses
 
-none_some : (b : ℕ) → ◌≡◌ {A = Option ℕ} None (Some b) → ⊥
-none_some b e = true≢false (ap (λ (o : Option ℕ). elim o [ Some x ↦ false | None ↦ true ]) e)
-
-Contains-cons_cases : (p : ℕ × ℕ) (ps : List (ℕ × ℕ)) (q : ℕ × ℕ) → Contains (p ∷ ps) q → (p ≡ q) ⊎ Contains ps q
+pub Contains-cons_cases : (p : ℕ × ℕ) (ps : List (ℕ × ℕ)) (q : ℕ × ℕ) → Contains (p ∷ ps) q → (p ≡ q) ⊎ Contains ps q
 Contains-cons_cases p ps q has = elim (Contains-append_cases (p ∷ []) ps q has) [
   | inl (zero, lt, e) ↦ inl e
   | inl (suc k, lt, e) ↦ absurd (omega (arith, lt))
   | inr more ↦ inr more
 ]
 
-Contains-head : (p : ℕ × ℕ) (ps : List (ℕ × ℕ)) → Contains (p ∷ ps) p
+pub Contains-head : (p : ℕ × ℕ) (ps : List (ℕ × ℕ)) → Contains (p ∷ ps) p
 Contains-head p ps = (0, omega arith, refl)
 
 -- each raised pair lies at `at` or above, and is what the cell holds
@@ -107,8 +105,8 @@ raised_from (Some v ∷ cells) at a b has = elim (Contains-cons_cases (at, v) (r
 ]
 
 raised_has : (cells : List (Option ℕ)) (at k b : ℕ) → get_or cells k None ≡ Some b → Contains (raised at cells) (at + k, b)
-raised_has [] at k b e = absurd (none_some b e)
-raised_has (None ∷ cells) at zero b e = absurd (none_some b e)
+raised_has [] at k b e = absurd (none-some b e)
+raised_has (None ∷ cells) at zero b e = absurd (none-some b e)
 raised_has (Some v ∷ cells) at zero b e =
     subst (λ (p : ℕ × ℕ). Contains ((at, v) ∷ raised (at + 1) cells) p) (rw (some_same v b e) (ap (λ (n : ℕ). (n, b)) (omega arith))) (Contains-head (at, v) (raised (at + 1) cells))
 raised_has (None ∷ cells) at (suc k) b e =
@@ -134,8 +132,8 @@ image_of_kept cells pairs kept = (
 
 replicate_none : (n a b : ℕ) → get_or (replicate {A = Option ℕ} n None) a None ≡ Some b → ⊥
 replicate_none n a b e = elim (cases_lt a n) [
-  | inl lt ↦ none_some b (sym (get_or-replicate n a None None lt) ∙ e)
-  | inr le ↦ none_some b (sym (get_or_past (replicate n None) a None (omega (arith, le, length-replicate {A = Option ℕ} n None))) ∙ e)
+  | inl lt ↦ none-some b (sym (get_or-replicate n a None None lt) ∙ e)
+  | inr le ↦ none-some b (sym (get_or_past (replicate n None) a None (omega (arith, le, length-replicate {A = Option ℕ} n None))) ∙ e)
 ]
 
 pub none_kept : IsKept (replicate 4096 None) []
@@ -153,10 +151,10 @@ has_taken (None ∷ cells) (suc n) e =
     (suc r.0, r.1, omega (arith, r.2), r.3)
 
 is_taken : (cells : List (Option ℕ)) (n k b : ℕ) → k < n → get_or cells k None ≡ Some b → list_any is_some (take n cells) ≡ true
-is_taken [] n k b lt e = absurd (none_some b e)
+is_taken [] n k b lt e = absurd (none-some b e)
 is_taken (c ∷ cells) zero k b lt e = absurd (omega (arith, lt))
 is_taken (Some v ∷ cells) (suc n) k b lt e = refl
-is_taken (None ∷ cells) (suc n) zero b lt e = absurd (none_some b e)
+is_taken (None ∷ cells) (suc n) zero b lt e = absurd (none-some b e)
 is_taken (None ∷ cells) (suc n) (suc k) b lt e = is_taken cells n k b (omega (arith, lt)) e
 
 has_pair : (p : ℕ × ℕ → Bool) (pairs : List (ℕ × ℕ)) → list_any p pairs ≡ true → (x : ℕ × ℕ) × Contains pairs x × (p x ≡ true)

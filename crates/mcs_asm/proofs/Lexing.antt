@@ -1,7 +1,7 @@
 -- Where a word ends, and what comes after it.
 use Rattle.std.proofs.Common.{◌≡◌, ℕ, suc, ◌+◌, ◌-◌, ◌<◌, ◌≤◌, Bool, true, false, cond, eqb, List, [], ◌∷◌, ◌++◌, length, get_or, take, drop, refl, sym, ap, ◌⊎◌, ◌||◌, ◌≢◌, ◌∙◌, append_assoc, arith, inl, inr}
 use Rattle.std.specs.List.{prefix_len}
-use Rattle.std.proofs.lemmas.Bool.{eqb-true}
+use Rattle.std.proofs.lemmas.Bool.{eqb-true, ne_eqb}
 use Rattle.std.proofs.lemmas.Bool.Decides.{eqb_tells}
 use Rattle.std.proofs.lemmas.List.{append-nil, length-take, take_all}
 use Rattle.mcs_source.specs.Lexical.{Token, Word, is_word_byte, symbol, word_then, tokens_after, tokens}
@@ -57,9 +57,6 @@ not_first p x xs e =
     let Q : Bool → Type 0 = λ t. cond t (1 + prefix_len p xs) 0 ≡ 0 → t ≡ false in
     (elim (p x) as Q [ true ↦ λ h. absurd (omega arith) | false ↦ λ h. refl ]) e
 
-no_eq : (a b : ℕ) → a ≢ b → eqb a b ≡ false
-no_eq a b h = elim (eqb_tells a b) [ inl e ↦ absurd (h e.1) | inr e ↦ e.0 ]
-
 pub stops : (p : ℕ → Bool) (xs : List ℕ) → prefix_len p (drop (prefix_len p xs) xs) ≡ 0
 stops p [] = refl
 stops p (x ∷ xs) =
@@ -98,7 +95,7 @@ pub symbol_first : (bytes : List ℕ) → 1 ≤ length bytes → get_or bytes 0 
 symbol_first [] some other no_w no_b = absurd (omega (arith, some))
 symbol_first (b ∷ rest) some other no_w no_b =
     let all : take (length (b ∷ rest) - 1) rest ≡ rest = take_all (length (b ∷ rest) - 1) rest (omega arith) in
-    none_in_front (b ∷ rest) no_w ∙ rw (not_first is_blank b rest no_b, no_eq b 59 other, all) refl
+    none_in_front (b ∷ rest) no_w ∙ rw (not_first is_blank b rest no_b, ne_eqb b 59 other, all) refl
 
 pub trimmed_same : (line bytes : List ℕ) (n : ℕ) → n ≡ prefix_len is_blank line → bytes ≡ drop n line → tokens bytes ≡ tokens line
 trimmed_same line bytes n len back = rw (back, len) (sym (blanks_before line))

@@ -1,7 +1,7 @@
 -- One line's bytes, in cells and in pairs.
 use Rattle.std.proofs.Common.{◌≡◌, ℕ, ◌+◌, ◌≤◌, Bool, true, false, List, ◌++◌, length, take, drop, Option, Result, Ok, Err, refl, sym, ◌∙◌}
 use Rattle.std.proofs.Common.{suc, ltb, leb, ap, subst, arith, ◌||◌, None, Some, ◌&&◌, [], ◌∷◌}
-use Rattle.std.proofs.lemmas.Bool.{true≢false, ltb-false}
+use Rattle.std.proofs.lemmas.Bool.{true≢false, ltb-false, or_parts}
 use Rattle.std.specs.List.{list_all}
 use Rattle.mcs_source.specs.declared.fault.SourceFault.{SourceFault}
 use Rattle.mcs_model.specs.declared.op.Op.{Op}
@@ -18,6 +18,7 @@ use Rattle.mcs_source.specs.Assembly.{next_at}
 use Rattle.mcs_asm.specs.Passes.{Spelt, spelt_with_bytes, spelt_with_line}
 use Rattle.mcs_asm.specs.ByteMap.{written, IsKept}
 use Rattle.mcs_asm.proofs.CellPairs.{taken_is, all_kept, free_from}
+use Rattle.mcs_model.specs.Options.{◌>>=◌}
 
 pub taken_stops : (cells : List (Option ℕ)) (pairs : List (ℕ × ℕ)) (at next : ℕ) (bytes : List ℕ) → list_any is_some (take (length bytes) (drop at cells)) ≡ true → IsKept cells pairs
     → spelt_with_bytes (record { at = at; pairs = pairs }) next (Ok bytes) ≡ Err Overlap
@@ -64,7 +65,7 @@ known_has n (Some x) f h = h x
 some_list : (xs ys : List ℕ) → Some xs ≡ Some ys → ys ≡ xs
 some_list xs ys e = sym (ap (λ (o : Option (List ℕ)). elim o [ Some x ↦ x | None ↦ xs ]) e)
 
-more_length : (a : Option ℕ) (b : Option (List ℕ)) (ns : List ℕ) (n : ℕ) → ((ms : List ℕ) → b ≡ Some ms → length ms ≡ n) → asm.◌>>=◌ a (λ x. asm.◌>>=◌ b (λ xs. Some (x ∷ xs))) ≡ Some ns → length ns ≡ suc n
+more_length : (a : Option ℕ) (b : Option (List ℕ)) (ns : List ℕ) (n : ℕ) → ((ms : List ℕ) → b ≡ Some ms → length ms ≡ n) → ◌>>=◌ a (λ x. ◌>>=◌ b (λ xs. Some (x ∷ xs))) ≡ Some ns → length ns ≡ suc n
 more_length None b ns n h e = absurd (true≢false (ap (λ (o : Option (List ℕ)). elim o [ Some x ↦ false | None ↦ true ]) e))
 more_length (Some x) None ns n h e = absurd (true≢false (ap (λ (o : Option (List ℕ)). elim o [ Some x ↦ false | None ↦ true ]) e))
 more_length (Some x) (Some xs) ns n h e = ap length (some_list (x ∷ xs) ns e) ∙ ap suc (h xs refl)
@@ -89,10 +90,6 @@ bytes_size at names (asm.Fim p v) = known_has 2 (value_in names v) _ (λ n. with
 bytes_size at names (asm.Jcn v w) = known_has 2 (value_in names v) _ (λ n. known_has 2 (value_in names w) _ (λ t. within_has 2 (ltb n 16 && ltb t 4096) _ (page_has 2 (is_near at t) _ refl)))
 bytes_size at names (asm.Isz r w) = known_has 2 (value_in names w) _ (λ t. within_has 2 (ltb t 4096) _ (page_has 2 (is_near at t) _ refl))
 
-or_second : (s t : Bool) → (s || t) ≡ false → t ≡ false
-or_second true t e = absurd (true≢false e)
-or_second false t e = e
-
 pub fits : (at : ℕ) (names : Names) (line : asm.SourceLine) (bytes : List ℕ) → line_bytes at names (Some line) ≡ Ok bytes → passes_end line at ≡ false → at ≤ 4096 → at + length bytes ≤ 4096
 fits at names (asm.Define w n) bytes e room le =
     let none : HasLength 0 (Ok bytes) = subst (HasLength 0) e refl in
@@ -102,5 +99,5 @@ fits at names (asm.Code label None) bytes e room le =
     omega (arith, none, le)
 fits at names (asm.Code label (Some s)) bytes e room le =
     let len : HasLength (size s) (Ok bytes) = subst (HasLength (size s)) e (bytes_size at names s) in
-    let end : at + size s ≤ 4096 = ltb-false 4096 (at + size s) (or_second (is_some label && leb 4096 at) (ltb 4096 (at + size s)) room) in
+    let end : at + size s ≤ 4096 = ltb-false 4096 (at + size s) (or_parts (is_some label && leb 4096 at) (ltb 4096 (at + size s)) room).1 in
     omega (arith, len, end)

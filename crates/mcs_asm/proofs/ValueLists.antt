@@ -1,10 +1,10 @@
 -- Values one after the other, as a loop finds them.
 use Rattle.std.proofs.Common.{◌≡◌, ℕ, ◌+◌, ◌<◌, ◌≤◌, List, [], ◌∷◌, ◌++◌, length, get_or, drop, map, Option, Some, None, refl, sym, ap, ◌∙◌, append_assoc, append-nil}
 use Rattle.std.proofs.lemmas.List.{drop_more, drop_all}
-use Rattle.mcs_source.specs.Lines.{◌>>=◌}
 use Rattle.mcs_source.specs.Assembly.{Names, value_in, values_in}
 use Rattle.mcs_asm.specs.declared.statements.Operand.{Operand}
 use Rattle.mcs_asm.specs.View.{operand_view}
+use Rattle.mcs_model.specs.Options.{◌>>=◌}
 
 abbrev pub with_front : List ℕ → Option (List ℕ) → Option (List ℕ)
 with_front front None = None

@@ -1,7 +1,7 @@
 -- The lists that the chips hold, place by place.
 use Rattle.std.proofs.Common.{◌≡◌, ℕ, ◌+◌, ◌*◌, ◌/◌, ◌%◌, ◌<◌, ◌≤◌, true, false, inl, inr, cond, List, length, get_or, slice_index, slice_set, Option, Some, None, is_some, is_none, nat_lt, nat_le, refl, sym, ap, subst, ◌∙◌, arith}
 use Rattle.std.specs.Prelude.{MatchOption}
-use Rattle.std.proofs.lemmas.Bool.{cases_lt}
+use Rattle.std.proofs.lemmas.Bool.{cases_lt, le-leb, leb-true}
 use Rattle.std.proofs.lemmas.Bool.Decides.{nat_tests}
 use Rattle.mcs_nibble.specs.declared.lines.LineMask.{LineMask}
 use Rattle.mcs_model.specs.Boards.{masks_on}
@@ -97,12 +97,6 @@ count-of s v StatusCharacters = v.status.count_is
 count-of s v RamPorts = v.ram_ports.count_is
 count-of s v BankSrcs = v.ram_src.count_is
 
-le-from : (a b : ℕ) → nat_le a b ≡ true → a ≤ b
-le-from a b e = grind (arith, nat_tests)
-
-to-le : (a b : ℕ) → a ≤ b → nat_le a b ≡ true
-to-le a b l = grind (arith, nat_tests)
-
 none-from : {X : Type 0} (o : Option X) → is_none o ≡ true → o ≡ None
 none-from (Some _) e = absurd (cc)
 none-from None e = refl
@@ -112,15 +106,15 @@ pub absent-of : (s : BusState) → IsAbsentZero s → (h : Held) → IsZeroWhere
 absent-of s v RomBytes i l e = v.rom i (none-from (masks_on s.board (i / 256)) e)
 absent-of s v Characters i l e =
     let place : i / 256 * 256 + i % 256 ≡ i = omega arith in
-    rw place at (v.ram (i / 256) (i % 256) (omega arith) (le-from _ _ e))
+    rw place at (v.ram (i / 256) (i % 256) (omega arith) (leb-true _ _ e))
 absent-of s v StatusCharacters i below e =
     let place : i / 64 * 64 + (i % 64 / 4 * 4 + i % 4) ≡ i = omega arith in
     let chip : i % 64 / 4 / 4 ≡ i % 64 / 16 = omega arith in
-    rw place at (v.status (i / 64) (i % 64 / 4) (i % 4) (omega arith) (omega arith) (let l = le-from _ _ e in omega arith))
+    rw place at (v.status (i / 64) (i % 64 / 4) (i % 4) (omega arith) (omega arith) (let l = leb-true _ _ e in omega arith))
 absent-of s v RamPorts i l e =
     let place : i / 4 * 4 + i % 4 ≡ i = omega arith in
-    rw place at (v.ram_ports (i / 4) (i % 4) (omega arith) (le-from _ _ e))
-absent-of s v BankSrcs i below e = v.ram_src i (let l = le-from _ _ e in omega arith)
+    rw place at (v.ram_ports (i / 4) (i % 4) (omega arith) (leb-true _ _ e))
+absent-of s v BankSrcs i below e = v.ram_src i (let l = leb-true _ _ e in omega arith)
 
 past : (xs : List ℕ) (i : ℕ) → length xs ≤ i → slice_index xs i ≡ 0
 past xs i l = get_or_past xs i 0 l
@@ -134,23 +128,23 @@ absent-from s v zero ports = record {
       ];
   ram = λ bank src l gone.
       elim (cases_lt (bank * 256 + src) 2048) [
-        | inl h ↦ zero Characters (bank * 256 + src) h (let b : (bank * 256 + src) / 256 ≡ bank = omega arith in let c : (bank * 256 + src) % 256 ≡ src = omega arith in rw (b, c) (to-le (slice_index s.board.banks bank) (src / 64) gone))
+        | inl h ↦ zero Characters (bank * 256 + src) h (let b : (bank * 256 + src) / 256 ≡ bank = omega arith in let c : (bank * 256 + src) % 256 ≡ src = omega arith in rw (b, c) (le-leb (slice_index s.board.banks bank) (src / 64) gone))
         | inr g ↦ past s.ram (bank * 256 + src) (let e = v.ram.count_is in omega arith)
       ];
   status = λ bank high k h16 k4 gone.
       elim (cases_lt (bank * 64 + (high * 4 + k)) 512) [
-        | inl h ↦ zero StatusCharacters (bank * 64 + (high * 4 + k)) h (let b : (bank * 64 + (high * 4 + k)) / 64 ≡ bank = omega arith in let c : (bank * 64 + (high * 4 + k)) % 64 / 16 ≡ high / 4 = omega arith in rw (b, c) (to-le (slice_index s.board.banks bank) (high / 4) gone))
+        | inl h ↦ zero StatusCharacters (bank * 64 + (high * 4 + k)) h (let b : (bank * 64 + (high * 4 + k)) / 64 ≡ bank = omega arith in let c : (bank * 64 + (high * 4 + k)) % 64 / 16 ≡ high / 4 = omega arith in rw (b, c) (le-leb (slice_index s.board.banks bank) (high / 4) gone))
         | inr g ↦ past s.status (bank * 64 + (high * 4 + k)) (let e = v.status.count_is in omega arith)
       ];
   ram_ports = λ bank chip l gone.
       elim (cases_lt (bank * 4 + chip) 32) [
-        | inl h ↦ zero RamPorts (bank * 4 + chip) h (let b : (bank * 4 + chip) / 4 ≡ bank = omega arith in let c : (bank * 4 + chip) % 4 ≡ chip = omega arith in rw (b, c) (to-le (slice_index s.board.banks bank) chip gone))
+        | inl h ↦ zero RamPorts (bank * 4 + chip) h (let b : (bank * 4 + chip) / 4 ≡ bank = omega arith in let c : (bank * 4 + chip) % 4 ≡ chip = omega arith in rw (b, c) (le-leb (slice_index s.board.banks bank) chip gone))
         | inr g ↦ past s.ram_ports (bank * 4 + chip) (let e = v.ram_ports.count_is in omega arith)
       ];
   rom_ports = ports;
   ram_src = λ bank none.
       elim (cases_lt bank 8) [
-        | inl h ↦ zero BankSrcs bank h (to-le (slice_index s.board.banks bank) 0 (omega arith))
+        | inl h ↦ zero BankSrcs bank h (le-leb (slice_index s.board.banks bank) 0 (omega arith))
         | inr g ↦ past s.ram_src bank (let e = v.ram_src.count_is in omega arith)
       ];
 }

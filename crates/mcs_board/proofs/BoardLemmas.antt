@@ -3,7 +3,7 @@ use Rattle.std.proofs.Common.{◌≡◌, ℕ, ◌+◌, ◌<◌, ◌≤◌, ◌�
 use Rattle.std.proofs.lemmas.Option.{get_or_from_slice_get, slice_get_past}
 use Rattle.std.specs.List.{list_any}
 use Rattle.std.proofs.lemmas.List.Folds.{list_any_at}
-use Rattle.std.proofs.lemmas.Bool.{cases_lt}
+use Rattle.std.proofs.lemmas.Bool.{cases_lt, or_parts, and_parts, not-false}
 use Rattle.std.proofs.lemmas.Bool.Decides.{nat_tests}
 use Rattle.mcs_model.specs.declared.board.BoardParts.{BoardParts}
 use Rattle.mcs_model.specs.declared.board.BoardFault.TheVariants.{BadValue, NoSuchLine, WrongDirection}
@@ -12,85 +12,55 @@ use Rattle.mcs_model.specs.declared.board.KeyMatrix.{KeyMatrix}
 use Rattle.mcs_model.specs.declared.board.Line.{Line}
 use Rattle.mcs_model.specs.declared.board.Line.TheVariants.{Rom, Ram, Chain}
 use Rattle.mcs_model.specs.Boards.{board_fault_of, has_bad_value, lacks_line, lacks_rows, has_wrong_direction, any_chain_line, any_column, any_lamp, any_line, exists_on, is_output_line, is_input_line, input_on, chain_part, chain_count, chain_bits, no_chain}
-
-pub bool_cases : (b : Bool) → (b ≡ true) ⊎ (b ≡ false)
-bool_cases true = inl refl
-bool_cases false = inr refl
-
-pub both : (a b : Bool) → (a && b) ≡ true → (a ≡ true) × (b ≡ true)
-both true b h = (refl, h)
-both false b h = absurd (cc)
-
-pub neither : (a b : Bool) → (a || b) ≡ false → (a ≡ false) × (b ≡ false)
-neither true b h = absurd (cc)
-neither false b h = (refl, h)
-
-not_false : (a : Bool) → not a ≡ false → a ≡ true
-not_false true h = refl
-not_false false h = absurd (cc)
-
-pub not_true : (a : Bool) → not a ≡ true → a ≡ false
-not_true true h = sym h
-not_true false h = refl
-
-none_at : {X : Type 0} (p : X → Bool) (xs : List X) (i : ℕ) (d : X) → list_any p xs ≡ false → i < length xs → p (get_or xs i d) ≡ false
-none_at p xs i d none l = elim (bool_cases (p (get_or xs i d))) [ inl y ↦ absurd (let t = list_any_at p xs i d l y in cc) | inr n ↦ n ]
-
-no_fault : (a b c : Bool) → cond a (Some BadValue) (cond b (Some NoSuchLine) (cond c (Some WrongDirection) None)) ≡ None → (a ≡ false) × (b ≡ false) × (c ≡ false)
-no_fault true b c h = absurd (cc)
-no_fault false true c h = absurd (cc)
-no_fault false false true h = absurd (cc)
-no_fault false false false h = (refl, refl, refl)
-
-valid : (b : BoardParts) → board_fault_of b ≡ None → (has_bad_value b ≡ false) × (lacks_line b ≡ false) × (has_wrong_direction b ≡ false)
-valid b v = no_fault (has_bad_value b) (lacks_line b) (has_wrong_direction b) v
+use Rattle.mcs_model.proofs.ListLemmas.{none_at}
+use Rattle.mcs_model.proofs.SoundBoards.{sound}
 
 -- some line of a chain, of the keys, or of the lamps
 no_line : (p : Line → Bool) (b : BoardParts) → any_line p b ≡ false → (any_chain_line p b ≡ false) × (any_lamp p b ≡ false)
 no_line p b h =
-    let first = neither (any_chain_line p b || any_column p b) (any_lamp p b) h in
-    ((neither (any_chain_line p b) (any_column p b) first.0).0, first.1)
+    let first = or_parts (any_chain_line p b || any_column p b) (any_lamp p b) h in
+    ((or_parts (any_chain_line p b) (any_column p b) first.0).0, first.1)
 
 -- the chain that drives the keys
 pub keys-chain : (b : BoardParts) (m : KeyMatrix) → board_fault_of b ≡ None → b.keys ≡ Some m → m.chain < chain_count b
 keys-chain b m v is =
-    let lacks = (neither (any_line (λ line. not (exists_on b line)) b) (lacks_rows b) (valid b v).1).1 in
+    let lacks = (sound b v).rows in
     let here = sym (ap (λ (o : Option KeyMatrix). elim o [ Some k ↦ nat_le (chain_count b) k.chain || nat_lt (chain_bits b k.chain) (k.first + k.rows) | None ↦ false ]) is) ∙ lacks in
-    let first = (neither (nat_le (chain_count b) m.chain) (nat_lt (chain_bits b m.chain) (m.first + m.rows)) here).0 in
+    let first = (or_parts (nat_le (chain_count b) m.chain) (nat_lt (chain_bits b m.chain) (m.first + m.rows)) here).0 in
     grind (arith, nat_tests, first)
 
 -- and it has a bit for each row
 pub keys-rows : (b : BoardParts) (m : KeyMatrix) → board_fault_of b ≡ None → b.keys ≡ Some m → m.first + m.rows ≤ chain_bits b m.chain
 keys-rows b m v is =
-    let lacks = (neither (any_line (λ line. not (exists_on b line)) b) (lacks_rows b) (valid b v).1).1 in
+    let lacks = (sound b v).rows in
     let here = sym (ap (λ (o : Option KeyMatrix). elim o [ Some k ↦ nat_le (chain_count b) k.chain || nat_lt (chain_bits b k.chain) (k.first + k.rows) | None ↦ false ]) is) ∙ lacks in
-    let second = (neither (nat_le (chain_count b) m.chain) (nat_lt (chain_bits b m.chain) (m.first + m.rows)) here).1 in
+    let second = (or_parts (nat_le (chain_count b) m.chain) (nat_lt (chain_bits b m.chain) (m.first + m.rows)) here).1 in
     grind (arith, nat_tests, second)
 
 -- the lines of the clocks, the data and the lamps
 driven : (b : BoardParts) (i : ℕ) → board_fault_of b ≡ None → i < chain_count b → (not (is_output_line b (chain_part b i).clock) || not (is_output_line b (chain_part b i).data_in)) ≡ false
 driven b i v l =
     let p = λ (line : Line). not (is_output_line b line) in
-    let first = (neither (any_chain_line p b || any_column (λ line. not (is_input_line b line)) b) (any_lamp (is_input_line b) b) (valid b v).2).0 in
-    let chains = (neither (any_chain_line p b) (any_column (λ line. not (is_input_line b line)) b) first).0 in
+    let first = (or_parts (any_chain_line p b || any_column (λ line. not (is_input_line b line)) b) (any_lamp (is_input_line b) b) (sound b v).directions).0 in
+    let chains = (or_parts (any_chain_line p b) (any_column (λ line. not (is_input_line b line)) b) first).0 in
     none_at (λ (c : ChainPart). not (is_output_line b c.clock) || not (is_output_line b c.data_in)) b.chains.items i no_chain chains l
 
 pub clock-output : (b : BoardParts) (i : ℕ) → board_fault_of b ≡ None → i < chain_count b → is_output_line b (chain_part b i).clock ≡ true
-clock-output b i v l = not_false _ (neither (not (is_output_line b (chain_part b i).clock)) (not (is_output_line b (chain_part b i).data_in)) (driven b i v l)).0
+clock-output b i v l = not-false _ (or_parts (not (is_output_line b (chain_part b i).clock)) (not (is_output_line b (chain_part b i).data_in)) (driven b i v l)).0
 
 pub data-output : (b : BoardParts) (i : ℕ) → board_fault_of b ≡ None → i < chain_count b → is_output_line b (chain_part b i).data_in ≡ true
-data-output b i v l = not_false _ (neither (not (is_output_line b (chain_part b i).clock)) (not (is_output_line b (chain_part b i).data_in)) (driven b i v l)).1
+data-output b i v l = not-false _ (or_parts (not (is_output_line b (chain_part b i).clock)) (not (is_output_line b (chain_part b i).data_in)) (driven b i v l)).1
 
 pub output-exists : (b : BoardParts) (line : Line) → is_output_line b line ≡ true → exists_on b line ≡ true
-output-exists b (Rom chip k) h = (both (exists_on b (Rom chip k)) (not (input_on b chip k)) h).0
+output-exists b (Rom chip k) h = (and_parts (exists_on b (Rom chip k)) (not (input_on b chip k)) h).0
 output-exists b (Ram bank chip k) h = h
 output-exists b (Chain n i) h = absurd (cc)
 
 pub lamp-exists : (b : BoardParts) (i : ℕ) (line : Line) → board_fault_of b ≡ None → slice_get b.lamps.items i ≡ Some line → exists_on b line ≡ true
 lamp-exists b i line v is =
     let p = λ (x : Line). not (exists_on b x) in
-    let lines = (neither (any_line p b) (lacks_rows b) (valid b v).1).0 in
+    let lines = (sound b v).lines in
     elim (cases_lt i (length b.lamps.items)) [
-      | inl l ↦ ap (exists_on b) (sym (get_or_from_slice_get b.lamps.items i line line is)) ∙ not_false _ (none_at p b.lamps.items i line (no_line p b lines).1 l)
+      | inl l ↦ ap (exists_on b) (sym (get_or_from_slice_get b.lamps.items i line line is)) ∙ not-false _ (none_at p b.lamps.items i line (no_line p b lines).1 l)
       | inr beyond ↦ absurd (let e = slice_get_past b.lamps.items i beyond in cc)
     ]

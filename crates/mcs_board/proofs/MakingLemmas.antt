@@ -17,14 +17,7 @@ use Rattle.mcs_keypad.specs.Keys.{KeyState, no_matrix}
 use Rattle.mcs_board.specs.RigState.{RigParts, matrix_on, no_bank, bytes_of_rom, port_of_rom, masks_of_rom, wired_chains, rig_of, Fitted}
 use Rattle.mcs_board.proofs.RigLemmas.{byte-of}
 use Rattle.mcs_board.specs.Fitting.{FitsCounts, bytes_in, rewired, silenced}
-
--- a list of 0s is 0 at each index, and beyond its end
-pub zeros : (n k : ℕ) → slice_index (replicate n 0) k ≡ 0
-zeros n k =
-    elim (cases_lt k n) [
-      | inl h ↦ get_or-replicate n k 0 0 h
-      | inr h ↦ let l = length-replicate {A = ℕ} n 0 in get_or_past (replicate n 0) k 0 (omega arith)
-    ]
+use Rattle.mcs_ram4002.proofs.BankLemmas.{slice_index-zeros}
 
 same_grid : {X : Type 0} (n wide : ℕ) (f : X → List ℕ) (d : X) (xs ys : List X) → ((i : ℕ) → f (get_or xs i d) ≡ f (get_or ys i d)) → grid n wide f d xs ≡ grid n wide f d ys
 unfolding grid
@@ -45,17 +38,17 @@ blank-zeros : (banks : List BankState) (wired : ℕ → ℕ) → AllBlank banks 
 blank-zeros banks wired blank = record {
   ram = blank-grid 8 256 (λ (b : BankState). b.main) no_bank banks (λ i k.
       elim (cases_lt i (length banks)) [
-        | inl h ↦ ap (λ (b : BankState). slice_index b.main k) (blank.at i h) ∙ zeros 256 k
+        | inl h ↦ ap (λ (b : BankState). slice_index b.main k) (blank.at i h) ∙ slice_index-zeros 256 k
         | inr h ↦ ap (λ (b : BankState). slice_index b.main k) (get_or_past banks i no_bank h)
       ]);
   status = blank-grid 8 64 (λ (b : BankState). b.status) no_bank banks (λ i k.
       elim (cases_lt i (length banks)) [
-        | inl h ↦ ap (λ (b : BankState). slice_index b.status k) (blank.at i h) ∙ zeros 64 k
+        | inl h ↦ ap (λ (b : BankState). slice_index b.status k) (blank.at i h) ∙ slice_index-zeros 64 k
         | inr h ↦ ap (λ (b : BankState). slice_index b.status k) (get_or_past banks i no_bank h)
       ]);
   ports = blank-grid 8 4 (λ (b : BankState). b.ports) no_bank banks (λ i k.
       elim (cases_lt i (length banks)) [
-        | inl h ↦ ap (λ (b : BankState). slice_index b.ports k) (blank.at i h) ∙ zeros 4 k
+        | inl h ↦ ap (λ (b : BankState). slice_index b.ports k) (blank.at i h) ∙ slice_index-zeros 4 k
         | inr h ↦ ap (λ (b : BankState). slice_index b.ports k) (get_or_past banks i no_bank h)
       ]);
   src = blank-column 8 (λ (b : BankState). b.src) no_bank banks (λ i.
@@ -97,7 +90,7 @@ rewired-port None rom = refl
 
 bytes-in : (rom : Option RomState) (k : ℕ) → slice_index (bytes_in rom) k ≡ slice_index (bytes_of_rom rom) k
 bytes-in (Some r) k = refl
-bytes-in None k = zeros 256 k
+bytes-in None k = slice_index-zeros 256 k
 
 rewired-bytes : (mask : Option (List LineMask)) (rom : Option RomState) (k : ℕ) → slice_index (bytes_of_rom (rewired mask rom)) k ≡ (if is_some mask then slice_index (bytes_of_rom rom) k else 0)
 rewired-bytes (Some m) rom k = bytes-in rom k
@@ -245,7 +238,7 @@ new-fitted rom_places bank_places chain_places = record {
   chains_fit = omega arith;
   program = sym (no-bytes rom_places);
   masks = λ k. ap masks_of_rom (same-all rom_places k None) ∙ sym (same-all 16 k None);
-  wired = λ k. no-wired bank_places k ∙ sym (zeros 8 k);
+  wired = λ k. no-wired bank_places k ∙ sym (slice_index-zeros 8 k);
   bits = λ i h. absurd (omega arith);
   src = omega arith;
 }

@@ -1,7 +1,7 @@
 -- The laws of a board and its parts.
 use Rattle.std.proofs.Common.{◌≡◌, ℕ, Bool, true, false, cond, eqb, inl, inr, ◌⊎◌, List, [], ◌∷◌, ◌++◌, Option, Some, None, refl, sym, ap, subst, ◌∙◌, arith}
 use Rattle.std.specs.Prelude.{is_none, ◌&&◌}
-use Rattle.std.proofs.lemmas.Bool.{eqb-true}
+use Rattle.std.proofs.lemmas.Bool.{eqb-true, and_parts}
 use Rattle.mcs_nibble.specs.declared.lines.LineMask.{LineMask}
 use Rattle.mcs_nibble.specs.declared.lines.LineMask.TheVariants.{Input, Zero, One}
 use Rattle.mcs_model.specs.declared.board.KeyMatrix.{KeyMatrix}
@@ -14,9 +14,10 @@ use Rattle.mcs_codec.specs.Reading.{◌>>=◌, Reading, giving, giving_some, ref
 use Rattle.mcs_model.specs.Validity.{IsValidBoard}
 use Rattle.mcs_nibble.specs.Ports.{mask_character, mask_of}
 use Rattle.mcs_codec.specs.BoardBytes.{rom_bytes, line_bytes, chain_bytes, counted, keys_bytes, board_bytes}
-use Rattle.mcs_codec.specs.BoardReading.{rom_of, rom_at, lines_of, line_of, line_at, chain_at, keys_at, matrix_at, parts_at, board_at}
+use Rattle.mcs_codec.specs.BoardReading.{rom_of, rom_at, masks_of, line_of, line_at, chain_at, keys_at, matrix_at, parts_at, board_at}
 use Rattle.mcs_codec.proofs.BoardLengths.{IsMask, IsKeys, HasLengths, lengths_of, valid_of}
 use Rattle.mcs_codec.proofs.Codecs.{IsCodec, IsBytes, IsBytes-rest, Steps, then_some, any_codec, bytes_codec, many_codec, any_counted_codec, last, next, no_step, block_codec, giving_codec, only_codec, refit_codec, row}
+use Rattle.mcs_nibble.proofs.PortLemmas.{mask_again}
 
 -- four bytes
 abbrev pub Four : Type 0
@@ -47,10 +48,6 @@ given_some : {A : Type 0} (o : Option A) (bytes : List ℕ) (x : A × List ℕ) 
 given_some (Some a) bytes x e = let g = given a bytes x e in (ap (λ v. Some v) g.0, g.1)
 given_some None bytes x e = absurd cc
 
-both_true : (a b : Bool) → (a && b) ≡ true → (a ≡ true) × (b ≡ true)
-both_true true b e = (refl, e)
-both_true false b e = absurd cc
-
 -- ---- lines
 
 -- what the end of a line says, of the line that it gives
@@ -64,7 +61,7 @@ line_made : (x : Four) (rest : List ℕ) (y : Line × List ℕ) → AreFour x �
 line_made (kind, (a, (b, c))) rest y h e =
     elim (chosen (eqb kind 0 && eqb c 0) (giving (Rom a b)) _ rest (Some y) e) [
       | inl t ↦
-          let both = both_true (eqb kind 0) (eqb c 0) t.0 in
+          let both = and_parts (eqb kind 0) (eqb c 0) t.0 in
           let k : kind ≡ 0 = eqb-true _ _ both.0 in
           let z : c ≡ 0 = eqb-true _ _ both.1 in
           line_is (Rom a b) (kind, (a, (b, c))) rest y (rw (k, z) refl) t.1
@@ -74,7 +71,7 @@ line_made (kind, (a, (b, c))) rest y h e =
             line_is (Ram a b c) (kind, (a, (b, c))) rest y (rw k refl) u.1
         | inr u ↦ elim (chosen (eqb kind 2 && eqb c 0) (giving (Chain a b)) refusing rest (Some y) u.1) [
           | inl v ↦
-              let both = both_true (eqb kind 2) (eqb c 0) v.0 in
+              let both = and_parts (eqb kind 2) (eqb c 0) v.0 in
               let k : kind ≡ 2 = eqb-true _ _ both.0 in
               let z : c ≡ 0 = eqb-true _ _ both.1 in
               line_is (Chain a b) (kind, (a, (b, c))) rest y (rw (k, z) refl) v.1
@@ -111,11 +108,6 @@ mask_is b m e =
       ]
     ]
 
-mask_again : (m : LineMask) → mask_of (mask_character m) ≡ Some m
-mask_again Input = refl
-mask_again Zero = refl
-mask_again One = refl
-
 no_dash : (m : LineMask) → eqb (mask_character m) 45 ≡ false
 no_dash Input = refl
 no_dash Zero = refl
@@ -135,10 +127,10 @@ step_some {B} b next rest y e =
     let g = given_some (mask_of b) rest m.0 m.1 in
     (m.0.0, mask_is b m.0.0 g.0, subst (λ l. next m.0.0 l ≡ Some y) (sym g.1) m.2)
 
-lines_made : (a b c d : ℕ) (rest : List ℕ) (y : Option (List LineMask) × List ℕ) → (lines_of a b c d >>= λ lines. giving (Some lines)) rest ≡ Some y
+lines_made : (a b c d : ℕ) (rest : List ℕ) (y : Option (List LineMask) × List ℕ) → (masks_of a b c d >>= λ lines. giving (Some lines)) rest ≡ Some y
     → (rom_bytes y.0 ≡ a ∷ b ∷ c ∷ d ∷ []) × (rest ≡ y.1) × IsMask y.0
 lines_made a b c d rest y e =
-    let all = then_some (lines_of a b c d rest) (λ lines. giving (Some lines)) y e in
+    let all = then_some (masks_of a b c d rest) (λ lines. giving (Some lines)) y e in
     let l3 = step_some a (λ line_3. giving_some (mask_of b) >>= λ line_2. giving_some (mask_of c) >>= λ line_1. giving_some (mask_of d) >>= λ line_0. giving (line_0 ∷ line_1 ∷ line_2 ∷ line_3 ∷ [])) rest all.0 all.1 in
     let l2 = step_some b (λ line_2. giving_some (mask_of c) >>= λ line_1. giving_some (mask_of d) >>= λ line_0. giving (line_0 ∷ line_1 ∷ line_2 ∷ l3.0 ∷ [])) rest all.0 l3.2 in
     let l1 = step_some c (λ line_1. giving_some (mask_of d) >>= λ line_0. giving (line_0 ∷ line_1 ∷ l2.0 ∷ l3.0 ∷ [])) rest all.0 l2.2 in
@@ -152,9 +144,9 @@ rom_made : (x : Four) (rest : List ℕ) (y : Option (List LineMask) × List ℕ)
 rom_made (a, (b, (c, d))) rest y h e =
     elim (chosen (eqb a 45 && eqb b 45 && eqb c 45 && eqb d 45) (giving None) _ rest (Some y) e) [
       | inl t ↦
-          let y3 = both_true (eqb a 45 && eqb b 45 && eqb c 45) (eqb d 45) t.0 in
-          let y2 = both_true (eqb a 45 && eqb b 45) (eqb c 45) y3.0 in
-          let y1 = both_true (eqb a 45) (eqb b 45) y2.0 in
+          let y3 = and_parts (eqb a 45 && eqb b 45 && eqb c 45) (eqb d 45) t.0 in
+          let y2 = and_parts (eqb a 45 && eqb b 45) (eqb c 45) y3.0 in
+          let y1 = and_parts (eqb a 45) (eqb b 45) y2.0 in
           let ka : a ≡ 45 = eqb-true _ _ y1.0 in
           let kb : b ≡ 45 = eqb-true _ _ y1.1 in
           let kc : c ≡ 45 = eqb-true _ _ y2.1 in

@@ -3,7 +3,7 @@ use Rattle.std.proofs.Common.{◌≡◌, ℕ, zero, suc, ◌*◌, ◌<◌, ◌�
 use Rattle.std.specs.Prelude.{◌||◌, ◌&&◌, not, nat_lt, nat_le}
 use Rattle.std.specs.List.{list_any, AllByRecursion}
 use Rattle.std.proofs.lemmas.Nat.{mul-le}
-use Rattle.std.proofs.lemmas.Bool.{leb-true, ltb-false}
+use Rattle.std.proofs.lemmas.Bool.{leb-true, ltb-false, or_parts, and_parts, not-false}
 use Rattle.mcs_nibble.specs.declared.lines.LineMask.{LineMask}
 use Rattle.mcs_model.specs.declared.board.BoardFault.TheVariants.{BadValue, NoSuchLine, WrongDirection}
 use Rattle.mcs_model.specs.declared.board.BoardParts.{BoardParts}
@@ -12,6 +12,7 @@ use Rattle.mcs_model.specs.declared.board.KeyMatrix.{KeyMatrix}
 use Rattle.mcs_model.specs.Boards.{board_fault_of, has_bad_value, has_bad_matrix, lacks_line, no_chain, chain_bits, has_wrong_direction, any_line, in_range, is_chain_size, is_matrix_size, key_count}
 use Rattle.mcs_model.specs.declared.limits.TheConstants.{CHAINS, CHAIN_CHIPS, CHAIN_BITS, KEY_ROWS, KEYS}
 use Rattle.mcs_model.specs.Validity.{IsValidBoard}
+use Rattle.mcs_model.proofs.SoundBoards.{sound}
 
 abbrev pub IsMask : Option (List LineMask) → Type 0
 IsMask (Some mask) = length mask ≡ 4
@@ -30,64 +31,31 @@ pub record HasLengths (b : BoardParts) : Type 0 where
   pub keys : IsKeys b.keys
   pub lamps : length b.lamps.items ≤ 64
 
--- ---- tests
-
-neither : (a b : Bool) → (a || b) ≡ false → (a ≡ false) × (b ≡ false)
-neither true b h = absurd cc
-neither false b h = (refl, h)
-
-both_true : (a b : Bool) → (a && b) ≡ true → (a ≡ true) × (b ≡ true)
-both_true true b h = (refl, h)
-both_true false b h = absurd cc
-
-not_false : (a : Bool) → not a ≡ false → a ≡ true
-not_false true h = refl
-not_false false h = absurd cc
-
-no_fault : (a b c : Bool) → cond a (Some BadValue) (cond b (Some NoSuchLine) (cond c (Some WrongDirection) None)) ≡ None → a ≡ false
-no_fault true b c h = absurd cc
-no_fault false b c h = refl
-
 -- ---- what a sound board bounds
-
-pub record HasGoodValues (b : BoardParts) : Type 0 where
-  pub banks : list_any (λ n. nat_lt 4 n) b.banks ≡ false
-  pub chains : list_any (λ c. not (is_chain_size c)) b.chains.items ≡ false
-  pub matrix : has_bad_matrix b ≡ false
-
-pub good_values : (b : BoardParts) → board_fault_of b ≡ None → HasGoodValues b
-good_values b h =
-    let large = list_any (λ n. nat_lt 4 n) b.banks in
-    let chains = list_any (λ c. not (is_chain_size c)) b.chains.items in
-    let fine : has_bad_value b ≡ false = no_fault (has_bad_value b) (lacks_line b) (has_wrong_direction b) h in
-    let first = neither (large || chains || has_bad_matrix b) (any_line (λ line. not (in_range line)) b) fine in
-    let second = neither (large || chains) (has_bad_matrix b) first.0 in
-    let third = neither large chains second.0 in
-    record { banks = third.0; chains = third.1; matrix = second.1 }
 
 few_banks : (banks : List ℕ) → list_any (λ n. nat_lt 4 n) banks ≡ false → AllByRecursion (λ n. n < 256) banks
 few_banks [] h = tt
 few_banks (n ∷ banks) h =
-    let first = neither (nat_lt 4 n) (list_any (λ n. nat_lt 4 n) banks) h in
+    let first = or_parts (nat_lt 4 n) (list_any (λ n. nat_lt 4 n) banks) h in
     let few : n ≤ 4 = ltb-false _ _ first.0 in
     (omega arith, few_banks banks first.1)
 
 few_chips : (chains : List ChainPart) → list_any (λ c. not (is_chain_size c)) chains ≡ false → AllByRecursion (λ c. c.chips ≤ CHAIN_CHIPS) chains
 few_chips [] h = tt
 few_chips (c ∷ chains) h =
-    let first = neither (not (is_chain_size c)) (list_any (λ x. not (is_chain_size x)) chains) h in
-    let sized = both_true (nat_lt 0 c.chips) (nat_le c.chips CHAIN_CHIPS) (not_false (is_chain_size c) first.0) in
+    let first = or_parts (not (is_chain_size c)) (list_any (λ x. not (is_chain_size x)) chains) h in
+    let sized = and_parts (nat_lt 0 c.chips) (nat_le c.chips CHAIN_CHIPS) (not-false (is_chain_size c) first.0) in
     (leb-true _ _ sized.1, few_chips chains first.1)
 
 few_keys : (k : Option KeyMatrix) → IsKeys k → elim k [ Some m ↦ not (is_matrix_size m) | None ↦ false ] ≡ false → elim k [ Some m ↦ m.rows * length m.columns.items | None ↦ 0 ] ≤ KEYS
 few_keys None h e = omega arith
 few_keys (Some m) h e =
-    let all = not_false (is_matrix_size m) e in
-    let rows = (both_true (nat_lt m.chain CHAINS && nat_lt m.first CHAIN_BITS && nat_lt 0 m.rows) (nat_le m.rows KEY_ROWS) (both_true (nat_lt m.chain CHAINS && nat_lt m.first CHAIN_BITS && nat_lt 0 m.rows && nat_le m.rows KEY_ROWS) (nat_lt 0 (length m.columns.items)) all).0).1 in
+    let all = not-false (is_matrix_size m) e in
+    let rows = (and_parts (nat_lt m.chain CHAINS && nat_lt m.first CHAIN_BITS && nat_lt 0 m.rows) (nat_le m.rows KEY_ROWS) (and_parts (nat_lt m.chain CHAINS && nat_lt m.first CHAIN_BITS && nat_lt 0 m.rows && nat_le m.rows KEY_ROWS) (nat_lt 0 (length m.columns.items)) all).0).1 in
     mul-le m.rows (length m.columns.items) 10 8 (leb-true _ _ rows) h
 
 pub chips_of : (b : BoardParts) → board_fault_of b ≡ None → AllByRecursion (λ c. c.chips ≤ CHAIN_CHIPS) b.chains.items
-chips_of b h = few_chips b.chains.items (good_values b h).chains
+chips_of b h = few_chips b.chains.items (sound b h).values.chains
 
 chips_at : (chains : List ChainPart) (i : ℕ) → AllByRecursion (λ c. c.chips ≤ CHAIN_CHIPS) chains → (get_or chains i no_chain).chips ≤ CHAIN_CHIPS
 chips_at [] i h = omega arith
@@ -99,7 +67,7 @@ pub few_bits : (b : BoardParts) (i : ℕ) → board_fault_of b ≡ None → chai
 few_bits b i h = omega (arith, chips_at b.chains.items i (chips_of b h))
 
 pub keys_of : (b : BoardParts) → IsKeys b.keys → board_fault_of b ≡ None → key_count b ≤ KEYS
-keys_of b k h = few_keys b.keys k (good_values b h).matrix
+keys_of b k h = few_keys b.keys k (sound b h).values.matrix
 
 -- ---- lengths by place, and by element
 
@@ -121,7 +89,7 @@ pub lengths_of : (b : BoardParts) → IsValidBoard b → HasLengths b
 lengths_of b h = record {
   roms = h.sized.roms;
   masks = masks_all b.roms h.sized.masks;
-  banks = (h.sized.banks, few_banks b.banks (good_values b h.valid).banks);
+  banks = (h.sized.banks, few_banks b.banks (sound b h.valid).values.banks);
   chains = h.sized.chains;
   keys = keys_all b.keys h.sized.columns;
   lamps = h.sized.lamps;

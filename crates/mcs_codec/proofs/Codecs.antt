@@ -5,6 +5,7 @@ use Rattle.std.specs.Int.{Width, w16, w32, byte_len, from_be_bytes, to_be_bytes}
 use Rattle.std.proofs.lemmas.Bool.{leb-true, le-leb, cases_lt, ltb-false, ltb-true, le-ltb, lt-ltb, eqb-true}
 use Rattle.std.proofs.lemmas.List.{take_at, drop_at, take-append-drop, append-nil, length-append, length-take, length-take-le, get_or-take, get_or_past}
 use Rattle.std.proofs.lemmas.Nat.{be_bytes_2, be_bytes_4, from_be_bytes-to_be_bytes_2, from_be_bytes-to_be_bytes_4}
+use Rattle.std.proofs.lemmas.Option.{cond_some}
 use Rattle.mcs_codec.specs.BoardBytes.{counted}
 use Rattle.mcs_codec.specs.CommandBytes.{address}
 use Rattle.mcs_codec.specs.Reading.{◌>>=◌, and_then, Read, Reading, giving, byte_at, number_at, address_at, bytes_at, only, many, small_at, whole_value, whole, counted_at}
@@ -38,10 +39,6 @@ then_some None next y e = absurd cc
 guarded : {A : Type 0} (b : Bool) (x y : A) → cond b None (Some x) ≡ Some y → (b ≡ false) × (x ≡ y)
 guarded true x y e = absurd cc
 guarded false x y e = (refl, cc)
-
-kept : {A : Type 0} (b : Bool) (x y : A) → cond b (Some x) None ≡ Some y → (b ≡ true) × (x ≡ y)
-kept true x y e = (refl, cc)
-kept false x y e = absurd cc
 
 -- ---- the law
 
@@ -136,7 +133,7 @@ pub only_codec : {A : Type 0} {s : A → List ℕ} {f : A → Type 0} {r : Readi
 only_codec {A} {s} {f} {r} test codec = record {
   takes = λ bytes x all e.
       let b = then_some (r bytes) (λ a rest. cond (test a) (Some (a, rest)) None) x e in
-      let g = kept (test b.0.0) b.0 x b.2 in
+      let g = cond_some (test b.0.0) b.0 x b.2 in
       let t = codec.takes bytes b.0 all b.1 in
       subst (λ (y : A × List ℕ). (bytes ≡ s y.0 ++ y.1) × (f y.0 × (test y.0 ≡ true))) g.1 (t.0, (t.1, g.0));
   again = λ a rest h. rw (codec.again a rest h.0) (rw h.1 refl);
@@ -267,7 +264,8 @@ counted_codec {A} {s} {f} {r} limit lt codec = giving_codec (λ (p : ℕ × List
     (λ p h. let le : p.0 ≤ limit = leb-true _ _ h.0.1 in (ap (λ n. n ∷ flat_map s p.1) h.1.0, (omega (arith, h.1.0), h.1.1)))
     (λ l h. (refl, ((omega (arith, h.0), le-leb _ _ h.0), (refl, h.1))))
 
-all_units : {A : Type 0} (l : List A) → AllByRecursion (λ _. Unit {0}) l
+-- what each element of a list has
+pub all_units : {A : Type 0} (l : List A) → AllByRecursion (λ _. Unit {0}) l
 all_units [] = tt
 all_units (a ∷ l) = (tt, all_units l)
 

@@ -25,6 +25,7 @@ use Rattle.mcs_codec.specs.StateBytes.{memory_bytes, registers_bytes, sources_by
 use Rattle.mcs_codec.proofs.BoardLengths.{IsMask, IsKeys, HasLengths, lengths_of, chips_of, keys_of}
 use Rattle.mcs_codec.proofs.ImageCodec.{length-image}
 use Rattle.mcs_codec.proofs.StateCodec.{AreRows, HasMemory, HasRegisters, HasSources, HasWiring, memory_of, registers_of, sources_of, wiring_state, shape_of}
+use Rattle.mcs_codec.proofs.Codecs.{all_units}
 
 pub each_is : {A : Type 0} (s : A → List ℕ) (f : A → Type 0) (k : ℕ) → ((a : A) → f a → length (s a) ≡ k) → (l : List A) → AllByRecursion f l → length (flat_map s l) ≡ length l * k
 each_is s f k one [] h = omega arith
@@ -32,10 +33,6 @@ each_is s f k one (a ∷ l) h =
     let rest : length (flat_map s l) ≡ length l * k = each_is s f k one l h.1 in
     let here : length (s a) ≡ k = one a h.0 in
     omega (arith, length-append (s a) (flat_map s l), suc-mul (length l) k)
-
-units : {A : Type 0} (l : List A) → AllByRecursion (λ _. Unit {0}) l
-units [] = tt
-units (a ∷ l) = (tt, units l)
 
 pub length-line : (l : Line) → length (line_bytes l) ≡ 4
 length-line (RomLine a b) = refl
@@ -53,7 +50,7 @@ length-chain c =
     omega (arith, length-append (line_bytes c.clock) (line_bytes c.data_in ++ c.chips ∷ []), length-append (line_bytes c.data_in) (c.chips ∷ []))
 
 length-lines : (l : List Line) → length (counted line_bytes l) ≡ 1 + length l * 4
-length-lines l = let e = each_is line_bytes (λ _. Unit {0}) 4 (λ a h. length-line a) l (units l) in omega (arith, e)
+length-lines l = let e = each_is line_bytes (λ _. Unit {0}) 4 (λ a h. length-line a) l (all_units l) in omega (arith, e)
 
 length-keys : (k : Option KeyMatrix) → IsKeys k → length (keys_bytes k) ≤ 37
 length-keys None h = omega arith
@@ -62,7 +59,7 @@ length-keys (Some m) h = let e : length (counted line_bytes m.columns.items) ≡
 pub length-board : (b : BoardParts) → HasLengths b → length (board_bytes b) ≤ 403
 length-board b h =
     let roms : length (flat_map rom_bytes b.roms) ≡ length b.roms * 4 = each_is rom_bytes IsMask 4 length-rom b.roms h.masks in
-    let chains : length (flat_map chain_bytes b.chains.items) ≡ length b.chains.items * 9 = each_is chain_bytes (λ _. Unit {0}) 9 (λ c u. length-chain c) b.chains.items (units b.chains.items) in
+    let chains : length (flat_map chain_bytes b.chains.items) ≡ length b.chains.items * 9 = each_is chain_bytes (λ _. Unit {0}) 9 (λ c u. length-chain c) b.chains.items (all_units b.chains.items) in
     let keys = length-keys b.keys h.keys in
     let lamps : length (counted line_bytes b.lamps.items) ≡ 1 + length b.lamps.items * 4 = length-lines b.lamps.items in
     let last = counted line_bytes b.lamps.items in
@@ -100,7 +97,7 @@ length-memory b h =
     )
 
 addresses : (l : List ℕ) → length (flat_map address l) ≡ length l * 2
-addresses l = each_is address (λ _. Unit {0}) 2 (λ a h. refl) l (units l)
+addresses l = each_is address (λ _. Unit {0}) 2 (λ a h. refl) l (all_units l)
 
 length-registers : (p : Regs) → HasRegisters (registers_of p) → length (registers_bytes p) ≡ 26
 length-registers p h =

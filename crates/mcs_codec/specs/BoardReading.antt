@@ -12,8 +12,8 @@ use Rattle.mcs_model.specs.Boards.{board_fault_of}
 use Rattle.mcs_codec.specs.Reading.{◌>>=◌, Reading, giving, giving_some, refusing, byte_at, only, many, bytes_at, counted_at}
 
 -- the port lines that four characters stand for
-abbrev pub lines_of : ℕ → ℕ → ℕ → ℕ → Reading (List LineMask)
-lines_of a b c d = do
+abbrev pub masks_of : ℕ → ℕ → ℕ → ℕ → Reading (List LineMask)
+masks_of a b c d = do
   line_3 ← giving_some (mask_of a)
   line_2 ← giving_some (mask_of b)
   line_1 ← giving_some (mask_of c)
@@ -24,7 +24,7 @@ lines_of a b c d = do
 abbrev pub rom_of : ℕ → ℕ → ℕ → ℕ → Reading (Option (List LineMask))
 rom_of a b c d =
     if a == 45 && b == 45 && c == 45 && d == 45 then giving None
-    else (do lines ← lines_of a b c d; giving (Some lines))
+    else (do lines ← masks_of a b c d; giving (Some lines))
 
 unfoldable pub rom_at : Reading (Option (List LineMask))
 rom_at = do

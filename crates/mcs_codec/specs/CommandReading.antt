@@ -18,8 +18,8 @@ character_at = do
   giving (Ram bank src n)
 
 -- a status character, and its value
-abbrev pub status_at : Reading Place
-status_at = do
+abbrev pub status_character_at : Reading Place
+status_character_at = do
   bank ← small_at 8
   high ← small_at 16
   k ← small_at 4
@@ -35,7 +35,7 @@ place_after_tag tag =
     if tag == 4 then (do bank ← small_at 8; giving (Dcl bank)) else
     if tag == 5 then (do at ← address_at; byte ← byte_at; giving (Rom at byte)) else
     if tag == 6 then character_at else
-    if tag == 7 then status_at else
+    if tag == 7 then status_character_at else
     refusing
 
 unfoldable pub place_at : Reading Place

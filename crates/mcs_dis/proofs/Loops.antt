@@ -9,6 +9,7 @@ use Rattle.mcs_model.specs.Table.{decoded, word_count_of}
 use Rattle.mcs_source.specs.Text.{op_at, whole_or_byte, second_word, piece_text, piece_size, second_of, piece_texts, listing_lines, listed_line, origin_text, range, source_text, listing_text}
 use Rattle.mcs_model.specs.QueryText.{as_line}
 use Rattle.mcs_source.proofs.Decoding.{one_or_two}
+use Rattle.mcs_model.proofs.ListLemmas.{tail_whole}
 
 pub size_some : (x : Option Op) → 1 ≤ piece_size x
 size_some None = omega arith
@@ -73,7 +74,7 @@ second_is (b ∷ c ∷ rest) two = refl
 pub second_there : (piece : Option Op) (bytes : List ℕ) → 1 < piece_size piece → piece_size piece ≤ length bytes → Some (get_or bytes 1 0) ≡ second_of piece (drop 1 bytes)
 second_there piece bytes more fits = rw (lt-ltb 1 (piece_size piece) more) (sym (second_is bytes (omega (arith, more, fits))))
 
-rest_is : (n b : ℕ) (rest : List ℕ) → 1 ≤ n → drop n (b ∷ rest) ≡ drop (n - 1) rest
+pub rest_is : (n b : ℕ) (rest : List ℕ) → 1 ≤ n → drop n (b ∷ rest) ≡ drop (n - 1) rest
 rest_is zero b rest le = absurd (omega (arith, le))
 rest_is (suc n) b rest le = ap (λ k. drop k rest) (omega arith)
 
@@ -102,9 +103,6 @@ one_text (suc most) whole out at b rest enough in_rom text =
       text = append_assoc out (as_line (piece_text at b (op_at b rest))) (flat_map as_line (piece_texts most (at + n) (drop (n - 1) rest))) ∙ text;
     })
 
-all_left : (n : ℕ) (rest : List ℕ) → take (length rest - n) (drop n rest) ≡ drop n rest
-all_left n rest = take_all (length rest - n) (drop n rest) (omega (arith, length-drop n rest))
-
 front_text : (whole out new rest : List ℕ) (at n : ℕ) → 0 < length rest → IsWritten whole out at rest → n ≡ piece_size (op_at (get_or rest 0 0) (drop 1 rest))
     → new ≡ out ++ as_line (piece_text at (get_or rest 0 0) (op_at (get_or rest 0 0) (drop 1 rest))) → IsWritten whole new (at + n) (drop n rest)
 front_text whole out new [] at n some w size line = absurd (omega (arith, some))
@@ -115,7 +113,7 @@ pub next_text : (whole out new rest : List ℕ) (at n here : ℕ) → 0 < length
 next_text whole out new rest at n here some w there size line =
     let written : new ≡ out ++ as_line (piece_text at (get_or rest 0 0) (op_at (get_or rest 0 0) (drop 1 rest))) =
     line ∙ ap (λ (k : ℕ). out ++ as_line (piece_text k (get_or rest 0 0) (op_at (get_or rest 0 0) (drop 1 rest)))) there in
-    subst (λ (l : List ℕ). IsWritten whole new (at + n) l) (sym (all_left n rest)) (front_text whole out new rest at n some w size written)
+    subst (λ (l : List ℕ). IsWritten whole new (at + n) l) (sym (tail_whole n rest)) (front_text whole out new rest at n some w size written)
 
 pub source_starts : (rom out : List ℕ) (from to at n m : ℕ) → length rom ≡ 4096 → from < to → to ≤ 4096 → out ≡ as_line (origin_text from) → at ≡ from → n ≡ from → m ≡ to → IsWritten (source_text rom from to) out at (take (m - n) (drop n rom))
 source_starts rom out from to at n m all some end is there low high =
@@ -167,12 +165,12 @@ next_listed whole out new rest lines i at n here more some w there size line =
     let written : new ≡ out ++ as_line (listed_line at (get_or rest 0 0) (drop 1 rest) (op_at (get_or rest 0 0) (drop 1 rest))) =
     line ∙ ap (λ (k : ℕ). out ++ as_line (listed_line k (get_or rest 0 0) (drop 1 rest) (op_at (get_or rest 0 0) (drop 1 rest)))) there in
     let now : IsListed whole out (suc (lines - (i + 1))) at rest = subst (λ (k : ℕ). IsListed whole out k at rest) left w in
-    subst (λ (l : List ℕ). IsListed whole new (lines - (i + 1)) (at + n) l) (sym (all_left n rest)) (front_listed whole out new rest (lines - (i + 1)) at n some now size written)
+    subst (λ (l : List ℕ). IsListed whole new (lines - (i + 1)) (at + n) l) (sym (tail_whole n rest)) (front_listed whole out new rest (lines - (i + 1)) at n some now size written)
 
 pub listing_starts : (rom out : List ℕ) (from lines at n : ℕ) → length rom ≡ 4096 → from < 4096 → out ≡ [] → at ≡ from → n ≡ from → IsListed (listing_text rom from lines) out (lines - 0) at (take (length rom - n) (drop n rom))
 listing_starts rom out from lines at n all low is there start =
     let none : lines - 0 ≡ lines = omega arith in
-    rw (is, there, start, none) (subst (λ (l : List ℕ). IsListed (listing_text rom from lines) [] lines from l) (sym (all_left from rom)) (record {
+    rw (is, there, start, none) (subst (λ (l : List ℕ). IsListed (listing_text rom from lines) [] lines from l) (sym (tail_whole from rom)) (record {
       in_rom = omega (arith, length-drop from rom, all, low);
       text = refl;
     }))

@@ -16,6 +16,7 @@ use Rattle.mcs_source.specs.Assembly.{Names, bytes_at, size, next_statement, is_
 use Rattle.mcs_model.specs.Table.{word_count_of}
 use Rattle.mcs_source.specs.Spelling.{spelling, IsOp}
 use Rattle.mcs_dis.specs.Again.{statement, ReadsAs}
+use Rattle.mcs_model.specs.Options.{◌>>=◌}
 
 -- a test of each number below n
 abbrev pub each_below : (ℕ → Bool) → ℕ → Bool
@@ -121,7 +122,7 @@ address_again p b lp lt =
     let same : min (((0 * 16 + p) * 16 + b / 16) * 16 + b % 16) 4294967296 ≡ p * 256 + b = omega arith in
     rw (glyph_value p lp, glyph_value (b / 16) high, glyph_value (b % 16) last, lt-ltb _ _ lp, lt-ltb _ _ high, lt-ltb _ _ last) (rw same refl)
 
-address_number : (p b n : ℕ) → p < 16 → b < 256 → n ≡ p * 256 + b → asm.◌>>=◌ (number_written (address p b)) (λ k. Some (capped k)) ≡ Some n
+address_number : (p b n : ℕ) → p < 16 → b < 256 → n ≡ p * 256 + b → ◌>>=◌ (number_written (address p b)) (λ k. Some (capped k)) ≡ Some n
 address_number p b n lp lt e =
     let high : b / 16 < 16 = omega arith in
     let last : b % 16 < 16 = omega arith in

@@ -16,6 +16,7 @@ use Rattle.mcs_dis.proofs.Clean.{line_is, address_clean}
 use Rattle.mcs_dis.proofs.LinesAgain.{IsLine, lines_again}
 use Rattle.mcs_dis.proofs.ReadBack.{origin_back}
 use Rattle.mcs_dis.proofs.Pieces.{IsPiece, piece_is}
+use Rattle.mcs_dis.proofs.Loops.{rest_is}
 
 abbrev pub AreBytes : List ℕ → Type 0
 AreBytes bytes = AllByRecursion (λ b. b < 256) bytes
@@ -116,10 +117,6 @@ piece_bytes : (at b : ℕ) (rest : List ℕ) (x : Option Op) → IsPiece at b re
 piece_bytes at b rest x p = rw (p.reads) (p.bytes)
 
 -- ---- all pieces
-
-rest_is : (n b : ℕ) (rest : List ℕ) → 1 ≤ n → drop n (b ∷ rest) ≡ drop (n - 1) rest
-rest_is zero b rest le = absurd (omega (arith, le))
-rest_is (suc n) b rest le = ap (λ k. drop k rest) (omega arith)
 
 one_end : (at i : ℕ) (lines : List (Option asm.SourceLine)) → drop i lines ≡ [] → IsFineTo lines i at → IsFineTo lines (length lines) (at + 0)
 one_end at i lines is h =

@@ -6,7 +6,7 @@ use Rattle.mcs_model.specs.declared.op.Op.{Op}
 use Rattle.mcs_model.specs.declared.op.Op.TheVariants.{Jcn, Fim, Jun, Jms, Isz, Bbl, Ldm}
 use Rattle.mcs_source.specs.Lexical.{tokens}
 use Rattle.mcs_source.specs.Lines as asm
-use Rattle.mcs_source.specs.Text.{text_of, near_page, range}
+use Rattle.mcs_source.specs.Text.{instruction_text, near_page, range}
 
 -- the address that JCN and ISZ at an address reach
 abbrev pub near : ℕ → ℕ → asm.Operand
@@ -24,7 +24,7 @@ statement at o = asm.Whole o
 
 -- the text of an instruction at an address reads as the statement that spells it
 abbrev pub ReadsAs : ℕ → Op → Type 0
-ReadsAs at o = asm.line_of (tokens (text_of at o)) ≡ Some (asm.Code None (Some (statement at o)))
+ReadsAs at o = asm.line_of (tokens (instruction_text at o)) ≡ Some (asm.Code None (Some (statement at o)))
 
 -- the pairs of a range are exactly the pairs of an address `from` to below `to` and the byte of the
 -- ROM there

@@ -2,7 +2,7 @@
 ghost use Rattle.std.specs.Prelude.{◌≡◌, ◌++◌, ◌/◌, ◌%◌, codes, string_bytes, OnOk};
 ghost use Rattle.std.specs.Fmt.{decimal};
 ghost use Rattle.mcs_source.specs.Names.{name};
-ghost use Rattle.mcs_source.specs.Text.{address, near_page, operands, text_of, piece_text, origin_text, address_digits, word_columns, columns};
+ghost use Rattle.mcs_source.specs.Text.{address, near_page, operands, instruction_text, piece_text, origin_text, address_digits, word_columns, columns};
 ghost use Rattle.mcs_model.specs.QueryText.{as_line, hex_2};
 
 use mcs_code::{Op, instructions, taken};
@@ -108,7 +108,7 @@ fn push_operands(out: &mut String, at: Addr, op: Op) -> Result<(), AllocError>
 
 /// Writes the text of an instruction that stands at an address.
 fn push_op(out: &mut String, at: Addr, op: Op) -> Result<(), AllocError>
-    ensures { OnOk result (string_bytes out.new ≡ string_bytes out.old ++ text_of at op) }
+    ensures { OnOk result (string_bytes out.new ≡ string_bytes out.old ++ instruction_text at op) }
 {
     out.push_str(name(&op))?;
     push_operands(out, at, op)

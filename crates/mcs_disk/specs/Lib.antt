@@ -1,7 +1,8 @@
+pub mod CallLaws
+pub mod Calls
 pub mod Disk
 pub mod Fuse
 pub mod Memory
-pub mod MemoryLaws
 pub mod Moments
 pub mod PowerCut
 pub mod States

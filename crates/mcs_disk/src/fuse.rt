@@ -2,7 +2,8 @@
 ghost use Rattle.std.specs.Prelude.{◌≡◌, ◌≤◌, ◌+◌, ◌↔◌, ℕ, length, min, OnErr, IsTrue};
 ghost use Rattle.mcs_disk.specs.Disk.{most_faults, IsCall, Reads, Writes, Syncs};
 ghost use Rattle.mcs_disk.specs.Moments.{IsSame, IsUntouched};
-ghost use Rattle.mcs_disk.specs.MemoryLaws.{memory_lawful};
+ghost use Rattle.mcs_disk.specs.CallLaws.{lawful};
+ghost use Rattle.mcs_disk.specs.Memory.{newest_first, zeros_for};
 
 use crate::{Disk, DiskFault, MemDisk};
 
@@ -114,7 +115,8 @@ impl Disk for FuseDisk {
     ghost state = { fuse_disk_state };
 
     ghost lawful = { λ f honest.
-        memory_lawful f.faults f.disk.bytes.items f.disk.calls.items f.disk.kept };
+        lawful _ f.faults f.disk.bytes.items (zeros_for f.disk.bytes.items)
+        (newest_first f.disk.calls.items) f.disk.kept };
 
     fn size(&self) -> usize {
         self.disk.size()

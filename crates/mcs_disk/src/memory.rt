@@ -2,8 +2,9 @@
 ghost use Rattle.std.specs.Prelude.{◌≡◌, ◌+◌, ◌-◌, ◌^◌, ◌≤◌, [], ◌∷◌, ◌++◌, length, reverse, IfOk, OnOk, OnErr, min};
 ghost use Rattle.mcs_disk.specs.Disk.{most_faults, IsCall, Reads, Writes, Syncs};
 ghost use Rattle.mcs_disk.specs.Moments.{IsNew, IsUntouched};
-ghost use Rattle.mcs_disk.specs.Memory.{bytes_after};
-ghost use Rattle.mcs_disk.specs.MemoryLaws.{memory_lawful};
+ghost use Rattle.mcs_disk.specs.Calls.{bytes_after};
+ghost use Rattle.mcs_disk.specs.CallLaws.{lawful};
+ghost use Rattle.mcs_disk.specs.Memory.{newest_first, zeros_for};
 
 use crate::{Disk, DiskFault, overwrite};
 use std::alloc::{AllocError, Global};
@@ -27,7 +28,7 @@ pub struct MemDisk {
     pub(crate) bytes: Vec<u8>,
     pub(crate) calls: Vec<Call>,
     pub(crate) faults: u64,
-    ghost kept: { bytes.items ≡ bytes_after (length bytes.items) (reverse calls.items) },
+    ghost kept: { bytes.items ≡ bytes_after (zeros_for bytes.items) (newest_first calls.items) },
 }
 
 impl MemDisk {
@@ -77,7 +78,8 @@ impl Disk for MemDisk {
 
     ghost state = { mem_disk_state };
 
-    ghost lawful = { λ m honest. memory_lawful m.faults m.bytes.items m.calls.items m.kept };
+    ghost lawful = { λ m honest. lawful _ m.faults m.bytes.items (zeros_for m.bytes.items)
+        (newest_first m.calls.items) m.kept };
 
     fn size(&self) -> usize {
         self.bytes.len()

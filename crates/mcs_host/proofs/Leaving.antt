@@ -1,11 +1,11 @@
 -- What is found in a file that was left after some first part of its calls.
 use Rattle.std.proofs.Common.{◌≡◌, ◌⊎◌, inl, inr, ℕ, ◌≤◌, List, [], ◌∷◌, ◌++◌, sym, subst, arith}
-use Rattle.mcs_host.specs.FileCalls.{FileCall, WasRead, Wrote, Failed, Synced, images_after, clock_of, since_after}
-use Rattle.mcs_host.specs.FileLaws.{counts_now}
+use Rattle.mcs_disk.specs.Calls.{DiskCall, WasRead, Wrote, Failed, Synced, images_after, clock_of, since_after}
+use Rattle.mcs_disk.specs.CallLaws.{counts_now}
 use Rattle.mcs_host.specs.Ending.{IsCutInWrite}
 
 -- a later call takes nothing back
-clock_of-more : (more calls : List FileCall) → clock_of calls ≤ clock_of (more ++ calls)
+clock_of-more : (more calls : List DiskCall) → clock_of calls ≤ clock_of (more ++ calls)
 clock_of-more [] calls = omega arith
 clock_of-more (WasRead ∷ more) calls = omega (arith, clock_of-more more calls)
 clock_of-more (Wrote at from ∷ more) calls = omega (arith, clock_of-more more calls)
@@ -13,18 +13,18 @@ clock_of-more (Failed at from ∷ more) calls = omega (arith, clock_of-more more
 clock_of-more (Synced ∷ more) calls = omega (arith, clock_of-more more calls)
 
 -- what was an image after the calls that were made is one since then, whatever comes after them
-pub image_since : (start : List ℕ) (more calls : List FileCall) (t : ℕ) (c : List ℕ) → t ≤ clock_of calls → images_after start calls c → since_after start (more ++ calls) t c
+pub image_since : (start : List ℕ) (more calls : List DiskCall) (t : ℕ) (c : List ℕ) → t ≤ clock_of calls → images_after start calls c → since_after start (more ++ calls) t c
 image_since start [] calls t c le now = counts_now start calls t c now
 image_since start (call ∷ more) calls t c le now = inr (omega (arith, le, clock_of-more more calls), image_since start more calls t c le now)
 
 -- the same, where the newest of the calls that were made may have been cut off
-pub found_since : (start : List ℕ) (all more made by_the_end : List FileCall) (t : ℕ) (c : List ℕ) → all ≡ more ++ made → (by_the_end ≡ made) ⊎ IsCutInWrite made by_the_end → t ≤ clock_of by_the_end
+pub found_since : (start : List ℕ) (all more made by_the_end : List DiskCall) (t : ℕ) (c : List ℕ) → all ≡ more ++ made → (by_the_end ≡ made) ⊎ IsCutInWrite made by_the_end → t ≤ clock_of by_the_end
     → images_after start by_the_end c → since_after start all t c
 found_since start all more made by_the_end t c are (inl whole) le now =
-    subst (λ (calls : List FileCall). since_after start calls t c) (sym are)
-    (image_since start more made t c (subst (λ (calls : List FileCall). t ≤ clock_of calls) whole le) (subst (λ (calls : List FileCall). images_after start calls c) whole now))
+    subst (λ (calls : List DiskCall). since_after start calls t c) (sym are)
+    (image_since start more made t c (subst (λ (calls : List DiskCall). t ≤ clock_of calls) whole le) (subst (λ (calls : List DiskCall). images_after start calls c) whole now))
 found_since start all more made by_the_end t c are (inr cut) le now =
-    let late : t ≤ clock_of cut.before = subst (λ (calls : List FileCall). t ≤ clock_of calls) cut.torn le in
-    let image : images_after start (Wrote cut.at cut.bytes ∷ cut.before) c = subst (λ (calls : List FileCall). images_after start calls c) cut.torn now in
-    subst (λ (calls : List FileCall). since_after start calls t c) (sym are)
-    (subst (λ (calls : List FileCall). since_after start (more ++ calls) t c) (sym cut.whole) (image_since start more (Wrote cut.at cut.bytes ∷ cut.before) t c (omega (arith, late)) image))
+    let late : t ≤ clock_of cut.before = subst (λ (calls : List DiskCall). t ≤ clock_of calls) cut.torn le in
+    let image : images_after start (Wrote cut.at cut.bytes ∷ cut.before) c = subst (λ (calls : List DiskCall). images_after start calls c) cut.torn now in
+    subst (λ (calls : List DiskCall). since_after start calls t c) (sym are)
+    (subst (λ (calls : List DiskCall). since_after start (more ++ calls) t c) (sym cut.whole) (image_since start more (Wrote cut.at cut.bytes ∷ cut.before) t c (omega (arith, late)) image))

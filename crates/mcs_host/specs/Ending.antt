@@ -1,6 +1,6 @@
 -- How a file is left, and what is found in it then. (Our own choice.)
 use Rattle.std.specs.Prelude.{◌≡◌, ◌⊎◌, ℕ, ◌≤◌, List, ◌∷◌, ◌++◌}
-use Rattle.mcs_host.specs.FileCalls.{FileCall, Wrote, Failed, clock_of, images_after}
+use Rattle.mcs_disk.specs.Calls.{DiskCall, Wrote, Failed, clock_of, images_after}
 use Rattle.mcs_disk.specs.Disk.{DiskState}
 use Rattle.mcs_host.specs.FileDisk.{file_state}
 use Rattle.mcs_host.specs.declared.file_disk.FileDisk.{FileDisk}
@@ -14,10 +14,10 @@ abbrev pub found_in : FileDisk → List ℕ
 found_in file = file.history.found
 
 -- the newest of these calls is a write, and it was cut off
-pub record IsCutInWrite (calls cut : List FileCall) : Type 0 where
+pub record IsCutInWrite (calls cut : List DiskCall) : Type 0 where
   pub at : ℕ
   pub bytes : List ℕ
-  pub before : List FileCall
+  pub before : List DiskCall
   pub whole : calls ≡ Wrote at bytes ∷ before
   pub torn : cut ≡ Failed at bytes ∷ before
 
@@ -25,8 +25,8 @@ pub record IsCutInWrite (calls cut : List FileCall) : Type 0 where
 -- have the newest first, so that part is the tail of the list; the newest call of it may be a write
 -- that was cut off.
 pub record IsLeftSince (t : ℕ) (file : FileDisk) : Type 0 where
-  pub never_made : List FileCall
-  pub made : List FileCall
+  pub never_made : List DiskCall
+  pub made : List DiskCall
   pub all : file.history.calls ≡ never_made ++ made
   pub by_the_end : (file.history.calls_by_the_end ≡ made)
       ⊎ IsCutInWrite made file.history.calls_by_the_end

@@ -2,7 +2,7 @@
 use Rattle.std.specs.Prelude.{◌≡◌, ℕ, List, length}
 use Rattle.mcs_disk.specs.Disk.{DiskState}
 use Rattle.mcs_disk.specs.Moments.{IsDurable}
-use Rattle.mcs_host.specs.FileCalls.{clock_of, images_after, since_after}
+use Rattle.mcs_disk.specs.Calls.{called_disk, images_after}
 use Rattle.mcs_host.specs.declared.call_record.CallRecord.{CallRecord}
 
 -- The premise on the host, and on programs that write the file without asking for its lock: what is
@@ -13,15 +13,8 @@ IsHonest history = images_after history.start history.calls_by_the_end history.f
 
 -- what contracts see of a file that has that many faults, these bytes and this record of calls
 abbrev pub file_state : ℕ → List ℕ → CallRecord → DiskState
-file_state faults bytes history = record {
-  size = length bytes;
-  faults = faults;
-  honest = IsHonest history;
-  bytes = bytes;
-  clock = clock_of history.calls;
-  images = images_after history.start history.calls;
-  since = since_after history.start history.calls;
-}
+file_state faults bytes history =
+    called_disk (IsHonest history) faults bytes history.start history.calls
 
 -- a disk that no call has reached, all of whose bytes are there after a power cut
 pub record IsOpened (disk : DiskState) : Type 0 where

@@ -2,5 +2,4 @@ pub mod CommandLine
 pub mod Ending
 pub mod FileCalls
 pub mod FileDisk
-pub mod FileLaws
 pub mod StoredCalls

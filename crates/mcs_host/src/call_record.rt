@@ -2,7 +2,8 @@
 ghost use Rattle.std.specs.Prelude.{◌≡◌, ℕ, List, [], ◌∷◌};
 ghost use Rattle.std.specs.Borrow.{ftrue};
 ghost use Rattle.std.specs.Coded.{coded_list};
-ghost use Rattle.mcs_host.specs.FileCalls.{FileCall, call_of};
+ghost use Rattle.mcs_disk.specs.Calls.{DiskCall};
+ghost use Rattle.mcs_host.specs.FileCalls.{call_of};
 ghost use Rattle.mcs_host.specs.StoredCalls.{coded_call};
 
 use std::marker::{Model, PhantomData};
@@ -31,9 +32,9 @@ pub(crate) struct CallRecord {
     /// What the file held as it was opened.
     pub ghost start: { List ℕ },
     /// The calls so far, the newest first.
-    pub ghost calls: { List FileCall } by { coded_list coded_call },
+    pub ghost calls: { List DiskCall } by { coded_list coded_call },
     /// The calls by the end, the newest first. A write that was under way then is one that failed.
-    pub ghost calls_by_the_end: { List FileCall } by { coded_list coded_call },
+    pub ghost calls_by_the_end: { List DiskCall } by { coded_list coded_call },
     /// What is found in the file after the end.
     pub ghost found: { List ℕ },
 }

@@ -1,7 +1,7 @@
 //! A session file of the host, as a disk.
 ghost use Rattle.std.specs.Prelude.{◌≡◌, ◌↔◌, ◌<◌, ◌≤◌, ◌^◌, ◌+◌, ℕ, List, IfOk, OnOk, IsTrue, length, min, vec_len};
 ghost use Rattle.mcs_disk.specs.Disk.{most_faults, part, IsCall, Reads, Torn, Writes};
-ghost use Rattle.mcs_host.specs.FileCalls.{bytes_after};
+ghost use Rattle.mcs_disk.specs.Calls.{bytes_after};
 
 use crate::call_record::{Call, CallRecord};
 use crate::file_fault::FileFault;
@@ -91,11 +91,12 @@ fn zeros(alloc: Global, size: usize) -> Result<Vec<u8>, AllocError>
 
 impl Disk for FileDisk {
     ghost use Rattle.mcs_host.specs.Ending.{as_disk};
-    ghost use Rattle.mcs_host.specs.FileLaws.{file_lawful};
+    ghost use Rattle.mcs_disk.specs.CallLaws.{lawful};
 
     ghost state = { as_disk };
 
-    ghost lawful = { λ d honest. file_lawful d.faults d.bytes.items d.history d.kept };
+    ghost lawful = { λ d honest. lawful _ d.faults d.bytes.items d.history.start
+        d.history.calls d.kept };
 
     fn size(&self) -> usize {
         self.bytes.len()

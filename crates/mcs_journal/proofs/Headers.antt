@@ -2,6 +2,7 @@
 use Rattle.std.proofs.Common.{◌≡◌, ◌≢◌, Bool, true, false, not, List, ℕ, sym, refl, ◌∙◌, ap, arith, get_or, take, drop}
 use Rattle.std.proofs.lemmas.Slice.Eq.{bytes_eq-Decides}
 use Rattle.std.specs.Str.{bytes_eq}
+use Rattle.std.proofs.lemmas.Bool.{not-false, not-true}
 use Rattle.mcs_disk.specs.Disk.{part}
 use Rattle.mcs_journal.specs.File.{slot_named}
 use Rattle.mcs_journal.specs.declared.format.TheConstants.{NAME, ZEROS}
@@ -9,19 +10,11 @@ use Rattle.mcs_journal.specs.Writing.{IsHeader}
 use Rattle.mcs_journal.specs.declared.slot.Slot.{Slot}
 use Rattle.mcs_journal.proofs.Parts.{part_part, part_at}
 
-yes : (b : Bool) → false ≡ not b → b ≡ true
-yes true e = refl
-yes false e = cc
-
-no : (b : Bool) → true ≡ not b → b ≡ false
-no true e = cc
-no false e = refl
-
 pub same_bytes : (xs ys : List ℕ) → false ≡ not (bytes_eq xs ys) → xs ≡ ys
-same_bytes xs ys e = let decides = bytes_eq-Decides xs ys in decides.0 (yes (bytes_eq xs ys) e)
+same_bytes xs ys e = let decides = bytes_eq-Decides xs ys in decides.0 (not-false (bytes_eq xs ys) (sym e))
 
 pub other_bytes : (xs ys : List ℕ) → true ≡ not (bytes_eq xs ys) → xs ≢ ys
-other_bytes xs ys e same = let decides = bytes_eq-Decides xs ys in let both : true ≡ false = sym (decides.1 same) ∙ no (bytes_eq xs ys) e in cc
+other_bytes xs ys e same = let decides = bytes_eq-Decides xs ys in let both : true ≡ false = sym (decides.1 same) ∙ not-true (bytes_eq xs ys) (sym e) in cc
 
 module _ (f header : List ℕ) (is : header ≡ part 0 16 f) where
   pub front : take 8 header ≡ part 0 8 f

@@ -1,9 +1,9 @@
 -- What every moment of a stretch of device calls has left goes on with the next commit.
 use Rattle.std.proofs.Common.{◌≡◌, inl, inr, ⊎_elim, ◌+◌, ℕ, List, length, arith, Result, subst, sym}
+use Rattle.std.proofs.lemmas.Result.{on_ok_weaker}
 use Rattle.mcs_disk.specs.Disk.{DiskState, Torn, IsLawful, part}
 use Rattle.mcs_disk.specs.Moments.{LeavesOnly, Changes, Either, IsDurable}
 use Rattle.mcs_journal.specs.Writing.{Commits}
-use Rattle.mcs_journal.proofs.OnOk.{ok_map}
 
 -- before the first call
 pub started : (old : DiskState) (P : List ℕ → Type 0) → IsDurable old → P old.bytes → LeavesOnly old old P
@@ -40,8 +40,8 @@ module _ (old mid : DiskState) (Before After : List ℕ → Type 0) (at : ℕ) (
       → ((c : List ℕ) → Torn place (length last) mid.bytes c → Either Before After c) → (part place (length last) new.bytes ≡ last → Torn place (length last) mid.bytes new.bytes → After new.bytes)
       → Commits place last mid new result → Changes 4 old new Before After result
   second_step new place last result law so_far settled tick either_way done step = record {
-    after = ok_map result (λ (here : part place (length last) new.bytes ≡ last). done here step.outside) step.written;
+    after = on_ok_weaker result (λ (here : part place (length last) new.bytes ≡ last). done here step.outside) step.written;
     durable = step.durable;
-    ticks = ok_map result (λ (two : new.clock ≡ mid.clock + 2). omega (arith, two, tick)) step.ticks;
+    ticks = on_ok_weaker result (λ (two : new.clock ≡ mid.clock + 2). omega (arith, two, tick)) step.ticks;
     moments = goes_on old mid new (Either Before After) place last result law so_far step (λ d c was tear. either_way c (subst (λ (f : List ℕ). Torn place (length last) f c) (settled.only d was) tear));
   }

@@ -11,10 +11,6 @@ pub before_nothing : (ps : List (List ℕ)) → (p : List ℕ) → (rest : List 
 before_nothing [] p rest e = absurd (cc)
 before_nothing (q ∷ qs) p rest e = refl
 
-pub nil_right : {A : Type 0} → (xs : List A) → xs ++ [] ≡ xs
-nil_right [] = refl
-nil_right (x ∷ xs) = ap (λ v. x ∷ v) (nil_right xs)
-
 onto_before : (b : ℕ) (p : List ℕ) (ps : List (List ℕ)) → onto_first b (before p ps) ≡ before (b ∷ p) ps
 onto_before b p [] = refl
 onto_before b p (q ∷ qs) = refl

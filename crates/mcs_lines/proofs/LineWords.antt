@@ -1,11 +1,11 @@
 -- The words of a line, one after the other.
 use Rattle.std.proofs.Common.{◌≡◌, ℕ, zero, suc, ◌+◌, ◌-◌, ◌<◌, ◌≤◌, List, [], ◌∷◌, ◌++◌, Bool, true, false, length, filter, nat_lt, take, drop, get_or, ap, sym, ◌∙◌, refl, subst, arith, rules, take-append-drop}
 use Rattle.std.proofs.lemmas.Grind.{common_steps}
-use Rattle.std.proofs.lemmas.List.{drop_more}
+use Rattle.std.proofs.lemmas.List.{drop_more, append-nil}
 use Rattle.mcs_lines.specs.Cutting.{HasNone, cut_at}
 use Rattle.mcs_lines.specs.Words.{BeginsWord, EndsAtFront, EndsWord, words_of}
 use Rattle.mcs_model.specs.TextLines.{is_blank}
-use Rattle.mcs_lines.proofs.Cutting.{before, cut_at-append, cut_at-cut, cut_at-nothing, nil_right}
+use Rattle.mcs_lines.proofs.Cutting.{before, cut_at-append, cut_at-cut, cut_at-nothing}
 
 abbrev pub is_word_piece : List ℕ → Bool
 is_word_piece w = nat_lt 0 (length w)
@@ -24,7 +24,7 @@ ends_first [] h = ([], cut_at-nothing is_blank)
 ends_first (b ∷ bs) h = (cut_at is_blank bs, cut_at-cut is_blank b bs h)
 
 cut_at-word : (word rest : List ℕ) (ps : List (List ℕ)) → HasNone is_blank word → cut_at is_blank rest ≡ [] ∷ ps → cut_at is_blank (word ++ rest) ≡ word ∷ ps
-cut_at-word word rest ps h e = cut_at-append is_blank word rest h ∙ ap (before word) e ∙ ap (λ v. v ∷ ps) (nil_right word)
+cut_at-word word rest ps h e = cut_at-append is_blank word rest h ∙ ap (before word) e ∙ ap (λ v. v ∷ ps) (append-nil word)
 
 filter_first : (b : ℕ) (word : List ℕ) (ps : List (List ℕ)) → nat_lt 0 (length (b ∷ word)) ≡ true → filter is_word_piece ((b ∷ word) ∷ ps) ≡ (b ∷ word) ∷ filter is_word_piece ps
 filter_first b word ps e = rw e refl
@@ -61,18 +61,11 @@ pub ends_past : (line : List ℕ) → EndsAtFront (drop (length line) line)
 ends_past [] = tt
 ends_past (b ∷ bs) = ends_past bs
 
--- what `&line[at..]` is
-pub tail_whole : (at : ℕ) (line : List ℕ) → take (length line - at) (drop at line) ≡ drop at line
-tail_whole at line = grind (arith, common_steps)
-
 pub words_of-past : (line : List ℕ) (at : ℕ) → at < length line → is_blank (get_or line at 0) ≡ true → words_of (drop (at + 1) line) ≡ words_of (drop at line)
 words_of-past line at inside e = sym (ap words_of (drop_more line at 0 inside) ∙ words_of-blank (get_or line at 0) (drop (at + 1) line) e)
 
 pub begins_at : (line : List ℕ) (at : ℕ) → at < length line → is_blank (get_or line at 0) ≡ false → BeginsWord (drop at line)
 begins_at line at inside e = subst BeginsWord (sym (drop_more line at 0 inside)) e
-
-pub drop_all : (line : List ℕ) (n : ℕ) → length line ≤ n → drop n line ≡ []
-drop_all line n h = grind (arith, common_steps)
 
 pub no_words : (line : List ℕ) → length line ≡ 0 → words_of line ≡ []
 unfolding words_of

@@ -1,22 +1,22 @@
 -- The parts of a word, one after the other.
 use Rattle.std.proofs.Common.{◌≡◌, ℕ, ◌+◌, ◌<◌, ◌≤◌, List, [], ◌∷◌, ◌++◌, true, length, take, drop, get_or, ap, sym, ◌∙◌, subst, arith, take-append-drop}
 use Rattle.std.proofs.lemmas.Grind.{common_steps}
-use Rattle.std.proofs.lemmas.List.{drop_more}
+use Rattle.std.proofs.lemmas.List.{drop_more, append-nil, take_all}
 use Rattle.mcs_lines.specs.declared.requests.Request.TheVariants.{Refused}
 use Rattle.mcs_lines.specs.declared.requests.LineFault.TheVariants.{NotACommand}
 use Rattle.mcs_lines.specs.Cutting.{HasNone, cut_at}
 use Rattle.mcs_lines.specs.Requests.{poke_of, poke_parts}
 use Rattle.mcs_lines.specs.Words.{EndsAtDot, EndsPart, is_dot}
-use Rattle.mcs_lines.proofs.Cutting.{before, cut_at-append, cut_at-cut, cut_at-nothing, first_piece_of, nil_right}
+use Rattle.mcs_lines.proofs.Cutting.{before, cut_at-append, cut_at-cut, cut_at-nothing, first_piece_of}
 
 -- a word without a dot is one part
 one_part : (word : List ℕ) → HasNone is_dot word → cut_at is_dot word ≡ word ∷ []
 one_part word h =
-    ap (cut_at is_dot) (sym (nil_right word)) ∙ cut_at-append is_dot word [] h ∙ ap (before word) (cut_at-nothing is_dot) ∙ ap (λ v. v ∷ []) (nil_right word)
+    ap (cut_at is_dot) (sym (append-nil word)) ∙ cut_at-append is_dot word [] h ∙ ap (before word) (cut_at-nothing is_dot) ∙ ap (λ v. v ∷ []) (append-nil word)
 
 part_and_rest : (part : List ℕ) (b : ℕ) (rest : List ℕ) → HasNone is_dot part → is_dot b ≡ true → cut_at is_dot (part ++ b ∷ rest) ≡ part ∷ cut_at is_dot rest
 part_and_rest part b rest h e =
-    cut_at-append is_dot part (b ∷ rest) h ∙ ap (before part) (cut_at-cut is_dot b rest e) ∙ ap (λ v. v ∷ cut_at is_dot rest) (nil_right part)
+    cut_at-append is_dot part (b ∷ rest) h ∙ ap (before part) (cut_at-cut is_dot b rest e) ∙ ap (λ v. v ∷ cut_at is_dot rest) (append-nil part)
 
 -- the part of n bytes that a word begins with, and what follows its dot
 pub first_part : (word : List ℕ) (n : ℕ) → n < length word → EndsPart (take n word) (drop n word) → cut_at is_dot word ≡ take n word ∷ cut_at is_dot (drop (n + 1) word)
@@ -25,11 +25,8 @@ first_part word n inside h =
     let dot : is_dot (get_or word n 0) ≡ true = subst EndsAtDot e h.1 in
     ap (cut_at is_dot) (sym (take-append-drop n word)) ∙ ap (λ v. cut_at is_dot (take n word ++ v)) e ∙ part_and_rest (take n word) (get_or word n 0) (drop (n + 1) word) h.0 dot
 
-take_all : (word : List ℕ) (n : ℕ) → length word ≤ n → take n word ≡ word
-take_all word n h = grind (arith, common_steps)
-
 pub only_part : (word : List ℕ) (n : ℕ) → length word ≤ n → EndsPart (take n word) (drop n word) → cut_at is_dot word ≡ word ∷ []
-only_part word n past h = one_part word (subst (HasNone is_dot) (take_all word n past) h.0)
+only_part word n past h = one_part word (subst (HasNone is_dot) (take_all n word past) h.0)
 
 many_parts : (name a b k rest value : List ℕ) → poke_parts (name ∷ a ∷ b ∷ k ∷ cut_at is_dot rest) value ≡ Refused NotACommand
 many_parts name a b k rest value = let f = first_piece_of is_dot rest in ap (λ v. poke_parts (name ∷ a ∷ b ∷ k ∷ v) value) f.2

@@ -4,6 +4,7 @@ use Rattle.std.specs.List.{range_with_len}
 use Rattle.std.proofs.Math.Nat.{add-suc}
 use Rattle.std.proofs.lemmas.Bool.{eqb-true, cases_eq}
 use Rattle.std.proofs.lemmas.Bool.Decides.{nat_tests}
+use Rattle.std.proofs.Math.Bool.{and-false}
 use Rattle.mcs_model.specs.declared.regs.Regs.{Regs}
 use Rattle.mcs_model.specs.declared.stop.Stop.TheVariants.{Outside, Breakpoint, Ended}
 use Rattle.mcs_model.specs.Bus.{BusState}
@@ -37,10 +38,6 @@ found p Q d holds a (suc n) h =
       | false ↦ λ _. found p Q d holds (a + 1) n (λ k l e. h k (omega arith) e)
     ] refl
 
-and_false : (x : Bool) → (x && false) ≡ false
-and_false true = refl
-and_false false = refl
-
 some_stop : (v b w : Bool) → b ≡ false → is_some (cond v (Some Outside) (cond b (Some Breakpoint) (cond w (Some Ended) None))) ≡ true → (v ≡ true) ⊎ (w ≡ true)
 some_stop true b w f e = inl refl
 some_stop false true w f e = cc
@@ -49,7 +46,7 @@ some_stop false false false f e = cc
 
 -- without breakpoints, a run stops where no cycle can follow or at its end
 stop_cases : (n k : ℕ) (s : Machine) → is_some (stop_after no_stops n s k) ≡ true → (is_outside (cycled k s) ≡ true) ⊎ (eqb k n ≡ true)
-stop_cases n k s e = some_stop (is_outside (cycled k s)) (at_break [] k (cycled k s)) (eqb k n) (and_false _) e
+stop_cases n k s e = some_stop (is_outside (cycled k s)) (at_break [] k (cycled k s)) (eqb k n) (and-false _) e
 
 pub after_run-nil : (n : ℕ) (s : Machine) → after_run no_stops n s ≡ cycled n s
 after_run-nil n s =

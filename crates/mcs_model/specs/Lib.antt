@@ -1,3 +1,4 @@
+pub mod Options
 pub mod Numbers
 pub mod Numerals
 pub mod TextLines

@@ -1,7 +1,7 @@
 -- A port's latch: its bits at input lines are 0, so that to write what it holds changes nothing.
-use Rattle.std.proofs.Common.{◌≡◌, ℕ, ◌+◌, ◌*◌, ◌<◌, List, refl, arith, if◌then◌else◌}
+use Rattle.std.proofs.Common.{◌≡◌, ℕ, ◌+◌, ◌*◌, ◌<◌, List, refl, arith, if◌then◌else◌, Some}
 use Rattle.mcs_nibble.specs.Bits.{bit_of, nibble_of}
-use Rattle.mcs_nibble.specs.Ports.{is_input, mask_at, latch_bit, latch_value}
+use Rattle.mcs_nibble.specs.Ports.{is_input, mask_at, latch_bit, latch_value, mask_character, mask_of}
 use Rattle.mcs_nibble.specs.declared.lines.LineMask.{LineMask}
 use Rattle.mcs_nibble.specs.declared.lines.LineMask.TheVariants.{Input, Zero, One}
 
@@ -53,3 +53,9 @@ latch_bit-zero mask k z =
 pub latch_value-zero : (mask : List LineMask) → latch_value mask 0 ≡ 0
 unfolding latch_value
 latch_value-zero mask = rw (latch_bit-zero mask 0 refl, latch_bit-zero mask 1 refl, latch_bit-zero mask 2 refl, latch_bit-zero mask 3 refl) refl
+
+-- the character of a line's mask is read as that mask
+pub mask_again : (m : LineMask) → mask_of (mask_character m) ≡ Some m
+mask_again Input = refl
+mask_again Zero = refl
+mask_again One = refl

@@ -71,7 +71,7 @@ pub fn serve(
     let mut reader = input;
     let mut written = Vec::new(alloc);
     let end = run_shell(alloc, &mut reader, &mut written, &mut session);
-    // Every other end comes of want of memory: over a slice, a vector and a disk in memory nothing
+    // Every other end comes of a lack of memory: over a slice, a vector and a disk in memory nothing
     // else fails.
     if !is_whole(end) {
         return Err(NotServed::Refused(OpenFault::NoMemory));

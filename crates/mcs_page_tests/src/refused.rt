@@ -132,7 +132,7 @@ const FIRST: &[u8] =
 
 const SECOND: &[u8] = b"poke r5 9\nlist 0 1\nseq\n";
 
-/// What is answered to the first input where something of it was left out for want of memory, and to
+/// What is answered to the first input where something of it was left out for lack of memory, and to
 /// the second input then.
 struct Row {
     left_out: &'static str,

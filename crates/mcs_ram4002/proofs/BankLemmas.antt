@@ -123,7 +123,8 @@ equal f x n wired i b l here none =
       | inr h ↦ ap f (chip_absent (replicate n b) wired i h) ∙ none
     ]
 
-slice_index-zeros : (n k : ℕ) → slice_index (replicate n 0) k ≡ 0
+-- a list of 0s is 0 at each index, and beyond its end
+pub slice_index-zeros : (n k : ℕ) → slice_index (replicate n 0) k ≡ 0
 slice_index-zeros n k = grind (arith, common_steps)
 
 zero-cell : (n k : ℕ) → slice_index (unpacked (replicate n 0)) k ≡ 0

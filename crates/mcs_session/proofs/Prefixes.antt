@@ -4,6 +4,7 @@ use Rattle.std.proofs.lemmas.Bool.{le-leb, lt-leb}
 use Rattle.std.proofs.lemmas.Grind.{common_steps}
 use Rattle.std.proofs.lemmas.List.Sums.{count_by-le-length, sum_by-append, sum_by-cons}
 use Rattle.std.proofs.Math.Seq.{take-append-add}
+use Rattle.std.proofs.lemmas.List.{take_all}
 use Rattle.mcs_model.specs.declared.command.Command.{Command}
 use Rattle.mcs_model.specs.BenchState.{BenchState}
 use Rattle.mcs_model.specs.Fold.{fold}
@@ -87,9 +88,6 @@ take_front cs ds n h = grind (arith, common_steps)
 take_past : (cs ds : List Command) (n : ℕ) → take (length cs + n) (cs ++ ds) ≡ cs ++ take n ds
 take_past cs ds n = take-append-add cs ds n
 
-take_all : (cs : List Command) (n : ℕ) → length cs ≤ n → take n cs ≡ cs
-take_all cs n h = grind (arith, common_steps)
-
 -- a prefix of the first commands
 after_more : (s : BenchState) (cs ds : List Command) (j : ℕ) (t : BenchState) → IsAfterPrefix s cs j t → IsAfterPrefix s (cs ++ ds) j t
 after_more s cs ds j t h = record {
@@ -123,7 +121,7 @@ prefix_fewer s cs i j file le h = record { state = h.state; stands = h.stands; a
 -- a prefix that holds all
 pub prefix_all : (s : BenchState) (cs : List Command) (j : ℕ) (file : List ℕ) → length cs ≤ j → StandsForPrefix s cs j file → StandsFor file (fold s cs)
 prefix_all s cs j file all h =
-    let same : h.state ≡ fold s cs = h.after.state ∙ ap (fold s) (take_all cs h.after.count (omega (arith, all, h.after.at_least))) in
+    let same : h.state ≡ fold s cs = h.after.state ∙ ap (fold s) (take_all h.after.count cs (omega (arith, all, h.after.at_least))) in
     rw (← same) h.stands
 
 -- the first command was not done yet, or was

@@ -11,21 +11,12 @@ use Rattle.mcs_model.specs.declared.command.Command.TheVariants as command
 use Rattle.mcs_source.specs.declared.fault.SourceFault.{SourceFault}
 use Rattle.mcs_shell.specs.declared.spelling.TextRefusal.{TextRefusal}
 use Rattle.mcs_shell.specs.Spelling.{by_address, load_command, placed}
+use Rattle.mcs_asm.proofs.CellPairs.{Contains-head, Contains-cons_cases}
 
 -- ---- elements
 
-head_in : (p : ℕ × ℕ) (ps : List (ℕ × ℕ)) → Contains (p ∷ ps) p
-head_in p ps = (0, omega arith, refl)
-
 in_rest : (p : ℕ × ℕ) (ps : List (ℕ × ℕ)) (q : ℕ × ℕ) → Contains ps q → Contains (p ∷ ps) q
 in_rest p ps q h = Contains-append_right (p ∷ []) ps q h
-
-in_cases : (p : ℕ × ℕ) (ps : List (ℕ × ℕ)) (q : ℕ × ℕ) → Contains (p ∷ ps) q → (p ≡ q) ⊎ Contains ps q
-in_cases p ps q has = elim (Contains-append_cases (p ∷ []) ps q has) [
-  | inl (zero, lt, e) ↦ inl e
-  | inl (suc k, lt, e) ↦ absurd (omega (arith, lt))
-  | inr more ↦ inr more
-]
 
 in_none : (q : ℕ × ℕ) → Contains [] q → ⊥
 in_none q h = omega (arith, h.1)
@@ -46,38 +37,38 @@ rises_of (p ∷ ps) h = (
 
 one_at : (ps : List (ℕ × ℕ)) (p q : ℕ × ℕ) → Rises ps → Contains ps p → Contains ps q → p.0 ≡ q.0 → p ≡ q
 one_at [] p q h a b e = absurd (in_none p a)
-one_at (r ∷ ps) p q h a b e = elim (in_cases r ps p a) [
-  | inl x ↦ elim (in_cases r ps q b) [
+one_at (r ∷ ps) p q h a b e = elim (Contains-cons_cases r ps p a) [
+  | inl x ↦ elim (Contains-cons_cases r ps q b) [
     | inl y ↦ sym x ∙ y
     | inr y ↦ absurd (let lt : r.0 < q.0 = h.0 q y in omega (arith, lt, e, ap (λ (v : ℕ × ℕ). v.0) x))
   ]
-  | inr x ↦ elim (in_cases r ps q b) [
+  | inr x ↦ elim (Contains-cons_cases r ps q b) [
     | inl y ↦ absurd (let lt : r.0 < p.0 = h.0 p x in omega (arith, lt, e, ap (λ (v : ℕ × ℕ). v.0) y))
     | inr y ↦ one_at ps p q (h.1) x y e
   ]
 ]
 
 same_heads : (x y : ℕ × ℕ) (xs ys : List (ℕ × ℕ)) → Rises (x ∷ xs) → Rises (y ∷ ys) → Contains (y ∷ ys) x → Contains (x ∷ xs) y → x ≡ y
-same_heads x y xs ys h k a b = elim (in_cases y ys x a) [
+same_heads x y xs ys h k a b = elim (Contains-cons_cases y ys x a) [
   | inl e ↦ sym e
-  | inr u ↦ elim (in_cases x xs y b) [
+  | inr u ↦ elim (Contains-cons_cases x xs y b) [
     | inl e ↦ e
     | inr v ↦ absurd (let lt : y.0 < x.0 = k.0 x u in let gt : x.0 < y.0 = h.0 y v in omega (arith, lt, gt))
   ]
 ]
 
 not_head : (x y : ℕ × ℕ) (xs ys : List (ℕ × ℕ)) (p : ℕ × ℕ) → x ≡ y → Rises (x ∷ xs) → Contains xs p → Contains (y ∷ ys) p → Contains ys p
-not_head x y xs ys p e h a b = elim (in_cases y ys p b) [
+not_head x y xs ys p e h a b = elim (Contains-cons_cases y ys p b) [
   | inl f ↦ absurd (let lt : x.0 < p.0 = h.0 p a in omega (arith, lt, ap (λ (v : ℕ × ℕ). v.0) e, ap (λ (v : ℕ × ℕ). v.0) f))
   | inr more ↦ more
 ]
 
 same_rising : (xs ys : List (ℕ × ℕ)) → Rises xs → Rises ys → ((p : ℕ × ℕ) → Contains xs p → Contains ys p) → ((p : ℕ × ℕ) → Contains ys p → Contains xs p) → xs ≡ ys
 same_rising [] [] h k to from = refl
-same_rising [] (y ∷ ys) h k to from = absurd (in_none y (from y (head_in y ys)))
-same_rising (x ∷ xs) [] h k to from = absurd (in_none x (to x (head_in x xs)))
+same_rising [] (y ∷ ys) h k to from = absurd (in_none y (from y (Contains-head y ys)))
+same_rising (x ∷ xs) [] h k to from = absurd (in_none x (to x (Contains-head x xs)))
 same_rising (x ∷ xs) (y ∷ ys) h k to from =
-    let e : x ≡ y = same_heads x y xs ys h k (to x (head_in x xs)) (from y (head_in y ys)) in
+    let e : x ≡ y = same_heads x y xs ys h k (to x (Contains-head x xs)) (from y (Contains-head y ys)) in
     let rest : xs ≡ ys = same_rising xs ys (h.1) (k.1)
     (λ p a. not_head x y xs ys p e h a (to p (in_rest x xs p a)))
     (λ p a. not_head y x ys xs p (sym e) k a (from p (in_rest y ys p a))) in
@@ -101,11 +92,11 @@ tri m n = elim (cases_lt m n) [
 ]
 
 placed_has : (p : ℕ × ℕ) (qs : List (ℕ × ℕ)) (r : ℕ × ℕ) → Contains (placed p qs) r → (p ≡ r) ⊎ Contains qs r
-placed_has p [] r h = in_cases p [] r h
+placed_has p [] r h = Contains-cons_cases p [] r h
 placed_has p (q ∷ qs) r h = elim (tri p.0 q.0) [
-  | inl lt ↦ in_cases p (q ∷ qs) r (subst (λ (v : List (ℕ × ℕ)). Contains v r) (placed_below p q qs lt) h)
-  | inr (inl gt) ↦ elim (in_cases q (placed p qs) r (subst (λ (v : List (ℕ × ℕ)). Contains v r) (placed_above p q qs gt) h)) [
-    | inl e ↦ inr (subst (λ (v : ℕ × ℕ). Contains (q ∷ qs) v) e (head_in q qs))
+  | inl lt ↦ Contains-cons_cases p (q ∷ qs) r (subst (λ (v : List (ℕ × ℕ)). Contains v r) (placed_below p q qs lt) h)
+  | inr (inl gt) ↦ elim (Contains-cons_cases q (placed p qs) r (subst (λ (v : List (ℕ × ℕ)). Contains v r) (placed_above p q qs gt) h)) [
+    | inl e ↦ inr (subst (λ (v : ℕ × ℕ). Contains (q ∷ qs) v) e (Contains-head q qs))
     | inr more ↦ elim (placed_has p qs r more) [ inl e ↦ inl e | inr old ↦ inr (in_rest q qs r old) ]
   ]
   | inr (inr e) ↦ inr (subst (λ (v : List (ℕ × ℕ)). Contains v r) (placed_same p q qs e) h)
@@ -115,8 +106,8 @@ placed_keeps : (p : ℕ × ℕ) (qs : List (ℕ × ℕ)) (r : ℕ × ℕ) → Co
 placed_keeps p [] r h = absurd (in_none r h)
 placed_keeps p (q ∷ qs) r h = elim (tri p.0 q.0) [
   | inl lt ↦ subst (λ (v : List (ℕ × ℕ)). Contains v r) (sym (placed_below p q qs lt)) (in_rest p (q ∷ qs) r h)
-  | inr (inl gt) ↦ subst (λ (v : List (ℕ × ℕ)). Contains v r) (sym (placed_above p q qs gt)) (elim (in_cases q qs r h) [
-    | inl e ↦ subst (λ (v : ℕ × ℕ). Contains (q ∷ placed p qs) v) e (head_in q (placed p qs))
+  | inr (inl gt) ↦ subst (λ (v : List (ℕ × ℕ)). Contains v r) (sym (placed_above p q qs gt)) (elim (Contains-cons_cases q qs r h) [
+    | inl e ↦ subst (λ (v : ℕ × ℕ). Contains (q ∷ placed p qs) v) e (Contains-head q (placed p qs))
     | inr old ↦ in_rest q (placed p qs) r (placed_keeps p qs r old)
   ])
   | inr (inr e) ↦ subst (λ (v : List (ℕ × ℕ)). Contains v r) (sym (placed_same p q qs e)) h
@@ -124,18 +115,18 @@ placed_keeps p (q ∷ qs) r h = elim (tri p.0 q.0) [
 
 -- the pair itself, where no other has its address
 placed_in : (p : ℕ × ℕ) (qs : List (ℕ × ℕ)) → ((q : ℕ × ℕ) → Contains qs q → p.0 ≡ q.0 → p ≡ q) → Contains (placed p qs) p
-placed_in p [] one = head_in p []
+placed_in p [] one = Contains-head p []
 placed_in p (q ∷ qs) one = elim (tri p.0 q.0) [
-  | inl lt ↦ subst (λ (v : List (ℕ × ℕ)). Contains v p) (sym (placed_below p q qs lt)) (head_in p (q ∷ qs))
+  | inl lt ↦ subst (λ (v : List (ℕ × ℕ)). Contains v p) (sym (placed_below p q qs lt)) (Contains-head p (q ∷ qs))
   | inr (inl gt) ↦ subst (λ (v : List (ℕ × ℕ)). Contains v p) (sym (placed_above p q qs gt)) (in_rest q (placed p qs) p (placed_in p qs (λ r h. one r (in_rest q qs r h))))
-  | inr (inr e) ↦ subst (λ (v : List (ℕ × ℕ)). Contains v p) (sym (placed_same p q qs e)) (subst (λ (v : ℕ × ℕ). Contains (q ∷ qs) v) (sym (one q (head_in q qs) e)) (head_in q qs))
+  | inr (inr e) ↦ subst (λ (v : List (ℕ × ℕ)). Contains v p) (sym (placed_same p q qs e)) (subst (λ (v : ℕ × ℕ). Contains (q ∷ qs) v) (sym (one q (Contains-head q qs) e)) (Contains-head q qs))
 ]
 
 placed_rises : (p : ℕ × ℕ) (qs : List (ℕ × ℕ)) → Rises qs → Rises (placed p qs)
 placed_rises p [] h = ((λ q a. absurd (in_none q a)), tt)
 placed_rises p (q ∷ qs) h = elim (tri p.0 q.0) [
   | inl lt ↦ subst Rises (sym (placed_below p q qs lt)) (
-    (λ r a. elim (in_cases q qs r a) [
+    (λ r a. elim (Contains-cons_cases q qs r a) [
       | inl e ↦ omega (arith, lt, ap (λ (v : ℕ × ℕ). v.0) e)
       | inr more ↦ let further : q.0 < r.0 = h.0 r more in omega (arith, lt, further)
     ]),
@@ -160,14 +151,14 @@ by_rises (p ∷ ps) = placed_rises p (by_address ps) (by_rises ps)
 by_has : (ps : List (ℕ × ℕ)) (r : ℕ × ℕ) → Contains (by_address ps) r → Contains ps r
 by_has [] r h = h
 by_has (p ∷ ps) r h = elim (placed_has p (by_address ps) r h) [
-  | inl e ↦ subst (λ (v : ℕ × ℕ). Contains (p ∷ ps) v) e (head_in p ps)
+  | inl e ↦ subst (λ (v : ℕ × ℕ). Contains (p ∷ ps) v) e (Contains-head p ps)
   | inr old ↦ in_rest p ps r (by_has ps r old)
 ]
 
 by_all : (ps : List (ℕ × ℕ)) (r : ℕ × ℕ) → ((p q : ℕ × ℕ) → Contains ps p → Contains ps q → p.0 ≡ q.0 → p ≡ q) → Contains ps r → Contains (by_address ps) r
 by_all [] r one h = h
-by_all (p ∷ ps) r one h = elim (in_cases p ps r h) [
-  | inl e ↦ subst (λ (v : ℕ × ℕ). Contains (placed p (by_address ps)) v) e (placed_in p (by_address ps) (λ q a same. one p q (head_in p ps) (in_rest p ps q (by_has ps q a)) same))
+by_all (p ∷ ps) r one h = elim (Contains-cons_cases p ps r h) [
+  | inl e ↦ subst (λ (v : ℕ × ℕ). Contains (placed p (by_address ps)) v) e (placed_in p (by_address ps) (λ q a same. one p q (Contains-head p ps) (in_rest p ps q (by_has ps q a)) same))
   | inr more ↦ placed_keeps p (by_address ps) r (by_all ps r (λ a b x y same. one a b (in_rest p ps a x) (in_rest p ps b y) same) more)
 ]
 

@@ -2,6 +2,8 @@
 use Rattle.std.proofs.Common.{◌≡◌, ℕ, ◌+◌, ◌<◌, ◌≤◌, List, [], ◌∷◌, ◌++◌, Bool, true, false, length, Option, map, inr, ap, sym, append_assoc, length-append, ◌∙◌, refl, subst, arith}
 use Rattle.std.specs.Io.KnownBytes.{Appends, Consumes, Keeps}
 use Rattle.std.proofs.lemmas.Grind.{common_steps}
+use Rattle.std.proofs.lemmas.List.{append-nil, map-append, nil_from_length}
+use Rattle.std.proofs.KnownBytes.{Appends-trans, Appends-nil, Consumes-kept, Consumes-trans, Consumes-nil}
 use Rattle.mcs_model.specs.declared.command.Command.{Command}
 use Rattle.mcs_model.specs.BenchState.{BenchState}
 use Rattle.mcs_model.specs.Fold.{fold}
@@ -23,13 +25,11 @@ use Rattle.mcs_shell.specs.Serving.{CutShort, Failed, LastStep, StopsAt, Stopped
 use Rattle.mcs_shell.specs.Shell.{Began, EndsBy, InputEnded, IsNear, LoopRan, RanGiven, ReadSome, ServedAll, ServedSome, StoppedNear, Untouched, WasRead, end_of_halt}
 use Rattle.mcs_shell.specs.declared.shell.TheConstants.{CHUNK_BYTES}
 use Rattle.mcs_shell.specs.Finishing.{FinishedBy}
-use Rattle.mcs_lines.proofs.Cutting.{nil_right}
-use Rattle.mcs_shell.proofs.GrowingBytes.{appends_more, appends_nothing, consumes_kept, consumes_more, consumes_nothing}
 use Rattle.mcs_session.proofs.Keeping.{carries_more}
 use Rattle.mcs_shell.proofs.LineFeeds.{after-commands, after-cut, after-no_end, after-whole}
 use Rattle.mcs_session.proofs.Folds.{standing_after-further}
-use Rattle.mcs_shell.proofs.Served.{Went-append, Went-alone, Went-nothing, all_commands-alone, all_commands-further, all_commands-nothing, alone, map-append, transcript-alone, transcript-append, transcript-nothing}
-use Rattle.mcs_shell.proofs.Steps.{MovesBack, carries_none, cut_after, failed_after, stopped_after, went_stay, went_twice}
+use Rattle.mcs_shell.proofs.Served.{Went-append, Went-alone, Went-nothing, all_commands-alone, all_commands-further, all_commands-nothing, alone, transcript-alone, transcript-append, transcript-nothing}
+use Rattle.mcs_shell.proofs.Steps.{MovesBack, carries_none, cut_after, failed_after, stopped_after, went_stay, went_twice, ends_after}
 
 -- how far the loop has come
 pub record SoFar (r r' : Option (List ℕ)) (a b : Stage) (line : Pending) (total : ℕ) : Type 0 where
@@ -42,7 +42,7 @@ pub so_far_nothing : (r : Option (List ℕ)) (a : Stage) (line : Pending) → li
 so_far_nothing r a line e = let P : Pending → Type 0 = λ l. SoFar r r a a l 0 in subst P (sym e) (record {
   bytes = [];
   count = refl;
-  consumed = consumes_nothing r;
+  consumed = Consumes-nil r;
   went = went_stay a fresh tt;
 })
 
@@ -51,18 +51,18 @@ pub so_far_more : (r r' r'' : Option (List ℕ)) (a b c : Stage) (line new_line 
 so_far_more r r' r'' a b c line new_line chunk total n most x y z = record {
   bytes = x.bytes ++ chunk;
   count = length-append x.bytes chunk ∙ let e : length x.bytes + length chunk ≡ total + n = omega (arith, x.count, y.count) in e;
-  consumed = consumes_more r r' r'' x.bytes chunk x.consumed y.consumed;
+  consumed = Consumes-trans r r' r'' x.bytes chunk x.consumed y.consumed;
   went = went_twice a b c fresh line new_line x.bytes chunk x.went z;
 }
 
 from_fresh : (bytes : List ℕ) (whole : Bool) → inputs bytes whole ≡ inputs_after fresh (bytes ++ []) whole
 unfolding inputs
-from_fresh bytes whole = ap (λ v. inputs_after fresh v whole) (sym (nil_right bytes))
+from_fresh bytes whole = ap (λ v. inputs_after fresh v whole) (sym (append-nil bytes))
 
 -- what was served of bytes that were cut
 spelled_cut : (a b : Stage) (line : Pending) (bytes : List ℕ) (x : WentFurther a b fresh line bytes) → inputs bytes false ≡ map (λ z. z.0) x.progress.served
 spelled_cut a b line bytes x = from_fresh bytes false ∙ x.progress.spelled [] false
-    ∙ ap (λ y. map (λ z. z.0) x.progress.served ++ y) (after-cut line x.progress.no_feed) ∙ nil_right (map (λ z. z.0) x.progress.served)
+    ∙ ap (λ y. map (λ z. z.0) x.progress.served ++ y) (after-cut line x.progress.no_feed) ∙ append-nil (map (λ z. z.0) x.progress.served)
 
 pub served_cut : (a b : Stage) (line : Pending) (bytes : List ℕ) → WentFurther a b fresh line bytes → ServedAll IsSettled (inputs bytes false) a b
 served_cut a b line bytes x = record {
@@ -77,7 +77,7 @@ pub ran_read_fault : (r r' r'' : Option (List ℕ)) (a b : Stage) (line : Pendin
     → SoFar r r' a b line total → total < INPUT_BYTES → Keeps r' r'' → LoopRan IsSettled ReadFault r r'' a b
 ran_read_fault r r' r'' a b line total x small keeps = record {
   bytes = x.bytes;
-  consumed = consumes_kept r r' r'' x.bytes x.consumed keeps;
+  consumed = Consumes-kept r r' r'' x.bytes x.consumed keeps;
   ends = (subst (λ (y : ℕ). y < INPUT_BYTES) (sym x.count) small, served_cut a b line x.bytes x.went);
 }
 
@@ -103,7 +103,7 @@ then_all whole a b c l k bytes x y =
       served = x.progress.served ++ y.served;
       spelled = x.progress.spelled [] whole ∙ ap (λ v. map (λ z. z.0) x.progress.served ++ v) y.spelled ∙ sym (map-append (λ z. z.0) x.progress.served y.served);
       went = Went-append a.session.standing x.progress.served y.served x.progress.went went;
-      written = subst P (sym (transcript-append s x.progress.served y.served)) (appends_more a.out b.out c.out (transcript s x.progress.served) (transcript (fold s (all_commands s x.progress.served)) y.served) x.progress.written written);
+      written = subst P (sym (transcript-append s x.progress.served y.served)) (Appends-trans a.out b.out c.out (transcript s x.progress.served) (transcript (fold s (all_commands s x.progress.served)) y.served) x.progress.written written);
       carries = subst (λ (cs : List Command). Carries IsSettled a.session c.session cs) (all_commands-further s t x.progress.served y.served state)
           (carries_more a.session b.session c.session (all_commands s x.progress.served) (all_commands t y.served) x.carries y.carries);
     }
@@ -113,16 +113,7 @@ then_all whole a b c l k bytes x y =
 module _ (Last : LastStep) (back : MovesBack Last) where
   abbrev pub then_some : (whole : Bool) (a b c : Stage) (l k : Pending) (bytes : List ℕ) → WentFurther a b l k bytes → ServedSome IsSettled Last (inputs_after k [] whole) b c → ServedSome IsSettled Last (inputs_after l (bytes ++ []) whole) a c
   then_some whole a b c l k bytes x y =
-      let s = a.session.standing.state in
-      let t = b.session.standing.state in
-      let is = x.carries.standing in
-      let state : t ≡ fold s (all_commands s x.progress.served) = ap (λ (v : Standing). v.state) is in
-      let went : Went (standing_after a.session.standing (all_commands s x.progress.served)) y.served = subst (λ (v : Standing). Went v y.served) is y.went in
-      let written : Appends b.out y.middle (transcript (fold s (all_commands s x.progress.served)) y.served) = subst (λ (v : BenchState). Appends b.out y.middle (transcript v y.served)) state y.written in
-      let P : List ℕ → Type 0 = λ v. Appends a.out y.middle v in
-      let cs : all_commands s x.progress.served ++ all_commands t y.served ≡ all_commands s (x.progress.served ++ y.served) = all_commands-further s t x.progress.served y.served state in
-      let standing : standing_after b.session.standing (all_commands t y.served) ≡ standing_after a.session.standing (all_commands s (x.progress.served ++ y.served)) =
-      standing_after-further a.session.standing b.session.standing (all_commands s x.progress.served) (all_commands t y.served) is ∙ ap (standing_after a.session.standing) cs in
+      let end = ends_after Last back a b c l k bytes x y.served y.last y.middle (record { went = y.went; written = y.written; ended = y.ended }) in
       record {
         served = x.progress.served ++ y.served;
         last = y.last;
@@ -131,13 +122,10 @@ module _ (Last : LastStep) (back : MovesBack Last) where
             ∙ ap (λ v. map (λ z. z.0) x.progress.served ++ v) y.spelled
             ∙ sym (append_assoc (map (λ z. z.0) x.progress.served) (map (λ z. z.0) y.served) (y.last ∷ y.rest))
             ∙ ap (λ v. v ++ y.last ∷ y.rest) (sym (map-append (λ z. z.0) x.progress.served y.served));
-        went = Went-append a.session.standing x.progress.served y.served x.progress.went went;
+        went = end.went;
         middle = y.middle;
-        written = subst P (sym (transcript-append s x.progress.served y.served)) (appends_more a.out b.out y.middle (transcript s x.progress.served) (transcript (fold s (all_commands s x.progress.served)) y.served) x.progress.written written);
-        ended =
-            let Q : List Command → Type 0 = λ es. Last IsSettled a.session es (standing_after b.session.standing (all_commands t y.served)) y.last y.middle c in
-            subst (λ (v : Standing). Last IsSettled a.session (all_commands s (x.progress.served ++ y.served)) v y.last y.middle c) standing
-            (subst Q cs (back a.session b.session (all_commands s x.progress.served) (all_commands t y.served) (standing_after b.session.standing (all_commands t y.served)) y.last y.middle c x.carries y.ended));
+        written = end.written;
+        ended = end.ended;
       }
 
   abbrev pub some_of_stopped : (whole : Bool) (a c : Stage) (p : Pending) (bytes : List ℕ) → StoppedAt Last a c p bytes → ServedSome IsSettled Last (inputs_after p (bytes ++ []) whole) a c
@@ -161,7 +149,7 @@ module _ (Last : LastStep) (back : MovesBack Last) where
     spelled = e;
     went = Went-nothing a.session.standing;
     middle = a.out;
-    written = subst P (sym (transcript-nothing a.session.standing.state)) (appends_nothing a.out);
+    written = subst P (sym (transcript-nothing a.session.standing.state)) (Appends-nil a.out);
     ended = let Q : List Command → Type 0 = λ es. Last IsSettled a.session es (standing_after a.session.standing es) i a.out c in subst Q (sym (all_commands-nothing a.session.standing.state)) last;
   }
 
@@ -172,7 +160,7 @@ finished_empty a p none is = let P : List ℕ → Type 0 = λ y. Appends a.out a
   served = [];
   spelled = after-commands p none is;
   went = Went-nothing a.session.standing;
-  written = subst P (sym (transcript-nothing a.session.standing.state)) (appends_nothing a.out);
+  written = subst P (sym (transcript-nothing a.session.standing.state)) (Appends-nil a.out);
   carries = carries_none a.session;
 }
 
@@ -219,12 +207,9 @@ finished_stop halt.Device a c p f some x = some_of_same Failed (inputs_after p [
 
 -- ---- the ends
 
-no_bytes : (bytes : List ℕ) → length bytes ≡ 0 → bytes ≡ []
-no_bytes bytes e = grind (arith, common_steps)
-
 last_read : (r r' r'' : Option (List ℕ)) (most : ℕ) (bytes chunk : List ℕ) → Consumes r r' bytes → ReadSome 0 most r' r'' chunk → Consumes r r'' bytes
 last_read r r' r'' most bytes chunk a b = let P : List ℕ → Type 0 = λ y. Consumes r r'' y in
-    subst P (ap (λ y. bytes ++ y) (no_bytes chunk b.count) ∙ nil_right bytes) (consumes_more r r' r'' bytes chunk a b.consumed)
+    subst P (ap (λ y. bytes ++ y) (nil_from_length chunk b.count) ∙ append-nil bytes) (Consumes-trans r r' r'' bytes chunk a b.consumed)
 
 input_ended : (r r' : Option (List ℕ)) (bytes chunk : List ℕ) (total most : ℕ) → length bytes ≡ total → total < INPUT_BYTES → ReadSome 0 most r r' chunk → InputEnded bytes r'
 input_ended r r' bytes chunk total most count small y = record { below_limit = subst (λ (n : ℕ). n < INPUT_BYTES) (sym count) small; at_end = y.at_end refl }
@@ -250,7 +235,7 @@ near_behind a b line bytes ahead x served few = record {
 near_whole : (a b : Stage) (line : Pending) (bytes : List ℕ) (x : WentFurther a b fresh line bytes) (served : Served) → IsNear bytes (map (λ p. p.0) (x.progress.served ++ served))
 near_whole a b line bytes x served =
     let P : List ℕ → Type 0 = λ v. IsNear v (map (λ p. p.0) (x.progress.served ++ served)) in
-    subst P (nil_right bytes) (near_behind a b line bytes [] x served (omega arith))
+    subst P (append-nil bytes) (near_behind a b line bytes [] x served (omega arith))
 
 pub ran_finish : (end : ShellEnd) (r r' r'' : Option (List ℕ)) (a b c : Stage) (line : Pending) (chunk : List ℕ) (total most : ℕ)
     → SoFar r r' a b line total → total < INPUT_BYTES → ReadSome 0 most r' r'' chunk → FinishedBy end line b c → LoopRan IsSettled end r r'' a c
@@ -304,7 +289,7 @@ pub ran_stop : (halt : Halt) (r r' r'' : Option (List ℕ)) (a b c : Stage) (lin
     → SoFar r r' a b line total → total + most ≤ INPUT_BYTES → most ≤ CHUNK_BYTES → ReadSome n most r' r'' chunk → Stopped halt b c line chunk → LoopRan IsSettled (end_of_halt halt) r r'' a c
 ran_stop halt.Write r r' r'' a b c line chunk total n most x small little y z = record {
   bytes = x.bytes ++ chunk;
-  consumed = consumes_more r r' r'' x.bytes chunk x.consumed y.consumed;
+  consumed = Consumes-trans r r' r'' x.bytes chunk x.consumed y.consumed;
   ends = (
     false,
     was_read_in_part (x.bytes ++ chunk) r'' (let e : length (x.bytes ++ chunk) ≤ INPUT_BYTES = rw (length-append x.bytes chunk) (omega (arith, x.count, y.count, y.within, small)) in e),
@@ -313,7 +298,7 @@ ran_stop halt.Write r r' r'' a b c line chunk total n most x small little y z = 
 }
 ran_stop halt.Device r r' r'' a b c line chunk total n most x small little y z = record {
   bytes = x.bytes ++ chunk;
-  consumed = consumes_more r r' r'' x.bytes chunk x.consumed y.consumed;
+  consumed = Consumes-trans r r' r'' x.bytes chunk x.consumed y.consumed;
   ends = (
     false,
     was_read_in_part (x.bytes ++ chunk) r'' (let e : length (x.bytes ++ chunk) ≤ INPUT_BYTES = rw (length-append x.bytes chunk) (omega (arith, x.count, y.count, y.within, small)) in e),
@@ -396,4 +381,4 @@ ran_after NoMemory r r' a b started settle first x = absurd x.ends
 
 -- nothing was read or done
 pub untouched : (r : Option (List ℕ)) (a : SessionState) → (IsOpenOnHonestDisk a → IsSettled a) → Carries IsSettled a a [] → Untouched IsOpenOnHonestDisk r r a a
-untouched r a settle x = record { consumed = consumes_nothing r; carries = carries_under a a [] settle x }
+untouched r a settle x = record { consumed = Consumes-nil r; carries = carries_under a a [] settle x }

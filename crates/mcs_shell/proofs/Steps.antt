@@ -15,17 +15,18 @@ use Rattle.mcs_lines.specs.declared.requests.TextKind.{TextKind}
 use Rattle.mcs_lines.specs.declared.requests.Request.TheVariants.{Begin}
 use Rattle.mcs_lines.specs.Requests.{request_of}
 use Rattle.std.specs.Str.Lines.{strip_carriage_return}
+use Rattle.std.proofs.lemmas.List.{map-append}
+use Rattle.std.proofs.KnownBytes.{Appends-trans, Appends-nil}
 use Rattle.mcs_session.specs.Standing.{SessionState, Standing, standing_after}
 use Rattle.mcs_shell.specs.Stage.{Stage}
-use Rattle.mcs_shell.specs.Transcript.{MayGo, Went, answer, commands, reached, transcript, all_commands}
+use Rattle.mcs_shell.specs.Transcript.{MayGo, Went, answer, commands, reached, transcript, all_commands, Served}
 use Rattle.mcs_session.specs.Kept.{Carries, IsSettled, Kept}
-use Rattle.mcs_shell.specs.Serving.{ClosesAt, StopsAt, CutShort, Failed, Fares, LastStep, Progress, Stopped, StoppedAt, WentFurther, WentOn}
+use Rattle.mcs_shell.specs.Serving.{ClosesAt, StopsAt, CutShort, Failed, Fares, LastStep, Progress, Stopped, StoppedAt, WentFurther, WentOn, answers_from, commands_from, standing_from}
 use Rattle.mcs_shell.proofs.Cutting.{HasNone-append, HasNone-take}
-use Rattle.mcs_shell.proofs.GrowingBytes.{appends_more, appends_nothing}
 use Rattle.mcs_session.proofs.Keeping.{carries_more, carries_nothing, kept_more, settled_on}
 use Rattle.mcs_shell.proofs.LineFeeds.{after-kept, feed-command, feed-dot, feed-line, feed-begun}
 use Rattle.mcs_session.proofs.Folds.{standing_after-further}
-use Rattle.mcs_shell.proofs.Served.{Went-append, Went-alone, Went-nothing, all_commands-alone, all_commands-further, all_commands-nothing, alone, map-append, transcript-append, transcript-alone, transcript-nothing}
+use Rattle.mcs_shell.proofs.Served.{Went-append, Went-alone, Went-nothing, all_commands-alone, all_commands-further, all_commands-nothing, alone, transcript-append, transcript-alone, transcript-nothing}
 
 -- nothing was served, and what is unfinished has the same inputs
 pub unserved : (m : Standing) (o : Option (List ℕ)) (p q : Pending) (bytes : List ℕ) → HasNoFeed q.line
@@ -34,7 +35,7 @@ pub unserved : (m : Standing) (o : Option (List ℕ)) (p q : Pending) (bytes : L
 unserved m o p q bytes f e = record {
   served = [];
   went = Went-nothing m;
-  written = let P : List ℕ → Type 0 = λ v. Appends o o v in subst P (sym (transcript-nothing m.state)) (appends_nothing o);
+  written = let P : List ℕ → Type 0 = λ v. Appends o o v in subst P (sym (transcript-nothing m.state)) (Appends-nil o);
   spelled = e;
   no_feed = f;
 }
@@ -62,7 +63,7 @@ further m n o p q l k e bytes rest a is b =
     record {
       served = a.served ++ b.served;
       went = Went-append m a.served b.served a.went went;
-      written = subst P (sym (transcript-append m.state a.served b.served)) (appends_more o p q (transcript m.state a.served) (transcript (fold m.state (all_commands m.state a.served)) b.served) a.written written);
+      written = subst P (sym (transcript-append m.state a.served b.served)) (Appends-trans o p q (transcript m.state a.served) (transcript (fold m.state (all_commands m.state a.served)) b.served) a.written written);
       spelled = λ more whole.
           ap (λ v. inputs_after l v whole) (append_assoc bytes rest more)
           ∙ a.spelled (rest ++ more) whole
@@ -178,34 +179,50 @@ module _ (Last : LastStep) (back : MovesBack Last) where
     last = i;
     went = Went-nothing a.session.standing;
     middle = a.out;
-    written = let P : List ℕ → Type 0 = λ y. Appends a.out a.out y in subst P (sym (transcript-nothing a.session.standing.state)) (appends_nothing a.out);
+    written = let P : List ℕ → Type 0 = λ y. Appends a.out a.out y in subst P (sym (transcript-nothing a.session.standing.state)) (Appends-nil a.out);
     ended = let Q : List Command → Type 0 = λ es. Last IsSettled a.session es (standing_after a.session.standing es) i a.out b in subst Q (sym (all_commands-nothing a.session.standing.state)) last;
     spelled = e;
   }
 
-  -- after bytes that were served
-  abbrev pub stopped_after : (a b c : Stage) (l k : Pending) (bytes more_bytes : List ℕ) → WentFurther a b l k bytes → StoppedAt Last b c k more_bytes → StoppedAt Last a c l (bytes ++ more_bytes)
-  stopped_after a b c l k bytes more_bytes x y =
+  -- some inputs were served, and then came the last step
+  pub record EndsIn (a c : Stage) (served : Served) (last : Input) (middle : Option (List ℕ)) : Type 0 where
+    pub went : Went a.session.standing served
+    pub written : Appends a.out middle (answers_from a served)
+    pub ended : Last IsSettled a.session (commands_from a served) (standing_from a served) last middle c
+
+  -- the same, seen from before other inputs that were served
+  pub ends_after : (a b c : Stage) (l k : Pending) (bytes : List ℕ) (x : WentFurther a b l k bytes) (served : Served) (last : Input) (middle : Option (List ℕ)) → EndsIn b c served last middle → EndsIn a c (x.progress.served ++ served) last middle
+  ends_after a b c l k bytes x served last middle y =
       let s = a.session.standing.state in
       let t = b.session.standing.state in
       let is = x.carries.standing in
       let state : t ≡ fold s (all_commands s x.progress.served) = ap (λ (v : Standing). v.state) is in
-      let went : Went (standing_after a.session.standing (all_commands s x.progress.served)) y.served = subst (λ (v : Standing). Went v y.served) is y.went in
-      let written : Appends b.out y.middle (transcript (fold s (all_commands s x.progress.served)) y.served) = subst (λ (v : BenchState). Appends b.out y.middle (transcript v y.served)) state y.written in
-      let P : List ℕ → Type 0 = λ v. Appends a.out y.middle v in
-      let cs : all_commands s x.progress.served ++ all_commands t y.served ≡ all_commands s (x.progress.served ++ y.served) = all_commands-further s t x.progress.served y.served state in
-      let standing : standing_after b.session.standing (all_commands t y.served) ≡ standing_after a.session.standing (all_commands s (x.progress.served ++ y.served)) =
-      standing_after-further a.session.standing b.session.standing (all_commands s x.progress.served) (all_commands t y.served) is ∙ ap (standing_after a.session.standing) cs in
+      let went : Went (standing_after a.session.standing (all_commands s x.progress.served)) served = subst (λ (v : Standing). Went v served) is y.went in
+      let written : Appends b.out middle (transcript (fold s (all_commands s x.progress.served)) served) = subst (λ (v : BenchState). Appends b.out middle (transcript v served)) state y.written in
+      let P : List ℕ → Type 0 = λ v. Appends a.out middle v in
+      let cs : all_commands s x.progress.served ++ all_commands t served ≡ all_commands s (x.progress.served ++ served) = all_commands-further s t x.progress.served served state in
+      let standing : standing_after b.session.standing (all_commands t served) ≡ standing_after a.session.standing (all_commands s (x.progress.served ++ served)) =
+      standing_after-further a.session.standing b.session.standing (all_commands s x.progress.served) (all_commands t served) is ∙ ap (standing_after a.session.standing) cs in
+      record {
+        went = Went-append a.session.standing x.progress.served served x.progress.went went;
+        written = subst P (sym (transcript-append s x.progress.served served)) (Appends-trans a.out b.out middle (transcript s x.progress.served) (transcript (fold s (all_commands s x.progress.served)) served) x.progress.written written);
+        ended =
+            let Q : List Command → Type 0 = λ es. Last IsSettled a.session es (standing_after b.session.standing (all_commands t served)) last middle c in
+            subst (λ (v : Standing). Last IsSettled a.session (all_commands s (x.progress.served ++ served)) v last middle c) standing
+            (subst Q cs (back a.session b.session (all_commands s x.progress.served) (all_commands t served) (standing_after b.session.standing (all_commands t served)) last middle c x.carries y.ended));
+      }
+
+  -- after bytes that were served
+  abbrev pub stopped_after : (a b c : Stage) (l k : Pending) (bytes more_bytes : List ℕ) → WentFurther a b l k bytes → StoppedAt Last b c k more_bytes → StoppedAt Last a c l (bytes ++ more_bytes)
+  stopped_after a b c l k bytes more_bytes x y =
+      let end = ends_after a b c l k bytes x y.served y.last y.middle (record { went = y.went; written = y.written; ended = y.ended }) in
       record {
         served = x.progress.served ++ y.served;
         last = y.last;
-        went = Went-append a.session.standing x.progress.served y.served x.progress.went went;
+        went = end.went;
         middle = y.middle;
-        written = subst P (sym (transcript-append s x.progress.served y.served)) (appends_more a.out b.out y.middle (transcript s x.progress.served) (transcript (fold s (all_commands s x.progress.served)) y.served) x.progress.written written);
-        ended =
-            let Q : List Command → Type 0 = λ es. Last IsSettled a.session es (standing_after b.session.standing (all_commands t y.served)) y.last y.middle c in
-            subst (λ (v : Standing). Last IsSettled a.session (all_commands s (x.progress.served ++ y.served)) v y.last y.middle c) standing
-            (subst Q cs (back a.session b.session (all_commands s x.progress.served) (all_commands t y.served) (standing_after b.session.standing (all_commands t y.served)) y.last y.middle c x.carries y.ended));
+        written = end.written;
+        ended = end.ended;
         spelled = λ more whole. let e = y.spelled more whole in (
           e.0,
           ap (λ v. inputs_after l v whole) (append_assoc bytes more_bytes more)

@@ -1,5 +1,6 @@
 -- What a run keeps of the inputs that it met.
 use Rattle.std.proofs.Common.{◌≡◌, ℕ, List, [], ◌∷◌, ◌++◌, Option, ap, append_assoc, sym, ◌∙◌, refl, subst, inl, inr}
+use Rattle.std.proofs.lemmas.List.{append-nil}
 use Rattle.mcs_disk.specs.Disk.{DiskState, IsLawful}
 use Rattle.mcs_model.specs.declared.command.Command.{Command}
 use Rattle.mcs_model.specs.BenchState.{BenchState}
@@ -17,7 +18,6 @@ use Rattle.mcs_shell.specs.Inputs.{Input}
 use Rattle.mcs_shell.specs.Shell.{EndsBy, Ran}
 use Rattle.mcs_shell.specs.Stage.{Stage}
 use Rattle.mcs_shell.specs.Transcript.{Served, Went, all_commands, all_reached, commands, reached}
-use Rattle.mcs_lines.proofs.Cutting.{nil_right}
 use Rattle.mcs_shell.proofs.Doing.{reached_same}
 use Rattle.mcs_shell.proofs.Served.{all_commands-append, all_commands-alone, alone, state_after}
 
@@ -40,7 +40,7 @@ all_reached-append s (p ∷ xs) ys =
 
 all_reached-alone : (s : BenchState) (i : Input) (o : Outcome) → all_reached s (alone i o) ≡ reached s i o
 unfolding all_reached
-all_reached-alone s i o = nil_right (reached s i o)
+all_reached-alone s i o = append-nil (reached s i o)
 
 -- one more input after those
 all_reached-last : (m : Standing) (served : Served) (i : Input) (o : Outcome) → Went m served

@@ -6,17 +6,13 @@ use Rattle.std.proofs.lemmas.List.{length-drop, drop_more}
 use Rattle.std.proofs.lemmas.List.Concat.{flat_map-append}
 use Rattle.std.proofs.lemmas.List.Elements.{filter_map-append}
 use Rattle.mcs_source.specs.declared.fault.SourceFault.{SourceFault}
-use Rattle.mcs_source.specs.Lines.{◌>>=◌, SourceLine}
+use Rattle.mcs_source.specs.Lines.{SourceLine}
 use Rattle.mcs_model.specs.TextLines.{lines_of}
 use Rattle.mcs_source.specs.Assembly.{Names, read, ith_line, next_at, address_of, definition, names_before, all_names, line_pairs, pairs_before, first_fault, first_of_class_one, first_of_class_two, spelt, assembled}
+use Rattle.mcs_model.proofs.ListLemmas.{range_more, find_at}
+use Rattle.mcs_model.specs.Options.{◌>>=◌}
 
 -- ---- one line further
-
-range_more : (a n : ℕ) → range_with_len a (suc n) ≡ range_with_len a n ++ (a + n) ∷ []
-range_more a zero = ap (λ (k : ℕ). k ∷ []) (omega arith)
-range_more a (suc n) =
-    let e : a + 1 + n ≡ a + suc n = omega arith in
-    ap (λ (l : List ℕ). a ∷ l) (range_more (a + 1) n ∙ ap (λ (k : ℕ). range_with_len (a + 1) n ++ k ∷ []) e)
 
 range_next : (i : ℕ) → range_with_len 0 (i + 1) ≡ range_with_len 0 i ++ i ∷ []
 range_next i =
@@ -59,13 +55,6 @@ find_none p a zero h = refl
 find_none p a (suc n) h =
     let here : p a ≡ false = h a (omega arith) in
     rw here (find_none p (a + 1) n (λ j lt. h j (omega (arith, lt))))
-
-find_at : (p : ℕ → Bool) (a n i : ℕ) → a ≤ i → i < a + n → ((j : ℕ) → j < i → p j ≡ false) → p i ≡ true → find p (range_with_len a n) ≡ Some i
-find_at p a zero i low high before here = absurd (omega (arith, low, high))
-find_at p a (suc n) i low high before here = elim (cases_eq i a) [
-  | inl same ↦ (let t : p a ≡ true = rw (← same) here in rw (t, same) refl)
-  | inr other ↦ (let t : p a ≡ false = before a (omega (arith, low, other)) in rw t (find_at p (a + 1) n i (omega (arith, low, other)) (omega (arith, high)) before here))
-]
 
 abbrev with_number : (ℕ → Option SourceFault) → ℕ → Option (ℕ × SourceFault)
 with_number fault i = fault i >>= λ f. Some (i + 1, f)

@@ -9,12 +9,13 @@ use Rattle.mcs_model.specs.declared.op.Op.TheVariants as op
 use Rattle.mcs_source.specs.declared.fault.SourceFault.{SourceFault}
 use Rattle.mcs_source.specs.declared.fault.SourceFault.TheVariants.{BadStatement, DoubleName, UnknownName, OutOfRange, WrongPage, Overlap, PastEnd, TooManyNames}
 use Rattle.mcs_source.specs.Lexical.{tokens}
-use Rattle.mcs_source.specs.Lines.{◌>>=◌, Operand, Number, Name, Statement, Origin, Data, Whole, Ldm, Bbl, Jun, Jms, Fim, Jcn, Isz, SourceLine, Code, Define, line_of}
+use Rattle.mcs_source.specs.Lines.{Operand, Number, Name, Statement, Origin, Data, Whole, Ldm, Bbl, Jun, Jms, Fim, Jcn, Isz, SourceLine, Code, Define, line_of}
 use Rattle.mcs_model.specs.TextLines.{lines_of}
 use Rattle.mcs_model.specs.Images.{from_address, overlaps}
 use Rattle.mcs_source.specs.Spelling.{spelling}
 use Rattle.mcs_model.specs.Numbers.{page_of}
 use Rattle.mcs_model.specs.Table.{word_count_of}
+use Rattle.mcs_model.specs.Options.{◌>>=◌}
 
 -- ---- the lines of a text, and what they say
 

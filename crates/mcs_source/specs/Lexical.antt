@@ -1,5 +1,6 @@
 -- The tokens of a line of a source text. (Our own choice.)
 use Rattle.std.specs.Prelude.{ℕ, Bool, ◌&&◌, ◌||◌, List, [], ◌∷◌, ◌++◌, nat_le, ◌==◌, if◌then◌else◌}
+use Rattle.std.specs.Char.{is_ascii_digit, is_ascii_uppercase, is_ascii_lowercase}
 use Rattle.mcs_model.specs.TextLines.{is_blank}
 
 -- a word is a run of letters, digits and `_`; `Other` is a byte that no form of a line has, as one
@@ -11,12 +12,9 @@ pub data Token : Type 0 where
   Equals : Token
   Other : Token
 
-abbrev pub is_within : ℕ → ℕ → ℕ → Bool
-is_within low high b = nat_le low b && nat_le b high
-
 -- a letter, a digit or `_`
 abbrev pub is_word_byte : ℕ → Bool
-is_word_byte b = ((is_within 48 57 b || is_within 65 90 b) || is_within 97 122 b) || b == 95
+is_word_byte b = ((is_ascii_digit b || is_ascii_uppercase b) || is_ascii_lowercase b) || b == 95
 
 -- the token of a byte that is not in a word
 abbrev pub symbol : ℕ → Token

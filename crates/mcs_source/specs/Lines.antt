@@ -3,7 +3,9 @@
 -- Manual.)
 use Rattle.std.specs.Prelude.{ℕ, ◌-◌, Bool, true, false, not, ◌&&◌, ◌||◌, List, [], ◌∷◌, Option, Some, None, is_some, nat_le, ◌==◌, if◌then◌else◌, codes, length}
 use Rattle.std.specs.Str.{str_eq_ignore_ascii_case}
-use Rattle.mcs_source.specs.Lexical.{Token, Word, Comma, Colon, Equals, is_within}
+use Rattle.std.specs.Char.{is_ascii_digit, is_ascii_uppercase, is_ascii_lowercase}
+use Rattle.std.specs.Int.{is_in_range}
+use Rattle.mcs_source.specs.Lexical.{Token, Word, Comma, Colon, Equals}
 use Rattle.mcs_model.specs.Numerals.{number_written, capped}
 use Rattle.mcs_source.specs.Mnemonics.{mnemonic_of}
 use Rattle.mcs_model.specs.declared.limits.TheConstants.{NAME_BYTES}
@@ -11,11 +13,7 @@ use Rattle.mcs_model.specs.declared.op.Op.{Op}
 use Rattle.mcs_model.specs.declared.op.Op.TheVariants as op
 use Rattle.mcs_source.specs.declared.mnemonic.Mnemonic.{Mnemonic}
 use Rattle.mcs_source.specs.declared.mnemonic.Mnemonic.TheVariants as m
-
-infixl 10 ◌>>=◌
-abbrev pub ◌>>=◌ : {A B : Type 0} → Option A → (A → Option B) → Option B
-(Some x) >>= f = f x
-None >>= f = None
+use Rattle.mcs_model.specs.Options.{◌>>=◌}
 
 -- a value as it is written
 pub data Operand : Type 0 where
@@ -36,12 +34,12 @@ pub data Statement : Type 0 where
 -- a letter or `_`
 abbrev pub begins_name : List ℕ → Bool
 begins_name [] = false
-begins_name (b ∷ word) = (is_within 65 90 b || is_within 97 122 b) || b == 95
+begins_name (b ∷ word) = (is_ascii_uppercase b || is_ascii_lowercase b) || b == 95
 
 -- a decimal number up to 15 with no leading zero
 abbrev pub up_to_15 : List ℕ → Option ℕ
-up_to_15 (d ∷ []) = if is_within 48 57 d then Some (d - 48) else None
-up_to_15 (t ∷ d ∷ []) = if t == 49 && is_within 48 53 d then Some (d - 38) else None
+up_to_15 (d ∷ []) = if is_ascii_digit d then Some (d - 48) else None
+up_to_15 (t ∷ d ∷ []) = if t == 49 && is_in_range 48 53 d then Some (d - 38) else None
 up_to_15 ds = None
 
 -- `R0` to `R15`
@@ -51,7 +49,7 @@ register_named [] = None
 
 -- `P0` to `P7`
 abbrev pub pair_named : List ℕ → Option ℕ
-pair_named (b ∷ d ∷ []) = if (b == 80 || b == 112) && is_within 48 55 d then Some (d - 48) else None
+pair_named (b ∷ d ∷ []) = if (b == 80 || b == 112) && is_in_range 48 55 d then Some (d - 48) else None
 pair_named word = None
 
 -- a word that cannot be a name, in upper or lower case: a mnemonic, `ORG`, `DB`, `WPM`, a register

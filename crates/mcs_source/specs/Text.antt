@@ -49,8 +49,8 @@ operands at (Ldm d) = codes " " ++ decimal d
 operands at o = []
 
 -- the text of an instruction that stands at an address
-abbrev pub text_of : ℕ → Op → List ℕ
-text_of at o = name o ++ operands at o
+abbrev pub instruction_text : ℕ → Op → List ℕ
+instruction_text at o = name o ++ operands at o
 
 -- the instruction of some bytes, where it lies in them whole; a code outside the table, and a first
 -- word whose second word lies past the end, is a byte
@@ -69,7 +69,7 @@ op_at b rest = whole_or_byte (decoded b (second_word rest)) b rest
 -- a piece is an instruction, or a byte that is not one
 abbrev pub piece_text : ℕ → ℕ → Option Op → List ℕ
 piece_text at b None = byte_text b
-piece_text at b (Some o) = text_of at o
+piece_text at b (Some o) = instruction_text at o
 
 abbrev pub piece_size : Option Op → ℕ
 piece_size None = 1

@@ -1,8 +1,9 @@
 -- The boards of version 1 are the small ones.
 use Rattle.std.proofs.Common.{◌≡◌, ℕ, ◌*◌, ◌+◌, ◌<◌, ◌≤◌, Bool, true, false, not, ◌&&◌, ◌||◌, cond, List, [], ◌∷◌, length, get_or, Option, Some, None, refl, ap, arith, nat_lt, nat_le, inl, inr, zero, suc}
 use Rattle.std.specs.List.{list_any}
-use Rattle.std.proofs.lemmas.Bool.{ltb-true, lt-ltb, leb-true, le-leb, cases_lt}
+use Rattle.std.proofs.lemmas.Bool.{ltb-true, lt-ltb, leb-true, le-leb, cases_lt, or_parts, or_from, and_parts, not-false, not-true}
 use Rattle.std.proofs.lemmas.Bool.Decides.{nat_tests}
+use Rattle.std.proofs.lemmas.List.{get_or_past}
 use Rattle.mcs_model.specs.declared.board.BoardFault.TheVariants.{BadValue, NoSuchLine, WrongDirection}
 use Rattle.mcs_model.specs.declared.board.BoardParts.{BoardParts}
 use Rattle.mcs_model.specs.declared.board.ChainPart.{ChainPart}
@@ -13,45 +14,18 @@ use Rattle.mcs_model.specs.declared.limits.TheConstants.{BANK_CHIPS, CHAINS, CHA
 use Rattle.mcs_model.specs.Boards.{any_line, any_chain_line, any_column, any_lamp, lacks_line, lacks_rows, exists_on, chain_bits, chain_part, chain_count, no_chain, has_bad_matrix, has_bad_value, has_wrong_direction, in_range, is_chain_size, is_matrix_size}
 use Rattle.mcs_model.specs.Validity.{IsValidBoard}
 use Rattle.mcs_version1.specs.Boards.{in_range_1, is_chain_size_1, is_matrix_size_1, has_bad_matrix_1, has_bad_value_1, is_small, IsValidBoard1}
+use Rattle.mcs_model.proofs.ListLemmas.{none_at}
+use Rattle.mcs_model.proofs.SoundBoards.{no_fault, sound}
 
 -- ---- tests
-
-neither : (a b : Bool) → (a || b) ≡ false → (a ≡ false) × (b ≡ false)
-neither true b h = absurd (cc)
-neither false b h = (refl, h)
-
-none-of : (a b : Bool) → a ≡ false → b ≡ false → (a || b) ≡ false
-none-of a b e f = rw (e, f) refl
-
-both : (a b : Bool) → (a && b) ≡ true → (a ≡ true) × (b ≡ true)
-both true b h = (refl, h)
-both false b h = absurd (cc)
-
-not-false : (a : Bool) → not a ≡ false → a ≡ true
-not-false true h = refl
-not-false false h = absurd (cc)
-
-not-true : (a : Bool) → not a ≡ true → a ≡ false
-not-true true h = absurd (cc)
-not-true false h = refl
 
 -- where no element passes p and none passes q, none passes r
 any-none : {A : Type 0} (p q r : A → Bool) → ((x : A) → p x ≡ false → q x ≡ false → r x ≡ false) → (xs : List A) → list_any p xs ≡ false → list_any q xs ≡ false → list_any r xs ≡ false
 any-none p q r f [] e g = refl
 any-none p q r f (x ∷ xs) e g =
-    let a = neither (p x) (list_any p xs) e in
-    let b = neither (q x) (list_any q xs) g in
-    none-of (r x) (list_any r xs) (f x a.0 b.0) (any-none p q r f xs a.1 b.1)
-
-any-at : (p : ChainPart → Bool) (xs : List ChainPart) (i : ℕ) → list_any p xs ≡ false → i < length xs → p (get_or xs i no_chain) ≡ false
-any-at p [] i e l = absurd (omega arith)
-any-at p (x ∷ xs) zero e l = (neither (p x) (list_any p xs) e).0
-any-at p (x ∷ xs) (suc i) e l = any-at p xs i (neither (p x) (list_any p xs) e).1 (omega arith)
-
-beyond : (xs : List ChainPart) (i : ℕ) → length xs ≤ i → get_or xs i no_chain ≡ no_chain
-beyond [] i l = refl
-beyond (x ∷ xs) zero l = absurd (omega arith)
-beyond (x ∷ xs) (suc i) l = beyond xs i (omega arith)
+    let a = or_parts (p x) (list_any p xs) e in
+    let b = or_parts (q x) (list_any q xs) g in
+    or_from (r x) (list_any r xs) (f x a.0 b.0) (any-none p q r f xs a.1 b.1)
 
 -- ---- a small board
 
@@ -61,15 +35,15 @@ pub record IsSmall (b : BoardParts) : Type 0 where
 
 small : (b : BoardParts) → is_small b ≡ true → IsSmall b
 small b h =
-    let w = both (nat_le (length b.chains.items) 2) (not (list_any (λ (c : ChainPart). nat_lt 4 c.chips) b.chains.items)) h in
+    let w = and_parts (nat_le (length b.chains.items) 2) (not (list_any (λ (c : ChainPart). nat_lt 4 c.chips) b.chains.items)) h in
     record { few = leb-true _ _ w.0; short = not-true _ w.1 }
 
 -- a chain of it has at most 4 chips
 short-chain : (b : BoardParts) (n : ℕ) → IsSmall b → (chain_part b n).chips ≤ 4
 short-chain b n s =
     elim (cases_lt n (length b.chains.items)) [
-      | inl lt ↦ (let size : nat_lt 4 (chain_part b n).chips ≡ false = any-at (λ (c : ChainPart). nat_lt 4 c.chips) b.chains.items n s.short lt in grind (arith, nat_tests))
-      | inr ge ↦ (let none : (chain_part b n).chips ≡ 0 = ap (λ (c : ChainPart). c.chips) (beyond b.chains.items n ge) in omega arith)
+      | inl lt ↦ (let size : nat_lt 4 (chain_part b n).chips ≡ false = none_at (λ (c : ChainPart). nat_lt 4 c.chips) b.chains.items n no_chain s.short lt in grind (arith, nat_tests))
+      | inr ge ↦ (let none : (chain_part b n).chips ≡ 0 = ap (λ (c : ChainPart). c.chips) (get_or_past b.chains.items n no_chain ge) in omega arith)
     ]
 
 -- ---- lines
@@ -84,7 +58,7 @@ line-within b s (Chain n i) there fits =
     let inside : n < 2 =
     elim (cases_lt n (length b.chains.items)) [
       | inl lt ↦ omega arith
-      | inr ge ↦ absurd (let none : (chain_part b n).chips ≡ 0 = ap (λ (c : ChainPart). c.chips) (beyond b.chains.items n ge) in omega arith)
+      | inr ge ↦ absurd (let none : (chain_part b n).chips ≡ 0 = ap (λ (c : ChainPart). c.chips) (get_or_past b.chains.items n no_chain ge) in omega arith)
     ] in
     let a : nat_lt n 2 ≡ true = lt-ltb _ _ inside in
     let c : nat_lt i 40 ≡ true = lt-ltb _ _ (omega arith) in
@@ -94,7 +68,7 @@ line-wider : (line : Line) → not (in_range_1 line) ≡ false → not (in_range
 line-wider (Rom chip j) fits = fits
 line-wider (Ram bank chip j) fits = fits
 line-wider (Chain n i) fits =
-    let w = both (nat_lt n 2) (nat_lt i 40) (not-false _ fits) in
+    let w = and_parts (nat_lt n 2) (nat_lt i 40) (not-false _ fits) in
     let x : n < 2 = ltb-true _ _ w.0 in
     let y : i < 40 = ltb-true _ _ w.1 in
     let a : nat_lt n CHAINS ≡ true = lt-ltb _ _ (omega arith) in
@@ -108,12 +82,12 @@ keys-none p q r f (Some m) e g = any-none p q r f m.columns.items e g
 
 lines-none : (p q r : Line → Bool) → ((x : Line) → p x ≡ false → q x ≡ false → r x ≡ false) → (b : BoardParts) → any_line p b ≡ false → any_line q b ≡ false → any_line r b ≡ false
 lines-none p q r f b there fits =
-    let t1 = neither (any_chain_line p b || any_column p b) (any_lamp p b) there in let t2 = neither (any_chain_line p b) (any_column p b) t1.0 in
-    let f1 = neither (any_chain_line q b || any_column q b) (any_lamp q b) fits in let f2 = neither (any_chain_line q b) (any_column q b) f1.0 in
-    none-of (any_chain_line r b || any_column r b) (any_lamp r b)
-    (none-of (any_chain_line r b) (any_column r b)
+    let t1 = or_parts (any_chain_line p b || any_column p b) (any_lamp p b) there in let t2 = or_parts (any_chain_line p b) (any_column p b) t1.0 in
+    let f1 = or_parts (any_chain_line q b || any_column q b) (any_lamp q b) fits in let f2 = or_parts (any_chain_line q b) (any_column q b) f1.0 in
+    or_from (any_chain_line r b || any_column r b) (any_lamp r b)
+    (or_from (any_chain_line r b) (any_column r b)
     (any-none (λ (c : ChainPart). p c.clock || p c.data_in) (λ (c : ChainPart). q c.clock || q c.data_in) (λ (c : ChainPart). r c.clock || r c.data_in)
-    (λ c x y. let a = neither (p c.clock) (p c.data_in) x in let d = neither (q c.clock) (q c.data_in) y in none-of (r c.clock) (r c.data_in) (f c.clock a.0 d.0) (f c.data_in a.1 d.1)) b.chains.items t2.0 f2.0)
+    (λ c x y. let a = or_parts (p c.clock) (p c.data_in) x in let d = or_parts (q c.clock) (q c.data_in) y in or_from (r c.clock) (r c.data_in) (f c.clock a.0 d.0) (f c.data_in a.1 d.1)) b.chains.items t2.0 f2.0)
     (keys-none p q r f b.keys t2.1 f2.1))
     (any-none p q r f b.lamps.items t1.1 f1.1)
 
@@ -121,7 +95,7 @@ lines-none p q r f b there fits =
 
 size-wider : (c : ChainPart) → not (is_chain_size_1 c) ≡ false → not (is_chain_size c) ≡ false
 size-wider c x =
-    let w = both (nat_lt 0 c.chips) (nat_le c.chips 4) (not-false _ x) in
+    let w = and_parts (nat_lt 0 c.chips) (nat_le c.chips 4) (not-false _ x) in
     let most : c.chips ≤ 4 = leb-true _ _ w.1 in
     let some : nat_lt 0 c.chips ≡ true = w.0 in
     let all : nat_le c.chips CHAIN_CHIPS ≡ true = le-leb _ _ (omega arith) in
@@ -129,7 +103,7 @@ size-wider c x =
 
 size-within : (c : ChainPart) → not (is_chain_size c) ≡ false → nat_lt 4 c.chips ≡ false → not (is_chain_size_1 c) ≡ false
 size-within c x y =
-    let w = both (nat_lt 0 c.chips) (nat_le c.chips CHAIN_CHIPS) (not-false _ x) in
+    let w = and_parts (nat_lt 0 c.chips) (nat_le c.chips CHAIN_CHIPS) (not-false _ x) in
     let short : c.chips ≤ 4 = grind (arith, nat_tests) in
     let some : nat_lt 0 c.chips ≡ true = w.0 in
     let all : nat_le c.chips 4 ≡ true = le-leb _ _ short in
@@ -137,7 +111,7 @@ size-within c x y =
 
 size-short : (c : ChainPart) → not (is_chain_size_1 c) ≡ false → nat_lt 4 c.chips ≡ false
 size-short c x =
-    let w = both (nat_lt 0 c.chips) (nat_le c.chips 4) (not-false _ x) in
+    let w = and_parts (nat_lt 0 c.chips) (nat_le c.chips 4) (not-false _ x) in
     let most : c.chips ≤ 4 = leb-true _ _ w.1 in
     grind (arith, nat_tests)
 
@@ -153,10 +127,10 @@ record HasSizes (chains bits : ℕ) (m : KeyMatrix) : Type 0 where
 sizes : (chains bits : ℕ) (m : KeyMatrix) → (nat_lt m.chain chains && nat_lt m.first bits && nat_lt 0 m.rows && nat_le m.rows KEY_ROWS && nat_lt 0 (length m.columns.items)) ≡ true → HasSizes chains bits m
 sizes chains bits m h =
     let a = nat_lt m.chain chains in let f = nat_lt m.first bits in let s = nat_lt 0 m.rows in let r = nat_le m.rows KEY_ROWS in let k = nat_lt 0 (length m.columns.items) in
-    let w1 = both (a && f && s && r) k h in
-    let w2 = both (a && f && s) r w1.0 in
-    let w3 = both (a && f) s w2.0 in
-    let w4 = both a f w3.0 in
+    let w1 = and_parts (a && f && s && r) k h in
+    let w2 = and_parts (a && f && s) r w1.0 in
+    let w3 = and_parts (a && f) s w2.0 in
+    let w4 = and_parts a f w3.0 in
     record { chain = w4.0; first = w4.1; some = w3.1; rows = w2.1; columns = w1.1 }
 
 matrix-wider : (keys : Option KeyMatrix) → elim keys [ Some m ↦ not (is_matrix_size_1 m) | None ↦ false ] ≡ false → elim keys [ Some m ↦ not (is_matrix_size m) | None ↦ false ] ≡ false
@@ -174,7 +148,7 @@ matrix-within : (b : BoardParts) → IsSmall b → (keys : Option KeyMatrix) →
 matrix-within b s None there h = refl
 matrix-within b s (Some m) there h =
     let w = sizes CHAINS CHAIN_BITS m (not-false _ h) in
-    let t = neither (nat_le (chain_count b) m.chain) (nat_lt (chain_bits b m.chain) (m.first + m.rows)) there in
+    let t = or_parts (nat_le (chain_count b) m.chain) (nat_lt (chain_bits b m.chain) (m.first + m.rows)) there in
     let few = s.few in
     let short = short-chain b m.chain s in
     let rows : 0 < m.rows = ltb-true _ _ w.some in
@@ -186,35 +160,29 @@ matrix-within b s (Some m) there h =
 
 -- ---- the whole
 
-faultless : (a b c : Bool) → cond a (Some BadValue) (cond b (Some NoSuchLine) (cond c (Some WrongDirection) None)) ≡ None → (a ≡ false) × ((b ≡ false) × (c ≡ false))
-faultless true b c h = absurd (cc)
-faultless false true c h = absurd (cc)
-faultless false false true h = absurd (cc)
-faultless false false false h = (refl, (refl, refl))
-
 pub valid-now : (b : BoardParts) → IsValidBoard1 b → IsValidBoard b
 valid-now b h =
-    let w = faultless (has_bad_value_1 b) (lacks_line b) (has_wrong_direction b) h.valid in
+    let w = no_fault (has_bad_value_1 b) (lacks_line b) (has_wrong_direction b) h.valid in
     let large = list_any (λ n. nat_lt BANK_CHIPS n) b.banks in
     let chains = list_any (λ (c : ChainPart). not (is_chain_size_1 c)) b.chains.items in
     let lines = any_line (λ line. not (in_range_1 line)) b in
-    let v1 = neither (large || chains || has_bad_matrix_1 b) lines w.0 in
-    let v2 = neither (large || chains) (has_bad_matrix_1 b) v1.0 in
-    let v3 = neither large chains v2.0 in
+    let v1 = or_parts (large || chains || has_bad_matrix_1 b) lines w.0 in
+    let v2 = or_parts (large || chains) (has_bad_matrix_1 b) v1.0 in
+    let v3 = or_parts large chains v2.0 in
     let sized = any-none (λ (c : ChainPart). not (is_chain_size_1 c)) (λ (c : ChainPart). not (is_chain_size_1 c)) (λ (c : ChainPart). not (is_chain_size c)) (λ c x y. size-wider c x) b.chains.items v3.1 v3.1 in
     let matrix = matrix-wider b.keys v2.1 in
     let in_ranges = lines-none (λ line. not (in_range_1 line)) (λ line. not (in_range_1 line)) (λ line. not (in_range line)) (λ line x y. line-wider line x) b v1.1 v1.1 in
-    let good : has_bad_value b ≡ false = none-of _ _ (none-of _ _ (none-of _ _ v3.0 sized) matrix) in_ranges in
-    record { sized = h.sized; valid = rw (good, w.1.0, w.1.1) refl }
+    let good : has_bad_value b ≡ false = or_from _ _ (or_from _ _ (or_from _ _ v3.0 sized) matrix) in_ranges in
+    record { sized = h.sized; valid = rw (good, w.1, w.2) refl }
 
 pub small-then : (b : BoardParts) → IsValidBoard1 b → is_small b ≡ true
 small-then b h =
-    let w = faultless (has_bad_value_1 b) (lacks_line b) (has_wrong_direction b) h.valid in
+    let w = no_fault (has_bad_value_1 b) (lacks_line b) (has_wrong_direction b) h.valid in
     let large = list_any (λ n. nat_lt BANK_CHIPS n) b.banks in
     let chains = list_any (λ (c : ChainPart). not (is_chain_size_1 c)) b.chains.items in
-    let v1 = neither (large || chains || has_bad_matrix_1 b) (any_line (λ line. not (in_range_1 line)) b) w.0 in
-    let v2 = neither (large || chains) (has_bad_matrix_1 b) v1.0 in
-    let v3 = neither large chains v2.0 in
+    let v1 = or_parts (large || chains || has_bad_matrix_1 b) (any_line (λ line. not (in_range_1 line)) b) w.0 in
+    let v2 = or_parts (large || chains) (has_bad_matrix_1 b) v1.0 in
+    let v3 = or_parts large chains v2.0 in
     let few : nat_le (length b.chains.items) 2 ≡ true = le-leb _ _ h.few in
     let short : list_any (λ (c : ChainPart). nat_lt 4 c.chips) b.chains.items ≡ false = any-none (λ (c : ChainPart). not (is_chain_size_1 c)) (λ (c : ChainPart). not (is_chain_size_1 c)) (λ (c : ChainPart). nat_lt 4 c.chips) (λ c x y. size-short c x) b.chains.items v3.1 v3.1 in
     rw (few, short) refl
@@ -222,16 +190,10 @@ small-then b h =
 pub valid-then : (b : BoardParts) → IsValidBoard b → is_small b ≡ true → IsValidBoard1 b
 valid-then b h e =
     let s = small b e in
-    let w = faultless (has_bad_value b) (lacks_line b) (has_wrong_direction b) h.valid in
-    let large = list_any (λ n. nat_lt BANK_CHIPS n) b.banks in
-    let chains = list_any (λ (c : ChainPart). not (is_chain_size c)) b.chains.items in
-    let lines = any_line (λ line. not (in_range line)) b in
-    let v1 = neither (large || chains || has_bad_matrix b) lines w.0 in
-    let v2 = neither (large || chains) (has_bad_matrix b) v1.0 in
-    let v3 = neither large chains v2.0 in
-    let there = neither (any_line (λ line. not (exists_on b line)) b) (lacks_rows b) w.1.0 in
-    let sized = any-none (λ (c : ChainPart). not (is_chain_size c)) (λ (c : ChainPart). nat_lt 4 c.chips) (λ (c : ChainPart). not (is_chain_size_1 c)) (λ c x y. size-within c x y) b.chains.items v3.1 s.short in
-    let matrix = matrix-within b s b.keys there.1 v2.1 in
-    let in_ranges = lines-none (λ line. not (exists_on b line)) (λ line. not (in_range line)) (λ line. not (in_range_1 line)) (λ line x y. line-within b s line x y) b there.0 v1.1 in
-    let good : has_bad_value_1 b ≡ false = none-of _ _ (none-of _ _ (none-of _ _ v3.0 sized) matrix) in_ranges in
-    record { sized = h.sized; few = s.few; valid = rw (good, w.1.0, w.1.1) refl }
+    let now = sound b h.valid in
+    let sized = any-none (λ (c : ChainPart). not (is_chain_size c)) (λ (c : ChainPart). nat_lt 4 c.chips) (λ (c : ChainPart). not (is_chain_size_1 c)) (λ c x y. size-within c x y) b.chains.items now.values.chains s.short in
+    let matrix = matrix-within b s b.keys now.rows now.values.matrix in
+    let in_ranges = lines-none (λ line. not (exists_on b line)) (λ line. not (in_range line)) (λ line. not (in_range_1 line)) (λ line x y. line-within b s line x y) b now.lines now.values.lines in
+    let good : has_bad_value_1 b ≡ false = or_from _ _ (or_from _ _ (or_from _ _ now.values.banks sized) matrix) in_ranges in
+    let lacks : lacks_line b ≡ false = or_from _ _ now.lines now.rows in
+    record { sized = h.sized; few = s.few; valid = rw (good, lacks, now.directions) refl }

@@ -1,9 +1,10 @@
 -- The parts that a table tells have numbers in their ranges.
 use Rattle.std.proofs.Common.{◌≡◌, ℕ, ◌-◌, ◌<◌, ◌≤◌, ℤ, pos, negsuc, Bool, true, false, not, ◌||◌, ◌&&◌, List, [], ◌∷◌, length, map, codes, Option, Some, None, is_none, option_and_then, Ok, Err, if◌then◌else◌, eqb, ltb, leb, refl, sym, ap, ◌∙◌, arith}
-use Rattle.std.proofs.lemmas.Bool.{and_parts, true≢false, leb-true, le-leb, le-ltb, lt-ltb}
+use Rattle.std.proofs.lemmas.Bool.{and_parts, true≢false, leb-true, le-leb, le-ltb, lt-ltb, or_parts}
 use Rattle.std.proofs.lemmas.Option.{same_Some}
 use Rattle.std.specs.List.{list_any, filter_map, cons_option, range_with_len}
 use Rattle.std.specs.Option.{option_to_list, option_map_or}
+use Rattle.std.specs.Char.{is_ascii_digit}
 use Rattle.toml.specs.Data.{Data, Members, get_member, as_integer, as_str, as_table}
 use Rattle.mcs_nibble.specs.Tabled.{tabled}
 use Rattle.mcs_model.specs.declared.board.BoardParts.{BoardParts}
@@ -19,7 +20,7 @@ use Rattle.mcs_wiring.specs.Flaws.{judgement_of, board_of_parts}
 use Rattle.mcs_wiring.specs.declared.sections.Numbered.{Numbered}
 use Rattle.mcs_wiring.specs.declared.sections.Section.{Section}
 use Rattle.mcs_wiring.specs.declared.sections.Section.TheVariants.{Rom, Ram, Chain, Keys, Lamp}
-use Rattle.mcs_wiring.specs.Names.{is_digit, below_or_none, number_below, rest_after, rom_line, ram_line, chain_line, line_named, parts_around_dot}
+use Rattle.mcs_wiring.specs.Names.{below_or_none, number_below, rest_after, rom_line_named, ram_line_named, chain_line_named, line_named, parts_around_dot}
 use Rattle.mcs_wiring.specs.Wiring.{within_or_none, number_at, line_of, line_at, part_of, ram_in, chain_in, matrix_in, lamp_in, values_at, is_no_line, are_bad_columns, has_bad_columns, is_malformed, has_bad_value, section_values, any_section, lacks_array, keys_table, part_at, rams_of, parts_of}
 use Rattle.mcs_wiring.specs.Format.{sections}
 
@@ -32,10 +33,6 @@ bound (Some x) f y e = (x, refl, e)
 picked : (b : Bool) (k n : ℕ) → (if b then Some k else None) ≡ Some n → (b ≡ true) × (k ≡ n)
 picked true k n e = (refl, same_Some k n e)
 picked false k n e = cc
-
-neither : (a b : Bool) → (a || b) ≡ false → (a ≡ false) × (b ≡ false)
-neither true b h = absurd (true≢false h)
-neither false b h = (refl, h)
 
 -- ---- numbers
 
@@ -59,13 +56,13 @@ below_bound false limit k n e = cc
 
 named_below : (limit : ℕ) (text : List ℕ) (n : ℕ) → number_below limit text ≡ Some n → ltb n limit ≡ true
 named_below limit [] n e = cc
-named_below limit (d ∷ []) n e = below_bound (is_digit d) limit _ n e
-named_below limit (t ∷ d ∷ []) n e = below_bound ((is_digit t && is_digit d) && not (eqb t 48)) limit _ n e
+named_below limit (d ∷ []) n e = below_bound (is_ascii_digit d) limit _ n e
+named_below limit (t ∷ d ∷ []) n e = below_bound ((is_ascii_digit t && is_ascii_digit d) && not (eqb t 48)) limit _ n e
 named_below limit (a ∷ b ∷ c ∷ rest) n e = cc
 
 -- ---- lines
 
-rom_in_range : (text : List ℕ) (l : Line) → rom_line text ≡ Some l → boards.in_range l ≡ true
+rom_in_range : (text : List ℕ) (l : Line) → rom_line_named text ≡ Some l → boards.in_range l ≡ true
 rom_in_range text l e =
     let (p, _, e1) = bound (parts_around_dot text) _ l e in
     let (chip, chip_is, e2) = bound (number_below ROMS p.0) _ l e1 in
@@ -74,7 +71,7 @@ rom_in_range text l e =
     let here : boards.in_range (line.Rom chip k) ≡ true = rw (named_below ROMS p.0 chip chip_is, named_below 4 p.1 k k_is) refl in
     ap boards.in_range (sym same) ∙ here
 
-ram_in_range : (text : List ℕ) (l : Line) → ram_line text ≡ Some l → boards.in_range l ≡ true
+ram_in_range : (text : List ℕ) (l : Line) → ram_line_named text ≡ Some l → boards.in_range l ≡ true
 ram_in_range text l e =
     let (p, _, e1) = bound (parts_around_dot text) _ l e in
     let (q, _, e2) = bound (parts_around_dot p.1) _ l e1 in
@@ -85,7 +82,7 @@ ram_in_range text l e =
     let here : boards.in_range (line.Ram bank chip k) ≡ true = rw (named_below BANKS p.0 bank bank_is, named_below BANK_CHIPS q.0 chip chip_is, named_below 4 q.1 k k_is) refl in
     ap boards.in_range (sym same) ∙ here
 
-chain_in_range : (text : List ℕ) (l : Line) → chain_line text ≡ Some l → boards.in_range l ≡ true
+chain_in_range : (text : List ℕ) (l : Line) → chain_line_named text ≡ Some l → boards.in_range l ≡ true
 chain_in_range text l e =
     let (p, _, e1) = bound (parts_around_dot text) _ l e in
     let (n, n_is, e2) = bound (number_below CHAINS p.0) _ l e1 in
@@ -95,10 +92,10 @@ chain_in_range text l e =
     ap boards.in_range (sym same) ∙ here
 
 named_in_range : (a b c : Option (List ℕ)) (l : Line)
-    → (elim a [ Some rest ↦ rom_line rest | None ↦ elim b [ Some rest ↦ ram_line rest | None ↦ option_and_then chain_line c ] ]) ≡ Some l → boards.in_range l ≡ true
+    → (elim a [ Some rest ↦ rom_line_named rest | None ↦ elim b [ Some rest ↦ ram_line_named rest | None ↦ option_and_then chain_line_named c ] ]) ≡ Some l → boards.in_range l ≡ true
 named_in_range (Some rest) b c l e = rom_in_range rest l e
 named_in_range None (Some rest) c l e = ram_in_range rest l e
-named_in_range None None c l e = let (rest, _, read) = bound c chain_line l e in chain_in_range rest l read
+named_in_range None None c l e = let (rest, _, read) = bound c chain_line_named l e in chain_in_range rest l read
 
 line_in_range : (text : List ℕ) (l : Line) → line_named text ≡ Some l → boards.in_range l ≡ true
 line_in_range text l e = named_in_range (rest_after (codes "rom") text) (rest_after (codes "ram") text) (rest_after (codes "chain") text) l e
@@ -153,7 +150,7 @@ chosen false x y h k = k
 part_within : (ps : List (Numbered ℕ)) (n : ℕ) → list_any (λ p. above p.part) ps ≡ false → above (part_at 0 ps n) ≡ false
 part_within [] n h = refl
 part_within (p ∷ ps) n h =
-    let (here, later) = neither (above p.part) (list_any (λ (q : Numbered ℕ). above q.part) ps) h in
+    let (here, later) = or_parts (above p.part) (list_any (λ (q : Numbered ℕ). above q.part) ps) h in
     chosen (eqb p.number n) p.part (part_at 0 ps n) here (part_within ps n later)
 
 banks_within : (ms : Members) → list_any above (parts_of ms).banks ≡ false
@@ -187,7 +184,7 @@ some_first (Some l) ls h = omega arith
 some_columns : (ds : List Data) → are_bad_columns ds ≡ false → 0 < length (filter_map line_of ds)
 some_columns [] h = absurd (true≢false h)
 some_columns (d ∷ ds) h =
-    let (here, later) = neither (is_no_line d) (list_any is_no_line ds) h in
+    let (here, later) = or_parts (is_no_line d) (list_any is_no_line ds) h in
     some_first (line_of d) (filter_map line_of ds) here
 
 abbrev IsRightMatrix : KeyMatrix → Type 0
@@ -225,18 +222,18 @@ right_keys (Some m) h = h m refl
 good_columns : (o : Option Data) (t : Members) → list_any (is_malformed Keys) (option_to_list o) ≡ false → option_and_then as_table o ≡ Some t → has_bad_columns t ≡ false
 good_columns None t h e = cc
 good_columns (Some d) t h e =
-    let (bad, _) = neither (is_malformed Keys d) false h in
-    let (_, columns) = neither (is_none (part_of matrix_in d)) (option_map_or has_bad_columns (as_table d) true) bad in
+    let (bad, _) = or_parts (is_malformed Keys d) false h in
+    let (_, columns) = or_parts (is_none (part_of matrix_in d)) (option_map_or has_bad_columns (as_table d) true) bad in
     ap (λ o. option_map_or has_bad_columns o true) (sym e) ∙ columns
 
 keys_right : (ms : Members) → has_bad_value ms ≡ false → IsRight (parts_of ms).keys
 keys_right ms h =
     let any = λ (s : Section). list_any (is_malformed s) (section_values s ms) in
-    let (_, h1) = neither (list_any (lacks_array ms) sections) (any_section is_malformed ms) h in
-    let (_, h2) = neither (any Rom) (any Ram || (any Chain || (any Keys || (any Lamp || false)))) h1 in
-    let (_, h3) = neither (any Ram) (any Chain || (any Keys || (any Lamp || false))) h2 in
-    let (_, h4) = neither (any Chain) (any Keys || (any Lamp || false)) h3 in
-    let (h5, _) = neither (any Keys) (any Lamp || false) h4 in
+    let (_, h1) = or_parts (list_any (lacks_array ms) sections) (any_section is_malformed ms) h in
+    let (_, h2) = or_parts (any Rom) (any Ram || (any Chain || (any Keys || (any Lamp || false)))) h1 in
+    let (_, h3) = or_parts (any Ram) (any Chain || (any Keys || (any Lamp || false))) h2 in
+    let (_, h4) = or_parts (any Chain) (any Keys || (any Lamp || false)) h3 in
+    let (h5, _) = or_parts (any Keys) (any Lamp || false) h4 in
     right_keys (option_and_then matrix_in (keys_table ms)) (λ m e.
     let (t, t_is, read) = bound (keys_table ms) matrix_in m e in
     matrix_right t m read (good_columns (get_member (codes "keys") ms) t h5 t_is))

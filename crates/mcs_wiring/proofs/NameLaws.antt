@@ -11,16 +11,12 @@ use Rattle.mcs_model.specs.declared.limits.TheConstants.{ROMS, BANKS, BANK_CHIPS
 use Rattle.mcs_model.specs.Boards.{in_range}
 use Rattle.mcs_nibble.specs.Ports.{mask_character, mask_of}
 use Rattle.mcs_wiring.specs.Names.{line_name, line_named, masks_named, port_name}
+use Rattle.mcs_nibble.proofs.PortLemmas.{mask_again}
 
 -- ---- ports
 
-mask_back : (m : LineMask) → mask_of (mask_character m) ≡ Some m
-mask_back Input = refl
-mask_back Zero = refl
-mask_back One = refl
-
 pub port_back : (m0 m1 m2 m3 : LineMask) → masks_named (port_name (m0 ∷ m1 ∷ m2 ∷ m3 ∷ [])) ≡ Some (m0 ∷ m1 ∷ m2 ∷ m3 ∷ [])
-port_back m0 m1 m2 m3 = rw (mask_back m0, mask_back m1, mask_back m2, mask_back m3) refl
+port_back m0 m1 m2 m3 = rw (mask_again m0, mask_again m1, mask_again m2, mask_again m3) refl
 
 -- ---- lines, by computing each of them
 

@@ -15,14 +15,9 @@ use Rattle.mcs_model.specs.declared.board.BoardParts.{BoardParts}
 use Rattle.mcs_model.specs.declared.limits.TheConstants.{ROMS, BANKS}
 use Rattle.mcs_model.specs.Boards.{masks_on}
 use Rattle.mcs_model.specs.QueryText.{as_line}
-use Rattle.mcs_wiring.specs.BoardText.{quoted_name, rom_lines, ram_lines, chain_lines, matrix_lines, lamp_lines, text_of, board_text}
+use Rattle.mcs_wiring.specs.BoardText.{quoted_name, rom_lines, bank_lines, chain_lines, matrix_lines, lamp_lines, text_of, board_text}
 use Rattle.mcs_wiring.specs.Flaws.{roms_text, rams_text}
-
-range_more : (a n : ℕ) → range_with_len a (suc n) ≡ range_with_len a n ++ (a + n) ∷ []
-range_more a zero = ap (λ k. k ∷ []) (omega arith)
-range_more a (suc n) =
-    let same : (a + 1) + n ≡ a + suc n = omega arith in
-    ap (λ ks. a ∷ ks) (range_more (a + 1) n ∙ ap (λ k. range_with_len (a + 1) n ++ k ∷ []) same)
+use Rattle.mcs_model.proofs.ListLemmas.{range_more}
 
 -- the texts of the first parts, and of the next
 pub one_more : (f : ℕ → List ℕ) (n : ℕ) → flat_map f (range_with_len 0 (n + 1)) ≡ flat_map f (range_with_len 0 n) ++ f n
@@ -46,7 +41,7 @@ pub parts_text : (b : BoardParts) → board_text b
     ≡ roms_text b ROMS ++ (rams_text b BANKS ++ (flat_map (λ c. text_of (chain_lines c)) b.chains.items ++ (text_of (option_map_or matrix_lines b.keys []) ++ flat_map (λ l. text_of (lamp_lines l)) b.lamps.items)))
 parts_text b =
     let roms = flat_map (λ chip. rom_lines chip (masks_on b chip)) (range_with_len 0 ROMS) in
-    let rams = flat_map (λ bank. ram_lines bank (slice_index b.banks bank)) (range_with_len 0 BANKS) in
+    let rams = flat_map (λ bank. bank_lines bank (slice_index b.banks bank)) (range_with_len 0 BANKS) in
     let chains = flat_map chain_lines b.chains.items in
     let keys = option_map_or matrix_lines b.keys [] in
     let lamps = flat_map lamp_lines b.lamps.items in
@@ -54,7 +49,7 @@ parts_text b =
     ∙ (ap (λ t. t ++ text_of (rams ++ (chains ++ (keys ++ lamps)))) (text_of-flat_map (λ chip. rom_lines chip (masks_on b chip)) (range_with_len 0 ROMS))
     ∙ ap (λ t. roms_text b ROMS ++ t) (
     text_of-append rams (chains ++ (keys ++ lamps))
-    ∙ (ap (λ t. t ++ text_of (chains ++ (keys ++ lamps))) (text_of-flat_map (λ bank. ram_lines bank (slice_index b.banks bank)) (range_with_len 0 BANKS))
+    ∙ (ap (λ t. t ++ text_of (chains ++ (keys ++ lamps))) (text_of-flat_map (λ bank. bank_lines bank (slice_index b.banks bank)) (range_with_len 0 BANKS))
     ∙ ap (λ t. rams_text b BANKS ++ t) (
     text_of-append chains (keys ++ lamps)
     ∙ (ap (λ t. t ++ text_of (keys ++ lamps)) (text_of-flat_map chain_lines b.chains.items)

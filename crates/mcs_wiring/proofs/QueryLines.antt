@@ -6,7 +6,7 @@ use Rattle.mcs_model.specs.QueryText.{as_line}
 use Rattle.mcs_wiring.specs.BoardText.{board_lines, board_text, query_text}
 
 -- lines joined by LF, with one more at the end, are lines that LF ends
-joined_lines : (x : List ℕ) (xs : List (List ℕ)) → join_with_byte 10 (x ∷ xs) ++ 10 ∷ [] ≡ flat_map as_line (x ∷ xs)
+pub joined_lines : (x : List ℕ) (xs : List (List ℕ)) → join_with_byte 10 (x ∷ xs) ++ 10 ∷ [] ≡ flat_map as_line (x ∷ xs)
 joined_lines x [] = sym (append-nil (as_line x))
 joined_lines x (y ∷ ys) =
     let more = flat_map as_line (y ∷ ys) in

@@ -31,8 +31,8 @@ rom_lines chip (Some masks) =
     ∷ entry (codes "port") (quoted_text (port_name masks)) ∷ []
 
 -- the lines of a bank, where it has chips
-abbrev pub ram_lines : ℕ → ℕ → List (List ℕ)
-ram_lines bank chips =
+abbrev pub bank_lines : ℕ → ℕ → List (List ℕ)
+bank_lines bank chips =
     if nat_lt 0 chips
     then codes "[[ram]]" ∷ entry (codes "bank") (decimal bank)
     ∷ entry (codes "chips") (decimal chips) ∷ []
@@ -61,7 +61,7 @@ lamp_lines line = codes "[[lamp]]" ∷ entry (codes "line") (quoted_name line) �
 abbrev pub board_lines : BoardParts → List (List ℕ)
 board_lines b =
     flat_map (λ chip. rom_lines chip (masks_on b chip)) (range_with_len 0 ROMS)
-    ++ (flat_map (λ bank. ram_lines bank (slice_index b.banks bank)) (range_with_len 0 BANKS)
+    ++ (flat_map (λ bank. bank_lines bank (slice_index b.banks bank)) (range_with_len 0 BANKS)
     ++ (flat_map chain_lines b.chains.items
     ++ (option_map_or matrix_lines b.keys []
     ++ flat_map lamp_lines b.lamps.items)))

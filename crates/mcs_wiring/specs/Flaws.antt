@@ -12,7 +12,7 @@ use Rattle.mcs_wiring.specs.declared.sections.Flaw.{Flaw}
 use Rattle.mcs_wiring.specs.declared.sections.Flaw.TheVariants.{UnknownKey, MissingKey, BadValue}
 use Rattle.mcs_wiring.specs.declared.sections.Section.{Section}
 use Rattle.mcs_wiring.specs.Refusals.{refusal_of}
-use Rattle.mcs_wiring.specs.BoardText.{rom_lines, ram_lines, text_of}
+use Rattle.mcs_wiring.specs.BoardText.{rom_lines, bank_lines, text_of}
 use Rattle.mcs_wiring.specs.Wiring.{has_other_key, lacks_key, is_malformed, values_at, column_values, has_double_chip, parts_of}
 
 -- whether a value in the place of a section's table has a flaw
@@ -37,7 +37,7 @@ abbrev pub roms_text : BoardParts → ℕ → List ℕ
 roms_text b n = flat_map (rom_text b) (range_with_len 0 n)
 
 abbrev pub ram_text : BoardParts → ℕ → List ℕ
-ram_text b bank = text_of (ram_lines bank (slice_index b.banks bank))
+ram_text b bank = text_of (bank_lines bank (slice_index b.banks bank))
 
 abbrev pub rams_text : BoardParts → ℕ → List ℕ
 rams_text b n = flat_map (ram_text b) (range_with_len 0 n)

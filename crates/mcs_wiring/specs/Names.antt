@@ -3,21 +3,15 @@ use Rattle.std.specs.Prelude.{ℕ, ◌+◌, ◌*◌, ◌-◌, Bool, ◌&&◌, no
 use Rattle.std.specs.List.{position_or_len, before_first, after_first}
 use Rattle.std.specs.Str.{bytes_eq}
 use Rattle.std.specs.Fmt.{decimal}
+use Rattle.std.specs.Char.{is_ascii_digit}
 use Rattle.mcs_nibble.specs.declared.lines.LineMask.{LineMask}
 use Rattle.mcs_nibble.specs.Ports.{mask_at, mask_character, mask_of}
 use Rattle.mcs_model.specs.declared.board.Line.{Line}
 use Rattle.mcs_model.specs.declared.board.Line.TheVariants.{Rom, Ram, Chain}
 use Rattle.mcs_model.specs.declared.limits.TheConstants.{ROMS, BANKS, BANK_CHIPS, CHAINS, CHAIN_BITS}
-
--- what follows, if there was something before
-infixl 10 ◌>>=◌
-abbrev pub ◌>>=◌ : {A B : Type 0} → Option A → (A → Option B) → Option B
-o >>= f = option_and_then f o
+use Rattle.mcs_model.specs.Options.{◌>>=◌}
 
 -- ---- numbers
-
-abbrev pub is_digit : ℕ → Bool
-is_digit c = nat_le 48 c && nat_le c 57
 
 abbrev pub below_or_none : ℕ → ℕ → Option ℕ
 below_or_none limit n = if nat_lt n limit then Some n else None
@@ -25,9 +19,9 @@ below_or_none limit n = if nat_lt n limit then Some n else None
 -- the number below a limit that one or two decimal digits are, without a leading zero; no number of
 -- a line has three digits
 abbrev pub number_below : ℕ → List ℕ → Option ℕ
-number_below limit (d ∷ []) = if is_digit d then below_or_none limit (d - 48) else None
+number_below limit (d ∷ []) = if is_ascii_digit d then below_or_none limit (d - 48) else None
 number_below limit (t ∷ d ∷ []) =
-    if (is_digit t && is_digit d) && not (t == 48)
+    if (is_ascii_digit t && is_ascii_digit d) && not (t == 48)
     then below_or_none limit (10 * (t - 48) + (d - 48)) else None
 number_below limit text = None
 
@@ -44,22 +38,22 @@ parts_around_dot text =
     if nat_lt (position_or_len (λ b. b == 46) text) (length text)
     then Some (before_first (λ b. b == 46) text, after_first (λ b. b == 46) text) else None
 
-abbrev pub rom_line : List ℕ → Option Line
-rom_line text =
+abbrev pub rom_line_named : List ℕ → Option Line
+rom_line_named text =
     parts_around_dot text >>= (λ (p : List ℕ × List ℕ).
     number_below ROMS p.0 >>= (λ chip.
     number_below 4 p.1 >>= (λ k. Some (Rom chip k))))
 
-abbrev pub ram_line : List ℕ → Option Line
-ram_line text =
+abbrev pub ram_line_named : List ℕ → Option Line
+ram_line_named text =
     parts_around_dot text >>= (λ (p : List ℕ × List ℕ).
     parts_around_dot p.1 >>= (λ (q : List ℕ × List ℕ).
     number_below BANKS p.0 >>= (λ bank.
     number_below BANK_CHIPS q.0 >>= (λ chip.
     number_below 4 q.1 >>= (λ k. Some (Ram bank chip k))))))
 
-abbrev pub chain_line : List ℕ → Option Line
-chain_line text =
+abbrev pub chain_line_named : List ℕ → Option Line
+chain_line_named text =
     parts_around_dot text >>= (λ (p : List ℕ × List ℕ).
     number_below CHAINS p.0 >>= (λ n.
     number_below CHAIN_BITS p.1 >>= (λ i. Some (Chain n i))))
@@ -68,10 +62,10 @@ chain_line text =
 abbrev pub line_named : List ℕ → Option Line
 line_named text =
     elim (rest_after (codes "rom") text) [
-      | Some rest ↦ rom_line rest
+      | Some rest ↦ rom_line_named rest
       | None ↦ elim (rest_after (codes "ram") text) [
-        | Some rest ↦ ram_line rest
-        | None ↦ rest_after (codes "chain") text >>= chain_line
+        | Some rest ↦ ram_line_named rest
+        | None ↦ rest_after (codes "chain") text >>= chain_line_named
       ]
     ]
 

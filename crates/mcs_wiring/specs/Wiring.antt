@@ -18,7 +18,8 @@ use Rattle.mcs_wiring.specs.declared.sections.Numbered.{Numbered}
 use Rattle.mcs_wiring.specs.declared.sections.Section.{Section}
 use Rattle.mcs_wiring.specs.declared.sections.Section.TheVariants.{Rom, Ram, Chain, Keys, Lamp}
 use Rattle.mcs_wiring.specs.Format.{sections, section_key, table_keys, is_board_key, is_section_key}
-use Rattle.mcs_wiring.specs.Names.{◌>>=◌, line_named, masks_named}
+use Rattle.mcs_wiring.specs.Names.{line_named, masks_named}
+use Rattle.mcs_model.specs.Options.{◌>>=◌}
 
 -- ---- what stands in a table
 

@@ -1,6 +1,6 @@
 //! The names of lines and ports in a board text.
 ghost use Rattle.std.specs.Prelude.{◌≡◌, string_bytes};
-ghost use Rattle.mcs_wiring.specs.Names.{number_below, rom_line, ram_line, chain_line, line_named, masks_named};
+ghost use Rattle.mcs_wiring.specs.Names.{number_below, rom_line_named, ram_line_named, chain_line_named, line_named, masks_named};
 
 use mcs_model::board::Line;
 use mcs_model::limits::{BANK_CHIPS, BANKS, CHAIN_BITS, CHAINS, ROMS};
@@ -19,8 +19,8 @@ fn number_below(text: &str, limit: u8) -> Option<u8>
 }
 
 /// After `rom`: the chip, a dot and the line.
-fn rom_line(text: &str) -> Option<Line>
-    ensures { result ≡ rom_line text.now }
+fn rom_line_named(text: &str) -> Option<Line>
+    ensures { result ≡ rom_line_named text.now }
 {
     let (chip, k) = text.split_once('.')?;
     let chip = number_below(chip, ROMS as u8)?;
@@ -29,8 +29,8 @@ fn rom_line(text: &str) -> Option<Line>
 }
 
 /// After `ram`: the bank, a dot, the chip, a dot and the line.
-fn ram_line(text: &str) -> Option<Line>
-    ensures { result ≡ ram_line text.now }
+fn ram_line_named(text: &str) -> Option<Line>
+    ensures { result ≡ ram_line_named text.now }
 {
     let (bank, rest) = text.split_once('.')?;
     let (chip, k) = rest.split_once('.')?;
@@ -41,8 +41,8 @@ fn ram_line(text: &str) -> Option<Line>
 }
 
 /// After `chain`: the chain, a dot and the bit.
-fn chain_line(text: &str) -> Option<Line>
-    ensures { result ≡ chain_line text.now }
+fn chain_line_named(text: &str) -> Option<Line>
+    ensures { result ≡ chain_line_named text.now }
 {
     let (n, i) = text.split_once('.')?;
     let n = number_below(n, CHAINS as u8)?;
@@ -55,12 +55,12 @@ pub(crate) fn line_named(text: &str) -> Option<Line>
     ensures { result ≡ line_named text.now }
 {
     if let Some(rest) = text.strip_prefix("rom") {
-        return rom_line(rest);
+        return rom_line_named(rest);
     }
     if let Some(rest) = text.strip_prefix("ram") {
-        return ram_line(rest);
+        return ram_line_named(rest);
     }
-    chain_line(text.strip_prefix("chain")?)
+    chain_line_named(text.strip_prefix("chain")?)
 }
 
 /// The masks of a port, line 0 first, that four characters name, line 3 first.

@@ -3,7 +3,7 @@ ghost use Rattle.std.specs.Prelude.{◌≡◌, ◌<◌, ◌∷◌, [], ◌++◌,
 ghost use Rattle.std.specs.List.{flat_map, join_by};
 ghost use Rattle.std.specs.Option.{option_map_or};
 ghost use Rattle.mcs_nibble.specs.Ports.{mask_at, mask_character};
-ghost use Rattle.mcs_wiring.specs.BoardText.{quoted_name, columns_text, rom_lines, ram_lines, chain_lines, matrix_lines, lamp_lines, text_of, board_text};
+ghost use Rattle.mcs_wiring.specs.BoardText.{quoted_name, columns_text, rom_lines, bank_lines, chain_lines, matrix_lines, lamp_lines, text_of, board_text};
 ghost use Rattle.mcs_wiring.specs.Flaws.{roms_text, rams_text};
 
 use mcs_model::board::{Board, ChainPart, KeyMatrix, Line};
@@ -53,7 +53,7 @@ fn push_rom(out: &mut String, chip: u8, masks: Option<[LineMask; 4]>) -> Result<
 /// Writes the lines of a bank of RAM, where it has chips.
 fn push_ram(out: &mut String, bank: u8, chips: u8) -> Result<(), AllocError>
     ensures { OnOk result (string_bytes out.new
-        ≡ string_bytes out.old ++ text_of (ram_lines bank chips)) }
+        ≡ string_bytes out.old ++ text_of (bank_lines bank chips)) }
 {
     if chips == 0 {
         return Ok(());

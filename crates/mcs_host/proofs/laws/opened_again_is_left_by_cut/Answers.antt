@@ -1,7 +1,7 @@
 use Rattle.std.proofs.Common.{List, ℕ, length, sym, ◌∙◌, ap, subst}
 use Rattle.mcs_host.specs.Ending.{found_in}
-use Rattle.mcs_host.specs.FileCalls.{since_after}
-use Rattle.mcs_host.specs.FileLaws.{length-bytes_after, sized}
+use Rattle.mcs_disk.specs.Calls.{since_after}
+use Rattle.mcs_disk.specs.CallLaws.{length-bytes_after, sized}
 use Rattle.mcs_host.proofs.Leaving.{found_since}
 use Rattle.mcs_host.proofs.laws.opened_again_is_left_by_cut.Goals as goal
 

@@ -1,6 +1,7 @@
 use Rattle.std.proofs.Common.{◌≡◌, inl, inr, ⊎_elim, ◌≤◌, ◌+◌, List, ℕ, length, sym, ◌∙◌, ap, subst, arith}
+use Rattle.std.proofs.lemmas.Result.{on_ok_weaker}
 use Rattle.mcs_disk.specs.Disk.{part, Torn, Only}
-use Rattle.mcs_journal.proofs.OnOk.{ok_map, ok_both, either}
+use Rattle.mcs_journal.proofs.OnOk.{ok_both, either}
 use Rattle.mcs_journal.proofs.writing.commit.Goals as goal
 
 pub returns-clause-commits : goal.returns-clause-commits
@@ -22,10 +23,10 @@ returns-clause-commits g c = λ h.
     let here : (x : List ℕ) → new.images x → new.since old.clock x = λ x now. new_law.counts_now old.clock x later now in
     let here_first : (x : List ℕ) → mid.images x → new.since old.clock x = λ x now. synced.time.keeps old.clock x (omega (arith, tick)) (mid_law.counts_now old.clock x (omega (arith, tick)) now) in
     record {
-      written = ok_map r (λ (_ : new.clock ≡ mid.clock + 1). ap (part at n) synced.bytes ∙ wrote_ok.written) synced.time.ticks;
+      written = on_ok_weaker r (λ (_ : new.clock ≡ mid.clock + 1). ap (part at n) synced.bytes ∙ wrote_ok.written) synced.time.ticks;
       outside = subst (Torn at n old.bytes) (sym synced.bytes) wrote.outside;
       durable = ok_both r (λ (only : Only mid.bytes new.images) (fresh : (x : List ℕ) → new.since new.clock x → new.images x). record { only = λ x now. only x now ∙ sym synced.bytes; fresh = λ x since. only x (fresh x since) ∙ sym synced.bytes }) synced.durable synced.time.fresh;
-      ticks = ok_map r (λ (two : new.clock ≡ mid.clock + 1). omega (arith, two, tick)) synced.time.ticks;
+      ticks = on_ok_weaker r (λ (two : new.clock ≡ mid.clock + 1). omega (arith, two, tick)) synced.time.ticks;
       later = later;
       moments = λ t x le s.
           ⊎_elim

@@ -1,11 +1,11 @@
 use Rattle.std.proofs.Common.{rules, ◌≡◌, List, [], ◌∷◌, ℕ, length, get_or, refl, sym, ◌∙◌, ap, subst, arith}
+use Rattle.std.proofs.lemmas.Result.{on_ok_weaker}
 use Rattle.mcs_disk.specs.Disk.{Torn, part}
 use Rattle.mcs_journal.specs.File.{Holds, slot_named, start_of}
 use Rattle.mcs_journal.specs.Writing.{other_slot, selector_of}
 use Rattle.mcs_journal.specs.declared.slot.Slot.{Slot}
 use Rattle.mcs_journal.specs.declared.slot.Slot.TheVariants.{A, B}
 use Rattle.mcs_journal.proofs.Stretch.{first_step, second_step}
-use Rattle.mcs_journal.proofs.OnOk.{ok_map}
 use Rattle.mcs_journal.proofs.Parts.{part_at}
 use Rattle.mcs_journal.proofs.Swapping.{IsOther, are_other, other_torn, selector_torn, selector_done}
 use Rattle.mcs_journal.proofs.writing.replace_contents.Goals as goal
@@ -34,7 +34,7 @@ pub returns-clause-named : goal.returns-clause-named
 returns-clause-named g c = λ h.
     let new = g.D.Disk.state c.commit-2.new.disk in
     let last = c.commit-2.ensures.commits (c.commit.ensures.call.honest.1 h) in
-    ok_map _ (λ (here : part 8 1 new.bytes ≡ c.selector.result ∷ []). ap slot_named (sym (part_at 8 1 new.bytes 0 (omega arith)) ∙ ap (λ (l : List ℕ). get_or l 0 0) here ∙ c.selector.ensures) ∙ selector_names c.args.other) last.written
+    on_ok_weaker _ (λ (here : part 8 1 new.bytes ≡ c.selector.result ∷ []). ap slot_named (sym (part_at 8 1 new.bytes 0 (omega arith)) ∙ ap (λ (l : List ℕ). get_or l 0 0) here ∙ c.selector.ensures) ∙ selector_names c.args.other) last.written
 
 pub returns-clause-changes : goal.returns-clause-changes
 returns-clause-changes g c = λ h durable old_snap records held other.

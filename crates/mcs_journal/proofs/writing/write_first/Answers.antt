@@ -1,7 +1,7 @@
 use Rattle.std.proofs.Common.{◌≡◌, List, ℕ, length, sym, ◌∙◌, subst}
+use Rattle.std.proofs.lemmas.Result.{on_ok_weaker}
 use Rattle.mcs_disk.specs.Disk.{Torn, part}
 use Rattle.mcs_journal.specs.declared.format.TheConstants.{FIRST_HEADER}
-use Rattle.mcs_journal.proofs.OnOk.{ok_map}
 use Rattle.mcs_journal.proofs.Creating.{made, named}
 use Rattle.mcs_journal.proofs.writing.write_first.Goals as goal
 
@@ -19,7 +19,7 @@ returns-clause-made g c = λ h.
     let last = c.commit-2.ensures.commits (c.commit.ensures.call.honest.1 h) in
     let sized : length old.bytes ≡ 163856 = law.sized old.bytes law.current ∙ c.requires.size in
     let there : part 16 16385 mid.bytes ≡ c.encode_snapshot.new.buffer = (λ k. part (sym c.start.ensures k) (sym area.long k) mid.bytes) ∙ step.written in
-    ok_map _ (λ (here : part 0 16 new.bytes ≡ FIRST_HEADER). made old.bytes mid.bytes new.bytes c.args.snap.now c.encode_snapshot.new.buffer sized area (resize _ _ _ _ _ _ c.start.ensures area.long step.outside) there last.outside here) last.written
+    on_ok_weaker _ (λ (here : part 0 16 new.bytes ≡ FIRST_HEADER). made old.bytes mid.bytes new.bytes c.args.snap.now c.encode_snapshot.new.buffer sized area (resize _ _ _ _ _ _ c.start.ensures area.long step.outside) there last.outside here) last.written
 
 pub returns-clause-named : goal.returns-clause-named
 returns-clause-named g c = λ h.
@@ -32,4 +32,4 @@ returns-clause-named g c = λ h.
     let last = c.commit-2.ensures.commits (c.commit.ensures.call.honest.1 h) in
     let sized : length old.bytes ≡ 163856 = law.sized old.bytes law.current ∙ c.requires.size in
     let there : part 16 16385 mid.bytes ≡ c.encode_snapshot.new.buffer = (λ k. part (sym c.start.ensures k) (sym area.long k) mid.bytes) ∙ step.written in
-    ok_map _ (λ (here : part 0 16 new.bytes ≡ FIRST_HEADER). named old.bytes mid.bytes new.bytes c.args.snap.now c.encode_snapshot.new.buffer sized area (resize _ _ _ _ _ _ c.start.ensures area.long step.outside) there last.outside here) last.written
+    on_ok_weaker _ (λ (here : part 0 16 new.bytes ≡ FIRST_HEADER). named old.bytes mid.bytes new.bytes c.args.snap.now c.encode_snapshot.new.buffer sized area (resize _ _ _ _ _ _ c.start.ensures area.long step.outside) there last.outside here) last.written

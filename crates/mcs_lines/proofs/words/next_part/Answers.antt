@@ -1,9 +1,9 @@
 use Rattle.std.proofs.Common.{◌∷◌, ◌+◌, take, ◌∙◌, ap, sym, arith}
 use Rattle.mcs_lines.specs.Cutting.{cut_at}
 use Rattle.mcs_lines.specs.Words.{is_dot}
-use Rattle.mcs_lines.proofs.LineWords.{tail_whole}
 use Rattle.mcs_lines.proofs.WordParts.{first_part, only_part}
 use Rattle.mcs_lines.proofs.words.next_part.Goals as goal
+use Rattle.mcs_model.proofs.ListLemmas.{tail_whole}
 
 pub returns-then-end-word : goal.returns-then-end-word
 returns-then-end-word c =

@@ -1,7 +1,8 @@
 use Rattle.std.proofs.Common.{rules, ◌∷◌, ◌<◌, length, take, ◌∙◌, ap, sym}
 use Rattle.mcs_lines.specs.Words.{words_of}
-use Rattle.mcs_lines.proofs.LineWords.{no_words, tail_whole, words_of-front}
+use Rattle.mcs_lines.proofs.LineWords.{no_words, words_of-front}
 use Rattle.mcs_lines.proofs.words.next_word.Goals as goal
+use Rattle.mcs_model.proofs.ListLemmas.{tail_whole}
 
 pub returns-then-is_empty : goal.returns-then-is_empty
 returns-then-is_empty c = sym c.without_blanks-line.ensures.words ∙ no_words c.without_blanks-line.result.now (search rules)

@@ -1,8 +1,10 @@
 use Rattle.std.proofs.Common.{◌∙◌, ap, sym, subst}
+use Rattle.std.proofs.lemmas.List.{drop_all}
 use Rattle.mcs_lines.specs.Words.{words_of}
 use Rattle.mcs_lines.specs.Words.{BeginsWord}
-use Rattle.mcs_lines.proofs.LineWords.{begins_at, drop_all, tail_whole, words_of-past}
+use Rattle.mcs_lines.proofs.LineWords.{begins_at, words_of-past}
 use Rattle.mcs_lines.proofs.words.without_blanks.Goals as goal
+use Rattle.mcs_model.proofs.ListLemmas.{tail_whole}
 
 pub loop-at-preserved : goal.loop-at-preserved
 loop-at-preserved c = words_of-past c.args.line.now c.loop-at.at c.loop-at-test.true (sym c.is_blank.ensures ∙ c.if-not-is_blank.false) ∙ c.loop-at.invariant
@@ -15,4 +17,4 @@ returns-then-not-is_blank-clause-begins c = subst BeginsWord (sym (tail_whole c.
     (begins_at c.args.line.now c.loop-at.at c.loop-at-test.true (sym c.is_blank.ensures ∙ c.if-not-is_blank.true))
 
 pub returns-clause-words : goal.returns-clause-words
-returns-clause-words c = ap words_of (sym (drop_all c.args.line.now c.loop-at.at c.loop-at-test.false)) ∙ c.loop-at.invariant
+returns-clause-words c = ap words_of (sym (drop_all c.loop-at.at c.args.line.now c.loop-at-test.false)) ∙ c.loop-at.invariant

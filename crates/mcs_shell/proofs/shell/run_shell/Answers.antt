@@ -1,8 +1,8 @@
 use Rattle.std.proofs.Common.{rules, ◌≡◌, inl}
+use Rattle.std.proofs.KnownBytes.{Appends-nil}
 use Rattle.mcs_session.specs.Kept.{IsOpenOnHonestDisk, IsSettled}
 use Rattle.mcs_session.specs.Standing.{session_state}
 use Rattle.mcs_answers.specs.AnswerTexts.{session_text}
-use Rattle.mcs_shell.proofs.GrowingBytes.{appends_nothing}
 use Rattle.mcs_session.proofs.Keeping.{carries_nothing, settle}
 use Rattle.mcs_shell.proofs.Looping.{ran_after, untouched}
 use Rattle.mcs_shell.proofs.shell.run_shell.Goals as goal
@@ -25,4 +25,4 @@ pub returns-in_default : goal.returns-in_default
 returns-in_default g c =
     let a = session_state g.D.Disk.state c.args.session.now in
     let settled : IsOpenOnHonestDisk a → IsSettled a = λ honest. record { honest = honest; settled = settle a.disk a.standing.state (g.met.D.Disk.lawful c.args.session.now.disk honest.1) (c.bench.ensures.at honest.0 honest.1) } in
-    (untouched _ a settled (carries_nothing a), appends_nothing (g.W.Write.contents c.args.writer.now))
+    (untouched _ a settled (carries_nothing a), Appends-nil (g.W.Write.contents c.args.writer.now))

@@ -1,7 +1,7 @@
 use Rattle.std.proofs.Common.{◌≡◌, length, drop, ◌∙◌, ap, rules}
 use Rattle.std.proofs.lemmas.List.{take_at}
 use Rattle.mcs_disk.specs.Disk.{put}
-use Rattle.mcs_disk.proofs.Kept.{wrote}
+use Rattle.mcs_disk.proofs.MemoryKept.{wrote}
 use Rattle.mcs_disk.proofs.memory.MemDiskDisk.write.Goals as goal
 
 pub returns-clause-honest : goal.returns-clause-honest
