@@ -31,7 +31,7 @@ pub record Resumes (file : List ℕ) (session : SessionView MemDisk) : Type 0 wh
   pub disk : MemDisk
   pub held : HasBytes file (mem_disk_state disk)
   pub begun : GoesOnWith (mem_disk_state disk) (mem_disk_state session.disk) session.live
-    session.state
+      session.state
 
 -- The session that the bytes of a file hold went on, the shell read this input and wrote these
 -- answers, and these are the bytes that its disk has then.
@@ -64,7 +64,7 @@ abbrev pub IsRefused : OpenFault → List ℕ → Type 0
 IsRefused open_fault.NoMemory file = Unit {0}
 IsRefused open_fault.Device file = ⊥
 IsRefused fault file = (disk : MemDisk) × HasBytes file (mem_disk_state disk)
-  × RefusesSession fault (mem_disk_state disk)
+    × RefusesSession fault (mem_disk_state disk)
 
 -- this input was served whole: its answers are that many bytes, more than the buffer has room for
 pub record LacksRoom (file input : List ℕ) (count room : ℕ) : Type 0 where
