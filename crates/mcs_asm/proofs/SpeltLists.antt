@@ -1,6 +1,6 @@
 -- One line's bytes, in cells and in pairs.
 use Rattle.std.proofs.Common.{◌≡◌, ℕ, ◌+◌, ◌≤◌, Bool, true, false, List, ◌++◌, length, take, drop, Option, Result, Ok, Err, refl, sym, ◌∙◌}
-use Rattle.std.proofs.Common.{suc, ltb, leb, ap, subst, arith, ◌||◌, None, Some, ◌&&◌, [], ◌∷◌}
+use Rattle.std.proofs.Common.{suc, ltb, leb, ap, subst, arith, None, Some, ◌&&◌, [], ◌∷◌}
 use Rattle.std.proofs.lemmas.Bool.{true≢false, ltb-false, or_parts}
 use Rattle.std.specs.List.{list_all}
 use Rattle.mcs_source.specs.declared.fault.SourceFault.{SourceFault}

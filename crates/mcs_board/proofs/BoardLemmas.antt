@@ -1,17 +1,14 @@
 -- What a board with which nothing is wrong has: its lines are in range, its clocks and data lines are output lines.
-use Rattle.std.proofs.Common.{◌≡◌, ℕ, ◌+◌, ◌<◌, ◌≤◌, ◌⊎◌, inl, inr, List, Option, Some, None, Bool, true, false, length, get_or, refl, sym, ap, ◌∙◌, arith, nat_lt, nat_le, not, ◌&&◌, ◌||◌, cond, slice_get}
+use Rattle.std.proofs.Common.{◌≡◌, ℕ, ◌+◌, ◌<◌, ◌≤◌, inl, inr, Option, Some, None, Bool, true, false, length, sym, ap, ◌∙◌, arith, nat_lt, nat_le, not, ◌||◌, slice_get}
 use Rattle.std.proofs.lemmas.Option.{get_or_from_slice_get, slice_get_past}
-use Rattle.std.specs.List.{list_any}
-use Rattle.std.proofs.lemmas.List.Folds.{list_any_at}
 use Rattle.std.proofs.lemmas.Bool.{cases_lt, or_parts, and_parts, not-false}
 use Rattle.std.proofs.lemmas.Bool.Decides.{nat_tests}
 use Rattle.mcs_model.specs.declared.board.BoardParts.{BoardParts}
-use Rattle.mcs_model.specs.declared.board.BoardFault.TheVariants.{BadValue, NoSuchLine, WrongDirection}
 use Rattle.mcs_model.specs.declared.board.ChainPart.{ChainPart}
 use Rattle.mcs_model.specs.declared.board.KeyMatrix.{KeyMatrix}
 use Rattle.mcs_model.specs.declared.board.Line.{Line}
 use Rattle.mcs_model.specs.declared.board.Line.TheVariants.{Rom, Ram, Chain}
-use Rattle.mcs_model.specs.Boards.{board_fault_of, has_bad_value, lacks_line, lacks_rows, has_wrong_direction, any_chain_line, any_column, any_lamp, any_line, exists_on, is_output_line, is_input_line, input_on, chain_part, chain_count, chain_bits, no_chain}
+use Rattle.mcs_model.specs.Boards.{board_fault_of, any_chain_line, any_column, any_lamp, any_line, exists_on, is_output_line, is_input_line, input_on, chain_part, chain_count, chain_bits, no_chain}
 use Rattle.mcs_model.proofs.ListLemmas.{none_at}
 use Rattle.mcs_model.proofs.SoundBoards.{sound}
 

@@ -1,15 +1,14 @@
 -- What the lengths and the soundness of a board bound, in forms for lists read one by one.
-use Rattle.std.proofs.Common.{◌≡◌, ℕ, zero, suc, ◌*◌, ◌<◌, ◌≤◌, Bool, true, false, cond, List, [], ◌∷◌, length, get_or, Option, Some, None, refl, subst, arith}
-use Rattle.std.specs.Prelude.{◌||◌, ◌&&◌, not, nat_lt, nat_le}
+use Rattle.std.proofs.Common.{◌≡◌, ℕ, zero, suc, ◌*◌, ◌<◌, ◌≤◌, false, List, [], ◌∷◌, length, get_or, Option, Some, None, refl, subst, arith}
+use Rattle.std.specs.Prelude.{◌&&◌, not, nat_lt, nat_le}
 use Rattle.std.specs.List.{list_any, AllByRecursion}
 use Rattle.std.proofs.lemmas.Nat.{mul-le}
 use Rattle.std.proofs.lemmas.Bool.{leb-true, ltb-false, or_parts, and_parts, not-false}
 use Rattle.mcs_nibble.specs.declared.lines.LineMask.{LineMask}
-use Rattle.mcs_model.specs.declared.board.BoardFault.TheVariants.{BadValue, NoSuchLine, WrongDirection}
 use Rattle.mcs_model.specs.declared.board.BoardParts.{BoardParts}
 use Rattle.mcs_model.specs.declared.board.ChainPart.{ChainPart}
 use Rattle.mcs_model.specs.declared.board.KeyMatrix.{KeyMatrix}
-use Rattle.mcs_model.specs.Boards.{board_fault_of, has_bad_value, has_bad_matrix, lacks_line, no_chain, chain_bits, has_wrong_direction, any_line, in_range, is_chain_size, is_matrix_size, key_count}
+use Rattle.mcs_model.specs.Boards.{board_fault_of, no_chain, chain_bits, is_chain_size, is_matrix_size, key_count}
 use Rattle.mcs_model.specs.declared.limits.TheConstants.{CHAINS, CHAIN_CHIPS, CHAIN_BITS, KEY_ROWS, KEYS}
 use Rattle.mcs_model.specs.Validity.{IsValidBoard}
 use Rattle.mcs_model.proofs.SoundBoards.{sound}

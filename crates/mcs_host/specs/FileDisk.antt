@@ -1,5 +1,5 @@
 -- What contracts see of a file of the host as a disk. (Our own choice.)
-use Rattle.std.specs.Prelude.{◌≡◌, ℕ, List, length}
+use Rattle.std.specs.Prelude.{◌≡◌, ℕ, List}
 use Rattle.mcs_disk.specs.Disk.{DiskState}
 use Rattle.mcs_disk.specs.Moments.{IsDurable}
 use Rattle.mcs_disk.specs.Calls.{called_disk, images_after}

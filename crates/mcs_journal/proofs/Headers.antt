@@ -1,5 +1,5 @@
 -- What the first 16 bytes say.
-use Rattle.std.proofs.Common.{◌≡◌, ◌≢◌, Bool, true, false, not, List, ℕ, sym, refl, ◌∙◌, ap, arith, get_or, take, drop}
+use Rattle.std.proofs.Common.{◌≡◌, ◌≢◌, true, false, not, List, ℕ, sym, ◌∙◌, ap, arith, get_or, take, drop}
 use Rattle.std.proofs.lemmas.Slice.Eq.{bytes_eq-Decides}
 use Rattle.std.specs.Str.{bytes_eq}
 use Rattle.std.proofs.lemmas.Bool.{not-false, not-true}

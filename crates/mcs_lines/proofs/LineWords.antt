@@ -1,6 +1,5 @@
 -- The words of a line, one after the other.
-use Rattle.std.proofs.Common.{◌≡◌, ℕ, zero, suc, ◌+◌, ◌-◌, ◌<◌, ◌≤◌, List, [], ◌∷◌, ◌++◌, Bool, true, false, length, filter, nat_lt, take, drop, get_or, ap, sym, ◌∙◌, refl, subst, arith, rules, take-append-drop}
-use Rattle.std.proofs.lemmas.Grind.{common_steps}
+use Rattle.std.proofs.Common.{◌≡◌, ℕ, zero, suc, ◌+◌, ◌<◌, List, [], ◌∷◌, ◌++◌, Bool, true, false, length, filter, nat_lt, take, drop, get_or, ap, sym, ◌∙◌, refl, subst, arith, rules, take-append-drop}
 use Rattle.std.proofs.lemmas.List.{drop_more, append-nil}
 use Rattle.mcs_lines.specs.Cutting.{HasNone, cut_at}
 use Rattle.mcs_lines.specs.Words.{BeginsWord, EndsAtFront, EndsWord, words_of}

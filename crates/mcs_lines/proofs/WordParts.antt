@@ -1,6 +1,5 @@
 -- The parts of a word, one after the other.
-use Rattle.std.proofs.Common.{◌≡◌, ℕ, ◌+◌, ◌<◌, ◌≤◌, List, [], ◌∷◌, ◌++◌, true, length, take, drop, get_or, ap, sym, ◌∙◌, subst, arith, take-append-drop}
-use Rattle.std.proofs.lemmas.Grind.{common_steps}
+use Rattle.std.proofs.Common.{◌≡◌, ℕ, ◌+◌, ◌<◌, ◌≤◌, List, [], ◌∷◌, ◌++◌, true, length, take, drop, get_or, ap, sym, ◌∙◌, subst, take-append-drop}
 use Rattle.std.proofs.lemmas.List.{drop_more, append-nil, take_all}
 use Rattle.mcs_lines.specs.declared.requests.Request.TheVariants.{Refused}
 use Rattle.mcs_lines.specs.declared.requests.LineFault.TheVariants.{NotACommand}

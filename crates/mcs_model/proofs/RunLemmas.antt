@@ -1,5 +1,5 @@
 -- Runs without breakpoints: each comes to where its cycles do, one after the other.
-use Rattle.std.proofs.Common.{◌≡◌, ◌≢◌, ℕ, ◌+◌, ◌-◌, ◌<◌, ◌≤◌, subst, zero, suc, Bool, true, false, ◌&&◌, cond, [], Option, Some, None, is_some, is_none, unwrap_or, ◌⊎◌, inl, inr, refl, sym, ap, ◌∙◌, arith, find, eqb}
+use Rattle.std.proofs.Common.{◌≡◌, ◌≢◌, ℕ, ◌+◌, ◌-◌, ◌<◌, ◌≤◌, subst, zero, suc, Bool, true, false, cond, [], Option, Some, None, is_some, is_none, unwrap_or, ◌⊎◌, inl, inr, refl, sym, ap, ◌∙◌, arith, find, eqb}
 use Rattle.std.specs.List.{range_with_len}
 use Rattle.std.proofs.Math.Nat.{add-suc}
 use Rattle.std.proofs.lemmas.Bool.{eqb-true, cases_eq}

@@ -1,8 +1,8 @@
 -- The pairs of a program, by rising address, are its image.
-use Rattle.std.proofs.Common.{◌≡◌, ℕ, ◌<◌, zero, suc, true, false, List, [], ◌∷◌, ◌⊎◌, inl, inr, nat_lt, get_or, refl, sym, ap, subst, ◌∙◌, arith, rules}
+use Rattle.std.proofs.Common.{◌≡◌, ℕ, ◌<◌, suc, true, false, List, [], ◌∷◌, ◌⊎◌, inl, inr, nat_lt, get_or, refl, sym, ap, subst, ◌∙◌, arith, rules}
 use Rattle.std.specs.List.{Contains}
 use Rattle.std.proofs.lemmas.Bool.{cases_lt}
-use Rattle.std.proofs.lemmas.List.Elements.{Contains-append_cases, Contains-append_right}
+use Rattle.std.proofs.lemmas.List.Elements.{Contains-append_right}
 use Rattle.mcs_model.specs.Images.{IsImageOf, IsRising}
 use Rattle.std.specs.Prelude.{Result, Ok}
 use Rattle.mcs_asm.specs.View.{Assembles}

@@ -1,7 +1,6 @@
 -- The loop over chunks.
 use Rattle.std.proofs.Common.{◌≡◌, ℕ, ◌+◌, ◌<◌, ◌≤◌, List, [], ◌∷◌, ◌++◌, Bool, true, false, length, Option, map, inr, ap, sym, append_assoc, length-append, ◌∙◌, refl, subst, arith}
 use Rattle.std.specs.Io.KnownBytes.{Appends, Consumes, Keeps}
-use Rattle.std.proofs.lemmas.Grind.{common_steps}
 use Rattle.std.proofs.lemmas.List.{append-nil, map-append, nil_from_length}
 use Rattle.std.proofs.KnownBytes.{Appends-trans, Appends-nil, Consumes-kept, Consumes-trans, Consumes-nil}
 use Rattle.mcs_model.specs.declared.command.Command.{Command}
@@ -27,7 +26,6 @@ use Rattle.mcs_shell.specs.declared.shell.TheConstants.{CHUNK_BYTES}
 use Rattle.mcs_shell.specs.Finishing.{FinishedBy}
 use Rattle.mcs_session.proofs.Keeping.{carries_more}
 use Rattle.mcs_shell.proofs.LineFeeds.{after-commands, after-cut, after-no_end, after-whole}
-use Rattle.mcs_session.proofs.Folds.{standing_after-further}
 use Rattle.mcs_shell.proofs.Served.{Went-append, Went-alone, Went-nothing, all_commands-alone, all_commands-further, all_commands-nothing, alone, transcript-alone, transcript-append, transcript-nothing}
 use Rattle.mcs_shell.proofs.Steps.{MovesBack, carries_none, cut_after, failed_after, stopped_after, went_stay, went_twice, ends_after}
 

@@ -1,17 +1,16 @@
 -- The boards of version 1 are the small ones.
-use Rattle.std.proofs.Common.{◌≡◌, ℕ, ◌*◌, ◌+◌, ◌<◌, ◌≤◌, Bool, true, false, not, ◌&&◌, ◌||◌, cond, List, [], ◌∷◌, length, get_or, Option, Some, None, refl, ap, arith, nat_lt, nat_le, inl, inr, zero, suc}
+use Rattle.std.proofs.Common.{◌≡◌, ℕ, ◌*◌, ◌+◌, ◌<◌, ◌≤◌, Bool, true, false, not, ◌&&◌, ◌||◌, List, [], ◌∷◌, length, Option, Some, None, refl, ap, arith, nat_lt, nat_le, inl, inr}
 use Rattle.std.specs.List.{list_any}
 use Rattle.std.proofs.lemmas.Bool.{ltb-true, lt-ltb, leb-true, le-leb, cases_lt, or_parts, or_from, and_parts, not-false, not-true}
 use Rattle.std.proofs.lemmas.Bool.Decides.{nat_tests}
 use Rattle.std.proofs.lemmas.List.{get_or_past}
-use Rattle.mcs_model.specs.declared.board.BoardFault.TheVariants.{BadValue, NoSuchLine, WrongDirection}
 use Rattle.mcs_model.specs.declared.board.BoardParts.{BoardParts}
 use Rattle.mcs_model.specs.declared.board.ChainPart.{ChainPart}
 use Rattle.mcs_model.specs.declared.board.KeyMatrix.{KeyMatrix}
 use Rattle.mcs_model.specs.declared.board.Line.{Line}
 use Rattle.mcs_model.specs.declared.board.Line.TheVariants.{Rom, Ram, Chain}
 use Rattle.mcs_model.specs.declared.limits.TheConstants.{BANK_CHIPS, CHAINS, CHAIN_CHIPS, CHAIN_BITS, KEY_ROWS}
-use Rattle.mcs_model.specs.Boards.{any_line, any_chain_line, any_column, any_lamp, lacks_line, lacks_rows, exists_on, chain_bits, chain_part, chain_count, no_chain, has_bad_matrix, has_bad_value, has_wrong_direction, in_range, is_chain_size, is_matrix_size}
+use Rattle.mcs_model.specs.Boards.{any_line, any_chain_line, any_column, any_lamp, lacks_line, exists_on, chain_bits, chain_part, chain_count, no_chain, has_bad_value, has_wrong_direction, in_range, is_chain_size, is_matrix_size}
 use Rattle.mcs_model.specs.Validity.{IsValidBoard}
 use Rattle.mcs_version1.specs.Boards.{in_range_1, is_chain_size_1, is_matrix_size_1, has_bad_matrix_1, has_bad_value_1, is_small, IsValidBoard1}
 use Rattle.mcs_model.proofs.ListLemmas.{none_at}

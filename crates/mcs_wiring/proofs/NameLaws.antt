@@ -4,12 +4,10 @@ use Rattle.std.proofs.lemmas.Bool.{and_parts, false≢true, eqb-true, ltb-true}
 use Rattle.std.specs.List.{list_all, range_with_len}
 use Rattle.std.specs.Fmt.{digits}
 use Rattle.mcs_nibble.specs.declared.lines.LineMask.{LineMask}
-use Rattle.mcs_nibble.specs.declared.lines.LineMask.TheVariants.{Input, Zero, One}
 use Rattle.mcs_model.specs.declared.board.Line.{Line}
 use Rattle.mcs_model.specs.declared.board.Line.TheVariants.{Rom, Ram, Chain}
 use Rattle.mcs_model.specs.declared.limits.TheConstants.{ROMS, BANKS, BANK_CHIPS, CHAINS, CHAIN_BITS}
 use Rattle.mcs_model.specs.Boards.{in_range}
-use Rattle.mcs_nibble.specs.Ports.{mask_character, mask_of}
 use Rattle.mcs_wiring.specs.Names.{line_name, line_named, masks_named, port_name}
 use Rattle.mcs_nibble.proofs.PortLemmas.{mask_again}
 

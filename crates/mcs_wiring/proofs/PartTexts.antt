@@ -1,5 +1,5 @@
 -- The text of parts, one after another.
-use Rattle.std.proofs.Common.{◌<◌, codes, Some, length, get_or, take, ◌≡◌, ℕ, zero, suc, ◌+◌, List, [], ◌∷◌, ◌++◌, refl, sym, ap, ◌∙◌, append_assoc, append-nil, arith, slice_index}
+use Rattle.std.proofs.Common.{◌<◌, codes, Some, length, get_or, take, ◌≡◌, ℕ, suc, ◌+◌, List, [], ◌∷◌, ◌++◌, refl, sym, ap, ◌∙◌, append_assoc, append-nil, arith, slice_index}
 use Rattle.std.specs.Fmt.{decimal}
 use Rattle.std.specs.List.{flat_map, join_by, range_with_len}
 use Rattle.mcs_nibble.specs.declared.lines.LineMask.{LineMask}
