@@ -1,9 +1,11 @@
 -- One line after the other, as the loops of the passes do.
-use Rattle.std.proofs.Common.{◌≡◌, ℕ, ◌+◌, ◌<◌, ◌≤◌, Bool, true, false, cond, leb, ◌&&◌, List, [], ◌++◌, length, get_or, map, Bor, Option, Some, None, Result, Ok, Err, is_some, refl, sym, ap, subst, ◌∙◌, append-nil, arith}
+use Rattle.std.proofs.Common.{◌≡◌, ℕ, ◌+◌, ◌<◌, ◌≤◌, Bool, true, false, cond, leb, ◌&&◌, List, [], ◌∷◌, ◌++◌, length, get_or, map, Bor, Option, Some, None, Result, Ok, Err, is_some, refl, sym, ap, subst, ◌∙◌, append-nil, arith}
 use Rattle.std.specs.List.{cons_option}
+use Rattle.std.specs.Result.{result_map_both}
 use Rattle.std.proofs.lemmas.List.{get_or-map, length-map}
 use lib.ListN.{replicate}
 use Rattle.mcs_asm.specs.declared.fault.FaultKind.{FaultKind}
+use Rattle.mcs_asm.specs.declared.fault.AsmFault.{AsmFault}
 use Rattle.mcs_asm.specs.declared.fault.FaultKind.TheVariants.{NoMemory, Refused}
 use Rattle.mcs_source.specs.declared.fault.SourceFault.{SourceFault}
 use Rattle.mcs_source.specs.declared.fault.SourceFault.TheVariants.{DoubleName, OutOfRange, Overlap, PastEnd, TooManyNames}
@@ -12,10 +14,13 @@ use Rattle.mcs_source.specs.Lines.{SourceLine, Code, Define, line_of}
 use Rattle.mcs_model.specs.Images.{from_address, overlaps}
 use Rattle.mcs_model.specs.TextLines.{lines_of}
 use Rattle.mcs_source.specs.Assembly.{assembled, spelt, read, ith_line, Names, definition, address_of, names_before, all_names, pairs_before, unless_fault, first_fault, fault_one, fault_two, class_one_fault, class_two_fault, first_of_class_one, first_of_class_two, next_at, line_bytes, bytes_or_none, defined_name, is_known_name, is_bad_place, passes_end}
-use Rattle.mcs_source.proofs.LineByLine.{address_next, names_next, pairs_next, NoneBefore, none_before_next, none_first, first_at, none_below}
+use Rattle.mcs_source.specs.Survey.{Survey, span, spans_before, survey_of, surveyed}
+use Rattle.mcs_source.specs.declared.survey.Span.{Span}
+use Rattle.mcs_source.proofs.Surveys.{from_length}
+use Rattle.mcs_source.proofs.LineByLine.{all_passed, spans_next, address_next, names_next, pairs_next, NoneBefore, none_before_next, none_first, first_at, none_below}
 use Rattle.mcs_asm.specs.ByteMap.{IsKept}
 use Rattle.mcs_asm.specs.View.{FailsAs}
-use Rattle.mcs_asm.specs.Passes.{Before, nothing_before, before, before_next, before_with_line, with_names, Spelt, spelt_before, spelt_with_bytes, spelt_with_line, Steps, IsFirst, NumbersLine, Adds, HasNoFault}
+use Rattle.mcs_asm.specs.Passes.{Before, nothing_before, before, before_next, before_with_line, with_names, Spelt, spelt_before, spelt_with_bytes, spelt_with_line, Steps, IsFirst, NumbersLine, Adds, HasNoFault, span_at, PassesSecond, PassesBoth}
 use Rattle.mcs_asm.proofs.CellPairs.{none_kept}
 
 abbrev pub texts : List (Bor (List ℕ)) → List (List ℕ)
@@ -95,15 +100,16 @@ is_done b ls i le h =
 -- ---- the second pass
 
 -- before line i, where all names are `names` and no line before it has a fault of class two
-pub record IsBeforeSecond (ls : List (Bor (List ℕ))) (names : Names) (i at : ℕ) (cells : List (Option ℕ)) : Type 0 where
+pub record IsBeforeSecond (ls : List (Bor (List ℕ))) (names : Names) (i at : ℕ) (cells : List (Option ℕ)) (spans : List Span) : Type 0 where
   pub within : i ≤ length ls
   pub here : at ≡ address_of (said ls) i
   pub kept : IsKept cells (pairs_before (said ls) names i)
+  pub stand : spans ≡ spans_before (said ls) names i
   pub none : NoneBefore (class_two_fault (said ls) names) i
 
-pub second_begins : (ls : List (Bor (List ℕ))) (names : Names) → IsBeforeSecond ls names 0 0 (replicate 4096 None)
-unfolding address_of pairs_before
-second_begins ls names = record { within = omega arith; here = refl; kept = none_kept; none = λ j lt. absurd (omega (arith, lt)) }
+pub second_begins : (ls : List (Bor (List ℕ))) (names : Names) → IsBeforeSecond ls names 0 0 (replicate 4096 None) []
+unfolding address_of pairs_before spans_before
+second_begins ls names = record { within = omega arith; here = refl; kept = none_kept; stand = refl; none = λ j lt. absurd (omega (arith, lt)) }
 
 four_false : (p q r w : Bool) (a b c d : SourceFault) → cond p (Some a) (cond q (Some b) (cond r (Some c) (cond w (Some d) None))) ≡ None → (p ≡ false) × (w ≡ false)
 four_false true q r w a b c d e = absurd (cc)
@@ -117,9 +123,9 @@ no_fault at names None e = absurd (cc)
 no_fault at names (Some line) e = four_false (is_bad_place line) (is_known_name (defined_name line) names) (is_some (defined_name line) && leb 512 (length names)) (passes_end line at) OutOfRange DoubleName TooManyNames PastEnd e
 
 -- a line of a text without a fault of class one
-pub line_passes : (ls : List (Bor (List ℕ))) (names : Names) (i at : ℕ) (cells : List (Option ℕ)) (d : Bor (List ℕ)) → i < length ls → first_of_class_one (said ls) ≡ None → IsBeforeSecond ls names i at cells → HasNoFault at (line_of (tokens (get_or ls i d).now))
+pub line_passes : (ls : List (Bor (List ℕ))) (names : Names) (i at : ℕ) (cells : List (Option ℕ)) (spans : List Span) (d : Bor (List ℕ)) → i < length ls → first_of_class_one (said ls) ≡ None → IsBeforeSecond ls names i at cells spans → HasNoFault at (line_of (tokens (get_or ls i d).now))
 unfolding class_one_fault
-line_passes ls names i at cells d lt one h =
+line_passes ls names i at cells spans d lt one h =
     let none : class_one_fault (said ls) i ≡ None = none_below (class_one_fault (said ls)) (length (said ls)) one i (omega (arith, said_length ls, lt)) in
     let passes : HasNoFault (address_of (said ls) i) (ith_line (said ls) i) = no_fault (address_of (said ls) i) (names_before (said ls) i) (ith_line (said ls) i) none in
     subst (λ (n : ℕ). HasNoFault n (line_of (tokens (get_or ls i d).now))) (sym h.here) (subst (HasNoFault (address_of (said ls) i)) (said_at ls i d lt) passes)
@@ -159,11 +165,23 @@ spell_is ls names i at d wanted lt here step =
     ap (λ (n : ℕ). spelt_with_line names (spelt_at n (pairs_before (said ls) names i)) (ith_line (said ls) i)) (sym here)
     ∙ (ap (λ (l : Option SourceLine). spelt_with_line names (spelt_at at (pairs_before (said ls) names i)) l) (said_at ls i d lt) ∙ step)
 
+span_is : (lines : List (Option SourceLine)) (names : Names) (i : ℕ) → span_at (address_of lines i) (line_bytes (address_of lines i) names (ith_line lines i)) ≡ span lines names i
+span_is lines names i = ap (λ (n : ℕ). record { at = address_of lines i; size = n }) (sym (from_length (address_of lines i) (bytes_or_none (line_bytes (address_of lines i) names (ith_line lines i)))))
+
+spans_more : (ls : List (Bor (List ℕ))) (names : Names) (i at : ℕ) (spans : List Span) (d : Bor (List ℕ)) → i < length ls → at ≡ address_of (said ls) i → spans ≡ spans_before (said ls) names i
+    → spans ++ span_at at (line_bytes at names (line_of (tokens (get_or ls i d).now))) ∷ [] ≡ spans_before (said ls) names (i + 1)
+spans_more ls names i at spans d lt here stand =
+    let lines : List (Option SourceLine) = said ls in
+    let line : span_at at (line_bytes at names (line_of (tokens (get_or ls i d).now))) ≡ span_at at (line_bytes at names (ith_line lines i)) = ap (λ (l : Option SourceLine). span_at at (line_bytes at names l)) (sym (said_at ls i d lt)) in
+    let place : span_at at (line_bytes at names (ith_line lines i)) ≡ span lines names i = ap (λ (n : ℕ). span_at n (line_bytes n names (ith_line lines i))) here ∙ span_is lines names i in
+    ap (λ (s : List Span). s ++ span_at at (line_bytes at names (line_of (tokens (get_or ls i d).now))) ∷ []) stand
+    ∙ (ap (λ (p : Span). spans_before lines names i ++ p ∷ []) (line ∙ place) ∙ sym (spans_next lines names i))
+
 -- one more line is spelled
-pub next_line : (ls : List (Bor (List ℕ))) (names : Names) (i at now : ℕ) (cells new : List (Option ℕ)) (d : Bor (List ℕ)) → i < length ls → IsBeforeSecond ls names i at cells → (t : Spelt)
-    → spelt_with_line names (spelt_at at (pairs_before (said ls) names i)) (line_of (tokens (get_or ls i d).now)) ≡ Ok t → t.at ≡ now → IsKept new t.pairs → IsBeforeSecond ls names (i + 1) now new
+pub next_line : (ls : List (Bor (List ℕ))) (names : Names) (i at now : ℕ) (cells new : List (Option ℕ)) (spans more : List Span) (d : Bor (List ℕ)) → i < length ls → IsBeforeSecond ls names i at cells spans → (t : Spelt)
+    → spelt_with_line names (spelt_at at (pairs_before (said ls) names i)) (line_of (tokens (get_or ls i d).now)) ≡ Ok t → t.at ≡ now → IsKept new t.pairs → more ≡ spans ++ span_at at (line_bytes at names (line_of (tokens (get_or ls i d).now))) ∷ [] → IsBeforeSecond ls names (i + 1) now new more
 unfolding class_two_fault
-next_line ls names i at now cells new d lt h t step is kept =
+next_line ls names i at now cells new spans more d lt h t step is kept added =
     let lines : List (Option SourceLine) = said ls in
     let p = bytes_passed (spelt_before lines names i) (next_at (ith_line lines i) (address_of lines i)) (line_bytes (address_of lines i) names (ith_line lines i)) t (spell_is ls names i at d (Ok t) lt h.here step) in
     let t_is : t ≡ spelt_before lines names (i + 1) = p.1 ∙ spelt_more lines names i in
@@ -171,25 +189,29 @@ next_line ls names i at now cells new d lt h t step is kept =
       within = omega (arith, lt);
       here = sym is ∙ ap (λ (s : Spelt). s.at) t_is;
       kept = subst (λ (s : Spelt). IsKept new s.pairs) t_is kept;
+      stand = added ∙ spans_more ls names i at spans d lt h.here h.stand;
       none = none_before_next (class_two_fault lines names) i h.none p.0;
     }
 
 -- a line is refused
-pub line_stops : (kind : FaultKind) (line : ℕ) (ls : List (Bor (List ℕ))) (names : Names) (i at now : ℕ) (cells new : List (Option ℕ)) (d : Bor (List ℕ)) → i < length ls → IsBeforeSecond ls names i at cells
+pub line_stops : (kind : FaultKind) (line : ℕ) (ls : List (Bor (List ℕ))) (names : Names) (i at now : ℕ) (cells new : List (Option ℕ)) (spans : List Span) (d : Bor (List ℕ)) → i < length ls → IsBeforeSecond ls names i at cells spans
     → Adds (Err kind) now new (spelt_with_line names (spelt_at at (pairs_before (said ls) names i)) (line_of (tokens (get_or ls i d).now))) → NumbersLine kind i line → IsFirst kind line (first_of_class_two (said ls) names)
 unfolding class_two_fault
-line_stops NoMemory line ls names i at now cells new d lt h refused is = is
-line_stops (Refused f) line ls names i at now cells new d lt h refused is =
+line_stops NoMemory line ls names i at now cells new spans d lt h refused is = is
+line_stops (Refused f) line ls names i at now cells new spans d lt h refused is =
     let lines : List (Option SourceLine) = said ls in
     first_of_line (class_two_fault lines names) ls i line f lt h.none
     (bytes_refused (spelt_before lines names i) (next_at (ith_line lines i) (address_of lines i)) (line_bytes (address_of lines i) names (ith_line lines i)) f (spell_is ls names i at d (Err f) lt h.here refused)) is
 
 -- all lines are spelled
-pub all_spelt : (ls : List (Bor (List ℕ))) (names : Names) (i at : ℕ) (cells : List (Option ℕ)) → length ls ≤ i → IsBeforeSecond ls names i at cells
-    → (first_of_class_two (said ls) names ≡ None) × IsKept cells (pairs_before (said ls) names (length (said ls)))
-all_spelt ls names i at cells le h =
-    let all : i ≡ length (said ls) = omega (arith, said_length ls, le, h.within) in
-    (none_first (class_two_fault (said ls) names) (length (said ls)) (λ j lt. h.none j (omega (arith, lt, all))), subst (λ (n : ℕ). IsKept cells (pairs_before (said ls) names n)) all h.kept)
+pub all_spelt : (ls : List (Bor (List ℕ))) (names : Names) (i at : ℕ) (cells : List (Option ℕ)) (spans : List Span) (found : Survey) → length ls ≤ i → IsBeforeSecond ls names i at cells spans → found ≡ record { spans = spans; names = names }
+    → PassesSecond (Ok (found, cells)) (said ls) names
+all_spelt ls names i at cells spans found le h is =
+    let all : i ≡ length (said ls) = omega (arith, said_length ls, le, h.within) in (
+      none_first (class_two_fault (said ls) names) (length (said ls)) (λ j lt. h.none j (omega (arith, lt, all))),
+      is ∙ ap (λ (s : List Span). record { spans = s; names = names }) (h.stand ∙ ap (spans_before (said ls) names) all),
+      subst (λ (n : ℕ). IsKept cells (pairs_before (said ls) names n)) all h.kept,
+    )
 
 -- ---- both passes
 
@@ -210,3 +232,17 @@ two_fails (Refused f) line text ls names is one same fails =
     let fails' : first_of_class_two (read ls) (all_names (read ls)) ≡ Some (line, f) = subst (λ (n : Names). first_of_class_two (read ls) n ≡ Some (line, f)) same fails in
     let whole : spelt (read ls) ≡ Err (line, f) = rw (one, fails') refl in
     ap (λ (l : List (List ℕ)). spelt (read l)) (sym is) ∙ whole
+
+-- what the second pass finds is what both find
+pub both_pass : (r : Result (Survey × List (Option ℕ)) AsmFault) (text : List ℕ) (ls : List (List ℕ)) (names : Names) → ls ≡ lines_of text → first_of_class_one (read ls) ≡ None → names ≡ all_names (read ls) → PassesSecond r (read ls) names → PassesBoth r text
+both_pass (Err f) text ls names is one same fails = two_fails f.kind f.line text ls names is one same fails
+both_pass (Ok found) text ls names is one same passed =
+    let spelt_is : assembled text ≡ Ok (pairs_before (read ls) names (length (read ls))) = all_passed text ls names is one same passed.0 in
+    let lines : survey_of (read (lines_of text)) ≡ survey_of (read ls) = ap (λ (l : List (List ℕ)). survey_of (read l)) (sym is) in
+    let found_is : survey_of (read ls) ≡ found.0 = ap (λ (n : Names). record { spans = spans_before (read ls) n (length (read ls)); names = n }) (sym same) ∙ sym passed.1 in
+    (ap (result_map_both (λ ps. survey_of (read (lines_of text))) (λ f. f)) spelt_is ∙ ap Ok (lines ∙ found_is), (pairs_before (read ls) names (length (read ls)), spelt_is, passed.2))
+
+-- a text without an image has no survey, for the same fault
+pub survey_fails : (kind : FaultKind) (line : ℕ) (text : List ℕ) → FailsAs kind line (assembled text) → FailsAs kind line (surveyed text)
+survey_fails NoMemory line text fails = fails
+survey_fails (Refused f) line text fails = ap (result_map_both (λ ps. survey_of (read (lines_of text))) (λ f. f)) fails

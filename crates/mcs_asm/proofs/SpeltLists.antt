@@ -33,11 +33,10 @@ free_goes cells pairs at next bytes within free kept =
     (record { at = next; pairs = pairs ++ from_address at bytes }, rw over refl, refl, all_kept bytes at cells pairs within kept (free_from pairs at (length bytes) over))
 
 -- what a line that has a form adds
-pub second_is : (names : Names) (s : Spelt) (l : Option asm.SourceLine) (line : asm.SourceLine) (bytes : List ℕ) (next : ℕ) (wanted : Result Spelt SourceFault) → Some line ≡ l → line_bytes s.at names (Some line) ≡ Ok bytes → next ≡ next_at (Some line) s.at
-    → spelt_with_bytes s next (Ok bytes) ≡ wanted → spelt_with_line names s l ≡ wanted
-second_is names s l line bytes next wanted form is at goes =
-    subst (λ (o : Option asm.SourceLine). spelt_with_line names s o ≡ wanted) form
-    (ap (λ (r : Result (List ℕ) SourceFault). spelt_with_bytes s (next_at (Some line) s.at) r) is ∙ (ap (λ (n : ℕ). spelt_with_bytes s n (Ok bytes)) (sym at) ∙ goes))
+pub second_is : (names : Names) (s : Spelt) (l : Option asm.SourceLine) (line : asm.SourceLine) (bytes : List ℕ) (next : ℕ) → Some line ≡ l → line_bytes s.at names (Some line) ≡ Ok bytes → next ≡ next_at (Some line) s.at
+    → spelt_with_bytes s next (Ok bytes) ≡ spelt_with_line names s l
+second_is names s l line bytes next form is at =
+    ap (λ (n : ℕ). spelt_with_bytes s n (Ok bytes)) at ∙ (ap (λ (r : Result (List ℕ) SourceFault). spelt_with_bytes s (next_at (Some line) s.at) r) (sym is) ∙ ap (λ (o : Option asm.SourceLine). spelt_with_line names s o) form)
 
 -- ---- the bytes of a line fit, where class one found no fault
 

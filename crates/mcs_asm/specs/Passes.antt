@@ -3,12 +3,15 @@ use Rattle.std.specs.Prelude.{◌≡◌, ℕ, ◌+◌, List, [], ◌∷◌, ◌+
 use Rattle.mcs_source.specs.declared.fault.SourceFault.{SourceFault}
 use Rattle.mcs_source.specs.declared.fault.SourceFault.TheVariants.{Overlap}
 use Rattle.mcs_source.specs.Lines.{SourceLine, Code, Define}
-use Rattle.mcs_source.specs.Assembly.{Names, address_of, names_before, next_at, fault_one, first_of_class_one, first_of_class_two, is_bad_place, passes_end, unless_fault, line_bytes, pairs_before}
+use Rattle.mcs_source.specs.Assembly.{Names, assembled, bytes_or_none, address_of, names_before, next_at, fault_one, first_of_class_one, first_of_class_two, is_bad_place, passes_end, unless_fault, line_bytes, pairs_before}
 use Rattle.mcs_model.specs.Images.{from_address, overlaps}
 use Rattle.mcs_asm.specs.declared.fault.FaultKind.{FaultKind}
 use Rattle.mcs_asm.specs.declared.fault.FaultKind.TheVariants.{NoMemory, Refused}
 use Rattle.mcs_asm.specs.declared.fault.AsmFault.{AsmFault}
+use Rattle.mcs_source.specs.declared.survey.Span.{Span}
+use Rattle.mcs_source.specs.Survey.{Survey, spans_before, surveyed}
 use Rattle.mcs_asm.specs.ByteMap.{IsKept}
+use Rattle.mcs_asm.specs.View.{FailsAs}
 
 -- ---- the first pass
 
@@ -86,25 +89,36 @@ PassesFirst (Ok b) lines = (first_of_class_one lines ≡ None) × (b ≡ before 
 PassesFirst (Err f) lines = IsFirst f.kind f.line (first_of_class_one lines)
 
 -- what one line's bytes leave: the cells keep the pairs, and the next statement's place is known
-abbrev pub Keeps : Result (Unit {0}) SourceFault → ℕ → List (Option ℕ)
-    → Result Spelt SourceFault → Type 0
-Keeps (Ok u) at cells wanted = (s : Spelt) × (wanted ≡ Ok s) × (s.at ≡ at) × IsKept cells s.pairs
-Keeps (Err f) at cells wanted = wanted ≡ Err f
-
--- the same where memory may be refused
 abbrev pub Adds : Result (Unit {0}) FaultKind → ℕ → List (Option ℕ)
     → Result Spelt SourceFault → Type 0
 Adds (Ok u) at cells wanted = (s : Spelt) × (wanted ≡ Ok s) × (s.at ≡ at) × IsKept cells s.pairs
 Adds (Err NoMemory) at cells wanted = Unit {0}
 Adds (Err (Refused f)) at cells wanted = wanted ≡ Err f
 
--- cells that keep the pairs of all lines, or the first fault of class two
-abbrev pub PassesSecond : Result (List (Option ℕ)) AsmFault → List (Option SourceLine) → Names
-    → Type 0
-PassesSecond (Ok cells) lines names =
+-- where a line's bytes stand, and how many they are
+abbrev pub span_at : ℕ → Result (List ℕ) SourceFault → Span
+span_at at r = record { at = at; size = length (bytes_or_none r) }
+
+-- cells that keep the pairs of all lines, with the spans of all lines and the names; or the first
+-- fault of class two
+abbrev pub PassesSecond : Result (Survey × List (Option ℕ)) AsmFault → List (Option SourceLine)
+    → Names → Type 0
+PassesSecond (Ok found) lines names =
     (first_of_class_two lines names ≡ None)
-    × IsKept cells (pairs_before lines names (length lines))
+    × (found.0 ≡ record { spans = spans_before lines names (length lines); names = names })
+    × IsKept found.1 (pairs_before lines names (length lines))
 PassesSecond (Err f) lines names = IsFirst f.kind f.line (first_of_class_two lines names)
+
+-- ---- both passes
+
+-- the survey of the text, and cells that keep its pairs; or the fault that it has
+abbrev pub PassesBoth : Result (Survey × List (Option ℕ)) AsmFault → List ℕ → Type 0
+PassesBoth (Ok found) text =
+    (surveyed text ≡ Ok found.0)
+    × ((pairs : List (ℕ × ℕ)) × (assembled text ≡ Ok pairs) × IsKept found.1 pairs)
+PassesBoth (Err f) text = FailsAs f.kind f.line (assembled text)
+
+-- ---- one line of many
 
 -- the number of the line with this index, where it is refused
 abbrev pub NumbersLine : FaultKind → ℕ → ℕ → Type 0

@@ -1,4 +1,4 @@
--- What `assemble` promises, and what the code's tokens, statements and lines stand for.
+-- What `assemble` and `survey` promise, and what the code's tokens, statements and lines stand for.
 use Rattle.std.specs.Prelude.{◌≡◌, ◌∷◌, [], List, ℕ, map, option_map, Option, Some, Result, Ok, Err, None}
 use Rattle.std.specs.Option.{option_copied, option_to_list}
 use Rattle.std.specs.Borrow.{Bor}
@@ -26,8 +26,9 @@ use Rattle.mcs_source.specs.Lexical as spec
 use Rattle.mcs_source.specs.Lines as lines
 use Rattle.mcs_model.specs.Images.{IsImageOf}
 use Rattle.mcs_source.specs.Assembly.{Names, value_of}
+use Rattle.mcs_source.specs.Survey.{Survey}
 
--- ---- what `assemble` promises; lack of memory says nothing of the text
+-- ---- what `assemble` and `survey` promise; lack of memory says nothing of the text
 
 -- the fault that is wanted, with its line; line 0 where memory is refused
 abbrev pub FailsAs : FaultKind → ℕ → {A : Type 0} → Result A (ℕ × SourceFault) → Type 0
@@ -39,6 +40,11 @@ abbrev pub Assembles : Result (List (ℕ × ℕ)) AsmFault → Result (List (ℕ
     → Type 0
 Assembles (Ok image) wanted = (pairs : List (ℕ × ℕ)) × (wanted ≡ Ok pairs) × IsImageOf image pairs
 Assembles (Err f) wanted = FailsAs f.kind f.line wanted
+
+-- the survey that is wanted, or the fault that is wanted
+abbrev pub Surveys : Result Survey AsmFault → Result Survey (ℕ × SourceFault) → Type 0
+Surveys (Ok s) wanted = wanted ≡ Ok s
+Surveys (Err f) wanted = FailsAs f.kind f.line wanted
 
 -- ---- what the code's values stand for; this and the rest is cited by clauses of private functions alone
 

@@ -1,4 +1,4 @@
-//! The assembler: from a source text to its image, or to its first fault.
+//! The assembler: from a source text to its image, or to where its lines stand, or to its first fault.
 #![tactic(auto)]
 
 mod byte_map;
@@ -6,10 +6,15 @@ mod bytes;
 mod fault;
 mod names;
 mod passes;
+mod rows;
 mod statements;
+mod surveys;
 mod text;
 mod tokens;
 mod words;
 
 pub use fault::{AsmFault, FaultKind, SourceFault};
-pub use passes::assemble;
+pub use mcs_source::survey::Span;
+pub use passes::{assemble, survey};
+pub use rows::survey_text;
+pub use surveys::Survey;

@@ -97,6 +97,13 @@ impl<'a> Names<'a> {
         self.names.len() >= NAMES
     }
 
+    /// The names with their values, in the order of the lines that define them.
+    pub fn list(&self) -> &[(&'a [u8], u16)]
+        ensures { map (λ e. (e.0.now, e.1)) result.now ≡ self.now.names }
+    {
+        &self.names
+    }
+
     /// Where the next statement stands.
     fn at(&self) -> u16
         ensures at { result ≡ self.now.at }

@@ -1,10 +1,11 @@
 //! The two passes over the lines of a text: first the names, then the bytes.
-ghost use Rattle.std.specs.Prelude.{List, ℕ, ◌+◌, length, Ok, ◌≡◌, ◌<◌, ◌≤◌, ◌^◌, map, None};
+ghost use Rattle.std.specs.Prelude.{List, ℕ, ◌+◌, length, Ok, ◌≡◌, ◌<◌, ◌≤◌, ◌^◌, ◌++◌, ◌∷◌, [], map, None, OnOk};
 ghost use Rattle.mcs_source.specs.Lexical.{tokens};
 ghost use Rattle.mcs_source.specs.Lines.{line_of};
-ghost use Rattle.mcs_source.specs.Assembly.{read, first_of_class_one, all_names, assembled};
-ghost use Rattle.mcs_asm.specs.View.{Assembles};
-ghost use Rattle.mcs_asm.specs.Passes.{before_with_line, spelt_with_bytes, spelt_with_line, HasNoFault, Steps, PassesFirst, PassesSecond, NumbersLine, ComesOf, Keeps, Adds};
+ghost use Rattle.mcs_source.specs.Assembly.{read, first_of_class_one, all_names, assembled, line_bytes};
+ghost use Rattle.mcs_source.specs.Survey.{surveyed};
+ghost use Rattle.mcs_asm.specs.View.{Assembles, Surveys};
+ghost use Rattle.mcs_asm.specs.Passes.{before_with_line, spelt_with_bytes, spelt_with_line, HasNoFault, Steps, PassesFirst, PassesSecond, PassesBoth, NumbersLine, ComesOf, Adds, span_at};
 ghost use Rattle.mcs_asm.specs.ByteMap.{IsKept};
 
 use crate::byte_map::ByteMap;
@@ -12,8 +13,10 @@ use crate::bytes::line_bytes;
 use crate::fault::{AsmFault, FaultKind, SourceFault};
 use crate::names::{Names, next_at};
 use crate::statements::read_line;
+use crate::surveys::Survey;
 use crate::text::lines;
 use mcs_model::image::Image;
+use mcs_source::survey::Span;
 use std::alloc::{AllocError, Global};
 
 /// Adds what one more line says of names and addresses.
@@ -65,10 +68,21 @@ fn first_pass<'a>(alloc: Global, lines: &[&'a [u8]]) -> Result<Names<'a>, AsmFau
     Ok(names)
 }
 
-/// What the lines so far spell, and where the next statement stands.
+/// Adds where a line with these bytes stands.
+fn push_span(spans: &mut Vec<Span>, at: u16, bytes: &[u8]) -> Result<(), AllocError>
+    requires { length bytes.now ≤ 4096 }
+    ensures { OnOk result (spans.new.items ≡ spans.old.items ++ span_at at (Ok bytes.now) ∷ []) }
+{
+    let size = bytes.len() as u16;
+    spans.push(Span { at, size })?;
+    Ok(())
+}
+
+/// What the lines so far spell, where they stand, and where the next statement stands.
 #[derive(Drop)]
 struct Spelt {
     at: u16,
+    spans: Vec<Span>,
     cells: ByteMap,
     ghost in_range: { at ≤ 4096 },
 }
@@ -76,17 +90,20 @@ struct Spelt {
 impl Spelt {
     /// Adds the bytes of a line; the next statement stands at `next`.
     #[tactic(auto, using(crate::proofs::SpeltLists::taken_stops, crate::proofs::SpeltLists::free_goes))]
-    fn add(&mut self, bytes: &[u8], next: u16) -> Result<(), SourceFault>
+    fn add(&mut self, bytes: &[u8], next: u16) -> Result<(), FaultKind>
         requires room { self.old.at + length bytes.now ≤ 4096 }
         requires next { next ≤ 4096 }
-        ensures { (pairs : List (ℕ × ℕ)) → IsKept self.old.cells pairs
-            → Keeps result self.new.at self.new.cells
+        ensures bytes { (pairs : List (ℕ × ℕ)) → IsKept self.old.cells pairs
+            → Adds result self.new.at self.new.cells
             (spelt_with_bytes (record { at = self.old.at; pairs = pairs }) next (Ok bytes.now)) }
+        ensures span { OnOk result (self.new.spans.items
+            ≡ self.old.spans.items ++ span_at self.old.at (Ok bytes.now) ∷ []) }
     {
         let at = usize::from(self.at);
         if self.cells.is_taken(at, bytes.len()) {
-            return Err(SourceFault::Overlap);
+            return Err(FaultKind::Refused(SourceFault::Overlap));
         }
+        push_span(&mut self.spans, self.at, bytes)?;
         self.cells.write(at, bytes);
         self.at = next;
         Ok(())
@@ -100,38 +117,50 @@ impl Spelt {
         line: &'a [u8],
     ) -> Result<(), FaultKind>
         requires { HasNoFault self.old.at (line_of (tokens line.now)) }
-        ensures { (pairs : List (ℕ × ℕ)) → IsKept self.old.cells pairs
+        ensures bytes { (pairs : List (ℕ × ℕ)) → IsKept self.old.cells pairs
             → Adds result self.new.at self.new.cells (spelt_with_line names.now.names
             (record { at = self.old.at; pairs = pairs }) (line_of (tokens line.now))) }
+        ensures span { OnOk result (self.new.spans.items ≡ self.old.spans.items
+            ++ span_at self.old.at
+            (line_bytes self.old.at names.now.names (line_of (tokens line.now))) ∷ []) }
     {
         let Some(line) = read_line(alloc, line)? else {
             return Err(FaultKind::Refused(SourceFault::BadStatement));
         };
         let bytes = line_bytes(alloc, self.at, names, &line)?;
         let next = next_at(&line, self.at);
-        self.add(&bytes, next)?;
-        Ok(())
+        self.add(&bytes, next)
     }
 }
 
-/// What all lines spell, or the first fault of class two.
+/// What all lines spell and where they stand, or the first fault of class two.
 fn second_pass<'a>(
     alloc: Global,
-    names: &Names<'a>,
+    names: Names<'a>,
     lines: &[&'a [u8]],
-) -> Result<ByteMap, AsmFault>
+) -> Result<(Survey<'a>, ByteMap), AsmFault>
     requires no_fault { first_of_class_one (read (map (λ l. l.now) lines.now)) ≡ None }
-    requires names { names.now.names ≡ all_names (read (map (λ l. l.now) lines.now)) }
-    ensures { PassesSecond result (read (map (λ l. l.now) lines.now)) names.now.names }
+    requires names { names.names ≡ all_names (read (map (λ l. l.now) lines.now)) }
+    ensures { PassesSecond result (read (map (λ l. l.now) lines.now)) names.entry.names }
 {
     let mut spelt = Spelt {
         at: 0,
+        spans: Vec::new(alloc),
         cells: ByteMap::new(alloc)?,
     };
     for i in 0..lines.len() {
-        at_line(i, spelt.spell(alloc, names, lines[i]))?;
+        at_line(i, spelt.spell(alloc, &names, lines[i]))?;
     }
-    Ok(spelt.cells)
+    Ok((Survey::new(spelt.spans, names), spelt.cells))
+}
+
+/// What both passes find in a text, or its first fault with the number of its line, from 1.
+fn both_passes<'a>(alloc: Global, source: &'a str) -> Result<(Survey<'a>, ByteMap), AsmFault>
+    ensures { PassesBoth result source.now }
+{
+    let lines = lines(alloc, source.as_bytes())?;
+    let names = first_pass(alloc, &lines)?;
+    second_pass(alloc, names, &lines)
 }
 
 /// The image of a source text, or its first fault with the number of its line, from 1.
@@ -141,9 +170,17 @@ fn second_pass<'a>(
 pub fn assemble(alloc: Global, source: &str) -> Result<Image, AsmFault>
     ensures { Assembles result (assembled source.now) }
 {
-    let lines = lines(alloc, source.as_bytes())?;
-    let names = first_pass(alloc, &lines)?;
-    let cells = second_pass(alloc, &names, &lines)?;
+    let (_, cells) = both_passes(alloc, source)?;
     let image = cells.image(alloc)?;
     Ok(image)
+}
+
+/// Where the lines of a source text stand, how many bytes each spells, and what its names are worth.
+///
+/// A text that [`assemble`] refuses has the same fault here.
+pub fn survey<'a>(alloc: Global, source: &'a str) -> Result<Survey<'a>, AsmFault>
+    ensures { Surveys result (surveyed source.now) }
+{
+    let (survey, _) = both_passes(alloc, source)?;
+    Ok(survey)
 }

@@ -10,7 +10,7 @@ use Rattle.mcs_model.specs.declared.limits.TheConstants.{LINE_BYTES, LISTING_LIN
 use Rattle.mcs_model.specs.declared.query.Query.TheVariants as query
 use Rattle.mcs_lines.specs.declared.requests.Request.{Request}
 use Rattle.mcs_lines.specs.declared.requests.Request.TheVariants.{Nothing, Refused, Ask, Listing, Board, Change, Begin}
-use Rattle.mcs_lines.specs.declared.requests.TextKind.TheVariants.{Wire, Asm}
+use Rattle.mcs_lines.specs.declared.requests.TextKind.TheVariants.{Wire, Asm, Map}
 use Rattle.mcs_lines.specs.declared.requests.LineFault.TheVariants.{NotACommand, BadNumber, LineTooLong, NotAscii}
 use Rattle.mcs_lines.specs.Words.{is_plain_byte, parts_of, words_of}
 
@@ -100,6 +100,7 @@ request_alone word =
     else if bytes_eq word (codes "board") then Board
     else if bytes_eq word (codes "wire") then Begin Wire
     else if bytes_eq word (codes "asm") then Begin Asm
+    else if bytes_eq word (codes "map") then Begin Map
     else Refused NotACommand
 
 -- a line of two words

@@ -52,8 +52,10 @@ impl LineFault {
 pub enum TextKind {
     /// A board.
     Wire,
-    /// A program.
+    /// A program, to be loaded.
     Asm,
+    /// A program, to be told of.
+    Map,
 }
 
 /// What a command line asks for.
@@ -101,6 +103,8 @@ fn read_alone(word: &[u8]) -> Request
         Request::Begin(TextKind::Wire)
     } else if equals(word, b"asm") {
         Request::Begin(TextKind::Asm)
+    } else if equals(word, b"map") {
+        Request::Begin(TextKind::Map)
     } else {
         Request::Refused(LineFault::NotACommand)
     }

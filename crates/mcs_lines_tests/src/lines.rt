@@ -188,11 +188,12 @@ fn lines_of_too_many_bytes(rt: HostRuntime) -> Result<(), Fail> {
 }
 
 /// Lines, and the requests that they are.
-const REQUESTS: [(&str, &str); 14] = [
+const REQUESTS: [(&str, &str); 15] = [
     ("", "Nothing"),
     ("\t ", "Nothing"),
     ("wire", "Begin(Wire)"),
     (" asm\t", "Begin(Asm)"),
+    ("map ", "Begin(Map)"),
     ("board", "Board"),
     ("press 9 7", "Change(Press(9, 7))"),
     ("run 100001", "Change(Run(100001))"),

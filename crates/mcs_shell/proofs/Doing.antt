@@ -1,6 +1,5 @@
 -- What an input leaves, by its answer.
 use Rattle.std.proofs.Common.{◌≡◌, ◌≢◌, ◌⊎◌, ◌↔◌, ℕ, Bool, true, false, List, [], ◌∷◌, Option, Some, None, Result, Ok, Err, OnErr, OnOk, inl, inr, sym, ap, ◌∙◌, refl, subst}
-use Rattle.std.specs.Result.{result_ok}
 use Rattle.std.specs.Io.KnownBytes.{Appends}
 use Rattle.mcs_disk.specs.Disk.{DiskState, IsLawful}
 use Rattle.mcs_model.specs.declared.command.Command.{Command}
@@ -21,13 +20,13 @@ use Rattle.mcs_shell.specs.declared.texts.TextFault.{TextFault}
 use Rattle.mcs_shell.specs.declared.outcome.Halt.{Halt}
 use Rattle.mcs_shell.specs.declared.outcome.Halt.TheVariants as halt
 use Rattle.mcs_shell.specs.Inputs.{Input, Line, Text, BadText, text_fault_of, judged_text, text_or_fault}
-use Rattle.mcs_shell.specs.Spelling.{command_of_text, text_refusal}
+use Rattle.mcs_shell.specs.Spelling.{Does, Tells, spelled_by, text_refusal}
 use Rattle.mcs_session.specs.Answers.{Applied, Closes, Recorded}
 use Rattle.mcs_session.specs.Standing.{SessionState}
 use Rattle.mcs_shell.specs.Stage.{Stage}
 use Rattle.mcs_shell.specs.RefusalNumbers.{session_fault_number}
 use Rattle.mcs_answers.specs.AnswerTexts.{no_text, ok_text}
-use Rattle.mcs_shell.specs.Transcript.{MayEnd, accepted, answer, asked, change_answer, commands, plain_answer, reached, spelled_answer, takes_memory}
+use Rattle.mcs_shell.specs.Transcript.{MayEnd, accepted, answer, asked, asked_by, change_answer, commands, plain_answer, reached, spelled_answer, takes_memory}
 use Rattle.mcs_session.specs.Kept.{IsSettled, Kept}
 use Rattle.mcs_shell.specs.Serving.{Sent, ServedLine, Answered, CutShort, Failed, Fares, GotSome, KeptBy, Leaves, WentOn, outcome_of}
 use Rattle.mcs_session.proofs.Keeping.{acknowledged_keeps, failed_keeps, stays_keeps, whole_nothing}
@@ -191,14 +190,19 @@ answered_alike a b i j NoMemory told same alike takes h = record { may = takes; 
 
 -- a text that spells a command is answered as that command is
 pub answered_text : (a b : SessionState) (kind : TextKind) (text : List ℕ) (c : Command) (o : Outcome) (told : List ℕ)
-    → command_of_text kind text ≡ Ok c → Answered a (Line (Change c)) o told b → Answered a (Text kind text) o told b
+    → spelled_by kind text ≡ Ok (Does c) → Answered a (Line (Change c)) o told b → Answered a (Text kind text) o told b
 answered_text a b kind text c o told is h =
-    answered_alike a b (Text kind text) (Line (Change c)) o told (ap result_ok is) (ap (spelled_answer a.standing.state) is) refl h
+    answered_alike a b (Text kind text) (Line (Change c)) o told (ap asked_by is) (ap (spelled_answer a.standing.state) is) refl h
 
 -- one that spells none
 pub answered_refused_text : (a : SessionState) (kind : TextKind) (text : List ℕ) (why : TextRefusal) (told : List ℕ)
-    → command_of_text kind text ≡ Err why → told ≡ text_refusal why → Answered a (Text kind text) Plain told a
-answered_refused_text a kind text why told is k = answered_plain a (Text kind text) told (ap result_ok is) (k ∙ sym (ap (spelled_answer a.standing.state) is))
+    → spelled_by kind text ≡ Err why → told ≡ text_refusal why → Answered a (Text kind text) Plain told a
+answered_refused_text a kind text why told is k = answered_plain a (Text kind text) told (ap asked_by is) (k ∙ sym (ap (spelled_answer a.standing.state) is))
+
+-- one that comes to lines
+pub answered_told_text : (a : SessionState) (kind : TextKind) (text lines told : List ℕ)
+    → spelled_by kind text ≡ Ok (Tells lines) → told ≡ lines → Answered a (Text kind text) Plain told a
+answered_told_text a kind text lines told is k = answered_plain a (Text kind text) told (ap asked_by is) (k ∙ sym (ap (spelled_answer a.standing.state) is))
 
 -- ---- an input that was answered
 

@@ -10,3 +10,4 @@ pub mod Steps
 pub mod Doing
 pub mod Looping
 pub mod Surviving
+pub mod MapLaws

@@ -1,18 +1,23 @@
--- What a text spells, and what is told where it spells nothing.
+-- What a text comes to, and what is told where it spells nothing.
 use Rattle.std.specs.Prelude.{ℕ, List, [], ◌∷◌, nat_lt, if◌then◌else◌, Result, Ok, Err}
+use Rattle.std.specs.Global.{Vec}
 use Rattle.mcs_model.specs.declared.board.BoardParts.{BoardParts}
 use Rattle.mcs_model.specs.declared.command.Command.{Command}
 use Rattle.mcs_model.specs.declared.command.Command.TheVariants as command
 use Rattle.mcs_source.specs.Assembly.{assembled}
+use Rattle.mcs_source.specs.MapText.{survey_text}
 use Rattle.mcs_source.specs.Refusal.{source_fault_number}
+use Rattle.mcs_source.specs.Survey.{Survey, surveyed}
 use Rattle.mcs_source.specs.declared.fault.SourceFault.{SourceFault}
 use Rattle.mcs_wiring.specs.Refusals.{wiring_fault_number}
 use Rattle.mcs_wiring.specs.Wiring.{board_of_text}
 use Rattle.mcs_wiring.specs.declared.fault.WiringFault.{WiringFault}
+use Rattle.mcs_shell.specs.declared.spelling.Spelled as code
+use Rattle.mcs_shell.specs.declared.spelling.Spelled.TheVariants as spelled
 use Rattle.mcs_shell.specs.declared.spelling.TextRefusal.{TextRefusal}
 use Rattle.mcs_shell.specs.declared.spelling.TextRefusal.TheVariants.{Wiring, Program}
 use Rattle.mcs_lines.specs.declared.requests.TextKind.{TextKind}
-use Rattle.mcs_lines.specs.declared.requests.TextKind.TheVariants.{Wire, Asm}
+use Rattle.mcs_lines.specs.declared.requests.TextKind.TheVariants.{Wire, Asm, Map}
 use Rattle.mcs_answers.specs.AnswerTexts.{no_line_text, no_text}
 
 -- the command to put a board in place of the one that is there
@@ -37,10 +42,39 @@ abbrev pub load_command : Result (List (ℕ × ℕ)) (ℕ × SourceFault) → Re
 load_command (Ok pairs) = Ok (command.Load (by_address pairs))
 load_command (Err at) = Err (Program (at.0) (at.1))
 
--- the command that a text spells, or why it spells none
-unfoldable pub command_of_text : TextKind → List ℕ → Result Command TextRefusal
-command_of_text Wire text = wire_command (board_of_text text)
-command_of_text Asm text = load_command (assembled text)
+-- what a text comes to: a command is done, or lines are told, and nothing is done
+pub data Spelled : Type 0 where
+  Does : Command → Spelled
+  Tells : List ℕ → Spelled
+
+abbrev pub done : Result Command TextRefusal → Result Spelled TextRefusal
+done (Ok c) = Ok (Does c)
+done (Err why) = Err why
+
+-- the map of a program
+abbrev pub mapped : Result Survey (ℕ × SourceFault) → Result Spelled TextRefusal
+mapped (Ok survey) = Ok (Tells (survey_text survey))
+mapped (Err at) = Err (Program (at.0) (at.1))
+
+-- lines that were made, or why there are none
+abbrev pub tells : Result (Vec ℕ) TextRefusal → Result Spelled TextRefusal
+tells (Ok lines) = Ok (Tells lines.items)
+tells (Err why) = Err why
+
+-- what a text comes to, or why it spells nothing
+unfoldable pub spelled_by : TextKind → List ℕ → Result Spelled TextRefusal
+spelled_by Wire text = done (wire_command (board_of_text text))
+spelled_by Asm text = done (load_command (assembled text))
+spelled_by Map text = mapped (surveyed text)
+
+-- the code's value for it
+abbrev pub spelled_view : code.Spelled → Spelled
+spelled_view (spelled.Does c) = Does c
+spelled_view (spelled.Tells lines) = Tells lines.items
+
+abbrev pub read_view : Result code.Spelled TextRefusal → Result Spelled TextRefusal
+read_view (Ok x) = Ok (spelled_view x)
+read_view (Err why) = Err why
 
 -- the answer to a text that spells nothing
 abbrev pub text_refusal : TextRefusal → List ℕ

@@ -1,6 +1,5 @@
 -- What is answered to inputs, and what they do.
 use Rattle.std.specs.Prelude.{◌≡◌, ◌≢◌, ◌⊎◌, Bool, true, false, ℕ, List, [], ◌∷◌, ◌++◌, map, Option, Some, None, Result, Ok, Err}
-use Rattle.std.specs.Result.{result_ok}
 use Rattle.mcs_model.specs.declared.command.Command.{Command}
 use Rattle.mcs_model.specs.BenchState.{BenchState}
 use Rattle.mcs_model.specs.Command.{refusal, after, reply}
@@ -16,14 +15,19 @@ use Rattle.mcs_shell.specs.declared.outcome.Outcome.TheVariants.{Plain, Device, 
 use Rattle.mcs_shell.specs.declared.spelling.TextRefusal.{TextRefusal}
 use Rattle.mcs_shell.specs.Inputs.{Input, Line, Text, BadText}
 use Rattle.mcs_shell.specs.RefusalNumbers.{text_fault_number}
-use Rattle.mcs_shell.specs.Spelling.{command_of_text, text_refusal}
+use Rattle.mcs_shell.specs.Spelling.{Spelled, Does, Tells, spelled_by, text_refusal}
 
 -- ---- one input
+
+-- the command that a text asks for, if any
+abbrev pub asked_by : Result Spelled TextRefusal → Option Command
+asked_by (Ok (Does c)) = Some c
+asked_by r = None
 
 -- the command that an input asks for, if any
 abbrev pub asked : Input → Option Command
 asked (Line (Change c)) = Some c
-asked (Text kind text) = result_ok (command_of_text kind text)
+asked (Text kind text) = asked_by (spelled_by kind text)
 asked i = None
 
 -- that command as a list: empty where there is none or the state refuses it
@@ -69,9 +73,11 @@ change_answer s c =
       | Some fault ↦ no_text (bench_fault_number fault)
     ]
 
--- the answer that the state gives to a text: to the command that it spells, or why it spells none
-abbrev pub spelled_answer : BenchState → Result Command TextRefusal → List ℕ
-spelled_answer s (Ok c) = change_answer s c
+-- the answer that the state gives to a text: to the command that it spells, the lines that it comes
+-- to, or why it spells nothing
+abbrev pub spelled_answer : BenchState → Result Spelled TextRefusal → List ℕ
+spelled_answer s (Ok (Does c)) = change_answer s c
+spelled_answer s (Ok (Tells lines)) = lines
 spelled_answer s (Err why) = text_refusal why
 
 -- the answer that the state gives to an input
@@ -83,7 +89,7 @@ plain_answer s (Line (Ask query)) = query_answer query s
 plain_answer s (Line (Listing at lines)) = listing_answer at lines s
 plain_answer s (Line Board) = board_answer s
 plain_answer s (Line (Change c)) = change_answer s c
-plain_answer s (Text kind text) = spelled_answer s (command_of_text kind text)
+plain_answer s (Text kind text) = spelled_answer s (spelled_by kind text)
 plain_answer s (BadText fault) = no_text (text_fault_number fault)
 
 -- the answer to an input

@@ -122,6 +122,14 @@ impl Answer {
         Ok(())
     }
 
+    /// Tells lines that were made.
+    pub(crate) fn tell_lines(&mut self, lines: Vec<u8>)
+        ensures { self.new ≡ lines.items }
+    {
+        self.short.clear();
+        self.long = Some(lines);
+    }
+
     /// Writes all of it. On an `Err` the writer has got less, the first bytes.
     pub(crate) fn send<W: Write>(&self, writer: &mut W) -> Result<(), WriteStopped>
         ensures ok { OnOk result

@@ -10,7 +10,7 @@ ghost use Rattle.mcs_shell.specs.Serving.{Answered, outcome_of};
 use crate::answer::Answer;
 use crate::faults::session_number;
 use crate::outcome::Outcome;
-use crate::spelling::read_text;
+use crate::spelling::{Spelled, read_text};
 use crate::texts::{as_text, text_fault};
 use mcs_disk::Disk;
 use mcs_lines::requests::{Request, TextKind};
@@ -118,7 +118,11 @@ pub(crate) fn answer_text<D: Disk + Drop>(
         return Outcome::Plain;
     }
     match read_text(alloc, kind, as_text(text)) {
-        Ok(Ok(command)) => answer_change(&command, session, answer),
+        Ok(Ok(Spelled::Does(command))) => answer_change(&command, session, answer),
+        Ok(Ok(Spelled::Tells(lines))) => {
+            answer.tell_lines(lines);
+            Outcome::Plain
+        }
         Ok(Err(refusal)) => {
             answer.tell_text_refusal(refusal);
             Outcome::Plain

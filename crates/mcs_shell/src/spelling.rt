@@ -1,10 +1,11 @@
-//! What a text spells.
+//! What a text comes to.
 ghost use Rattle.std.specs.Prelude.{◌≡◌, IfOk};
 ghost use Rattle.mcs_source.specs.Assembly.{assembled};
 ghost use Rattle.mcs_wiring.specs.Wiring.{board_of_text};
-ghost use Rattle.mcs_shell.specs.Spelling.{command_of_text, load_command, wire_command};
+ghost use Rattle.mcs_source.specs.Survey.{surveyed};
+ghost use Rattle.mcs_shell.specs.Spelling.{load_command, mapped, read_view, spelled_by, tells, wire_command};
 
-use mcs_asm::{FaultKind, SourceFault, assemble};
+use mcs_asm::{FaultKind, SourceFault, assemble, survey, survey_text};
 use mcs_lines::requests::TextKind;
 use mcs_model::command::Command;
 use mcs_wiring::{WiringFault, board_of};
@@ -21,6 +22,15 @@ pub enum TextRefusal {
     /// it.
     #[error("line {0}: {1}")]
     Program(usize, SourceFault),
+}
+
+/// What a text comes to.
+#[derive(Drop)]
+pub enum Spelled {
+    /// A command is done.
+    Does(Command),
+    /// Lines are told, and nothing is done.
+    Tells(Vec<u8>),
 }
 
 /// The command to put the board of a text in place, or why the text has none. It fails where memory
@@ -49,17 +59,31 @@ fn read_program(alloc: Global, text: &str) -> Result<Result<Command, TextRefusal
     }
 }
 
-/// The command that a text spells, or why it spells none. It fails where memory is refused.
-#[tactic(auto, unfolding(crate::specs::Spelling::command_of_text))]
+/// The map of a program, or why the text is none. It fails where memory is refused.
+fn read_map(alloc: Global, text: &str) -> Result<Result<Vec<u8>, TextRefusal>, AllocError>
+    ensures { IfOk result (λ told. tells told ≡ mapped (surveyed text.now)) }
+{
+    match survey(alloc, text) {
+        Ok(survey) => Ok(Ok(survey_text(alloc, &survey)?)),
+        Err(at) => match at.kind {
+            FaultKind::NoMemory => Err(AllocError),
+            FaultKind::Refused(fault) => Ok(Err(TextRefusal::Program(at.line, fault))),
+        },
+    }
+}
+
+/// What a text comes to, or why it spells nothing. It fails where memory is refused.
+#[tactic(auto, unfolding(crate::specs::Spelling::spelled_by))]
 pub fn read_text(
     alloc: Global,
     kind: TextKind,
     text: &str,
-) -> Result<Result<Command, TextRefusal>, AllocError>
-    ensures { IfOk result (λ spelled. spelled ≡ command_of_text kind text.now) }
+) -> Result<Result<Spelled, TextRefusal>, AllocError>
+    ensures { IfOk result (λ spelled. read_view spelled ≡ spelled_by kind text.now) }
 {
     match kind {
-        TextKind::Wire => read_board(alloc, text),
-        TextKind::Asm => read_program(alloc, text),
+        TextKind::Wire => Ok(read_board(alloc, text)?.map(Spelled::Does)),
+        TextKind::Asm => Ok(read_program(alloc, text)?.map(Spelled::Does)),
+        TextKind::Map => Ok(read_map(alloc, text)?.map(Spelled::Tells)),
     }
 }

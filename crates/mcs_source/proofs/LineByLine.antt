@@ -1,14 +1,15 @@
 -- What is said of line i, one line further, and the least line with a fault.
-use Rattle.std.proofs.Common.{◌≡◌, ℕ, zero, suc, ◌+◌, ◌<◌, ◌≤◌, Bool, false, cond, List, [], ◌∷◌, ◌++◌, length, drop, find, filter_map, flat_map, Option, Some, None, is_some, inl, inr, refl, sym, ap, subst, ◌∙◌, append-nil, arith, Ok}
+use Rattle.std.proofs.Common.{◌≡◌, ℕ, zero, suc, ◌+◌, ◌<◌, ◌≤◌, Bool, false, cond, List, [], ◌∷◌, ◌++◌, length, drop, find, filter_map, flat_map, map, Option, Some, None, is_some, inl, inr, refl, sym, ap, subst, ◌∙◌, append-nil, arith, Ok}
 use Rattle.std.specs.List.{range_with_len, cons_option}
 use Rattle.std.proofs.lemmas.Bool.{cases_eq}
-use Rattle.std.proofs.lemmas.List.{length-drop, drop_more}
+use Rattle.std.proofs.lemmas.List.{length-drop, drop_more, map_push}
 use Rattle.std.proofs.lemmas.List.Concat.{flat_map-append}
 use Rattle.std.proofs.lemmas.List.Elements.{filter_map-append}
 use Rattle.mcs_source.specs.declared.fault.SourceFault.{SourceFault}
 use Rattle.mcs_source.specs.Lines.{SourceLine}
 use Rattle.mcs_model.specs.TextLines.{lines_of}
 use Rattle.mcs_source.specs.Assembly.{Names, read, ith_line, next_at, address_of, definition, names_before, all_names, line_pairs, pairs_before, first_fault, first_of_class_one, first_of_class_two, spelt, assembled}
+use Rattle.mcs_source.specs.Survey.{span, spans_before}
 use Rattle.mcs_model.proofs.ListLemmas.{range_more, find_at}
 use Rattle.mcs_model.specs.Options.{◌>>=◌}
 
@@ -37,6 +38,11 @@ unfolding pairs_before
 pairs_next lines names i =
     ap (flat_map (line_pairs lines names)) (range_next i)
     ∙ (flat_map-append (line_pairs lines names) (range_with_len 0 i) (i ∷ []) ∙ ap (λ (l : List (ℕ × ℕ)). flat_map (line_pairs lines names) (range_with_len 0 i) ++ l) (append-nil (line_pairs lines names i)))
+
+pub spans_next : (lines : List (Option SourceLine)) (names : Names) (i : ℕ) → spans_before lines names (i + 1) ≡ spans_before lines names i ++ span lines names i ∷ []
+unfolding spans_before
+spans_next lines names i =
+    ap (map (span lines names)) (range_next i) ∙ map_push (span lines names) (range_with_len 0 i) i
 
 -- ---- the least line with a fault
 

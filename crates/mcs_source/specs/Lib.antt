@@ -5,4 +5,6 @@ pub mod Names
 pub mod Mnemonics
 pub mod Lines
 pub mod Assembly
+pub mod Survey
+pub mod MapText
 pub mod Text

@@ -5,3 +5,4 @@
 pub mod fault;
 pub mod mnemonic;
 pub mod spelling;
+pub mod survey;

@@ -1,5 +1,5 @@
 //! Texts with their bytes, and texts with their first faults.
-use mcs_asm::{FaultKind, SourceFault, assemble};
+use mcs_asm::{FaultKind, SourceFault, Span, assemble, survey, survey_text};
 use mcs_nibble::Addr;
 use std::alloc::{AllocError, Global};
 use std::process::Abort;
@@ -347,6 +347,100 @@ fn faults_after_512_names(rt: HostRuntime) -> Result<(), Fail> {
     for (last, line, fault) in LAST_LINES {
         let text = names_and(rt.alloc(), 512, last)?;
         assert!(rt; is_refused(rt.alloc(), &text, line, fault));
+    }
+    Ok(())
+}
+
+/// A text, the address and the size of each of its lines, and its names with their values.
+type SurveyRow = (
+    &'static str,
+    &'static [(u16, u16)],
+    &'static [(&'static str, u16)],
+);
+
+/// Texts with their surveys.
+const SURVEYS: [SurveyRow; 6] = [
+    ("", &[], &[]),
+    (
+        "k = 0x10\r\n x : fim p7 , k ; comment \u{e4}\r\n\tisz r15,x",
+        &[(0, 0), (0, 2), (2, 2)],
+        &[("k", 16), ("x", 0)],
+    ),
+    // A line has the address before its `ORG`; a name comes before its definition.
+    (
+        "JUN go\nhere: ORG 0x100\n\ngo: LDM 5\nDB 1, here, 0xFF\n",
+        &[(0, 2), (2, 0), (0x100, 0), (0x100, 1), (0x101, 3)],
+        &[("here", 2), ("go", 0x100)],
+    ),
+    // After the last address.
+    (
+        "ORG 0xFFF\nNOP\n; end\nlast = 0xFFF\n",
+        &[(0, 0), (0xFFF, 1), (0x1000, 0), (0x1000, 0)],
+        &[("last", 0xFFF)],
+    ),
+    // A lower address after a higher one.
+    (
+        "ORG 2\nb: NOP\nORG 0\na: LDM 1\nCLC\n",
+        &[(0, 0), (2, 1), (3, 0), (0, 1), (1, 1)],
+        &[("b", 2), ("a", 0)],
+    ),
+    ("\n\n", &[(0, 0), (0, 0)], &[]),
+];
+
+fn are_spans(spans: &[Span], wanted: &[(u16, u16)]) -> bool {
+    for (span, (at, size)) in spans.iter().zip(wanted.iter()) {
+        if span.at != *at || span.size != *size {
+            return false;
+        }
+    }
+    spans.len() == wanted.len()
+}
+
+fn are_names(names: &[(&[u8], u16)], wanted: &[(&str, u16)]) -> bool {
+    for ((name, value), (text, n)) in names.iter().zip(wanted.iter()) {
+        if *name != text.as_bytes() || *value != *n {
+            return false;
+        }
+    }
+    names.len() == wanted.len()
+}
+
+#[test]
+fn lines_and_names_are_surveyed(rt: HostRuntime) -> Result<(), Fail> {
+    for (text, spans, names) in SURVEYS {
+        match survey(rt.alloc(), text) {
+            Ok(survey) => {
+                assert!(rt; are_spans(survey.spans(), spans), "at {text}");
+                assert!(rt; are_names(survey.names(), names), "at {text}");
+            }
+            Err(_) => assert!(rt; false, "at {text}"),
+        }
+    }
+    Ok(())
+}
+
+#[test]
+fn a_survey_is_refused_as_the_text_is(rt: HostRuntime) {
+    for (text, line, fault) in FIRST_FAULTS {
+        let refused = match survey(rt.alloc(), text) {
+            Ok(_) => false,
+            Err(found) => found.line == line && found.kind == FaultKind::Refused(fault),
+        };
+        assert!(rt; refused, "at {text}");
+    }
+}
+
+#[test]
+fn a_survey_has_a_text(rt: HostRuntime) -> Result<(), Fail> {
+    let source = "k = 10\nORG 0xFFE\nlast: JUN last\n; end";
+    let wanted =
+        "map lines 4 names 2\nline 1 000 0\nline 2 000 0\nline 3 FFE 2\nline 4 1000 0\nname k 00A\nname last FFE\n";
+    match survey(rt.alloc(), source) {
+        Ok(survey) => {
+            let text = survey_text(rt.alloc(), &survey)?;
+            assert!(rt; text.as_slice() == wanted.as_bytes());
+        }
+        Err(_) => assert!(rt; false),
     }
     Ok(())
 }

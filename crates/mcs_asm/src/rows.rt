@@ -1,0 +1,102 @@
+//! A survey as text.
+ghost use Rattle.std.specs.Prelude.{◌≡◌, ◌≤◌, ◌<◌, ◌++◌, string_bytes, length, map, OnOk, IfOk};
+ghost use Rattle.mcs_model.specs.QueryText.{address_text, as_line};
+ghost use Rattle.mcs_source.specs.MapText.{head_row, line_row, line_rows, name_row, place_text, text_of, survey_text};
+
+use crate::surveys::Survey;
+use mcs_source::survey::Span;
+use std::alloc::{AllocError, Global};
+
+/// Writes the three digits of an address.
+#[tactic(auto, using(std::proofs::lemmas::Fmt::hex_one_digit))]
+fn push_address(out: &mut String, at: u16) -> Result<(), AllocError>
+    requires { at < 4096 }
+    ensures { OnOk result (string_bytes out.new ≡ string_bytes out.old ++ address_text at) }
+{
+    let high = at / 256;
+    let middle = at / 16 % 16;
+    let low = at % 16;
+    write!(out, "{high:X}{middle:X}{low:X}")
+}
+
+/// Writes an address, or the place after the last one.
+fn push_place(out: &mut String, at: u16) -> Result<(), AllocError>
+    ensures { OnOk result (string_bytes out.new ≡ string_bytes out.old ++ place_text at) }
+{
+    if at < 4096 {
+        push_address(out, at)
+    } else {
+        out.push_str("1000")?;
+        Ok(())
+    }
+}
+
+/// Writes where a line stands and how many bytes it spells.
+fn push_line(out: &mut String, number: usize, span: Span) -> Result<(), AllocError>
+    ensures { OnOk result (string_bytes out.new
+        ≡ string_bytes out.old ++ as_line (line_row number span)) }
+{
+    let size = span.size;
+    write!(out, "line {number} ")?;
+    push_place(out, span.at)?;
+    write!(out, " {size}\n")?;
+    Ok(())
+}
+
+/// Writes a name and its value. It fails where memory is refused.
+fn push_name(alloc: Global, out: &mut Vec<u8>, name: &[u8], value: u16) -> Result<(), AllocError>
+    ensures { OnOk result (out.new.items ≡ out.old.items ++ as_line (name_row (name.now, value))) }
+{
+    let mut place = String::new(alloc);
+    push_place(&mut place, value)?;
+    out.extend_from_slice(b"name ")?;
+    out.extend_from_slice(name)?;
+    out.push(b' ')?;
+    out.extend_from_slice(place.as_bytes())?;
+    out.push(b'\n')?;
+    Ok(())
+}
+
+/// Writes how many rows of each kind follow.
+fn push_head(out: &mut String, lines: usize, names: usize) -> Result<(), AllocError>
+    ensures { OnOk result (string_bytes out.new
+        ≡ string_bytes out.old ++ as_line (head_row lines names)) }
+{
+    write!(out, "map lines {lines} names {names}\n")
+}
+
+/// Writes a row for each line of the source.
+fn push_lines(out: &mut String, spans: &[Span]) -> Result<(), AllocError>
+    ensures { OnOk result (string_bytes out.new
+        ≡ string_bytes out.old ++ text_of (line_rows 1 spans.now)) }
+{
+    for i in 0..spans.len() {
+        push_line(out, i + 1, spans[i])?;
+    }
+    Ok(())
+}
+
+/// Writes a row for each name. It fails where memory is refused.
+fn push_names(alloc: Global, out: &mut Vec<u8>, names: &[(&[u8], u16)]) -> Result<(), AllocError>
+    ensures { OnOk result (out.new.items ≡ out.old.items
+        ++ text_of (map name_row (map (λ e. (e.0.now, e.1)) names.now))) }
+{
+    for i in 0..names.len() {
+        push_name(alloc, out, names[i].0, names[i].1)?;
+    }
+    Ok(())
+}
+
+/// The text of a survey: a head, a row for each line of the source, and a row for each name. It
+/// fails where memory is refused.
+pub fn survey_text(alloc: Global, survey: &Survey<'_>) -> Result<Vec<u8>, AllocError>
+    ensures { IfOk result (λ text. text.items ≡ survey_text survey.now) }
+{
+    let (spans, names) = (survey.spans(), survey.names());
+    let mut lines = String::new(alloc);
+    push_head(&mut lines, spans.len(), names.len())?;
+    push_lines(&mut lines, spans)?;
+    let mut text = lines.into_bytes();
+    push_names(alloc, &mut text, names)?;
+    Ok(text)
+}

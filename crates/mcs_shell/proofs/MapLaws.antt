@@ -1,0 +1,31 @@
+-- What a map comes to.
+use Rattle.std.proofs.Common.{◌≡◌, ◌↔◌, ℕ, List, Result, Ok, Err, None, refl}
+use Rattle.std.specs.Result.{result_map_both}
+use Rattle.mcs_model.specs.TextLines.{lines_of}
+use Rattle.mcs_source.specs.declared.fault.SourceFault.{SourceFault}
+use Rattle.mcs_source.specs.Assembly.{assembled, read}
+use Rattle.mcs_source.specs.Survey.{Survey, survey_of}
+use Rattle.mcs_lines.specs.declared.requests.TextKind.TheVariants.{Asm, Map}
+use Rattle.mcs_shell.specs.declared.spelling.TextRefusal.{TextRefusal}
+use Rattle.mcs_shell.specs.Inputs.{Text}
+use Rattle.mcs_shell.specs.Spelling.{done, load_command, mapped, spelled_by}
+use Rattle.mcs_shell.specs.Transcript.{asked, asked_by}
+
+abbrev surveyed_as : (List (ℕ × ℕ) → Survey) → Result (List (ℕ × ℕ)) (ℕ × SourceFault) → Result Survey (ℕ × SourceFault)
+surveyed_as f r = result_map_both f (λ x. x) r
+
+asks_none : (f : List (ℕ × ℕ) → Survey) (r : Result (List (ℕ × ℕ)) (ℕ × SourceFault)) → asked_by (mapped (surveyed_as f r)) ≡ None
+asks_none f (Ok pairs) = refl
+asks_none f (Err at) = refl
+
+refused_alike : (f : List (ℕ × ℕ) → Survey) (r : Result (List (ℕ × ℕ)) (ℕ × SourceFault)) (why : TextRefusal) → (mapped (surveyed_as f r) ≡ Err why) ↔ (done (load_command r) ≡ Err why)
+refused_alike f (Ok pairs) why = (λ e. absurd (cc e), λ e. absurd (cc e))
+refused_alike f (Err at) why = (λ e. e, λ e. e)
+
+pub map_asks_none : (text : List ℕ) → asked (Text Map text) ≡ None
+unfolding spelled_by
+map_asks_none text = asks_none (λ pairs. survey_of (read (lines_of text))) (assembled text)
+
+pub map_refused : (text : List ℕ) (why : TextRefusal) → (spelled_by Map text ≡ Err why) ↔ (spelled_by Asm text ≡ Err why)
+unfolding spelled_by
+map_refused text why = refused_alike (λ pairs. survey_of (read (lines_of text))) (assembled text) why

@@ -1,0 +1,34 @@
+-- Where the lines of a source text stand, how many bytes each spells, and what its names are worth.
+-- (Our own choice.) Lines count from 0, as in `Assembly`.
+use Rattle.std.specs.Prelude.{ℕ, List, length, map, Option, Result}
+use Rattle.std.specs.Result.{result_map_both}
+use Rattle.std.specs.List.{range_with_len}
+use Rattle.mcs_source.specs.declared.fault.SourceFault.{SourceFault}
+use Rattle.mcs_source.specs.declared.survey.Span.{Span}
+use Rattle.mcs_source.specs.Lines.{SourceLine}
+use Rattle.mcs_source.specs.Assembly.{Names, read, address_of, all_names, line_pairs, assembled}
+use Rattle.mcs_model.specs.TextLines.{lines_of}
+
+-- where the statement of line i stands, and how many bytes the line spells
+abbrev pub span : List (Option SourceLine) → Names → ℕ → Span
+span lines names i = record { at = address_of lines i; size = length (line_pairs lines names i) }
+
+-- the addresses of the bytes that a line with this span spells
+abbrev pub addresses : Span → List ℕ
+addresses s = range_with_len s.at s.size
+
+-- the span of each line before line i
+unfoldable pub spans_before : List (Option SourceLine) → Names → ℕ → List Span
+spans_before lines names i = map (span lines names) (range_with_len 0 i)
+
+-- what is told of a text without a fault: of each line, and of each name in the order of the lines that define them
+pub record Survey : Type 0 where
+  pub spans : List Span
+  pub names : Names
+
+abbrev pub survey_of : List (Option SourceLine) → Survey
+survey_of lines = record { spans = spans_before lines (all_names lines) (length lines); names = all_names lines }
+
+-- the survey of a text that spells its pairs; any other text has the fault that it has
+abbrev pub surveyed : List ℕ → Result Survey (ℕ × SourceFault)
+surveyed text = result_map_both (λ pairs. survey_of (read (lines_of text))) (λ f. f) (assembled text)

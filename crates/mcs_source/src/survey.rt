@@ -1,0 +1,21 @@
+//! Where the lines of a source text stand.
+ghost use Rattle.std.specs.Prelude.{◌≡◌, ℕ, List, Ok, map};
+ghost use Rattle.std.specs.List.{flat_map};
+ghost use Rattle.mcs_source.specs.Assembly.{assembled};
+ghost use Rattle.mcs_source.specs.Survey.{Survey, addresses, surveyed};
+
+/// Where the statement of a line stands, or would stand, and how many bytes the line spells.
+#[derive(Clone, Copy, Debug, PartialEq, Eq)]
+pub struct Span {
+    /// The address; 4096 after the last one.
+    pub at: u16,
+    /// The number of bytes.
+    pub size: u16,
+}
+
+/// The law on surveys: the addresses that a text spells, in the order of its lines, are those of the
+/// spans of its lines, one after the other. It holds for each text; the function does nothing.
+pub fn spans_law()
+    ensures { (text : List ℕ) (pairs : List (ℕ × ℕ)) (survey : Survey) → assembled text ≡ Ok pairs
+        → surveyed text ≡ Ok survey → map (λ p. p.0) pairs ≡ flat_map addresses survey.spans }
+{}
