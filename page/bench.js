@@ -92,26 +92,40 @@ class Bench {
 
   // Serves lines on the session of a file. The answers are without `session N`; `file` is a new copy.
   serve(file, lines) {
+    return { ...this.answersOf("page_serve", file, lines), file: this.view(this.file, file.length).slice() };
+  }
+
+  // The same, and a snapshot takes the place of the log: opening the file has nothing to do again.
+  serveAndSettle(file, lines) {
+    return { ...this.answersOf("page_serve_and_settle", file, lines), file: this.view(this.file, file.length).slice() };
+  }
+
+  // Answers lines as `serve` would; the session is as it was.
+  ask(file, lines) {
+    return this.answersOf("page_ask", file, lines);
+  }
+
+  answersOf(name, file, lines) {
     if (!this.isFit) this.renew();
     const input = new TextEncoder().encode(lines);
     this.input = this.larger(this.input, input.length);
     this.view(this.input, input.length).set(input);
-    let told = this.tryToServe(file, input.length);
+    let told = this.tryToServe(name, file, input.length);
     if (told.answersNeed > 0) {
       this.answers = this.larger(this.answers, told.answersNeed);
-      told = this.tryToServe(file, input.length);
+      told = this.tryToServe(name, file, input.length);
     }
     const answers = new TextDecoder().decode(this.view(this.answers, told.count)).split("\n");
     answers.pop();
-    return { status: told.number, opened: answers[0], answers: answers.slice(1), file: this.view(this.file, file.length).slice() };
+    return { status: told.number, opened: answers[0], answers: answers.slice(1) };
   }
 
   // One call. Where the answers have no room, it tells how many bytes they need, and nothing was done.
-  tryToServe(file, inputCount) {
+  tryToServe(name, file, inputCount) {
     this.file = this.larger(this.file, file.length);
     this.view(this.file, file.length).set(file);
     const { file: bytes, input, answers, told } = this;
-    const served = this.call("page_serve", bytes.place, BigInt(file.length), input.place, BigInt(inputCount),
+    const served = this.call(name, bytes.place, BigInt(file.length), input.place, BigInt(inputCount),
       answers.place, BigInt(answers.room), told.place);
     const words = new DataView(this.calls.memory.buffer, Number(told.place), TOLD_SIZE);
     const number = words.getUint32(0, true);

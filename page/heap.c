@@ -51,7 +51,9 @@ static void *take(Word count) {
     Word have = (Word)__builtin_wasm_memory_size(0) << PAGE_POWER;
     if (end > have) {
         Word pages = (end - have + (1ULL << PAGE_POWER) - 1) >> PAGE_POWER;
-        if (__builtin_wasm_memory_grow(0, pages) == (Word)-1) return 0;
+        __builtin_wasm_memory_grow(0, pages);
+        // Whether it grew is read from its size: what the call answers where it did not has other bits where addresses have 32.
+        if ((Word)__builtin_wasm_memory_size(0) << PAGE_POWER < end) return 0;
     }
     Byte *block = (Byte *)end_of_heap + HEADER;
     *power_of(block) = power;

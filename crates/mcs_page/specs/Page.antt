@@ -1,11 +1,11 @@
 -- What a call of the page does with the bytes of a session file.
 use Rattle.std.specs.Prelude.{◌≡◌, ◌≤◌, ◌<◌, ℕ, List, [], Option, Some, length, take, drop}
 use Rattle.mcs_disk.specs.Disk.{DiskState}
-use Rattle.mcs_disk.specs.States.{mem_disk_state}
-use Rattle.mcs_disk.specs.declared.memory.MemDisk.{MemDisk}
 use Rattle.mcs_journal.specs.declared.fault.OpenFault.{OpenFault}
 use Rattle.mcs_journal.specs.declared.fault.OpenFault.TheVariants as open_fault
 use Rattle.mcs_model.specs.BenchState.{BenchState, new_bench_state}
+use Rattle.mcs_page.specs.ByteDisk.{IsFresh, byte_disk_state}
+use Rattle.mcs_page.specs.declared.byte_disk.ByteDisk.{ByteDisk}
 use Rattle.mcs_page.specs.declared.fault.NotServed.{NotServed}
 use Rattle.mcs_page.specs.declared.fault.NotServed.TheVariants.{Refused, NoRoom}
 use Rattle.mcs_session.specs.Answers.{RefusesSession}
@@ -27,28 +27,40 @@ abbrev pub IsNewFile : List ℕ → Type 0
 IsNewFile file = StandsFor file new_bench_state
 
 -- the session of a file goes on: a disk that has its bytes was opened
-pub record Resumes (file : List ℕ) (session : SessionView MemDisk) : Type 0 where
-  pub disk : MemDisk
-  pub held : HasBytes file (mem_disk_state disk)
-  pub begun : GoesOnWith (mem_disk_state disk) (mem_disk_state session.disk) session.live
+pub record Resumes (file : List ℕ) (session : SessionView ByteDisk) : Type 0 where
+  pub disk : ByteDisk
+  pub held : IsFresh file (byte_disk_state disk)
+  pub begun : GoesOnWith (byte_disk_state disk) (byte_disk_state session.disk) session.live
       session.state
 
 -- The session that the bytes of a file hold went on, the shell read this input and wrote these
--- answers, and these are the bytes that its disk has then.
-pub record ServedOn (file input : List ℕ) (end : ShellEnd) (answers after : List ℕ) : Type 0 where
-  pub session : SessionView MemDisk
+-- answers, and left the session so.
+pub record WentOn (file input : List ℕ) (end : ShellEnd) (answers : List ℕ)
+    (left : SessionView ByteDisk) : Type 0 where
+  pub session : SessionView ByteDisk
   pub resumes : Resumes file session
   pub rest : Option (List ℕ)
-  pub left : SessionView MemDisk
-  pub ran : Ran end (Some input) rest (staged mem_disk_state session (Some []))
-      (staged mem_disk_state left (Some answers))
-  pub kept : HasBytes after (mem_disk_state left.disk)
+  pub ran : Ran end (Some input) rest (staged byte_disk_state session (Some []))
+      (staged byte_disk_state left (Some answers))
+
+-- the same, and these are the bytes that the session's disk has then
+pub record ServedOn (file input : List ℕ) (end : ShellEnd) (answers after : List ℕ) : Type 0 where
+  pub left : SessionView ByteDisk
+  pub went : WentOn file input end answers left
+  pub kept : HasBytes after (byte_disk_state left.disk)
 
 -- all of the input was served, or as much of it as a shell reads
 abbrev pub IsWhole : ShellEnd → Type 0
 IsWhole End = Unit {0}
 IsWhole InputLimit = Unit {0}
 IsWhole end = ⊥
+
+-- all of the input was served, with these answers, and left the session so
+pub record HasServed (file input : List ℕ) (end : ShellEnd) (answers : List ℕ)
+    (left : SessionView ByteDisk) : Type 0 where
+  pub whole : IsWhole end
+  pub went : WentOn file input end answers left
+  pub size : (byte_disk_state left.disk).size ≡ length file
 
 -- the input was served, and the answers are that many bytes at the front of the buffer
 pub record Answers (file input : List ℕ) (end : ShellEnd) (count : ℕ)
@@ -63,8 +75,8 @@ pub record Answers (file input : List ℕ) (end : ShellEnd) (count : ℕ)
 abbrev pub IsRefused : OpenFault → List ℕ → Type 0
 IsRefused open_fault.NoMemory file = Unit {0}
 IsRefused open_fault.Device file = ⊥
-IsRefused fault file = (disk : MemDisk) × HasBytes file (mem_disk_state disk)
-    × RefusesSession fault (mem_disk_state disk)
+IsRefused fault file = (disk : ByteDisk) × IsFresh file (byte_disk_state disk)
+    × RefusesSession fault (byte_disk_state disk)
 
 -- this input was served whole: its answers are that many bytes, more than the buffer has room for
 pub record LacksRoom (file input : List ℕ) (count room : ℕ) : Type 0 where
@@ -81,8 +93,29 @@ abbrev pub IsWhyNot : NotServed → List ℕ → List ℕ → ℕ → Type 0
 IsWhyNot (Refused fault) file input room = IsRefused fault file
 IsWhyNot (NoRoom count) file input room = LacksRoom file input count room
 
+-- the disk of a session stood for its state, and these bytes hold a snapshot of that state and no
+-- records
+pub record SettlesTo (session : SessionView ByteDisk) (file : List ℕ) : Type 0 where
+  pub stood : StandsFor (byte_disk_state session.disk).bytes session.state
+  pub holds : HoldsState file session.state
+
 -- the file stood for a state, and now it holds a snapshot of that state and no records
 pub record StandsForTheSame (old new : List ℕ) : Type 0 where
   pub state : BenchState
   pub before : StandsByEither old state
   pub after : HoldsState new state
+
+-- the input was served, which gave some file, and then a snapshot took the place of the records of
+-- that file
+pub record AnswersAndSettles (file input : List ℕ) (end : ShellEnd) (count : ℕ)
+    (buffer buffer' after : List ℕ) : Type 0 where
+  pub between : List ℕ
+  pub answers : Answers file input end count buffer buffer' between
+  pub settled : StandsForTheSame between after
+  pub same : settled.state ≡ answers.served.left.state
+
+-- the input would be served so; what file that would give is not told
+pub record WouldAnswer (file input : List ℕ) (end : ShellEnd) (count : ℕ)
+    (buffer buffer' : List ℕ) : Type 0 where
+  pub after : List ℕ
+  pub answers : Answers file input end count buffer buffer' after

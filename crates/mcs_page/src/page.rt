@@ -1,12 +1,12 @@
 //! What a page calls.
-ghost use Rattle.std.specs.Prelude.{◌≡◌, ◌↔◌, length, IfErr, IfOk, IsTrue, OnErr, OnOk};
-ghost use Rattle.mcs_page.specs.Page.{Answers, IsNewFile, IsRefused, IsWhole, IsWhyNot};
-ghost use Rattle.mcs_page.specs.Page.{StandsForTheSame};
+ghost use Rattle.std.specs.Prelude.{◌≡◌, ◌≤◌, ◌↔◌, drop, length, take, IfErr, IfOk, IsTrue, OnErr, OnOk};
+ghost use Rattle.mcs_page.specs.Page.{Answers, AnswersAndSettles, HasServed, IsNewFile, IsRefused};
+ghost use Rattle.mcs_page.specs.Page.{IsWhole, IsWhyNot, StandsForTheSame, WouldAnswer};
 ghost use Rattle.mcs_journal.specs.declared.format.TheConstants.{FILE_SIZE};
 
-use crate::disks::{resume, write_back};
+use crate::byte_disk::ByteDisk;
+use crate::disks::{resume, settle_into, write_back};
 use crate::fault::NotServed;
-use mcs_disk::MemDisk;
 use mcs_journal::{FILE_SIZE, OpenFault};
 use mcs_session::session::Session;
 use mcs_shell::ends::ShellEnd;
@@ -22,17 +22,26 @@ pub struct Served {
     pub count: usize,
 }
 
+/// A session that has served input, and what it answered.
+#[derive(Drop)]
+struct Answered {
+    session: Session<ByteDisk>,
+    end: ShellEnd,
+    told: Vec<u8>,
+}
+
 /// Makes the file of a new session. Where there is no memory for that, the bytes stay.
 pub fn begin(alloc: Global, file: &mut [u8]) -> Result<(), AllocError>
     requires size { length file.old ≡ FILE_SIZE }
     ensures made { OnOk result (IsNewFile file.new) }
     ensures stays { OnErr result (file.new ≡ file.old) }
 {
-    let disk = MemDisk::new(alloc, FILE_SIZE)?;
+    let disk = ByteDisk::new(vec![in alloc; 0u8; FILE_SIZE]?);
     let Ok(begun) = Session::create(alloc, disk) else {
         return Err(AllocError);
     };
-    write_back(alloc, begun.into_disk(), file)
+    write_back(&begun.into_disk(), file);
+    Ok(())
 }
 
 /// The shell served all of its input, or as much as it reads.
@@ -45,6 +54,43 @@ fn is_whole(end: ShellEnd) -> bool
             false
         }
     }
+}
+
+/// Goes on with the session that the bytes of a file hold, on a copy of them, and serves the lines
+/// of an input on it, where the answers have room in so many bytes.
+fn serve_on(alloc: Global, file: &[u8], input: &[u8], room: usize) -> Result<Answered, NotServed>
+    ensures served { IfOk result (λ a. HasServed file.now input.now a.end a.told.items a.session) }
+    ensures room { IfOk result (λ a. length a.told.items ≤ room) }
+    ensures refused { IfErr result (λ why. IsWhyNot why file.now input.now room) }
+{
+    let mut session = match resume(alloc, file) {
+        Ok(session) => session,
+        Err(fault) => return Err(NotServed::Refused(fault)),
+    };
+    let mut reader = input;
+    let mut told = Vec::new(alloc);
+    let end = run_shell(alloc, &mut reader, &mut told, &mut session);
+    // Every other end comes of a lack of memory: over a slice, a vector and bytes in memory nothing
+    // else fails.
+    if !is_whole(end) {
+        return Err(NotServed::Refused(OpenFault::NoMemory));
+    }
+    if room < told.len() {
+        return Err(NotServed::NoRoom(told.len()));
+    }
+    Ok(Answered { session, end, told })
+}
+
+/// Writes what was told to the front of a buffer, and answers how many bytes that are.
+fn tell(answers: &mut [u8], told: &Vec<u8>) -> usize
+    requires room { length told.now.items ≤ length answers.old }
+    ensures count { result ≡ length told.now.items }
+    ensures told { take result answers.new ≡ told.now.items }
+    ensures rest { drop result answers.new ≡ drop result answers.old }
+{
+    let count = told.len();
+    answers[..count].copy_from_slice(told.as_slice());
+    count
 }
 
 /// Goes on with the session that the bytes of a file hold, serves the lines of an input on it,
@@ -64,27 +110,62 @@ pub fn serve(
     ensures refused { IfErr result (λ why. IsWhyNot why file.old input.now (length answers.old)) }
     ensures stays { OnErr result ((file.new ≡ file.old) × (answers.new ≡ answers.old)) }
 {
-    let mut session = match resume(alloc, file) {
-        Ok(session) => session,
-        Err(fault) => return Err(NotServed::Refused(fault)),
+    let Answered { session, end, told } = match serve_on(alloc, file, input, answers.len()) {
+        Ok(answered) => answered,
+        Err(why) => return Err(why),
     };
-    let mut reader = input;
-    let mut written = Vec::new(alloc);
-    let end = run_shell(alloc, &mut reader, &mut written, &mut session);
-    // Every other end comes of a lack of memory: over a slice, a vector and a disk in memory nothing
-    // else fails.
-    if !is_whole(end) {
-        return Err(NotServed::Refused(OpenFault::NoMemory));
-    }
-    let told = written.as_slice();
-    let count = told.len();
-    if answers.len() < count {
-        return Err(NotServed::NoRoom(count));
-    }
-    let Ok(()) = write_back(alloc, session.into_disk(), file) else {
+    write_back(&session.into_disk(), file);
+    let count = tell(answers, &told);
+    Ok(Served { end, count })
+}
+
+/// Serves input as [`serve`] does, and then puts a snapshot in the place of the records of the
+/// file, as [`settle`] does: opening it has no command to do again.
+///
+/// It does all of that or nothing.
+pub fn serve_and_settle(
+    alloc: Global,
+    file: &mut [u8],
+    input: &[u8],
+    answers: &mut [u8],
+) -> Result<Served, NotServed>
+    ensures served { IfOk result (λ served. AnswersAndSettles file.old input.now served.end
+        served.count answers.old answers.new file.new) }
+    ensures refused { IfErr result (λ why. IsWhyNot why file.old input.now (length answers.old)) }
+    ensures stays { OnErr result ((file.new ≡ file.old) × (answers.new ≡ answers.old)) }
+{
+    let Answered { session, end, told } = match serve_on(alloc, file, input, answers.len()) {
+        Ok(answered) => answered,
+        Err(why) => return Err(why),
+    };
+    let Ok(()) = settle_into(session, file) else {
         return Err(NotServed::Refused(OpenFault::NoMemory));
     };
-    answers[..count].copy_from_slice(told);
+    let count = tell(answers, &told);
+    Ok(Served { end, count })
+}
+
+/// Answers an input as [`serve`] would, and leaves the file as it is.
+pub fn ask(
+    alloc: Global,
+    file: &[u8],
+    input: &[u8],
+    answers: &mut [u8],
+) -> Result<Served, NotServed>
+    ensures served { IfOk result (λ served. WouldAnswer file.now input.now served.end served.count
+        answers.old answers.new) }
+    ensures refused { IfErr result (λ why. IsWhyNot why file.now input.now (length answers.old)) }
+    ensures stays { OnErr result (answers.new ≡ answers.old) }
+{
+    let Answered {
+        session: _,
+        end,
+        told,
+    } = match serve_on(alloc, file, input, answers.len()) {
+        Ok(answered) => answered,
+        Err(why) => return Err(why),
+    };
+    let count = tell(answers, &told);
     Ok(Served { end, count })
 }
 
@@ -96,14 +177,11 @@ pub fn settle(alloc: Global, file: &mut [u8]) -> Result<(), OpenFault>
     ensures refused { IfErr result (λ fault. IsRefused fault file.old) }
     ensures stays { OnErr result (file.new ≡ file.old) }
 {
-    let mut session = match resume(alloc, file) {
+    let session = match resume(alloc, file) {
         Ok(session) => session,
         Err(fault) => return Err(fault),
     };
-    let Ok(()) = session.settle() else {
-        return Err(OpenFault::NoMemory);
-    };
-    match write_back(alloc, session.into_disk(), file) {
+    match settle_into(session, file) {
         Ok(()) => Ok(()),
         Err(AllocError) => Err(OpenFault::NoMemory),
     }

@@ -1,6 +1,6 @@
 -- What a call of the page tells.
 use Rattle.std.specs.Prelude.{◌≡◌, ℕ, List}
-use Rattle.mcs_page.specs.Page.{Answers, IsWhyNot}
+use Rattle.mcs_page.specs.Page.{Answers, AnswersAndSettles, IsWhyNot, WouldAnswer}
 use Rattle.mcs_page.specs.declared.fault.NotServed.{NotServed}
 use Rattle.mcs_page.specs.declared.fault.NotServed.TheVariants.{Refused, NoRoom}
 use Rattle.mcs_shell.specs.RefusalNumbers.{open_fault_number}
@@ -14,6 +14,20 @@ pub record TellsOf (file input : List ℕ) (number count : ℕ) (buffer buffer' 
   pub end : ShellEnd
   pub told : number ≡ exit_status_of end
   pub answers : Answers file input end count buffer buffer' after
+
+-- the same, where the file was settled then
+pub record TellsAndSettles (file input : List ℕ) (number count : ℕ)
+    (buffer buffer' after : List ℕ) : Type 0 where
+  pub end : ShellEnd
+  pub told : number ≡ exit_status_of end
+  pub answers : AnswersAndSettles file input end count buffer buffer' after
+
+-- the same, where nothing is said of the file
+pub record TellsWhatWouldBe (file input : List ℕ) (number count : ℕ) (buffer buffer' : List ℕ)
+    : Type 0 where
+  pub end : ShellEnd
+  pub told : number ≡ exit_status_of end
+  pub answers : WouldAnswer file input end count buffer buffer'
 
 -- the number that tells why input was not served, and the count beside it
 abbrev pub number_of : NotServed → ℕ

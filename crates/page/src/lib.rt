@@ -4,10 +4,11 @@
 ghost use Rattle.std.specs.Prelude.{◌≡◌, length, true, false};
 ghost use Rattle.mcs_journal.specs.declared.format.TheConstants.{FILE_SIZE};
 ghost use Rattle.mcs_page.specs.Page.{IsNewFile, StandsForTheSame};
-ghost use Rattle.page.specs.Told.{TellsOf, TellsWhyNot};
+ghost use Rattle.page.specs.Told.{TellsAndSettles, TellsOf, TellsWhatWouldBe, TellsWhyNot, count_of, number_of};
+ghost use Rattle.mcs_shell.specs.Shell.{exit_status_of};
 
 use mcs_page::fault::NotServed;
-use mcs_page::page::{Served, begin, serve, settle};
+use mcs_page::page::{Served, ask, begin, serve, serve_and_settle, settle};
 use mcs_shell::ends::status;
 use mcs_shell::faults::open_number;
 use std::alloc::Global;
@@ -21,6 +22,35 @@ pub struct Told {
     pub number: u32,
     /// How many bytes of answers there are, or would be where they have no room.
     pub count: usize,
+}
+
+/// Tells what came of input that was served.
+fn tell_served(served: Served, told: &mut Told) -> bool
+    ensures is { result ≡ true }
+    ensures number { told.new.number ≡ exit_status_of served.end }
+    ensures count { told.new.count ≡ served.count }
+{
+    *told = Told {
+        number: u32::from(status(served.end)),
+        count: served.count,
+    };
+    true
+}
+
+/// Tells why input was not served.
+fn tell_why(why: NotServed, told: &mut Told) -> bool
+    ensures is { result ≡ false }
+    ensures number { told.new.number ≡ number_of why }
+    ensures count { told.new.count ≡ count_of why }
+{
+    *told = match why {
+        NotServed::Refused(fault) => Told {
+            number: u32::from(open_number(fault)),
+            count: 0,
+        },
+        NotServed::NoRoom(count) => Told { number: 0, count },
+    };
+    false
 }
 
 /// How many bytes a session file has.
@@ -60,24 +90,52 @@ pub extern "C" fn page_serve(
     ensures stays { result ≡ false → (file.new ≡ file.old) × (answers.new ≡ answers.old) }
 {
     match serve(alloc, file, input, answers) {
-        Ok(Served { end, count }) => {
-            *told = Told {
-                number: u32::from(status(end)),
-                count,
-            };
-            true
-        }
-        Err(NotServed::Refused(fault)) => {
-            *told = Told {
-                number: u32::from(open_number(fault)),
-                count: 0,
-            };
-            false
-        }
-        Err(NotServed::NoRoom(count)) => {
-            *told = Told { number: 0, count };
-            false
-        }
+        Ok(served) => tell_served(served, told),
+        Err(why) => tell_why(why, told),
+    }
+}
+
+/// Serves as `page_serve` does, and then puts a snapshot in the place of the records of the file.
+/// Where it answers false, nothing was done, and `told` tells why.
+#[unsafe(no_mangle)]
+pub extern "C" fn page_serve_and_settle(
+    alloc: Global,
+    file: &mut [u8],
+    input: &[u8],
+    answers: &mut [u8],
+    told: &mut Told,
+) -> bool
+    ensures served { result ≡ true → TellsAndSettles file.old input.now told.new.number
+        told.new.count answers.old answers.new file.new }
+    ensures refused { result ≡ false → TellsWhyNot file.old input.now told.new.number told.new.count
+        (length answers.old) }
+    ensures stays { result ≡ false → (file.new ≡ file.old) × (answers.new ≡ answers.old) }
+{
+    match serve_and_settle(alloc, file, input, answers) {
+        Ok(served) => tell_served(served, told),
+        Err(why) => tell_why(why, told),
+    }
+}
+
+/// Answers as `page_serve` would, and leaves the file as it is. Where it answers false, nothing was
+/// done, and `told` tells why.
+#[unsafe(no_mangle)]
+pub extern "C" fn page_ask(
+    alloc: Global,
+    file: &[u8],
+    input: &[u8],
+    answers: &mut [u8],
+    told: &mut Told,
+) -> bool
+    ensures served { result ≡ true → TellsWhatWouldBe file.now input.now told.new.number
+        told.new.count answers.old answers.new }
+    ensures refused { result ≡ false → TellsWhyNot file.now input.now told.new.number told.new.count
+        (length answers.old) }
+    ensures stays { result ≡ false → answers.new ≡ answers.old }
+{
+    match ask(alloc, file, input, answers) {
+        Ok(served) => tell_served(served, told),
+        Err(why) => tell_why(why, told),
     }
 }
 

@@ -1,0 +1,3 @@
+pub mod ByteKept
+pub mod Served
+pub mod Sizes

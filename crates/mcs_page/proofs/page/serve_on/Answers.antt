@@ -1,0 +1,40 @@
+use Rattle.std.proofs.Common.{◌∙◌, Some, refl, rules}
+use Rattle.mcs_page.proofs.Sizes.{keeps_size, size_resumed}
+use Rattle.mcs_page.specs.Page.{IsWhole}
+use Rattle.mcs_page.proofs.page.serve_on.Goals as goal
+
+pub returns-then-room-len-clause-refused : goal.returns-then-room-len-clause-refused
+returns-then-room-len-clause-refused c = record {
+  end = c.run_shell-end.result;
+  whole = search rules;
+  answers = c.run_shell-end.new.writer.items;
+  after = _;
+  served = record {
+    left = c.run_shell-end.new.session;
+    went = record {
+      session = c.in-Ok.session;
+      resumes = c.in-Ok.ensures.resumed;
+      rest = _;
+      ran = rw c.new-told.ensures.items at c.run_shell-end.ensures;
+    };
+    kept = record { honest = tt; bytes = refl };
+  };
+  counted = search rules;
+  short = search rules;
+}
+
+pub returns-clause-served : goal.returns-clause-served
+returns-clause-served c =
+    let whole : IsWhole c.run_shell-end.result = search rules in
+    let resumed = c.in-Ok.ensures.resumed in
+    let ran = keeps_size _ _ _ _ _ whole c.run_shell-end.ensures in
+    record {
+      whole = whole;
+      went = record {
+        session = c.in-Ok.session;
+        resumes = resumed;
+        rest = Some c.run_shell-end.new.reader.now;
+        ran = rw c.new-told.ensures.items at c.run_shell-end.ensures;
+      };
+      size = ran ∙ size_resumed c.args.file.now c.in-Ok.session resumed;
+    }
