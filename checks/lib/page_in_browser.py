@@ -1,4 +1,4 @@
-"""What tools/check_page looks at in the browser: the page does by keys, clicks and files what the program does by lines."""
+"""What checks/page looks at in the browser: the page does by keys, clicks and files what the program does by lines."""
 
 import pathlib
 import re

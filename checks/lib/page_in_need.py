@@ -1,4 +1,4 @@
-"""What tools/check_page looks at where something fails or the browser lacks something: it is told in words, and nothing is lost."""
+"""What checks/page looks at where something fails or the browser lacks something: it is told in words, and nothing is lost."""
 
 import re
 

@@ -13,7 +13,7 @@ def verdict(what, found, wanted):
         counts["passed"] += 1
     else:
         counts["failed"] += 1
-        print(f"check_page: {what}: is {found!r}, has to be {wanted!r}", file=sys.stderr)
+        print(f"checks/page: {what}: is {found!r}, has to be {wanted!r}", file=sys.stderr)
 
 
 def comes(browser, what, code, wanted):
