@@ -38,3 +38,11 @@ function check_face(    i, name, d) {
         if (display_end(d) > lamp_count) face_fault(display_line[d], "the display needs lamps up to number " display_end(d) - 1 ", and the board has " lamp_count)
     }
 }
+
+# The lines of a file: lines[1] to lines[n], where n is returned.
+function read_lines(file, lines,    n) {
+    n = 0
+    while ((getline lines[n + 1] < file) > 0) n++
+    close(file)
+    return n
+}

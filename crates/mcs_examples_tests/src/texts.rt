@@ -92,6 +92,7 @@ acc 1 cy 0 pc 009 owed 1 dcl 0 test 1 r 0070200000000000 ret 000 000 000
 pub(crate) const STOPWATCH: &str = r#"wire
 # A stopwatch: TEST is its button, four digits at the ports of four RAM chips.
 # The lamps: tens of seconds first, in each digit the lamp for 8 first.
+# display 0: 4 digits
 lamp = [
     { line = "ram0.3.3" }, { line = "ram0.3.2" }, { line = "ram0.3.1" }, { line = "ram0.3.0" },
     { line = "ram0.2.3" }, { line = "ram0.2.2" }, { line = "ram0.2.1" }, { line = "ram0.2.0" },
@@ -193,6 +194,7 @@ ram 0 chips 4
 pub(crate) const TRAFFIC_LIGHT: &str = r#"wire
 # A traffic light with a button for pedestrians: TEST, 0 while it is pressed.
 # The lamps: red, amber and green for cars, red and green for pedestrians.
+# lamp 0: red amber green stand walk
 lamp = [
     { line = "ram0.0.0" }, { line = "ram0.0.1" }, { line = "ram0.0.2" },
     { line = "ram0.1.0" }, { line = "ram0.1.1" },
@@ -464,6 +466,7 @@ pub(crate) const COUNTER: &str = r#"wire
 # A counter of four digits: TEST is its switch, 0 where it is closed. The digits
 # stand at the ports of four RAM chips.
 # The lamps: thousands first, in each digit the lamp for 8 first.
+# display 0: 4 digits
 lamp = [
     { line = "ram0.3.3" }, { line = "ram0.3.2" }, { line = "ram0.3.1" }, { line = "ram0.3.0" },
     { line = "ram0.2.3" }, { line = "ram0.2.2" }, { line = "ram0.2.1" }, { line = "ram0.2.0" },
@@ -613,9 +616,11 @@ pub(crate) const QUOTIENT: &str = r#"wire
 # row 3: 0 . ~ +
 # row 4: C CE S =
 
-# The lamps, as tools/display reads them: minus, overflow and division by zero,
-# then five lamps for each digit, the leftmost digit first: in each the lamp for
-# 8 first, and that of the point after the digit last.
+# The lamps, as tools/display reads them: three with names, then five for each
+# digit, the leftmost digit first: in each the lamp for 8 first, and that of the
+# point after the digit last.
+# lamp 0: minus overflow division_by_zero
+# display 3: 8 digits with points
 lamp = [
     { line = "ram0.0.0" }, { line = "ram0.0.1" }, { line = "ram0.0.2" },
     { line = "chain1.39" }, { line = "chain1.38" }, { line = "chain1.37" }, { line = "chain1.36" }, { line = "chain1.35" },
