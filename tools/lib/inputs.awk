@@ -27,7 +27,7 @@ function read_inputs(file,    line, i, open, words, count) {
         input_kind[input_count] = length(line) > 255 ? "long" : words[i]
         input_has_text[input_count] = 0
         input_words[input_count] = line
-        if (input_kind[input_count] ~ /^(wire|asm)$/ && (i == count || (i + 1 == count && words[count] == ""))) {
+        if (input_kind[input_count] ~ /^(wire|asm|map)$/ && (i == count || (i + 1 == count && words[count] == ""))) {
             input_has_text[input_count] = 1
             text_from[input_count] = script_count + 1
             text_to[input_count] = script_count
@@ -53,6 +53,7 @@ function can_begin(i, line,    kind) {
     if (kind ~ /^(wire|asm|press|release|run|step|poke|test|reset|break|unbreak|watch|unwatch)$/) return line ~ /^ok [0-9]+/
     if (kind == "regs") return line ~ /^acc /
     if (kind == "list") return is_listed(line)
+    if (kind == "map") return line ~ /^map lines [0-9]+ names [0-9]+$/
     if (kind ~ /^(board|ports)$/) return line == kind
     if (kind ~ /^(lamps|ram|breaks|watches|seq)$/) return index(line, kind " ") == 1
     return kind != "long"
@@ -69,6 +70,9 @@ function answer_length(i, at,    kind, n, most, words, count, place) {
         while (answer[at + n] ~ /^(src|rom|chain|keys) /) n++
     } else if (kind == "board") {
         while (answer[at + n] ~ /^\[/ || answer[at + n] ~ /^[a-z]+ = /) n++
+    } else if (kind == "map") {
+        split(answer[at], words)
+        n += words[3] + words[5]
     } else if (kind == "list") {
         count = split(input_words[i], words)
         most = number_of(words[count])
