@@ -97,7 +97,7 @@ need_bench() {
     status=0
     wait "$child" || status=$?
     if [ "$status" -eq 1 ] || [ "$status" -ge 126 ]; then
-        sed -n "$((told + 1)),\$p" "$folder/version" >&2
+        sed '/^mcs4: .*built/d' "$folder/version" >&2
         fail "$mcs4 cannot be started; MCS4 names the program where it is not the mcs4 at the top"
     fi
 }
