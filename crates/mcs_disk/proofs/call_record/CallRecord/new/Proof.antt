@@ -1,6 +1,4 @@
--- A record is made: it has no bytes, so its ghost fields are what is said here. Of the end it has
--- to name something, which no caller learns: an end at once, at which the bytes of the start are
--- found, so that a file is honest here.
+-- A record is made: it has no bytes, so its ghost fields are what is said here.
 use Rattle.std.proofs.Common.{ℕ, List, [], ◌∷◌, refl, length, ◌<◌, ◌^◌}
 use seplogic.Ra.Ura.{Ura}
 use mir.Syntax.{named}
@@ -30,12 +28,12 @@ use denote.Triple.Entry.{on_entry}
 use denote.Triple.Spec.{Meets, triple_of}
 use denote.Triple.Table.{entered}
 use denote.Triple.Walked.{says, Stays, stay_dropped, walk_of, AllGo, Goes-dropped, Walks, ends_at, walked, walk_Meets}
-use Rattle.mcs_host.specs.declared.call_record.CallRecord.{CallRecord}
-use Rattle.mcs_host.specs.contracts.call_record.CallRecord as T
-use Rattle.mcs_host.specs.contracts.call_record.CallRecord.new.Key.{name as #it}
-use Rattle.mcs_host.specs.contracts.call_record.CallRecord.new as it
-use Rattle.mcs_host.proofs.call_record.CallRecord.new.Statement as stated
-use Rattle.mcs_host.proofs.call_record.CallRecord.new.Code as code
+use Rattle.mcs_disk.specs.declared.call_record.CallRecord.{CallRecord}
+use Rattle.mcs_disk.specs.contracts.call_record.CallRecord as T
+use Rattle.mcs_disk.specs.contracts.call_record.CallRecord.new.Key.{name as #it}
+use Rattle.mcs_disk.specs.contracts.call_record.CallRecord.new as it
+use Rattle.mcs_disk.proofs.call_record.CallRecord.new.Statement as stated
+use Rattle.mcs_disk.proofs.call_record.CallRecord.new.Code as code
 
 abbrev v : Val
 v = vstruct (vcons (vstruct vnil) vnil)
@@ -47,7 +45,7 @@ module _ {M : Type 1} {𝓤 : Ura M} (𝓛 : Logic 𝓤) (at_mem : Memory → SP
   open 𝓛 use {H}
 
   abbrev r : CallRecord
-  r = record { marker = record {}; start = s.now; calls = []; calls_by_the_end = []; found = s.now }
+  r = record { marker = record {}; start = s.now; calls = [] }
 
   abbrev at : List Val × Unit {0}
   at = (slice_val s.ref_ptr (length s.now) ∷ [], tt)
