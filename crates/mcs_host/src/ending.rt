@@ -1,5 +1,5 @@
 //! How a file of the host is left: what no memory holds and no code can tell.
-ghost use Rattle.std.specs.Prelude.{ℕ, List};
+ghost use Rattle.std.specs.Prelude.{◌≡◌, ℕ, List};
 ghost use Rattle.std.specs.Borrow.{ftrue};
 ghost use Rattle.std.specs.Coded.{coded_list};
 ghost use Rattle.mcs_disk.specs.Calls.{DiskCall};
@@ -23,8 +23,11 @@ impl Model for Ending {
 }
 
 impl Ending {
-    /// The end to come of a file that holds these bytes. Nothing is said of it.
-    pub(crate) fn new(_start: &[u8]) -> Ending {
+    /// The end to come of a file that holds these bytes. Nothing is told of it: the clause, which
+    /// the proof by hand needs, holds of every end.
+    pub(crate) fn new(_start: &[u8]) -> Ending
+        ensures { result.found ≡ result.found }
+    {
         Ending {
             marker: PhantomData,
         }
