@@ -66,9 +66,10 @@ fn lamps(part: u8) -> &'static str {
 impl Talk {
     /// Wires the board, assembles the program and waits until it awaits keys, as a script of three commands does before the first key.
     pub fn of_calculator(alloc: Global, script: &str, answers: &str) -> io::Result<Talk> {
-        let (Some((script, _)), Some((answers, _))) =
-            (script.split_once("\npress "), answers.split_once("ok 4\n"))
-        else {
+        let (Some((script, _)), Some((answers, _))) = (
+            script.split_once("\npress "),
+            answers.split_once("ok 4\n"),
+        ) else {
             return Err(io::ErrorKind::InvalidData.into());
         };
         let mut talk = Talk {

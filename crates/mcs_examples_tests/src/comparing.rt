@@ -26,6 +26,9 @@ pub fn compare(rt: &HostRuntime, name: &str, told: &[u8], wanted: &[u8]) -> io::
         println!(rt; "{name}: {} lines as they have to be", lines(told))?;
         return Ok(true);
     }
-    println!(rt; "{name}: differs from line {} on", first_difference(told, wanted))?;
+    println!(rt;
+        "{name}: differs from line {} on",
+        first_difference(told, wanted)
+    )?;
     Ok(false)
 }
