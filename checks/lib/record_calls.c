@@ -5,6 +5,8 @@
      head K      a write puts its first K bytes, and the program is killed
      tail K      a write puts its bytes from the K-th on, and the program is killed
      noise K     a write puts other bytes in the place of its own, but for the first K, and the program is killed
+     rename F    before a lock, the name of its file is given to the file F
+     remove      before a lock, the name of its file is taken away
    CALL_MOST=M: no read or write of a file moves more than M bytes at once. CALL_AGAIN=1: each call on a file answers EINTR once before
    it is done; these answers have no line. */
 #define _GNU_SOURCE
@@ -107,11 +109,20 @@ int unlink(const char *file) {
     return fails(does("remove %s", end ? end + 1 : file)) ? -1 : real(file);
 }
 
+/* The name of a descriptor's file is to stand for another file, or for none. */
+static void renames(int fd, const char *what) {
+    int (*real_unlink)(const char *) = dlsym(RTLD_NEXT, "unlink");
+    if (what && strncmp(what, "rename ", 7) == 0 && rename(what + 7, name_of(fd)) < 0) _exit(99);
+    if (what && strcmp(what, "remove") == 0 && real_unlink(name_of(fd)) < 0) _exit(99);
+}
+
 int flock(int fd, int how) {
     static int (*real)(int, int);
     if (!real) real = dlsym(RTLD_NEXT, "flock");
     if (interrupts(fd)) return -1;
-    return fails(does("%s %s", how == (LOCK_EX | LOCK_NB) ? "lock" : "lock otherwise", name_of(fd))) ? -1 : real(fd, how);
+    const char *what = does("%s %s", how == (LOCK_EX | LOCK_NB) ? "lock" : "lock otherwise", name_of(fd));
+    renames(fd, what);
+    return fails(what) ? -1 : real(fd, how);
 }
 
 int ftruncate(int fd, off_t size) {
