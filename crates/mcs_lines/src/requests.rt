@@ -52,9 +52,9 @@ impl LineFault {
 pub enum TextKind {
     /// A board.
     Wire,
-    /// A program, to be loaded.
+    /// A program, whose bytes are loaded.
     Asm,
-    /// A program, to be told of.
+    /// A program, whose lines and names are told.
     Map,
 }
 
