@@ -1,4 +1,4 @@
-//! The assembler: from a source text to its image, or to where its lines stand, or to its first fault.
+//! The assembler: from a source text to its image or its survey, or to its first fault.
 #![tactic(auto)]
 
 mod byte_map;

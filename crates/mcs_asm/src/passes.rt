@@ -68,7 +68,7 @@ fn first_pass<'a>(alloc: Global, lines: &[&'a [u8]]) -> Result<Names<'a>, AsmFau
     Ok(names)
 }
 
-/// Adds where a line with these bytes stands.
+/// Adds the span of a line that has these bytes and stands at `at`. It fails where memory is refused.
 fn push_span(spans: &mut Vec<Span>, at: u16, bytes: &[u8]) -> Result<(), AllocError>
     requires { length bytes.now ≤ 4096 }
     ensures { OnOk result (spans.new.items ≡ spans.old.items ++ span_at at (Ok bytes.now) ∷ []) }
@@ -133,7 +133,7 @@ impl Spelt {
     }
 }
 
-/// What all lines spell and where they stand, or the first fault of class two.
+/// The survey of all lines and the bytes that they spell, or the first fault of class two.
 fn second_pass<'a>(
     alloc: Global,
     names: Names<'a>,
@@ -145,7 +145,7 @@ fn second_pass<'a>(
 {
     let mut spelt = Spelt {
         at: 0,
-        spans: Vec::new(alloc),
+        spans: Vec::with_capacity(alloc, lines.len())?,
         cells: ByteMap::new(alloc)?,
     };
     for i in 0..lines.len() {
@@ -154,7 +154,7 @@ fn second_pass<'a>(
     Ok((Survey::new(spelt.spans, names), spelt.cells))
 }
 
-/// What both passes find in a text, or its first fault with the number of its line, from 1.
+/// The survey of a source text and the bytes that it spells, or its first fault.
 fn both_passes<'a>(alloc: Global, source: &'a str) -> Result<(Survey<'a>, ByteMap), AsmFault>
     ensures { PassesBoth result source.now }
 {
@@ -175,9 +175,10 @@ pub fn assemble(alloc: Global, source: &str) -> Result<Image, AsmFault>
     Ok(image)
 }
 
-/// Where the lines of a source text stand, how many bytes each spells, and what its names are worth.
+/// The survey of a source text: where each of its lines stands, how many bytes it spells, and the
+/// names with their values.
 ///
-/// A text that [`assemble`] refuses has the same fault here.
+/// A text that [`assemble`] refuses has the same fault, with the same line, here.
 pub fn survey<'a>(alloc: Global, source: &'a str) -> Result<Survey<'a>, AsmFault>
     ensures { Surveys result (surveyed source.now) }
 {

@@ -1,4 +1,4 @@
-//! A survey as text.
+//! The text of a survey, as the shell answers it to `map`.
 ghost use Rattle.std.specs.Prelude.{◌≡◌, ◌≤◌, ◌<◌, ◌++◌, string_bytes, length, map, OnOk, IfOk};
 ghost use Rattle.mcs_model.specs.QueryText.{address_text, as_line};
 ghost use Rattle.mcs_source.specs.MapText.{head_row, line_row, line_rows, name_row, place_text, text_of, survey_text};
@@ -19,7 +19,7 @@ fn push_address(out: &mut String, at: u16) -> Result<(), AllocError>
     write!(out, "{high:X}{middle:X}{low:X}")
 }
 
-/// Writes an address, or the place after the last one.
+/// Writes an address, or `1000` for the place after the last one.
 fn push_place(out: &mut String, at: u16) -> Result<(), AllocError>
     ensures { OnOk result (string_bytes out.new ≡ string_bytes out.old ++ place_text at) }
 {
@@ -87,8 +87,10 @@ fn push_names(alloc: Global, out: &mut Vec<u8>, names: &[(&[u8], u16)]) -> Resul
     Ok(())
 }
 
-/// The text of a survey: a head, a row for each line of the source, and a row for each name. It
-/// fails where memory is refused.
+/// The text of a survey: a head, a row for each line of the source, and a row for each name.
+///
+/// `map lines 2 names 1`, `line 1 000 0`, `line 2 FFE 2`, `name last FFE`: counts and numbers of
+/// lines in decimal, addresses and values in hexadecimal. It fails where memory is refused.
 pub fn survey_text(alloc: Global, survey: &Survey<'_>) -> Result<Vec<u8>, AllocError>
     ensures { IfOk result (λ text. text.items ≡ survey_text survey.now) }
 {

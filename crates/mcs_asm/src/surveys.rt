@@ -1,11 +1,11 @@
-//! Where the lines of a text stand, and what its names are worth.
+//! The survey of a text: where its lines stand, and the values of its names.
 ghost use Rattle.std.specs.Prelude.{◌≡◌, map};
 
 use crate::names::Names;
 use mcs_source::survey::Span;
 use std::marker::Model;
 
-/// Where the lines of a text stand, and what its names are worth.
+/// Where each line of a text stands and how many bytes it spells, and the names with their values.
 #[derive(Drop)]
 pub struct Survey<'a> {
     spans: Vec<Span>,
@@ -27,7 +27,7 @@ impl<'a> Survey<'a> {
         Survey { spans, names }
     }
 
-    /// Of each line, in order.
+    /// The span of each line, in order.
     pub fn spans(&self) -> &[Span]
         ensures { result.now ≡ self.now.spans }
     {

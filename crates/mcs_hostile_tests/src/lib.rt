@@ -8,6 +8,8 @@ mod files;
 #[cfg(test)]
 mod first_version;
 #[cfg(test)]
+mod maps;
+#[cfg(test)]
 mod refused;
 #[cfg(test)]
 mod scripts;

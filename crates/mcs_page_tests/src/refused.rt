@@ -1,4 +1,4 @@
-//! One allocation that is refused, whichever it is: `tools/refuse_allocations` refuses each in turn,
+//! One allocation that is refused, whichever it is: `checks/allocations` refuses each in turn,
 //! and the gate none. A call that found no memory has left file and buffer as they were, and does
 //! its work when it is made again.
 use crate::checks::equal;

@@ -42,16 +42,17 @@ abbrev pub load_command : Result (List (ℕ × ℕ)) (ℕ × SourceFault) → Re
 load_command (Ok pairs) = Ok (command.Load (by_address pairs))
 load_command (Err at) = Err (Program (at.0) (at.1))
 
--- what a text comes to: a command is done, or lines are told, and nothing is done
+-- what a text comes to: a command, which is done, or lines, which are told while nothing is done
 pub data Spelled : Type 0 where
   Does : Command → Spelled
   Tells : List ℕ → Spelled
 
+-- a text that spells a command comes to that command
 abbrev pub done : Result Command TextRefusal → Result Spelled TextRefusal
 done (Ok c) = Ok (Does c)
 done (Err why) = Err why
 
--- the map of a program
+-- the map of a program, or why the text is none
 abbrev pub mapped : Result Survey (ℕ × SourceFault) → Result Spelled TextRefusal
 mapped (Ok survey) = Ok (Tells (survey_text survey))
 mapped (Err at) = Err (Program (at.0) (at.1))

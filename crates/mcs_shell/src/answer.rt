@@ -122,7 +122,7 @@ impl Answer {
         Ok(())
     }
 
-    /// Tells lines that were made.
+    /// Tells lines, each of which has its line feed.
     pub(crate) fn tell_lines(&mut self, lines: Vec<u8>)
         ensures { self.new ≡ lines.items }
     {

@@ -27,9 +27,9 @@ pub enum TextRefusal {
 /// What a text comes to.
 #[derive(Drop)]
 pub enum Spelled {
-    /// A command is done.
+    /// A command, which is done.
     Does(Command),
-    /// Lines are told, and nothing is done.
+    /// Lines, each with its line feed, which are told while nothing is done.
     Tells(Vec<u8>),
 }
 

@@ -12,6 +12,8 @@ mod files;
 #[cfg(test)]
 mod lines;
 #[cfg(test)]
+mod maps;
+#[cfg(test)]
 mod sessions;
 #[cfg(test)]
 mod texts;

@@ -1,4 +1,5 @@
--- The text of a survey, as `map` answers it: a head, a line for each line of the source, and a line for each name. (Our own choice.)
+-- The text of a survey, as `map` answers it: a head, a row for each line of the source, and a row for
+-- each name. (Our own choice.)
 use Rattle.std.specs.Prelude.{ℕ, ◌+◌, List, [], ◌∷◌, ◌++◌, length, map, codes, nat_lt, if◌then◌else◌}
 use Rattle.std.specs.Fmt.{decimal}
 use Rattle.std.specs.List.{flat_map}
@@ -10,26 +11,31 @@ use Rattle.mcs_source.specs.Survey.{Survey}
 abbrev pub place_text : ℕ → List ℕ
 place_text at = if nat_lt at 4096 then address_text at else codes "1000"
 
+-- how many rows of each kind follow
+abbrev pub head_row : ℕ → ℕ → List ℕ
+head_row lines names = codes "map lines " ++ decimal lines ++ codes " names " ++ decimal names
+
 -- a line of the source by its number, with where it stands and how many bytes it spells
 abbrev pub line_row : ℕ → Span → List ℕ
-line_row number s = codes "line " ++ (decimal number ++ (codes " " ++ (place_text s.at ++ (codes " " ++ decimal s.size))))
+line_row number s =
+    codes "line " ++ decimal number ++ codes " " ++ place_text s.at ++ codes " " ++ decimal s.size
 
--- these lines, the first with this number
+-- these lines, the first of them with this number
 abbrev pub line_rows : ℕ → List Span → List (List ℕ)
 line_rows number [] = []
 line_rows number (s ∷ spans) = line_row number s ∷ line_rows (number + 1) spans
 
 -- a name and its value
 abbrev pub name_row : List ℕ × ℕ → List ℕ
-name_row name = codes "name " ++ (name.0 ++ (codes " " ++ place_text name.1))
-
--- how many lines of each kind follow
-abbrev pub head_row : ℕ → ℕ → List ℕ
-head_row lines names = codes "map lines " ++ (decimal lines ++ (codes " names " ++ decimal names))
+name_row name = codes "name " ++ name.0 ++ codes " " ++ place_text name.1
 
 -- each row ends with LF
 abbrev pub text_of : List (List ℕ) → List ℕ
 text_of rows = flat_map as_line rows
 
+-- the whole; lines count from 1
 unfoldable pub survey_text : Survey → List ℕ
-survey_text s = as_line (head_row (length s.spans) (length s.names)) ++ (text_of (line_rows 1 s.spans) ++ text_of (map name_row s.names))
+survey_text s =
+    as_line (head_row (length s.spans) (length s.names))
+    ++ text_of (line_rows 1 s.spans)
+    ++ text_of (map name_row s.names)

@@ -1,5 +1,5 @@
--- Where the lines of a source text stand, how many bytes each spells, and what its names are worth.
--- (Our own choice.) Lines count from 0, as in `Assembly`.
+-- Where the lines of a source text stand, how many bytes each one spells, and the values of its
+-- names. (Our own choice.) Lines count from 0, as in `Assembly`.
 use Rattle.std.specs.Prelude.{ℕ, List, length, map, Option, Result}
 use Rattle.std.specs.Result.{result_map_both}
 use Rattle.std.specs.List.{range_with_len}
@@ -21,14 +21,20 @@ addresses s = range_with_len s.at s.size
 unfoldable pub spans_before : List (Option SourceLine) → Names → ℕ → List Span
 spans_before lines names i = map (span lines names) (range_with_len 0 i)
 
--- what is told of a text without a fault: of each line, and of each name in the order of the lines that define them
+-- what is told of a text without a fault: the span of each line, and the names with their values in
+-- the order of the lines that define them
 pub record Survey : Type 0 where
   pub spans : List Span
   pub names : Names
 
+-- the survey of lines that have no fault
 abbrev pub survey_of : List (Option SourceLine) → Survey
-survey_of lines = record { spans = spans_before lines (all_names lines) (length lines); names = all_names lines }
+survey_of lines = record {
+  spans = spans_before lines (all_names lines) (length lines);
+  names = all_names lines;
+}
 
--- the survey of a text that spells its pairs; any other text has the fault that it has
+-- the survey of a text that assembles; of any other its first fault, as `assembled` has it
 abbrev pub surveyed : List ℕ → Result Survey (ℕ × SourceFault)
-surveyed text = result_map_both (λ pairs. survey_of (read (lines_of text))) (λ f. f) (assembled text)
+surveyed text =
+    result_map_both (λ pairs. survey_of (read (lines_of text))) (λ f. f) (assembled text)

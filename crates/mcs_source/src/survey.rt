@@ -13,8 +13,8 @@ pub struct Span {
     pub size: u16,
 }
 
-/// The law on surveys: the addresses that a text spells, in the order of its lines, are those of the
-/// spans of its lines, one after the other. It holds for each text; the function does nothing.
+/// The law of surveys: the addresses that a text spells, in the order of its lines, are those of its
+/// spans, one after the other. It holds for each text; the function does nothing.
 pub fn spans_law()
     ensures { (text : List ℕ) (pairs : List (ℕ × ℕ)) (survey : Survey) → assembled text ≡ Ok pairs
         → surveyed text ≡ Ok survey → map (λ p. p.0) pairs ≡ flat_map addresses survey.spans }

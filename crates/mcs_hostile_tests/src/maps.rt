@@ -1,0 +1,73 @@
+//! One allocation that is refused while a program is mapped: `tools/refuse_allocations` refuses each in turn, the gate none.
+use crate::sessions::{create, seq_of, serve};
+use mcs_disk::MemDisk;
+use mcs_journal::{CreateFault, FILE_SIZE};
+use mcs_session::session::Session;
+use mcs_shell::ends::ShellEnd;
+use std::alloc::Global;
+use std::process::Abort;
+
+const SCRIPT: &[u8] = b"map\na: JUN a\nb = 0x2F\n.\nmap\nJUN c\n.\nseq\n";
+
+/// The answers with nothing refused, with the first program refused, and with the second one.
+const ANSWERS: [(&[u8], &str); 3] = [
+    (
+        b"session 0\nmap lines 2 names 2\nline 1 000 2\nline 2 002 0\nname a 000\nname b 02F\nno 32 line 1\nseq 0\n",
+        "nothing",
+    ),
+    (b"session 0\nno 90\nno 32 line 1\nseq 0\n", "the map"),
+    (
+        b"session 0\nmap lines 2 names 2\nline 1 000 2\nline 2 002 0\nname a 000\nname b 02F\nno 90\nseq 0\n",
+        "the map that is refused",
+    ),
+];
+
+/// What the one refusal of a run left out of these answers.
+fn left_out(rt: &impl Abort, output: &[u8]) -> &'static str {
+    for (answers, what) in ANSWERS {
+        if output == answers {
+            return what;
+        }
+    }
+    panic!(rt; "other answers")
+}
+
+/// Does the script, which changes nothing. It answers what was refused.
+fn run(alloc: Global, rt: &impl Abort, mut session: Session<MemDisk>) -> &'static str {
+    // The writer has its memory before it is written to.
+    let Ok(mut writer) = Vec::with_capacity(alloc, 1_024) else {
+        return "the writer";
+    };
+    let mut reader = SCRIPT;
+    let refused = match serve(alloc, &mut reader, &mut writer, &mut session) {
+        ShellEnd::NoMemory => {
+            assert!(rt; writer.is_empty());
+            "the shell"
+        }
+        ShellEnd::End => left_out(rt, writer.as_slice()),
+        _ => panic!(rt; "another end"),
+    };
+    assert!(rt; seq_of(&session) == 0 && session.is_open());
+    refused
+}
+
+/// Makes a session and does the script on it. It answers what was refused.
+fn make_and_run(alloc: Global, rt: &impl Abort) -> &'static str {
+    let Ok(disk) = MemDisk::new(alloc, FILE_SIZE) else {
+        return "the disk";
+    };
+    match create(alloc, disk) {
+        Ok(session) => run(alloc, rt, session),
+        Err((CreateFault::NoMemory, _)) => "the session made",
+        Err((fault, _)) => {
+            assert_eq!(rt; fault, CreateFault::Device);
+            "a record at making"
+        }
+    }
+}
+
+#[test]
+fn one_allocation(rt: HostRuntime) {
+    let refused = make_and_run(rt.alloc(), &rt);
+    let _ = println!(rt; "refused: {refused}");
+}
