@@ -83,8 +83,8 @@ fn count_up(regs: &mut Regs, r: RegNo)
 }
 
 /// The address itself. It is called where ISZ goes on without its jump, which is rare, so that the jump is a branch that
-/// the machine can foresee, and waits for no register. No registers are passed: a call that has them keeps each of them in
-/// memory all through a run. The compiler does not see that the sum changes nothing, so the call stays.
+/// the machine can foresee, and waits for no register. No registers are passed: the compiler assumes that a call which has
+/// them may change each. It does not see that the sum changes nothing, so the call stays.
 #[cold]
 #[inline(never)]
 fn without_jump(next: Addr) -> Addr
