@@ -16,7 +16,7 @@ sums=$top/shipped/SUMS
 told=$top/crates/mcs4/out/shipped.told
 # The page, and what else in its folder is no source of it.
 page=$top/page/fethsaim.html
-page_made='page/fethsaim\.(html|png)'
+page_made='page/(fethsaim\.(html|png)|test/.*|check|package\.json|tsconfig\.json|\.eslintrc\.json)'
 
 # The lines of crates.txt for a crate and the crates of this repository that it stands on, without comments.
 lines_of() {
@@ -105,11 +105,11 @@ fault_of_shipped() {
     fi
 }
 
-# What the page is made from, by its checksum: the page's folder but for what is made there, the examples, the words of refusals, and the
-# crate `page` with those below it.
+# What the page is made from, by its checksum: the page's folder but for what is made or tested there, the examples, the texts that tools
+# and page share, and the crate `page` with those below it.
 sum_of_page() {
     {
         sum_of_crate page
-        (cd "$top" && find page examples tools/lib/refusals.awk -type f -print) | grep -vxE "$page_made" | sums_of_files
+        (cd "$top" && find page examples tools/lib/*.txt -type f -print) | grep -vxE "$page_made" | sums_of_files
     } | sum_of_input
 }

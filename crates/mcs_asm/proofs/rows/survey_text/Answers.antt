@@ -1,4 +1,4 @@
-use Rattle.std.proofs.Common.{◌≡◌, ◌∙◌, ◌++◌, ℕ, List, [], Bor, Vec, Global, length, map, sym, ap, append_assoc}
+use Rattle.std.proofs.Common.{◌≡◌, ◌∙◌, ◌++◌, ℕ, List, [], Bor, Vec, Global, length, map, sym, ap}
 use Rattle.std.proofs.lemmas.List.{length-map}
 use Rattle.mcs_model.specs.QueryText.{as_line}
 use Rattle.mcs_source.specs.Survey.{Survey}
@@ -15,8 +15,7 @@ whole s spans es empty head lines text e same names h l t =
     h ∙ (ap (λ (x : List ℕ). x ++ as_line (head_row (length spans) (length es))) e ∙ (ap (λ (x : List Span). as_line (head_row (length x) (length es))) same ∙ ap (λ (n : ℕ). as_line (head_row (length s.spans) n)) count)) in
     t
     ∙ (ap (λ (ns : List (List ℕ × ℕ)). lines ++ text_of (map name_row ns)) names
-    ∙ (ap (λ (x : List ℕ). x ++ text_of (map name_row s.names)) (l ∙ (ap (λ (x : List ℕ). x ++ text_of (line_rows 1 spans)) first ∙ ap (λ (x : List Span). as_line (head_row (length s.spans) (length s.names)) ++ text_of (line_rows 1 x)) same))
-    ∙ append_assoc (as_line (head_row (length s.spans) (length s.names))) (text_of (line_rows 1 s.spans)) (text_of (map name_row s.names))))
+    ∙ ap (λ (x : List ℕ). x ++ text_of (map name_row s.names)) (l ∙ (ap (λ (x : List ℕ). x ++ text_of (line_rows 1 spans)) first ∙ ap (λ (x : List Span). as_line (head_row (length s.spans) (length s.names)) ++ text_of (line_rows 1 x)) same)))
 
 pub returns : goal.returns
 returns c =
