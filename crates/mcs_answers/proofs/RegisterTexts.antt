@@ -1,5 +1,5 @@
 -- The text of the registers, piece after piece.
-use Rattle.std.proofs.Common.{◌≡◌, ℕ, List, ◌++◌, codes, map, ap, ◌∙◌, append_assoc}
+use Rattle.std.proofs.Common.{◌≡◌, ℕ, List, ◌++◌, codes, map, ◌∙◌, append_assoc}
 use Rattle.mcs_model.specs.declared.regs.Regs.{Regs}
 use Rattle.mcs_model.specs.QueryText.{address_text, digit_text, hex_digit, registers_text}
 use Rattle.mcs_answers.proofs.Growing.{one_after, two_after}

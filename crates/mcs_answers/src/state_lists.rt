@@ -3,7 +3,7 @@
 ghost use Rattle.std.specs.Prelude.{◌≡◌, ℕ, ◌+◌, ◌*◌, ◌++◌, ◌<◌, ◌≤◌, List, true, codes, length, map};
 ghost use Rattle.std.specs.List.{flat_map, range_with_len};
 ghost use Rattle.arrayvec.specs.ArrayVec.{array_vec_len};
-ghost use Rattle.mcs_model.specs.Boards.{chain_bits, chain_count, has_key};
+ghost use Rattle.mcs_model.specs.Boards.{chain_count, has_key};
 ghost use Rattle.mcs_model.specs.QueryText.{address_text, bank_items, chain_item, key_item, key_items, one_word, ram_item, ram_items, rom_items, row_items, watch_text};
 ghost use Rattle.mcs_answers.specs.Commas.{with_comma, with_commas};
 

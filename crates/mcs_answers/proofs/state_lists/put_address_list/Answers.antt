@@ -1,6 +1,5 @@
-use Rattle.std.proofs.Common.{◌≡◌, ◌++◌, map, ap, ◌∙◌, sym, arith}
+use Rattle.std.proofs.Common.{◌++◌, map, ap, ◌∙◌, sym, arith}
 use Rattle.mcs_model.specs.QueryText.{address_text, one_word}
-use Rattle.mcs_answers.specs.Commas.{with_commas}
 use Rattle.mcs_answers.proofs.ListedWords.{commas-map}
 use Rattle.mcs_answers.proofs.state_lists.put_address_list.Goals as goal
 

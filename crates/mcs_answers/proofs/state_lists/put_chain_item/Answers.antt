@@ -1,4 +1,4 @@
-use Rattle.std.proofs.Common.{◌≡◌, ℕ, ◌++◌, ◌∷◌, [], codes, map, append-nil, append_assoc, ap, ◌∙◌, sym, arith}
+use Rattle.std.proofs.Common.{◌≡◌, ℕ, ◌++◌, codes, map, append-nil, append_assoc, ap, ◌∙◌, arith}
 use Rattle.std.specs.List.{range_with_len}
 use Rattle.mcs_model.specs.Boards.{chain_bits}
 use Rattle.mcs_model.specs.Levels.{chain_bit}
