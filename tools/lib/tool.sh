@@ -140,7 +140,7 @@ serve() {
     grep -vF -- "$folder" "$folder/words" >&2 || :
     case $(sed 1q "$folder/$3") in
     session\ *) ;;
-    no\ *)
+    no\ [0-9]*)
         number=$(sed -n '1s/^no \([0-9]*\).*/\1/p' "$folder/$3")
         fail "the session ${4:-$2} was refused: no $number: $(refusal "$number")"
         ;;
@@ -299,7 +299,7 @@ map_program() {
         ;;
     esac
     awk 'NR > 3 && $1 == "seq" { exit } NR > 3 { print }' < "$folder/answers" > "$folder/known_map"
-    awk -f "$lib/numbers.awk" -f - < "$folder/answers" > "$folder/known_bytes" <<'bytes'
+    awk -f "$lib/numbers.awk" -f - "$folder/answers" > "$folder/known_bytes" <<'bytes'
 is_listed($0) {
     print $1, $2
     if (substr($0, 8, 1) != " ") printf "%03X %s\n", hex_number($1) + 1, $3
