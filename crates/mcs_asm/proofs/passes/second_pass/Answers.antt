@@ -14,7 +14,7 @@ handed_on (Ok found) f lines names is fails = absurd is
 handed_on (Err e) f lines names is fails = subst (λ (x : AsmFault). IsFirst x.kind x.line (first_of_class_two lines names)) (sym is) fails
 
 pub loop-i-init : goal.loop-i-init
-loop-i-init c = rw (c.in_ok-new.ensures, c.new.ensures.items) (second_begins c.args.lines.now c.args.names.names)
+loop-i-init c = rw (c.in_ok-new.ensures, c.in_ok-with_capacity.ensures.items) (second_begins c.args.lines.now c.args.names.names)
 
 pub spell-requires : goal.spell-requires
 spell-requires c = line_passes c.args.lines.now c.args.names.names c.loop-i.i c.loop-i.spelt.at c.loop-i.spelt.cells c.loop-i.spelt.spans.items _ c.loop-i-test.true c.requires.no_fault c.loop-i.invariant
@@ -38,4 +38,4 @@ returns-in_err-at_line c =
     (line_stops f.kind f.line c.args.lines.now names c.loop-i.i c.loop-i.spelt.at c.spell.new.self.at c.loop-i.spelt.cells c.spell.new.self.cells c.loop-i.spelt.spans.items _ c.loop-i-test.true h refused from.1)
 
 pub returns : goal.returns
-returns c = all_spelt c.args.lines.now c.args.names.names c.loop-i.i c.loop-i.spelt.at c.loop-i.spelt.cells c.loop-i.spelt.spans.items c.new-3.result c.loop-i-test.false c.loop-i.invariant c.new-3.ensures
+returns c = all_spelt c.args.lines.now c.args.names.names c.loop-i.i c.loop-i.spelt.at c.loop-i.spelt.cells c.loop-i.spelt.spans.items c.new-2.result c.loop-i-test.false c.loop-i.invariant c.new-2.ensures
