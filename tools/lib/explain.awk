@@ -1,5 +1,5 @@
 # Tells each refusal among the answers to a script. Needs refusals.awk, numbers.awk and inputs.awk. The environment has `script`,
-# `answers`, `text_name` (see explain_script in tool.sh), `folder`, `mcs4` and `board_fault`, the program that finds the part of a board.
+# `answers`, `text_name` and `text_before` (see explain_script in tool.sh), `folder`, `mcs4` and `board_fault`, the program that finds the part of a board.
 
 BEGIN {
     read_inputs(ENVIRON["script"])
@@ -10,6 +10,7 @@ BEGIN {
         exit 2
     }
     name = ENVIRON["text_name"]
+    before = ENVIRON["text_before"] + 0
     refused = 0
     if (answer[1] ~ /^no /) {
         refused = 1
@@ -49,13 +50,13 @@ function tell(i, line,    words, count, from, to, where, n, at) {
     else if (input_kind[i] == "asm" && words[2] == 42) at = line_without_rom(i)
     if (at) {
         from = to = text_from[i] + at - 1
-        where = "line " at
+        where = "line " at + before
     } else if (words[2] >= 20 && words[2] <= 27 && input_has_text[i]) {
         find_part(i, words[2])
         if (part_from) {
             from = text_from[i] + part_from - 1
             to = text_from[i] + part_to - 1
-            where = part_from == part_to ? "line " part_from : "lines " part_from " to " part_to
+            where = part_from == part_to ? "line " part_from + before : "lines " part_from + before " to " part_to + before
         }
     }
     if (name != "") {

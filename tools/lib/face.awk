@@ -7,12 +7,13 @@
 #                                 `2 digits of 7 segments`: seven lamps for each, segments a to g
 #
 # read_face(file) fills key_row[name], key_column[name], key_name[row, column], lamp_name[n], lamp_number[name], and the displays, whose
-# count is display_count; face_faults tells what cannot be right, a line each.
+# count is display_count; face_faults tells what cannot be right, a line each. The environment has `board_before`, where the text is a
+# part of a file: how many lines of it stand before the text.
 
 function read_face(file,    line, number, words, count, i, head) {
     face_faults = ""
     display_count = 0
-    number = 0
+    number = ENVIRON["board_before"] + 0
     while ((getline line < file) > 0) {
         number++
         sub(/\r$/, "", line)
@@ -134,10 +135,10 @@ function bits_digit(lamps,    value) {
 
 # The digit of seven segments a to g, as a 7447 and its kin make it, with both forms of 6 and 9; a dark one is a blank.
 function segments_digit(lamps,    i, words, count) {
-    if (!("*****.." in segments)) {
+    if (!segments_known) {
         count = split("******. 0 .**.... 1 **.**.* 2 ****..* 3 .**..** 4 *.**.** 5 *.***** 6 ..***** 6 ***.... 7 ******* 8 ****.** 9 ***..** 9 ......* -", words, " ")
         for (i = 1; i < count; i += 2) segments[words[i]] = words[i + 1]
-        segments["*****.."] = "?"
+        segments_known = 1
         segments["......."] = " "
     }
     return (lamps in segments) ? segments[lamps] : "?"

@@ -66,6 +66,21 @@ take_text() {
     fi
 }
 
+# The text of a board, in `board_text`, and that of a program, in `program_text`; the parts in awk find their names in the environment.
+take_board_text() {
+    board_name=$1
+    take_text wire "$1" board_text
+    board_before=$lines_before
+    export board_name board_before
+}
+
+take_program_text() {
+    program_name=$1
+    take_text asm "$1" program_text
+    program_before=$lines_before
+    export program_name program_before
+}
+
 # The program is there, and built: where it has to be built first, its words tell how far it is.
 need_bench() {
     status=0
@@ -74,7 +89,7 @@ need_bench() {
     told=0
     # Nothing is told of a program that stands.
     while kill -0 "$child" 2> /dev/null; do
-        sleep 0.05 2> /dev/null || sleep 1
+        sleep 0.02 2> /dev/null || sleep 1
         lines=$(($(wc -l < "$folder/version")))
         if [ "$lines" -gt "$told" ]; then
             sed -n "$((told + 1)),\$p" "$folder/version" | grep -v '^usage: \|^manual: \|^version: ' >&2 || :
@@ -158,21 +173,15 @@ explain_text() {
 # first refusal alone is told, and its line is that of a text which is this file. The status is 1 where there is anything to tell, 2
 # where the answers are none of this script.
 explain_script() {
-    script=$1 answers=$2 folder=$folder text_name=${3-} board_fault="$lib/board_fault.awk" \
+    script=$1 answers=$2 folder=$folder text_name=${3-} text_before=${text_before:-0} board_fault="$lib/board_fault.awk" \
         awk -f "$lib/refusals.awk" -f "$lib/numbers.awk" -f "$lib/inputs.awk" -f "$lib/explain.awk" < /dev/null
 }
 
 # A session with a board and a program, `base.mcs` in the folder, and what it tells of them (`known_board`, `known_map`). Where one of
 # them is refused, this is told, with its line and why, and the tool ends.
 prepare() {
-    board_name=$1
-    program_name=$2
-    export board_name program_name
-    take_text wire "$1" board_text
-    board_before=$lines_before
-    take_text asm "$2" program_text
-    program_before=$lines_before
-    export board_before program_before
+    take_board_text "$1"
+    take_program_text "$2"
     {
         echo wire
         awk 1 < "$folder/board_text"
@@ -188,17 +197,15 @@ prepare() {
         printf '.\nseq\n'
     } > "$folder/script"
     serve new "$folder/base.mcs" answers < "$folder/script"
-    accepted 2 wire "$1"
-    accepted 3 asm "$2"
+    accepted 2 "$1" "$board_before"
+    accepted 3 "$2" "$program_before"
     awk 'NR > 3 && $1 == "seq" { exit } NR > 3 { print }' < "$folder/answers" > "$folder/known_board"
     awk '$1 == "seq" { n++; next } n == 1 { print }' < "$folder/answers" > "$folder/known_map"
 }
 
 # What the bench tells of a board alone, in `known_board`; it is refused with its lines and why, and the tool ends.
 know_board() {
-    board_name=$1
-    export board_name
-    take_text wire "$1" board_text
+    take_board_text "$1"
     {
         echo wire
         awk 1 < "$folder/board_text"
@@ -209,17 +216,17 @@ know_board() {
         echo board
     } > "$folder/script"
     serve new "$folder/board.mcs" answers < "$folder/script"
-    accepted 2 wire "$1"
+    accepted 2 "$1" "$board_before"
     awk 'NR > 2' < "$folder/answers" > "$folder/known_board"
 }
 
-# Tells why a text was refused, by the line of the answers that tells it.
+# Tells why a text was refused, by the line of the answers that tells it; its file, and how many lines of it stand before the text.
 accepted() {
     case $(sed -n "$1p" "$folder/answers") in
     ok\ *) ;;
     *)
         sed "$1q" "$folder/answers" > "$folder/first_answers"
-        explain_script "$folder/begin" "$folder/first_answers" "$3" > "$folder/told" || true
+        text_before=$3 explain_script "$folder/begin" "$folder/first_answers" "$2" > "$folder/told" || true
         sed "s/^/$tool: /" "$folder/told" >&2
         exit 1
         ;;
@@ -265,10 +272,7 @@ need_count() {
 
 # What the bench tells of a program alone: `known_map`, and its bytes, `known_bytes`, on a board with all ROMs.
 map_program() {
-    program_name=$1
-    take_text asm "$1" program_text
-    program_before=$lines_before
-    export program_name program_before
+    take_program_text "$1"
     {
         echo asm
         awk 1 < "$folder/program_text"
@@ -290,7 +294,7 @@ map_program() {
             echo "session 0"
             sed -n 3p "$folder/answers"
         } > "$folder/first_answers"
-        explain_script "$folder/begin" "$folder/first_answers" "$1" > "$folder/told" || true
+        text_before=$program_before explain_script "$folder/begin" "$folder/first_answers" "$1" > "$folder/told" || true
         sed "s/^/$tool: /" "$folder/told" >&2
         exit 1
         ;;
