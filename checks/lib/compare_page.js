@@ -102,7 +102,7 @@ function byPage(bench, file, input) {
 // How the answer to an input may begin.
 const BEGINNINGS = {
   regs: /^acc /, list: /^[0-9A-F]{3} /, lamps: /^lamps /, ram: /^ram /, board: /^board$/, ports: /^ports$/,
-  breaks: /^breaks /, watches: /^watches /, seq: /^seq /,
+  map: /^map lines /, breaks: /^breaks /, watches: /^watches /, seq: /^seq /,
 };
 
 // Whether the page tells which answers belong to which input.
