@@ -162,14 +162,36 @@ function compareSource(name, bench, file) {
   verdict(`${name}: the source text made of ROM gives other bytes`, again.join() === bench.serve(file, ALL_ROM).answers.join());
 }
 
+// What the active slot of a file holds, by docs/FORMAT.md: its snapshot's count of commands and version, and whether records follow.
+function held(file) {
+  const slot = file[8] % 2 === 0 ? 16 : 81936;
+  const seq = new DataView(file.buffer, file.byteOffset).getUint32(slot + 4);
+  return { seq, version: file[slot + 8], hasRecords: file[slot + 16384] === 1 };
+}
+
+// A file that was settled holds a snapshot of all commands, and no records.
+function verdictSettled(name, file, seq) {
+  const found = held(file);
+  const isRight = found.version === 2 && !found.hasRecords && found.seq === seq;
+  verdict(`${name} has not settled the file: ${JSON.stringify(found)}, where ${seq} commands were accepted`, isRight);
+}
+
+const seqOf = (bench, file) => Number(bench.serve(file, "seq\n").answers[0].split(" ")[1]);
+
 function compareFiles(name, bench, file) {
   compareSource(name, bench, file);
   const settled = bench.settle(new Uint8Array(file));
+  verdictSettled(`${name}: settle`, settled, seqOf(bench, file));
+  const both = bench.serveAndSettle(new Uint8Array(file), "poke acc 1\npoke acc 2\n");
+  verdictSettled(`${name}: serveAndSettle`, both.file, seqOf(bench, file) + 2);
   const asked = byPage(bench, file, QUESTIONS).output;
   compare(`${name}, settled`, bench, settled, QUESTIONS);
   verdict(`${name}: settling changed an answer`, byPage(bench, settled, QUESTIONS).output === asked);
   const old = asVersion1(settled);
-  if (old) compare(`${name}, of version 1`, bench, old, QUESTIONS);
+  if (old) {
+    compare(`${name}, of version 1`, bench, old, QUESTIONS);
+    verdictSettled(`${name}: settle of version 1`, bench.settle(Uint8Array.from(old)), seqOf(bench, old));
+  }
   const damaged = Uint8Array.from(file);
   const place = () => either([() => below(24), () => 16 + below(8000), () => 16400 + below(2000)]);
   for (let times = 1 + below(3); times > 0; times--) damaged[place()] ^= 1 << below(8);

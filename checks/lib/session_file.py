@@ -121,25 +121,32 @@ class State:
             assert code == 0, f"the checks have no instruction {code:02X}"
 
     def run(self, cycles):
-        """Runs so many cycles; where the machine comes back to where it was, whole rounds are left out."""
-        begun = copy.copy((self.counter, self.accumulator, self.carry, bytes(self.registers), self.owed))
-        done = 0
-        while done < cycles:
+        """Runs so many cycles, or to a breakpoint; tells how many were done, and why it stopped."""
+        begun = self.place()
+        done = left_out = 0
+        while done + left_out < cycles:
             self.cycle()
             done += 1
-            if begun == (self.counter, self.accumulator, self.carry, bytes(self.registers), self.owed):
-                cycles = done + (cycles - done) % done
+            if not self.owed and self.counter in self.breakpoints:
+                return f" ran {done} break"
+            if self.place() == begun and left_out == 0:
+                # It goes round, so whole rounds are left out.
+                left_out = (cycles - done) // done * done
+        return f" ran {cycles} end"
+
+    def place(self):
+        return self.counter, self.owed, self.accumulator, self.carry, bytes(self.registers)
 
 
-# --- commands: the record, the cycles that it counts in a log, what it does, and its answer after `ok N`
+# --- commands
 
 @dataclasses.dataclass
 class Command:
+    """Its lines, its record, what it does to a state (and may answer after `ok N`), and the cycles that it counts in a log."""
     text: str
     record: bytes
     do: object
     cycles: int = 0
-    answer: str = ""
 
 
 def wire(text, board):
@@ -161,11 +168,13 @@ def load(text, image):
     def do(state):
         for address in addresses:
             state.rom[address] = image[address]
-    return Command(f"asm\n{text}.\n", record, do, answer=f" bytes {len(image)}")
+        return f" bytes {len(image)}"
+    return Command(f"asm\n{text}.\n", record, do)
 
 
 def run(cycles):
-    return Command(f"run {cycles}\n", bytes([5]) + number(cycles, 4), lambda state: state.run(cycles), cycles, f" ran {cycles} end")
+    """It counts all its cycles, also where a breakpoint stops it."""
+    return Command(f"run {cycles}\n", bytes([5]) + number(cycles, 4), lambda state: state.run(cycles), cycles)
 
 
 def poke_register(register, value):
@@ -263,9 +272,9 @@ class Kept:
         self.used += 3 + len(record)
         self.cycles += command.cycles
         self.held[1].append(record)
-        command.do(self.state)
+        answer = command.do(self.state) or ""
         self.state.seq += 1
-        return f"ok {self.state.seq}{command.answer}\n"
+        return f"ok {self.state.seq}{answer}\n"
 
     def accept_all(self, commands):
         return "".join(self.accept(command) for command in commands)

@@ -16,7 +16,7 @@ sums=$top/shipped/SUMS
 told=$top/crates/mcs4/out/shipped.told
 # The page, and what else in its folder is no source of it.
 page=$top/page/fethsaim.html
-page_made='page/fethsaim\.(html|png)'
+page_made='page/(fethsaim\.(html|png)|test/.*|check|package\.json|tsconfig\.json|\.eslintrc\.json)'
 
 # The lines of crates.txt for a crate and the crates of this repository that it stands on, without comments.
 lines_of() {

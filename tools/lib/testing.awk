@@ -7,6 +7,8 @@ BEGIN {
     usual_down = 4000
     usual_up = 16000
     traced = 12
+    names_known = 1
+    cut_at = -1
 }
 
 # Reads the texts; ends with their faults, if there are any.
@@ -72,6 +74,7 @@ function run_test(t,    file, i, wrong) {
     close_bench()
     end_account()
     if (wrong == "" && !quiet) print "ok " t " - " described(t)
+    fflush()
     return wrong == ""
 }
 
@@ -338,6 +341,7 @@ function quoted(text) {
 
 # What is wrong goes to standard error, too: prove shows that, and keeps what is on standard output to itself.
 function tell_failure(t, i, wrong,    n, lines, k) {
+    fflush()
     print "# " test_file[t] ":" step_line[i] ": " test_name[t] ": " wrong | "cat 1>&2"
     close("cat 1>&2")
     if (quiet) return
@@ -362,19 +366,22 @@ function tell_failure(t, i, wrong,    n, lines, k) {
     print "  ..."
 }
 
-# The last instructions of what was done, on a session that does it once more; the last cycles are done by steps.
-function last_instructions(lines,    left, k, from, n, total, end, line, count, file, first) {
+# The last instructions of what was done, on a session that does it once more; the last cycles are done by steps. Keys and settings among
+# them have lines of their own.
+function last_instructions(lines,    left, k, from, n, end, line, count, begun) {
     close_bench()
     count = done_count
-    end = elapsed
     left = 2 * traced + 2
+    begun = 0
+    from = 0
     for (k = count; k > 0 && left > 0; k--) {
-        if (done_line[k] != "run") continue
-        from = done_cycles[k] > left ? done_cycles[k] - left : 0
-        left -= done_cycles[k] - from
-        first = k
+        if (done_line[k] == "run") {
+            from = done_cycles[k] > left ? done_cycles[k] - left : 0
+            left -= done_cycles[k] - from
+        }
+        begun = k
     }
-    if (!first) return 0
+    if (!begun) return 0
     for (k = 1; k <= count; k++) {
         past_line[k] = done_line[k]
         past_cycles[k] = done_cycles[k]
@@ -383,30 +390,24 @@ function last_instructions(lines,    left, k, from, n, total, end, line, count, 
     done_count = 0
     elapsed = 0
     open_bench("open", "again.mcs")
-    for (k = 1; k < first; k++) {
+    for (k = 1; k < begun; k++) {
         if (past_line[k] == "run") run(past_cycles[k])
         else command(past_line[k])
     }
-    run(from)
+    if (past_line[begun] == "run") run(from)
     begin_trace()
     n = 0
-    total = elapsed + past_cycles[first] - from
-    for (k = first; k <= count; k++) {
+    for (k = begun; k <= count; k++) {
         if (past_line[k] != "run") {
             command(past_line[k])
             lines[++n] = "          " past_line[k]
             look_at_all()
-        } else {
-            if (k > first) total = elapsed + past_cycles[k]
-            while (elapsed < total) {
-                line = trace_step()
-                if (line == "") break
-                lines[++n] = line
-            }
+            continue
         }
+        end = elapsed + past_cycles[k] - (k == begun ? from : 0)
+        while (elapsed < end && (line = trace_step()) != "") lines[++n] = line
     }
-    line = instruction_at(hex_number(now["pc"]))
-    lines[++n] = trace_line(elapsed, line, "comes next")
+    lines[++n] = trace_line(elapsed, instruction_at(hex_number(now["pc"])), "comes next")
     close_bench()
     # Only the last ones.
     from = n - traced - 1

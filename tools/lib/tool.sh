@@ -81,25 +81,24 @@ take_program_text() {
     export program_name program_before
 }
 
-# The program is there, and built: where it has to be built first, its words tell how far it is.
+# The program is there, and built: where it has to be built first, its words tell how far it is, before anything is asked of it.
 need_bench() {
-    status=0
     "$mcs4" --version < /dev/null > "$folder/version" 2>&1 &
     child=$!
     told=0
-    # Nothing is told of a program that stands.
     while kill -0 "$child" 2> /dev/null; do
         sleep 0.02 2> /dev/null || sleep 1
         lines=$(($(wc -l < "$folder/version")))
         if [ "$lines" -gt "$told" ]; then
-            sed -n "$((told + 1)),\$p" "$folder/version" | grep -v '^usage: \|^manual: \|^version: ' >&2 || :
+            sed -n "$((told + 1)),$lines{/^mcs4: .*built/p;}" "$folder/version" >&2
             told=$lines
         fi
     done
+    status=0
     wait "$child" || status=$?
-    if ! grep -q '^usage: mcs4' "$folder/version"; then
-        sed -n "$((told + 1)),\$p" "$folder/version" >&2
-        fail "$mcs4 does not answer (status $status); MCS4 names the program where it is not the mcs4 at the top"
+    if [ "$status" -eq 1 ] || [ "$status" -ge 126 ]; then
+        sed '/^mcs4: .*built/d' "$folder/version" >&2
+        fail "$mcs4 cannot be started; MCS4 names the program where it is not the mcs4 at the top"
     fi
 }
 

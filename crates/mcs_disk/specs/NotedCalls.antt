@@ -1,8 +1,8 @@
--- What a call of the code is on a file of the host as a disk.
+-- What a call of the code is among the calls on a disk.
 use Rattle.std.specs.Prelude.{ℕ, List}
 use Rattle.mcs_disk.specs.Calls.{DiskCall, WasRead, Wrote, Failed, Synced}
-use Rattle.mcs_host.specs.declared.call_record.Call.{Call}
-use Rattle.mcs_host.specs.declared.call_record.Call.TheVariants.{Read, Write, FailedWrite, Sync}
+use Rattle.mcs_disk.specs.declared.call_record.Call.{Call}
+use Rattle.mcs_disk.specs.declared.call_record.Call.TheVariants.{Read, Write, FailedWrite, Sync}
 
 -- a call with the bytes that it wrote, if it wrote
 abbrev pub call_of : Call → List ℕ → DiskCall

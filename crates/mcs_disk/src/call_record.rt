@@ -1,16 +1,16 @@
-//! What has been asked of a file of the host: a list that no memory holds.
+//! What has been asked of a disk: a list that no memory holds.
 ghost use Rattle.std.specs.Prelude.{◌≡◌, ℕ, List, [], ◌∷◌};
 ghost use Rattle.std.specs.Borrow.{ftrue};
 ghost use Rattle.std.specs.Coded.{coded_list};
 ghost use Rattle.mcs_disk.specs.Calls.{DiskCall};
-ghost use Rattle.mcs_host.specs.FileCalls.{call_of};
-ghost use Rattle.mcs_host.specs.StoredCalls.{coded_call};
+ghost use Rattle.mcs_disk.specs.NotedCalls.{call_of};
+ghost use Rattle.mcs_disk.specs.StoredCalls.{coded_call};
 
 use std::marker::{Model, PhantomData};
 
-/// A call on a file that has just been answered, without the bytes that it wrote.
+/// A call on a disk that has just been answered, without the bytes that it wrote.
 #[derive(Clone, Copy)]
-pub(crate) enum Call {
+pub enum Call {
     /// A read answered Ok.
     Read,
     /// A write from this offset on answered Ok.
@@ -21,22 +21,15 @@ pub(crate) enum Call {
     Sync,
 }
 
-/// The calls on an open file, for contracts alone: no memory holds them.
-///
-/// Two of its parts speak of the end, when the file is left by a close, a kill or a power cut: the
-/// calls that were made by then, and the bytes that the next one to open the file finds. No code
-/// can tell them and no proof knows them.
+/// The calls on a disk, for contracts alone: no memory holds them. A disk that keeps such a record
+/// is told by it (`called_disk`).
 #[derive(Drop)]
-pub(crate) struct CallRecord {
+pub struct CallRecord {
     marker: PhantomData<u8>,
-    /// What the file held as it was opened.
+    /// What the disk held before any call.
     pub ghost start: { List ℕ },
     /// The calls so far, the newest first.
     pub ghost calls: { List DiskCall } by { coded_list coded_call },
-    /// The calls by the end, the newest first. A write that was under way then is one that failed.
-    pub ghost calls_by_the_end: { List DiskCall } by { coded_list coded_call },
-    /// What is found in the file after the end.
-    pub ghost found: { List ℕ },
 }
 
 impl Model for CallRecord {
@@ -44,8 +37,8 @@ impl Model for CallRecord {
 }
 
 impl CallRecord {
-    /// Begins the record of a file that holds these bytes.
-    pub(crate) fn new(_start: &[u8]) -> CallRecord
+    /// Begins the record of a disk that holds these bytes.
+    pub fn new(_start: &[u8]) -> CallRecord
         ensures { (result.start ≡ _start.now) × (result.calls ≡ []) }
     {
         CallRecord {
@@ -54,7 +47,7 @@ impl CallRecord {
     }
 
     /// Adds a call. `_bytes` are those that it wrote, if it wrote.
-    pub(crate) fn note(&mut self, _call: &Call, _bytes: &[u8])
+    pub fn note(&mut self, _call: &Call, _bytes: &[u8])
         ensures { self.new
             ≡ record self.old { calls = call_of _call.now _bytes.now ∷ self.old.calls } }
     {}

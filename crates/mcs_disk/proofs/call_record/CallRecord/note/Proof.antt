@@ -28,15 +28,15 @@ use denote.Triple.Entry.{on_entry}
 use denote.Triple.Spec.{Meets, triple_of}
 use denote.Triple.Table.{entered}
 use denote.Triple.Walked.{says, Stays, stay_ref, stay_none_ref, stay_none_slice, walk_of, AllGo, Goes-ref, Goes-none_ref, Goes-none_slice, Walks, ends_at, walked, walk_Meets}
-use Rattle.mcs_host.specs.FileCalls.{call_of}
-use Rattle.mcs_host.specs.declared.call_record.Call.{Call}
-use Rattle.mcs_host.specs.declared.call_record.CallRecord.{CallRecord}
-use Rattle.mcs_host.specs.contracts.call_record.Call as K
-use Rattle.mcs_host.specs.contracts.call_record.CallRecord as T
-use Rattle.mcs_host.specs.contracts.call_record.CallRecord.note.Key.{name as #it}
-use Rattle.mcs_host.specs.contracts.call_record.CallRecord.note as it
-use Rattle.mcs_host.proofs.call_record.CallRecord.note.Statement as stated
-use Rattle.mcs_host.proofs.call_record.CallRecord.note.Code as code
+use Rattle.mcs_disk.specs.NotedCalls.{call_of}
+use Rattle.mcs_disk.specs.declared.call_record.Call.{Call}
+use Rattle.mcs_disk.specs.declared.call_record.CallRecord.{CallRecord}
+use Rattle.mcs_disk.specs.contracts.call_record.Call as K
+use Rattle.mcs_disk.specs.contracts.call_record.CallRecord as T
+use Rattle.mcs_disk.specs.contracts.call_record.CallRecord.note.Key.{name as #it}
+use Rattle.mcs_disk.specs.contracts.call_record.CallRecord.note as it
+use Rattle.mcs_disk.proofs.call_record.CallRecord.note.Statement as stated
+use Rattle.mcs_disk.proofs.call_record.CallRecord.note.Code as code
 
 abbrev Arg : Type 0
 Arg = MutBor CallRecord × (Bor Call × (Bor (List ℕ) × Unit {0}))

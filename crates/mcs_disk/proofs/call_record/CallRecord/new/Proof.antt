@@ -28,12 +28,12 @@ use denote.Triple.Entry.{on_entry}
 use denote.Triple.Spec.{Meets, triple_of}
 use denote.Triple.Table.{entered}
 use denote.Triple.Walked.{says, Stays, stay_dropped, walk_of, AllGo, Goes-dropped, Walks, ends_at, walked, walk_Meets}
-use Rattle.mcs_page.specs.declared.call_record.CallRecord.{CallRecord}
-use Rattle.mcs_page.specs.contracts.call_record.CallRecord as T
-use Rattle.mcs_page.specs.contracts.call_record.CallRecord.new.Key.{name as #it}
-use Rattle.mcs_page.specs.contracts.call_record.CallRecord.new as it
-use Rattle.mcs_page.proofs.call_record.CallRecord.new.Statement as stated
-use Rattle.mcs_page.proofs.call_record.CallRecord.new.Code as code
+use Rattle.mcs_disk.specs.declared.call_record.CallRecord.{CallRecord}
+use Rattle.mcs_disk.specs.contracts.call_record.CallRecord as T
+use Rattle.mcs_disk.specs.contracts.call_record.CallRecord.new.Key.{name as #it}
+use Rattle.mcs_disk.specs.contracts.call_record.CallRecord.new as it
+use Rattle.mcs_disk.proofs.call_record.CallRecord.new.Statement as stated
+use Rattle.mcs_disk.proofs.call_record.CallRecord.new.Code as code
 
 abbrev v : Val
 v = vstruct (vcons (vstruct vnil) vnil)

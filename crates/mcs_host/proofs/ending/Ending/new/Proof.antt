@@ -1,6 +1,6 @@
--- A record is made: it has no bytes, so its ghost fields are what is said here. Of the end it has
--- to name something, which no caller learns: an end at once, at which the bytes of the start are
--- found, so that a file is honest here.
+-- An end is made: it has no bytes, so its ghost fields are what is said here. It has to name
+-- something, which no caller learns: an end at once, at which the bytes of the start are found, so
+-- that a file is honest here.
 use Rattle.std.proofs.Common.{ℕ, List, [], ◌∷◌, refl, length, ◌<◌, ◌^◌}
 use seplogic.Ra.Ura.{Ura}
 use mir.Syntax.{named}
@@ -30,12 +30,12 @@ use denote.Triple.Entry.{on_entry}
 use denote.Triple.Spec.{Meets, triple_of}
 use denote.Triple.Table.{entered}
 use denote.Triple.Walked.{says, Stays, stay_dropped, walk_of, AllGo, Goes-dropped, Walks, ends_at, walked, walk_Meets}
-use Rattle.mcs_host.specs.declared.call_record.CallRecord.{CallRecord}
-use Rattle.mcs_host.specs.contracts.call_record.CallRecord as T
-use Rattle.mcs_host.specs.contracts.call_record.CallRecord.new.Key.{name as #it}
-use Rattle.mcs_host.specs.contracts.call_record.CallRecord.new as it
-use Rattle.mcs_host.proofs.call_record.CallRecord.new.Statement as stated
-use Rattle.mcs_host.proofs.call_record.CallRecord.new.Code as code
+use Rattle.mcs_host.specs.declared.ending.Ending.{Ending}
+use Rattle.mcs_host.specs.contracts.ending.Ending as T
+use Rattle.mcs_host.specs.contracts.ending.Ending.new.Key.{name as #it}
+use Rattle.mcs_host.specs.contracts.ending.Ending.new as it
+use Rattle.mcs_host.proofs.ending.Ending.new.Statement as stated
+use Rattle.mcs_host.proofs.ending.Ending.new.Code as code
 
 abbrev v : Val
 v = vstruct (vcons (vstruct vnil) vnil)
@@ -46,8 +46,8 @@ stayed = (stay_dropped (shr_slice_of (0 ∷ []) tt (plain (λ _. u8))) yes, tt)
 module _ {M : Type 1} {𝓤 : Ura M} (𝓛 : Logic 𝓤) (at_mem : Memory → SProp 𝓤) (run : Routine → Fun 𝓤) (κ : Lft) (q : Share) (s : Bor (List ℕ)) where
   open 𝓛 use {H}
 
-  abbrev r : CallRecord
-  r = record { marker = record {}; start = s.now; calls = []; calls_by_the_end = []; found = s.now }
+  abbrev r : Ending
+  r = record { marker = record {}; calls_by_the_end = []; found = s.now }
 
   abbrev at : List Val × Unit {0}
   at = (slice_val s.ref_ptr (length s.now) ∷ [], tt)
@@ -64,7 +64,7 @@ module _ {M : Type 1} {𝓤 : Ura M} (𝓛 : Logic 𝓤) (at_mem : Memory → SP
         sets ! (agg ! (no_more !)) refl (tt, tt) $ sets ! (agg ! (and_then ! (get ! refl) (no_more !))) refl (tt, (tt, tt)) $
         returns ! (look_at ! 0 refl) $ free_all ! refl $
         pure_i ! ((T.the_row).own_val r (v ∷ [])) ((λ vss. (tt, ((λ uss. (tt, tt)), tt))), tt) (((vstruct vnil ∷ [], tt), (refl, ((tt, (refl, tt)), tt))), tt) $
-        suffices ! _ (ends_at 𝓛 it.ended stayed (it.clauses 𝓛 at_mem run) (((κ, tt), (q, tt), tt, (s, tt), at), tt) v r (tt, tt) (tt, tt)) $ says ! (refl, refl) $
+        suffices ! _ (ends_at 𝓛 it.ended stayed (it.clauses 𝓛 at_mem run) (((κ, tt), (q, tt), tt, (s, tt), at), tt) v r (tt, tt) (tt, tt)) $ says ! refl $
         nothing ! $ nothing ! $ join ! $ join ! $ nothing ! $ move ! (2 ∷ 0 ∷ []) $ join ! $ done !)
 
 module _ {M : Type 1} {𝓤 : Ura M} (𝓛 : Logic 𝓤) (at_mem : Memory → SProp 𝓤) (run : Routine → Fun 𝓤) where

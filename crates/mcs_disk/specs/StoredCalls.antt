@@ -1,4 +1,4 @@
--- How the logic stores the calls on a file. (No part of what they mean.)
+-- How the logic stores the calls on a disk. (No part of what they mean.)
 use Rattle.std.specs.Prelude.{◌≡◌, ◌⊎◌, ℕ, List, refl}
 use mathlib.Core.Logic.{inl, inr}
 use Rattle.std.specs.Coded.{Coded, code_by, coded_list, coded_ℕ, coded×, coded⊎}
