@@ -299,7 +299,7 @@ map_program() {
         ;;
     esac
     awk 'NR > 3 && $1 == "seq" { exit } NR > 3 { print }' < "$folder/answers" > "$folder/known_map"
-    awk -f "$lib/numbers.awk" -f - < "$folder/answers" > "$folder/known_bytes" <<'bytes'
+    awk -f "$lib/numbers.awk" -f - "$folder/answers" > "$folder/known_bytes" <<'bytes'
 is_listed($0) {
     print $1, $2
     if (substr($0, 8, 1) != " ") printf "%03X %s\n", hex_number($1) + 1, $3
