@@ -6,7 +6,7 @@ function refusalOf(answer) {
   return found && { number: Number(found[1]), line: Number(found[2] || 0) };
 }
 
-// What a refusal means. REFUSALS are the words of tools/lib/refusals.awk, put in by page/build.
+// What a refusal means. REFUSALS are the words of tools/lib/refusals.txt, put in by page/build.
 function wordsOfRefusal(number) {
   return REFUSALS[number] || "a refusal that this page does not know; the manual has it";
 }

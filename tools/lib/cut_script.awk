@@ -1,5 +1,5 @@
-# Cuts a script after the input that is accepted as the `count`-th one, into the files `begun` and `rest`; prints why where there is no
-# such input, and ends with status 1. Needs numbers.awk and inputs.awk; all words stand in the environment.
+# Where a script is cut: prints the last line of the input that is accepted as the `count`-th one. Prints why where there is no such
+# input, and ends with status 1. Needs numbers.awk and inputs.awk; all words stand in the environment.
 
 BEGIN {
     read_inputs(ENVIRON["script"])
@@ -20,7 +20,5 @@ BEGIN {
         print "it has accepted " count " commands, and the whole script makes " accepted
         exit 1
     }
-    printf "" > ENVIRON["begun"]
-    printf "" > ENVIRON["rest"]
-    for (n = 1; n <= script_count; n++) print script_line[n] > ENVIRON[n <= last ? "begun" : "rest"]
+    print last
 }

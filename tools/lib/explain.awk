@@ -1,5 +1,5 @@
 # Tells each refusal among the answers to a script. Needs refusals.awk, numbers.awk and inputs.awk. The environment has `script`,
-# `answers`, `text_name` (see explain_script in tool.sh), `folder`, `mcs4` and `board_fault`, the program that finds the part of a board.
+# `answers`, `text_name` and `text_before` (see explain_script in tool.sh), `folder`, `mcs4` and `board_fault`, the program that finds the part of a board.
 
 BEGIN {
     read_inputs(ENVIRON["script"])
@@ -10,6 +10,7 @@ BEGIN {
         exit 2
     }
     name = ENVIRON["text_name"]
+    before = ENVIRON["text_before"] + 0
     refused = 0
     if (answer[1] ~ /^no /) {
         refused = 1
@@ -17,27 +18,45 @@ BEGIN {
         print "the session was refused: no " words[2] ": " refusal_words(words[2])
     }
     for (i = 1; i <= input_count; i++) {
-        if (answer_at[i] && answer[answer_at[i]] ~ /^no /) {
+        if (!answer_at[i]) {
+            if (!refused || name == "") tell_unanswered(i)
+            refused = 1
+            break
+        }
+        if (answer[answer_at[i]] ~ /^no /) {
             refused = 1
             tell(i, answer[answer_at[i]])
-        }
+            if (name != "") break
+        } else if (input_kind[i] == "wire") board_input = i
     }
     exit refused
 }
 
-function tell(i, line,    words, count, from, to, where, n) {
+function tell_unanswered(i) {
+    if (i == input_count) print "line " input_line[i] " was not answered"
+    else print "line " input_line[i] " and those after it were not answered"
+    print "    " substr(script_line[input_line[i]], 1, 120)
+}
+
+# The status of a refusal stands in the first line of what is told; the lines at fault follow, `from` to `to` of the script.
+function tell(i, line,    words, count, from, to, where, n, at) {
     count = split(line, words)
     from = to = input_line[i]
     where = ""
-    if (count == 4 && words[3] == "line") {
-        from = to = text_from[i] + words[4] - 1
-        where = "line " words[4]
+    at = 0
+    if (count == 4 && words[3] == "line") at = words[4]
+    else if (input_has_text[i] && words[2] == 12) at = line_that_fits(i, 0)
+    else if (input_has_text[i] && words[2] == 14) at = line_that_fits(i, 1)
+    else if (input_kind[i] == "asm" && words[2] == 42) at = line_without_rom(i)
+    if (at) {
+        from = to = text_from[i] + at - 1
+        where = "line " at + before
     } else if (words[2] >= 20 && words[2] <= 27 && input_has_text[i]) {
         find_part(i, words[2])
         if (part_from) {
             from = text_from[i] + part_from - 1
             to = text_from[i] + part_to - 1
-            where = part_from == part_to ? "line " part_from : "lines " part_from " to " part_to
+            where = part_from == part_to ? "line " part_from + before : "lines " part_from + before " to " part_to + before
         }
     }
     if (name != "") {
@@ -50,6 +69,39 @@ function tell(i, line,    words, count, from, to, where, n) {
     if (name == "" || where != "") {
         for (n = from; n <= to; n++) print "    " substr(script_line[n], 1, 120)
     }
+}
+
+# The first line of a text that is too long, or that has another byte than tabs and printing characters of ASCII; 0 where none has.
+function line_that_fits(i, bytes,    n) {
+    for (n = text_from[i]; n <= text_to[i]; n++) {
+        if (bytes ? script_line[n] ~ /[^\t -~]/ : length(script_line[n]) > 255) return n - text_from[i] + 1
+    }
+    return 0
+}
+
+# The first line of a program whose bytes are in a ROM that the board lacks, as the bench maps it on that board; 0 where the board is not
+# known, since the script does not wire it.
+function line_without_rom(i,    file, n, command, line, words, has, found) {
+    if (!board_input && answer[1] != "session 0") return 0
+    file = ENVIRON["folder"] "/mapped"
+    printf "" > file
+    if (board_input) for (n = input_line[board_input]; n <= text_to[board_input] + 1; n++) print script_line[n] > file
+    print "board\nmap" > file
+    for (n = text_from[i]; n <= text_to[i]; n++) print script_line[n] > file
+    print "." > file
+    close(file)
+    command = "rm -f \"$folder/trial.mcs\"; \"$mcs4\" new \"$folder/trial.mcs\" < \"$folder/mapped\" 2> /dev/null"
+    found = 0
+    while ((command | getline line) > 0) {
+        split(line, words)
+        if (words[1] ~ /^\[/) table = words[1]
+        else if (table == "[[rom]]" && words[1] == "chip") has[words[3]] = 1
+        else if (!found && words[1] == "line" && words[4] > 0) {
+            for (n = hex_number(words[3]); n < hex_number(words[3]) + words[4]; n++) if (!(int(n / 256) in has)) found = words[2]
+        }
+    }
+    close(command)
+    return found
 }
 
 # Which lines of a board text are at fault: part_from to part_to, or 0.

@@ -68,6 +68,12 @@ function end_of_line(    length_told, at, type, sum, i) {
     }
     at = hex_number(substr(record, 4, 4)) + ENVIRON["address"]
     type = substr(record, 8, 2)
+    # Where a program begins, as linkers tell it: the 4004 begins at 000.
+    if (type == "03" || type == "05") {
+        if (length_told != 4) return tell_line("a record of type " type " has four bytes")
+        record = ""
+        return
+    }
     if (type == "00") {
         if (at + length_told > 4096) return tell_line("past the last address, FFF")
         for (i = 0; i < length_told; i++) {
@@ -82,7 +88,7 @@ function end_of_line(    length_told, at, type, sum, i) {
         if (length_told != 2) return tell_line("a record of type " type " has two bytes")
         if (digits(10) + digits(12) != 0) return tell_line("type " type " with another value than 0: an address past FFF")
     } else {
-        return tell_line("type " type ", which has no meaning for a 4004; only 00, 01, and 02 and 04 with 0 are taken")
+        return tell_line("type " type ", which has no meaning for a 4004; only 00, 01, 03, 05, and 02 and 04 with 0 are taken")
     }
     record = ""
 }
@@ -91,23 +97,32 @@ function hint() {
     return lines == 1 ? " (is it a binary file? --binary)" : ""
 }
 
-# Lines of at most 32 bytes; a text ends before it would be longer than 16,384 bytes.
-function print_texts(    at, line, size, held, next_line) {
-    size = 0
-    for (at = 0; at < 4096; at++) {
+# Lines of at most 32 bytes; a text ends before it would be longer than 16,384 bytes. Where there are several texts, each has a byte of
+# each ROM that the image fills, so that the bench refuses all of them where the board lacks one of these.
+function print_texts(    at, chip, texts, n, filled, i) {
+    n = 1
+    for (at = 0; at < 4096; at++) if (at in byte) filled[int(at / 256)] = at
+    for (at = 0; at < 4096; at = line_end) {
+        line_end = at + 1
         if (!(at in byte)) continue
-        next_line = ""
-        if (size == 0 || !((at - 1) in byte)) next_line = sprintf("ORG 0x%03X\n", at)
-        line = sprintf("DB 0x%02X", byte[at])
-        for (held = 1; held < 32 && (at + 1) in byte; held++) line = line sprintf(", 0x%02X", byte[++at])
-        if (size > 0 && size + length(next_line) + length(line) + 1 > 16384) {
-            print "."
-            size = 0
-            next_line = sprintf("ORG 0x%03X\n", at - held + 1)
-        }
-        if (size == 0) print "asm"
-        printf "%s%s\n", next_line, line
-        size += length(next_line) + length(line) + 1
+        line = line_at(at)
+        # Room for a line of each ROM.
+        if (length(texts[n]) + length(line) + 16 * 24 > 16384) n++
+        if (texts[n] == "" || !((at - 1) in byte)) line = sprintf("ORG 0x%03X\n", at) line
+        texts[n] = texts[n] line
+        has[n, int(at / 256)] = has[n, int((line_end - 1) / 256)] = 1
     }
-    print "."
+    for (i = 1; i <= n; i++) {
+        for (chip = 0; chip < 16; chip++) {
+            if (n > 1 && (chip in filled) && !has[i, chip]) texts[i] = texts[i] sprintf("ORG 0x%03X\nDB 0x%02X\n", filled[chip], byte[filled[chip]])
+        }
+        printf "asm\n%s.\n", texts[i]
+    }
+}
+
+# A line of the bytes from an address on; `line_end` is the address after it.
+function line_at(at,    text) {
+    text = sprintf("DB 0x%02X", byte[at])
+    for (line_end = at + 1; line_end < at + 32 && (line_end in byte); line_end++) text = text sprintf(", 0x%02X", byte[line_end])
+    return text "\n"
 }

@@ -1,42 +1,13 @@
-# What each refusal means, in words.
+# What each refusal means, in words: refusals.txt, whose folder the environment names (`lib`).
 
-function refusal_words(number) {
+function refusal_words(number,    file, line, blank) {
     if (!("10" in refusals)) {
-        refusals["10"] = "not a command: an unknown first word, a wrong number of words, or an unknown place"
-        refusals["11"] = "a word that must be a number is not one, or the number is out of its range"
-        refusals["12"] = "a line of more than 255 bytes"
-        refusals["13"] = "a text of more than 16,384 bytes"
-        refusals["14"] = "a byte that is neither a tab nor a printing character of ASCII"
-        refusals["15"] = "input ended inside a text: the line '.' after it is missing"
-        refusals["20"] = "the text is not TOML"
-        refusals["21"] = "a key that no board has"
-        refusals["22"] = "a table lacks a key"
-        refusals["23"] = "a value of another type or form, a number out of its range, or an empty 'columns'"
-        refusals["24"] = "two ROMs of one chip number, or two entries for one bank"
-        refusals["25"] = "a line, a chain or a row's bit that the board lacks"
-        refusals["26"] = "'clock' or 'data' at no output line, a column at no input line, or a lamp at an input line"
-        refusals["27"] = "more ROMs, banks, chains, columns or lamps than a board can have"
-        refusals["30"] = "the line has no form that the assembler knows"
-        refusals["31"] = "a name that an earlier line defines"
-        refusals["32"] = "a name that no line defines"
-        refusals["33"] = "a value out of its range"
-        refusals["34"] = "an address on another page; JCN and ISZ reach the page of the address after their two words"
-        refusals["35"] = "an address that an earlier line fills"
-        refusals["36"] = "past the last address, FFF"
-        refusals["37"] = "a 513th name"
-        refusals["41"] = "the board has no such key"
-        refusals["42"] = "an address in a ROM that the board lacks"
-        refusals["43"] = "a RAM chip that the board lacks"
-        refusals["44"] = "a run of no cycle, or of more than 100,000"
-        refusals["45"] = "32 breakpoints are set, and this would be one more"
-        refusals["46"] = "the session is worn: it has accepted 4,294,967,295 commands"
-        refusals["47"] = "8 characters are watched, and this would be one more"
-        refusals["50"] = "not a session file"
-        refusals["51"] = "the session file is damaged"
-        refusals["53"] = "the device failed, or the host refused the file: is it there, may it be written, is it in use?"
-        refusals["54"] = "the session is closed, since the device failed before"
-        refusals["55"] = "the file is not blank, so no session is made in it"
-        refusals["90"] = "there was no memory"
+        file = ENVIRON["lib"] "/refusals.txt"
+        while ((getline line < file) > 0) {
+            blank = index(line, " ")
+            if (line ~ /^[0-9]/) refusals[substr(line, 1, blank - 1)] = substr(line, blank + 1)
+        }
+        close(file)
     }
     return (number in refusals) ? refusals[number] : "a refusal that the tools do not know; the manual of the program has it"
 }

@@ -2,9 +2,10 @@
 # shellcheck shell=sh
 
 tools=$(CDPATH= cd -- "$(dirname -- "$0")" && pwd -P)
+lib=$tools/lib
 mcs4=${MCS4:-$(dirname -- "$tools")/mcs4}
 LC_ALL=C
-export LC_ALL
+export LC_ALL lib mcs4
 
 # The longest text that the bench takes, and the longest input of a session.
 longest_text=16384
@@ -52,6 +53,55 @@ need_text() {
     fi
 }
 
+# The text of a board (`wire`) or of a program (`asm`), from a file that is one, or from a script of lines that has such a text: its
+# first one. It stands in a file of the folder then; `lines_before` is how many lines of the file stand before it.
+take_text() {
+    need_file "$2" "$longest_script" "the text of a board or a program"
+    lines_before=$(awk -v word="$1" '{ sub(/\r$/, ""); sub(/[ \t]+$/, "") } $0 == word { print NR; found = 1; exit } END { if (!found) print 0 }' < "$2")
+    if [ "$lines_before" -eq 0 ]; then
+        need_text "$2"
+        cp -- "$2" "$folder/$3"
+    else
+        awk -v before="$lines_before" 'NR > before { line = $0; sub(/\r$/, "", line); if (line == ".") exit; print }' < "$2" > "$folder/$3"
+    fi
+}
+
+# The text of a board, in `board_text`, and that of a program, in `program_text`; the parts in awk find their names in the environment.
+take_board_text() {
+    board_name=$1
+    take_text wire "$1" board_text
+    board_before=$lines_before
+    export board_name board_before
+}
+
+take_program_text() {
+    program_name=$1
+    take_text asm "$1" program_text
+    program_before=$lines_before
+    export program_name program_before
+}
+
+# The program is there, and built: where it has to be built first, its words tell how far it is, before anything is asked of it.
+need_bench() {
+    "$mcs4" --version < /dev/null > "$folder/version" 2>&1 &
+    child=$!
+    told=0
+    while kill -0 "$child" 2> /dev/null; do
+        sleep 0.02 2> /dev/null || sleep 1
+        lines=$(($(wc -l < "$folder/version")))
+        if [ "$lines" -gt "$told" ]; then
+            sed -n "$((told + 1)),$lines{/^mcs4: .*built/p;}" "$folder/version" >&2
+            told=$lines
+        fi
+    done
+    status=0
+    wait "$child" || status=$?
+    if [ "$status" -eq 1 ] || [ "$status" -ge 126 ]; then
+        sed '/^mcs4: .*built/d' "$folder/version" >&2
+        fail "$mcs4 cannot be started; MCS4 names the program where it is not the mcs4 at the top"
+    fi
+}
+
 # A session's file, copied into the folder; the file itself is left alone. (A file that someone writes meanwhile has changed.)
 copy_session() {
     need_file "$1" 1048576 "a session"
@@ -61,12 +111,23 @@ copy_session() {
     fi
 }
 
-# Keeps standard input, the answers of mcs4, in the folder.
+# A session that the program opens; a copy of it stands in `start.mcs`.
+need_session() {
+    cp -- "$folder/start.mcs" "$folder/tried.mcs"
+    echo seq | serve open "$folder/tried.mcs" tried "$1"
+    rm -f "$folder/tried.mcs"
+}
+
+# Keeps standard input, the answers of mcs4, in the folder; a last line that was cut off is none.
 keep_answers() {
     head -c 67108865 > "$folder/answers"
     size=$(($(wc -c < "$folder/answers")))
     if [ "$size" -eq 0 ]; then fail "no answers on standard input; it reads what mcs4 has answered, as in: $tool .. < ANSWERS"; fi
     if [ "$size" -gt 67108864 ]; then fail "more than 67,108,864 bytes on standard input; are these answers of mcs4?"; fi
+    if [ "$(tail -c 1 "$folder/answers" | wc -l)" -eq 0 ]; then
+        sed '$d' < "$folder/answers" > "$folder/whole_lines"
+        mv "$folder/whole_lines" "$folder/answers"
+    fi
 }
 
 # Serves a script, from standard input, on a session (`new` or `open`), and keeps the answers in a file of the folder. Where the
@@ -74,6 +135,7 @@ keep_answers() {
 # session's name.
 serve() {
     status=0
+    if [ ! -e "$folder/version" ]; then need_bench; fi
     "$mcs4" "$1" "$2" > "$folder/$3" 2> "$folder/words" || status=$?
     grep -vF -- "$folder" "$folder/words" >&2 || :
     case $(sed 1q "$folder/$3") in
@@ -90,7 +152,7 @@ serve() {
 
 # What a refusal means, in words.
 refusal() {
-    awk -v number="$1" -f "$tools/lib/refusals.awk" -f - <<'words'
+    awk -v number="$1" -f "$lib/refusals.awk" -f - <<'words'
 BEGIN { print refusal_words(number) }
 words
 }
@@ -106,9 +168,160 @@ explain_text() {
     explain_script "$folder/explained" "$folder/refused" "$2"
 }
 
-# Tells each refusal among the answers to a script. With a third word, which names a file, the script is the text of this file alone,
-# and its lines are told. The status is 1 where there is a refusal, 2 where the answers are none of this script.
+# Tells each refusal among the answers to a script, and the lines that were not answered. With a third word, which names a file, the
+# first refusal alone is told, and its line is that of a text which is this file. The status is 1 where there is anything to tell, 2
+# where the answers are none of this script.
 explain_script() {
-    script=$1 answers=$2 folder=$folder mcs4=$mcs4 text_name=${3-} board_fault="$tools/lib/board_fault.awk" \
-        awk -f "$tools/lib/refusals.awk" -f "$tools/lib/numbers.awk" -f "$tools/lib/inputs.awk" -f "$tools/lib/explain.awk" < /dev/null
+    script=$1 answers=$2 folder=$folder text_name=${3-} text_before=${text_before:-0} board_fault="$lib/board_fault.awk" \
+        awk -f "$lib/refusals.awk" -f "$lib/numbers.awk" -f "$lib/inputs.awk" -f "$lib/explain.awk" < /dev/null
+}
+
+# A session with a board and a program, `base.mcs` in the folder, and what it tells of them (`known_board`, `known_map`). Where one of
+# them is refused, this is told, with its line and why, and the tool ends.
+prepare() {
+    take_board_text "$1"
+    take_program_text "$2"
+    {
+        echo wire
+        awk 1 < "$folder/board_text"
+        echo .
+        echo asm
+        awk 1 < "$folder/program_text"
+        echo .
+    } > "$folder/begin"
+    {
+        cat "$folder/begin"
+        printf 'board\nseq\nmap\n'
+        awk 1 < "$folder/program_text"
+        printf '.\nseq\n'
+    } > "$folder/script"
+    serve new "$folder/base.mcs" answers < "$folder/script"
+    accepted 2 "$1" "$board_before"
+    accepted 3 "$2" "$program_before"
+    awk 'NR > 3 && $1 == "seq" { exit } NR > 3 { print }' < "$folder/answers" > "$folder/known_board"
+    awk '$1 == "seq" { n++; next } n == 1 { print }' < "$folder/answers" > "$folder/known_map"
+}
+
+# What the bench tells of a board alone, in `known_board`; it is refused with its lines and why, and the tool ends.
+know_board() {
+    take_board_text "$1"
+    {
+        echo wire
+        awk 1 < "$folder/board_text"
+        echo .
+    } > "$folder/begin"
+    {
+        cat "$folder/begin"
+        echo board
+    } > "$folder/script"
+    serve new "$folder/board.mcs" answers < "$folder/script"
+    accepted 2 "$1" "$board_before"
+    awk 'NR > 2' < "$folder/answers" > "$folder/known_board"
+}
+
+# Tells why a text was refused, by the line of the answers that tells it; its file, and how many lines of it stand before the text.
+accepted() {
+    case $(sed -n "$1p" "$folder/answers") in
+    ok\ *) ;;
+    *)
+        sed "$1q" "$folder/answers" > "$folder/first_answers"
+        text_before=$3 explain_script "$folder/begin" "$folder/first_answers" "$2" > "$folder/told" || true
+        sed "s/^/$tool: /" "$folder/told" >&2
+        exit 1
+        ;;
+    esac
+}
+
+# Texts of tests, whose names stand in `tests` then, one a line.
+need_tests() {
+    tests=
+    for text in "$@"; do
+        need_file "$text" 1048576 "a text of tests"
+        tests="$tests$text
+"
+    done
+    export tests
+}
+
+# What a tool counts, by its words: `BOARD PROGRAM TEST ..`, or `--session SESSION CYCLES PROGRAM`, with `cycles` then.
+counted() {
+    cycles=
+    if [ "${1-}" = --session ]; then
+        if [ $# -ne 4 ]; then refuse_words; fi
+        need_count CYCLES "$3" 100000000
+        cycles=$3
+        copy_session "$2" start.mcs
+        need_session "$2"
+        map_program "$4"
+    else
+        if [ $# -lt 3 ]; then refuse_words; fi
+        case $1 in -*) refuse_words ;; esac
+        prepare "$1" "$2"
+        shift 2
+        need_tests "$@"
+    fi
+    export cycles
+}
+
+# A decimal number from 1 to another one.
+need_count() {
+    case $2 in '' | *[!0-9]* | 0* | ??????????*) fail "$1 is a decimal number, 1 to $3" ;; esac
+    if [ "$2" -gt "$3" ]; then fail "$1 is a decimal number, 1 to $3"; fi
+}
+
+# What the bench tells of a program alone: `known_map`, and its bytes, `known_bytes`, on a board with all ROMs.
+map_program() {
+    take_program_text "$1"
+    {
+        echo asm
+        awk 1 < "$folder/program_text"
+        echo .
+    } > "$folder/begin"
+    {
+        awk 'BEGIN { print "wire"; for (i = 0; i < 16; i++) printf "[[rom]]\nchip = %d\nport = \"0000\"\n", i; print "." }'
+        cat "$folder/begin"
+        echo map
+        awk 1 < "$folder/program_text"
+        printf '.\nseq\n'
+        awk 'BEGIN { for (at = 0; at < 4096; at += 256) print "list " at " 256" }'
+    } > "$folder/script"
+    serve new "$folder/mapping.mcs" answers < "$folder/script"
+    case $(sed -n 3p "$folder/answers") in
+    ok\ *) ;;
+    *)
+        {
+            echo "session 0"
+            sed -n 3p "$folder/answers"
+        } > "$folder/first_answers"
+        text_before=$program_before explain_script "$folder/begin" "$folder/first_answers" "$1" > "$folder/told" || true
+        sed "s/^/$tool: /" "$folder/told" >&2
+        exit 1
+        ;;
+    esac
+    awk 'NR > 3 && $1 == "seq" { exit } NR > 3 { print }' < "$folder/answers" > "$folder/known_map"
+    awk -f "$lib/numbers.awk" -f - "$folder/answers" > "$folder/known_bytes" <<'bytes'
+is_listed($0) {
+    print $1, $2
+    if (substr($0, 8, 1) != " ") printf "%03X %s\n", hex_number($1) + 1, $3
+}
+bytes
+}
+
+# An awk program, from standard input, that talks with the bench (bench.awk), with these parts of lib; its status. mawk has to be told
+# that its input comes line by line.
+dialogue() {
+    cat > "$folder/program.awk"
+    for part in numbers.awk face.awk board.awk names.awk bench.awk "$@"; do
+        if [ $# -gt 0 ] && [ "$1" = "$part" ]; then shift; fi
+        set -- "$@" -f "$lib/$part"
+    done
+    case $(awk -W version 2>&1 < /dev/null | sed 1q) in mawk*) set -- -W interactive "$@" ;; esac
+    mkfifo "$folder/pipe"
+    tool_name=$tool
+    export folder tool_name
+    status=0
+    awk "$@" -f "$folder/program.awk" <> "$folder/pipe" || status=$?
+    rm -f "$folder/pipe"
+    if [ "$status" -gt 1 ]; then exit 1; fi
+    return "$status"
 }

@@ -1,97 +1,110 @@
-# Reads the answers of the first pass of tools/trace: listings of all ROM, `regs` and `lamps`, and then `step`, `regs`, `lamps` again and
-# again. With `ask` questions, prints the lines of the second pass; with print, the trace, with the answers to these in the file `texts`.
-# Needs numbers.awk.
+# A trace: what an instruction does. Needs numbers.awk, bench.awk and, where names are wanted (`names_known`), names.awk.
+#
+# begin_trace() reads the listing and the state; trace_step() does one instruction, or the second cycle of one, and returns its line;
+# at_stop(why) is the line for an instruction that is not done.
 
-BEGIN {
-    if (ask != "print") texts = "/dev/null"
-    blocks = 0
-    while ((getline answer < texts) > 0) {
-        if (is_listed(answer)) text[substr(answer, 1, 3)] = answer
-        else if (answer ~ /^ram /) block[++blocks] = ""
-        else if (answer ~ /^[0-7]\.[0-9]/) block[blocks] = block[blocks] answer "\n"
-    }
-    blocks = 0
-}
-
-is_listed($0) {
-    code[hex_number($1)] = $2
-    if (substr($0, 8, 1) != " ") code[hex_number($1) + 1] = $3
-}
-
-$3 == "ran" {
-    took = $4
-    word = $5
-}
-
-# The words of `regs` by their names; after `ret` stand three addresses.
-$1 == "acc" {
-    for (i = 1; i < NF; i += 2) {
-        now[$i] = $(i + 1)
-        if ($i == "ret") {
-            now["ret"] = $(i + 1) " " $(i + 2) " " $(i + 3)
-            break
+function begin_trace(    at, n, i, lines) {
+    for (at = 0; at < 4096; at += 256) {
+        n = ask_all(sprintf("list 0x%03X 256", at), lines)
+        for (i = 1; i <= n; i++) {
+            trace_code[hex_number(substr(lines[i], 1, 3))] = substr(lines[i], 5, 2)
+            if (substr(lines[i], 8, 1) != " ") trace_code[hex_number(substr(lines[i], 1, 3)) + 1] = substr(lines[i], 8, 2)
         }
     }
+    look_at_all()
 }
 
-$1 == "lamps" {
-    now["lamps"] = $2
-    if (states++ > 0 && !ended) one_step()
-    for (name in now) before[name] = now[name]
+function look_at_all(    lines, n, i) {
+    send("regs\nlamps\nports\nseq")
+    take_registers(receive())
+    take_lamps(receive())
+    receive()
+    while (receive() !~ /^seq /) take_ports(reply)
+}
+
+# The text of the instruction at an address, with the name of its target.
+function instruction_at(at,    place, text, target, second) {
+    place = sprintf("%03X", at)
+    if (!(at in trace_text)) {
+        text = ask("list 0x" place " 1")
+        # The second byte of an instruction at FFF stands at 000.
+        if (at == 4095 && trace_code[at] ~ /^([1457]|2[02468ACE])/) text = instruction_round_the_end(at)
+        if (names_known) {
+            second = substr(text, 8, 2)
+            if (second != "  " && substr(text, 11) ~ /^(JUN|JMS|JCN|ISZ) /) {
+                target = hex_number(substr(text, length(text) - 2))
+                if (target in label_at) text = substr(text, 1, length(text) - 5) label_at[target]
+            }
+        }
+        trace_text[at] = text
+    }
+    return trace_text[at]
+}
+
+function instruction_round_the_end(at,    high, second, byte) {
+    byte = hex_number(trace_code[at])
+    high = int(byte / 16)
+    second = trace_code[0]
+    if (high == 1) return sprintf("FFF %02X %s JCN %d, 0x0%s", byte, second, byte % 16, second)
+    if (high == 2) return sprintf("FFF %02X %s FIM P%d, 0x%s", byte, second, byte % 16 / 2, second)
+    if (high == 4) return sprintf("FFF %02X %s JUN 0x%X%s", byte, second, byte % 16, second)
+    if (high == 5) return sprintf("FFF %02X %s JMS 0x%X%s", byte, second, byte % 16, second)
+    return sprintf("FFF %02X %s ISZ R%d, 0x0%s", byte, second, byte % 16, second)
 }
 
 # Whether an instruction writes the RAM of the designated bank.
-function writes(byte) {
+function writes_ram(byte) {
     return byte ~ /^E[014567]$/
 }
 
-function one_step(    at, byte) {
-    at = before["pc"]
-    byte = code[hex_number(at)]
-    if (skip + done >= cycles || took == 0) {
-        if (took == 0 && skip + done < cycles) stop = word
-        ended = 1
-        return
-    }
-    if (ask == "print") {
-        told(at, byte)
-    } else if (before["owed"] == "1") {
-        print "step"
-    } else {
-        if (!(at in asked)) print "list 0x" at " 1"
-        asked[at] = 1
-        if (writes(byte)) print "ram " before["dcl"] "\nstep\nram " before["dcl"]
-        else print "step"
-    }
-    done += took
-    after = now["pc"]
-}
-
-# A line of the trace.
-function told(at, byte,    change, i) {
+function trace_step(    before, name, at, byte, old, new, n, m, text, change, begun) {
+    for (name in now) before[name] = now[name]
+    at = hex_number(now["pc"])
+    byte = trace_code[at]
+    text = now["owed"] == "1" ? "(the second cycle)" : instruction_at(at)
+    begun = elapsed
+    n = 0
+    if (now["owed"] == "0" && writes_ram(byte)) n = ask_all("ram " now["dcl"], old)
+    take_run(ask("step"))
+    if (took == 0) return ""
+    if (n) m = ask_all("ram " before["dcl"], new)
+    look_at_all()
     change = ""
-    for (i = 0; i < 16; i++) {
-        if (substr(before["r"], i + 1, 1) != substr(now["r"], i + 1, 1)) change = change " r" i " " substr(now["r"], i + 1, 1)
+    for (m = 0; m < 16; m++) {
+        if (substr(before["r"], m + 1, 1) != substr(now["r"], m + 1, 1)) change = change " r" m " " substr(now["r"], m + 1, 1)
     }
     if (before["dcl"] != now["dcl"]) change = change " dcl " now["dcl"]
     if (before["ret"] != now["ret"]) change = change " ret " now["ret"]
-    if (before["owed"] == "0" && writes(byte)) change = change written()
+    if (n) change = change written(old, new, n)
+    for (m = 0; m < 16; m++) {
+        name = "rom" m " out"
+        if ((name in now) && before[name] != now[name]) change = change " " name " " now[name]
+    }
+    for (m = 0; m < 4; m++) {
+        name = "chain" m
+        if ((name in now) && before[name] != now[name]) change = change " " name " " now[name]
+    }
     if (before["lamps"] != now["lamps"]) change = change " lamps " now["lamps"]
-    put_line(skip + done, before["owed"] == "1" ? "(the second cycle)" : text[at], "acc " now["acc"] " cy " now["cy"] " " change)
+    return trace_line(begun, text, "acc " now["acc"] " cy " now["cy"] " " change)
 }
 
-function put_line(cycle, what, rest) {
-    line[++count] = sprintf("%8d  %-23s  %s", cycle, what, rest)
-    sub(/ +$/, "", line[count])
+# Where names are wanted, a label stands on a line of its own above its instruction.
+function trace_line(cycle, what, rest,    line, at) {
+    line = sprintf("%8d  %-25s  %s", cycle, what, rest)
+    sub(/ +$/, "", line)
+    at = hex_number(substr(what, 1, 3))
+    if (names_known && what ~ /^[0-9A-F]/ && (at in label_at)) line = "          " label_at[at] ":\n" line
+    return line
+}
+
+function at_stop(why) {
+    return trace_line(elapsed, instruction_at(hex_number(now["pc"])), "stops before it: " (why == "code" ? "no instruction" : why))
 }
 
 # What an instruction has written: the places that differ between two answers to `ram`, before and after it.
-function written(    old_lines, new_lines, lines, n, i, change, old, new, place) {
-    lines = split(block[blocks + 1], old_lines, "\n")
-    split(block[blocks + 2], new_lines, "\n")
-    blocks += 2
+function written(old_lines, new_lines, lines,    n, i, change, old, new, place) {
     change = ""
-    for (n = 1; n <= lines; n++) {
+    for (n = 2; n <= lines; n++) {
         if (old_lines[n] == new_lines[n]) continue
         split(old_lines[n], old, " ")
         split(new_lines[n], new, " ")
@@ -109,16 +122,4 @@ function written(    old_lines, new_lines, lines, n, i, change, old, new, place)
         }
     }
     return change
-}
-
-END {
-    if (after == "") after = before["pc"]
-    if (ask != "print") {
-        print "list 0x" after " 1"
-        exit
-    }
-    from = instructions > 0 && count > instructions ? count - instructions + 1 : 1
-    if (stop == "code") put_line(skip + done, text[after], "stops before it: no instruction")
-    else if (stop != "end") put_line(skip + done, text[after], "stops before it: " stop)
-    for (i = from; i <= count; i++) print line[i]
 }

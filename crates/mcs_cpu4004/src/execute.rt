@@ -82,14 +82,15 @@ fn count_up(regs: &mut Regs, r: RegNo)
     regs.set_register(r, sum);
 }
 
-/// Makes a register 0. It is called where ISZ goes on without its jump, which is rare, so that the jump is a branch that
-/// the machine can foresee, and waits for no register.
+/// The address itself. It is called where ISZ goes on without its jump, which is rare, so that the jump is a branch that
+/// the machine can foresee, and waits for no register. No registers are passed: the compiler assumes that a call which has
+/// them may change each. It does not see that the sum changes nothing, so the call stays.
 #[cold]
 #[inline(never)]
-fn clear_register(regs: &mut Regs, r: RegNo)
-    ensures { regs.new ≡ with_register regs.old r 0 }
+fn without_jump(next: Addr) -> Addr
+    ensures { result ≡ next }
 {
-    regs.set_register(r, Nibble::ZERO);
+    Addr::ZERO.plus(next.get())
 }
 
 /// ISZ, except for the counter: where the processor goes on; `next` is the address after its words.
@@ -100,8 +101,8 @@ fn count_to_zero(regs: &mut Regs, r: RegNo, word: u8, next: Addr) -> Addr
     ensures pc { regs.new.pc ≡ regs.old.pc }
 {
     if regs.register(r) == Nibble::MAX {
-        clear_register(regs, r);
-        return next;
+        regs.set_register(r, Nibble::ZERO);
+        return without_jump(next);
     }
     count_up(regs, r);
     word_beside(next, word)
@@ -166,18 +167,16 @@ fn line_number(lines: Nibble) -> Nibble
     })
 }
 
-/// DAA.
+/// DAA. The carry is 1 after it wherever six was added: it was 1 before, or the sum is above 15. Nothing branches, since
+/// digits are what no machine can foresee.
 #[inline(always)]
 fn adjust(regs: &mut Regs)
     ensures { regs.new ≡ after_daa regs.old }
 {
-    if regs.cy.get() == 1 || regs.acc.get() > 9 {
-        let sum = regs.acc.get() + 6;
-        regs.acc = Nibble::low_of(sum);
-        if sum > 15 {
-            regs.cy = Bit::ONE;
-        }
-    }
+    let adds = regs.cy.get() == 1 || regs.acc.get() > 9;
+    let sum = regs.acc.get() + if adds { 6 } else { 0 };
+    regs.acc = Nibble::low_of(sum);
+    regs.cy = Bit::when(adds);
 }
 
 /// Where the processor goes on after an instruction, by the name of its row: at `$next`, after its words, except for the

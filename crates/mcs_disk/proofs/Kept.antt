@@ -3,6 +3,7 @@ use Rattle.std.proofs.Common.{◌≡◌, ◌⊎◌, inl, inr, ⊎_elim, ℕ, zer
 use Rattle.mcs_disk.specs.Disk.{Elapses, Reads, Syncs, Writes, Torn, part, put}
 use Rattle.mcs_disk.specs.Calls.{DiskCall, WasRead, Wrote, Failed, Synced, bytes_after, images_after, clock_of, since_after, called_disk}
 use Rattle.mcs_disk.specs.CallLaws.{put_torn, current, untorn}
+use Rattle.mcs_disk.specs.declared.call_record.CallRecord.{CallRecord}
 
 pub part_put : (at : ℕ) (from file : List ℕ) → at + length from ≤ length file → part at (length from) (put at from file) ≡ from
 part_put zero [] [] fits = refl
@@ -68,58 +69,62 @@ module _ (p q : Type 0) (f g : ℕ) (b d start start' : List ℕ) (cs ds : List 
     fresh = tt;
   }
 
-module _ (p q : Type 0) (f g : ℕ) (b start start' : List ℕ) (cs ds : List DiskCall) (same : start' ≡ start) where
-  pub was_read : {T E : Type 0} (at : ℕ) (old into : List ℕ) (x : T) → ds ≡ WasRead ∷ cs → into ≡ part at (length old) b
-      → Reads {T = T} {E = E} at old into (called_disk p f b start cs) (called_disk q g b start' ds) (Ok x)
+-- the record after a call
+abbrev Notes : DiskCall → CallRecord → CallRecord → Type 0
+Notes call h h' = h' ≡ record h { calls = call ∷ h.calls }
+
+start_of : (call : DiskCall) (h h' : CallRecord) → Notes call h h' → h'.start ≡ h.start
+start_of call h h' noted = ap (λ (r : CallRecord). r.start) noted
+
+calls_of : (call : DiskCall) (h h' : CallRecord) → Notes call h h' → h'.calls ≡ call ∷ h.calls
+calls_of call h h' noted = ap (λ (r : CallRecord). r.calls) noted
+
+module _ (p q : Type 0) (f g : ℕ) (b : List ℕ) (h h' : CallRecord) where
+  pub was_read : {T E : Type 0} (at : ℕ) (old into : List ℕ) (x : T) → Notes WasRead h h' → into ≡ part at (length old) b
+      → Reads {T = T} {E = E} at old into (called_disk p f b h.start h.calls) (called_disk q g b h'.start h'.calls) (Ok x)
   was_read at old into x noted given = record {
     given = given;
     bytes = refl;
-    images = λ c left. from_images p q f g b b start start' cs ds WasRead same noted c left;
-    kept = λ c left. to_images p q f g b b start start' cs ds WasRead same noted c left;
-    time = answered p q f g b b start start' cs ds WasRead same noted x refl;
+    images = λ c left. from_images p q f g b b h.start h'.start h.calls h'.calls WasRead (start_of WasRead h h' noted) (calls_of WasRead h h' noted) c left;
+    kept = λ c left. to_images p q f g b b h.start h'.start h.calls h'.calls WasRead (start_of WasRead h h' noted) (calls_of WasRead h h' noted) c left;
+    time = answered p q f g b b h.start h'.start h.calls h'.calls WasRead (start_of WasRead h h' noted) (calls_of WasRead h h' noted) x refl;
   }
 
-  pub was_synced : {T E : Type 0} (x : T) → ds ≡ Synced ∷ cs → b ≡ bytes_after start cs
-      → Syncs {T = T} {E = E} (called_disk p f b start cs) (called_disk q g b start' ds) (Ok x)
+  pub was_synced : {T E : Type 0} (x : T) → Notes Synced h h' → b ≡ bytes_after h.start h.calls
+      → Syncs {T = T} {E = E} (called_disk p f b h.start h.calls) (called_disk q g b h'.start h'.calls) (Ok x)
   was_synced x noted kept = record {
     durable = λ c left. at_sync c left;
     bytes = refl;
-    images = λ c left. subst (images_after start cs) (sym (at_sync c left)) (subst (images_after start cs) (sym kept) (current start cs));
+    images = λ c left. subst (images_after h.start h.calls) (sym (at_sync c left)) (subst (images_after h.start h.calls) (sym kept) (current h.start h.calls));
     kept = tt;
-    time = answered p q f g b b start start' cs ds Synced same noted x refl;
+    time = answered p q f g b b h.start h'.start h.calls h'.calls Synced (start_of Synced h h' noted) (calls_of Synced h h' noted) x refl;
   }
     where
-      at_sync : (c : List ℕ) → images_after start' ds c → c ≡ b
-      at_sync c left = from_images p q f g b b start start' cs ds Synced same noted c left ∙ sym kept
+      at_sync : (c : List ℕ) → images_after h'.start h'.calls c → c ≡ b
+      at_sync c left = from_images p q f g b b h.start h'.start h.calls h'.calls Synced (start_of Synced h h' noted) (calls_of Synced h h' noted) c left ∙ sym kept
 
-  pub was_written : {T E : Type 0} (d : List ℕ) (at : ℕ) (from : List ℕ) (x : T) → ds ≡ Wrote at from ∷ cs → d ≡ put at from b → at + length from ≤ length b
-      → Writes {T = T} {E = E} at from (called_disk p f b start cs) (called_disk q g d start' ds) (Ok x)
+  pub was_written : {T E : Type 0} (d : List ℕ) (at : ℕ) (from : List ℕ) (x : T) → Notes (Wrote at from) h h' → d ≡ put at from b → at + length from ≤ length b
+      → Writes {T = T} {E = E} at from (called_disk p f b h.start h.calls) (called_disk q g d h'.start h'.calls) (Ok x)
   was_written d at from x noted is fits = record {
     written = ap (part at (length from)) is ∙ part_put at from b fits;
     outside = subst (Torn at (length from) b) (sym is) (put_torn at from b);
-    images = λ c left. from_images p q f g b d start start' cs ds (Wrote at from) same noted c left;
-    any = λ e c left torn. to_images p q f g b d start start' cs ds (Wrote at from) same noted c (e, left, torn);
-    kept = λ c left. to_images p q f g b d start start' cs ds (Wrote at from) same noted c (c, left, untorn at (length from) c);
-    time = answered p q f g b d start start' cs ds (Wrote at from) same noted x refl;
+    images = λ c left. from_images p q f g b d h.start h'.start h.calls h'.calls (Wrote at from) (start_of (Wrote at from) h h' noted) (calls_of (Wrote at from) h h' noted) c left;
+    any = λ e c left torn. to_images p q f g b d h.start h'.start h.calls h'.calls (Wrote at from) (start_of (Wrote at from) h h' noted) (calls_of (Wrote at from) h h' noted) c (e, left, torn);
+    kept = λ c left. to_images p q f g b d h.start h'.start h.calls h'.calls (Wrote at from) (start_of (Wrote at from) h h' noted) (calls_of (Wrote at from) h h' noted) c (c, left, untorn at (length from) c);
+    time = answered p q f g b d h.start h'.start h.calls h'.calls (Wrote at from) (start_of (Wrote at from) h h' noted) (calls_of (Wrote at from) h h' noted) x refl;
   }
 
-  pub was_failed : {T E : Type 0} (at : ℕ) (from : List ℕ) (e : E) → ds ≡ Failed at from ∷ cs
-      → Writes {T = T} {E = E} at from (called_disk p f b start cs) (called_disk q g b start' ds) (Err e)
+  pub was_failed : {T E : Type 0} (at : ℕ) (from : List ℕ) (e : E) → Notes (Failed at from) h h'
+      → Writes {T = T} {E = E} at from (called_disk p f b h.start h.calls) (called_disk q g b h'.start h'.calls) (Err e)
   was_failed at from e noted = record {
     written = tt;
     outside = untorn at (length from) b;
-    images = λ c left. from_images p q f g b b start start' cs ds (Failed at from) same noted c left;
+    images = λ c left. from_images p q f g b b h.start h'.start h.calls h'.calls (Failed at from) (start_of (Failed at from) h h' noted) (calls_of (Failed at from) h h' noted) c left;
     any = tt;
-    kept = λ c left. to_images p q f g b b start start' cs ds (Failed at from) same noted c (c, left, untorn at (length from) c);
-    time = failed p q f g b b start start' cs ds (Failed at from) same noted e refl;
+    kept = λ c left. to_images p q f g b b h.start h'.start h.calls h'.calls (Failed at from) (start_of (Failed at from) h h' noted) (calls_of (Failed at from) h h' noted) c (c, left, untorn at (length from) c);
+    time = failed p q f g b b h.start h'.start h.calls h'.calls (Failed at from) (start_of (Failed at from) h h' noted) (calls_of (Failed at from) h h' noted) e refl;
   }
 
-  -- nothing was noted, so nothing was done
-  pub stood : {T E : Type 0} (e : E) → ds ≡ cs → Elapses {T = T} {E = E} (called_disk p f b start cs) (called_disk q g b start' ds) (Err e)
-  stood e unnoted = record {
-    ticks = tt;
-    stands = ap clock_of unnoted;
-    nothing_else = λ t c le left. inl (subst (λ (X : Type 0). X) (λ k. since_after (same k) (unnoted k) t c) left);
-    keeps = λ t c le left. subst (λ (X : Type 0). X) (sym (λ k. since_after (same k) (unnoted k) t c)) left;
-    fresh = tt;
-  }
+-- the bytes that are kept stay those after the calls
+pub still_kept : (b d : List ℕ) (h h' : CallRecord) (at : ℕ) (from : List ℕ) → Notes (Wrote at from) h h' → d ≡ put at from b → b ≡ bytes_after h.start h.calls → d ≡ bytes_after h'.start h'.calls
+still_kept b d h h' at from noted is is_kept = is ∙ ap (put at from) is_kept ∙ sym (ap (λ (r : CallRecord). bytes_after r.start r.calls) noted)

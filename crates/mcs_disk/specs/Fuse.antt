@@ -1,5 +1,5 @@
 -- Which calls a disk with a fuse fails.
-use Rattle.std.specs.Prelude.{◌≡◌, ◌↔◌, ℕ, ◌+◌, ◌≤◌, IsErr, Result}
+use Rattle.std.specs.Prelude.{◌≡◌, ◌↔◌, ℕ, ◌+◌, ◌≤◌, IsErr, IsOk, Result}
 use Rattle.mcs_disk.specs.Disk.{IsCall}
 use Rattle.mcs_disk.specs.States.{mem_disk_state}
 use Rattle.mcs_disk.specs.declared.fuse.Fuse.{Fuse}
@@ -21,12 +21,13 @@ FailsAfter disk n = Fails disk.fuse n
 abbrev pub inner_disk : FuseDisk → MemDisk
 inner_disk disk = disk.disk
 
--- a call on the disk: one that it fails is an error and is not passed on; another is answered by the
--- disk in it; and either way it is one of the calls that were to come
+-- a call on the disk: one that it fails is an error and is not passed on; another is answered Ok, by
+-- the disk in it; and either way it is one of the calls that were to come
 pub record FuseCall {T E : Type 0} (old new : FuseDisk) (result : Result T E) : Type 0 where
   pub fails : FailsAfter old 0 → IsErr result
   pub kept_back : FailsAfter old 0 → inner_disk new ≡ inner_disk old
   -- what the disk in it answered: an error comes only where that disk counted a fault
   pub passed_on : ¬ (FailsAfter old 0)
       → IsCall (mem_disk_state (inner_disk old)) (mem_disk_state (inner_disk new)) result
+  pub answered : ¬ (FailsAfter old 0) → IsOk result
   pub later : (n : ℕ) → FailsAfter new n ↔ FailsAfter old (n + 1)

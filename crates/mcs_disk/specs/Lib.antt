@@ -2,7 +2,8 @@ pub mod CallLaws
 pub mod Calls
 pub mod Disk
 pub mod Fuse
-pub mod Memory
 pub mod Moments
+pub mod NotedCalls
 pub mod PowerCut
 pub mod States
+pub mod StoredCalls

@@ -40,6 +40,15 @@ pub record IsNew (n : ℕ) (disk : DiskState) : Type 0 where
   pub clock : disk.clock ≡ 0
   pub durable : IsDurable disk
 
+-- an honest disk that holds these bytes, all of which are there after a power cut, and that no call
+-- has reached
+pub record IsFresh (file : List ℕ) (disk : DiskState) : Type 0 where
+  pub honest : disk.honest
+  pub bytes : disk.bytes ≡ file
+  pub faults : disk.faults ≡ 0
+  pub clock : disk.clock ≡ 0
+  pub durable : IsDurable disk
+
 -- calls that changed no byte and left nothing else after (reads and syncs)
 pub record AddsNoImage (old new : DiskState) : Type 0 where
   pub bytes : new.bytes ≡ old.bytes

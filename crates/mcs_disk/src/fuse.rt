@@ -3,7 +3,6 @@ ghost use Rattle.std.specs.Prelude.{◌≡◌, ◌≤◌, ◌+◌, ◌↔◌, �
 ghost use Rattle.mcs_disk.specs.Disk.{most_faults, IsCall, Reads, Writes, Syncs};
 ghost use Rattle.mcs_disk.specs.Moments.{IsSame, IsUntouched};
 ghost use Rattle.mcs_disk.specs.CallLaws.{lawful};
-ghost use Rattle.mcs_disk.specs.Memory.{newest_first, zeros_for};
 
 use crate::{Disk, DiskFault, MemDisk};
 
@@ -47,8 +46,8 @@ impl Fuse {
 
 /// A disk in memory that fails chosen calls, and does not pass them on.
 ///
-/// It goes on counting faults where the disk in it has come to, and is honest like that disk. A
-/// call that it passes on is answered as that disk answers it.
+/// It counts its faults, and is honest like the disk in it. A call that it passes on is answered Ok,
+/// as that disk answers it.
 #[derive(Drop)]
 pub struct FuseDisk {
     disk: MemDisk,
@@ -66,11 +65,10 @@ impl FuseDisk {
         ensures inner { inner_disk result ≡ disk }
         ensures fails { (n : ℕ) → FailsAfter result n ↔ (calls ≤ n) }
     {
-        let faults = disk.faults;
         FuseDisk {
             disk,
             fuse: Fuse::AllAfter(calls),
-            faults,
+            faults: 0,
         }
     }
 
@@ -80,11 +78,10 @@ impl FuseDisk {
         ensures inner { inner_disk result ≡ disk }
         ensures fails { (n : ℕ) → FailsAfter result n ↔ (n ≡ calls) }
     {
-        let faults = disk.faults;
         FuseDisk {
             disk,
             fuse: Fuse::OneAfter(calls),
-            faults,
+            faults: 0,
         }
     }
 
@@ -115,8 +112,8 @@ impl Disk for FuseDisk {
     ghost state = { fuse_disk_state };
 
     ghost lawful = { λ f honest.
-        lawful _ f.faults f.disk.bytes.items (zeros_for f.disk.bytes.items)
-        (newest_first f.disk.calls.items) f.disk.kept };
+        lawful _ f.faults f.disk.bytes.items f.disk.history.start f.disk.history.calls
+        f.disk.kept };
 
     fn size(&self) -> usize {
         self.disk.size()
@@ -135,10 +132,7 @@ impl Disk for FuseDisk {
         if self.fuse.blows() {
             return Err(self.fail());
         }
-        match self.disk.read(at, into) {
-            Ok(()) => Ok(()),
-            Err(_) => Err(self.fail()),
-        }
+        self.disk.read(at, into)
     }
 
     fn write(&mut self, at: usize, from: &[u8]) -> Result<(), DiskFault>
@@ -153,10 +147,7 @@ impl Disk for FuseDisk {
         if self.fuse.blows() {
             return Err(self.fail());
         }
-        match self.disk.write(at, from) {
-            Ok(()) => Ok(()),
-            Err(_) => Err(self.fail()),
-        }
+        self.disk.write(at, from)
     }
 
     fn sync(&mut self) -> Result<(), DiskFault>
@@ -170,9 +161,6 @@ impl Disk for FuseDisk {
         if self.fuse.blows() {
             return Err(self.fail());
         }
-        match self.disk.sync() {
-            Ok(()) => Ok(()),
-            Err(_) => Err(self.fail()),
-        }
+        self.disk.sync()
     }
 }

@@ -1,34 +1,23 @@
 //! A disk in memory.
-ghost use Rattle.std.specs.Prelude.{◌≡◌, ◌+◌, ◌-◌, ◌^◌, ◌≤◌, [], ◌∷◌, ◌++◌, length, reverse, IfOk, OnOk, OnErr, min};
-ghost use Rattle.mcs_disk.specs.Disk.{most_faults, IsCall, Reads, Writes, Syncs};
-ghost use Rattle.mcs_disk.specs.Moments.{IsNew, IsUntouched};
+ghost use Rattle.std.specs.Prelude.{◌≡◌, ◌+◌, ◌≤◌, length, IfOk, IsOk};
+ghost use Rattle.mcs_disk.specs.Disk.{IsCall, Reads, Writes, Syncs};
+ghost use Rattle.mcs_disk.specs.Moments.{IsFresh, IsNew};
 ghost use Rattle.mcs_disk.specs.Calls.{bytes_after};
 ghost use Rattle.mcs_disk.specs.CallLaws.{lawful};
-ghost use Rattle.mcs_disk.specs.Memory.{newest_first, zeros_for};
 
+use crate::call_record::{Call, CallRecord};
 use crate::{Disk, DiskFault, overwrite};
 use std::alloc::{AllocError, Global};
 
-/// A call that answered Ok.
-#[derive(Drop)]
-pub(crate) enum Call {
-    Read,
-    Write(usize, Vec<u8>),
-    Sync,
-}
-
-/// An honest disk in memory.
+/// An honest disk in memory: each call on it is answered Ok, and takes no memory.
 ///
-/// It keeps a record of the calls that answered Ok, from which contracts read what a power cut may
-/// have left at each moment. Where that record cannot grow, the call is a device fault, and changes
-/// nothing but the count of faults.
+/// What a power cut would have left at each moment is read from the calls on it, which contracts
+/// alone know.
 #[derive(Drop)]
 pub struct MemDisk {
-    alloc: Global,
     pub(crate) bytes: Vec<u8>,
-    pub(crate) calls: Vec<Call>,
-    pub(crate) faults: u64,
-    ghost kept: { bytes.items ≡ bytes_after (zeros_for bytes.items) (newest_first calls.items) },
+    pub(crate) history: CallRecord,
+    ghost kept: { bytes.items ≡ bytes_after history.start history.calls },
 }
 
 impl MemDisk {
@@ -38,38 +27,22 @@ impl MemDisk {
     pub fn new(alloc: Global, size: usize) -> Result<MemDisk, AllocError>
         ensures { IfOk result (λ disk. IsNew size (mem_disk_state disk)) }
     {
-        Ok(MemDisk {
-            alloc,
-            bytes: vec![in alloc; 0u8; size]?,
-            calls: Vec::new(alloc),
-            faults: 0,
-        })
+        Ok(MemDisk::with_bytes(vec![in alloc; 0u8; size]?))
     }
 
-    // Counts a fault and does nothing else.
-    fn fail(&mut self) -> DiskFault
-        ensures bytes { self.new.bytes ≡ self.old.bytes }
-        ensures calls { self.new.calls ≡ self.old.calls }
-        ensures fault { self.new.faults ≡ min (self.old.faults + 1) most_faults }
+    /// A disk that holds these bytes, before any call.
+    pub fn with_bytes(bytes: Vec<u8>) -> MemDisk
+        ensures { IsFresh bytes.items (mem_disk_state result) }
     {
-        self.faults = self.faults.saturating_add(1);
-        DiskFault
+        let history = CallRecord::new(&bytes);
+        MemDisk { bytes, history }
     }
-}
 
-// Keeps a call, or counts a fault where the record can't grow.
-fn keep(calls: &mut Vec<Call>, faults: &mut u64, call: Call) -> Result<(), DiskFault>
-    ensures ok { OnOk result (calls.new.items ≡ calls.old.items ++ call ∷ []) }
-    ensures err { OnErr result (calls.new.items ≡ calls.old.items) }
-    ensures same { OnOk result (faults.new ≡ faults.old) }
-    ensures fault { OnErr result (faults.new ≡ min (faults.old + 1) most_faults) }
-{
-    match calls.push(call) {
-        Ok(()) => Ok(()),
-        Err(_) => {
-            *faults = faults.saturating_add(1);
-            Err(DiskFault)
-        }
+    /// The bytes that it holds.
+    pub fn bytes(&self) -> &[u8]
+        ensures { result.now ≡ (mem_disk_state self.now).bytes }
+    {
+        self.bytes.as_slice()
     }
 }
 
@@ -78,8 +51,7 @@ impl Disk for MemDisk {
 
     ghost state = { mem_disk_state };
 
-    ghost lawful = { λ m honest. lawful _ m.faults m.bytes.items (zeros_for m.bytes.items)
-        (newest_first m.calls.items) m.kept };
+    ghost lawful = { λ d honest. lawful _ 0 d.bytes.items d.history.start d.history.calls d.kept };
 
     fn size(&self) -> usize {
         self.bytes.len()
@@ -91,11 +63,10 @@ impl Disk for MemDisk {
         ensures honest { (mem_disk_state self.old).honest
             → Reads at into.old into.new (mem_disk_state self.old) (mem_disk_state self.new)
             result }
-        ensures refused { OnErr result
-            (IsUntouched (mem_disk_state self.old) (mem_disk_state self.new)) }
+        ensures answered { IsOk result }
     {
-        keep(&mut self.calls, &mut self.faults, Call::Read)?;
         into.copy_from_slice(&self.bytes[at..at + into.len()]);
+        self.history.note(&Call::Read, &[]);
         Ok(())
     }
 
@@ -104,13 +75,9 @@ impl Disk for MemDisk {
         ensures call { IsCall (mem_disk_state self.old) (mem_disk_state self.new) result }
         ensures honest { (mem_disk_state self.old).honest
             → Writes at from.now (mem_disk_state self.old) (mem_disk_state self.new) result }
-        ensures refused { OnErr result
-            (IsUntouched (mem_disk_state self.old) (mem_disk_state self.new)) }
+        ensures answered { IsOk result }
     {
-        let Ok(copy) = from.to_vec(self.alloc) else {
-            return Err(self.fail());
-        };
-        keep(&mut self.calls, &mut self.faults, Call::Write(at, copy))?;
+        self.history.note(&Call::Write(at), from);
         overwrite(&mut self.bytes, at, from);
         Ok(())
     }
@@ -119,9 +86,9 @@ impl Disk for MemDisk {
         ensures call { IsCall (mem_disk_state self.old) (mem_disk_state self.new) result }
         ensures honest { (mem_disk_state self.old).honest
             → Syncs (mem_disk_state self.old) (mem_disk_state self.new) result }
-        ensures refused { OnErr result
-            (IsUntouched (mem_disk_state self.old) (mem_disk_state self.new)) }
+        ensures answered { IsOk result }
     {
-        keep(&mut self.calls, &mut self.faults, Call::Sync)
+        self.history.note(&Call::Sync, &[]);
+        Ok(())
     }
 }

@@ -1,27 +1,10 @@
-//! The calculator's arithmetic and keys, by its lamps.
-use crate::chains::chains;
-use crate::scripts::{expect, quotient};
+//! The calculator of `quotient.txt`: what is done at its keys as a script, and the answers that the script has to have.
 use std::alloc::Global;
-use std::process::Abort;
-use std::test::Fail;
-
-/// What is done at the calculator, or what its display has to show.
-#[derive(Drop)]
-enum Step {
-    Press(u8),
-    Release(u8),
-    /// That many cycles.
-    Run(u32),
-    /// Minus, `!` for an overflow, `?` for a division by zero, and eight digits, each with its point or a blank.
-    Shows(&'static str),
-}
-
-/// Steps that are done one after the other, that many times.
-type Part = (u32, &'static [Step]);
+use std::io;
 
 /// A script for the calculator, and the answers that it has to have.
 #[derive(Drop)]
-struct Talk {
+pub struct Talk {
     alloc: Global,
     script: Vec<u8>,
     answers: Vec<u8>,
@@ -55,10 +38,10 @@ fn place(key: u8) -> &'static str {
 }
 
 /// How many cycles a key is up before the next: after an operator until it is worked out.
-fn rest(key: u8) -> u32 {
+fn rest(key: u8) -> &'static str {
     match key {
-        b'+' | b'-' | b'*' | b'/' | b'=' => 16_000,
-        _ => 1_700,
+        b'+' | b'-' | b'*' | b'/' | b'=' => "16000",
+        _ => "1700",
     }
 }
 
@@ -80,19 +63,15 @@ fn lamps(part: u8) -> &'static str {
     }
 }
 
-/// The script before the first key is pressed, and its answers.
-fn head() -> Result<(&'static str, &'static str), Fail> {
-    let (script, answers) = quotient();
-    match (script.split_once("\npress "), answers.split_once("ok 4\n")) {
-        (Some((script, _)), Some((answers, _))) => Ok((script, answers)),
-        _ => Err("no head".into()),
-    }
-}
-
 impl Talk {
-    /// Wires the board, assembles the program, and waits until it awaits keys.
-    fn new(alloc: Global) -> Result<Talk, Fail> {
-        let (script, answers) = head()?;
+    /// Wires the board, assembles the program and waits until it awaits keys, as a script of three commands does before the first key.
+    pub fn of_calculator(alloc: Global, script: &str, answers: &str) -> io::Result<Talk> {
+        let (Some((script, _)), Some((answers, _))) = (
+            script.split_once("\npress "),
+            answers.split_once("ok 4\n"),
+        ) else {
+            return Err(io::ErrorKind::InvalidData.into());
+        };
         let mut talk = Talk {
             alloc,
             script: Vec::new(alloc),
@@ -104,15 +83,25 @@ impl Talk {
         Ok(talk)
     }
 
+    /// The script so far.
+    pub fn script(&self) -> &[u8] {
+        self.script.as_slice()
+    }
+
+    /// What it has to be answered.
+    pub fn answers(&self) -> &[u8] {
+        self.answers.as_slice()
+    }
+
     /// A line of the script.
-    fn line(&mut self, line: &str) -> Result<(), Fail> {
+    fn line(&mut self, line: &str) -> io::Result<()> {
         self.script.extend_from_slice(line.as_bytes())?;
         self.script.push(b'\n')?;
         Ok(())
     }
 
     /// The answer to an accepted command.
-    fn accept(&mut self, more: &str) -> Result<(), Fail> {
+    fn accept(&mut self, more: &str) -> io::Result<()> {
         self.accepted = self.accepted.wrapping_add(1);
         let accepted = self.accepted;
         let answer = format!(in self.alloc; "ok {accepted}{more}\n")?;
@@ -121,14 +110,13 @@ impl Talk {
     }
 
     /// Presses or releases a key.
-    fn key(&mut self, done: &str, key: u8) -> Result<(), Fail> {
-        let place = place(key);
-        let line = format!(in self.alloc; "{done} {place}")?;
+    fn key(&mut self, done: &str, key: u8) -> io::Result<()> {
+        let line = format!(in self.alloc; "{done} {}", place(key))?;
         self.line(line.as_str())?;
         self.accept("")
     }
 
-    fn run(&mut self, cycles: u32) -> Result<(), Fail> {
+    fn run(&mut self, cycles: &str) -> io::Result<()> {
         let line = format!(in self.alloc; "run {cycles}")?;
         self.line(line.as_str())?;
         let more = format!(in self.alloc; " ran {cycles} end")?;
@@ -136,23 +124,16 @@ impl Talk {
     }
 
     /// Presses a key, long enough, and releases it, with a rest after it.
-    fn stroke(&mut self, key: u8) -> Result<(), Fail> {
+    fn stroke(&mut self, key: u8) -> io::Result<()> {
         self.key("press", key)?;
-        self.run(1_000)?;
+        self.run("1000")?;
         self.key("release", key)?;
         self.run(rest(key))
     }
 
-    /// Presses keys one after the other, after which the display has to show this.
-    fn keys(&mut self, keys: &str, display: &str) -> Result<(), Fail> {
-        for key in keys.as_bytes() {
-            self.stroke(*key)?;
-        }
-        self.shows(display)
-    }
-
-    /// The display has to show minus, `!` for an overflow, `?` for a division by zero, and eight digits, each with its point or a blank.
-    fn shows(&mut self, display: &str) -> Result<(), Fail> {
+    /// The display has to show minus, `!` for an overflow, `?` for a division by zero, and eight digits, each with its point or a
+    /// blank.
+    fn shows(&mut self, display: &str) -> io::Result<()> {
         self.line("lamps")?;
         self.answers.extend_from_slice(b"lamps ".as_slice())?;
         for part in display.as_bytes() {
@@ -162,277 +143,34 @@ impl Talk {
         Ok(())
     }
 
-    fn step(&mut self, step: &Step) -> Result<(), Fail> {
-        match step {
-            Step::Press(key) => self.key("press", *key),
-            Step::Release(key) => self.key("release", *key),
-            Step::Run(cycles) => self.run(*cycles),
-            Step::Shows(display) => self.shows(display),
+    /// Keys that are pressed one after the other, if any, a bar, and what the display has to show then, up to another bar.
+    fn keys(&mut self, row: &str) -> io::Result<()> {
+        let Some((keys, display)) = row.split_once("|") else {
+            return Err(io::ErrorKind::InvalidData.into());
+        };
+        for key in keys.as_bytes() {
+            self.stroke(*key)?;
+        }
+        self.shows(display.trim_end_matches("|"))
+    }
+
+    /// A row: a comment after `#`; a key that goes down or up; cycles; or keys and what the display has to show.
+    fn row(&mut self, row: &str) -> io::Result<()> {
+        match row.split_once(" ") {
+            Some(("#", _)) => Ok(()),
+            Some(("run", cycles)) => self.run(cycles),
+            Some((done @ ("press" | "release"), key)) => {
+                self.key(done, key.as_bytes().first().copied().unwrap_or(b'?'))
+            }
+            _ => self.keys(row),
         }
     }
 
-    fn steps(&mut self, steps: &[Step]) -> Result<(), Fail> {
-        for step in steps {
-            self.step(step)?;
+    /// Rows, one after the other.
+    pub fn rows(&mut self, rows: &str) -> io::Result<()> {
+        for row in rows.lines() {
+            self.row(row)?;
         }
         Ok(())
     }
-}
-
-/// A new session answers the script of a talk as it has to.
-fn expect_answered(rt: &impl Abort, talk: &Talk) -> Result<(), Fail> {
-    expect(
-        rt,
-        talk.alloc,
-        talk.script.as_slice(),
-        talk.answers.as_slice(),
-    )
-}
-
-/// A row of keys, a colon and the display after them.
-fn expect_row(talk: &mut Talk, row: &str) -> Result<(), Fail> {
-    match row.split_once(":") {
-        Some((keys, display)) => talk.keys(keys, display),
-        None => Err("no row".into()),
-    }
-}
-
-/// The talk of the rows of a text.
-fn talk_of_rows(alloc: Global, rows: &str) -> Result<Talk, Fail> {
-    let mut talk = Talk::new(alloc)?;
-    for row in rows.lines() {
-        expect_row(&mut talk, row)?;
-    }
-    Ok(talk)
-}
-
-#[test]
-fn forty_chains(rt: HostRuntime) -> Result<(), Fail> {
-    // a session for each text
-    for rows in chains() {
-        let talk = talk_of_rows(rt.alloc(), rows)?;
-        expect_answered(&rt, &talk)?;
-    }
-    Ok(())
-}
-
-/// Keys, and what the display shows after them. The number before goes on where they do not begin with C.
-const KEYED: [(&str, &str); 45] = [
-    // a quotient, cut off
-    ("22/7=", "   3.1 4 2 8 5 7 1 "),
-    // a product
-    ("C12*30=", "   0 0 0 0 0 3 6 0."),
-    // in the order keyed
-    ("C2+3*4=", "   0 0 0 0 0 0 2 0."),
-    // one third
-    ("C1/3=", "   0.3 3 3 3 3 3 3 "),
-    // and what is left of it
-    ("*3=", "   0.9 9 9 9 9 9 9 "),
-    // 0 times anything
-    ("C0*12345678=", "   0 0 0 0 0 0 0 0."),
-    // a product of zero has no sign
-    ("C0*5~=", "   0 0 0 0 0 0 0 0."),
-    // nor has a quotient of zero
-    ("C0/9=", "   0 0 0 0 0 0 0 0."),
-    // the greatest product
-    ("C99999999*99999999=", " ! 0 0 0 0 0 0 0 0."),
-    // all keys but C are dead after it
-    ("+5ES~.=", " ! 0 0 0 0 0 0 0 0."),
-    // C takes it away
-    ("C5", "   0 0 0 0 0 0 0 5."),
-    // division by zero
-    ("C1/0=", "  ?0 0 0 0 0 0 0 0."),
-    // and zero by zero
-    ("C0/0+", "  ?0 0 0 0 0 0 0 0."),
-    // the least quotient
-    ("C1/99999999=", "   0 0 0 0 0 0 0 0."),
-    // the greatest one
-    ("C99999999/.0000001=", " ! 0 0 0 0 0 0 0 0."),
-    // a quotient of two small ones
-    ("C.0000001/.0000002=", "   0 0 0 0 0 0 0.5 "),
-    // eight digits of eight
-    ("C99999999/1=", "   9 9 9 9 9 9 9 9."),
-    // no carry out of eight digits
-    ("C99999998+1=", "   9 9 9 9 9 9 9 9."),
-    // a carry out of them
-    ("C99999999+1=", " ! 0 0 0 0 0 0 0 0."),
-    // decimals make room
-    ("C9999999.9+.1=", "   1 0 0 0 0 0 0 0."),
-    // and are cut off
-    ("C99999999+.9=", "   9 9 9 9 9 9 9 9."),
-    // towards zero
-    ("C99999999-.1=", "   9 9 9 9 9 9 9 8."),
-    // a borrow over all digits
-    ("C10000000-.0000001=", "   9 9 9 9 9 9 9.9 "),
-    // and below zero
-    ("C.0000001-1=", "-  0.9 9 9 9 9 9 9 "),
-    // signs
-    ("C6~*7~=", "   0 0 0 0 0 0 4 2."),
-    // and others
-    ("C8~/16=", "-  0 0 0 0 0 0 0.5 "),
-    // zeros after the point go
-    ("C1.50=", "   0 0 0 0 0 0 1.5 "),
-    // they stay while they are keyed
-    ("C1.50", "   0 0 0 0 0 1.5 0 "),
-    // a point twice
-    ("C1.2.5", "   0 0 0 0 0 1.2 5 "),
-    // a point alone
-    ("C.", "   0 0 0 0 0 0 0 0."),
-    // digits beyond eight
-    ("C123456789", "   1 2 3 4 5 6 7 8."),
-    // and beyond seven after the point
-    ("C.12345678", "   0.1 2 3 4 5 6 7 "),
-    // a point after eight
-    ("C12345678.9", "   1 2 3 4 5 6 7 8."),
-    // = without an operator
-    ("C5==", "   0 0 0 0 0 0 0 5."),
-    // = again
-    ("C2+3==", "   0 0 0 0 0 0 0 8."),
-    // and again, with a quotient
-    ("C100/2===", "   0 0 0 0 0 1 2.5 "),
-    // with a number of its own
-    ("C2+3=7=", "   0 0 0 0 0 0 1 0."),
-    // the number shown is the right one, too
-    ("C5+=", "   0 0 0 0 0 0 1 0."),
-    // the later operator counts
-    ("C5+*-3=", "   0 0 0 0 0 0 0 2."),
-    // the entry alone is cleared
-    ("C5+3E4=", "   0 0 0 0 0 0 0 9."),
-    // both numbers change places
-    ("C3/12S=", "   0 0 0 0 0 0 0 4."),
-    // change of sign of an outcome
-    ("~", "-  0 0 0 0 0 0 0 4."),
-    // no sign on an outcome of zero
-    ("C7-7=~", "   0 0 0 0 0 0 0 0."),
-    // but on a zero that is keyed
-    ("C~", "-  0 0 0 0 0 0 0 0."),
-    // which goes after an operator
-    ("+", "   0 0 0 0 0 0 0 0."),
-];
-
-/// The talk of rows of keys, each with its display.
-fn talk_of_keys(alloc: Global, rows: &[(&str, &str)]) -> Result<Talk, Fail> {
-    let mut talk = Talk::new(alloc)?;
-    for (keys, display) in rows {
-        talk.keys(keys, display)?;
-    }
-    Ok(talk)
-}
-
-#[test]
-fn the_keys_one_after_the_other(rt: HostRuntime) -> Result<(), Fail> {
-    let talk = talk_of_keys(rt.alloc(), &KEYED)?;
-    expect_answered(&rt, &talk)
-}
-
-/// The talk of parts, one after the other.
-fn talk_of_parts(alloc: Global, parts: &[Part]) -> Result<Talk, Fail> {
-    let mut talk = Talk::new(alloc)?;
-    for (times, steps) in parts {
-        for _ in 0..*times {
-            talk.steps(steps)?;
-        }
-    }
-    Ok(talk)
-}
-
-/// A key that goes down or up, and bounces four times.
-const BOUNCING: [Step; 4] = [
-    Step::Press(b'2'),
-    Step::Run(60),
-    Step::Release(b'2'),
-    Step::Run(40),
-];
-
-const BOUNCES: [Part; 7] = [
-    // down and up within fewer cycles than the debounce takes: no key
-    (
-        8,
-        &[
-            Step::Press(b'1'),
-            Step::Run(300),
-            Step::Release(b'1'),
-            Step::Run(300),
-        ],
-    ),
-    (1, &[Step::Run(1_000), Step::Shows("   0 0 0 0 0 0 0 0.")]),
-    // it bounces as it goes down and as it goes up: one key
-    (5, &BOUNCING),
-    (1, &[Step::Press(b'2'), Step::Run(2_000)]),
-    (5, &BOUNCING),
-    (
-        1,
-        &[
-            Step::Run(1_000),
-            Step::Release(b'2'),
-            Step::Run(1_000),
-            Step::Shows("   0 0 0 0 0 0 0 2."),
-        ],
-    ),
-    // a key that stays down is one key
-    (
-        1,
-        &[
-            Step::Press(b'3'),
-            Step::Run(100_000),
-            Step::Shows("   0 0 0 0 0 0 2 3."),
-        ],
-    ),
-];
-
-#[test]
-fn keys_that_bounce(rt: HostRuntime) -> Result<(), Fail> {
-    let talk = talk_of_parts(rt.alloc(), &BOUNCES)?;
-    expect_answered(&rt, &talk)
-}
-
-/// Two keys that are down together: the first and the second key, and the display after both, and after the second one once more.
-fn talk_of_two_keys(
-    alloc: Global,
-    (first, second): (u8, u8),
-    (both, one): (&'static str, &'static str),
-) -> Result<Talk, Fail> {
-    let steps = [
-        // the second goes down before the first is up, and is taken once that one is up
-        Step::Press(first),
-        Step::Run(2_000),
-        Step::Press(second),
-        Step::Run(2_000),
-        Step::Shows("   0 0 0 0 0 0 0 1."),
-        Step::Release(first),
-        Step::Run(2_000),
-        Step::Shows(both),
-        Step::Release(second),
-        Step::Run(1_000),
-        // both at once: none is taken until one is up
-        Step::Press(first),
-        Step::Press(second),
-        Step::Run(3_000),
-        Step::Shows(both),
-        Step::Release(first),
-        Step::Run(2_000),
-        Step::Shows(one),
-        // another one, down and up while this one stays down, is not taken
-        Step::Press(b'9'),
-        Step::Run(2_000),
-        Step::Release(b'9'),
-        Step::Run(2_000),
-        Step::Shows(one),
-    ];
-    let mut talk = Talk::new(alloc)?;
-    talk.steps(&steps)?;
-    Ok(talk)
-}
-
-#[test]
-fn two_keys_down(rt: HostRuntime) -> Result<(), Fail> {
-    // in one row, and in two rows
-    for (second, both, one) in [
-        (b'2', "   0 0 0 0 0 0 1 2.", "   0 0 0 0 0 1 2 2."),
-        (b'6', "   0 0 0 0 0 0 1 6.", "   0 0 0 0 0 1 6 6."),
-    ] {
-        let talk = talk_of_two_keys(rt.alloc(), (b'1', second), (both, one))?;
-        expect_answered(&rt, &talk)?;
-    }
-    Ok(())
 }

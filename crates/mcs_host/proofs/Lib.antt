@@ -1,3 +1,2 @@
-pub mod FileKept
 pub mod Leaving
 pub mod WordsGiven

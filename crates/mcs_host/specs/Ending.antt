@@ -7,11 +7,11 @@ use Rattle.mcs_host.specs.declared.file_disk.FileDisk.{FileDisk}
 
 -- what contracts see of a file as a disk
 abbrev pub as_disk : FileDisk → DiskState
-as_disk file = file_state file.faults file.bytes.items file.history
+as_disk file = file_state file.faults file.bytes.items file.history file.end
 
 -- what the next one to open the file finds, after a close, a kill or a power cut
 abbrev pub found_in : FileDisk → List ℕ
-found_in file = file.history.found
+found_in file = file.end.found
 
 -- the newest of these calls is a write, and it was cut off
 pub record IsCutInWrite (calls cut : List DiskCall) : Type 0 where
@@ -28,14 +28,14 @@ pub record IsLeftSince (t : ℕ) (file : FileDisk) : Type 0 where
   pub never_made : List DiskCall
   pub made : List DiskCall
   pub all : file.history.calls ≡ never_made ++ made
-  pub by_the_end : (file.history.calls_by_the_end ≡ made)
-      ⊎ IsCutInWrite made file.history.calls_by_the_end
-  pub late : t ≤ clock_of file.history.calls_by_the_end
+  pub by_the_end : (file.end.calls_by_the_end ≡ made)
+      ⊎ IsCutInWrite made file.end.calls_by_the_end
+  pub late : t ≤ clock_of file.end.calls_by_the_end
 
 -- what is found after the end is an image after the calls by then
 abbrev pub IsFoundAfterTheEnd : FileDisk → Type 0
 IsFoundAfterTheEnd file =
-    images_after file.history.start file.history.calls_by_the_end (found_in file)
+    images_after file.history.start file.end.calls_by_the_end (found_in file)
 
 -- This file is like that one in all that any call has told of it, it was left after all of its
 -- calls, and these bytes are found in it.
@@ -44,5 +44,5 @@ pub record IsFoundWith (c : List ℕ) (file like : FileDisk) : Type 0 where
   pub bytes : like.bytes.items ≡ file.bytes.items
   pub start : like.history.start ≡ file.history.start
   pub calls : like.history.calls ≡ file.history.calls
-  pub by_the_end : like.history.calls_by_the_end ≡ file.history.calls
+  pub by_the_end : like.end.calls_by_the_end ≡ file.history.calls
   pub found : found_in like ≡ c

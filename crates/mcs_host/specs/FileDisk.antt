@@ -3,18 +3,20 @@ use Rattle.std.specs.Prelude.{◌≡◌, ℕ, List}
 use Rattle.mcs_disk.specs.Disk.{DiskState}
 use Rattle.mcs_disk.specs.Moments.{IsDurable}
 use Rattle.mcs_disk.specs.Calls.{called_disk, images_after}
-use Rattle.mcs_host.specs.declared.call_record.CallRecord.{CallRecord}
+use Rattle.mcs_disk.specs.declared.call_record.CallRecord.{CallRecord}
+use Rattle.mcs_host.specs.declared.ending.Ending.{Ending}
 
 -- The premise on the host, and on programs that write the file without asking for its lock: what is
 -- found in the file after the end is an image after the calls by then, of which a write that was
 -- under way is one that failed.
-abbrev pub IsHonest : CallRecord → Type 0
-IsHonest history = images_after history.start history.calls_by_the_end history.found
+abbrev pub IsHonest : CallRecord → Ending → Type 0
+IsHonest history end = images_after history.start end.calls_by_the_end end.found
 
--- what contracts see of a file that has that many faults, these bytes and this record of calls
-abbrev pub file_state : ℕ → List ℕ → CallRecord → DiskState
-file_state faults bytes history =
-    called_disk (IsHonest history) faults bytes history.start history.calls
+-- what contracts see of a file that has that many faults, these bytes, this record of calls and this
+-- end
+abbrev pub file_state : ℕ → List ℕ → CallRecord → Ending → DiskState
+file_state faults bytes history end =
+    called_disk (IsHonest history end) faults bytes history.start history.calls
 
 -- a disk that no call has reached, all of whose bytes are there after a power cut
 pub record IsOpened (disk : DiskState) : Type 0 where

@@ -3,10 +3,10 @@ ghost use Rattle.std.specs.Prelude.{◌≡◌, ◌↔◌, ◌<◌, ◌≤◌, �
 ghost use Rattle.mcs_disk.specs.Disk.{most_faults, part, IsCall, Reads, Torn, Writes};
 ghost use Rattle.mcs_disk.specs.Calls.{bytes_after};
 
-use crate::call_record::{Call, CallRecord};
+use crate::ending::Ending;
 use crate::file_fault::FileFault;
 use crate::opening::{MOST_BYTES, open_and_read};
-use mcs_disk::{Disk, DiskFault, overwrite};
+use mcs_disk::{Call, CallRecord, Disk, DiskFault, overwrite};
 use mcs_journal::FILE_SIZE;
 use std::alloc::{AllocError, Global};
 use std::fs::File;
@@ -28,6 +28,7 @@ pub struct FileDisk {
     bytes: Vec<u8>,
     faults: u64,
     history: CallRecord,
+    end: Ending,
     ghost kept: { bytes.items ≡ bytes_after history.start history.calls },
 }
 
@@ -55,11 +56,13 @@ impl FileDisk {
         let mut bytes = zeros(alloc, MOST_BYTES)?;
         let opened = open_and_read(rt, alloc, file, make, &mut bytes)?;
         let history = CallRecord::new(&bytes);
+        let end = Ending::new(&bytes);
         Ok(FileDisk {
             file: opened,
             bytes,
             faults: 0,
             history,
+            end,
         })
     }
 
@@ -75,6 +78,7 @@ impl FileDisk {
     fn fail(&mut self) -> DiskFault
         ensures bytes { self.new.bytes ≡ self.old.bytes }
         ensures history { self.new.history ≡ self.old.history }
+        ensures end { self.new.end ≡ self.old.end }
         ensures fault { self.new.faults ≡ min (self.old.faults + 1) most_faults }
     {
         self.faults = self.faults.saturating_add(1);

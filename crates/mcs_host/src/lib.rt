@@ -6,8 +6,8 @@
 //! theorem.
 #![tactic(auto)]
 
-mod call_record;
 mod command_line;
+mod ending;
 mod file_disk;
 mod file_fault;
 mod laws;

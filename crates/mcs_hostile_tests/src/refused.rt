@@ -1,4 +1,4 @@
-//! One allocation that is refused, whichever it is: `tools/refuse_allocations` refuses each in turn, the gate none.
+//! One allocation that is refused, whichever it is: `checks/allocations` refuses each in turn, the gate none.
 use crate::first_version::new_file;
 use crate::sessions::{bytes_of, create, disk_behind, open, opened, put, seq_of, serve};
 use arrayvec::ArrayVec;

@@ -1,11 +1,28 @@
 //! Laws of the file format, and of what a power cut leaves of it. The contract of each call is the
 //! law; the call does nothing.
-ghost use Rattle.std.specs.Prelude.{◌⊎◌, ℕ, List};
+ghost use Rattle.std.specs.Prelude.{◌⊎◌, ◌≡◌, ◌∷◌, [], ℕ, List, codes};
 ghost use Rattle.mcs_disk.specs.Moments.{Either, IsDurable, LeavesOnly};
 ghost use Rattle.mcs_disk.specs.PowerCut.{IsLeftByCut};
+ghost use Rattle.mcs_journal.specs.declared.format.TheConstants.{AREA_SIZE, COMMITTED, FILE_SIZE, FIRST_SLOT, HEADER_SIZE, LOG_SIZE, MOST_RECORD, MOST_SNAPSHOT, NAME, NOT_COMMITTED, RECORD_PLACE, SECOND_SLOT, SELECTOR_PLACE, SNAPSHOT_PLACE, STAGE_SIZE, ZEROS, ZEROS_PLACE};
 ghost use Rattle.mcs_journal.specs.File.{Holds, ContentsAreUnique};
 
 use mcs_disk::Disk;
+
+/// The layout of a session file, in bytes: the sizes of the file, its header, a snapshot area, a
+/// log, and both with the first commit byte; the most bytes of a snapshot and of a record; where
+/// selector, zeros, both slots, a snapshot and a record's bytes stand; the commit bytes; the name
+/// and the zeros of the header.
+pub fn layout_is()
+    ensures sizes { FILE_SIZE ∷ HEADER_SIZE ∷ AREA_SIZE ∷ LOG_SIZE ∷ STAGE_SIZE ∷ []
+        ≡ 163_856 ∷ 16 ∷ 16_384 ∷ 65_536 ∷ 16_385 ∷ [] }
+    ensures most { MOST_SNAPSHOT ∷ MOST_RECORD ∷ [] ≡ 16_380 ∷ 8_192 ∷ [] }
+    ensures places { SELECTOR_PLACE ∷ ZEROS_PLACE ∷ FIRST_SLOT ∷ SECOND_SLOT ∷ SNAPSHOT_PLACE
+        ∷ RECORD_PLACE ∷ []
+        ≡ 8 ∷ 9 ∷ 16 ∷ 81_936 ∷ 4 ∷ 3 ∷ [] }
+    ensures commit_bytes { COMMITTED ∷ NOT_COMMITTED ∷ [] ≡ 1 ∷ 0 ∷ [] }
+    ensures name { NAME ≡ codes "MCS4BEN1" }
+    ensures zeros { ZEROS ≡ 0 ∷ 0 ∷ 0 ∷ 0 ∷ 0 ∷ 0 ∷ 0 ∷ [] }
+{}
 
 /// Any file holds at most one snapshot and list of records, so what [`open`](crate::Store::open)
 /// answers is determined by the bytes.

@@ -97,6 +97,7 @@ request_alone word =
     else if bytes_eq word (codes "watches") then Ask query.Watches
     else if bytes_eq word (codes "ports") then Ask query.Ports
     else if bytes_eq word (codes "seq") then Ask query.Seq
+    else if bytes_eq word (codes "state") then Ask query.State
     else if bytes_eq word (codes "board") then Board
     else if bytes_eq word (codes "wire") then Begin Wire
     else if bytes_eq word (codes "asm") then Begin Asm

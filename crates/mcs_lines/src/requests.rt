@@ -97,6 +97,8 @@ fn read_alone(word: &[u8]) -> Request
         Request::Ask(Query::Ports)
     } else if equals(word, b"seq") {
         Request::Ask(Query::Seq)
+    } else if equals(word, b"state") {
+        Request::Ask(Query::State)
     } else if equals(word, b"board") {
         Request::Board
     } else if equals(word, b"wire") {

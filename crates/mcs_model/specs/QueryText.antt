@@ -36,9 +36,9 @@ or_dash text = text
 abbrev pub stretch : List ℕ → ℕ → ℕ → List ℕ
 stretch items from count = take count (drop from items)
 
--- `regs`: the registers of the processor and the TEST pin
-abbrev pub regs_text : Regs → ℕ → List ℕ
-regs_text registers test =
+-- the registers of the processor but its return addresses, and the TEST pin
+abbrev pub registers_text : Regs → ℕ → List ℕ
+registers_text registers test =
     codes "acc " ++ digit_text registers.acc
     ++ codes " cy " ++ digit_text registers.cy
     ++ codes " pc " ++ address_text registers.pc
@@ -46,6 +46,11 @@ regs_text registers test =
     ++ codes " dcl " ++ digit_text registers.dcl
     ++ codes " test " ++ digit_text test
     ++ codes " r " ++ map hex_digit registers.r
+
+-- `regs`: the registers of the processor and the TEST pin
+abbrev pub regs_text : Regs → ℕ → List ℕ
+regs_text registers test =
+    registers_text registers test
     ++ codes " ret " ++ address_text (slice_index registers.ret 0)
     ++ codes " " ++ address_text (slice_index registers.ret 1)
     ++ codes " " ++ address_text (slice_index registers.ret 2)
@@ -170,6 +175,81 @@ ports_lines s =
 abbrev pub seq_text : ℕ → List ℕ
 seq_text seq = codes "seq " ++ decimal seq
 
+-- ---- the state in one line
+
+-- a list in one word: commas between the items, and a dash where there is none
+abbrev pub one_word : List (List ℕ) → List ℕ
+one_word [] = codes "-"
+one_word items = join_with_byte 44 items
+
+-- a bank that has chips: its number, and the SRC byte that it keeps
+abbrev pub bank_items : BusState → ℕ → List (List ℕ)
+bank_items s bank =
+    if nat_lt 0 (chips_of s bank)
+    then (digit_text bank ++ codes "." ++ hex_2 (slice_index s.ram_src bank)) ∷ []
+    else []
+
+-- a ROM that is there: its number, what the latch of its port holds, and what is read there
+abbrev pub rom_items : BusState → ℕ → List (List ℕ)
+rom_items s chip =
+    elim (masks_on s.board chip) [
+      | Some mask ↦
+          (decimal chip
+          ++ codes "." ++ digit_text (slice_index s.rom_ports chip)
+          ++ codes "." ++ digit_text (port_at s chip)) ∷ []
+      | None ↦ []
+    ]
+
+-- a RAM chip: its bank, its number, and what the latch of its port holds
+abbrev pub ram_item : BusState → ℕ → ℕ → List ℕ
+ram_item s bank chip =
+    digit_text bank ++ codes "." ++ digit_text chip
+    ++ codes "." ++ digit_text (slice_index s.ram_ports (bank * 4 + chip))
+
+-- the RAM chips of a bank
+abbrev pub ram_items : BusState → ℕ → List (List ℕ)
+ram_items s bank = map (ram_item s bank) (range_with_len 0 (chips_of s bank))
+
+-- the bits of a chain, bit 0 first
+abbrev pub chain_item : BusState → ℕ → List ℕ
+chain_item s n = map (λ i. hex_digit (chain_bit s n i)) (range_with_len 0 (chain_bits s.board n))
+
+-- the key of a row and a column, where it is down
+abbrev pub key_item : BusState → ℕ → ℕ → List (List ℕ)
+key_item s row column =
+    if slice_index s.keys (key_place s.board row column) == 1
+    then (digit_text row ++ codes "." ++ digit_text column) ∷ []
+    else []
+
+-- the keys of a row that are down
+abbrev pub row_items : BusState → ℕ → ℕ → List (List ℕ)
+row_items s columns row = flat_map (key_item s row) (range_with_len 0 columns)
+
+-- the keys that are down, row by row
+abbrev pub key_items : BusState → List (List ℕ)
+key_items s =
+    elim s.board.keys [
+      | Some m ↦ flat_map (row_items s (length m.columns.items)) (range_with_len 0 m.rows)
+      | None ↦ []
+    ]
+
+-- `state`: all that is not ROM or RAM, each part as a key and one word
+abbrev pub state_text : BenchState → List ℕ
+state_text s =
+    codes "state " ++ seq_text s.seq
+    ++ codes " " ++ registers_text s.processor s.bus.test
+    ++ codes " ret " ++ one_word (map address_text s.processor.ret)
+    ++ codes " src " ++ hex_2 s.bus.rom_src
+    ++ codes " banks " ++ one_word (flat_map (bank_items s.bus) (range_with_len 0 BANKS))
+    ++ codes " roms " ++ one_word (flat_map (rom_items s.bus) (range_with_len 0 ROMS))
+    ++ codes " rams " ++ one_word (flat_map (ram_items s.bus) (range_with_len 0 BANKS))
+    ++ codes " chains "
+    ++ one_word (map (chain_item s.bus) (range_with_len 0 (chain_count s.bus.board)))
+    ++ codes " keys " ++ one_word (key_items s.bus)
+    ++ codes " " ++ lamps_text s.bus
+    ++ codes " breaks " ++ one_word (map address_text s.breakpoints)
+    ++ codes " watches " ++ one_word (map watch_text s.watches)
+
 -- the answer to a query
 abbrev pub text : Query → BenchState → List ℕ
 text query.Lamps s = lamps_text s.bus
@@ -179,3 +259,4 @@ text query.Breaks s = breaks_text s.breakpoints
 text query.Watches s = watches_text s.watches
 text query.Ports s = join_with_byte 10 (ports_lines s.bus)
 text query.Seq s = seq_text s.seq
+text query.State s = state_text s

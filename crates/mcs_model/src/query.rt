@@ -19,4 +19,6 @@ pub enum Query {
     Ports,
     /// How many commands were accepted.
     Seq,
+    /// All that is not ROM or RAM, in one line.
+    State,
 }

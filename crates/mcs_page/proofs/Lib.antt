@@ -1,3 +1,2 @@
-pub mod ByteKept
+pub mod Carried
 pub mod Served
-pub mod Sizes

@@ -1,11 +1,12 @@
 -- What a call of the page does with the bytes of a session file.
-use Rattle.std.specs.Prelude.{◌≡◌, ◌≤◌, ◌<◌, ℕ, List, [], Option, Some, length, take, drop}
+use Rattle.std.specs.Prelude.{◌≡◌, ◌≤◌, ◌<◌, ℕ, List, [], IsTrue, Option, Some, length, take, drop}
 use Rattle.mcs_disk.specs.Disk.{DiskState}
 use Rattle.mcs_journal.specs.declared.fault.OpenFault.{OpenFault}
 use Rattle.mcs_journal.specs.declared.fault.OpenFault.TheVariants as open_fault
 use Rattle.mcs_model.specs.BenchState.{BenchState, new_bench_state}
-use Rattle.mcs_page.specs.ByteDisk.{IsFresh, byte_disk_state}
-use Rattle.mcs_page.specs.declared.byte_disk.ByteDisk.{ByteDisk}
+use Rattle.mcs_disk.specs.Moments.{IsFresh}
+use Rattle.mcs_disk.specs.States.{mem_disk_state}
+use Rattle.mcs_disk.specs.declared.memory.MemDisk.{MemDisk}
 use Rattle.mcs_page.specs.declared.fault.NotServed.{NotServed}
 use Rattle.mcs_page.specs.declared.fault.NotServed.TheVariants.{Refused, NoRoom}
 use Rattle.mcs_session.specs.Answers.{RefusesSession}
@@ -27,27 +28,27 @@ abbrev pub IsNewFile : List ℕ → Type 0
 IsNewFile file = StandsFor file new_bench_state
 
 -- the session of a file goes on: a disk that has its bytes was opened
-pub record Resumes (file : List ℕ) (session : SessionView ByteDisk) : Type 0 where
-  pub disk : ByteDisk
-  pub held : IsFresh file (byte_disk_state disk)
-  pub begun : GoesOnWith (byte_disk_state disk) (byte_disk_state session.disk) session.live
+pub record Resumes (file : List ℕ) (session : SessionView MemDisk) : Type 0 where
+  pub disk : MemDisk
+  pub held : IsFresh file (mem_disk_state disk)
+  pub begun : GoesOnWith (mem_disk_state disk) (mem_disk_state session.disk) session.live
       session.state
 
 -- The session that the bytes of a file hold went on, the shell read this input and wrote these
 -- answers, and left the session so.
 pub record WentOn (file input : List ℕ) (end : ShellEnd) (answers : List ℕ)
-    (left : SessionView ByteDisk) : Type 0 where
-  pub session : SessionView ByteDisk
+    (left : SessionView MemDisk) : Type 0 where
+  pub session : SessionView MemDisk
   pub resumes : Resumes file session
   pub rest : Option (List ℕ)
-  pub ran : Ran end (Some input) rest (staged byte_disk_state session (Some []))
-      (staged byte_disk_state left (Some answers))
+  pub ran : Ran end (Some input) rest (staged mem_disk_state session (Some []))
+      (staged mem_disk_state left (Some answers))
 
 -- the same, and these are the bytes that the session's disk has then
 pub record ServedOn (file input : List ℕ) (end : ShellEnd) (answers after : List ℕ) : Type 0 where
-  pub left : SessionView ByteDisk
+  pub left : SessionView MemDisk
   pub went : WentOn file input end answers left
-  pub kept : HasBytes after (byte_disk_state left.disk)
+  pub kept : HasBytes after (mem_disk_state left.disk)
 
 -- all of the input was served, or as much of it as a shell reads
 abbrev pub IsWhole : ShellEnd → Type 0
@@ -55,12 +56,13 @@ IsWhole End = Unit {0}
 IsWhole InputLimit = Unit {0}
 IsWhole end = ⊥
 
--- all of the input was served, with these answers, and left the session so
+-- all of the input was served, with these answers, and left the session so: it is open
 pub record HasServed (file input : List ℕ) (end : ShellEnd) (answers : List ℕ)
-    (left : SessionView ByteDisk) : Type 0 where
+    (left : SessionView MemDisk) : Type 0 where
   pub whole : IsWhole end
   pub went : WentOn file input end answers left
-  pub size : (byte_disk_state left.disk).size ≡ length file
+  pub is_open : IsTrue left.live
+  pub size : (mem_disk_state left.disk).size ≡ length file
 
 -- the input was served, and the answers are that many bytes at the front of the buffer
 pub record Answers (file input : List ℕ) (end : ShellEnd) (count : ℕ)
@@ -75,8 +77,8 @@ pub record Answers (file input : List ℕ) (end : ShellEnd) (count : ℕ)
 abbrev pub IsRefused : OpenFault → List ℕ → Type 0
 IsRefused open_fault.NoMemory file = Unit {0}
 IsRefused open_fault.Device file = ⊥
-IsRefused fault file = (disk : ByteDisk) × IsFresh file (byte_disk_state disk)
-    × RefusesSession fault (byte_disk_state disk)
+IsRefused fault file = (disk : MemDisk) × IsFresh file (mem_disk_state disk)
+    × RefusesSession fault (mem_disk_state disk)
 
 -- this input was served whole: its answers are that many bytes, more than the buffer has room for
 pub record LacksRoom (file input : List ℕ) (count room : ℕ) : Type 0 where
@@ -95,8 +97,8 @@ IsWhyNot (NoRoom count) file input room = LacksRoom file input count room
 
 -- the disk of a session stood for its state, and these bytes hold a snapshot of that state and no
 -- records
-pub record SettlesTo (session : SessionView ByteDisk) (file : List ℕ) : Type 0 where
-  pub stood : StandsFor (byte_disk_state session.disk).bytes session.state
+pub record SettlesTo (session : SessionView MemDisk) (file : List ℕ) : Type 0 where
+  pub stood : StandsFor (mem_disk_state session.disk).bytes session.state
   pub holds : HoldsState file session.state
 
 -- the file stood for a state, and now it holds a snapshot of that state and no records

@@ -1,25 +1,26 @@
 //! Sessions on disks in memory, from the bytes of a file and back.
-ghost use Rattle.std.specs.Prelude.{◌≡◌, length, IfErr, IfOk, OnErr, OnOk};
-ghost use Rattle.mcs_page.specs.ByteDisk.{IsFresh, byte_disk_state};
+ghost use Rattle.std.specs.Prelude.{◌≡◌, length, IfErr, IfOk, IsTrue};
+ghost use Rattle.mcs_disk.specs.Moments.{IsFresh};
+ghost use Rattle.mcs_disk.specs.States.{mem_disk_state};
 ghost use Rattle.mcs_page.specs.Page.{IsRefused, Resumes, SettlesTo};
 
-use crate::byte_disk::ByteDisk;
+use mcs_disk::MemDisk;
 use mcs_journal::OpenFault;
 use mcs_session::session::Session;
 use std::alloc::{AllocError, Global};
 
 /// A disk that holds a copy of these bytes.
-fn disk_of(alloc: Global, file: &[u8]) -> Result<ByteDisk, AllocError>
-    ensures { IfOk result (λ disk. IsFresh file.now (byte_disk_state disk)) }
+fn disk_of(alloc: Global, file: &[u8]) -> Result<MemDisk, AllocError>
+    ensures { IfOk result (λ disk. IsFresh file.now (mem_disk_state disk)) }
 {
     // zeros, and then all bytes at once: `to_vec` goes byte by byte
     let mut bytes = vec![in alloc; 0u8; file.len()]?;
     bytes.copy_from_slice(file);
-    Ok(ByteDisk::new(bytes))
+    Ok(MemDisk::with_bytes(bytes))
 }
 
 /// Opens the session that the bytes of a file hold, on a copy of them.
-pub(crate) fn resume(alloc: Global, file: &[u8]) -> Result<Session<ByteDisk>, OpenFault>
+pub(crate) fn resume(alloc: Global, file: &[u8]) -> Result<Session<MemDisk>, OpenFault>
     ensures resumed { IfOk result (λ session. Resumes file.now session) }
     ensures refused { IfErr result (λ fault. IsRefused fault file.now) }
 {
@@ -30,29 +31,28 @@ pub(crate) fn resume(alloc: Global, file: &[u8]) -> Result<Session<ByteDisk>, Op
         Ok(session) => Ok(session),
         Err((OpenFault::NotASession, _)) => Err(OpenFault::NotASession),
         Err((OpenFault::Damaged, _)) => Err(OpenFault::Damaged),
-        // bytes in memory have no fault
+        // a disk in memory has no fault
         Err((OpenFault::Device | OpenFault::NoMemory, _)) => Err(OpenFault::NoMemory),
     }
 }
 
 /// Puts the bytes of a disk in the place of a file's.
-pub(crate) fn write_back(disk: &ByteDisk, file: &mut [u8])
-    requires size { length file.old ≡ (byte_disk_state disk.now).size }
-    ensures written { file.new ≡ (byte_disk_state disk.now).bytes }
+pub(crate) fn write_back(disk: &MemDisk, file: &mut [u8])
+    requires size { length file.old ≡ (mem_disk_state disk.now).size }
+    ensures written { file.new ≡ (mem_disk_state disk.now).bytes }
 {
     file.copy_from_slice(disk.bytes());
 }
 
-/// Puts a snapshot in the place of the records of a session, and the bytes of its disk in the place
-/// of a file's.
-pub(crate) fn settle_into(mut session: Session<ByteDisk>, file: &mut [u8]) -> Result<(), AllocError>
-    requires size { length file.old ≡ (byte_disk_state session.disk).size }
-    ensures settled { OnOk result (SettlesTo session file.new) }
-    ensures stays { OnErr result (file.new ≡ file.old) }
+/// Puts a snapshot in the place of the records of an open session, and the bytes of its disk in the
+/// place of a file's. On a disk that has no fault it cannot fail.
+pub(crate) fn settle_into(mut session: Session<MemDisk>, file: &mut [u8])
+    requires open { IsTrue session.live }
+    requires size { length file.old ≡ (mem_disk_state session.disk).size }
+    ensures settled { SettlesTo session file.new }
 {
     let Ok(()) = session.settle() else {
-        return Err(AllocError);
+        unreachable!()
     };
     write_back(&session.into_disk(), file);
-    Ok(())
 }

@@ -2,10 +2,6 @@
 //! and the file's bytes out.
 #![tactic(auto)]
 
-mod byte_disk;
-mod call_record;
 mod disks;
 pub mod fault;
 pub mod page;
-
-pub use byte_disk::ByteDisk;

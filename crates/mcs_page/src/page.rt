@@ -4,9 +4,9 @@ ghost use Rattle.mcs_page.specs.Page.{Answers, AnswersAndSettles, HasServed, IsN
 ghost use Rattle.mcs_page.specs.Page.{IsWhole, IsWhyNot, StandsForTheSame, WouldAnswer};
 ghost use Rattle.mcs_journal.specs.declared.format.TheConstants.{FILE_SIZE};
 
-use crate::byte_disk::ByteDisk;
 use crate::disks::{resume, settle_into, write_back};
 use crate::fault::NotServed;
+use mcs_disk::MemDisk;
 use mcs_journal::{FILE_SIZE, OpenFault};
 use mcs_session::session::Session;
 use mcs_shell::ends::ShellEnd;
@@ -25,7 +25,7 @@ pub struct Served {
 /// A session that has served input, and what it answered.
 #[derive(Drop)]
 struct Answered {
-    session: Session<ByteDisk>,
+    session: Session<MemDisk>,
     end: ShellEnd,
     told: Vec<u8>,
 }
@@ -36,7 +36,7 @@ pub fn begin(alloc: Global, file: &mut [u8]) -> Result<(), AllocError>
     ensures made { OnOk result (IsNewFile file.new) }
     ensures stays { OnErr result (file.new ≡ file.old) }
 {
-    let disk = ByteDisk::new(vec![in alloc; 0u8; FILE_SIZE]?);
+    let disk = MemDisk::new(alloc, FILE_SIZE)?;
     let Ok(begun) = Session::create(alloc, disk) else {
         return Err(AllocError);
     };
@@ -82,14 +82,14 @@ fn serve_on(alloc: Global, file: &[u8], input: &[u8], room: usize) -> Result<Ans
 }
 
 /// Writes what was told to the front of a buffer, and answers how many bytes that are.
-fn tell(answers: &mut [u8], told: &Vec<u8>) -> usize
-    requires room { length told.now.items ≤ length answers.old }
-    ensures count { result ≡ length told.now.items }
-    ensures told { take result answers.new ≡ told.now.items }
+fn tell(answers: &mut [u8], told: &[u8]) -> usize
+    requires room { length told.now ≤ length answers.old }
+    ensures count { result ≡ length told.now }
+    ensures told { take result answers.new ≡ told.now }
     ensures rest { drop result answers.new ≡ drop result answers.old }
 {
     let count = told.len();
-    answers[..count].copy_from_slice(told.as_slice());
+    answers[..count].copy_from_slice(told);
     count
 }
 
@@ -138,9 +138,7 @@ pub fn serve_and_settle(
         Ok(answered) => answered,
         Err(why) => return Err(why),
     };
-    let Ok(()) = settle_into(session, file) else {
-        return Err(NotServed::Refused(OpenFault::NoMemory));
-    };
+    settle_into(session, file);
     let count = tell(answers, &told);
     Ok(Served { end, count })
 }
@@ -181,8 +179,6 @@ pub fn settle(alloc: Global, file: &mut [u8]) -> Result<(), OpenFault>
         Ok(session) => session,
         Err(fault) => return Err(fault),
     };
-    match settle_into(session, file) {
-        Ok(()) => Ok(()),
-        Err(AllocError) => Err(OpenFault::NoMemory),
-    }
+    settle_into(session, file);
+    Ok(())
 }

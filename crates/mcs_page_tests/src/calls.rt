@@ -1,7 +1,8 @@
 //! The calls of the page: sessions over several calls, refused files, buffers that are too short.
 use crate::checks::equal;
 use crate::files::{
-    CARRIED_OVER, answers, copy, expect_answers, file_of_version_1, new_file, put, served, settled,
+    CALLS, CARRIED_OVER, Call, answers, copy, expect_answers, expect_answers_by, file_of_version_1,
+    new_file, put, served, settled,
 };
 use mcs_disk::{Disk, MemDisk};
 use mcs_journal::{FILE_SIZE, OpenFault};
@@ -124,11 +125,58 @@ fn a_settled_file_of_version_1_is_carried_over(rt: HostRuntime) {
     expect_carried_over(alloc, &rt, file.as_mut_slice());
 }
 
-/// A file is refused by this fault, in both calls, and stays as it was.
+/// An input that is served and settled in one call has the answers and leaves the bytes that two
+/// calls have and leave.
+fn expect_both_at_once(alloc: Global, rt: &impl Abort, file: &mut [u8], row: (&[u8], &[u8])) {
+    let mut other = copy(alloc, rt, file);
+    expect_answers(alloc, rt, other.as_mut_slice(), row);
+    equal(rt, settled(alloc, other.as_mut_slice()), Ok(()));
+    expect_answers_by(alloc, rt, Call::ServeAndSettle, file, row);
+    assert!(rt; other.as_slice() == file);
+}
+
+#[test]
+fn serving_and_settling_at_once(rt: HostRuntime) {
+    let alloc = rt.alloc();
+    let mut file = new_file(alloc, &rt);
+    for row in [(FIRST, FIRST_ANSWERS), (SECOND, SECOND_ANSWERS)] {
+        expect_both_at_once(alloc, &rt, file.as_mut_slice(), row);
+        equal(&rt, commit_byte(file.as_slice()), Some(0));
+    }
+    let mut first_version = file_of_version_1(alloc, &rt);
+    let row: (&[u8], &[u8]) = (b"regs\n", CARRIED_OVER);
+    expect_both_at_once(alloc, &rt, first_version.as_mut_slice(), row);
+    expect_carried_over(alloc, &rt, first_version.as_mut_slice());
+}
+
+#[test]
+fn questions_leave_the_file(rt: HostRuntime) {
+    let alloc = rt.alloc();
+    let mut file = new_file(alloc, &rt);
+    let before = copy(alloc, &rt, file.as_slice());
+    // commands too are answered, as if they were done; asked again, they are answered alike
+    for _ in 0..2 {
+        let row = (FIRST, FIRST_ANSWERS);
+        expect_answers_by(alloc, &rt, Call::Ask, file.as_mut_slice(), row);
+        assert!(rt; file.as_slice() == before.as_slice());
+    }
+    expect_answers(alloc, &rt, file.as_mut_slice(), (FIRST, FIRST_ANSWERS));
+    expect_answers_by(
+        alloc,
+        &rt,
+        Call::Ask,
+        file.as_mut_slice(),
+        (SECOND, SECOND_ANSWERS),
+    );
+}
+
+/// A file is refused by this fault, in every call, and stays as it was.
 fn expect_refused(alloc: Global, rt: &impl Abort, file: &[u8], fault: OpenFault) {
     let mut kept = copy(alloc, rt, file);
-    let why = answers(alloc, rt, kept.as_mut_slice(), SECOND).err();
-    equal(rt, why, Some(NotServed::Refused(fault)));
+    for call in CALLS {
+        let why = answers(alloc, rt, call, kept.as_mut_slice(), SECOND).err();
+        equal(rt, why, Some(NotServed::Refused(fault)));
+    }
     equal(rt, settled(alloc, kept.as_mut_slice()), Err(fault));
     assert!(rt; kept.as_slice() == file);
 }
@@ -180,8 +228,10 @@ fn expect_no_room(alloc: Global, rt: &impl Abort, file: &mut [u8], room: usize) 
     let Some(short) = buffer.get_mut(..room) else {
         panic!(rt; "a short buffer");
     };
-    let why = served(alloc, file, FIRST, short).err();
-    equal(rt, why, Some(NotServed::NoRoom(FIRST_ANSWERS.len())));
+    for call in CALLS {
+        let why = served(alloc, call, file, FIRST, short).err();
+        equal(rt, why, Some(NotServed::NoRoom(FIRST_ANSWERS.len())));
+    }
     equal(rt, buffer, [b'#'; 128]);
 }
 
@@ -189,7 +239,7 @@ fn expect_no_room(alloc: Global, rt: &impl Abort, file: &mut [u8], room: usize) 
 fn expect_room(alloc: Global, rt: &impl Abort, file: &mut [u8]) {
     let count = FIRST_ANSWERS.len();
     let mut buffer = [b'#'; 128];
-    let Ok(served) = served(alloc, file, FIRST, &mut buffer) else {
+    let Ok(served) = served(alloc, Call::Serve, file, FIRST, &mut buffer) else {
         panic!(rt; "not served");
     };
     equal(rt, served.count, count);

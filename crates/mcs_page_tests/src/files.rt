@@ -3,7 +3,7 @@ use crate::checks::equal;
 use mcs_fixtures::files::{NEW_BENCH, POKE};
 use mcs_journal::{FILE_SIZE, OpenFault};
 use mcs_page::fault::NotServed;
-use mcs_page::page::{Served, begin, serve, settle};
+use mcs_page::page::{Served, ask, begin, serve, serve_and_settle, settle};
 use mcs_shell::ends::ShellEnd;
 use std::alloc::Global;
 use std::process::Abort;
@@ -47,14 +47,30 @@ pub(crate) fn file_of_version_1(alloc: Global, rt: &impl Abort) -> Vec<u8> {
 pub(crate) const CARRIED_OVER: &[u8] =
     b"session 1\nacc 0 cy 0 pc 000 owed 0 dcl 0 test 1 r 0000090000000000 ret 000 000 000\n";
 
-/// Serves an input on a file, with the answers put into a buffer.
+/// A call that answers an input.
+#[derive(Clone, Copy)]
+pub(crate) enum Call {
+    Serve,
+    ServeAndSettle,
+    Ask,
+}
+
+/// All of them.
+pub(crate) const CALLS: [Call; 3] = [Call::Serve, Call::ServeAndSettle, Call::Ask];
+
+/// Has an input answered on a file, with the answers put into a buffer.
 pub(crate) fn served(
     alloc: Global,
+    call: Call,
     file: &mut [u8],
     input: &[u8],
     buffer: &mut [u8],
 ) -> Result<Served, NotServed> {
-    serve(alloc, file, input, buffer)
+    match call {
+        Call::Serve => serve(alloc, file, input, buffer),
+        Call::ServeAndSettle => serve_and_settle(alloc, file, input, buffer),
+        Call::Ask => ask(alloc, file, input, buffer),
+    }
 }
 
 /// Puts a snapshot in the place of a file's records.
@@ -62,28 +78,35 @@ pub(crate) fn settled(alloc: Global, file: &mut [u8]) -> Result<(), OpenFault> {
     settle(alloc, file)
 }
 
-/// Serves an input on a file: the answers, or why it was not served.
+/// Has an input answered on a file: the answers, or why there are none.
 pub(crate) fn answers(
     alloc: Global,
     rt: &impl Abort,
+    call: Call,
     file: &mut [u8],
     input: &[u8],
 ) -> Result<Vec<u8>, NotServed> {
     let mut buffer = vec![in alloc; 0u8; 65_536].expect(rt, "memory");
-    let served = served(alloc, file, input, buffer.as_mut_slice())?;
+    let served = served(alloc, call, file, input, buffer.as_mut_slice())?;
     equal(rt, served.end, ShellEnd::End);
     buffer.truncate(served.count);
     Ok(buffer)
 }
 
 /// An input is served on a file with these answers.
-pub(crate) fn expect_answers(
+pub(crate) fn expect_answers(alloc: Global, rt: &impl Abort, file: &mut [u8], row: (&[u8], &[u8])) {
+    expect_answers_by(alloc, rt, Call::Serve, file, row);
+}
+
+/// A call has these answers to an input.
+pub(crate) fn expect_answers_by(
     alloc: Global,
     rt: &impl Abort,
+    call: Call,
     file: &mut [u8],
     (input, wanted): (&[u8], &[u8]),
 ) {
-    match answers(alloc, rt, file, input) {
+    match answers(alloc, rt, call, file, input) {
         Ok(told) => equal(rt, told.as_slice(), wanted),
         Err(_) => panic!(rt; "not served"),
     }

@@ -1,8 +1,8 @@
-//! One allocation that is refused, whichever it is: `tools/refuse_allocations` refuses each in turn,
+//! One allocation that is refused, whichever it is: `checks/allocations` refuses each in turn,
 //! and the gate none. A call that found no memory has left file and buffer as they were, and does
 //! its work when it is made again.
 use crate::checks::equal;
-use crate::files::{CARRIED_OVER, put, put_version_1, served, settled};
+use crate::files::{CARRIED_OVER, Call, put, put_version_1, served, settled};
 use mcs_journal::{FILE_SIZE, OpenFault};
 use mcs_page::fault::NotServed;
 use mcs_page::page::{Served, begin};
@@ -87,27 +87,39 @@ impl Desk {
         false
     }
 
-    /// Serves an input, with room for that many bytes of answers.
-    fn serve_once(
+    /// Has an input answered, with room for that many bytes of answers.
+    fn call_once(
         &mut self,
         alloc: Global,
+        call: Call,
         input: &[u8],
         room: usize,
     ) -> Result<Served, NotServed> {
         match self.buffer.get_mut(..room) {
-            Some(answers) => served(alloc, self.file.as_mut_slice(), input, answers),
+            Some(answers) => served(alloc, call, self.file.as_mut_slice(), input, answers),
             None => Err(NotServed::NoRoom(0)),
         }
     }
 
     /// Serves an input, and again where there was no memory.
     fn serve(&mut self, alloc: Global, rt: &impl Abort, input: &[u8], room: usize) -> Told {
+        self.call(alloc, rt, Call::Serve, (input, room))
+    }
+
+    /// Has an input answered, and again where there was no memory.
+    fn call(
+        &mut self,
+        alloc: Global,
+        rt: &impl Abort,
+        call: Call,
+        (input, room): (&[u8], usize),
+    ) -> Told {
         self.prepare(rt);
-        let first = self.serve_once(alloc, input, room);
+        let first = self.call_once(alloc, call, input, room);
         if let Err(NotServed::Refused(fault)) = first {
             equal(rt, fault, OpenFault::NoMemory);
             self.expect_untouched(rt);
-            let again = self.serve_once(alloc, input, room);
+            let again = self.call_once(alloc, call, input, room);
             return Told {
                 count: count_of(rt, again),
                 is_second: true,
@@ -294,8 +306,21 @@ fn serve_second(
     }
 }
 
-/// Begins a file, serves both inputs, and settles the file between them. It answers what was
-/// refused.
+/// Asks for the count of commands, and again by the call that settles: both answer the same.
+fn ask_and_settle(alloc: Global, rt: &impl Abort, desk: &mut Desk, refusals: &mut Refusals) {
+    let asked = desk.call(alloc, rt, Call::Ask, (b"seq\n", 128));
+    refusals.note(rt, asked.is_second, "the question");
+    let answers = desk.buffer;
+    let settled = desk.call(alloc, rt, Call::ServeAndSettle, (b"seq\n", 128));
+    refusals.note(rt, settled.is_second, "the input settled");
+    // `session N` and `seq N`
+    equal(rt, asked.count, Ok(16));
+    equal(rt, settled.count, Ok(16));
+    equal(rt, desk.buffer, answers);
+}
+
+/// Begins a file, serves both inputs, settles the file between them, and has a question answered by
+/// the other calls. It answers what was refused.
 fn begin_and_serve(alloc: Global, rt: &impl Abort) -> &'static str {
     let Ok(mut desk) = Desk::new(alloc) else {
         return "a file";
@@ -306,6 +331,7 @@ fn begin_and_serve(alloc: Global, rt: &impl Abort) -> &'static str {
     let second = serve_first(alloc, rt, &mut desk, &mut refusals);
     refusals.note(rt, desk.settle(alloc, rt), "the file settled");
     serve_second(alloc, rt, &mut desk, &mut refusals, second);
+    ask_and_settle(alloc, rt, &mut desk, &mut refusals);
     refusals.told
 }
 

@@ -7,7 +7,6 @@ use Rattle.mcs_shell.specs.declared.outcome.Halt.{Halt}
 use Rattle.mcs_shell.specs.declared.outcome.Halt.TheVariants as halt
 use Rattle.mcs_model.specs.declared.limits.TheConstants.{INPUT_BYTES}
 use Rattle.mcs_shell.specs.Inputs.{Input, inputs}
-use Rattle.mcs_shell.specs.declared.shell.TheConstants.{CHUNK_BYTES}
 use Rattle.mcs_disk.specs.Disk.{DiskState}
 use Rattle.mcs_session.specs.Standing.{Premise, SessionState, SessionView}
 use Rattle.mcs_shell.specs.Stage.{KnownBytes, Stage, staged, with_out}
@@ -54,7 +53,7 @@ pub record IsNear (bytes : List ℕ) (answered : List Input) : Type 0 where
   pub before : List ℕ
   pub ahead : List ℕ
   pub parts : bytes ≡ before ++ ahead
-  pub few : length ahead ≤ CHUNK_BYTES
+  pub few : length ahead ≤ 4_096
   pub more : List Input
   pub answered_are : answered ≡ inputs before false ++ more
 

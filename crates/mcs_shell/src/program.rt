@@ -43,7 +43,7 @@ fn given_words(rt: &HostRuntime) -> Result<Vec<String>, WordsFault> {
 
 /// Tells why there is no session.
 pub fn refuse(rt: &HostRuntime, number: u8) -> io::Result<ExitCode>
-    ensures { IfOk result (λ code. exit_status code ≡ REFUSED) }
+    ensures { IfOk result (λ code. exit_status code ≡ 3) }
 {
     println!(rt; "no {number}")?;
     Ok(ExitCode::from(REFUSED))
@@ -52,9 +52,9 @@ pub fn refuse(rt: &HostRuntime, number: u8) -> io::Result<ExitCode>
 /// Tells that the words choose nothing, or that there was no memory to read them.
 pub fn refuse_words(rt: &HostRuntime, fault: WordsFault) -> io::Result<ExitCode>
     ensures usage { fault ≡ WordsFault.Usage
-        → IfOk result (λ code. exit_status code ≡ WRONG_WORDS) }
+        → IfOk result (λ code. exit_status code ≡ 2) }
     ensures no_memory { fault ≡ WordsFault.NoMemory
-        → IfOk result (λ code. exit_status code ≡ REFUSED) }
+        → IfOk result (λ code. exit_status code ≡ 3) }
 {
     match fault {
         WordsFault::Usage => {
@@ -143,11 +143,11 @@ pub fn serve<R: Read, W: Write, D: Disk + Drop>(
 
 /// Runs the bench by these words, the program's name first: session, shell, exit status.
 pub fn run_words<S: AsStr>(rt: &HostRuntime, words: &[S]) -> io::Result<ExitCode>
-    ensures usage { IfOk result (λ code. exit_status code ≡ WRONG_WORDS
+    ensures usage { IfOk result (λ code. exit_status code ≡ 2
         → takes_words (map S.text words.entry.now) ≡ true
         → chosen (map S.text words.entry.now) ≡ None) }
-    ensures status { IfOk result (λ code. (exit_status code ≡ WRONG_WORDS)
-        ⊎ ((exit_status code ≡ REFUSED)
+    ensures status { IfOk result (λ code. (exit_status code ≡ 2)
+        ⊎ ((exit_status code ≡ 3)
         ⊎ ServedAsChosen as_disk (chosen (map S.text words.entry.now)) (exit_status code))) }
 {
     let choice = match choice(rt.alloc(), words) {

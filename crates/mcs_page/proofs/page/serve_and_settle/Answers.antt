@@ -4,7 +4,7 @@ use Rattle.mcs_page.proofs.page.serve_and_settle.Goals as goal
 
 pub returns-clause-served : goal.returns-clause-served
 returns-clause-served c =
-    let settled = c.in-Ok-settle_into.ensures.settled in
+    let settled = c.settle_into.ensures in
     record {
       between = c.in-Ok.answered.session.disk.bytes.items;
       answers = answers_of _ _ _ _ _ _ _ _ _ c.in-Ok.ensures.served c.in-Ok.ensures.room c.tell-count.ensures.count c.tell-count.ensures.told c.tell-count.ensures.rest refl;

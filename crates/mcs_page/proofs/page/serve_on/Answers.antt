@@ -1,5 +1,5 @@
-use Rattle.std.proofs.Common.{◌∙◌, Some, refl, rules}
-use Rattle.mcs_page.proofs.Sizes.{keeps_size, size_resumed}
+use Rattle.std.proofs.Common.{◌∙◌, IsTrue, Some, refl, rules, subst, sym}
+use Rattle.mcs_page.proofs.Carried.{keeps_open, keeps_size, size_resumed}
 use Rattle.mcs_page.specs.Page.{IsWhole}
 use Rattle.mcs_page.proofs.page.serve_on.Goals as goal
 
@@ -27,7 +27,8 @@ pub returns-clause-served : goal.returns-clause-served
 returns-clause-served c =
     let whole : IsWhole c.run_shell-end.result = search rules in
     let resumed = c.in-Ok.ensures.resumed in
-    let ran = keeps_size _ _ _ _ _ whole c.run_shell-end.ensures in
+    let size = keeps_size _ _ _ _ _ whole c.run_shell-end.ensures in
+    let stays_open = keeps_open _ _ _ _ _ whole c.run_shell-end.ensures in
     record {
       whole = whole;
       went = record {
@@ -36,5 +37,6 @@ returns-clause-served c =
         rest = Some c.run_shell-end.new.reader.now;
         ran = rw c.new-told.ensures.items at c.run_shell-end.ensures;
       };
-      size = ran ∙ size_resumed c.args.file.now c.in-Ok.session resumed;
+      is_open = subst IsTrue (sym stays_open) resumed.begun.is_open;
+      size = size ∙ size_resumed c.args.file.now c.in-Ok.session resumed;
     }

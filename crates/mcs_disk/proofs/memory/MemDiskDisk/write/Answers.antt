@@ -1,7 +1,7 @@
-use Rattle.std.proofs.Common.{◌≡◌, length, drop, ◌∙◌, ap, rules}
+use Rattle.std.proofs.Common.{◌≡◌, length, drop, ◌∙◌, ap}
 use Rattle.std.proofs.lemmas.List.{take_at}
 use Rattle.mcs_disk.specs.Disk.{put}
-use Rattle.mcs_disk.proofs.MemoryKept.{wrote}
+use Rattle.mcs_disk.proofs.Kept.{was_written}
 use Rattle.mcs_disk.proofs.memory.MemDiskDisk.write.Goals as goal
 
 pub returns-clause-honest : goal.returns-clause-honest
@@ -9,6 +9,4 @@ returns-clause-honest c = λ h.
     let b = c.args.self.now.bytes.items in
     let done : c.overwrite.new.bytes ≡ put c.args.at c.args.from.now b = c.overwrite.ensures ∙ ap (put c.args.at c.args.from.now) c.deref_mut.ensures.value in
     let long : length c.overwrite.new.bytes ≡ c.args.self.now.bytes.len = c.overwrite.auto.bytes ∙ c.deref_mut.ensures.len in
-    let copied : c.in-Ok.copy.items ≡ c.args.from.now = search rules in
-    wrote _ _ b _ _ _ c.args.at c.args.from.now c.in-Ok.copy _ copied c.in_ok-keep.ensures.ok
-    (take_at c.overwrite.new.bytes (drop (length c.overwrite.new.bytes) b) _ long ∙ done) c.requires
+    was_written _ _ _ _ b _ _ _ c.args.at c.args.from.now _ c.note.ensures (take_at c.overwrite.new.bytes (drop (length c.overwrite.new.bytes) b) _ long ∙ done) c.requires

@@ -1,0 +1,166 @@
+// Compares modules of the bench with one another: `node compare_modules.mjs EXAMPLES COUNT MODULE MODULE..`. The same COUNT seeded sessions run
+// on all of them: what each call tells, its answers, and each byte of the file after it have to be the same, on files that are damaged
+// or have another size too. On the first module also: serving and settling in one call is serving, then settling, to the byte; asking
+// answers as serving does, and leaves the file; and the file of a session settles. EXAMPLES is the folder of the examples.
+import { readFileSync } from "node:fs";
+import { join } from "node:path";
+
+const [examples, count, ...paths] = process.argv.slice(2);
+const ROOM = 1n << 20n;
+const FILE_ROOM = 1n << 18n;
+
+// A module with a file, an input and the answers.
+class Desk {
+  constructor(path) {
+    this.calls = new WebAssembly.Instance(new WebAssembly.Module(readFileSync(path)), {}).exports;
+    this.file = this.calls.page_buffer(FILE_ROOM);
+    this.input = this.calls.page_buffer(ROOM);
+    this.answers = this.calls.page_buffer(ROOM);
+    this.told = this.calls.page_buffer(16n);
+    this.size = 0;
+  }
+
+  view(place, size) {
+    return new Uint8Array(this.calls.memory.buffer, Number(place), size);
+  }
+
+  begin() {
+    this.size = Number(this.calls.page_file_size());
+    return { done: this.calls.page_begin(this.file, BigInt(this.size)) !== 0 };
+  }
+
+  settle() {
+    return { done: this.calls.page_settle(this.file, BigInt(this.size)) !== 0 };
+  }
+
+  serve(name, text) {
+    const input = Buffer.from(text, "latin1");
+    this.view(this.input, input.length).set(input);
+    const words = [this.file, BigInt(this.size), this.input, BigInt(input.length), this.answers, ROOM, this.told];
+    const done = this.calls[name](...words) !== 0;
+    const told = new DataView(this.calls.memory.buffer, Number(this.told), 16);
+    const [number, bytes] = [told.getUint32(0, true), Number(told.getBigUint64(8, true))];
+    const answers = done ? Buffer.from(this.view(this.answers, bytes)).toString("latin1") : "";
+    return { done, number, bytes, answers };
+  }
+
+  get() {
+    return Buffer.from(this.view(this.file, this.size).slice());
+  }
+
+  put(file) {
+    this.size = file.length;
+    this.view(this.file, file.length).set(file);
+  }
+}
+
+let seed = 20261124;
+function below(limit) {
+  seed = (Math.imul(seed, 1103515245) + 12345) >>> 0;
+  return (seed >>> 8) % limit;
+}
+const pick = (list) => list[below(list.length)];
+
+const BOARDS = [
+  readFileSync(join(examples, "calculator/board.toml"), "latin1"),
+  readFileSync(join(examples, "three_lamps/board.toml"), "latin1"),
+  'rom = [{ chip = 0, port = "1i0i" }, { chip = 3, port = "0000" }]\nram = [{ bank = 7, chips = 2 }, { bank = 1, chips = 4 }]\n',
+  "[[rom]]\nchip = 16\n", "",
+];
+const PROGRAM = readFileSync(join(examples, "calculator/calculator.asm"), "latin1");
+
+// A program: the calculator's, or any bytes, so that each instruction comes up with all that it may find.
+function program() {
+  if (below(3) === 0) return `asm\n${PROGRAM}.\n`;
+  const lines = [...Array(1 + below(60))].map(() => `DB ${[...Array(1 + below(16))].map(() => below(256)).join(", ")}`);
+  return `asm\n${lines.join("\n")}\n.\n`;
+}
+
+const LINES = [
+  () => `run ${1 + below(3000)}`, () => `run ${1 + below(3000)}`, () => "run 100000", () => `run ${pick([0, 100001])}`, () => "step",
+  () => `poke ${pick(["acc", "cy", "pc", "dcl", "r0", "r15", "r16", "rom.9", "ram.1.40", "st.2.3.1"])} ${below(20)}`,
+  () => `press ${below(10)} ${below(5)}`, () => `release ${below(10)} ${below(5)}`, () => `test ${below(3)}`, () => "reset",
+  () => `break ${below(400)}`, () => `unbreak ${below(400)}`, () => `watch ${below(9)} ${below(70)}`, () => `unwatch ${below(8)} ${below(64)}`,
+  () => `ram ${below(9)}`, () => `list ${below(4200)} ${below(260)}`, () => "regs\nlamps\nports\nbreaks\nwatches\nboard\nseq",
+  () => `wire\n${pick(BOARDS)}.`, () => program().trimEnd(), () => "foo", () => "\tregs \r", () => "x".repeat(250 + below(10)), () => "caf\u00e9",
+];
+
+function script() {
+  const begun = below(4) ? `wire\n${pick(BOARDS.slice(0, 3))}.\n${program()}` : "";
+  const text = begun + [...Array(2 + below(30))].map(() => `${pick(LINES)()}\n`).join("");
+  // Now and then the input ends in the midst of a line or of a text.
+  return below(6) ? text : text.slice(0, below(text.length));
+}
+
+let made = 0;
+let faults = 0;
+function expect(name, isRight) {
+  made += 1;
+  if (isRight) return;
+  faults += 1;
+  console.error(`compare_modules: ${name}`);
+}
+
+const desks = paths.map((path) => new Desk(path));
+
+// The same on each module. It answers what the first one told.
+function onAll(name, act) {
+  const found = desks.map((desk) => {
+    try {
+      return JSON.stringify(act(desk));
+    } catch (fault) {
+      return String(fault);
+    }
+  });
+  const file = desks[0].get();
+  desks.forEach((desk, at) => expect(`${name}: ${paths[at]} differs from ${paths[0]}`, found[at] === found[0] && desk.get().equals(file)));
+  return found[0];
+}
+
+// What one call that serves and settles promises, and one that asks.
+function tryLaws(name, text) {
+  const [desk] = desks;
+  const before = desk.get();
+  const served = desk.serve("page_serve", text);
+  expect(`${name}: its file does not settle`, !served.done || desk.settle().done);
+  const settled = desk.get();
+  desk.put(before);
+  const asked = desk.serve("page_ask", text);
+  expect(`${name}: asking answers otherwise`, JSON.stringify(asked) === JSON.stringify(served));
+  expect(`${name}: asking changes the file`, desk.get().equals(before));
+  const both = desk.serve("page_serve_and_settle", text);
+  expect(`${name}: serving and settling answers otherwise`, JSON.stringify(both) === JSON.stringify(served));
+  expect(`${name}: serving and settling leaves another file`, desk.get().equals(served.done ? settled : before));
+  desk.put(before);
+
+}
+
+function damage(file) {
+  const damaged = Buffer.from(file);
+  for (let times = 1 + below(4); times > 0; times--) {
+    damaged[pick([below(24), 16 + below(8000), 16400 + below(2000), 81936 + below(3000)])] ^= 1 << below(8);
+  }
+  return damaged;
+}
+
+function tryFile(name, file) {
+  for (const desk of desks) desk.put(file);
+  onAll(`${name}, served`, (desk) => desk.serve("page_serve", "seq\nregs\nlamps\nram 0\nlist 0 64\nrun 1000\n"));
+  onAll(`${name}, settled`, (desk) => desk.settle());
+}
+
+const CALLS = ["page_serve", "page_serve_and_settle", "page_ask"];
+for (let number = 1; number <= Number(count); number++) {
+  onAll(`session ${number}, begun`, (desk) => desk.begin());
+  for (let part = 1 + below(4); part > 0; part--) {
+    const text = script();
+    tryLaws(`session ${number}`, text);
+    const call = pick(CALLS);
+    onAll(`session ${number}, ${call}`, (desk) => desk.serve(call, text));
+    if (below(3) === 0) onAll(`session ${number}, settled`, (desk) => desk.settle());
+  }
+  if (number % 3 === 0) tryFile(`damaged file ${number}`, damage(desks[0].get()));
+  if (number % 25 === 0) tryFile(`a file of another size, ${number}`, Buffer.alloc(pick([0, 1, 16, 163855, 163857]), 7));
+}
+console.log(`${count} sessions, ${made} comparisons, ${faults} differ`);
+process.exitCode = faults === 0 ? 0 : 1;

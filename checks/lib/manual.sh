@@ -1,0 +1,24 @@
+# What the manual shows is what the tools print. A check reads this by `.`; it has `verdict`, and `top`, `mcs4` and `folder`.
+# shellcheck shell=sh
+
+# Runs each command of a chapter, in a folder with the tools, the examples and the program; what is printed has to be what stands below
+# the commands. There have to be so many at least.
+as_shown() {
+    mkdir -p "$folder/manual"
+    ln -s "$top/tools" "$top/examples" "$folder/manual"
+    ln -s "$mcs4" "$folder/manual/mcs4"
+    awk -v title="## $1" '
+        /^## / { chapter = $0 == title }
+        !chapter { next }
+        $0 == "" { blanks = blanks "\n"; next }
+        !/^    / { block = 0; blanks = ""; next }
+        /^    [$] / { block = 1; blanks = "" }
+        block { printf "%s%s\n", blanks, substr($0, 5); blanks = "" }
+    ' < "$top/docs/MANUAL.md" > "$folder/shown"
+    grep -c '^[$] ' "$folder/shown" > "$folder/count"
+    verdict "$([ "$(cat "$folder/count")" -ge "$2" ] && echo enough)" enough "commands in the manual, $1"
+    awk -v quote="'" '/^[$] / { line = substr($0, 3); text = line; gsub(quote, quote "\\" quote quote, text); print "printf " quote "%s\\n" quote " " quote "$ " text quote; print line }' \
+        < "$folder/shown" > "$folder/commands"
+    (cd "$folder/manual" && sh ../commands 2>&1) | sed 's/ *$//' > "$folder/printed" || true
+    verdict "$(cat "$folder/printed")" "$(cat "$folder/shown")" "the manual, $1"
+}

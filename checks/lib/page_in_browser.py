@@ -1,0 +1,354 @@
+"""What checks/page looks at in the browser: the page does by keys, clicks and files what the program does by lines."""
+
+import pathlib
+import re
+import subprocess
+import time
+
+from page_module import module_of_page
+from picture import write_picture
+from verdicts import comes, verdict
+
+TOP = pathlib.Path(__file__).resolve().parent.parent.parent
+DIGITS = "return document.getElementById('digits').textContent"
+STATUS = "return document.getElementById('status').textContent"
+NOTICE = "const n = document.getElementById('notice'); return n.hidden ? '' : n.querySelector('p').textContent"
+READY = "return Boolean(document.body.dataset.ready)"
+SPEED = "document.getElementById('speed').value = arguments[0]"
+ENTER, ESCAPE, TAB, DOWN = "\ue007", "\ue00c", "\ue004", "\ue015"
+DIGIT_KEYS = "1234567"
+
+# How many elements that can be used have no name for those who do not see the page.
+WITHOUT_NAMES = """
+return [...document.querySelectorAll("button, input, select, textarea")].filter((each) => !each.textContent.trim() && !each.ariaLabel
+  && !each.labels?.length && !each.getAttribute("aria-labelledby")).length"""
+
+# What is told after an hour, in milliseconds and in words, and the cycles that are due then, 10 ms later and 0.9 s later.
+AFTER_AN_HOUR = """
+const found = [];
+const clock = new Clock({ stoodStill: (...told) => found.push(...told) });
+clock.goOn(0, 0);
+clock.hide();
+for (const time of [3600000, 3600010, 3600910]) {
+  clock.skipGap(time, time);
+  found.push(clock.due(time));
+  clock.before = time;
+}
+return [...found, wordsOfTime(3600000), wordsOfTime(3723000)]"""
+
+# Takes note of the kept session while the page is hidden and at the moment when it is shown again.
+WATCH_HIDDEN = """
+window.keptWhenHidden = [];
+const id = location.hash.slice("#session=".length);
+indexedDB.open("fethsaim", 1).onsuccess = (opened) => {
+  const note = () => {
+    const asked = opened.target.result.transaction("sessions").objectStore("sessions").get(id);
+    asked.onsuccess = () => window.keptWhenHidden.push(`${asked.result.revision} ${asked.result.file.join("")}`);
+  };
+  document.addEventListener("visibilitychange", () => (document.hidden ? setTimeout(note, 1000) : note()));
+}"""
+KEPT_WHEN_HIDDEN = "const kept = window.keptWhenHidden; return [kept.length, new Set(kept).size]"
+
+# The browser runs nothing of the page for so many milliseconds.
+BLOCK = "const end = performance.now() + arguments[0]; while (performance.now() < end);"
+
+RATE = "return Number(document.getElementById('rate').textContent.replace(/\\D/g, ''))"
+
+# Measures the time from the next key to the next change of the digits.
+TIME_OF_KEY = """
+window.seen = 0;
+addEventListener("keydown", () => { window.went = performance.now(); }, { capture: true, once: true });
+new MutationObserver((_, own) => {
+  own.disconnect();
+  window.seen = performance.now() - window.went;
+}).observe(document.getElementById("digits"), { childList: true, characterData: true, subtree: true })"""
+
+CYCLES_A_SECOND = """
+window.cyclesASecond = 0;
+Bench.load(MODULE).then((bench) => {
+  const file = bench.serve(bench.begin(), linesOfExample(EXAMPLES[0])).file;
+  const begun = performance.now();
+  bench.serve(file, "run 100000\\n".repeat(500));
+  window.cyclesASecond = (5e7 / (performance.now() - begun)) * 1000;
+})"""
+
+
+def key(legend):
+    """The selector of a key of the board."""
+    return f"#keys button[aria-label^='key {legend},']"
+
+
+def choose_example(browser, name):
+    browser.click("#sessions-button")
+    browser.until("return document.getElementById('sessions').open", True)
+    browser.click(f"#examples button[aria-label='new session: {name}']")
+    browser.until("return document.getElementById('sessions').open", False)
+
+
+def check_calculator(browser):
+    choose_example(browser, "calculator")
+    for legend in "12+30=":
+        browser.fingers([key(legend)], 60)
+        time.sleep(0.08)
+    comes(browser, "1 2 + 3 0 = by the pointer", DIGITS, "42")
+    browser.reload()
+    browser.until(READY, True)
+    comes(browser, "the display after a reload", DIGITS, "42")
+    browser.keys([ESCAPE, "7", "-", "9", ENTER])
+    comes(browser, "7 - 9 by the keyboard", DIGITS, "-2")
+    browser.keys([ESCAPE, "6", "*", "9", ENTER], 1, 1)
+    comes(browser, "6 * 9, typed faster than a hand can", DIGITS, "54")
+
+
+def check_two_keys(browser):
+    browser.script("window.both = 0; new MutationObserver(() => { window.both = Math.max(window.both, "
+                   "document.querySelectorAll(\"#keys [aria-pressed='true']\").length); }).observe(document.getElementById('keys'), "
+                   "{ subtree: true, attributes: true, attributeFilter: ['aria-pressed'] })")
+    browser.fingers([key("C"), key("S"), key("0")], 400)
+    comes(browser, "three keys at once", "return window.both", 3)
+    comes(browser, "and all up again", "return document.querySelectorAll(\"#keys [aria-pressed='true']\").length", 0)
+
+
+def lamps_of(mcs4, file, keys):
+    """What the program shows of a session's file, after some keys."""
+    lines = subprocess.run([TOP / "tools/keys", TOP / "examples/calculator/board.toml", keys], stdout=subprocess.PIPE, check=True).stdout
+    answers = subprocess.run([mcs4, "open", file], input=lines, stdout=subprocess.PIPE, check=True).stdout
+    return subprocess.run([TOP / "tools/display"], input=answers, stdout=subprocess.PIPE, check=True).stdout.decode().strip()
+
+
+def as_version_1(file):
+    """A saved session as version 1 would have it: no byte for the version, and no count of watches."""
+    slot = 16 if file[8] % 2 == 0 else 81936
+    length = int.from_bytes(file[slot:slot + 4], "big")
+    snapshot = file[slot + 4:slot + 4 + length]
+    old = (length - 2).to_bytes(4, "big") + snapshot[:4] + snapshot[5:-1]
+    return file[:slot] + old + file[slot + len(old):]
+
+
+def check_files(browser, folder, mcs4):
+    browser.keys([ESCAPE, "6", "*", "7", ENTER])
+    browser.until(DIGITS, "42")
+    browser.click("#run")
+    browser.until(STATUS, "Stopped.")
+    browser.click("#save-button")
+    saved = folder / "downloads/calculator.mcs"
+    end = time.monotonic() + 10
+    while not saved.exists() and time.monotonic() < end:
+        time.sleep(0.05)
+    old = folder / "old.mcs"
+    old.write_bytes(as_version_1(saved.read_bytes()))
+    browser.type_into("#file", str(old))
+    comes(browser, "a file of version 1 is carried over", "return document.getElementById('name').value", "old")
+    verdict("and shows the same", browser.script(DIGITS), "42")
+    verdict("the saved file, gone on with by the program", lamps_of(mcs4, saved, "/8="), "5.25")
+    browser.type_into("#file", str(saved))
+    comes(browser, "the program's file, opened by the page", DIGITS, "5.25")
+    verdict("its keys have their names", browser.text("#keys"), "789/456*123-0.~+CCEcS=")
+    source = browser.script("return document.querySelector('#program-editor textarea').value")
+    verdict("its program has its text", source, (TOP / "examples/calculator/calculator.asm").read_text())
+    rubbish = folder / "rubbish.mcs"
+    rubbish.write_bytes(b"no session")
+    browser.type_into("#file", str(rubbish))
+    comes(browser, "rubbish is refused in words", NOTICE, re.compile(r"rubbish\.mcs was not opened: no 50: not a session file"))
+    damaged = folder / "damaged.mcs"
+    bytes_of = bytearray(saved.read_bytes())
+    bytes_of[16:20] = b"\xff" * 4
+    bytes_of[81936:81940] = b"\xff" * 4
+    damaged.write_bytes(bytes_of)
+    browser.type_into("#file", str(damaged))
+    comes(browser, "a damaged file is refused in words", NOTICE, re.compile("no 51: the session file is damaged"))
+    verdict("the session is as it was", browser.script(DIGITS), "5.25")
+    browser.click("#notice button")
+
+
+def check_stops(browser):
+    browser.click("#step")
+    browser.until(STATUS, "One instruction was done.")
+    line = "#lines-of-program button.next"
+    address = browser.text(f"{line} span")[:3]
+    browser.click(line)
+    comes(browser, "a breakpoint by a click", f"return document.querySelector('{line}').getAttribute('aria-pressed')", "true")
+    browser.click("#run")
+    comes(browser, "the run stops there", STATUS, f"Stopped at {address}, at a breakpoint.")
+    verdict("the listing shows it", browser.text(f"{line} span")[:3], address)
+    browser.click(line)
+    comes(browser, "the breakpoint is gone", f"return document.querySelector('{line}').getAttribute('aria-pressed')", "false")
+    browser.click(".ram button")
+    comes(browser, "a watch by a click", "return document.querySelector('.ram button').getAttribute('aria-pressed')", "true")
+    browser.script(SPEED, "full")
+    browser.click("#run")
+    browser.fingers([key("C")], 60)
+    comes(browser, "a run at full speed stops where the character changes", STATUS,
+          re.compile("^Stopped at ..., after a watched character changed.$"))
+    browser.script(SPEED, "real")
+    verdict("and it is marked", "changed" in browser.script("return document.querySelector('.ram button').className"), True)
+    browser.click(".ram button")
+    browser.until("return document.querySelector('.ram button').getAttribute('aria-pressed')", "false")
+
+
+def focused(browser, key, code, most=40):
+    """Goes from one focus to the next by a key until a script on the focused element answers true."""
+    for _ in range(most):
+        browser.keys([key], 1, 1)
+        if browser.script(f"const e = document.activeElement; return {code}"):
+            return True
+    return False
+
+
+def check_keyboard_alone(browser):
+    # After its last element the browser has its own.
+    browser.script("document.getElementById('name').focus()")
+    verdict("Tab comes to Step", focused(browser, TAB, "e.id === 'step'"), True)
+    browser.keys([ENTER])
+    comes(browser, "Enter steps", STATUS, "One instruction was done.")
+    verdict("Tab comes to the listing", focused(browser, TAB, "e.closest('#lines-of-program') !== null"), True)
+    browser.keys([DOWN, DOWN, ENTER])
+    comes(browser, "arrows and Enter set a breakpoint", "return document.activeElement.getAttribute('aria-pressed')", "true")
+    browser.keys([ENTER])
+    comes(browser, "and clear it", "return document.activeElement.getAttribute('aria-pressed')", "false")
+    verdict("all that can be used has a name", browser.script(WITHOUT_NAMES), 0)
+
+
+def check_narrow(browser):
+    browser.command("Emulation.setDeviceMetricsOverride", width=360, height=740, deviceScaleFactor=1, mobile=True)
+    comes(browser, "a phone shows the page without scrolling sideways", "return document.documentElement.scrollWidth <= 360", True)
+    browser.command("Emulation.clearDeviceMetricsOverride")
+
+
+def check_hidden(browser):
+    """A hidden page stands still, and so does one that the browser does not run."""
+    browser.script(WATCH_HIDDEN)
+    shown = browser.tab()
+    browser.new_tab()
+    time.sleep(2.5)
+    browser.close_tab(shown)
+    comes(browser, "a page that was hidden says for how long it stood still", STATUS,
+          re.compile(r"^Time runs\. It stood still for \d+ seconds while hidden\.$"))
+    comes(browser, "what is kept did not change meanwhile", KEPT_WHEN_HIDDEN, [2, 1])
+    comes(browser, "and it runs on as fast as it should", RATE, re.compile("^9[0-4]...$"))
+    browser.script(BLOCK, 1500)
+    comes(browser, "the same where the browser did not run the page", STATUS,
+          re.compile(r"stood still for \d+ seconds while the page was held up\.$"))
+    verdict("after an hour in the background nothing is owed, and a slow frame owes little", browser.inside(AFTER_AN_HOUR),
+            [3600000, True, 0, 925, 20000, "1 hour", "1 hour 2 minutes"])
+
+
+def check_speed_field(browser):
+    """Some browsers fill in a field again after a reload, others where the page is come back to: the speed is the one that it says."""
+    for what, come_again in {"a reload": lambda: browser.script("setTimeout(() => location.reload(), 50)"),
+                             "coming back": lambda: (browser.go("about:blank"), browser.script("history.back()"))}.items():
+        browser.type_into("#speed", "full")
+        browser.script("delete document.body.dataset.ready")
+        come_again()
+        browser.until(READY, True)
+        is_full = browser.script("return document.getElementById('speed').value") == "full"
+        verdict(f"the speed after {what} is the one in its field", browser.until(RATE, re.compile("[1-9]")) > 200000, is_full)
+    browser.script(SPEED, "real")
+
+
+def told_of(browser, editor, text):
+    browser.script("const area = document.querySelector(arguments[0]); area.value = arguments[1]; area.dispatchEvent(new Event('input'))",
+                   f"{editor} textarea", text)
+    browser.click(f"{editor} .send")
+    return browser.until(f"return document.querySelector('{editor} .told').textContent", re.compile("."))
+
+
+def check_texts(browser):
+    verdict("a program's fault at its line", told_of(browser, "#program-editor", "NOP\n\tJCN 4, far\n ORG 0x300\nfar: NOP\n"),
+            re.compile("^line 2: no 34: an address on another page"))
+    verdict("a dot in a text", told_of(browser, "#program-editor", "NOP\n.\nNOP\n"), re.compile("^line 2: a line that is a dot alone"))
+    verdict("a letter that is not of ASCII", told_of(browser, "#program-editor", "NOP ; caf\u00e9"), re.compile("^line 1: no 14"))
+    rom = '[[rom]]\nchip = 0\nport = "0000"\n'
+    verdict("an unknown key of a board", told_of(browser, "#board-editor", f"{rom}size = 3\n"), re.compile("^line 4: no 21"))
+    verdict("a line that the board lacks", told_of(browser, "#board-editor", f'{rom}\n[[lamp]]\nline = "ram0.0.0"\n'),
+            re.compile("^lines 5 to 6: no 25"))
+    verdict("the board is as it was", browser.script(DIGITS) != "", True)
+    verdict("lines and their answers", lines_answered(browser, "poke r5 9\nfoo\nseq"),
+            re.compile(r"poke r5 9ok \d+foono 10: not a command.*seqseq \d+$"))
+    three = (TOP / "examples/three_lamps/board.toml").read_text()
+    verdict("a board that is wired", told_of(browser, "#board-editor", three), re.compile(r"^ok \d+$"))
+    verdict("has three lamps", browser.script("return document.querySelectorAll('#lamps li').length"), 3)
+
+
+def lines_answered(browser, lines):
+    browser.script("document.getElementById('lines').value = arguments[0]", lines)
+    before = len(browser.text("#log"))
+    browser.click("#send")
+    browser.until("return document.getElementById('lines').value", "")
+    return browser.text("#log")[before:]
+
+
+def check_two_tabs(browser):
+    address = browser.script("return location.href")
+    first = browser.tab()
+    browser.new_tab()
+    browser.go(address)
+    browser.until(READY, True)
+    verdict("a second tab on the session is told so", browser.script(NOTICE), re.compile("open in another tab"))
+    verdict("and shows another session", browser.script("return location.href") != address, True)
+    browser.close_tab(first)
+
+
+def check_use(browser, page, folder, mcs4):
+    """What the page does in a browser that has all."""
+    browser.go(page.as_uri())
+    comes(browser, "the page is ready", READY, True)
+    verdict("without a notice", browser.script(NOTICE), "")
+    check_calculator(browser)
+    check_two_keys(browser)
+    check_files(browser, folder, mcs4)
+    check_stops(browser)
+    check_keyboard_alone(browser)
+    check_texts(browser)
+    check_two_tabs(browser)
+    choose_example(browser, "calculator")
+    check_hidden(browser)
+    check_speed_field(browser)
+
+
+def check_by_chromium(browser):
+    """What Chromium's driver alone can show."""
+    check_narrow(browser)
+    verdict("no fault in the browser's log", [line for line in browser.log() if "favicon" not in line], [])
+
+
+def figures(browser, page):
+    """What the page takes, for the documents."""
+    browser.go(page.as_uri())
+    browser.until(READY, True)
+    start = browser.script("return Number(document.body.dataset.ready)")
+    choose_example(browser, "calculator")
+    times = []
+    for legend in DIGIT_KEYS * 2:
+        browser.script(TIME_OF_KEY)
+        browser.keys([legend], 40, 20)
+        times.append(browser.until("return window.seen > 0 ? 1 : 0", 1) and browser.script("return window.seen"))
+        if len(times) == len(DIGIT_KEYS):
+            browser.keys([ESCAPE])
+    browser.inside(CYCLES_A_SECOND)
+    speed = browser.until("return window.cyclesASecond", re.compile("[1-9]"), 60)
+    times.sort()
+    size = len(module_of_page(page))
+    median = times[len(times) // 2]
+    return (f"the page has {page.stat().st_size} bytes, its module {size}; it starts in {start} ms; a key shows after {median:.0f} ms"
+            f" (at most {times[-1]:.0f}); {speed / 1e6:.0f} million cycles a second in {browser.name} {browser.version}")
+
+
+def take_picture(browser, page, path):
+    browser.go(page.as_uri())
+    browser.until(READY, True)
+    choose_example(browser, "calculator")
+    browser.command("Emulation.setDeviceMetricsOverride", width=1280, height=800, deviceScaleFactor=1, mobile=False)
+    for legend in "22/7=":
+        browser.fingers([key(legend)], 60)
+        time.sleep(0.1)
+    browser.until(DIGITS, "3.1428571")
+    browser.click("#run")
+    browser.click("#step")
+    browser.until(STATUS, "One instruction was done.")
+    browser.click("#lines-of-program button.next + button")
+    browser.click(".ram button")
+    browser.until("return document.querySelectorAll('#lines-of-program [aria-pressed=true], .ram [aria-pressed=true]').length", 2)
+    browser.script("scrollTo(0, 0)")
+    write_picture(browser.picture(), path)
+    browser.command("Emulation.clearDeviceMetricsOverride")

@@ -1,0 +1,194 @@
+/* Records the calls that a program makes on its files, its input and its output, where it is started with this library loaded before
+   the C library (LD_PRELOAD): a line for each call in the file that CALLS names. One of them, of the number CALL from 1 on, can be
+   treated otherwise, by CALL_DOES:
+     fail E      it does nothing and answers the error of that number
+     head K      a write puts its first K bytes, and the program is killed
+     tail K      a write puts its bytes from the K-th on, and the program is killed
+     noise K     a write puts other bytes in the place of its own, but for the first K, and the program is killed
+     rename F    before a lock, the name of its file is given to the file F
+     remove      before a lock, the name of its file is taken away
+   CALL_MOST=M: no read or write of a file moves more than M bytes at once. CALL_AGAIN=1: each call on a file answers EINTR once before
+   it is done; these answers have no line. */
+#define _GNU_SOURCE
+#include <dlfcn.h>
+#include <errno.h>
+#include <fcntl.h>
+#include <signal.h>
+#include <stdarg.h>
+#include <stdio.h>
+#include <stdlib.h>
+#include <string.h>
+#include <sys/file.h>
+#include <unistd.h>
+
+static char names[64][256]; /* what stands after a descriptor; empty where it is none of the program's */
+static int calls;           /* so many calls were recorded */
+static int record = -1;
+
+static ssize_t (*real_write)(int, const void *, size_t);
+static int (*real_close)(int);
+
+__attribute__((constructor)) static void begin(void) {
+    const char *file = getenv("CALLS");
+    real_write = dlsym(RTLD_NEXT, "write");
+    real_close = dlsym(RTLD_NEXT, "close");
+    if (file) {
+        int (*real_open)(const char *, int, ...) = dlsym(RTLD_NEXT, "open");
+        int low = real_open(file, O_WRONLY | O_CREAT | O_TRUNC | O_CLOEXEC, 0666);
+        record = fcntl(low, F_DUPFD_CLOEXEC, 100);
+        real_close(low);
+    }
+}
+
+static const char *name_of(int fd) {
+    return fd >= 0 && fd < 64 ? names[fd] : "";
+}
+
+static void put(const char *line) {
+    if (record >= 0 && real_write(record, line, strlen(line)) < 0) _exit(99);
+}
+
+/* Writes the line of a call, and gives what is to be done otherwise with it, or NULL. */
+static const char *does(const char *form, ...) {
+    char line[1024];
+    va_list parts;
+    const char *number = getenv("CALL"), *what = getenv("CALL_DOES");
+    va_start(parts, form);
+    vsnprintf(line, sizeof line - 1, form, parts);
+    va_end(parts);
+    strcat(line, "\n");
+    put(line);
+    calls++;
+    return number && what && atoi(number) == calls ? what : NULL;
+}
+
+/* A call is to fail. */
+static int fails(const char *what) {
+    if (!what || strncmp(what, "fail ", 5) != 0) return 0;
+    errno = atoi(what + 5);
+    return 1;
+}
+
+/* A call on a file is to be answered EINTR, once. */
+static int interrupts(int fd) {
+    static int answered;
+    answered = !answered && *name_of(fd) && getenv("CALL_AGAIN");
+    if (answered) errno = EINTR;
+    return answered;
+}
+
+static size_t most(size_t length) {
+    const char *limit = getenv("CALL_MOST");
+    return limit && (size_t)atol(limit) < length ? (size_t)atol(limit) : length;
+}
+
+int open(const char *file, int flags, ...) {
+    static int (*real)(const char *, int, ...);
+    mode_t mode = 0;
+    va_list parts;
+    va_start(parts, flags);
+    if (flags & O_CREAT) mode = va_arg(parts, mode_t);
+    va_end(parts);
+    if (!real) real = dlsym(RTLD_NEXT, "open");
+    const char *how = flags & O_TRUNC ? "empty" : flags & O_CREAT ? "make" : (flags & O_ACCMODE) == O_RDONLY ? "look at" : "open";
+    if (fails(does("%s %s", how, file))) return -1;
+    int fd = real(file, flags, mode);
+    if (fd >= 0 && fd < 64) snprintf(names[fd], sizeof names[fd], "%s", file);
+    return fd;
+}
+
+int close(int fd) {
+    if (fd >= 0 && fd < 64) names[fd][0] = 0;
+    return real_close(fd);
+}
+
+int unlink(const char *file) {
+    static int (*real)(const char *);
+    if (!real) real = dlsym(RTLD_NEXT, "unlink");
+    const char *end = strrchr(file, '/');
+    return fails(does("remove %s", end ? end + 1 : file)) ? -1 : real(file);
+}
+
+/* The name of a descriptor's file is to stand for another file, or for none. */
+static void renames(int fd, const char *what) {
+    int (*real_unlink)(const char *) = dlsym(RTLD_NEXT, "unlink");
+    if (what && strncmp(what, "rename ", 7) == 0 && rename(what + 7, name_of(fd)) < 0) _exit(99);
+    if (what && strcmp(what, "remove") == 0 && real_unlink(name_of(fd)) < 0) _exit(99);
+}
+
+int flock(int fd, int how) {
+    static int (*real)(int, int);
+    if (!real) real = dlsym(RTLD_NEXT, "flock");
+    if (interrupts(fd)) return -1;
+    const char *what = does("%s %s", how == (LOCK_EX | LOCK_NB) ? "lock" : "lock otherwise", name_of(fd));
+    renames(fd, what);
+    return fails(what) ? -1 : real(fd, how);
+}
+
+int ftruncate(int fd, off_t size) {
+    static int (*real)(int, off_t);
+    if (!real) real = dlsym(RTLD_NEXT, "ftruncate");
+    if (interrupts(fd)) return -1;
+    return fails(does("size %s %lld", name_of(fd), (long long)size)) ? -1 : real(fd, size);
+}
+
+int fsync(int fd) {
+    static int (*real)(int);
+    if (!real) real = dlsym(RTLD_NEXT, "fsync");
+    if (interrupts(fd)) return -1;
+    return fails(does("sync %s", name_of(fd))) ? -1 : real(fd);
+}
+
+int fdatasync(int fd) {
+    static int (*real)(int);
+    if (!real) real = dlsym(RTLD_NEXT, "fdatasync");
+    if (interrupts(fd)) return -1;
+    return fails(does("sync data %s", name_of(fd))) ? -1 : real(fd);
+}
+
+ssize_t pread(int fd, void *bytes, size_t length, off_t at) {
+    static ssize_t (*real)(int, void *, size_t, off_t);
+    if (!real) real = dlsym(RTLD_NEXT, "pread");
+    if (interrupts(fd)) return -1;
+    return fails(does("read %s %lld %zu", name_of(fd), (long long)at, length)) ? -1 : real(fd, bytes, most(length), at);
+}
+
+ssize_t pwrite(int fd, const void *bytes, size_t length, off_t at) {
+    static ssize_t (*real)(int, const void *, size_t, off_t);
+    const unsigned char *given = bytes;
+    char text[64] = "";
+    size_t i, k;
+    if (!real) real = dlsym(RTLD_NEXT, "pwrite");
+    if (interrupts(fd)) return -1;
+    for (i = 0; length <= 16 && i < length; i++) sprintf(text + 3 * i, " %02x", given[i]);
+    const char *what = does("write %s %lld %zu%s", name_of(fd), (long long)at, length, text);
+    if (fails(what)) return -1;
+    if (!what) return real(fd, bytes, most(length), at);
+    k = (size_t)atol(strchr(what, ' '));
+    if (k > length) k = length;
+    if (strncmp(what, "head ", 5) == 0 && real(fd, given, k, at) < 0) _exit(99);
+    if (strncmp(what, "tail ", 5) == 0 && real(fd, given + k, length - k, at + (off_t)k) < 0) _exit(99);
+    if (strncmp(what, "noise ", 6) == 0) {
+        unsigned char *noise = malloc(length + 1);
+        for (i = 0; i < length; i++) noise[i] = i < k ? given[i] : (unsigned char)(given[i] ^ (0xA5 + i));
+        if (real(fd, noise, length, at) < 0) _exit(99);
+    }
+    raise(SIGKILL);
+    return -1;
+}
+
+ssize_t read(int fd, void *bytes, size_t length) {
+    static ssize_t (*real)(int, void *, size_t);
+    if (!real) real = dlsym(RTLD_NEXT, "read");
+    return fails(fd == 0 ? does("in") : does("read on %s", name_of(fd))) ? -1 : real(fd, bytes, length);
+}
+
+ssize_t write(int fd, const void *bytes, size_t length) {
+    char text[48];
+    size_t i, shown = length < sizeof text - 1 ? length : sizeof text - 1;
+    memcpy(text, bytes, shown);
+    for (i = 0; i < shown; i++)
+        if (text[i] == '\n') text[i] = '/';
+    text[shown] = 0;
+    return fails(does("%s %s", fd == 1 ? "out" : fd == 2 ? "err" : "write on", text)) ? -1 : real_write(fd, bytes, length);
+}

@@ -1,0 +1,296 @@
+"""Session files as docs/FORMAT.md has them, written and read without the program, and a bench of a few commands to fill them.
+
+`Kept` is what the file of a session has to hold after each accepted command: its snapshot, its records, and all other bytes, but for the
+rest of a snapshot area, which nobody reads.
+"""
+
+import copy
+import dataclasses
+
+NAME = b"MCS4BEN1"
+SIZE = 163_856
+SLOTS = (16, 81_936)
+LENGTH_BYTES = 4
+SNAPSHOT_AREA = 16_384
+LOG_BYTES = 65_536
+MOST_RECORD = 8_192
+MOST_CYCLES = 4_000_000
+
+
+def number(value, count):
+    return value.to_bytes(count, "big")
+
+
+# --- boards and states
+
+def rom_line(chip, line):
+    return bytes([0, chip, line, 0])
+
+
+def chain_line(chain, bit):
+    return bytes([2, chain, bit, 0])
+
+
+@dataclasses.dataclass
+class Board:
+    """Ports by chip, chips by bank, chains as (clock, data, chips), keys as (chain, first, rows, columns), lamps as lines."""
+    roms: dict = dataclasses.field(default_factory=dict)
+    banks: dict = dataclasses.field(default_factory=dict)
+    chains: list = dataclasses.field(default_factory=list)
+    keys: tuple = None
+    lamps: list = dataclasses.field(default_factory=list)
+
+    def bytes(self):
+        found = "".join(self.roms.get(chip, "----") for chip in range(16)).encode()
+        found += bytes(self.banks.get(bank, 0) for bank in range(8))
+        found += bytes([len(self.chains)])
+        for clock, data, chips in self.chains:
+            found += clock + data + bytes([chips])
+        if self.keys is None:
+            found += bytes([0])
+        else:
+            chain, first, rows, columns = self.keys
+            found += bytes([1, chain, first, rows, len(columns)]) + b"".join(columns)
+        return found + bytes([len(self.lamps)]) + b"".join(self.lamps)
+
+    def count_of_keys(self):
+        return self.keys[2] * len(self.keys[3]) if self.keys else 0
+
+
+@dataclasses.dataclass
+class State:
+    seq: int = 0
+    board: Board = dataclasses.field(default_factory=Board)
+    rom: bytearray = dataclasses.field(default_factory=lambda: bytearray(4096))
+    ram: bytearray = dataclasses.field(default_factory=lambda: bytearray(2048))
+    status: bytearray = dataclasses.field(default_factory=lambda: bytearray(512))
+    ram_ports: bytearray = dataclasses.field(default_factory=lambda: bytearray(32))
+    rom_ports: bytearray = dataclasses.field(default_factory=lambda: bytearray(16))
+    accumulator: int = 0
+    carry: int = 0
+    registers: bytearray = dataclasses.field(default_factory=lambda: bytearray(16))
+    counter: int = 0
+    returns: list = dataclasses.field(default_factory=lambda: [0, 0, 0])
+    bank: int = 0
+    rom_source: int = 0
+    bank_sources: bytearray = dataclasses.field(default_factory=lambda: bytearray(8))
+    owed: int = 0
+    chains: list = dataclasses.field(default_factory=list)
+    keys: bytearray = dataclasses.field(default_factory=bytearray)
+    test: int = 1
+    breakpoints: list = dataclasses.field(default_factory=list)
+    watches: list = dataclasses.field(default_factory=list)
+
+    def bytes(self, version=2):
+        """The bytes of the state; version 1 has no byte for the version, no watches and no count of them."""
+        assert version == 2 or not self.watches
+        found = number(self.seq, 4) + (b"\x02" if version == 2 else b"") + self.board.bytes()
+        found += self.rom + self.ram + self.status + self.ram_ports + self.rom_ports
+        found += bytes([self.accumulator, self.carry]) + self.registers
+        found += b"".join(number(address, 2) for address in [self.counter, *self.returns])
+        found += bytes([self.bank, self.rom_source]) + self.bank_sources + bytes([self.owed])
+        found += b"".join(self.chains) + self.keys + bytes([self.test])
+        found += bytes([len(self.breakpoints)]) + b"".join(number(address, 2) for address in self.breakpoints)
+        if version == 2:
+            found += bytes([len(self.watches)]) + b"".join(bytes(watch) for watch in self.watches)
+        return bytes(found)
+
+    def told(self):
+        """The answer to `regs`."""
+        return (f"acc {self.accumulator:X} cy {self.carry} pc {self.counter:03X} owed {self.owed} dcl {self.bank} test {self.test} "
+                f"r {''.join(f'{register:X}' for register in self.registers)} ret {' '.join(f'{address:03X}' for address in self.returns)}")
+
+    def cycle(self):
+        """One cycle of the few instructions that the checks use."""
+        if self.owed:
+            self.owed = 0
+            return
+        code = self.rom[self.counter]
+        second = self.rom[(self.counter + 1) % 4096]
+        self.counter = (self.counter + 1) % 4096
+        if code >> 4 == 0x4:
+            self.counter = (code & 15) * 256 + second
+            self.owed = 1
+        elif code >> 4 == 0x6:
+            self.registers[code & 15] = (self.registers[code & 15] + 1) % 16
+        elif code >> 4 == 0xD:
+            self.accumulator = code & 15
+        elif code == 0xF2:
+            self.carry, self.accumulator = divmod(self.accumulator + 1, 16)
+        else:
+            assert code == 0, f"the checks have no instruction {code:02X}"
+
+    def run(self, cycles):
+        """Runs so many cycles, or to a breakpoint; tells how many were done, and why it stopped."""
+        begun = self.place()
+        done = left_out = 0
+        while done + left_out < cycles:
+            self.cycle()
+            done += 1
+            if not self.owed and self.counter in self.breakpoints:
+                return f" ran {done} break"
+            if self.place() == begun and left_out == 0:
+                # It goes round, so whole rounds are left out.
+                left_out = (cycles - done) // done * done
+        return f" ran {cycles} end"
+
+    def place(self):
+        return self.counter, self.owed, self.accumulator, self.carry, bytes(self.registers)
+
+
+# --- commands
+
+@dataclasses.dataclass
+class Command:
+    """Its lines, its record, what it does to a state (and may answer after `ok N`), and the cycles that it counts in a log."""
+    text: str
+    record: bytes
+    do: object
+    cycles: int = 0
+
+
+def wire(text, board):
+    def do(state):
+        state.board = board
+        state.chains = [bytearray(10 * chips) for _, _, chips in board.chains]
+        state.keys = bytearray(board.count_of_keys())
+    return Command(f"wire\n{text}.\n", bytes([1]) + board.bytes(), do)
+
+
+def load(text, image):
+    """A program, by the bytes that it spells."""
+    addresses = sorted(image)
+    there = bytearray(512)
+    for address in addresses:
+        there[address // 8] |= 1 << address % 8
+    record = bytes([2]) + there + bytes(image[address] for address in addresses)
+
+    def do(state):
+        for address in addresses:
+            state.rom[address] = image[address]
+        return f" bytes {len(image)}"
+    return Command(f"asm\n{text}.\n", record, do)
+
+
+def run(cycles):
+    """It counts all its cycles, also where a breakpoint stops it."""
+    return Command(f"run {cycles}\n", bytes([5]) + number(cycles, 4), lambda state: state.run(cycles), cycles)
+
+
+def poke_register(register, value):
+    def do(state):
+        state.registers[register] = value
+    return Command(f"poke r{register} {value}\n", bytes([7, 3, register, value]), do)
+
+
+def press(row, column):
+    def do(state):
+        state.keys[row * len(state.board.keys[3]) + column] = 1
+    return Command(f"press {row} {column}\n", bytes([3, row, column]), do)
+
+
+def test_level(level):
+    def do(state):
+        state.test = level
+    return Command(f"test {level}\n", bytes([8, level]), do)
+
+
+def break_at(address):
+    def do(state):
+        state.breakpoints = sorted({*state.breakpoints, address})
+    return Command(f"break {address}\n", bytes([10]) + number(address, 2), do)
+
+
+def watch(bank, source):
+    def do(state):
+        state.watches = sorted({*state.watches, (bank, source)})
+    return Command(f"watch {bank} {source}\n", bytes([12, bank, source]), do)
+
+
+# --- files
+
+def read(file):
+    """The snapshot and the records that a file holds; None where it holds none."""
+    if len(file) != SIZE or file[:8] != NAME or any(file[9:16]):
+        return None
+    slot = SLOTS[file[8] % 2]
+    length = int.from_bytes(file[slot:slot + LENGTH_BYTES], "big")
+    if length > SNAPSHOT_AREA - LENGTH_BYTES:
+        return None
+    snapshot = bytes(file[slot + LENGTH_BYTES:slot + LENGTH_BYTES + length])
+    log = file[slot + SNAPSHOT_AREA:slot + SNAPSHOT_AREA + LOG_BYTES]
+    records = []
+    at = 0
+    while log[at] == 1:
+        size = int.from_bytes(log[at + 1:at + 3], "big")
+        if not 1 <= size <= MOST_RECORD or at + 3 + size + 1 > LOG_BYTES:
+            return None
+        records.append(bytes(log[at + 3:at + 3 + size]))
+        at += 3 + size
+    return snapshot, records
+
+
+class Kept:
+    """A session, and what its file has to hold."""
+
+    def __init__(self, state=None, slot=0, version=2):
+        """A session that begins at this state, as a snapshot in one of the slots."""
+        self.state = state or State()
+        self.version = version
+        self.file = bytearray(SIZE)
+        self.rests = [None, None]
+        self.slot = slot
+        self.checkpoints = 0
+        self._put_snapshot(slot, version)
+        self.file[:16] = NAME + bytes([slot]) + bytes(7)
+
+    def _put_snapshot(self, slot, version):
+        snapshot = self.state.bytes(version)
+        begin = SLOTS[slot]
+        end = begin + LENGTH_BYTES + len(snapshot)
+        self.file[begin:end] = number(len(snapshot), LENGTH_BYTES) + snapshot
+        self.rests[slot] = (end, begin + SNAPSHOT_AREA)
+        self.file[begin + SNAPSHOT_AREA] = 0
+        self.slot = slot
+        self.used = self.cycles = 0
+        self.held = (snapshot, [])
+
+    def checkpoint(self):
+        """A snapshot in the other slot takes the place of what is held."""
+        self._put_snapshot(1 - self.slot, 2)
+        self.file[8] = self.slot
+        self.version = 2
+        self.checkpoints += 1
+
+    def accept(self, command):
+        """A command that is accepted, and its answer."""
+        record = command.record
+        if self.used + 3 + len(record) + 1 > LOG_BYTES or self.cycles + command.cycles > MOST_CYCLES:
+            self.checkpoint()
+        at = SLOTS[self.slot] + SNAPSHOT_AREA + self.used
+        self.file[at:at + 3 + len(record) + 1] = b"\x01" + number(len(record), 2) + record + b"\x00"
+        self.used += 3 + len(record)
+        self.cycles += command.cycles
+        self.held[1].append(record)
+        answer = command.do(self.state) or ""
+        self.state.seq += 1
+        return f"ok {self.state.seq}{answer}\n"
+
+    def accept_all(self, commands):
+        return "".join(self.accept(command) for command in commands)
+
+    def fault(self, file):
+        """What is wrong with a file that has to be this one; nothing where it is."""
+        if len(file) != SIZE:
+            return f"it has {len(file)} bytes"
+        wanted = bytearray(self.file)
+        for rest in self.rests:
+            if rest:
+                wanted[rest[0]:rest[1]] = file[rest[0]:rest[1]]
+        if wanted == file:
+            return ""
+        at = next(at for at in range(SIZE) if wanted[at] != file[at])
+        return f"from {at} on it has {bytes(file[at:at + 12]).hex(' ')}, and not {bytes(wanted[at:at + 12]).hex(' ')}"
+
+    def copy(self):
+        return copy.deepcopy(self)

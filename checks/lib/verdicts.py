@@ -1,0 +1,21 @@
+"""Counts checks, and tells those that fail."""
+
+import sys
+
+from driven import fits
+
+counts = {"passed": 0, "failed": 0}
+
+
+def verdict(what, found, wanted):
+    """Counts a check; a wanted pattern has to be found in what there is."""
+    if fits(found, wanted):
+        counts["passed"] += 1
+    else:
+        counts["failed"] += 1
+        print(f"checks/page: {what}: is {found!r}, has to be {wanted!r}", file=sys.stderr)
+
+
+def comes(browser, what, code, wanted):
+    """Counts a check of what a script answers, now or in a moment."""
+    verdict(what, browser.until(code, wanted), wanted)

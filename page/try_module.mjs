@@ -1,0 +1,118 @@
+// Tries a module of the bench that page/wasm made: `node try_module.mjs MODULE SHORT`. SHORT is the same module with a stack that is too
+// short for any call. Looked at are what no compiler tells: MODULE has one memory, of 32-bit addresses and at most 256 MiB; where that cannot
+// grow, calls answer `no 90` and leave the file, and they do their work once there is memory again; and the stack of SHORT ends in a trap.
+import { readFileSync } from "node:fs";
+
+const MEMORY_SECTION = 5;
+const HAS_MOST = 1;
+const MOST_PAGES = 4096;
+const BLOCK = 16n << 20n;
+const TOLD_SIZE = 16;
+const NO_MEMORY = 90;
+
+// An unsigned number in LEB128, and the place after it.
+function numberAt(bytes, at) {
+  let value = 0;
+  let shift = 0;
+  let next = at;
+  for (;;) {
+    const byte = bytes[next];
+    next += 1;
+    value += (byte & 127) * 2 ** shift;
+    shift += 7;
+    if (byte < 128) return { value, next };
+  }
+}
+
+// The limits of the module's memories: their flags, and the greatest count of pages.
+function memories(bytes) {
+  let at = 8;
+  while (at < bytes.length) {
+    const kind = bytes[at];
+    const size = numberAt(bytes, at + 1);
+    if (kind === MEMORY_SECTION) {
+      const count = numberAt(bytes, size.next);
+      const flags = numberAt(bytes, count.next);
+      const least = numberAt(bytes, flags.next);
+      return { count: count.value, flags: flags.value, most: numberAt(bytes, least.next).value };
+    }
+    at = size.next + size.value;
+  }
+  return { count: 0, flags: 0, most: 0 };
+}
+
+function start(path) {
+  return new WebAssembly.Instance(new WebAssembly.Module(readFileSync(path)), {}).exports;
+}
+
+// The buffers of a call: a file, an input, answers, and what is told.
+function desk(calls, input) {
+  const size = calls.page_file_size();
+  const file = calls.page_buffer(size);
+  const lines = calls.page_buffer(64n);
+  const answers = calls.page_buffer(4096n);
+  const told = calls.page_buffer(BigInt(TOLD_SIZE));
+  new Uint8Array(calls.memory.buffer, Number(lines)).set(input);
+  return { size, file, lines, count: BigInt(input.length), answers, told };
+}
+
+function fileOf(calls, { file, size }) {
+  return Buffer.from(new Uint8Array(calls.memory.buffer, Number(file), Number(size)).slice());
+}
+
+// Serves the input: 0 where it was served, else the number of the refusal.
+function serve(calls, name, { file, size, lines, count, answers, told }) {
+  const served = calls[name](file, size, lines, count, answers, 4096n, told);
+  return served ? 0 : new DataView(calls.memory.buffer, Number(told)).getUint32(0, true);
+}
+
+const faults = [];
+function expect(name, found, wanted) {
+  if (found !== wanted) faults.push(`${name}: ${found}, not ${wanted}`);
+}
+
+function tryMemory(bytes) {
+  const { count, flags, most } = memories(bytes);
+  expect("memories", count, 1);
+  expect("flags of the memory", flags, HAS_MOST);
+  expect("pages of the memory at most", most, MOST_PAGES);
+}
+
+function tryWithoutMemory(calls) {
+  const own = desk(calls, Buffer.from("poke r5 9\nregs\n"));
+  expect("begin", calls.page_begin(own.file, own.size) !== 0, true);
+  // The blocks that a call takes are lent to no one from then on, and can be lent again.
+  expect("serve", serve(calls, "page_serve_and_settle", own), 0);
+  const blocks = [];
+  for (let size = BLOCK; size >= 16n; size /= 2n) {
+    for (let block = calls.page_buffer(size); block !== 0n; block = calls.page_buffer(size)) blocks.push(block);
+  }
+  const before = fileOf(calls, own);
+  for (const name of ["page_serve", "page_serve_and_settle", "page_ask"]) {
+    expect(`${name} without memory`, serve(calls, name, own), NO_MEMORY);
+  }
+  expect("settle without memory", calls.page_settle(own.file, own.size), 0);
+  expect("begin without memory", calls.page_begin(own.file, own.size), 0);
+  expect("the file without memory is as it was", fileOf(calls, own).equals(before), true);
+  for (const block of blocks) calls.page_buffer_back(block);
+  expect("serve with memory again", serve(calls, "page_serve", own), 0);
+  expect("the file has changed then", fileOf(calls, own).equals(before), false);
+}
+
+function tryShortStack(calls) {
+  const own = desk(calls, Buffer.from("seq\n"));
+  let stopped = "no trap";
+  try {
+    calls.page_begin(own.file, own.size);
+  } catch (fault) {
+    stopped = fault.constructor.name;
+  }
+  expect("a stack that is too short", stopped, "RuntimeError");
+}
+
+const [path, shortPath] = process.argv.slice(2);
+tryMemory(readFileSync(path));
+tryWithoutMemory(start(path));
+tryShortStack(start(shortPath));
+for (const fault of faults) console.error(`try_module: ${fault}`);
+process.exitCode = faults.length === 0 ? 0 : 1;

@@ -1,0 +1,175 @@
+# A dialogue with the bench. Needs numbers.awk. The environment has `mcs4` and `folder`; standard input is the pipe `answers` there, into
+# which the program writes (dialogue in tool.sh does this). Files of sessions stand in the folder.
+
+# Begins to serve a session (`new` or `open`). What is wrong, if anything, stands in `lost`.
+function open_bench(how, file) {
+    bench = "{ \"$mcs4\" " how " \"$folder/" file "\" 2> \"$folder/words\"; echo \"ended $?\"; } > \"$folder/pipe\""
+    printf "" | bench
+    is_open = 1
+    lost = ""
+    forget()
+    receive()
+    if (reply !~ /^session /) lost = reply
+    return lost == ""
+}
+
+function close_bench() {
+    if (!is_open) return
+    close(bench)
+    while (reply !~ /^ended / && (getline reply) > 0) continue
+    is_open = 0
+}
+
+function send(lines) {
+    print lines | bench
+    fflush(bench)
+}
+
+# One line of an answer.
+function receive() {
+    if (lost != "" || (getline reply) <= 0 || reply ~ /^ended /) {
+        lost = lost == "" ? "the program has ended: " reply : lost
+        reply = "ended"
+        die("the session has ended; the program said: " program_words())
+    }
+    return reply
+}
+
+function program_words(    line, words) {
+    words = ""
+    while ((getline line < (ENVIRON["folder"] "/words")) > 0) words = words " " line
+    close(ENVIRON["folder"] "/words")
+    return words == "" ? "nothing" : substr(words, 2)
+}
+
+# The answer to a line that is answered by one line.
+function ask(line) {
+    send(line)
+    return receive()
+}
+
+# All lines of an answer: lines[1] to lines[n], where n is returned. `seq` after it tells where it ends.
+function ask_all(line, lines,    n) {
+    send(line "\nseq")
+    n = 0
+    while (receive() !~ /^seq /) lines[++n] = reply
+    return n
+}
+
+# Sends a file of the folder, which has one command or text, and gives its answer.
+function ask_file(name,    line, file) {
+    file = ENVIRON["folder"] "/" name
+    while ((getline line < file) > 0) print line | bench
+    close(file)
+    fflush(bench)
+    return receive()
+}
+
+# --- what is known of the state; a command that changes it forgets it ---
+
+function forget(    name) {
+    for (name in is_known) delete is_known[name]
+}
+
+# The words of `regs` by their names; after `ret` stand three addresses.
+function take_registers(line,    words, count, i) {
+    count = split(line, words)
+    for (i = 1; i < count; i += 2) {
+        now[words[i]] = words[i + 1]
+        if (words[i] == "ret") {
+            now["ret"] = words[i + 1] " " words[i + 2] " " words[i + 3]
+            break
+        }
+    }
+    is_known["regs"] = 1
+}
+
+function take_lamps(line) {
+    now["lamps"] = substr(line, 7)
+    if (now["lamps"] == "-") now["lamps"] = ""
+    is_known["lamps"] = 1
+}
+
+# A line of `ports`: `src`, `rom1 out`, `rom1 in`, `chain0`, `keys`.
+function take_ports(line,    words, count, i) {
+    count = split(line, words)
+    if (words[1] == "src") now["src"] = substr(line, 5)
+    else if (words[1] == "rom") {
+        now["rom" words[2] " out"] = words[4]
+        now["rom" words[2] " in"] = words[6]
+    } else if (words[1] == "chain") {
+        now["chain" words[2]] = ""
+        for (i = 3; i <= count; i++) now["chain" words[2]] = now["chain" words[2]] words[i]
+    } else if (words[1] == "keys") now["keys"] = substr(line, 6)
+}
+
+# The answer to `ram`: ram[b, s] the 256 characters, st[b, h, k] the status characters, out[b, c] the ports.
+function take_ram(lines, n,    i, j, words, place) {
+    for (i = 2; i <= n; i++) {
+        split(lines[i], words)
+        split(words[1], place, ".")
+        if (words[2] == "out") ram_out[place[1], place[2]] = words[3]
+        else {
+            for (j = 1; j <= 16; j++) ram[place[1], place[2] * 64 + place[3] * 16 + j - 1] = substr(words[2], j, 1)
+            for (j = 1; j <= 4; j++) status[place[1], place[2] * 4 + place[3], j - 1] = substr(words[3], j, 1)
+        }
+    }
+}
+
+# Makes known what `regs`, `lamps`, `ports` or `ram B` tell. This is the one place that asks for the state.
+function know(what,    lines, n, i) {
+    if (is_known[what]) return
+    if (what == "regs") take_registers(ask("regs"))
+    else if (what == "lamps") take_lamps(ask("lamps"))
+    else {
+        n = ask_all(what, lines)
+        if (what == "ports") for (i = 2; i <= n; i++) take_ports(lines[i])
+        else take_ram(lines, n)
+    }
+    is_known[what] = 1
+}
+
+# --- commands ---
+
+# Takes the answer to `run` or `step`: how many cycles (`took`), and why it stopped (`stop`).
+function take_run(line,    words) {
+    split(line, words)
+    if (words[3] != "ran") die("the bench answered: " line)
+    took = words[4] + 0
+    stop = words[5]
+    elapsed += took
+    forget()
+    note_run(took)
+}
+
+# What was done since the session was opened, as lines that do the same: runs one after the other are one.
+function note_run(n) {
+    if (n == 0) return
+    if (done_count > 0 && done_line[done_count] == "run") done_cycles[done_count] += n
+    else {
+        done_line[++done_count] = "run"
+        done_cycles[done_count] = n
+    }
+}
+
+# A command other than a run; it has to be accepted.
+function command(line) {
+    if (ask(line) !~ /^ok /) die("the bench answered " reply " to: " line)
+    forget()
+    done_line[++done_count] = line
+    done_cycles[done_count] = 0
+}
+
+function step() {
+    take_run(ask("step"))
+}
+
+# Runs for so many cycles, or up to an earlier stop.
+function run(n,    k) {
+    stop = "end"
+    while (n > 0 && stop == "end") {
+        k = n < 100000 ? n : 100000
+        take_run(ask("run " k))
+        n -= took
+    }
+}

@@ -1,0 +1,48 @@
+# A board as the bench tells it: reads the lines of the answer to `board`. Needs face.awk.
+#
+# take_board(lines, n) fills rom_port[c], ram_chips[b], chain_bits[k], key_rows, key_columns, and lamp_count; check_face() adds to
+# face_faults what the comments name and the board has not.
+
+function take_board(lines, n,    i, words, table, rom, bank, marks) {
+    key_rows = key_columns = lamp_count = chain_count = 0
+    for (i = 1; i <= n; i++) {
+        split(lines[i], words)
+        if (words[1] ~ /^\[/) {
+            table = words[1]
+            if (table == "[[lamp]]") lamp_count++
+        } else if (table == "[[rom]]" && words[1] == "chip") rom = words[3]
+        else if (table == "[[rom]]" && words[1] == "port") rom_port[rom] = substr(words[3], 2, 4)
+        else if (table == "[[ram]]" && words[1] == "bank") bank = words[3]
+        else if (table == "[[ram]]" && words[1] == "chips") ram_chips[bank] = words[3]
+        else if (table == "[[chain]]" && words[1] == "chips") chain_bits[chain_count++] = 10 * words[3]
+        else if (table == "[keys]" && words[1] == "rows") key_rows = words[3]
+        else if (table == "[keys]" && words[1] == "columns") {
+            marks = lines[i]
+            key_columns = gsub(/,/, "", marks) + 1
+        }
+    }
+}
+
+function check_face(    i, name, d) {
+    for (i = 1; i <= key_count; i++) {
+        name = key_names[i]
+        if (key_row[name] >= key_rows || key_column[name] >= key_columns) {
+            face_fault(key_line[name], "the key " name " is in row " key_row[name] ", column " key_column[name] ", and the board has " \
+                (key_rows ? key_rows " rows and " key_columns " columns" : "no keys"))
+        }
+    }
+    for (name in lamp_number) {
+        if (lamp_number[name] >= lamp_count) face_fault(lamp_line[name], "the lamp " name " is number " lamp_number[name] ", and the board has " lamp_count)
+    }
+    for (d = 1; d <= display_count; d++) {
+        if (display_end(d) > lamp_count) face_fault(display_line[d], "the display needs lamps up to number " display_end(d) - 1 ", and the board has " lamp_count)
+    }
+}
+
+# The lines of a file: lines[1] to lines[n], where n is returned.
+function read_lines(file, lines,    n) {
+    n = 0
+    while ((getline lines[n + 1] < file) > 0) n++
+    close(file)
+    return n
+}

@@ -1,0 +1,39 @@
+# Makes the lines that press keys, from the word `keys`, with the names from the comments of a board and what the bench tells of it. The
+# environment has `folder` (`board_text` and `known_board` there), `board_name`, `keys`, `down` and `up`. Needs numbers.awk, face.awk,
+# board.awk.
+
+function fault(what) {
+    print ENVIRON["tool_name"] ": " ENVIRON["board_name"] what | "cat 1>&2"
+    close("cat 1>&2")
+    exit failed = 1
+}
+
+function key(name) {
+    if (!(name in key_row)) {
+        if (key_count == 0) fault(" has no comments `# row R: NAME ..` that name its keys")
+        else fault(" has no key " name)
+        return
+    }
+    lines = lines "press " key_row[name] " " key_column[name] "\nrun " ENVIRON["down"] "\nrelease " key_row[name] " " key_column[name] "\nrun " ENVIRON["up"] "\n"
+}
+
+BEGIN {
+    n = read_lines(ENVIRON["folder"] "/known_board", board)
+    take_board(board, n)
+    read_face(ENVIRON["folder"] "/board_text")
+    check_face()
+    if (face_faults != "") {
+        sub(/\n.*/, "", face_faults)
+        fault(": " face_faults)
+    }
+    if (failed) exit 1
+    count = split(ENVIRON["keys"], words)
+    for (i = 1; i <= count; i++) {
+        if (words[i] in key_row) key(words[i])
+        else for (j = 1; j <= length(words[i]); j++) {
+            key(substr(words[i], j, 1))
+            if (failed) exit 1
+        }
+    }
+    print lines "lamps"
+}

@@ -1,0 +1,419 @@
+# Runs tests. Needs numbers.awk, face.awk, board.awk, names.awk, known.awk, bench.awk, blocks.awk, trace.awk and test_text.awk. The
+# environment has the names of the texts, one a line (`tests`), and `counting`, where each instruction is counted (tools/cover, tools/
+# profile). The session with board and program is `base.mcs` in the folder; each test has a copy of it, or of the state that it is from.
+
+# How long a key is down (43 ms) and up (173 ms) by `keys`, in cycles of 10.8 microseconds, as in tools/keys.
+BEGIN {
+    usual_down = 4000
+    usual_up = 16000
+    traced = 12
+    names_known = 1
+    cut_at = -1
+}
+
+# Reads the texts; ends with their faults, if there are any.
+function read_all_tests(    files, count, i) {
+    read_known()
+    if (face_faults != "") end_with(prefixed(face_faults, ENVIRON["board_name"] ": "))
+    count = split(ENVIRON["tests"], files, "\n")
+    for (i = 1; i <= count; i++) if (files[i] != "") read_tests(files[i])
+    if (fault_count > 20) test_faults = test_faults "and " fault_count - 20 " more\n"
+    if (test_faults != "") end_with(test_faults)
+}
+
+function prefixed(lines, before,    n, i, line, text) {
+    n = split(lines, line, "\n")
+    text = ""
+    for (i = 1; i < n; i++) text = text before line[i] "\n"
+    return text
+}
+
+function end_with(lines) {
+    printf "%s", prefixed(lines, ENVIRON["tool_name"] ": ") | "cat 1>&2"
+    close("cat 1>&2")
+    close_bench()
+    exit ended = 3
+}
+
+function die(what) {
+    end_with(what "\n")
+}
+
+function run_all_tests(    t, failed) {
+    if (!quiet) print "TAP version 13\n1.." test_count
+    failed = 0
+    for (t = 1; t <= test_count; t++) if (!run_test(t)) failed++
+    return failed
+}
+
+function run_test(t,    file, i, wrong) {
+    wrong = ""
+    if (from_state[t] != "" && !(from_state[t] in made_state)) {
+        wrong = "the state " from_state[t] " is not there, since the test `" test_name[saved_by[from_state[t]]] "` did not come to save it"
+        tell_failure(t, first_step[t], wrong)
+        return 0
+    }
+    file = from_state[t] == "" ? "base.mcs" : "state." made_state[from_state[t]] ".mcs"
+    copy_file(file, "test.mcs")
+    begun_with = file
+    done_count = 0
+    elapsed = marked = 0
+    jumped_to_itself = -1
+    down = usual_down
+    up = usual_up
+    open_bench("open", "test.mcs")
+    if (ENVIRON["counting"] && !code_is_read) {
+        read_code()
+        code_is_read = 1
+    }
+    begin_account()
+    for (i = first_step[t]; i <= last_step[t] && wrong == ""; i++) {
+        wrong = do_step(i)
+        if (wrong != "") tell_failure(t, i, wrong)
+    }
+    close_bench()
+    end_account()
+    if (wrong == "" && !quiet) print "ok " t " - " described(t)
+    fflush()
+    return wrong == ""
+}
+
+function described(t,    text) {
+    text = test_name[t]
+    gsub(/\\/, "\\\\", text)
+    gsub(/#/, "\\#", text)
+    return text
+}
+
+function copy_file(from, to) {
+    if (system("cp \"$folder/" from "\" \"$folder/" to "\"") != 0) die("cannot copy a session in " ENVIRON["folder"])
+}
+
+# Does a step; returns what is wrong, or "".
+function do_step(i,    kind) {
+    kind = step_kind[i]
+    if (kind == "run") return advance(step_cycles[i])
+    if (kind == "keys" || kind == "press" || kind == "release") return do_keys(i, kind)
+    if (kind == "until") return do_until(i, step_condition[i], step_cycles[i])
+    if (kind == "expect") return holds(step_condition[i]) ? "" : told
+    if (kind == "set") {
+        command(step_lines[i])
+        if (step_changes_rom[i] && ENVIRON["counting"]) read_code()
+        outside_change()
+    } else if (kind == "reset") {
+        command("reset")
+        outside_change()
+    } else if (kind == "mark") marked = elapsed
+    else if (kind == "pace") {
+        down = step_down[i]
+        up = step_up[i]
+    } else if (kind == "save") save_state(step_name[i])
+    return ""
+}
+
+# The session goes on after its file was copied: nobody writes it meanwhile, since the last answer is there.
+function save_state(name) {
+    made_state[name] = ++made_count
+    copy_file("test.mcs", "state." made_count ".mcs")
+}
+
+function outside_change() {
+    jumped_to_itself = -1
+}
+
+function advance(n) {
+    if (ENVIRON["counting"]) run_counted(n)
+    else run(n)
+    if (stop == "code") {
+        know("regs")
+        return "the run stopped after " elapsed " cycles before a code that is no instruction, at " named_address(hex_number(now["pc"]))
+    }
+    return ""
+}
+
+function do_keys(i, kind,    places, count, k, parts, wrong) {
+    count = split(step_keys[i], places, "\n")
+    for (k = 1; k < count; k++) {
+        split(places[k], parts)
+        if (kind != "release") press(parts[1], parts[2], parts[3])
+        if (kind == "keys" && (wrong = advance(down)) != "") return wrong
+        if (kind != "press") {
+            command("release " parts[1] " " parts[2])
+            outside_change()
+        }
+        if (kind == "keys" && (wrong = advance(up)) != "") return wrong
+    }
+    return ""
+}
+
+function press(row, column, name) {
+    command("press " row " " column)
+    outside_change()
+    if (profiling) key_went_down(name)
+}
+
+# Runs till the condition holds at the end of an instruction.
+function do_until(i, c, limit,    begun, end, came) {
+    begun = elapsed
+    end = elapsed + limit
+    came = holds(c)
+    if (!came) {
+        if (ENVIRON["counting"]) came = until_by_blocks(c, end)
+        else came = until_by_stops(c, end)
+    }
+    if (came) return ""
+    if (stop == "code") return "the run stopped after " elapsed - begun " cycles before a code that is no instruction, at " named_address(hex_number(now["pc"])) "; " told
+    return "it did not come within " limit " cycles: " told
+}
+
+# Breakpoints at all instructions that can make the condition true, and a step at each; where the bench has too few breakpoints, or a
+# register is waited for, block by block.
+function until_by_stops(c, end,    class, codes, n, i, places, came, at, count, lines) {
+    class = condition_class[c]
+    if (class == "pc") {
+        count = 1
+        places[1] = condition_number[c]
+    } else if (class == "lamps" || class == "ports") count = places_of("E1 E2", places)
+    else if (class == "ram") count = places_of("E0", places)
+    else if (class == "status") count = places_of("E4 E5 E6 E7", places)
+    else count = 33
+    if (condition_not[c] && class == "pc") count = 33
+    if (count > 32) {
+        if (!code_is_read) {
+            read_code()
+            code_is_read = 1
+        }
+        return until_by_blocks(c, end)
+    }
+    for (i = 1; i <= count; i++) if (ask(sprintf("break 0x%03X", places[i])) !~ /^ok /) die("the bench answered " reply " to a breakpoint")
+    came = 0
+    stop = "end"
+    while (elapsed < end && !came) {
+        if (stop == "break") step_for(c)
+        else {
+            know("regs")
+            if (class != "pc" && now["owed"] == "0" && is_place(hex_number(now["pc"]), places, count)) step_for(c)
+            else take_run(ask("run " (end - elapsed < 100000 ? end - elapsed : 100000)))
+        }
+        if (stop == "code") break
+        if (stop == "break" && class != "pc") continue
+        came = holds(c)
+    }
+    for (i = 1; i <= count; i++) ask(sprintf("unbreak 0x%03X", places[i]))
+    return came || holds(c)
+}
+
+function is_place(at, places, count,    i) {
+    for (i = 1; i <= count; i++) if (places[i] == at) return 1
+    return 0
+}
+
+# A step, and what the condition is about, in one go.
+function step_for(c,    more) {
+    more = condition_class[c] == "lamps" ? "lamps" : ""
+    send("step\nregs" (more == "" ? "" : "\n" more))
+    take_run(receive())
+    take_registers(receive())
+    if (more != "") take_lamps(receive())
+}
+
+# The addresses of all bytes with these codes.
+function places_of(codes, places,    words, count, n, i, at, lines, m) {
+    if (!code_is_read) {
+        read_code()
+        code_is_read = 1
+    }
+    count = split(codes, words, " ")
+    n = 0
+    for (i = 1; i <= count; i++) {
+        m = hex_number(words[i])
+        for (at = 0; at < 4096; at++) if (code[at] == m) places[++n] = at
+    }
+    return n
+}
+
+function until_by_blocks(c, end,    class, came) {
+    class = condition_class[c]
+    cut_ports = class == "lamps" || class == "ports" || watching_lamps
+    cut_ram = class == "ram"
+    cut_status = class == "status"
+    cut_all = class == "registers" || (class == "pc" && condition_not[c])
+    cut_at = class == "pc" && !condition_not[c] ? condition_number[c] : -1
+    came = 0
+    stop = "end"
+    while (elapsed < end && stop == "end" && !came) {
+        run_block(end - elapsed)
+        came = holds(c)
+    }
+    cut_ports = watching_lamps
+    cut_ram = cut_status = cut_all = 0
+    cut_at = -1
+    return came
+}
+
+# Whether a condition holds; where it does not, `told` tells what is and what has to be.
+function holds(c,    is, yes, kind) {
+    kind = condition_kind[c]
+    is = measured(c, kind)
+    if (kind == "lamps" || kind == "chain") yes = fits(is, condition_want[c])
+    else if (kind == "cycles") {
+        if (condition_place[c] == "at most") yes = is <= condition_number[c]
+        else if (condition_place[c] == "at least") yes = is >= condition_number[c]
+        else yes = is == condition_number[c]
+    } else if (kind == "at") yes = is == condition_number[c] && now["owed"] == "0"
+    else if (kind == "display" || kind == "lamp" || kind == "ram") yes = is == condition_want[c]
+    else yes = is + 0 == condition_number[c]
+    if (condition_not[c]) yes = !yes
+    if (yes) return 1
+    if (kind == "at") is = named_address(is) (now["owed"] == "1" ? ", within an instruction," : "")
+    told = condition_what[c] " " (kind == "lamps" || kind == "cycles" ? "are " : "is ") (is == "" ? "dark" : is) ", and " \
+        (kind == "lamps" || kind == "cycles" ? "have" : "has") " " (condition_not[c] ? "not " : "") "to be " condition_want[c]
+    if (kind == "lamps") told = told named_lamps(is, condition_want[c])
+    return 0
+}
+
+# The names of the lamps that are lit, where there are names.
+function named_lamps(is, want,    n, names) {
+    names = ""
+    for (n = 0; n < lamp_count; n++) {
+        if (substr(is, n + 1, 1) == "*" && (n in lamp_name)) names = names " " lamp_name[n]
+    }
+    return names == "" ? "" : "; lit:" names
+}
+
+function fits(text, pattern,    i, c) {
+    if (length(text) != length(pattern)) return 0
+    if (text == pattern) return 1
+    for (i = 1; i <= length(text); i++) {
+        c = substr(pattern, i, 1)
+        if (c != "?" && c != substr(text, i, 1)) return 0
+    }
+    return 1
+}
+
+function bit_of(value, k) {
+    while (k-- > 0) value = int(value / 2)
+    return value % 2
+}
+
+# What a condition is about, as it is now.
+function measured(c, kind,    text, i, place) {
+    place = condition_place[c]
+    if (kind == "cycles") return elapsed - marked
+    if (kind == "lamps" || kind == "lamp" || kind == "display") {
+        know("lamps")
+        if (kind == "lamps") return now["lamps"]
+        if (kind == "display") return display_text(now["lamps"])
+        return substr(now["lamps"], place + 1, 1) == "*" ? "on" : "off"
+    }
+    if (kind == "at") {
+        know("regs")
+        return hex_number(now["pc"])
+    }
+    if (kind == "register") {
+        know("regs")
+        if (place ~ /^r[0-9]/) return hex_number(substr(now["r"], substr(place, 2) + 1, 1))
+        return hex_number(now[place])
+    }
+    if (kind == "ram" || kind == "status" || kind == "ram port" || kind == "ram line") {
+        know("ram " condition_bank[c])
+        if (kind == "status") return hex_number(status[condition_bank[c], place, condition_bit[c]])
+        if (kind == "ram port") return hex_number(ram_out[condition_bank[c], place])
+        if (kind == "ram line") return bit_of(hex_number(ram_out[condition_bank[c], place]), condition_bit[c])
+        text = ""
+        for (i = place; i < place + condition_bit[c]; i++) text = text (i > place ? " " : "") hex_number(ram[condition_bank[c], i])
+        return text
+    }
+    know("ports")
+    if (kind == "port") return hex_number(now[place])
+    if (kind == "line") return bit_of(hex_number(now[place]), condition_bit[c])
+    if (kind == "chain") return now[place]
+    return substr(now[place], condition_bit[c] + 1, 1)
+}
+
+# --- a failure ---
+
+function quoted(text) {
+    gsub(/\\/, "\\\\", text)
+    gsub(/"/, "\\\"", text)
+    return "\"" text "\""
+}
+
+# What is wrong goes to standard error, too: prove shows that, and keeps what is on standard output to itself.
+function tell_failure(t, i, wrong,    n, lines, k) {
+    fflush()
+    print "# " test_file[t] ":" step_line[i] ": " test_name[t] ": " wrong | "cat 1>&2"
+    close("cat 1>&2")
+    if (quiet) return
+    print "not ok " t " - " described(t)
+    print "  ---"
+    print "  message: " quoted(wrong)
+    print "  at: " quoted(test_file[t] ":" step_line[i])
+    print "  line: " quoted(step_text[i])
+    if (is_open) {
+        print "  cycles: " elapsed
+        know("regs")
+        know("lamps")
+        print "  lamps: " quoted(now["lamps"])
+        print "  registers: " quoted("acc " now["acc"] " cy " now["cy"] " pc " now["pc"] " dcl " now["dcl"] " test " now["test"] " r " now["r"] " ret " now["ret"])
+        n = last_instructions(lines)
+        if (n > 0) print "  trace: |"
+        for (k = 1; k <= n; k++) {
+            gsub(/\n/, "\n    ", lines[k])
+            print "    " lines[k]
+        }
+    }
+    print "  ..."
+}
+
+# The last instructions of what was done, on a session that does it once more; the last cycles are done by steps. Keys and settings among
+# them have lines of their own.
+function last_instructions(lines,    left, k, from, n, end, line, count, begun) {
+    close_bench()
+    count = done_count
+    left = 2 * traced + 2
+    begun = 0
+    from = 0
+    for (k = count; k > 0 && left > 0; k--) {
+        if (done_line[k] == "run") {
+            from = done_cycles[k] > left ? done_cycles[k] - left : 0
+            left -= done_cycles[k] - from
+        }
+        begun = k
+    }
+    if (!begun) return 0
+    for (k = 1; k <= count; k++) {
+        past_line[k] = done_line[k]
+        past_cycles[k] = done_cycles[k]
+    }
+    copy_file(begun_with, "again.mcs")
+    done_count = 0
+    elapsed = 0
+    open_bench("open", "again.mcs")
+    for (k = 1; k < begun; k++) {
+        if (past_line[k] == "run") run(past_cycles[k])
+        else command(past_line[k])
+    }
+    if (past_line[begun] == "run") run(from)
+    begin_trace()
+    n = 0
+    for (k = begun; k <= count; k++) {
+        if (past_line[k] != "run") {
+            command(past_line[k])
+            lines[++n] = "          " past_line[k]
+            look_at_all()
+            continue
+        }
+        end = elapsed + past_cycles[k] - (k == begun ? from : 0)
+        while (elapsed < end && (line = trace_step()) != "") lines[++n] = line
+    }
+    lines[++n] = trace_line(elapsed, instruction_at(hex_number(now["pc"])), "comes next")
+    close_bench()
+    # Only the last ones.
+    from = n - traced - 1
+    if (from > 0) {
+        for (k = 1; k <= n - from; k++) lines[k] = lines[k + from]
+        n -= from
+    }
+    return n
+}
