@@ -132,7 +132,6 @@ function tryLaws(name, text) {
   expect(`${name}: serving and settling answers otherwise`, JSON.stringify(both) === JSON.stringify(served));
   expect(`${name}: serving and settling leaves another file`, desk.get().equals(served.done ? settled : before));
   desk.put(before);
-
 }
 
 function damage(file) {

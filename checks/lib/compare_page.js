@@ -62,7 +62,7 @@ function line() {
     () => `press ${below(10)} ${below(5)}`, () => `release ${below(10)} ${below(5)}`,
     () => `test ${below(3)}`, () => "reset", () => `break ${below(400)}`, () => `unbreak ${below(400)}`,
     () => `watch ${below(9)} ${below(3) ? below(64) : below(260)}`, () => `unwatch ${below(8)} ${below(64)}`,
-    () => pick(["lamps", "regs", "breaks", "watches", "ports", "board", "seq"]), () => pick(["ports", "watches", "regs"]),
+    () => pick(["lamps", "regs", "breaks", "watches", "ports", "board", "seq", "state"]), () => pick(["ports", "watches", "regs"]),
     () => `ram ${below(9)}`, () => `list ${below(4200)} ${below(260)}`, () => `wire\n${pick(BOARDS)}.`, () => program().trimEnd(),
     () => `foo ${below(9)}`, () => "", () => "\tregs \r", () => "wire now", () => "x".repeat(250 + below(10)), () => "caf\u00e9"]);
 }
@@ -102,7 +102,7 @@ function byPage(bench, file, input) {
 // How the answer to an input may begin.
 const BEGINNINGS = {
   regs: /^acc /, list: /^[0-9A-F]{3} /, lamps: /^lamps /, ram: /^ram /, board: /^board$/, ports: /^ports$/,
-  map: /^map lines /, breaks: /^breaks /, watches: /^watches /, seq: /^seq /,
+  map: /^map lines /, breaks: /^breaks /, watches: /^watches /, seq: /^seq /, state: /^state seq /,
 };
 
 // Whether the page tells which answers belong to which input.
@@ -143,7 +143,7 @@ function asVersion1(file) {
   return old;
 }
 
-const QUESTIONS = "seq\nregs\nlamps\nports\nwatches\nbreaks\nboard\nram 0\nram 1\nram 7\nlist 0 256\n";
+const QUESTIONS = "seq\nstate\nregs\nlamps\nports\nwatches\nbreaks\nboard\nram 0\nram 1\nram 7\nlist 0 256\n";
 
 const ALL_ROM = [...Array(16).keys()].map((page) => `list ${page * 256} 256\n`).join("");
 

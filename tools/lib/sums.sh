@@ -105,11 +105,11 @@ fault_of_shipped() {
     fi
 }
 
-# What the page is made from, by its checksum: the page's folder but for what is made there, the examples, the words of refusals, and the
-# crate `page` with those below it.
+# What the page is made from, by its checksum: the page's folder but for what is made or tested there, the examples, the texts that tools
+# and page share, and the crate `page` with those below it.
 sum_of_page() {
     {
         sum_of_crate page
-        (cd "$top" && find page examples tools/lib/refusals.awk -type f -print) | grep -vxE "$page_made" | sums_of_files
+        (cd "$top" && find page examples tools/lib/*.txt -type f -print) | grep -vxE "$page_made" | sums_of_files
     } | sum_of_input
 }

@@ -140,7 +140,7 @@ serve() {
     grep -vF -- "$folder" "$folder/words" >&2 || :
     case $(sed 1q "$folder/$3") in
     session\ *) ;;
-    no\ *)
+    no\ [0-9]*)
         number=$(sed -n '1s/^no \([0-9]*\).*/\1/p' "$folder/$3")
         fail "the session ${4:-$2} was refused: no $number: $(refusal "$number")"
         ;;

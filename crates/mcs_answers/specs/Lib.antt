@@ -1,3 +1,4 @@
 pub mod AnswerTexts
+pub mod Commas
 pub mod Keys
 pub mod Version1

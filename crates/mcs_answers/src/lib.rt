@@ -10,6 +10,8 @@ mod queries;
 mod ram;
 mod registers;
 mod size;
+mod state;
+mod state_lists;
 
 pub use numbers::{put_number, put_refusal_at, put_reply};
 pub use queries::{listing_answer, put_board, put_query};

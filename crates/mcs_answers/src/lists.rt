@@ -7,9 +7,10 @@ ghost use Rattle.mcs_model.specs.QueryText.{address_text, breaks_text, lamp_mark
 ghost use Rattle.mcs_answers.specs.AnswerTexts.{line_feed};
 
 use crate::digits::{put, put_address, put_byte, put_digit};
-use crate::size::ANSWER_BYTES;
+use crate::size::{ANSWER_BYTES, LAMP_BYTES};
 use arrayvec::ArrayVec;
 use mcs_bench::Bench;
+use mcs_model::limits::LAMPS;
 use mcs_nibble::{Addr, Bit};
 
 /// The mark of a lamp.
@@ -21,10 +22,10 @@ fn lamp_mark(level: Bit) -> u8
 
 /// Adds a mark for each lamp of the board, in order.
 fn put_marks(answer: &mut ArrayVec<u8, ANSWER_BYTES>, bench: &Bench)
-    requires { array_vec_len answer.old ≤ 100 }
+    requires { array_vec_len answer.old + LAMPS ≤ ANSWER_BYTES }
     ensures text { answer.new.items ≡ answer.old.items
         ++ map (λ line. lamp_mark (level bench.now.bus line)) bench.now.bus.board.lamps.items }
-    ensures count { length answer.new.items ≤ length answer.old.items + 64 }
+    ensures count { length answer.new.items ≤ length answer.old.items + LAMPS }
 {
     let lamps = bench.board().parts().lamps.len();
     for i in 0..lamps {
@@ -33,10 +34,11 @@ fn put_marks(answer: &mut ArrayVec<u8, ANSWER_BYTES>, bench: &Bench)
     }
 }
 
-/// Tells the levels of the lamps, in an empty answer.
-pub fn put_lamps(answer: &mut ArrayVec<u8, ANSWER_BYTES>, bench: &Bench)
-    requires { answer.old.items ≡ [] }
-    ensures { answer.new.items ≡ lamps_text bench.now.bus ++ line_feed }
+/// Adds the levels of the lamps.
+pub(crate) fn add_lamps(answer: &mut ArrayVec<u8, ANSWER_BYTES>, bench: &Bench)
+    requires { array_vec_len answer.old + LAMP_BYTES ≤ ANSWER_BYTES }
+    ensures text { answer.new.items ≡ answer.old.items ++ lamps_text bench.now.bus }
+    ensures count { length answer.new.items ≤ length answer.old.items + LAMP_BYTES }
 {
     put(answer, b"lamps ");
     if bench.board().parts().lamps.is_empty() {
@@ -44,6 +46,14 @@ pub fn put_lamps(answer: &mut ArrayVec<u8, ANSWER_BYTES>, bench: &Bench)
     } else {
         put_marks(answer, bench);
     }
+}
+
+/// Tells the levels of the lamps, in an empty answer.
+pub fn put_lamps(answer: &mut ArrayVec<u8, ANSWER_BYTES>, bench: &Bench)
+    requires { answer.old.items ≡ [] }
+    ensures { answer.new.items ≡ lamps_text bench.now.bus ++ line_feed }
+{
+    add_lamps(answer, bench);
     put(answer, b"\n");
 }
 
@@ -75,7 +85,7 @@ pub fn put_breaks(answer: &mut ArrayVec<u8, ANSWER_BYTES>, bench: &Bench)
 }
 
 /// Adds a word, and the bank and the SRC byte of a watched character.
-fn put_watch(answer: &mut ArrayVec<u8, ANSWER_BYTES>, word: &[u8], watch: Addr)
+pub(crate) fn put_watch(answer: &mut ArrayVec<u8, ANSWER_BYTES>, word: &[u8], watch: Addr)
     requires { array_vec_len answer.old + length word.now + 4 ≤ ANSWER_BYTES }
     ensures text { answer.new.items ≡ answer.old.items ++ word.now ++ watch_text watch }
     ensures count { length answer.new.items ≡ length answer.old.items + length word.now + 4 }

@@ -12,7 +12,7 @@ use mcs_model::command::Reply;
 use mcs_model::stop::Stop;
 
 /// Adds a word and a number in decimal digits.
-fn put_counted(answer: &mut ArrayVec<u8, ANSWER_BYTES>, word: &[u8], n: u64)
+pub(crate) fn put_counted(answer: &mut ArrayVec<u8, ANSWER_BYTES>, word: &[u8], n: u64)
     requires { array_vec_len answer.old + length word.now + 20 ≤ ANSWER_BYTES }
     ensures text { answer.new.items ≡ answer.old.items ++ (word.now ++ decimal n) }
     ensures count { length answer.new.items ≤ length answer.old.items + length word.now + 20 }

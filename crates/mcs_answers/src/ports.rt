@@ -19,7 +19,7 @@ use mcs_model::limits::{
 use mcs_nibble::{Bit, Nibble};
 
 /// A law: the parts of a bench's board are no more than a board can have.
-fn are_within_limits(bench: &Bench)
+pub(crate) fn are_within_limits(bench: &Bench)
     ensures chains { chain_count bench.now.bus.board ≤ CHAINS }
     ensures chips { (n : ℕ) → (chain_part bench.now.bus.board n).chips ≤ CHAIN_CHIPS }
     ensures rows { (m : KeyMatrix) → bench.now.bus.board.keys ≡ Some m → m.rows ≤ KEY_ROWS }
@@ -56,7 +56,7 @@ fn put_src(answer: &mut ArrayVec<u8, ANSWER_BYTES>, bench: &Bench)
 }
 
 /// Adds a word and a number below 100 in decimal digits.
-fn put_small(answer: &mut ArrayVec<u8, ANSWER_BYTES>, word: &[u8], n: u8)
+pub(crate) fn put_small(answer: &mut ArrayVec<u8, ANSWER_BYTES>, word: &[u8], n: u8)
     requires small { n < 100 }
     requires room { array_vec_len answer.old + length word.now + 2 ≤ ANSWER_BYTES }
     ensures text { answer.new.items ≡ answer.old.items ++ (word.now ++ decimal n) }
@@ -111,7 +111,7 @@ fn put_bit(answer: &mut ArrayVec<u8, ANSWER_BYTES>, bench: &Bench, n: u8, i: u8)
 }
 
 /// How many bits a chain has.
-fn bits_of(bench: &Bench, n: u8) -> u8
+pub(crate) fn bits_of(bench: &Bench, n: u8) -> u8
     requires { n < chain_count bench.now.bus.board }
     ensures bits { result ≡ chain_bits bench.now.bus.board n }
     ensures few { result ≤ CHAIN_BITS }

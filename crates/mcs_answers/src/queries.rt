@@ -7,8 +7,9 @@ use crate::lists::{put_breaks, put_lamps, put_watches};
 use crate::numbers::put_number;
 use crate::ports::put_ports;
 use crate::ram::put_ram;
-use crate::registers::put_registers;
+use crate::registers::put_regs;
 use crate::size::ANSWER_BYTES;
+use crate::state::put_state;
 use arrayvec::ArrayVec;
 use mcs_bench::Bench;
 use mcs_dis::listing;
@@ -24,12 +25,13 @@ pub fn put_query(answer: &mut ArrayVec<u8, ANSWER_BYTES>, query: Query, bench: &
 {
     match query {
         Query::Lamps => put_lamps(answer, bench),
-        Query::Regs => put_registers(answer, bench),
+        Query::Regs => put_regs(answer, bench),
         Query::Ram(bank) => put_ram(answer, bench, bank.get()),
         Query::Breaks => put_breaks(answer, bench),
         Query::Watches => put_watches(answer, bench),
         Query::Ports => put_ports(answer, bench),
         Query::Seq => put_number(answer, b"seq ", u64::from(bench.seq())),
+        Query::State => put_state(answer, bench),
     }
 }
 

@@ -107,7 +107,7 @@ fn put_chip(answer: &mut ArrayVec<u8, ANSWER_BYTES>, bench: &Bench, bank: u8, ch
 }
 
 /// How many chips a bank has: 4 at most.
-fn chips_of(bench: &Bench, bank: u8) -> u8
+pub(crate) fn chips_of(bench: &Bench, bank: u8) -> u8
     requires { bank < 8 }
     ensures chips { result ≡ chips_of bench.now.bus bank }
     ensures few { result ≤ 4 }

@@ -1,17 +1,20 @@
 //! The answer to `regs`.
-ghost use Rattle.std.specs.Prelude.{◌≡◌, ◌++◌, []};
-ghost use Rattle.mcs_model.specs.QueryText.{regs_text};
+ghost use Rattle.std.specs.Prelude.{◌≡◌, ◌+◌, ◌++◌, ◌≤◌, [], length};
+ghost use Rattle.arrayvec.specs.ArrayVec.{array_vec_len};
+ghost use Rattle.mcs_model.specs.QueryText.{registers_text, regs_text};
 ghost use Rattle.mcs_answers.specs.AnswerTexts.{line_feed};
 
 use crate::digits::{put, put_address, put_digit, put_digits};
-use crate::size::ANSWER_BYTES;
+use crate::size::{ANSWER_BYTES, REGISTER_BYTES};
 use arrayvec::ArrayVec;
 use mcs_bench::Bench;
 
-/// Tells the registers and the TEST pin of a bench, in an empty answer.
-pub fn put_registers(answer: &mut ArrayVec<u8, ANSWER_BYTES>, bench: &Bench)
-    requires { answer.old.items ≡ [] }
-    ensures { answer.new.items ≡ regs_text bench.now.processor bench.now.bus.test ++ line_feed }
+/// Adds the registers but the return addresses, and the TEST pin.
+pub(crate) fn put_registers(answer: &mut ArrayVec<u8, ANSWER_BYTES>, bench: &Bench)
+    requires { array_vec_len answer.old + REGISTER_BYTES ≤ ANSWER_BYTES }
+    ensures text { answer.new.items
+        ≡ answer.old.items ++ registers_text bench.now.processor bench.now.bus.test }
+    ensures count { length answer.new.items ≡ length answer.old.items + REGISTER_BYTES }
 {
     let regs = bench.regs();
     put_digit(answer, b"acc ", regs.acc.get());
@@ -22,8 +25,17 @@ pub fn put_registers(answer: &mut ArrayVec<u8, ANSWER_BYTES>, bench: &Bench)
     put_digit(answer, b" test ", bench.test().get());
     put(answer, b" r ");
     put_digits(answer, &regs.r);
-    put_address(answer, b" ret ", regs.ret[0]);
-    put_address(answer, b" ", regs.ret[1]);
-    put_address(answer, b" ", regs.ret[2]);
+}
+
+/// Tells the registers and the TEST pin of a bench, in an empty answer.
+pub fn put_regs(answer: &mut ArrayVec<u8, ANSWER_BYTES>, bench: &Bench)
+    requires { answer.old.items ≡ [] }
+    ensures { answer.new.items ≡ regs_text bench.now.processor bench.now.bus.test ++ line_feed }
+{
+    let ret = bench.regs().ret;
+    put_registers(answer, bench);
+    put_address(answer, b" ret ", ret[0]);
+    put_address(answer, b" ", ret[1]);
+    put_address(answer, b" ", ret[2]);
     put(answer, b"\n");
 }

@@ -1,6 +1,8 @@
 //! How long an answer gets that takes no memory.
 
-use mcs_model::limits::{BANK_CHIPS, BANKS, CHAIN_CHIPS, CHAINS, KEYS, ROMS};
+use mcs_model::limits::{
+    BANK_CHIPS, BANKS, BREAKPOINTS, CHAIN_CHIPS, CHAINS, KEYS, LAMPS, ROMS, WATCHES,
+};
 
 /// Bytes of the longest answer to `ram`: its head, and of each chip four registers and the port.
 const RAM_BYTES: usize = 14 + (4 * 28 + 10) * BANK_CHIPS as usize;
@@ -20,9 +22,56 @@ pub(crate) const KEY_BYTES: usize = 5 + 4 * KEYS;
 /// Bytes of the longest answer to `ports`: its head, and its lines.
 const PORTS_BYTES: usize = 6 + SRC_BYTES + ROMS * ROM_BYTES + CHAINS * CHAIN_BYTES + KEY_BYTES;
 
-/// Bytes of the longest answer that takes no memory: that to `ram` or that to `ports`.
-pub const ANSWER_BYTES: usize = if RAM_BYTES < PORTS_BYTES {
+/// Bytes of `regs` but its return addresses.
+pub(crate) const REGISTER_BYTES: usize = 56;
+
+/// Bytes of the longest list of SRC bytes in `state`: its key, of each bank five, and one to end it.
+pub(crate) const BANK_LIST_BYTES: usize = 8 + 5 * BANKS;
+
+/// Bytes of the longest list of ROM ports in `state`.
+pub(crate) const ROM_LIST_BYTES: usize = 7 + 7 * ROMS;
+
+/// Bytes of the longest list of RAM ports in `state`.
+pub(crate) const RAM_LIST_BYTES: usize = 7 + 6 * BANK_CHIPS as usize * BANKS;
+
+/// Bytes of the longest chain in `state`: of each chip ten bits, and a comma.
+pub(crate) const CHAIN_ITEM_BYTES: usize = 10 * CHAIN_CHIPS as usize + 1;
+
+/// Bytes of the longest list of chains in `state`.
+pub(crate) const CHAIN_LIST_BYTES: usize = 9 + CHAIN_ITEM_BYTES * CHAINS;
+
+/// Bytes of the longest list of keys in `state`.
+pub(crate) const KEY_LIST_BYTES: usize = 7 + 4 * KEYS;
+
+/// Bytes of the longest answer to `lamps`, without its line feed.
+pub(crate) const LAMP_BYTES: usize = 6 + LAMPS;
+
+/// Bytes of the longest answer to `state`: the count, the registers and the return addresses, the
+/// SRC byte of the ROMs, the lists, and the line feed.
+const STATE_BYTES: usize = 30
+    + (1 + REGISTER_BYTES)
+    + 18
+    + 7
+    + BANK_LIST_BYTES
+    + ROM_LIST_BYTES
+    + RAM_LIST_BYTES
+    + CHAIN_LIST_BYTES
+    + KEY_LIST_BYTES
+    + (1 + LAMP_BYTES)
+    + (9 + 4 * BREAKPOINTS)
+    + (10 + 5 * WATCHES)
+    + 1;
+
+/// Bytes of the longest answer of several lines: that to `ram` or that to `ports`.
+const LINES_BYTES: usize = if RAM_BYTES < PORTS_BYTES {
     PORTS_BYTES
 } else {
     RAM_BYTES
+};
+
+/// Bytes of the longest answer that takes no memory.
+pub const ANSWER_BYTES: usize = if LINES_BYTES < STATE_BYTES {
+    STATE_BYTES
+} else {
+    LINES_BYTES
 };

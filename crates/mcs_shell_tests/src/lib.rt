@@ -16,6 +16,8 @@ mod maps;
 #[cfg(test)]
 mod sessions;
 #[cfg(test)]
+mod state;
+#[cfg(test)]
 mod texts;
 #[cfg(test)]
 mod watches;

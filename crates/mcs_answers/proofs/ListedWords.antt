@@ -1,0 +1,70 @@
+-- Lists in one word.
+use Rattle.std.proofs.Common.{◌≡◌, ℕ, suc, ◌+◌, ◌-◌, ◌≤◌, List, [], ◌∷◌, ◌++◌, codes, length, map, take, refl, ap, sym, ◌∙◌, append_assoc, append-nil, length-append, arith}
+use Rattle.std.proofs.lemmas.Grind.{common_steps, flat_map-append}
+use Rattle.std.proofs.lemmas.List.{map-append}
+use Rattle.std.proofs.lemmas.List.Folds.{flat_map-map}
+use Rattle.std.specs.List.{flat_map, join_with_byte, range_with_len}
+use Rattle.mcs_model.proofs.ListLemmas.{range_more}
+use Rattle.mcs_model.specs.QueryText.{one_word}
+use Rattle.mcs_answers.specs.Commas.{with_comma, with_commas}
+
+-- items with commas between them, and one more comma
+joined : (x : List ℕ) (xs : List (List ℕ)) → join_with_byte 44 (x ∷ xs) ++ 44 ∷ [] ≡ with_commas (x ∷ xs)
+joined x [] = sym (append-nil (with_comma x))
+joined x (y ∷ ys) =
+    append_assoc x (44 ∷ join_with_byte 44 (y ∷ ys)) (44 ∷ [])
+    ∙ (ap (λ t. x ++ 44 ∷ t) (joined y ys) ∙ sym (append_assoc x (44 ∷ []) (with_commas (y ∷ ys))))
+
+-- a list without its last element
+last_off : (xs : List ℕ) (c : ℕ) → take (length (xs ++ c ∷ []) - 1) (xs ++ c ∷ []) ≡ xs
+last_off xs c = grind (arith, common_steps)
+
+-- where nothing was written, nothing is listed
+pub ended_by_dash : (before old new : List ℕ) (items : List (List ℕ)) → length old ≡ length before
+    → old ≡ before ++ with_commas items
+    → new ≡ old ++ codes "-"
+    → new ≡ before ++ one_word items
+ended_by_dash before old new [] same listed here = here ∙ ap (λ v. v ++ codes "-") (listed ∙ append-nil before)
+ended_by_dash before old new (x ∷ xs) same listed here =
+    let whole : length old ≡ length before + (length (x ++ 44 ∷ []) + length (with_commas xs)) =
+    ap length listed ∙ length-append before (with_commas (x ∷ xs)) ∙ ap (λ n. length before + n) (length-append (x ++ 44 ∷ []) (with_commas xs)) in
+    let more : length (x ++ 44 ∷ []) ≡ length x + 1 = length-append x (44 ∷ []) in
+    absurd (omega arith)
+
+-- where something was written, its last comma goes
+pub ended_by_pop : (before old new : List ℕ) (items : List (List ℕ)) → length before + 1 ≤ length old
+    → old ≡ before ++ with_commas items
+    → new ≡ take (length old - 1) old
+    → new ≡ before ++ one_word items
+ended_by_pop before old new [] more listed here =
+    let none : length old ≡ length before = ap length (listed ∙ append-nil before) in
+    absurd (omega arith)
+ended_by_pop before old new (x ∷ xs) more listed here =
+    let text = before ++ join_with_byte 44 (x ∷ xs) in
+    let whole : old ≡ text ++ 44 ∷ [] =
+    listed ∙ ap (λ v. before ++ v) (sym (joined x xs)) ∙ sym (append_assoc before (join_with_byte 44 (x ∷ xs)) (44 ∷ [])) in
+    here ∙ ap (λ v. take (length v - 1) v) whole ∙ last_off text 44
+
+-- the items of all are the items of each
+pub commas-flat_map : {A : Type 0} (f : A → List (List ℕ)) (xs : List A) → with_commas (flat_map f xs) ≡ flat_map (λ x. with_commas (f x)) xs
+commas-flat_map f [] = refl
+commas-flat_map f (x ∷ xs) = flat_map-append with_comma (f x) (flat_map f xs) ∙ ap (λ t. with_commas (f x) ++ t) (commas-flat_map f xs)
+
+pub commas-map : {A : Type 0} (f : A → List ℕ) (xs : List A) → with_commas (map f xs) ≡ flat_map (λ x. with_comma (f x)) xs
+commas-map f xs = flat_map-map with_comma f xs
+
+-- one number more of numbers that are written one by one
+pub numbered : (f : ℕ → ℕ) (n : ℕ) (a b c : List ℕ)
+    → b ≡ a ++ map f (range_with_len 0 n)
+    → c ≡ b ++ f n ∷ []
+    → c ≡ a ++ map f (range_with_len 0 (n + 1))
+numbered f n a b c so_far here =
+    let done = map f (range_with_len 0 n) in
+    let above : n + 1 ≡ suc n = omega arith in
+    let from : 0 + n ≡ n = omega arith in
+    let next : range_with_len 0 (n + 1) ≡ range_with_len 0 n ++ n ∷ [] =
+    ap (range_with_len 0) above ∙ range_more 0 n ∙ ap (λ k. range_with_len 0 n ++ k ∷ []) from in
+    here
+    ∙ ap (λ v. v ++ f n ∷ []) so_far
+    ∙ append_assoc a done (f n ∷ [])
+    ∙ ap (λ v. a ++ v) (sym (ap (map f) next ∙ map-append f (range_with_len 0 n) (n ∷ [])))

@@ -1,0 +1,38 @@
+//! The answer to `state`.
+ghost use Rattle.std.specs.Prelude.{◌≡◌, ◌++◌, []};
+ghost use Rattle.mcs_model.specs.QueryText.{state_text};
+ghost use Rattle.mcs_answers.specs.AnswerTexts.{line_feed};
+
+use crate::digits::{put, put_byte};
+use crate::lists::add_lamps;
+use crate::numbers::put_counted;
+use crate::registers::put_registers;
+use crate::size::ANSWER_BYTES;
+use crate::state_lists::{
+    put_address_list, put_bank_list, put_chain_list, put_key_list, put_ram_list, put_rom_list,
+    put_watch_list,
+};
+use arrayvec::ArrayVec;
+use mcs_bench::Bench;
+
+/// Tells all that is not ROM or RAM in one line, in an empty answer.
+pub fn put_state(answer: &mut ArrayVec<u8, ANSWER_BYTES>, bench: &Bench)
+    requires { answer.old.items ≡ [] }
+    ensures { answer.new.items ≡ state_text bench.now ++ line_feed }
+{
+    put_counted(answer, b"state seq ", u64::from(bench.seq()));
+    put(answer, b" ");
+    put_registers(answer, bench);
+    put_address_list(answer, b" ret ", &bench.regs().ret);
+    put_byte(answer, b" src ", bench.rom_src());
+    put_bank_list(answer, bench);
+    put_rom_list(answer, bench);
+    put_ram_list(answer, bench);
+    put_chain_list(answer, bench);
+    put_key_list(answer, bench);
+    put(answer, b" ");
+    add_lamps(answer, bench);
+    put_address_list(answer, b" breaks ", bench.breaks());
+    put_watch_list(answer, bench.watches());
+    put(answer, b"\n");
+}

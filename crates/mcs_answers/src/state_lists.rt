@@ -1,0 +1,302 @@
+//! The lists of the answer to `state`, each in one word: its items are added with a comma after
+//! each, and then the last comma is taken off.
+ghost use Rattle.std.specs.Prelude.{◌≡◌, ℕ, ◌+◌, ◌*◌, ◌++◌, ◌<◌, ◌≤◌, List, true, codes, length, map};
+ghost use Rattle.std.specs.List.{flat_map, range_with_len};
+ghost use Rattle.arrayvec.specs.ArrayVec.{array_vec_len};
+ghost use Rattle.mcs_model.specs.Boards.{chain_count, has_key};
+ghost use Rattle.mcs_model.specs.QueryText.{address_text, bank_items, chain_item, key_item, key_items, one_word, ram_item, ram_items, rom_items, row_items, watch_text};
+ghost use Rattle.mcs_answers.specs.Commas.{with_comma, with_commas};
+
+use crate::digits::{put, put_address, put_byte, put_digit};
+use crate::lists::put_watch;
+use crate::ports::{are_within_limits, bits_of, put_small};
+use crate::ram::chips_of;
+use crate::size::{
+    ANSWER_BYTES, BANK_LIST_BYTES, CHAIN_ITEM_BYTES, CHAIN_LIST_BYTES, KEY_LIST_BYTES,
+    RAM_LIST_BYTES, ROM_LIST_BYTES,
+};
+use arrayvec::ArrayVec;
+use mcs_bench::Bench;
+use mcs_model::limits::{BANKS, KEY_COLUMNS, KEY_ROWS, KEYS, ROMS};
+use mcs_nibble::{Addr, Bit, Nibble};
+
+/// Ends a list whose items, each with a comma after it, begin at `start`: the last comma goes, and
+/// a list of nothing becomes a dash.
+fn end_list(answer: &mut ArrayVec<u8, ANSWER_BYTES>, start: usize)
+    requires { array_vec_len answer.old + 1 ≤ ANSWER_BYTES }
+    ensures text { (before : List ℕ) (items : List (List ℕ)) → length before ≡ start
+        → answer.old.items ≡ before ++ with_commas items
+        → answer.new.items ≡ before ++ one_word items }
+    ensures count { length answer.new.items ≤ length answer.old.items + 1 }
+{
+    if answer.len() == start {
+        put(answer, b"-");
+    } else {
+        answer.pop();
+    }
+}
+
+/// Adds addresses, each with a comma after it.
+fn put_address_items(answer: &mut ArrayVec<u8, ANSWER_BYTES>, list: &[Addr])
+    requires { array_vec_len answer.old + 4 * length list.now ≤ ANSWER_BYTES }
+    ensures text { answer.new.items
+        ≡ answer.old.items ++ flat_map (λ at. with_comma (address_text at)) list.now }
+    ensures count { length answer.new.items ≡ length answer.old.items + 4 * length list.now }
+{
+    for at in list {
+        put_address(answer, b"", *at);
+        put(answer, b",");
+    }
+}
+
+/// Adds a word and a list of addresses.
+pub(crate) fn put_address_list(answer: &mut ArrayVec<u8, ANSWER_BYTES>, word: &[u8], list: &[Addr])
+    requires { array_vec_len answer.old + length word.now + 4 * length list.now + 1 ≤ ANSWER_BYTES }
+    ensures text { answer.new.items
+        ≡ answer.old.items ++ word.now ++ one_word (map address_text list.now) }
+    ensures count { length answer.new.items
+        ≤ length answer.old.items + length word.now + 4 * length list.now + 1 }
+{
+    put(answer, word);
+    let start = answer.len();
+    put_address_items(answer, list);
+    end_list(answer, start);
+}
+
+/// Adds watched characters, each with a comma after it.
+fn put_watch_items(answer: &mut ArrayVec<u8, ANSWER_BYTES>, list: &[Addr])
+    requires { array_vec_len answer.old + 5 * length list.now ≤ ANSWER_BYTES }
+    ensures text { answer.new.items
+        ≡ answer.old.items ++ flat_map (λ watch. with_comma (watch_text watch)) list.now }
+    ensures count { length answer.new.items ≡ length answer.old.items + 5 * length list.now }
+{
+    for watch in list {
+        put_watch(answer, b"", *watch);
+        put(answer, b",");
+    }
+}
+
+/// Adds the list of the watched characters.
+pub(crate) fn put_watch_list(answer: &mut ArrayVec<u8, ANSWER_BYTES>, list: &[Addr])
+    requires { array_vec_len answer.old + 5 * length list.now + 10 ≤ ANSWER_BYTES }
+    ensures text { answer.new.items
+        ≡ answer.old.items ++ codes " watches " ++ one_word (map watch_text list.now) }
+    ensures count { length answer.new.items ≤ length answer.old.items + 5 * length list.now + 10 }
+{
+    put(answer, b" watches ");
+    let start = answer.len();
+    put_watch_items(answer, list);
+    end_list(answer, start);
+}
+
+/// Adds the SRC byte that a bank keeps, where it has chips.
+fn put_bank_item(answer: &mut ArrayVec<u8, ANSWER_BYTES>, bench: &Bench, bank: u8)
+    requires bank { bank < 8 }
+    requires room { array_vec_len answer.old + 5 ≤ ANSWER_BYTES }
+    ensures text { answer.new.items
+        ≡ answer.old.items ++ with_commas (bank_items bench.now.bus bank) }
+    ensures count { length answer.new.items ≤ length answer.old.items + 5 }
+{
+    if 0 < bench.board().bank_chips(bank) {
+        put_digit(answer, b"", bank);
+        put_byte(answer, b".", bench.ram_src(bank));
+        put(answer, b",");
+    }
+}
+
+/// Adds the list of the SRC bytes of the banks.
+pub(crate) fn put_bank_list(answer: &mut ArrayVec<u8, ANSWER_BYTES>, bench: &Bench)
+    requires { array_vec_len answer.old + BANK_LIST_BYTES ≤ ANSWER_BYTES }
+    ensures text { answer.new.items ≡ answer.old.items ++ codes " banks "
+        ++ one_word (flat_map (bank_items bench.now.bus) (range_with_len 0 BANKS)) }
+    ensures count { length answer.new.items ≤ length answer.old.items + BANK_LIST_BYTES }
+{
+    put(answer, b" banks ");
+    let start = answer.len();
+    for bank in 0..BANKS as u8 {
+        put_bank_item(answer, bench, bank);
+    }
+    end_list(answer, start);
+}
+
+/// Adds the port of a ROM, where the ROM is there: its latch, and what is read there now.
+fn put_rom_item(answer: &mut ArrayVec<u8, ANSWER_BYTES>, bench: &Bench, chip: u8)
+    requires chip { chip < 16 }
+    requires room { array_vec_len answer.old + 7 ≤ ANSWER_BYTES }
+    ensures text { answer.new.items
+        ≡ answer.old.items ++ with_commas (rom_items bench.now.bus chip) }
+    ensures count { length answer.new.items ≤ length answer.old.items + 7 }
+{
+    if bench.board().mask(chip).is_some() {
+        put_small(answer, b"", chip);
+        put_digit(answer, b".", bench.rom_port(chip).get());
+        put_digit(answer, b".", bench.read_port(Nibble::low_of(chip)).get());
+        put(answer, b",");
+    }
+}
+
+/// Adds the list of the ports of the ROMs.
+pub(crate) fn put_rom_list(answer: &mut ArrayVec<u8, ANSWER_BYTES>, bench: &Bench)
+    requires { array_vec_len answer.old + ROM_LIST_BYTES ≤ ANSWER_BYTES }
+    ensures text { answer.new.items ≡ answer.old.items ++ codes " roms "
+        ++ one_word (flat_map (rom_items bench.now.bus) (range_with_len 0 ROMS)) }
+    ensures count { length answer.new.items ≤ length answer.old.items + ROM_LIST_BYTES }
+{
+    put(answer, b" roms ");
+    let start = answer.len();
+    for chip in 0..ROMS as u8 {
+        put_rom_item(answer, bench, chip);
+    }
+    end_list(answer, start);
+}
+
+/// Adds the port of a RAM chip, with a comma after it.
+fn put_ram_item(answer: &mut ArrayVec<u8, ANSWER_BYTES>, bench: &Bench, bank: u8, chip: u8)
+    requires bank { bank < 8 }
+    requires chip { chip < 4 }
+    requires room { array_vec_len answer.old + 6 ≤ ANSWER_BYTES }
+    ensures text { answer.new.items
+        ≡ answer.old.items ++ with_comma (ram_item bench.now.bus bank chip) }
+    ensures count { length answer.new.items ≡ length answer.old.items + 6 }
+{
+    put_digit(answer, b"", bank);
+    put_digit(answer, b".", chip);
+    put_digit(answer, b".", bench.ram_port(bank, chip).get());
+    put(answer, b",");
+}
+
+/// Adds the ports of the RAM chips of a bank.
+fn put_ram_items(answer: &mut ArrayVec<u8, ANSWER_BYTES>, bench: &Bench, bank: u8)
+    requires bank { bank < 8 }
+    requires room { array_vec_len answer.old + 24 ≤ ANSWER_BYTES }
+    ensures text { answer.new.items
+        ≡ answer.old.items ++ with_commas (ram_items bench.now.bus bank) }
+    ensures count { length answer.new.items ≤ length answer.old.items + 24 }
+{
+    let chips = chips_of(bench, bank);
+    for chip in 0..chips {
+        put_ram_item(answer, bench, bank, chip);
+    }
+}
+
+/// Adds the list of the ports of the RAM chips.
+pub(crate) fn put_ram_list(answer: &mut ArrayVec<u8, ANSWER_BYTES>, bench: &Bench)
+    requires { array_vec_len answer.old + RAM_LIST_BYTES ≤ ANSWER_BYTES }
+    ensures text { answer.new.items ≡ answer.old.items ++ codes " rams "
+        ++ one_word (flat_map (ram_items bench.now.bus) (range_with_len 0 BANKS)) }
+    ensures count { length answer.new.items ≤ length answer.old.items + RAM_LIST_BYTES }
+{
+    put(answer, b" rams ");
+    let start = answer.len();
+    for bank in 0..BANKS as u8 {
+        put_ram_items(answer, bench, bank);
+    }
+    end_list(answer, start);
+}
+
+/// Adds the bits of a chain, with a comma after them.
+fn put_chain_item(answer: &mut ArrayVec<u8, ANSWER_BYTES>, bench: &Bench, n: u8)
+    requires chain { n < chain_count bench.now.bus.board }
+    requires room { array_vec_len answer.old + CHAIN_ITEM_BYTES ≤ ANSWER_BYTES }
+    ensures text { answer.new.items ≡ answer.old.items ++ with_comma (chain_item bench.now.bus n) }
+    ensures count { length answer.new.items ≤ length answer.old.items + CHAIN_ITEM_BYTES }
+{
+    let bits = bits_of(bench, n);
+    for i in 0..bits {
+        put_digit(answer, b"", bench.chain_bit(n, i).get());
+    }
+    put(answer, b",");
+}
+
+/// Adds the list of the chains.
+pub(crate) fn put_chain_list(answer: &mut ArrayVec<u8, ANSWER_BYTES>, bench: &Bench)
+    requires { array_vec_len answer.old + CHAIN_LIST_BYTES ≤ ANSWER_BYTES }
+    ensures text { answer.new.items ≡ answer.old.items ++ codes " chains "
+        ++ one_word (map (chain_item bench.now.bus)
+        (range_with_len 0 (chain_count bench.now.bus.board))) }
+    ensures count { length answer.new.items ≤ length answer.old.items + CHAIN_LIST_BYTES }
+{
+    are_within_limits(bench);
+    let chains = bench.board().chain_count() as u8;
+    put(answer, b" chains ");
+    let start = answer.len();
+    for n in 0..chains {
+        put_chain_item(answer, bench, n);
+    }
+    end_list(answer, start);
+}
+
+/// Adds the row and the column of a key, where it is down.
+fn put_key_item(answer: &mut ArrayVec<u8, ANSWER_BYTES>, bench: &Bench, row: u8, column: u8)
+    requires key { has_key bench.now.bus.board row column ≡ true }
+    requires row { row < 16 }
+    requires column { column < 16 }
+    requires room { array_vec_len answer.old + 4 ≤ ANSWER_BYTES }
+    ensures text { answer.new.items
+        ≡ answer.old.items ++ with_commas (key_item bench.now.bus row column) }
+    ensures count { length answer.new.items ≤ length answer.old.items + 4 }
+{
+    if bench.key(row, column) == Bit::ONE {
+        put_digit(answer, b"", row);
+        put_digit(answer, b".", column);
+        put(answer, b",");
+    }
+}
+
+/// Adds the keys of a row that are down.
+fn put_row_items(answer: &mut ArrayVec<u8, ANSWER_BYTES>, bench: &Bench, columns: u8, row: u8)
+    requires keys { (column : ℕ) → column < columns
+        → has_key bench.now.bus.board row column ≡ true }
+    requires columns { columns ≤ KEY_COLUMNS }
+    requires row { row < KEY_ROWS }
+    requires room { array_vec_len answer.old + 4 * KEY_COLUMNS ≤ ANSWER_BYTES }
+    ensures text { answer.new.items
+        ≡ answer.old.items ++ with_commas (row_items bench.now.bus columns row) }
+    ensures count { length answer.new.items ≤ length answer.old.items + 4 * KEY_COLUMNS }
+{
+    for column in 0..columns {
+        put_key_item(answer, bench, row, column);
+    }
+}
+
+/// Adds the keys of the rows that are down, row by row.
+fn put_rows_items(answer: &mut ArrayVec<u8, ANSWER_BYTES>, bench: &Bench, rows: u8, columns: u8)
+    requires keys { (row column : ℕ) → row < rows → column < columns
+        → has_key bench.now.bus.board row column ≡ true }
+    requires rows { rows ≤ KEY_ROWS }
+    requires columns { columns ≤ KEY_COLUMNS }
+    requires room { array_vec_len answer.old + 4 * KEYS ≤ ANSWER_BYTES }
+    ensures text { answer.new.items ≡ answer.old.items
+        ++ with_commas (flat_map (row_items bench.now.bus columns) (range_with_len 0 rows)) }
+    ensures count { length answer.new.items ≤ length answer.old.items + 4 * KEYS }
+{
+    for row in 0..rows {
+        put_row_items(answer, bench, columns, row);
+    }
+}
+
+/// Adds the keys that are down, row by row.
+fn put_key_items(answer: &mut ArrayVec<u8, ANSWER_BYTES>, bench: &Bench)
+    requires { array_vec_len answer.old + 4 * KEYS ≤ ANSWER_BYTES }
+    ensures text { answer.new.items ≡ answer.old.items ++ with_commas (key_items bench.now.bus) }
+    ensures count { length answer.new.items ≤ length answer.old.items + 4 * KEYS }
+{
+    are_within_limits(bench);
+    if let Some(matrix) = &bench.board().parts().keys {
+        let columns = matrix.columns.len() as u8;
+        put_rows_items(answer, bench, matrix.rows, columns);
+    }
+}
+
+/// Adds the list of the keys that are down.
+pub(crate) fn put_key_list(answer: &mut ArrayVec<u8, ANSWER_BYTES>, bench: &Bench)
+    requires { array_vec_len answer.old + KEY_LIST_BYTES ≤ ANSWER_BYTES }
+    ensures text { answer.new.items
+        ≡ answer.old.items ++ codes " keys " ++ one_word (key_items bench.now.bus) }
+    ensures count { length answer.new.items ≤ length answer.old.items + KEY_LIST_BYTES }
+{
+    put(answer, b" keys ");
+    let start = answer.len();
+    put_key_items(answer, bench);
+    end_list(answer, start);
+}

@@ -1,0 +1,19 @@
+//! The line `state`.
+use mcs_lines::requests::{Request, read_request};
+use mcs_model::query::Query;
+use std::process::Abort;
+
+/// Whether a line asks for the state in one line.
+fn asks_for_the_state(line: &[u8]) -> bool {
+    matches!(read_request(line), Request::Ask(Query::State))
+}
+
+#[test]
+fn the_state_is_asked_for_by_its_word_alone(rt: HostRuntime) {
+    for line in [b"state".as_slice(), b"\tstate  "] {
+        assert!(rt; asks_for_the_state(line));
+    }
+    for line in [b"state 1".as_slice(), b"State", b"states", b"stat", b"seq"] {
+        assert!(rt; !asks_for_the_state(line));
+    }
+}
