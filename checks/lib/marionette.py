@@ -25,15 +25,6 @@ def preferences(downloads):
     }
 
 
-# A script of the driver does not see the names of the page's scripts, so one is put among them.
-AMONG_SCRIPTS = """
-const script = document.createElement("script");
-script.textContent = `window.answerOfScript = (() => {${arguments[0]}})()`;
-document.head.append(script);
-script.remove();
-return window.answerOfScript"""
-
-
 class Firefox(Driven):
     name = "Firefox"
     # With these settings it keeps no data of any site.
@@ -92,10 +83,6 @@ class Firefox(Driven):
     def script(self, code, *words):
         return self.do("WebDriver:ExecuteScript", script=code, args=list(words))
 
-    def inside(self, code):
-        """A script among those of the page, which sees their names."""
-        return self.script(AMONG_SCRIPTS, code)
-
     def find(self, selector):
         return self.do("WebDriver:FindElement", using="css selector", value=selector)[ELEMENT]
 
@@ -126,6 +113,10 @@ class Firefox(Driven):
 
     def picture(self):
         return base64.b64decode(self.do("WebDriver:TakeScreenshot", full=False))
+
+    def process(self):
+        """The number of the process that started all of it."""
+        return self.program.pid
 
     def end(self):
         try:

@@ -14,27 +14,16 @@ DIGITS = "return document.getElementById('digits').textContent"
 STATUS = "return document.getElementById('status').textContent"
 NOTICE = "const n = document.getElementById('notice'); return n.hidden ? '' : n.querySelector('p').textContent"
 READY = "return Boolean(document.body.dataset.ready)"
-SPEED = "document.getElementById('speed').value = arguments[0]"
+SPEED = """
+const field = document.getElementById("speed");
+field.value = arguments[0];
+field.dispatchEvent(new Event("change"))"""
 ENTER, ESCAPE, TAB, DOWN = "\ue007", "\ue00c", "\ue004", "\ue015"
-DIGIT_KEYS = "1234567"
 
 # How many elements that can be used have no name for those who do not see the page.
 WITHOUT_NAMES = """
 return [...document.querySelectorAll("button, input, select, textarea")].filter((each) => !each.textContent.trim() && !each.ariaLabel
   && !each.labels?.length && !each.getAttribute("aria-labelledby")).length"""
-
-# What is told after an hour, in milliseconds and in words, and the cycles that are due then, 10 ms later and 0.9 s later.
-AFTER_AN_HOUR = """
-const found = [];
-const clock = new Clock({ stoodStill: (...told) => found.push(...told) });
-clock.goOn(0, 0);
-clock.hide();
-for (const time of [3600000, 3600010, 3600910]) {
-  clock.skipGap(time, time);
-  found.push(clock.due(time));
-  clock.before = time;
-}
-return [...found, wordsOfTime(3600000), wordsOfTime(3723000)]"""
 
 # Takes note of the kept session while the page is hidden and at the moment when it is shown again.
 WATCH_HIDDEN = """
@@ -54,24 +43,19 @@ BLOCK = "const end = performance.now() + arguments[0]; while (performance.now() 
 
 RATE = "return Number(document.getElementById('rate').textContent.replace(/\\D/g, ''))"
 
-# Measures the time from the next key to the next change of the digits.
-TIME_OF_KEY = """
-window.seen = 0;
-addEventListener("keydown", () => { window.went = performance.now(); }, { capture: true, once: true });
-new MutationObserver((_, own) => {
-  own.disconnect();
-  window.seen = performance.now() - window.went;
-}).observe(document.getElementById("digits"), { childList: true, characterData: true, subtree: true })"""
-
-CYCLES_A_SECOND = """
-window.cyclesASecond = 0;
-Bench.load(MODULE).then((bench) => {
-  const file = bench.serve(bench.begin(), linesOfExample(EXAMPLES[0])).file;
-  const begun = performance.now();
-  bench.serve(file, "run 100000\\n".repeat(500));
-  window.cyclesASecond = (5e7 / (performance.now() - begun)) * 1000;
-})"""
-
+# What the page's policy forbids: each of it is tried, and told by an event.
+FORBIDDEN = """
+window.violations = new Set();
+document.addEventListener("securitypolicyviolation", (event) => window.violations.add(event.effectiveDirective));
+const add = (root, name, properties) => root.append(Object.assign(document.createElement(name), properties));
+add(document.head, "script", { textContent: "window.injected = true" });
+add(document.head, "style", { textContent: "body { display: none }" });
+add(document.head, "base", { href: "http://127.0.0.1:1/" });
+add(document.body, "iframe", { src: "http://127.0.0.1:1/" });
+add(document.body, "form", { id: "forbidden", action: "http://127.0.0.1:1/" });
+document.getElementById("forbidden").submit();
+"""
+VIOLATIONS = "return [...window.violations].sort().join(' ') + (window.injected ? ', but the script ran' : '')"
 
 def key(legend):
     """The selector of a key of the board."""
@@ -229,8 +213,22 @@ def check_hidden(browser):
     browser.script(BLOCK, 1500)
     comes(browser, "the same where the browser did not run the page", STATUS,
           re.compile(r"stood still for \d+ seconds while the page was held up\.$"))
-    verdict("after an hour in the background nothing is owed, and a slow frame owes little", browser.inside(AFTER_AN_HOUR),
-            [3600000, True, 0, 925, 20000, "1 hour", "1 hour 2 minutes"])
+    check_hidden_at_full_speed(browser)
+
+
+def check_hidden_at_full_speed(browser):
+    """At full speed the time of a hidden page goes on, and is kept."""
+    browser.script(SPEED, "full")
+    comes(browser, "full speed is faster", RATE, re.compile("[1-9]......"))
+    browser.script("window.keptWhenHidden = []")
+    shown = browser.tab()
+    browser.new_tab()
+    time.sleep(4)
+    browser.close_tab(shown)
+    comes(browser, "at full speed what is kept goes on while hidden", KEPT_WHEN_HIDDEN, [2, 2])
+    verdict("and nothing stood still", browser.script(STATUS), re.compile("^Time runs"))
+    browser.script(SPEED, "real")
+    comes(browser, "and real time is held again", RATE, re.compile("^9[0-4]...$"))
 
 
 def check_speed_field(browser):
@@ -312,26 +310,18 @@ def check_by_chromium(browser):
     verdict("no fault in the browser's log", [line for line in browser.log() if "favicon" not in line], [])
 
 
+def check_policy(browser):
+    browser.script(FORBIDDEN)
+    comes(browser, "what the policy forbids", VIOLATIONS, "base-uri form-action frame-src script-src-elem style-src-elem")
+
+
 def figures(browser, page):
     """What the page takes, for the documents."""
+    browser.go("about:blank")
     browser.go(page.as_uri())
     browser.until(READY, True)
     start = browser.script("return Number(document.body.dataset.ready)")
-    choose_example(browser, "calculator")
-    times = []
-    for legend in DIGIT_KEYS * 2:
-        browser.script(TIME_OF_KEY)
-        browser.keys([legend], 40, 20)
-        times.append(browser.until("return window.seen > 0 ? 1 : 0", 1) and browser.script("return window.seen"))
-        if len(times) == len(DIGIT_KEYS):
-            browser.keys([ESCAPE])
-    browser.inside(CYCLES_A_SECOND)
-    speed = browser.until("return window.cyclesASecond", re.compile("[1-9]"), 60)
-    times.sort()
-    size = len(module_of_page(page))
-    median = times[len(times) // 2]
-    return (f"the page has {page.stat().st_size} bytes, its module {size}; it starts in {start} ms; a key shows after {median:.0f} ms"
-            f" (at most {times[-1]:.0f}); {speed / 1e6:.0f} million cycles a second in {browser.name} {browser.version}")
+    return f"the page has {page.stat().st_size} bytes, its module {len(module_of_page(page))}; it starts in {start} ms in {browser.name}"
 
 
 def take_picture(browser, page, path):

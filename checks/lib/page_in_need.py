@@ -2,34 +2,10 @@
 
 import re
 
+from page_altered import FAULT, FAULTS, SHOW_WORKER, altered
 from page_in_browser import DIGITS, ENTER, ESCAPE, NOTICE, READY, STATUS, choose_example, lines_answered
 from verdicts import comes, verdict
 from web_driver import Chromium
-
-# The next call of the module traps.
-TRAP = """
-const serve = Bench.prototype.tryToServe;
-Bench.prototype.tryToServe = function (...words) {
-  Bench.prototype.tryToServe = serve;
-  this.calls = { ...this.calls, page_serve() { throw new WebAssembly.RuntimeError("unreachable"); } };
-  return serve.apply(this, words);
-}"""
-
-# The next call has no memory.
-WANT_OF_MEMORY = """
-const serve = Bench.prototype.tryToServe;
-Bench.prototype.tryToServe = function () {
-  Bench.prototype.tryToServe = serve;
-  throw new BenchRefusal(90);
-}"""
-
-# The next call of the module traps, and then there is no memory for another instance.
-NO_ROOM_FOR_MODULE = TRAP + """
-const made = WebAssembly.Instance;
-WebAssembly.Instance = function () {
-  WebAssembly.Instance = made;
-  throw new RangeError("out of memory");
-}"""
 
 # Ways to have no store.
 NO_STORE = {
@@ -51,39 +27,115 @@ return [...document.querySelectorAll("button, input, select, textarea")].filter(
   .map((each) => each.textContent)"""
 
 
-def check_failures(browser):
-    """A trap, no memory, and a store without space; the session stays."""
+def fail(browser, fault):
+    browser.script(FAULT, fault)
+
+
+def dismiss(browser):
+    browser.click("#notice button")
+
+
+def check_failures(browser, page, folder):
+    """A trap, no memory, a worker that dies or hangs, and a store without space; the session stays."""
+    browser.go(altered(page, folder, SHOW_WORKER, FAULTS).as_uri())
+    browser.until(READY, True)
     choose_example(browser, "calculator")
     browser.keys([ESCAPE, "1", "2"])
     browser.until(DIGITS, "12")
-    browser.inside(TRAP)
+    fail(browser, "trap")
     comes(browser, "a trap is told", NOTICE, re.compile("the module stopped inside a call .unreachable. and was started anew"))
     verdict("the session is as it was", browser.script(DIGITS), "12")
-    browser.click("#notice button")
+    dismiss(browser)
     browser.click("#run")
     browser.keys(["3"])
     comes(browser, "and goes on", DIGITS, "123")
-    browser.inside(WANT_OF_MEMORY)
+    fail(browser, "no memory")
     comes(browser, "lack of memory is told", NOTICE, re.compile("no 90: there was no memory"))
     comes(browser, "the session is as it was then, too", DIGITS, "123")
+    check_full_store(browser)
+    fail(browser, "trap without room")
+    browser.click("#step")
+    comes(browser, "no memory for the module after a trap is told", NOTICE, re.compile("no 90: there was no memory"))
+    verdict("and the session is as it was", browser.script(DIGITS), "123")
+    dismiss(browser)
+    check_worker(browser)
+
+
+def check_full_store(browser):
     browser.script(FULL_STORE)
     verdict("an answer that is not kept says so", lines_answered(browser, "poke r5 9"), re.compile("not kept: "))
     verdict("a full store is told", browser.script(NOTICE), re.compile("This session is not kept: the browser has no more space"))
     browser.script("IDBObjectStore.prototype.put = window.put")
     lines_answered(browser, "seq")
     verdict("once it is kept the notice goes", browser.script(NOTICE), "")
-    browser.inside(NO_ROOM_FOR_MODULE)
-    browser.click("#step")
-    comes(browser, "no memory for the module after a trap is told", NOTICE, re.compile("no 90: there was no memory"))
-    verdict("and the session is as it was", browser.script(DIGITS), "123")
+
+
+def check_worker(browser):
+    """A worker that dies while time runs, and one that hangs when its work is cancelled."""
+    browser.click("#run")
+    browser.until(STATUS, "Time runs.")
+    fail(browser, "die")
+    comes(browser, "a worker that died is told", NOTICE, re.compile("worker has stopped and was started anew.*as it was before"), 40)
+    comes(browser, "and the session is as it was", DIGITS, "123")
+    dismiss(browser)
+    browser.click("#run")
+    browser.keys(["4"])
+    comes(browser, "and goes on in another worker", DIGITS, "1234")
+    browser.click("#run")
+    browser.until(STATUS, "Stopped.")
+    before = lines_answered(browser, "seq")
+    fail(browser, "hang")
+    browser.script("document.getElementById('lines').value = 'poke r5 9'")
+    browser.click("#send")
+    comes(browser, "work that hangs can be cancelled", "return document.getElementById('work').hidden", False)
+    browser.click("#cancel")
+    comes(browser, "then its worker is ended", NOTICE, re.compile("worker has stopped and was started anew"), 20)
+    browser.script("document.getElementById('lines').value = ''")
+    verdict("and the session is as it was then, too", lines_answered(browser, "seq"), before)
+    dismiss(browser)
+
+
+# 20,000,000 bytes, of lines that take a while together: none of them may be done.
+LONG_WORK = """
+document.getElementById("lines").value = "run 100000".padEnd(249).concat("\\n").repeat(80000);
+window.longest = 0;
+let before = performance.now();
+window.ticking = setInterval(() => {
+  window.longest = Math.max(window.longest, performance.now() - before);
+  before = performance.now();
+}, 20)"""
+PROGRESS = "return document.querySelector('#work progress').value > 0"
+LONGEST = "clearInterval(window.ticking); return window.longest"
+
+
+def check_long_work(browser, page):
+    """Long work shows how far it is, leaves the page alive, and can be cancelled: then nothing of it is done."""
+    browser.go("about:blank")
+    browser.go(page.as_uri())
+    browser.until(READY, True)
+    choose_example(browser, "calculator")
+    browser.click("#run")
+    browser.until(STATUS, "Stopped.")
+    before = lines_answered(browser, "seq")
+    browser.script(LONG_WORK)
+    browser.script("document.getElementById('send').click()")
+    comes(browser, "long work shows how far it is", PROGRESS, True, 60)
+    browser.click("#cancel")
+    comes(browser, "it can be cancelled", NOTICE, re.compile("It was cancelled. The session is as it was before."), 30)
+    print(f"beside long work the page answers at least every {browser.script(LONGEST):.0f} ms in {browser.name}")
+    browser.script("document.getElementById('lines').value = ''")
+    verdict("and nothing of it is done", lines_answered(browser, "seq"), before)
+    dismiss(browser)
+    browser.script("document.getElementById('lines').value = 'step\\n'.repeat(20000)")
+    browser.click("#send")
+    comes(browser, "work in pieces is done whole", "return document.getElementById('lines').value", "", 60)
+    count = re.compile(f"seq {int(before.rsplit(' ', 1)[1]) + 20000}$")
+    verdict("each line of it once", lines_answered(browser, "seq"), count)
 
 
 def poor(page, folder, code):
     """A page like this one, in a browser that lacks something; it waits for a store for a short time alone."""
-    text = page.read_text().replace("const TIME_OF_STORE = 10000;", "const TIME_OF_STORE = 300;")
-    made = folder / "poor.html"
-    made.write_text(text.replace("<body>", f"<body><script>{code}</script>", 1))
-    return made
+    return altered(page, folder, code, replaced=[("TIME_OF_STORE = 1e4;", "TIME_OF_STORE = 300;")])
 
 
 def told_at_start(browser, page, code=NOTICE, wanted=re.compile(".")):
@@ -99,8 +151,8 @@ def works(browser, what):
 
 
 def check_poor_browsers(browser, page, folder):
-    verdict("no 64-bit memory", told_at_start(browser, poor(page, folder, "WebAssembly.validate = () => false")),
-            re.compile(r"Memory64.*133.*134"))
+    verdict("no bulk memory", told_at_start(browser, poor(page, folder, "WebAssembly.validate = () => false")),
+            re.compile(r"This browser has no WebAssembly with bulk memory.*97.*102.*16"))
     verdict("no button without a use", browser.script(SHOWN_CONTROLS), ["Dismiss"])
     for lack, code in NO_STORE.items():
         verdict(lack, told_at_start(browser, poor(page, folder, code)), re.compile("keeps nothing"))
@@ -143,7 +195,7 @@ def check_blocked(kind, page, folder):
 
 
 def check_little_memory(page, folder):
-    """A browser that gives the module 80 pages of memory, 5 MB: lines that need more are refused, and the session is as it was."""
+    """A browser that gives the module 80 pages of memory, 5 MB: a text that needs more is refused, and the session is as it was."""
     browser = Chromium(folder / "little", str(folder / "downloads"), ["--js-flags=--wasm-max-mem-pages=80"])
     try:
         browser.go(page.as_uri())
@@ -151,9 +203,9 @@ def check_little_memory(page, folder):
         browser.click("#run")
         browser.until(STATUS, "Stopped.")
         before = lines_answered(browser, "seq")
-        browser.script("document.getElementById('lines').value = 'poke r5 9\\n'.repeat(30000)")
+        browser.script("document.getElementById('lines').value = 'poke r5 9\\nasm\\n' + '; a comment of so many letters\\n'.repeat(150000)")
         browser.click("#send")
-        comes(browser, "lack of memory in the module is told", NOTICE, re.compile("no 90: there was no memory.*The session is as it was"))
+        comes(browser, "lack of memory in the module is told", NOTICE, re.compile("no 90: there was no memory.*The session is as it was"), 30)
         browser.script("document.getElementById('lines').value = ''")
         verdict("and the session is as it was", lines_answered(browser, "seq"), before)
     finally:
@@ -162,5 +214,6 @@ def check_little_memory(page, folder):
 
 def check_lacks(browser, page, folder):
     """What it does where something fails or is missing."""
-    check_failures(browser)
+    check_long_work(browser, page)
+    check_failures(browser, page, folder)
     check_poor_browsers(browser, page, folder)

@@ -55,10 +55,6 @@ class Chromium(Driven):
     def script(self, code, *words):
         return self.do("POST", "/execute/sync", {"script": code, "args": list(words)})
 
-    def inside(self, code):
-        """A script among those of the page, which sees their names."""
-        return self.script(code)
-
     def find(self, selector):
         return self.do("POST", "/element", {"using": "css selector", "value": selector})[ELEMENT]
 
@@ -95,6 +91,10 @@ class Chromium(Driven):
 
     def log(self):
         return [entry["message"] for entry in self.do("POST", "/se/log", {"type": "browser"})]
+
+    def process(self):
+        """The number of the process that started all of it."""
+        return self.driver.pid
 
     def end(self):
         try:

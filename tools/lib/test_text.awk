@@ -112,7 +112,7 @@ function read_set(i, words, count,    place, value) {
     if (!place_is_known(place, 1)) return
     if (value < 0 || value > place_most(place)) return test_fault(place " holds 0 to " place_most(place) ", not " words[3])
     step_lines[i] = place == "test" ? "test " value : "poke " place " " value
-    if (place ~ /^rom\./) step_changes_rom[i] = 1
+    if (place ~ /^rom\./) step_changes_rom[i] = some_change_rom = 1
 }
 
 # A time, from words[from] on, in cycles; `time_words` is how many words it has. 0 where it is none.

@@ -62,6 +62,8 @@ function run_test(t,    file, i, wrong) {
     down = usual_down
     up = usual_up
     open_bench("open", "test.mcs")
+    # Where a test puts bytes into ROM, others have another program.
+    if (some_change_rom) code_is_read = 0
     if (ENVIRON["counting"] && !code_is_read) {
         read_code()
         code_is_read = 1
@@ -98,7 +100,7 @@ function do_step(i,    kind) {
     if (kind == "expect") return holds(step_condition[i]) ? "" : told
     if (kind == "set") {
         command(step_lines[i])
-        if (step_changes_rom[i] && ENVIRON["counting"]) read_code()
+        if (step_changes_rom[i]) read_code()
         outside_change()
     } else if (kind == "reset") {
         command("reset")
@@ -156,7 +158,8 @@ function press(row, column, name) {
 function do_until(i, c, limit,    begun, end, came) {
     begun = elapsed
     end = elapsed + limit
-    came = holds(c)
+    # At a label a run goes on, to the next time that it is reached.
+    came = condition_class[c] == "pc" && !condition_not[c] ? 0 : holds(c)
     if (!came) {
         if (ENVIRON["counting"]) came = until_by_blocks(c, end)
         else came = until_by_stops(c, end)

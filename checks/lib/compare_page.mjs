@@ -1,0 +1,260 @@
+// Compares the page's module with the program: `node compare_page.mjs MODULE MCS4 COUNT`. Examples and seeded scripts are served by both:
+// the answers, the exit status and each byte of the session file have to be the same; so have they where a script is cut into two calls,
+// where the file was settled between them or is one of version 1, and where the file is damaged. Lines that are cut as the page cuts long
+// work have to be answered as at once.
+import { spawnSync } from "node:child_process";
+import { closeSync, existsSync, mkdtempSync, openSync, readFileSync, readdirSync, rmSync, writeFileSync } from "node:fs";
+import { tmpdir } from "node:os";
+import { dirname, join } from "node:path";
+import { fileURLToPath } from "node:url";
+import { Engine } from "../../page/src/engine.js";
+import { endOfInputs, matchAnswers, readInputs } from "../../page/src/inputs.js";
+import { sourceOfRom } from "../../page/src/sources.js";
+
+const [modulePath, mcs4, count] = process.argv.slice(2);
+// In memory, where the host has a place for it: the program waits for its disk after each command.
+const work = mkdtempSync(join(existsSync("/dev/shm") ? "/dev/shm" : tmpdir(), "compare_page."));
+process.on("exit", () => rmSync(work, { recursive: true, force: true }));
+
+let seed = 20261123;
+function below(limit) {
+  seed = (Math.imul(seed, 1103515245) + 12345) >>> 0;
+  return (seed >>> 8) % limit;
+}
+const pick = (list) => list[below(list.length)];
+const either = (makers) => pick(makers)();
+
+const examples = join(dirname(fileURLToPath(import.meta.url)), "../../examples");
+const calculator = readFileSync(join(examples, "calculator/board.toml"), "utf8");
+const BOARDS = [
+  calculator,
+  '[[rom]]\nchip = 0\nport = "0000"\n[[ram]]\nbank = 0\nchips = 4\n[[chain]]\nclock = "rom0.0"\ndata = "rom0.1"\nchips = 1\n'
+    + '[[lamp]]\nline = "chain0.3"\n',
+  'rom = [{ chip = 0, port = "1i0i" }, { chip = 3, port = "0000" }]\nram = [{ bank = 7, chips = 2 }, { bank = 1, chips = 1 }]\n',
+  'rom = [{ chip = 0, port = "0000" }, { chip = 1, port = "iiii" }]\nchain = [{ clock = "rom0.0", data = "rom0.1", chips = 8 }]\n'
+    + 'keys = { chain = 0, first = 70, rows = 10, columns = ["rom1.0", "rom1.0", "rom1.3"] }\n'
+    + 'lamp = [{ line = "chain0.79" }, { line = "rom0.2" }]\n',
+  '[[rom]]\nchip = 16\nport = "0000"\n', "size = 1\n", "[[rom\n", '[[ram]]\nbank = 0\nchips = 5\n', "",
+];
+const NAMES = ("NOP CLB CLC IAC CMC CMA RAL RAR TCC DAC TCS STC DAA KBP DCL WRM WMP WRR WR0 WR1 WR2 WR3 SBM RDM RDR ADM "
+  + "RD0 RD1 RD2 RD3 WPM").split(" ");
+const PLACES = [() => "acc", () => "cy", () => "pc", () => "dcl", () => `r${below(17)}`, () => `rom.${below(4200)}`,
+  () => `ram.${below(9)}.${below(260)}`, () => `st.${below(8)}.${below(16)}.${below(5)}`];
+
+function program() {
+  const lines = [];
+  const size = 1 + below(40);
+  for (let at = 0; at < size; at++) {
+    if (below(9) === 0) lines.push(`l${at}:`);
+    lines.push(either([() => pick(NAMES), () => pick(NAMES), () => `FIM P${below(8)}, ${below(256)}`, () => `SRC P${below(8)}`,
+      () => `LDM ${below(16)}`, () => `${pick(["ADD", "SUB", "LD", "XCH", "INC"])} R${below(16)}`, () => `ISZ R${below(16)}, ${below(200)}`,
+      () => `JUN ${below(300)}`, () => `JMS ${below(300)}`, () => `BBL ${below(16)}`, () => `JCN ${below(16)}, ${below(200)}`,
+      () => `DB ${below(256)}, ${below(300)}`, () => `FIN P${below(8)}`, () => `JIN P${below(8)}`, () => `ORG ${below(600)}`,
+      () => `JUN l${below(size)}`]));
+  }
+  return `asm\n${lines.join("\n")}\n.\n`;
+}
+
+function line() {
+  return either([() => `run ${1 + below(3000)}`, () => `run ${1 + below(100)}`, () => `run ${pick([0, 100000, 100001])}`, () => "step",
+    () => `poke ${either(PLACES)} ${below(below(4) ? 16 : 300)}`,
+    () => `press ${below(10)} ${below(5)}`, () => `release ${below(10)} ${below(5)}`,
+    () => `test ${below(3)}`, () => "reset", () => `break ${below(400)}`, () => `unbreak ${below(400)}`,
+    () => `watch ${below(9)} ${below(3) ? below(64) : below(260)}`, () => `unwatch ${below(8)} ${below(64)}`,
+    () => pick(["lamps", "regs", "breaks", "watches", "ports", "board", "seq", "state"]), () => pick(["ports", "watches", "regs"]),
+    () => `ram ${below(9)}`, () => `list ${below(4200)} ${below(260)}`, () => `wire\n${pick(BOARDS)}.`, () => program().trimEnd(),
+    () => `foo ${below(9)}`, () => "", () => "\tregs \r", () => "wire now", () => "x".repeat(250 + below(10)), () => "caf\u00e9"]);
+}
+
+function script() {
+  let text = below(5) ? `wire\n${pick(BOARDS.slice(0, 4))}.\n${program()}` : "";
+  for (let left = 5 + below(60); left > 0; left--) text += `${line()}\n`;
+  // Now and then the input ends in the midst of a line or of a text.
+  return below(6) ? text : text.slice(0, below(text.length));
+}
+
+const path = join(work, "s.mcs");
+const inputPath = join(work, "input");
+
+// What the program makes of a script, on a new session (null) or on the bytes of one.
+function byProgram(file, input) {
+  rmSync(path, { force: true });
+  if (file) writeFileSync(path, file);
+  // From a file, since a program that refuses its session does not read its input.
+  writeFileSync(inputPath, input);
+  const from = openSync(inputPath);
+  const ran = spawnSync(mcs4, [file ? "open" : "new", path], { stdio: [from, "pipe", "pipe"], maxBuffer: 1 << 28 });
+  closeSync(from);
+  if (ran.error) throw ran.error;
+  return { output: ran.stdout.toString("latin1"), status: ran.status, file: readFileSync(path) };
+}
+
+// What the page's call makes of it: `page_serve` serves alone, without settling.
+function byPage(engine, file, input, call = "page_serve") {
+  try {
+    const { status, opened, answers } = engine.answersOf(call, file || engine.begin(), input);
+    const { instance } = engine;
+    const size = file ? file.length : engine.size;
+    return { output: [opened, ...answers, ""].join("\n"), status, file: instance.view(instance.file, size).slice() };
+  } catch (fault) {
+    return { output: `${fault.message}\n`, status: 3, file };
+  }
+}
+
+function settle(engine, file) {
+  const { instance } = engine;
+  instance.takeFile(file);
+  if (!engine.call((calls) => calls.page_settle(instance.file.place, BigInt(file.length)))) return file;
+  return instance.view(instance.file, file.length).slice();
+}
+
+// How the answer to an input may begin.
+const BEGINNINGS = {
+  regs: /^acc /, list: /^[0-9A-F]{3} /, lamps: /^lamps /, ram: /^ram /, board: /^board$/, ports: /^ports$/,
+  map: /^map lines /, breaks: /^breaks /, watches: /^watches /, seq: /^seq /, state: /^state seq /,
+};
+
+// Whether the page tells which answers belong to which input.
+function isSplit(input, output) {
+  const answers = output.split("\n").slice(1, -1);
+  const inputs = readInputs(Buffer.from(input).toString("latin1"));
+  const parts = matchAnswers(inputs, answers);
+  const fits = (part, at) => part.length > 0 && (/^no \d/.test(part[0]) || (BEGINNINGS[inputs[at].kind] || /^ok \d/).test(part[0]));
+  return parts.every(fits) && parts.flat().length === answers.length;
+}
+
+let passed = 0;
+let failed = 0;
+function compare(name, engine, file, input) {
+  const wanted = byProgram(file, input);
+  const found = byPage(engine, file, input);
+  const faults = [];
+  if (found.output !== wanted.output) faults.push("answers");
+  if (found.status !== wanted.status) faults.push(`status ${found.status}, not ${wanted.status}`);
+  if (Buffer.compare(Buffer.from(found.file), wanted.file) !== 0) faults.push("file");
+  if (wanted.status === 0 && !isSplit(input, wanted.output)) faults.push("the answers of each input");
+  passed += faults.length === 0 ? 1 : 0;
+  failed += faults.length === 0 ? 0 : 1;
+  if (faults.length > 0) console.error(`compare_page: ${name} differs: ${faults.join(", ")}; input:\n${input.slice(0, 2000)}`);
+  return wanted.file;
+}
+
+// A file that was settled, as version 1 writes it: no byte for the version, no count of watches.
+function asVersion1(file) {
+  const slot = file[8] % 2 === 0 ? 16 : 81936;
+  const length = new DataView(file.buffer, file.byteOffset).getUint32(slot);
+  const snapshot = file.slice(slot + 4, slot + 4 + length);
+  if (snapshot[length - 1] !== 0) return null;
+  const old = file.slice();
+  old.set(snapshot.slice(0, 4), slot + 4);
+  old.set(snapshot.slice(5, length - 1), slot + 8);
+  new DataView(old.buffer).setUint32(slot, length - 2);
+  return old;
+}
+
+const QUESTIONS = "seq\nstate\nregs\nlamps\nports\nwatches\nbreaks\nboard\nram 0\nram 1\nram 7\nlist 0 256\n";
+
+const ALL_ROM = [...Array(16).keys()].map((page) => `list ${page * 256} 256\n`).join("");
+
+// Counts a check of the page's own.
+function verdict(name, isRight) {
+  passed += isRight ? 1 : 0;
+  failed += isRight ? 0 : 1;
+  if (!isRight) console.error(`compare_page: ${name}`);
+}
+
+const answersTo = (engine, file, lines) => engine.ask(file, lines).answers;
+
+// The source text that the page makes of ROM gives the same bytes again, where there were none.
+function compareSource(name, engine, file) {
+  const board = answersTo(engine, file, "board\n").slice(1).map((line) => `${line}\n`).join("");
+  const source = sourceOfRom(engine, file);
+  const again = answersTo(engine, file, `wire\n.\nwire\n${board}.\nasm\n${source}.\n${ALL_ROM}`).slice(3);
+  verdict(`${name}: the source text made of ROM gives other bytes`, again.join() === answersTo(engine, file, ALL_ROM).join());
+}
+
+// What the active slot of a file holds, by docs/FORMAT.md: its snapshot's count of commands and version, and whether records follow.
+function held(file) {
+  const slot = file[8] % 2 === 0 ? 16 : 81936;
+  const seq = new DataView(file.buffer, file.byteOffset).getUint32(slot + 4);
+  return { seq, version: file[slot + 8], hasRecords: file[slot + 16384] === 1 };
+}
+
+// A file that was settled holds a snapshot of all commands, and no records.
+function verdictSettled(name, file, seq) {
+  const found = held(file);
+  const isRight = found.version === 2 && !found.hasRecords && found.seq === seq;
+  verdict(`${name} has not settled the file: ${JSON.stringify(found)}, where ${seq} commands were accepted`, isRight);
+}
+
+const seqOf = (engine, file) => Number(answersTo(engine, file, "seq\n")[0].split(" ")[1]);
+
+// Lines that are cut as the page cuts long work, each piece served and settled, are answered as at once.
+function compareInPieces(name, engine, file, input) {
+  const bytes = Uint8Array.from(file);
+  const answers = [engine.ask(file, "").opened];
+  for (let at = 0; at < input.length;) {
+    const end = endOfInputs(input, at, 1 + below(200));
+    answers.push(...engine.serve(bytes, input.slice(at, end), bytes).answers);
+    at = end;
+  }
+  verdict(`${name}: lines that are cut are answered otherwise`, [...answers, ""].join("\n") === byPage(engine, file, input).output);
+}
+
+function compareFiles(name, engine, file) {
+  compareSource(name, engine, file);
+  compareInPieces(name, engine, file, script());
+  const settled = settle(engine, file);
+  verdictSettled(`${name}: settle`, settled, seqOf(engine, file));
+  const both = new Uint8Array(file.length);
+  engine.serve(file, "poke acc 1\npoke acc 2\n", both);
+  verdictSettled(`${name}: serving and settling`, both, seqOf(engine, file) + 2);
+  const asked = byPage(engine, file, QUESTIONS).output;
+  compare(`${name}, settled`, engine, settled, QUESTIONS);
+  verdict(`${name}: settling changed an answer`, byPage(engine, settled, QUESTIONS).output === asked);
+  const old = asVersion1(settled);
+  if (old) {
+    compare(`${name}, of version 1`, engine, old, QUESTIONS);
+    verdictSettled(`${name}: settle of version 1`, settle(engine, Uint8Array.from(old)), seqOf(engine, old));
+  }
+  const damaged = Uint8Array.from(file);
+  const place = () => either([() => below(24), () => 16 + below(8000), () => 16400 + below(2000)]);
+  for (let times = 1 + below(3); times > 0; times--) damaged[place()] ^= 1 << below(8);
+  compare(`${name}, damaged`, engine, damaged, QUESTIONS);
+}
+
+function time(act) {
+  const begun = process.hrtime.bigint();
+  act();
+  return Number(process.hrtime.bigint() - begun) / 1e9;
+}
+
+const fastest = (act) => Math.min(...[1, 2, 3].map(() => time(act)));
+
+// Cycles a second of both, on the calculator.
+function speeds(engine) {
+  const board = `wire\n${calculator}.\nasm\n${readFileSync(join(examples, "calculator/calculator.asm"), "utf8")}.\n`;
+  const runs = "run 100000\n".repeat(300);
+  const file = engine.begin();
+  engine.serve(file, board, file);
+  const page = 3e7 / fastest(() => engine.ask(file, runs));
+  const native = 3e7 / fastest(() => byProgram(file, runs));
+  return { page, native };
+}
+
+const engine = await Engine.load(readFileSync(modulePath));
+for (const name of readdirSync(examples, { recursive: true })) {
+  if (name.endsWith(".txt")) compare(name, engine, null, readFileSync(join(examples, name), "utf8"));
+}
+for (let number = 1; number <= Number(count); number++) {
+  const file = compare(`script ${number}`, engine, null, script());
+  if (number % 4 === 0) compare(`script ${number}, gone on with`, engine, file, script());
+  if (number % 8 === 0) compareFiles(`script ${number}`, engine, file);
+}
+for (const bytes of [Buffer.from("no session"), new Uint8Array(163856), new Uint8Array(163857)]) {
+  compare(`a file of ${bytes.length} bytes`, engine, bytes, "seq\n");
+}
+const { page, native } = speeds(engine);
+const millions = [page, native].map((speed) => Math.round(speed / 1e6));
+console.log(`${passed} same, ${failed} other; ${millions[0]} million cycles a second in node, the program ${millions[1]}`);
+process.exitCode = failed === 0 ? 0 : 1;

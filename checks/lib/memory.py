@@ -1,0 +1,47 @@
+"""How much memory a program and all that it started take."""
+
+import pathlib
+import statistics
+import time
+
+PAGE = 4096
+EVERY = 2
+
+
+def tree(root):
+    """The processes below one, and itself, by their numbers."""
+    parents = {}
+    for stat in pathlib.Path("/proc").glob("[0-9]*/stat"):
+        try:
+            words = stat.read_text().rsplit(")", 1)[1].split()
+        except (OSError, IndexError):
+            continue
+        parents[int(stat.parent.name)] = int(words[1])
+    found = {root}
+    while True:
+        more = {each for each, parent in parents.items() if parent in found} - found
+        if not more:
+            return found
+        found |= more
+
+
+def resident(root):
+    """Bytes that are resident, of all of them together; what they share counts for each."""
+    total = 0
+    for each in tree(root):
+        try:
+            total += int(pathlib.Path(f"/proc/{each}/statm").read_text().split()[1]) * PAGE
+        except (OSError, IndexError):
+            continue
+    return total
+
+
+def grown(root, seconds):
+    """What is there at the end, as a part of what is there at the beginning: medians of a third of the time each."""
+    told = []
+    end = time.monotonic() + seconds
+    while time.monotonic() < end:
+        told.append(resident(root))
+        time.sleep(EVERY)
+    third = max(1, len(told) // 3)
+    return statistics.median(told[-third:]) / statistics.median(told[:third])

@@ -1,0 +1,71 @@
+"""A page like the one that page/build made, with scripts put in before its own: they make the browser lack something, or the module and
+the worker fail when they are told to. The policy of the page is made to allow them."""
+
+import base64
+import hashlib
+import re
+
+# The page tells of its worker, for FAULTS to be told to it.
+SHOW_WORKER = """
+const made = Worker;
+window.Worker = function (...words) {
+  window.benchWorker = new made(...words);
+  return window.benchWorker;
+};"""
+
+# In the worker: a fault that is told happens at the next call of the module, or at once.
+FAULTS = """
+(() => {
+  const made = WebAssembly.Instance;
+  const NO_MEMORY = 90;
+  let fault = "";
+  addEventListener("message", (event) => {
+    if (!event.data.fault) return;
+    event.stopImmediatePropagation();
+    fault = event.data.fault;
+    if (fault === "die") close();
+    while (fault === "hang");
+  });
+  const failing = (exports, name) => (...words) => {
+    const now = fault;
+    // After a trap without room there is no memory for another instance either.
+    if (now !== "trap without room") fault = "";
+    if (now.startsWith("trap")) throw new WebAssembly.RuntimeError("unreachable");
+    if (now !== "no memory") return exports[name](...words);
+    new DataView(exports.memory.buffer).setUint32(Number(words[words.length - 1]), NO_MEMORY, true);
+    return 0;
+  };
+  WebAssembly.Instance = function (...words) {
+    if (fault === "trap without room") {
+      fault = "";
+      throw new RangeError("out of memory");
+    }
+    const { exports } = new made(...words);
+    const calls = ["page_serve_and_settle", "page_ask"].map((name) => [name, failing(exports, name)]);
+    return { exports: { ...exports, ...Object.fromEntries(calls) } };
+  };
+})();"""
+
+FAULT = "window.benchWorker.postMessage({ fault: arguments[0] })"
+
+
+def hash_of(script):
+    return "'sha256-" + base64.b64encode(hashlib.sha256(script.encode()).digest()).decode() + "'"
+
+
+def altered(page, folder, code="", worker="", replaced=()):
+    """`code` is put before the page's script, `worker` before the worker's; then each pair of texts is replaced."""
+    text = page.read_text()
+    if code:
+        text = text.replace("<body>", f"<body><script>{code}</script>", 1)
+    if worker:
+        text = text.replace('id="worker">', f'id="worker">{worker}', 1)
+    for old, new in replaced:
+        if old not in text:
+            raise ValueError(f"the page has no {old}")
+        text = text.replace(old, new, 1)
+    hashes = " ".join(hash_of(script) for script in re.findall("<script>(.*?)</script>", text, re.S))
+    text = re.sub(r"script-src '[^']*'", f"script-src {hashes}", text, count=1)
+    made = folder / "altered.html"
+    made.write_text(text)
+    return made

@@ -1,0 +1,87 @@
+// The lines that were sent and their answers. Nothing is shown here before it is kept.
+
+import { refusalOf } from "./answers.js";
+import { block, element } from "./dom.js";
+import { Ran, wordsOfRan } from "./ran.js";
+
+/**
+ * @typedef {import("./bench_session.js").Answered} Answered
+ * @typedef {import("./ran.js").RanEntry} RanEntry
+ * @typedef {import("./words.js").Words} Words
+ */
+
+/** Older entries go. */
+const MOST_ENTRIES = 400;
+
+export class LogView {
+  /** @param {Words} words */
+  constructor(words) {
+    this.words = words;
+    this.block = block("log");
+    /** What time that runs has done since the last keeping. */
+    this.waiting = new Ran();
+  }
+
+  /**
+   * What time has done, which is shown at the next keeping.
+   * @param {RanEntry[]} entries
+   */
+  collect(entries) {
+    this.waiting.add(entries);
+  }
+
+  /** Takes out what waits; it is to be shown once it is kept. */
+  take() {
+    return this.waiting.take();
+  }
+
+  /**
+   * @param {RanEntry[]} entries
+   * @param {string} fault why they are not kept, "" where they are
+   */
+  showRan(entries, fault) {
+    this.add(entries.map((entry) => this.entry(wordsOfRan(entry), [entry.answer], fault)));
+  }
+
+  /**
+   * Lines that were typed, or sent by a button.
+   * @param {Answered[]} entries
+   * @param {string} fault
+   */
+  show(entries, fault) {
+    this.add(entries.map(({ line, textLines, answers }) => (
+      this.entry(textLines > 0 ? `${line} .. (${textLines} lines)` : line, answers, fault))));
+  }
+
+  /** @param {HTMLElement[]} entries */
+  add(entries) {
+    if (entries.length === 0) return;
+    const isAtEnd = this.block.scrollTop + this.block.clientHeight > this.block.scrollHeight - 30;
+    this.block.append(...entries);
+    while (this.block.children.length > MOST_ENTRIES) this.block.children[0].remove();
+    if (isAtEnd) this.block.scrollTop = this.block.scrollHeight;
+  }
+
+  /**
+   * @param {string} line
+   * @param {string[]} answers
+   * @param {string} fault
+   */
+  entry(line, answers, fault) {
+    const entry = element("div", {}, element("p", { className: "sent" }, line), ...answers.map((answer) => this.answer(answer)));
+    if (fault) entry.append(element("p", { className: "refused" }, `not kept: ${fault}`));
+    return entry;
+  }
+
+  /** @param {string} answer */
+  answer(answer) {
+    const refusal = refusalOf(answer);
+    if (!refusal) return element("p", {}, answer);
+    return element("p", { className: "refused" }, `${answer}: ${this.words.ofRefusal(refusal.number)}`);
+  }
+
+  clear() {
+    this.waiting.take();
+    this.block.replaceChildren();
+  }
+}

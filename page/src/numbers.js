@@ -1,0 +1,28 @@
+// Numbers as lines and answers write them.
+
+export const LAST_ADDRESS = 4095;
+
+/**
+ * A number in upper-case hexadecimal digits, at least so many.
+ * @param {number} number
+ * @param {number} digits
+ */
+export function hex(number, digits) {
+  return number.toString(16).toUpperCase().padStart(digits, "0");
+}
+
+/**
+ * The number that a word of a line says, `12` or `0x0C`; NaN where it says none.
+ * @param {string} word
+ */
+export function numberOf(word) {
+  return /^(0x[0-9a-f]+|\d+)$/i.test(word) ? Number(word) : NaN;
+}
+
+/**
+ * 0, 1, .. up to a number, which does not belong to it.
+ * @param {number} count
+ */
+export function upTo(count) {
+  return [...Array(count).keys()];
+}

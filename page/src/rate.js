@@ -1,0 +1,26 @@
+// How many cycles a second are done, taken over half a second.
+
+const MEASURED = 500;
+
+export class Rate {
+  /** @param {number} now milliseconds */
+  constructor(now) {
+    this.since = now;
+    this.cycles = 0;
+    /** Cycles a second, 0 until it is known. */
+    this.told = 0;
+  }
+
+  /**
+   * @param {number} cycles that were done
+   * @param {number} now milliseconds
+   */
+  add(cycles, now) {
+    this.cycles += cycles;
+    const time = now - this.since;
+    if (time < MEASURED) return;
+    this.told = (this.cycles / time) * 1000;
+    this.since = now;
+    this.cycles = 0;
+  }
+}

@@ -1,0 +1,54 @@
+// What is told to people: refusals, faults, times.
+
+import { BenchRefusal, BenchTrap, Cancelled, WorkerDied } from "./faults.js";
+
+/** The words of refusals and of faults. */
+export class Words {
+  /** @param {Record<string, string>} refusals what each refusal means, by its number */
+  constructor(refusals) {
+    this.refusals = refusals;
+  }
+
+  /**
+   * What a refusal means.
+   * @param {number} number
+   */
+  ofRefusal(number) {
+    return this.refusals[number] || "a refusal that this page does not know; the manual has it";
+  }
+
+  /**
+   * A fault in words, with the number of a refusal.
+   * @param {unknown} fault
+   */
+  ofFault(fault) {
+    if (fault instanceof BenchRefusal) return `${fault.message}: ${this.ofRefusal(fault.number)}`;
+    if (fault instanceof BenchTrap) return `the module stopped inside a call (${fault.message}) and was started anew`;
+    if (fault instanceof WorkerDied) return `${fault.message} and was started anew`;
+    return (fault instanceof Error && fault.message) || String(fault);
+  }
+
+  /**
+   * A call on the session failed.
+   * @param {unknown} fault
+   */
+  ofFailure(fault) {
+    if (fault instanceof Cancelled) return "It was cancelled. The session is as it was before.";
+    if (fault instanceof BenchRefusal || fault instanceof BenchTrap || fault instanceof WorkerDied) {
+      return `It was not done: ${this.ofFault(fault)}. The session is as it was before.`;
+    }
+    return `The page failed: ${this.ofFault(fault)}. What was answered ok is kept.`;
+  }
+}
+
+/**
+ * A time in its two largest parts, as `1 hour 2 minutes`, from a second on.
+ * @param {number} milliseconds
+ */
+export function wordsOfTime(milliseconds) {
+  const seconds = Math.round(milliseconds / 1000);
+  /** @type {[number, string][]} */
+  const parts = [[Math.floor(seconds / 3600), "hour"], [Math.floor(seconds / 60) % 60, "minute"], [seconds % 60, "second"]];
+  const told = parts.filter(([count]) => count > 0).map(([count, word]) => `${count} ${word}${count === 1 ? "" : "s"}`);
+  return told.slice(0, 2).join(" ");
+}

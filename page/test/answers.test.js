@@ -1,0 +1,81 @@
+// Answers as docs/MANUAL.md shows them.
+import assert from "node:assert/strict";
+import { test } from "node:test";
+import {
+  isStop, readBoard, readDisplay, readListing, readMarks, readPorts, readRam, readRegisters, readRun, refusalOf,
+} from "../src/answers.js";
+
+test("refusals, with a line and without", () => {
+  assert.deepEqual(refusalOf("no 34 line 2"), { number: 34, line: 2 });
+  assert.deepEqual(refusalOf("no 90"), { number: 90, line: 0 });
+  for (const other of ["ok 5", "no", "no way", "no 34 line", "xno 34"]) assert.equal(refusalOf(other), null);
+});
+
+test("the answer to a run", () => {
+  assert.deepEqual(readRun("ok 21 ran 11 watch"), { cycles: 11, end: "watch" });
+  for (const other of ["ok 22", "no 41", "seq 3"]) assert.equal(readRun(other), null);
+});
+
+test("what ends a row of steps", () => {
+  assert.deepEqual(["ok 23 ran 70 end", "ok 5", "ok 21 ran 11 watch", "no 41", "seq 3"].map(isStop), [false, false, true, true, false]);
+});
+
+test("registers", () => {
+  assert.deepEqual(readRegisters("acc 6 cy 0 pc 00A owed 0 dcl 0 test 1 r 1000000000000000 ret 000 000 000"), {
+    accumulator: "6", carry: "0", counter: "00A", owed: "0", bank: "0", test: "1", registers: [..."1000000000000000"],
+    returns: ["000", "000", "000"],
+  });
+});
+
+test("RAM", () => {
+  const told = readRam(["ram 0 chips 1", "0.0.0 2000000000000000 0000", "0.0.1 0000000000000000 0020", "0.0 out 1"]);
+  assert.deepEqual([...told.registers], [
+    ["0.0.0", { characters: "2000000000000000", status: "0000" }], ["0.0.1", { characters: "0000000000000000", status: "0020" }]]);
+  assert.deepEqual([...told.ports], [["0.0", "1"]]);
+});
+
+test("ports, chains and keys", () => {
+  assert.deepEqual(readPorts(["ports", "src 00 0.00 1.00", "rom 0 out 3 in 0", "rom 1 out 0 in 6", "chain 0 1100000000", "keys 0.1 1.2"]), {
+    sources: ["00", "0.00", "1.00"], roms: [{ chip: "0", out: "3", in: "0" }, { chip: "1", out: "0", in: "6" }],
+    chains: ["1100000000"], keys: ["0.1", "1.2"],
+  });
+  assert.deepEqual(readPorts(["ports", "src 00", "keys -"]).keys, []);
+});
+
+test("marks", () => {
+  assert.deepEqual(readMarks("breaks 000 003"), ["000", "003"]);
+  assert.deepEqual(readMarks("watches -"), []);
+});
+
+test("listings, but not the answers between them", () => {
+  assert.deepEqual(readListing(["000 40 24 JUN 0x024", "ok 7", "002 00    NOP"]),
+    [{ address: 0, line: "000 40 24 JUN 0x024" }, { address: 2, line: "002 00    NOP" }]);
+});
+
+test("a board", () => {
+  const board = readBoard(["board", "[[rom]]", "chip = 0", 'port = "00ii"', "[[ram]]", "bank = 1", "chips = 2", "[[chain]]",
+    'clock = "rom0.0"', 'data = "rom0.1"', "chips = 1", "[keys]", "chain = 0", "first = 0", "rows = 3", 'columns = ["rom0.2", "rom0.3"]',
+    "[[lamp]]", 'line = "ram1.0.2"']);
+  assert.deepEqual(board.lamps, ["ram1.0.2"]);
+  assert.deepEqual([board.rows, board.columns], [3, 2]);
+  assert.deepEqual(board.banks.map(({ bank, chips }) => [bank, chips]), [[1, 2]]);
+  assert.deepEqual(board.chains.map(({ chips }) => chips), [1]);
+  assert.deepEqual(readBoard(["board"]), { banks: [], chains: [], roms: [], lamps: [], rows: 0, columns: 0 });
+});
+
+/** Lamps of digits, four each, the highest bit first; `width` 5 has a point after each. */
+const lampsOf = (digits, width, point = -1) => digits.map((digit, at) => (
+  digit.toString(2).padStart(4, "0").replace(/0/g, ".").replace(/1/g, "*") + (width === 5 ? (at === point ? "*" : ".") : ""))).join("");
+
+test("displays with points: three signs, and leading zeros are not shown", () => {
+  assert.deepEqual(readDisplay(`...${lampsOf([0, 0, 0, 0, 0, 0, 4, 2], 5)}`), { number: "42", fault: "" });
+  assert.deepEqual(readDisplay(`*..${lampsOf([0, 0, 0, 3, 1, 4], 5, 3)}`), { number: "-3.14", fault: "" });
+  assert.deepEqual(readDisplay(`.**${lampsOf([0, 0, 0, 0], 5)}`), { number: "0", fault: "overflow division by zero" });
+  assert.deepEqual(readDisplay(`...${lampsOf([0, 0, 12, 4], 5)}`), { number: "?4", fault: "" });
+});
+
+test("displays of digits alone, with two signs or none; and lamps that are none", () => {
+  assert.deepEqual(readDisplay(lampsOf([1, 2, 3], 4)), { number: "123", fault: "" });
+  assert.deepEqual(readDisplay(`*.${lampsOf([0, 2, 3], 4)}`), { number: "-23", fault: "" });
+  for (const lamps of ["........", "...........", "................."]) assert.equal(readDisplay(lamps), null);
+});

@@ -1,0 +1,65 @@
+import assert from "node:assert/strict";
+import { test } from "node:test";
+import { hintOfKeys, keyOfKeyboard, keysOf, readLegends } from "../src/board_keys.js";
+import { DOWN_CYCLES, KeyQueue, LONGEST_RUN, UP_CYCLES } from "../src/key_queue.js";
+
+const lines = (queue, cycles) => queue.plan(cycles).map((step) => step.line);
+
+test("legends come from the comments of a board's text", () => {
+  assert.deepEqual([...readLegends("# row 0: 7 8 _\n[keys]\n#row 1: a\n# row 2: WALK  x \n")],
+    [["0 0", "7"], ["0 1", "8"], ["0 2", ""], ["2 0", "WALK"], ["2 1", "x"]]);
+});
+
+test("keys have places, legends and letters that are their own", () => {
+  const keys = keysOf({ rows: 2, columns: 2 }, readLegends("# row 0: CE _\n# row 1: C x\n"));
+  assert.deepEqual(keys.map(({ place, legend, letter, isNamed }) => [place, legend, letter, isNamed]),
+    [["0 0", "CE", "c", true], ["0 1", "", "", false], ["1 0", "C", "C", true], ["1 1", "x", "x", true]]);
+  assert.equal(new Set(keysOf({ rows: 10, columns: 8 }, new Map()).map(({ letter }) => letter).filter(Boolean)).size, 36);
+});
+
+test("keys of the keyboard: own letters, named keys, then the other case", () => {
+  const keys = keysOf({ rows: 1, columns: 5 }, readLegends("# row 0: = C c x .\n"));
+  const meant = (typed) => keyOfKeyboard(keys, typed)?.legend;
+  assert.deepEqual(["Enter", "Escape", "c", "C", "X", ",", "Shift", "y"].map(meant), ["=", "C", "c", "C", "x", ".", undefined, undefined]);
+});
+
+test("what is told below the keys", () => {
+  assert.equal(hintOfKeys([]), "This board has no keys.");
+  assert.match(hintOfKeys(keysOf({ rows: 1, columns: 1 }, new Map())), /# row 0: 7 8 9/);
+  assert.doesNotMatch(hintOfKeys(keysOf({ rows: 1, columns: 1 }, readLegends("# row 0: 7"))), /# row 0/);
+});
+
+test("without keys the cycles are runs of at most 100,000", () => {
+  assert.deepEqual(lines(new KeyQueue(), 1543), ["run 1543"]);
+  assert.deepEqual(lines(new KeyQueue(), 2 * LONGEST_RUN + 5), ["run 100000", "run 100000", "run 5"]);
+});
+
+test("a press stays down and then up for its time, over several plans", () => {
+  const queue = new KeyQueue();
+  queue.press("0 1");
+  queue.release("0 1");
+  queue.press("0 2");
+  const first = queue.plan(5000);
+  assert.deepEqual(first.map(({ line }) => line), ["press 0 1", `run ${DOWN_CYCLES}`, "release 0 1", "run 1000"]);
+  queue.done(first, (at) => [0, DOWN_CYCLES, 0, 1000][at]);
+  assert.deepEqual(lines(queue, 1500), [`run ${UP_CYCLES - 1000}`, "press 0 2", "run 500"]);
+});
+
+test("a run that stops early leaves the rest of the time to wait", () => {
+  const queue = new KeyQueue();
+  queue.press("0 1");
+  queue.release("0 1");
+  const steps = queue.plan(3000);
+  queue.done(steps, () => 10);
+  assert.deepEqual(lines(queue, 4000), [`run ${DOWN_CYCLES - 10}`, "release 0 1", "run 10"]);
+});
+
+test("changes of a key can be forgotten, and all of them", () => {
+  const queue = new KeyQueue();
+  queue.press("0 1");
+  queue.press("0 2");
+  queue.forget("0 1");
+  assert.deepEqual(lines(queue, 1), ["press 0 2", "run 1"]);
+  queue.clear();
+  assert.deepEqual(lines(queue, 1), ["run 1"]);
+});
