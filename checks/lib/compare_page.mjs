@@ -111,7 +111,7 @@ function settle(engine, file) {
 // How the answer to an input may begin.
 const BEGINNINGS = {
   regs: /^acc /, list: /^[0-9A-F]{3} /, lamps: /^lamps /, ram: /^ram /, board: /^board$/, ports: /^ports$/,
-  breaks: /^breaks /, watches: /^watches /, seq: /^seq /, state: /^state seq /,
+  map: /^map lines /, breaks: /^breaks /, watches: /^watches /, seq: /^seq /, state: /^state seq /,
 };
 
 // Whether the page tells which answers belong to which input.

@@ -1,22 +1,18 @@
-# Prints the lines of a program with their addresses and bytes: reads the answers to `map` of this program and to `list` of all ROM, and
-# then the program. Needs numbers.awk.
+# Prints the lines of a program with their addresses and bytes: reads what `map` tells of it and the bytes of all ROM (`known_map` and
+# `known_bytes`, see map_program in tool.sh), and then the program. Needs numbers.awk.
 
-NR == FNR && is_listed($0) {
-    at = hex_number($1)
-    byte[at] = $2
-    if (substr($0, 8, 1) != " ") byte[at + 1] = $3
-}
+FNR == 1 { file++ }
 
-NR == FNR && $1 == "line" {
+file == 1 && $1 == "line" {
     begins[$2] = $3
     size[$2] = $4
 }
 
-NR == FNR && $1 == "name" { value[$2] = $3 }
+file == 1 && $1 == "name" { value[$2] = $3 }
 
-NR == FNR { next }
+file == 2 { byte[$1] = $2 }
 
-{
+file == 3 {
     sub(/\r$/, "")
     source = $0
     gsub(/\t/, "        ", source)
@@ -27,7 +23,7 @@ NR == FNR { next }
 # A line with its bytes, four of them on each line that is printed.
 function print_bytes(at, count, source,    i, text) {
     for (i = 0; i < count; i++) {
-        text = text " " byte[at + i]
+        text = text " " byte[sprintf("%03X", at + i)]
         if (i % 4 == 3 || i == count - 1) {
             print_line(sprintf("%03X%s", at + i - i % 4, text), source)
             text = source = ""

@@ -1,4 +1,4 @@
-//! One allocation that is refused while a program is mapped: `tools/refuse_allocations` refuses each in turn, the gate none.
+//! One allocation that is refused while a program is mapped: `checks/allocations` refuses each in turn, the gate none.
 use crate::sessions::{create, seq_of, serve};
 use mcs_disk::MemDisk;
 use mcs_journal::{CreateFault, FILE_SIZE};

@@ -1,0 +1,190 @@
+"""The assembler by the manual's chapter alone: what a program puts where, or its first refusal. It shares no line with the bench."""
+
+import re
+
+ALONE = {"NOP": 0x00, "WRM": 0xE0, "WMP": 0xE1, "WRR": 0xE2, "WR0": 0xE4, "WR1": 0xE5, "WR2": 0xE6, "WR3": 0xE7, "SBM": 0xE8, "RDM": 0xE9,
+         "RDR": 0xEA, "ADM": 0xEB, "RD0": 0xEC, "RD1": 0xED, "RD2": 0xEE, "RD3": 0xEF, "CLB": 0xF0, "CLC": 0xF1, "IAC": 0xF2, "CMC": 0xF3,
+         "CMA": 0xF4, "RAL": 0xF5, "RAR": 0xF6, "TCC": 0xF7, "DAC": 0xF8, "TCS": 0xF9, "STC": 0xFA, "DAA": 0xFB, "KBP": 0xFC, "DCL": 0xFD}
+ON_REGISTER = {"INC": 0x60, "ADD": 0x80, "SUB": 0x90, "LD": 0xA0, "XCH": 0xB0}
+ON_PAIR = {"SRC": 0x21, "FIN": 0x30, "JIN": 0x31}
+# What an instruction with values takes before them, its code, and the greatest value of each.
+WITH_VALUES = {"LDM": ("", 0xD0, [15]), "BBL": ("", 0xC0, [15]), "JUN": ("", 0x40, [4095]), "JMS": ("", 0x50, [4095]),
+               "FIM": ("P", 0x20, [255]), "ISZ": ("R", 0x70, [4095]), "JCN": ("", 0x10, [15, 4095])}
+REGISTERS = {f"R{k}": k for k in range(16)}
+PAIRS = {f"P{k}": k for k in range(8)}
+RESERVED = {*ALONE, *ON_REGISTER, *ON_PAIR, *WITH_VALUES, "WPM", "ORG", "DB", *REGISTERS, *PAIRS}
+ADDRESSES = 4096
+NAMES = 512
+
+
+class Refused(Exception):
+    """The number of a refusal and the line that it names, from 1, or 0."""
+
+
+def number_of(word):
+    if re.fullmatch("0x[0-9a-fA-F]+", word):
+        return int(word, 16)
+    return int(word) if re.fullmatch("[0-9]+", word) else None
+
+
+def is_name(word):
+    return re.fullmatch("[A-Za-z_][A-Za-z0-9_]{0,15}", word) is not None and word.upper() not in RESERVED
+
+
+def tokens(line):
+    """Words, the three signs, and `?` for each other character."""
+    return [token if re.match("[A-Za-z0-9_,:=]", token) else "?" for token in re.findall(r"[A-Za-z0-9_]+|[^ \t]", line.split(";")[0])]
+
+
+def values_of(words):
+    """Numbers, and names as they are; None where a word is neither."""
+    values = [number if (number := number_of(word)) is not None else word if is_name(word) else None for word in words]
+    return None if None in values else values
+
+
+def statement(words):
+    """A statement by its kind, `ORG`, `DB`, a row of WITH_VALUES or `CODE`; None where it has no form."""
+    name, rest = words[0].upper(), words[1:]
+    if name in ALONE:
+        return ("CODE", ALONE[name]) if not rest else None
+    if len(rest) % 2 == 0 or any(comma != "," for comma in rest[1::2]):
+        return None
+    operands = rest[::2]
+    upper = operands[0].upper()
+    if name == "ORG":
+        target = number_of(operands[0])
+        return ("ORG", target) if len(operands) == 1 and target is not None else None
+    if name == "DB":
+        return ("DB", values) if (values := values_of(operands)) else None
+    if name in ON_REGISTER:
+        return ("CODE", ON_REGISTER[name] + REGISTERS[upper]) if len(operands) == 1 and upper in REGISTERS else None
+    if name in ON_PAIR:
+        return ("CODE", ON_PAIR[name] + 2 * PAIRS[upper]) if len(operands) == 1 and upper in PAIRS else None
+    if name not in WITH_VALUES:
+        return None
+    before, code, most = WITH_VALUES[name]
+    if before:
+        place = (PAIRS if before == "P" else REGISTERS).get(upper)
+        if place is None:
+            return None
+        code += place * (2 if before == "P" else 1)
+        operands = operands[1:]
+    values = values_of(operands)
+    return (name, code, values) if values is not None and len(values) == len(most) else None
+
+
+def said(line):
+    """What a line says: a name with a number, or a label and a statement, each of which may be None; None where it has no form."""
+    words = tokens(line)
+    if len(words) == 3 and words[1] == "=":
+        return ("=", words[0], number_of(words[2])) if is_name(words[0]) and number_of(words[2]) is not None else None
+    label = None
+    if len(words) > 1 and words[1] == ":":
+        if not is_name(words[0]):
+            return None
+        label, words = words[0], words[2:]
+    if not words:
+        return (":", label, None)
+    told = statement(words)
+    return (":", label, told) if told else None
+
+
+def size_of(told):
+    if told is None or told[0] == "ORG":
+        return 0
+    if told[0] == "DB":
+        return len(told[1])
+    return 1 if told[0] in ("CODE", "LDM", "BBL") else 2
+
+
+def places(lines):
+    """The address and the statement of each line, and the names, where no line is refused by itself and those before it."""
+    at, rows, names = 0, [], {}
+    for number, line in enumerate(lines, 1):
+        whole = said(line)
+        if whole is None:
+            raise Refused(30, number)
+        sign, name, told = whole
+        target = told if sign == "=" else told[1] if told and told[0] == "ORG" else 0
+        if target >= ADDRESSES:
+            raise Refused(33, number)
+        if name in names:
+            raise Refused(31, number)
+        if name is not None and len(names) == NAMES:
+            raise Refused(37, number)
+        if sign == "=":
+            names[name] = told
+            rows.append((at, None))
+            continue
+        if name is not None and at == ADDRESSES or at + size_of(told) > ADDRESSES:
+            raise Refused(36, number)
+        if name is not None:
+            names[name] = at
+        rows.append((at, told))
+        at = told[1] if told and told[0] == "ORG" else at + size_of(told)
+    return rows, names
+
+
+def bytes_of(at, told, names, number):
+    if told is None or told[0] == "ORG":
+        return []
+    if told[0] == "CODE":
+        return [told[1]]
+    values = []
+    for value in told[-1]:
+        if isinstance(value, str) and value not in names:
+            raise Refused(32, number)
+        values.append(names[value] if isinstance(value, str) else value)
+    most = [255] * len(values) if told[0] == "DB" else WITH_VALUES[told[0]][2]
+    if any(value > limit for value, limit in zip(values, most)):
+        raise Refused(33, number)
+    if told[0] == "DB":
+        return values
+    name, code, last = told[0], told[1], values[-1]
+    if name in ("JCN", "ISZ") and last // 256 != (at + 2) % ADDRESSES // 256:
+        raise Refused(34, number)
+    if name in ("LDM", "BBL"):
+        return [code + last]
+    if name in ("JUN", "JMS"):
+        return [code + last // 256, last % 256]
+    return [code + values[0] if name == "JCN" else code, last % 256]
+
+
+def assemble(lines):
+    """The addresses with their bytes, of each line its address and how many bytes it has, and the names with their values."""
+    rows, names = places(lines)
+    image, spans = {}, []
+    for number, (at, told) in enumerate(rows, 1):
+        held = bytes_of(at, told, names, number)
+        if any(at + i in image for i in range(len(held))):
+            raise Refused(35, number)
+        image.update({at + i: byte for i, byte in enumerate(held)})
+        spans.append((at, len(held)))
+    return image, spans, names
+
+
+def judge(lines):
+    """The refusals of a text whatever its lines say."""
+    if sum(len(line) + 1 for line in lines) > 16384:
+        raise Refused(13, 0)
+    if any(len(line) > 255 for line in lines):
+        raise Refused(12, 0)
+    if any(character != "\t" and not 32 <= ord(character) < 127 for line in lines for character in line):
+        raise Refused(14, 0)
+
+
+def map_of(lines):
+    """The answer to `map`, line by line."""
+    try:
+        judge(lines)
+        _image, spans, names = assemble(lines)
+    except Refused as refused:
+        return [refusal(refused)]
+    told = [f"map lines {len(spans)} names {len(names)}"]
+    told += [f"line {number} {at:03X} {size}" for number, (at, size) in enumerate(spans, 1)]
+    return told + [f"name {name} {value:03X}" for name, value in names.items()]
+
+
+def refusal(refused):
+    number, line = refused.args
+    return f"no {number} line {line}" if line else f"no {number}"
