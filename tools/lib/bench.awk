@@ -84,47 +84,44 @@ function take_registers(line,    words, count, i) {
     is_known["regs"] = 1
 }
 
-function take_lamps(line) {
-    now["lamps"] = substr(line, 7)
-    if (now["lamps"] == "-") now["lamps"] = ""
-    is_known["lamps"] = 1
-}
-
-# A line of `ports`: `src`, `rom1 out`, `rom1 in`, `chain0`, `keys`.
-function take_ports(line,    words, count, i) {
+# The answer to `state`: keys and values. Ports and chains stand as `rom1 out`, `rom1 in` and `chain0`; those of RAM in ram_out[b, c].
+function take_state(line,    words, count, i, items, parts, n) {
     count = split(line, words)
-    if (words[1] == "src") now["src"] = substr(line, 5)
-    else if (words[1] == "rom") {
-        now["rom" words[2] " out"] = words[4]
-        now["rom" words[2] " in"] = words[6]
-    } else if (words[1] == "chain") {
-        now["chain" words[2]] = ""
-        for (i = 3; i <= count; i++) now["chain" words[2]] = now["chain" words[2]] words[i]
-    } else if (words[1] == "keys") now["keys"] = substr(line, 6)
+    for (i = 2; i < count; i += 2) now[words[i]] = words[i + 1]
+    gsub(/,/, " ", now["ret"])
+    if (now["lamps"] == "-") now["lamps"] = ""
+    n = split(now["roms"], items, ",")
+    for (i = 1; i <= n && split(items[i], parts, ".") == 3; i++) {
+        now["rom" parts[1] " out"] = parts[2]
+        now["rom" parts[1] " in"] = parts[3]
+    }
+    n = split(now["rams"], items, ",")
+    for (i = 1; i <= n && split(items[i], parts, ".") == 3; i++) ram_out[parts[1], parts[2]] = parts[3]
+    n = split(now["chains"], items, ",")
+    for (i = 1; i <= n && items[i] != "-"; i++) now["chain" i - 1] = items[i]
+    is_known["regs"] = is_known["state"] = 1
 }
 
-# The answer to `ram`: ram[b, s] the 256 characters, st[b, h, k] the status characters, out[b, c] the ports.
+# The answer to `ram`: ram[b, s] the 256 characters, status[b, h, k] the status characters.
 function take_ram(lines, n,    i, j, words, place) {
     for (i = 2; i <= n; i++) {
         split(lines[i], words)
         split(words[1], place, ".")
-        if (words[2] == "out") ram_out[place[1], place[2]] = words[3]
-        else {
+        if (words[2] != "out") {
             for (j = 1; j <= 16; j++) ram[place[1], place[2] * 64 + place[3] * 16 + j - 1] = substr(words[2], j, 1)
             for (j = 1; j <= 4; j++) status[place[1], place[2] * 4 + place[3], j - 1] = substr(words[3], j, 1)
         }
     }
 }
 
-# Makes known what `regs`, `lamps`, `ports` or `ram B` tell. This is the one place that asks for the state.
-function know(what,    lines, n, i) {
+# Makes known what `state` or `ram B` tells; `regs` is for the counter alone, where nothing else is wanted.
+function know(what,    lines, n) {
     if (is_known[what]) return
-    if (what == "regs") take_registers(ask("regs"))
-    else if (what == "lamps") take_lamps(ask("lamps"))
+    if (what == "state") take_state(ask("state"))
+    else if (what == "regs") take_registers(ask("regs"))
     else {
         n = ask_all(what, lines)
-        if (what == "ports") for (i = 2; i <= n; i++) take_ports(lines[i])
-        else take_ram(lines, n)
+        take_ram(lines, n)
     }
     is_known[what] = 1
 }

@@ -12,7 +12,7 @@ BEGIN {
 function begin_account() {
     depth = 0
     waiting = ""
-    know("lamps")
+    know("state")
     lamps_before = now["lamps"]
 }
 
@@ -59,7 +59,7 @@ function forget_oldest(time,    i) {
 
 # A path ends with each instruction that writes a port, so what the lamps show now is what it has made.
 function look_for_lamps() {
-    know("lamps")
+    know("state")
     if (now["lamps"] == lamps_before) return
     lamps_before = now["lamps"]
     last_change = elapsed
@@ -68,7 +68,7 @@ function look_for_lamps() {
 
 function key_went_down(name) {
     key_is_over()
-    know("lamps")
+    know("state")
     lamps_before = now["lamps"]
     waiting = name
     pressed_at = elapsed

@@ -192,10 +192,10 @@ function until_by_stops(c, end,    class, codes, n, i, places, came, at, count, 
     came = 0
     stop = "end"
     while (elapsed < end && !came) {
-        if (stop == "break") step_for(c)
+        if (stop == "break") step_for()
         else {
             know("regs")
-            if (class != "pc" && now["owed"] == "0" && is_place(hex_number(now["pc"]), places, count)) step_for(c)
+            if (class != "pc" && now["owed"] == "0" && is_place(hex_number(now["pc"]), places, count)) step_for()
             else take_run(ask("run " (end - elapsed < 100000 ? end - elapsed : 100000)))
         }
         if (stop == "code") break
@@ -211,13 +211,11 @@ function is_place(at, places, count,    i) {
     return 0
 }
 
-# A step, and what the condition is about, in one go.
-function step_for(c,    more) {
-    more = condition_class[c] == "lamps" ? "lamps" : ""
-    send("step\nregs" (more == "" ? "" : "\n" more))
+# A step, and the state after it, in one go.
+function step_for() {
+    send("step\nstate")
     take_run(receive())
-    take_registers(receive())
-    if (more != "") take_lamps(receive())
+    take_state(receive())
 }
 
 # The addresses of all bytes with these codes.
@@ -304,7 +302,7 @@ function measured(c, kind,    text, i, place) {
     place = condition_place[c]
     if (kind == "cycles") return elapsed - marked
     if (kind == "lamps" || kind == "lamp" || kind == "display") {
-        know("lamps")
+        know("state")
         if (kind == "lamps") return now["lamps"]
         if (kind == "display") return display_text(now["lamps"])
         return substr(now["lamps"], place + 1, 1) == "*" ? "on" : "off"
@@ -318,16 +316,16 @@ function measured(c, kind,    text, i, place) {
         if (place ~ /^r[0-9]/) return hex_number(substr(now["r"], substr(place, 2) + 1, 1))
         return hex_number(now[place])
     }
-    if (kind == "ram" || kind == "status" || kind == "ram port" || kind == "ram line") {
+    if (kind == "ram" || kind == "status") {
         know("ram " condition_bank[c])
         if (kind == "status") return hex_number(status[condition_bank[c], place, condition_bit[c]])
-        if (kind == "ram port") return hex_number(ram_out[condition_bank[c], place])
-        if (kind == "ram line") return bit_of(hex_number(ram_out[condition_bank[c], place]), condition_bit[c])
         text = ""
         for (i = place; i < place + condition_bit[c]; i++) text = text (i > place ? " " : "") hex_number(ram[condition_bank[c], i])
         return text
     }
-    know("ports")
+    know("state")
+    if (kind == "ram port") return hex_number(ram_out[condition_bank[c], place])
+    if (kind == "ram line") return bit_of(hex_number(ram_out[condition_bank[c], place]), condition_bit[c])
     if (kind == "port") return hex_number(now[place])
     if (kind == "line") return bit_of(hex_number(now[place]), condition_bit[c])
     if (kind == "chain") return now[place]
@@ -355,8 +353,7 @@ function tell_failure(t, i, wrong,    n, lines, k) {
     print "  line: " quoted(step_text[i])
     if (is_open) {
         print "  cycles: " elapsed
-        know("regs")
-        know("lamps")
+        know("state")
         print "  lamps: " quoted(now["lamps"])
         print "  registers: " quoted("acc " now["acc"] " cy " now["cy"] " pc " now["pc"] " dcl " now["dcl"] " test " now["test"] " r " now["r"] " ret " now["ret"])
         n = last_instructions(lines)
@@ -404,7 +401,7 @@ function last_instructions(lines,    left, k, from, n, end, line, count, begun) 
         if (past_line[k] != "run") {
             command(past_line[k])
             lines[++n] = "          " past_line[k]
-            look_at_all()
+            know("state")
             continue
         }
         end = elapsed + past_cycles[k] - (k == begun ? from : 0)

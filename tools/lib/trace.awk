@@ -11,15 +11,7 @@ function begin_trace(    at, n, i, lines) {
             if (substr(lines[i], 8, 1) != " ") trace_code[hex_number(substr(lines[i], 1, 3)) + 1] = substr(lines[i], 8, 2)
         }
     }
-    look_at_all()
-}
-
-function look_at_all(    lines, n, i) {
-    send("regs\nlamps\nports\nseq")
-    take_registers(receive())
-    take_lamps(receive())
-    receive()
-    while (receive() !~ /^seq /) take_ports(reply)
+    know("state")
 }
 
 # The text of the instruction at an address, with the name of its target.
@@ -65,10 +57,11 @@ function trace_step(    before, name, at, byte, old, new, n, m, text, change, be
     begun = elapsed
     n = 0
     if (now["owed"] == "0" && writes_ram(byte)) n = ask_all("ram " now["dcl"], old)
-    take_run(ask("step"))
+    send("step\nstate")
+    take_run(receive())
+    take_state(receive())
     if (took == 0) return ""
     if (n) m = ask_all("ram " before["dcl"], new)
-    look_at_all()
     change = ""
     for (m = 0; m < 16; m++) {
         if (substr(before["r"], m + 1, 1) != substr(now["r"], m + 1, 1)) change = change " r" m " " substr(now["r"], m + 1, 1)
