@@ -97,7 +97,8 @@ def lamps_of(mcs4, file, keys):
     """What the program shows of a session's file, after some keys."""
     lines = subprocess.run([TOP / "tools/keys", TOP / "examples/calculator/board.toml", keys], stdout=subprocess.PIPE, check=True).stdout
     answers = subprocess.run([mcs4, "open", file], input=lines, stdout=subprocess.PIPE, check=True).stdout
-    return subprocess.run([TOP / "tools/display"], input=answers, stdout=subprocess.PIPE, check=True).stdout.decode().strip()
+    return subprocess.run([TOP / "tools/display", TOP / "examples/calculator/board.toml"], input=answers, stdout=subprocess.PIPE,
+                          check=True).stdout.decode().strip()
 
 
 def as_version_1(file):
