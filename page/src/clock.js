@@ -22,6 +22,11 @@ export class Clock {
     this.time = new RealTime(0, 0);
   }
 
+  /** The time up to which what is done counts, in milliseconds. */
+  get now() {
+    return this.isFull ? performance.now() : this.time.before;
+  }
+
   start() {
     this.isRunning = true;
     this.goOn();

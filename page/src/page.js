@@ -251,8 +251,8 @@ export class Page {
     this.session.record.runs = true;
     this.runWord.set("Stop");
     this.status.set("Time runs.");
-    this.rate = new Rate(performance.now());
     this.clock.start();
+    this.rate = new Rate(this.clock.now);
     this.bench.isRunning = this.clock.isFull;
     this.keep();
   }
@@ -260,8 +260,8 @@ export class Page {
   /** @param {boolean} isFull */
   async setFull(isFull) {
     if (!isFull && this.clock.isFull && this.clock.isRunning) this.ran(await this.bench.call("halt", []));
-    this.rate = new Rate(performance.now());
     this.clock.setFull(isFull);
+    this.rate = new Rate(this.clock.now);
     this.bench.isRunning = isFull && this.clock.isRunning;
   }
 
@@ -278,7 +278,7 @@ export class Page {
    * @param {boolean} wasHidden
    */
   stoodStill(time, wasHidden) {
-    this.rate = new Rate(performance.now());
+    this.rate = new Rate(this.clock.now);
     this.status.set(`Time runs. It stood still for ${wordsOfTime(time)} ${wasHidden ? "while hidden" : "while the page was held up"}.`);
   }
 
@@ -315,8 +315,7 @@ export class Page {
    * @param {Frame} frame
    */
   ran(frame) {
-    const now = performance.now();
-    this.rate.add(frame.cycles, now);
+    this.rate.add(frame.cycles, this.clock.now);
     this.log.collect(frame.ran);
     this.show(frame);
     if (frame.end) {
@@ -326,7 +325,7 @@ export class Page {
     }
     this.showRate();
     // A key that was pressed is kept at once.
-    if (frame.changesKeys || now - this.kept >= KEEP_TIME) this.keep();
+    if (frame.changesKeys || performance.now() - this.kept >= KEEP_TIME) this.keep();
   }
 
   /** @param {string} answer that ended a run */
