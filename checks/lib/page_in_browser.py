@@ -1,5 +1,6 @@
 """What checks/page looks at in the browser: the page does by keys, clicks and files what the program does by lines."""
 
+import os
 import pathlib
 import re
 import subprocess
@@ -95,10 +96,11 @@ def check_two_keys(browser):
 
 def lamps_of(mcs4, file, keys):
     """What the program shows of a session's file, after some keys."""
-    lines = subprocess.run([TOP / "tools/keys", TOP / "examples/calculator/board.toml", keys], stdout=subprocess.PIPE, check=True).stdout
+    board = TOP / "examples/calculator/board.toml"
+    told = dict(os.environ, MCS4=str(mcs4))
+    lines = subprocess.run([TOP / "tools/keys", board, keys], stdout=subprocess.PIPE, check=True, env=told).stdout
     answers = subprocess.run([mcs4, "open", file], input=lines, stdout=subprocess.PIPE, check=True).stdout
-    return subprocess.run([TOP / "tools/display", TOP / "examples/calculator/board.toml"], input=answers, stdout=subprocess.PIPE,
-                          check=True).stdout.decode().strip()
+    return subprocess.run([TOP / "tools/display", board], input=answers, stdout=subprocess.PIPE, check=True).stdout.decode().strip()
 
 
 def as_version_1(file):

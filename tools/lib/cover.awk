@@ -53,8 +53,9 @@ function line_number(i) {
     return i + ENVIRON["program_before"]
 }
 
-function source_row(count, ways, text,    row) {
-    gsub(/\t/, "        ", text)
+function source_row(count, ways, text,    row, at) {
+    # Tabs, to columns that are multiples of eight.
+    while ((at = index(text, "\t")) > 0) text = substr(text, 1, at - 1) substr("        ", 1, 8 - (at - 1) % 8) substr(text, at + 1)
     row = sprintf("%10s %-13s  %s", count, ways, text)
     sub(/ +$/, "", row)
     return row

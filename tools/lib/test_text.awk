@@ -116,13 +116,20 @@ function read_set(i, words, count,    place, value) {
 }
 
 # A time, from words[from] on, in cycles; `time_words` is how many words it has. 0 where it is none.
-function time_of(words, from, count,    word, unit) {
+function time_of(words, from, count,    word, unit, joined) {
     time_words = 1
     word = words[from]
     unit = from < count ? words[from + 1] : ""
+    # `20ms` is `20 ms`.
+    joined = word ~ /^[0-9.]+(ms|s)$/
+    if (joined) {
+        unit = word
+        sub(/^[0-9.]+/, "", unit)
+        sub(/[a-z]+$/, "", word)
+    }
     if (word !~ /^[0-9]+(\.[0-9]+)?$/ || length(word) > 12) time_words = 0
     else if (unit == "ms" || unit == "s") {
-        time_words = 2
+        time_words = joined ? 1 : 2
         word = int(word * (unit == "s" ? 1000 : 1) / 0.0108 + 0.5)
     } else {
         if (unit == "cycles" || unit == "cycle") time_words = 2
