@@ -105,11 +105,19 @@ fault_of_shipped() {
     fi
 }
 
-# What the page is made from, by its checksum: the page's folder but for what is made or tested there, the examples, the texts that tools
-# and page share, and the crate `page` with those below it.
-sum_of_page() {
+# The checksum of what the page's module is made from: the crate `page` with those below it, and what compiles it.
+sum_of_module() {
     {
         sum_of_crate page
+        printf '%s\n' page/heap.c page/wasm | sums_of_files
+    } | sum_of_input
+}
+
+# The checksum of what the page is made from: its module, the page's folder but for what is made or tested there, the examples, and the
+# texts that tools and page share.
+sum_of_page() {
+    {
+        sum_of_module
         (cd "$top" && find page examples tools/lib/*.txt -type f -print) | grep -vxE "$page_made" | sums_of_files
     } | sum_of_input
 }
