@@ -4,7 +4,7 @@ use mcs_disk::MemDisk;
 use mcs_journal::{CreateFault, FILE_SIZE};
 use mcs_session::session::Session;
 use mcs_shell::ends::ShellEnd;
-use std::alloc::Global;
+use std::alloc::{AllocError, Global};
 use std::process::Abort;
 
 const SCRIPT: &[u8] = b"map\na: JUN a\nb = 0x2F\n.\nmap\nJUN c\n.\nseq\n";
@@ -32,10 +32,14 @@ fn left_out(rt: &impl Abort, output: &[u8]) -> &'static str {
     panic!(rt; "other answers")
 }
 
+/// A writer that has its memory before it is written to.
+fn ready_writer(alloc: Global) -> Result<Vec<u8>, AllocError> {
+    Vec::with_capacity(alloc, 1_024)
+}
+
 /// Does the script, which changes nothing. It answers what was refused.
 fn run(alloc: Global, rt: &impl Abort, mut session: Session<MemDisk>) -> &'static str {
-    // The writer has its memory before it is written to.
-    let Ok(mut writer) = Vec::with_capacity(alloc, 1_024) else {
+    let Ok(mut writer) = ready_writer(alloc) else {
         return "the writer";
     };
     let mut reader = SCRIPT;
@@ -60,7 +64,7 @@ fn make_and_run(alloc: Global, rt: &impl Abort) -> &'static str {
         Ok(session) => run(alloc, rt, session),
         Err((CreateFault::NoMemory, _)) => "the session made",
         Err((fault, _)) => {
-            assert_eq!(rt; fault, CreateFault::Device);
+            assert!(rt; fault == CreateFault::Device);
             "a record at making"
         }
     }
