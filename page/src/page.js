@@ -157,8 +157,8 @@ export class Page {
   async use(record, release) {
     await this.bench.call("settled", [record.file]);
     const old = this.session;
-    if (old) await this.stop();
-    const shown = await this.bench.call("open", [record.file]);
+    if (old) await this.leave();
+    const shown = await this.open(record);
     if (old) old.release();
     this.session = new KeptSession(this.store, record, release);
     this.pressing.forget();
@@ -173,6 +173,22 @@ export class Page {
     await this.keep();
     if (record.runs) this.run();
     else this.halted("Stopped.");
+  }
+
+  /** Keeps the session that is left. Whether its time runs stays in its record, so that it goes on when it is come back to. */
+  async leave() {
+    await this.standStill();
+    await this.keep();
+  }
+
+  /** @param {SessionRecord} record */
+  async open(record) {
+    try {
+      return await this.bench.call("open", [record.file]);
+    } catch (fault) {
+      if (this.session) this.halted("Stopped.");
+      throw fault;
+    }
   }
 
   /**
@@ -293,20 +309,27 @@ export class Page {
     this.runWord.set("Run");
     this.status.set(words);
     this.showRate();
-    this.machine.standStill();
+    this.machine.showListing();
+  }
+
+  /** Lets no more time pass, and takes what it has done. */
+  async standStill() {
+    if (!this.clock.isRunning) return;
+    this.clock.stop();
+    this.bench.isRunning = false;
+    this.ran(await this.bench.call("halt", []));
   }
 
   /** Stops time, and keeps what it has done. */
   async stop() {
-    const isRunning = this.clock.isRunning;
-    this.clock.stop();
     try {
-      if (isRunning) this.ran(await this.bench.call("halt", []));
+      await this.standStill();
     } catch (fault) {
       this.failed(fault);
       return;
     }
-    this.halted("Stopped.");
+    // A breakpoint may have come first.
+    if (this.session && this.session.record.runs) this.halted("Stopped.");
     await this.keep();
   }
 
@@ -317,6 +340,8 @@ export class Page {
   ran(frame) {
     this.rate.add(frame.cycles, this.clock.now);
     this.log.collect(frame.ran);
+    // What is marked then is what the last look found different.
+    if (frame.end) this.clock.stop();
     this.show(frame);
     if (frame.end) {
       this.halted(this.reasonOf(frame.end));
@@ -386,8 +411,10 @@ export class Page {
     console.error(fault);
     this.notice.show(this.words.ofFailure(fault));
     if (!this.session) return;
-    if (this.clock.isRunning && this.clock.isFull) this.bench.send({ kind: "request", number: 0, call: "halt", words: [] });
+    const { isRunning } = this.clock;
     this.halted("Stopped.");
+    // What time has done before is not lost.
+    if (isRunning) this.bench.call("halt", []).then((frame) => this.ran(frame)).catch(() => {});
   }
 
   /** The worker died. The newest that it told is here: the session goes on from there. */
