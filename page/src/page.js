@@ -349,8 +349,8 @@ export class Page {
       return;
     }
     this.showRate();
-    // A key that was pressed is kept at once.
-    if (frame.changesKeys || performance.now() - this.kept >= KEEP_TIME) this.keep();
+    // A key that was pressed is kept at once. A page that is hidden is told once a second.
+    if (frame.changesKeys || document.hidden || performance.now() - this.kept >= KEEP_TIME) this.keep();
   }
 
   /** @param {string} answer that ended a run */
