@@ -52,7 +52,7 @@ const add = (root, name, properties) => root.append(Object.assign(document.creat
 add(document.head, "script", { textContent: "window.injected = true" });
 add(document.head, "style", { textContent: "body { display: none }" });
 add(document.head, "base", { href: "http://127.0.0.1:1/" });
-add(document.body, "iframe", { src: "http://127.0.0.1:1/" });
+add(document.body, "img", { src: "http://127.0.0.1:1/" });
 add(document.body, "form", { id: "forbidden", action: "http://127.0.0.1:1/" });
 try {
   document.getElementById("forbidden").submit();
@@ -320,7 +320,7 @@ def check_by_chromium(browser):
 
 def check_policy(browser):
     browser.script(FORBIDDEN)
-    comes(browser, "what the policy forbids", VIOLATIONS, "base-uri form-action frame-src script-src-elem style-src-elem")
+    comes(browser, "what the policy forbids", VIOLATIONS, "base-uri form-action img-src script-src-elem style-src-elem")
 
 
 def figures(browser, page):
