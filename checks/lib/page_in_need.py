@@ -106,6 +106,7 @@ window.ticking = setInterval(() => {
   window.longest = Math.max(window.longest, performance.now() - before);
   before = performance.now();
 }, 20)"""
+LAST_ENTRY = "return document.getElementById('log').lastElementChild.textContent"
 PROGRESS = "return document.querySelector('#work progress').value > 0"
 LONGEST = "clearInterval(window.ticking); return window.longest"
 
@@ -131,8 +132,8 @@ def check_long_work(browser, page):
     browser.script("document.getElementById('lines').value = 'step\\n'.repeat(20000)")
     browser.click("#send")
     comes(browser, "work in pieces is done whole", "return document.getElementById('lines').value", "", 60)
-    count = re.compile(f"seq {int(before.rsplit(' ', 1)[1]) + 20000}$")
-    verdict("each line of it once", lines_answered(browser, "seq"), count)
+    lines_answered(browser, "seq")
+    verdict("each line of it once", browser.script(LAST_ENTRY), f"seqseq {int(before.rsplit(' ', 1)[1]) + 20000}")
 
 
 def poor(page, folder, code):
