@@ -56,6 +56,8 @@ export class Page {
     this.kept = 0;
     /** The timer of an edit that is to be kept. */
     this.editing = 0;
+    /** Whether another worker is being started in the place of one that died. */
+    this.isRestarting = false;
     /** Whether the keyboard presses keys of the board. */
     this.types = true;
     this.rate = new Rate(0);
@@ -409,6 +411,8 @@ export class Page {
    */
   failed(fault) {
     console.error(fault);
+    // What the dead worker owed, and what another one cannot answer yet: it is told below.
+    if (this.isRestarting) return;
     this.notice.show(this.words.ofFailure(fault));
     if (!this.session) return;
     const { isRunning } = this.clock;
@@ -419,15 +423,19 @@ export class Page {
 
   /** The worker died. The newest that it told is here: the session goes on from there. */
   async restart() {
+    this.isRestarting = true;
     this.clock.stop();
     try {
       await this.bench.start();
       this.notice.show("The bench's worker has stopped and was started anew. The session is as it was before.");
       if (!this.session) return;
       this.show(await this.bench.call("open", [this.session.record.file]));
+      this.isRestarting = false;
       this.halted("Stopped.");
     } catch (fault) {
       this.notice.show(`The bench has stopped and could not be started anew: ${this.words.ofFault(fault)}. Save the session to a file.`);
+    } finally {
+      this.isRestarting = false;
     }
   }
 }
