@@ -7,6 +7,7 @@ import { Cabinet } from "./cabinet.js";
 import { Clock } from "./clock.js";
 import { Cell, block, button, field } from "./dom.js";
 import { EditorView } from "./editor_view.js";
+import { Cancelled } from "./faults.js";
 import { KeptSession } from "./kept_session.js";
 import { LogView } from "./log_view.js";
 import { Pressing, wantsKey } from "./pressing.js";
@@ -221,7 +222,9 @@ export class Page {
     try {
       told = await this.work.show("Lines are served.", (signal, progress) => this.bench.call("serve", [lines], { signal, progress }));
     } catch (fault) {
-      this.failed(fault);
+      // Time that runs goes on where lines were cancelled.
+      if (fault instanceof Cancelled) this.notice.show(this.words.ofFailure(fault));
+      else this.failed(fault);
       return null;
     }
     if (told.touchesRom) this.machine.listing.forget();
