@@ -92,10 +92,4 @@ export class BoardView {
   showListing() {
     this.listing.show(this.calls.isRunning()).catch(this.calls.failed);
   }
-
-  /** Time stands still: what has just changed is what the last look found different. */
-  standStill() {
-    this.changes.begin(false);
-    this.showListing();
-  }
 }

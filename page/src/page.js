@@ -7,6 +7,7 @@ import { Cabinet } from "./cabinet.js";
 import { Clock } from "./clock.js";
 import { Cell, block, button, field } from "./dom.js";
 import { EditorView } from "./editor_view.js";
+import { Cancelled } from "./faults.js";
 import { KeptSession } from "./kept_session.js";
 import { LogView } from "./log_view.js";
 import { Pressing, wantsKey } from "./pressing.js";
@@ -56,6 +57,8 @@ export class Page {
     this.kept = 0;
     /** The timer of an edit that is to be kept. */
     this.editing = 0;
+    /** Whether another worker is being started in the place of one that died. */
+    this.isRestarting = false;
     /** Whether the keyboard presses keys of the board. */
     this.types = true;
     this.rate = new Rate(0);
@@ -157,8 +160,8 @@ export class Page {
   async use(record, release) {
     await this.bench.call("settled", [record.file]);
     const old = this.session;
-    if (old) await this.stop();
-    const shown = await this.bench.call("open", [record.file]);
+    if (old) await this.leave();
+    const shown = await this.open(record);
     if (old) old.release();
     this.session = new KeptSession(this.store, record, release);
     this.pressing.forget();
@@ -173,6 +176,22 @@ export class Page {
     await this.keep();
     if (record.runs) this.run();
     else this.halted("Stopped.");
+  }
+
+  /** Keeps the session that is left. Whether its time runs stays in its record, so that it goes on when it is come back to. */
+  async leave() {
+    await this.standStill();
+    await this.keep();
+  }
+
+  /** @param {SessionRecord} record */
+  async open(record) {
+    try {
+      return await this.bench.call("open", [record.file]);
+    } catch (fault) {
+      if (this.session) this.halted("Stopped.");
+      throw fault;
+    }
   }
 
   /**
@@ -203,7 +222,9 @@ export class Page {
     try {
       told = await this.work.show("Lines are served.", (signal, progress) => this.bench.call("serve", [lines], { signal, progress }));
     } catch (fault) {
-      this.failed(fault);
+      // Time that runs goes on where lines were cancelled.
+      if (fault instanceof Cancelled) this.notice.show(this.words.ofFailure(fault));
+      else this.failed(fault);
       return null;
     }
     if (told.touchesRom) this.machine.listing.forget();
@@ -293,20 +314,27 @@ export class Page {
     this.runWord.set("Run");
     this.status.set(words);
     this.showRate();
-    this.machine.standStill();
+    this.machine.showListing();
+  }
+
+  /** Lets no more time pass, and takes what it has done. */
+  async standStill() {
+    if (!this.clock.isRunning) return;
+    this.clock.stop();
+    this.bench.isRunning = false;
+    this.ran(await this.bench.call("halt", []));
   }
 
   /** Stops time, and keeps what it has done. */
   async stop() {
-    const isRunning = this.clock.isRunning;
-    this.clock.stop();
     try {
-      if (isRunning) this.ran(await this.bench.call("halt", []));
+      await this.standStill();
     } catch (fault) {
       this.failed(fault);
       return;
     }
-    this.halted("Stopped.");
+    // A breakpoint may have come first.
+    if (this.session && this.session.record.runs) this.halted("Stopped.");
     await this.keep();
   }
 
@@ -317,6 +345,8 @@ export class Page {
   ran(frame) {
     this.rate.add(frame.cycles, this.clock.now);
     this.log.collect(frame.ran);
+    // What is marked then is what the last look found different.
+    if (frame.end) this.clock.stop();
     this.show(frame);
     if (frame.end) {
       this.halted(this.reasonOf(frame.end));
@@ -324,8 +354,8 @@ export class Page {
       return;
     }
     this.showRate();
-    // A key that was pressed is kept at once.
-    if (frame.changesKeys || performance.now() - this.kept >= KEEP_TIME) this.keep();
+    // A key that was pressed is kept at once. A page that is hidden is told once a second.
+    if (frame.changesKeys || document.hidden || performance.now() - this.kept >= KEEP_TIME) this.keep();
   }
 
   /** @param {string} answer that ended a run */
@@ -384,23 +414,31 @@ export class Page {
    */
   failed(fault) {
     console.error(fault);
+    // What the dead worker owed, and what another one cannot answer yet: it is told below.
+    if (this.isRestarting) return;
     this.notice.show(this.words.ofFailure(fault));
     if (!this.session) return;
-    if (this.clock.isRunning && this.clock.isFull) this.bench.send({ kind: "request", number: 0, call: "halt", words: [] });
+    const { isRunning } = this.clock;
     this.halted("Stopped.");
+    // What time has done before is not lost.
+    if (isRunning) this.bench.call("halt", []).then((frame) => this.ran(frame)).catch(() => {});
   }
 
   /** The worker died. The newest that it told is here: the session goes on from there. */
   async restart() {
+    this.isRestarting = true;
     this.clock.stop();
     try {
       await this.bench.start();
       this.notice.show("The bench's worker has stopped and was started anew. The session is as it was before.");
       if (!this.session) return;
       this.show(await this.bench.call("open", [this.session.record.file]));
+      this.isRestarting = false;
       this.halted("Stopped.");
     } catch (fault) {
       this.notice.show(`The bench has stopped and could not be started anew: ${this.words.ofFault(fault)}. Save the session to a file.`);
+    } finally {
+      this.isRestarting = false;
     }
   }
 }

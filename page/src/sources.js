@@ -32,7 +32,8 @@ export function textsOfFile(engine, file, examples) {
     const isSame = engine.ask(like, ALL_ROM).answers.join("\n") === rom;
     return { boardText: example.board, programText: isSame ? example.program : sourceOfRom(engine, file) };
   }
-  return { boardText: board.replace(/^board\n?/, ""), programText: sourceOfRom(engine, file) };
+  const lines = board.split("\n").slice(1);
+  return { boardText: lines.map((line) => `${line}\n`).join(""), programText: sourceOfRom(engine, file) };
 }
 
 /** @param {string} line of a listing */

@@ -171,7 +171,8 @@ export class Forgetful {
 
   /** @param {string} id */
   async get(id) {
-    return this.records.get(id);
+    const record = this.records.get(id);
+    return record && { ...record, file: record.file.slice() };
   }
 
   /** @param {SessionRecord} record */
