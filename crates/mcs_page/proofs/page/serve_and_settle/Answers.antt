@@ -1,13 +1,15 @@
-use Rattle.std.proofs.Common.{inl, refl}
+use Rattle.std.proofs.Common.{◌∙◌, ℕ, List, length, ap, inl, refl}
 use Rattle.mcs_page.proofs.Served.{answers_of}
 use Rattle.mcs_page.proofs.page.serve_and_settle.Goals as goal
 
 pub returns-clause-served : goal.returns-clause-served
 returns-clause-served c =
-    let settled = c.settle_into.ensures in
+    let settled = c.settle_into.ensures.settled in
+    let told = c.deref.ensures.value in
+    let count = c.tell-count.ensures.count ∙ ap (λ (bytes : List ℕ). length bytes) told in
     record {
       between = c.in-Ok.answered.session.disk.bytes.items;
-      answers = answers_of _ _ _ _ _ _ _ _ _ c.in-Ok.ensures.served c.in-Ok.ensures.room c.tell-count.ensures.count c.tell-count.ensures.told c.tell-count.ensures.rest refl;
+      answers = answers_of _ _ _ _ _ _ _ _ _ c.in-Ok.ensures.served c.in-Ok.ensures.room count (c.tell-count.ensures.told ∙ told) c.tell-count.ensures.rest refl;
       settled = record { state = c.in-Ok.answered.session.state; before = inl settled.stood; after = settled.holds };
       same = refl;
     }
