@@ -55,7 +55,7 @@ class Driven:
                       {"type": "keyUp", "value": key}, {"type": "pause", "duration": time_up}]
         self.actions({"type": "key", "id": "keyboard", "actions": steps})
 
-    def until(self, code, wanted, seconds=10):
+    def until(self, code, wanted, seconds=30):
         """Waits until a script answers what is wanted, or a text that has a pattern; gives what it answered last. A script that fails,
         as one does while the page goes, is tried again."""
         end = time.monotonic() + seconds

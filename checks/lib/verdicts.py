@@ -16,6 +16,6 @@ def verdict(what, found, wanted):
         print(f"checks/page: {what}: is {found!r}, has to be {wanted!r}", file=sys.stderr)
 
 
-def comes(browser, what, code, wanted, seconds=10):
+def comes(browser, what, code, wanted, seconds=30):
     """Counts a check of what a script answers, now or in so many seconds."""
     verdict(what, browser.until(code, wanted, seconds), wanted)
