@@ -7,9 +7,9 @@ import { closeSync, existsSync, mkdtempSync, openSync, readFileSync, readdirSync
 import { tmpdir } from "node:os";
 import { dirname, join } from "node:path";
 import { fileURLToPath } from "node:url";
-import { Engine } from "../../page/src/engine.js";
-import { endOfInputs, matchAnswers, readInputs } from "../../page/src/inputs.js";
-import { sourceOfRom } from "../../page/src/sources.js";
+import { Engine } from "../../page/src/worker/engine.js";
+import { endOfInputs, matchAnswers, readInputs } from "../../page/src/bench/inputs.js";
+import { sourceOfRom } from "../../page/src/worker/sources.js";
 
 const [modulePath, mcs4, count] = process.argv.slice(2);
 // In memory, where the host has a place for it: the program waits for its disk after each command.

@@ -18,12 +18,19 @@ def fits(found, wanted):
 
 
 class Driven:
+    # What the driver can do: several fingers at once; and whether a tab behind another one is hidden.
+    has_fingers = True
+    hides_tabs = True
+    # How many seconds after a scroll the page is drawn anew.
+    settles = 0
+
     def show(self, selector):
         """Scrolls an element to the middle, where nothing else lies over it."""
         self.script("document.querySelector(arguments[0]).scrollIntoView({ block: 'center' })", selector)
 
     def click(self, selector):
         self.show(selector)
+        time.sleep(self.settles)
         self.click_element(self.find(selector))
 
     def type_into(self, selector, text):
@@ -54,6 +61,12 @@ class Driven:
             steps += [{"type": "keyDown", "value": key}, {"type": "pause", "duration": time_down},
                       {"type": "keyUp", "value": key}, {"type": "pause", "duration": time_up}]
         self.actions({"type": "key", "id": "keyboard", "actions": steps})
+
+    def chord(self, held, typed):
+        """A key that is typed while another one is held."""
+        self.actions({"type": "key", "id": "keyboard", "actions": [
+            {"type": "keyDown", "value": held}, {"type": "keyDown", "value": typed},
+            {"type": "keyUp", "value": typed}, {"type": "keyUp", "value": held}]})
 
     def until(self, code, wanted, seconds=30):
         """Waits until a script answers what is wanted, or a text that has a pattern; gives what it answered last. A script that fails,

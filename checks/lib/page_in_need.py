@@ -32,7 +32,7 @@ def fail(browser, fault):
 
 
 def dismiss(browser):
-    browser.click("#notice button")
+    browser.click("#notice .dismiss")
 
 
 def check_failures(browser, page, folder):
@@ -52,6 +52,7 @@ def check_failures(browser, page, folder):
     fail(browser, "no memory")
     comes(browser, "lack of memory is told", NOTICE, re.compile("no 90: there was no memory"))
     comes(browser, "the session is as it was then, too", DIGITS, "123")
+    dismiss(browser)
     check_full_store(browser)
     fail(browser, "trap without room")
     browser.click("#step")

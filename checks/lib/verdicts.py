@@ -4,7 +4,8 @@ import sys
 
 from driven import fits
 
-counts = {"passed": 0, "failed": 0}
+# `again` counts the topics of checks/page that passed at the second try only.
+counts = {"passed": 0, "failed": 0, "again": 0}
 
 
 def verdict(what, found, wanted):

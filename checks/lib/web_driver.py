@@ -1,37 +1,22 @@
-"""Chromium, driven through chromedriver by its protocol over HTTP; nothing but Python's library is needed."""
+"""Browsers that are driven through a driver of their own by the protocol over HTTP (WebDriver): Chromium by chromedriver, and WebKit, the
+engine of Safari and of all browsers of an iPhone, by WebKitWebDriver. Nothing but Python's library is needed."""
 
 import base64
+import glob
 import json
+import os
+import pathlib
+import socket
 import subprocess
+import time
 import urllib.error
 import urllib.request
 
 from driven import ELEMENT, Driven, Fault
 
 
-class Chromium(Driven):
-    name = "Chromium"
-    # With these settings it keeps no data of any site.
-    blocks_data = {"profile.default_content_setting_values.cookies": 2}
-
-    def __init__(self, folder, downloads, flags=(), **settings):
-        self.driver = subprocess.Popen(["chromedriver", "--port=0"], stdout=subprocess.PIPE, stderr=subprocess.DEVNULL, text=True)
-        self.root = f"http://127.0.0.1:{self._port()}"
-        options = {
-            "args": ["--headless=new", "--no-sandbox", "--disable-gpu", "--hide-scrollbars", "--window-size=1280,900",
-                     f"--user-data-dir={folder}", *flags],
-            "prefs": {"download.default_directory": downloads, "download.prompt_for_download": False, **settings},
-        }
-        asked = {"capabilities": {"alwaysMatch": {"goog:chromeOptions": options, "goog:loggingPrefs": {"browser": "ALL"}}}}
-        begun = self._ask("POST", "/session", asked)
-        self.session = "/session/" + begun["sessionId"]
-        self.version = begun["capabilities"]["browserVersion"]
-
-    def _port(self):
-        for line in self.driver.stdout:
-            if "started successfully on port" in line:
-                return int(line.rsplit(" ", 1)[1].strip(" .\n"))
-        raise Fault("chromedriver did not start")
+class WebDriver(Driven):
+    """A browser behind `self.root`, the address of its driver, and `self.session`, its session's path there."""
 
     def _ask(self, method, path, body=None):
         data = None if body is None else json.dumps(body).encode()
@@ -82,15 +67,8 @@ class Chromium(Driven):
         self.do("DELETE", "/window")
         self.show_tab(handle)
 
-    def command(self, name, **words):
-        """A command of the browser's own protocol."""
-        return self.do("POST", "/goog/cdp/execute", {"cmd": name, "params": words})
-
     def picture(self):
         return base64.b64decode(self.do("GET", "/screenshot"))
-
-    def log(self):
-        return [entry["message"] for entry in self.do("POST", "/se/log", {"type": "browser"})]
 
     def process(self):
         """The number of the process that started all of it."""
@@ -103,3 +81,97 @@ class Chromium(Driven):
             pass
         self.driver.terminate()
         self.driver.wait()
+
+
+class Chromium(WebDriver):
+    name = "Chromium"
+    # With these settings it keeps no data of any site.
+    blocks_data = {"profile.default_content_setting_values.cookies": 2}
+
+    def __init__(self, folder, downloads, flags=(), **settings):
+        self.driver = subprocess.Popen(["chromedriver", "--port=0"], stdout=subprocess.PIPE, stderr=subprocess.DEVNULL, text=True)
+        self.root = f"http://127.0.0.1:{self._port()}"
+        options = {
+            "args": ["--headless=new", "--no-sandbox", "--disable-gpu", "--hide-scrollbars", "--window-size=1280,900",
+                     f"--user-data-dir={folder}", *flags],
+            "prefs": {"download.default_directory": downloads, "download.prompt_for_download": False, **settings},
+        }
+        asked = {"capabilities": {"alwaysMatch": {"goog:chromeOptions": options, "goog:loggingPrefs": {"browser": "ALL"}}}}
+        begun = self._ask("POST", "/session", asked)
+        self.session = "/session/" + begun["sessionId"]
+        self.version = begun["capabilities"]["browserVersion"]
+
+    def _port(self):
+        for line in self.driver.stdout:
+            if "started successfully on port" in line:
+                return int(line.rsplit(" ", 1)[1].strip(" .\n"))
+        raise Fault("chromedriver did not start")
+
+    def command(self, name, **words):
+        """A command of the browser's own protocol."""
+        return self.do("POST", "/goog/cdp/execute", {"cmd": name, "params": words})
+
+    def log(self):
+        return [entry["message"] for entry in self.do("POST", "/se/log", {"type": "browser"})]
+
+
+class WebKit(WebDriver):
+    """Debian's MiniBrowser of WebKitGTK. It has no headless mode: where there is no display, Xvfb is one."""
+
+    name = "WebKit"
+    # No setting of it blocks the data of sites.
+    blocks_data = None
+    # Its driver moves one pointer, and its tabs are windows, none of which hides another.
+    has_fingers = False
+    hides_tabs = False
+    settles = 0.3
+
+    def __init__(self, folder, downloads):
+        home = pathlib.Path(folder)
+        home.mkdir(parents=True, exist_ok=True)
+        (home / "user-dirs.dirs").write_text(f'XDG_DOWNLOAD_DIR="{downloads}"\n')
+        self.screen = None
+        self.world = dict(os.environ, HOME=str(home), XDG_CONFIG_HOME=str(home), XDG_RUNTIME_DIR=str(home), GDK_BACKEND="x11",
+                          WEBKIT_DISABLE_COMPOSITING_MODE="1", WEBKIT_DISABLE_SANDBOX_THIS_IS_DANGEROUS="1")
+        self.world["DISPLAY"] = self._display()
+        port = self._free_port()
+        self.root = f"http://127.0.0.1:{port}"
+        self.driver = subprocess.Popen(["WebKitWebDriver", f"--port={port}"], env=self.world, stdout=subprocess.DEVNULL,
+                                       stderr=subprocess.DEVNULL)
+        begun = self._begin()
+        self.session = "/session/" + begun["sessionId"]
+        self.version = begun["capabilities"]["browserVersion"]
+        self.do("POST", "/window/rect", {"x": 0, "y": 0, "width": 1280, "height": 900})
+
+    def _display(self):
+        """A screen of its own, whose number Xvfb chooses."""
+        self.screen = subprocess.Popen(["Xvfb", "-displayfd", "1", "-screen", "0", "1920x1200x24"], stdout=subprocess.PIPE,
+                                       stderr=subprocess.DEVNULL, text=True)
+        number = self.screen.stdout.readline().strip()
+        if not number:
+            raise Fault("Xvfb did not start")
+        return f":{number}"
+
+    @staticmethod
+    def _free_port():
+        with socket.socket() as line:
+            line.bind(("127.0.0.1", 0))
+            return line.getsockname()[1]
+
+    def _begin(self):
+        browser = glob.glob("/usr/lib/*/webkit2gtk-4.*/MiniBrowser")[0]
+        options = {"binary": browser, "args": ["--automation"]}
+        asked = {"capabilities": {"alwaysMatch": {"browserName": "MiniBrowser", "webkitgtk:browserOptions": options}}}
+        end = time.monotonic() + 60
+        while True:
+            try:
+                return self._ask("POST", "/session", asked)
+            except OSError:
+                if time.monotonic() > end:
+                    raise Fault("WebKitWebDriver did not start") from None
+                time.sleep(0.2)
+
+    def end(self):
+        super().end()
+        self.screen.terminate()
+        self.screen.wait()

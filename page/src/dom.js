@@ -110,6 +110,11 @@ export function onClick(node, act) {
   });
 }
 
+/** Whether a dialog is open: then the keyboard is its own. */
+export function isDialogOpen() {
+  return document.querySelector("dialog[open]") !== null;
+}
+
 /**
  * A block of buttons is one stop of the Tab key; arrows go from one button to the next.
  * @param {HTMLElement} root

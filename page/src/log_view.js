@@ -1,12 +1,12 @@
 // The lines that were sent and their answers. Nothing is shown here before it is kept.
 
-import { refusalOf } from "./answers.js";
+import { refusalOf } from "./bench/answers.js";
 import { block, element } from "./dom.js";
-import { Ran, wordsOfRan } from "./ran.js";
+import { Ran, wordsOfRan } from "./bench/ran.js";
 
 /**
- * @typedef {import("./bench_session.js").Answered} Answered
- * @typedef {import("./ran.js").RanEntry} RanEntry
+ * @typedef {import("./worker/bench_session.js").Answered} Answered
+ * @typedef {import("./bench/ran.js").RanEntry} RanEntry
  * @typedef {import("./words.js").Words} Words
  */
 
@@ -75,9 +75,16 @@ export class LogView {
 
   /** @param {string} answer */
   answer(answer) {
+    return element("p", { className: refusalOf(answer) ? "refused" : "" }, this.wordsOf(answer));
+  }
+
+  /**
+   * An answer, and what a refusal means.
+   * @param {string} answer
+   */
+  wordsOf(answer) {
     const refusal = refusalOf(answer);
-    if (!refusal) return element("p", {}, answer);
-    return element("p", { className: "refused" }, `${answer}: ${this.words.ofRefusal(refusal.number)}`);
+    return refusal ? `${answer}: ${this.words.ofRefusal(refusal.number)}` : answer;
   }
 
   clear() {

@@ -1,17 +1,21 @@
 // Starts the page.
 
-import { Bench } from "./bench.js";
-import { block, button, byId, field, onClick } from "./dom.js";
-import { Locks } from "./locks.js";
+import { Bench } from "./bench/bench.js";
+import { block, button, byId, element, field, isDialogOpen, onClick } from "./dom.js";
+import { Guide } from "./help/guide.js";
+import { Locks } from "./session/locks.js";
 import { Notice } from "./notice.js";
 import { Page } from "./page.js";
-import { Forgetful, Store } from "./store.js";
+import { SPEEDS, speedOf } from "./time/speeds.js";
+import { Stepping } from "./time/stepping.js";
+import { Forgetful, Store } from "./session/store.js";
 import { Words } from "./words.js";
 
 /**
- * @typedef {import("./examples.js").Example} Example
- * @typedef {import("./store.js").SessionStore} SessionStore
- * @typedef {{ refusals: Record<string, string>, examples: Example[] }} Data what page/build puts into the page
+ * @typedef {import("./worker/examples.js").Example} Example
+ * @typedef {import("./session/store.js").SessionStore} SessionStore
+ * @typedef {import("./help/manual.js").ManualSection} ManualSection
+ * @typedef {{ refusals: Record<string, string>, examples: Example[], manual: ManualSection[] }} Data what page/build puts into the page
  */
 
 const NO_STORE = "This browser keeps nothing for this page: its store (IndexedDB) is missing, is blocked by the settings, or does not "
@@ -65,41 +69,20 @@ async function startBench(examples) {
   return bench;
 }
 
-function sessionOfAddress() {
-  const found = /^#session=(.+)$/.exec(location.hash);
-  return found ? found[1] : "";
-}
-
-/**
- * The session that the address names, else the one that was used last and is not open in another tab; else the first example.
- * @param {Page} page
- * @param {Example[]} examples
- */
-async function openFirst(page, examples) {
-  const named = sessionOfAddress();
-  if (named && (await page.cabinet.open(named))) return;
-  for (const record of await page.cabinet.kept()) {
-    if (await page.cabinet.open(record.id)) return;
-    if (!named) page.notice.hide("session");
-  }
-  await page.begin(examples[0]);
-}
-
 /** @param {Page} page */
 function listenToButtons(page) {
-  onClick(button("run"), () => (page.clock.isRunning ? page.stop() : page.run()));
+  const runOrStop = () => page.runOrStop();
+  onClick(button("run"), runOrStop);
   onClick(button("step"), () => page.step());
   onClick(button("reset"), () => page.act("reset\n"));
   onClick(button("test"), () => page.act(`test ${page.machine.test.isOn ? 0 : 1}\n`));
-  onClick(button("from-rom"), () => page.takeFromRom());
-  onClick(button("send"), () => sendLines(page));
-  byId("lines", HTMLTextAreaElement).addEventListener("keydown", (event) => {
-    if (event.key !== "Enter" || event.shiftKey) return;
-    event.preventDefault();
-    sendLines(page);
-  });
+  onClick(button("from-rom"), () => page.texts.takeFromRom());
+  onClick(button("share-button"), () => page.sharing.share().catch((fault) => page.failed(fault)));
   listenToChoices(page);
-  addEventListener("keydown", (event) => shortcut(page, event));
+  const { travel } = page;
+  new Stepping({
+    into: () => page.step(), goOn: (goal) => travel.goOn(goal), goBack: (goal) => travel.goBack(goal), runOrStop, isClosed: isDialogOpen,
+  });
 }
 
 /** @param {Page} page */
@@ -107,37 +90,17 @@ function listenToChoices(page) {
   const speed = byId("speed", HTMLSelectElement);
   const typing = field("typing");
   const show = () => {
-    speed.value = page.clock.isFull ? "full" : "real";
+    speed.value = page.clock.speed.id;
     typing.checked = page.types;
   };
-  speed.addEventListener("change", () => page.setFull(speed.value === "full").catch((fault) => page.failed(fault)));
+  speed.replaceChildren(...SPEEDS.map(({ id, words }) => element("option", { value: id }, words)));
+  speed.addEventListener("change", () => page.setSpeed(speedOf(speed.value)).catch((fault) => page.failed(fault)));
   typing.addEventListener("change", () => {
     page.types = typing.checked;
   });
   show();
   // A page that is come back to may have been filled in again by the browser.
   addEventListener("pageshow", show);
-}
-
-/** @param {Page} page */
-async function sendLines(page) {
-  const area = byId("lines", HTMLTextAreaElement);
-  const lines = area.value;
-  if (lines.trim() === "") return;
-  const answer = await page.act(lines.endsWith("\n") ? lines : `${lines}\n`);
-  if (answer !== null && area.value === lines) area.value = "";
-}
-
-/**
- * @param {Page} page
- * @param {KeyboardEvent} event
- */
-function shortcut(page, event) {
-  if (page.sessions.isOpen || (event.key !== "F8" && event.key !== "F10")) return;
-  event.preventDefault();
-  if (event.key === "F10") page.step();
-  else if (page.clock.isRunning) page.stop();
-  else page.run();
 }
 
 /**
@@ -151,29 +114,30 @@ function listenToLeaving(page) {
     if (!page.store.keeps) event.preventDefault();
   });
   // What fails where nothing waits for it is told all the same.
-  addEventListener("error", (event) => page.failed(event.error || event.message));
-  addEventListener("unhandledrejection", (event) => page.failed(event.reason));
-  // Another session is named in the address.
-  addEventListener("hashchange", () => {
-    const named = sessionOfAddress();
-    if (named && page.session && named !== page.session.record.id) page.cabinet.open(named);
+  addEventListener("error", (event) => {
+    // Browsers tell so that what was measured is shown a frame later; nothing fails.
+    if (!event.error && /^ResizeObserver loop/.test(event.message)) return;
+    page.failed(event.error || event.message);
   });
+  addEventListener("unhandledrejection", (event) => page.failed(event.reason));
+  addEventListener("hashchange", () => page.desk.follow());
 }
 
 /**
  * @param {Words} words
  * @param {Notice} notice
- * @param {Example[]} examples
+ * @param {Data} data
  */
-async function start(words, notice, examples) {
+async function start(words, notice, { examples, manual }) {
   const locks = await Locks.find();
   const [bench, store] = await Promise.all([startBench(examples), openStore(locks.areThere)]);
-  const page = new Page({ bench, store, locks, words, notice, examples });
+  const page = new Page({ bench, store, locks, words, notice, examples, manual });
   if (!store.keeps) notice.show(NO_STORE, "store");
+  new Guide(page, manual);
   page.pressing.listenToKeyboard();
   listenToButtons(page);
   listenToLeaving(page);
-  await openFirst(page, examples);
+  await page.desk.openFirst();
   // How many milliseconds it took.
   document.body.dataset.ready = String(Math.round(performance.now()));
 }
@@ -188,10 +152,10 @@ async function main() {
     return;
   }
   /** @type {Data} */
-  const { refusals, examples } = JSON.parse(textOf("data"));
-  const words = new Words(refusals);
+  const data = JSON.parse(textOf("data"));
+  const words = new Words(data.refusals);
   try {
-    await start(words, notice, examples);
+    await start(words, notice, data);
   } catch (fault) {
     notice.show(`The bench could not be started: ${words.ofFault(fault)}. ${textOf("needs")}`);
   }

@@ -1,30 +1,112 @@
-// Words for what went wrong, at the top of the page. A notice of a kind goes when that kind is well again.
+// Words for what went wrong, and for what can be undone: a list, where it is seen wherever the page is scrolled to. Of a kind there is one
+// notice, the newest; it goes when that kind is well again. What can be undone has a notice each.
 
-import { Cell, below, block, onClick } from "./dom.js";
+import { block, element } from "./dom.js";
 
-/** @typedef {"" | "kept" | "session" | "store"} NoticeKind */
+/**
+ * What stays wrong while it lasts (`kept`, `store`), what was refused (`session`, `refusal`), a link that was copied (`share`), any other
+ * fault (""), and `undo`.
+ * @typedef {"" | "kept" | "session" | "store" | "refusal" | "share" | "undo"} NoticeKind
+ * @typedef {{ word: string, act: () => void }} NoticeAction a button beside the words
+ * @typedef {{ kind: NoticeKind, words: string, node: HTMLElement }} Row
+ */
+
+/** Faults that are told again and again while they last: who dismissed one does not see the same words again before it was well. */
+const LASTING = new Set(["kept", "store"]);
 
 export class Notice {
   constructor() {
     this.block = block("notice");
-    this.words = new Cell(below(this.block, "p", HTMLElement));
-    /** @type {NoticeKind} */
-    this.kind = "";
-    onClick(below(this.block, "button", HTMLButtonElement), () => this.hide(this.kind));
+    /** @type {Row[]} the newest one first */
+    this.rows = [];
+    /** @type {Map<NoticeKind, string>} lasting faults that were dismissed */
+    this.dismissed = new Map();
+    /** @type {HTMLElement | null} what had the focus before a notice had it */
+    this.before = null;
+    this.block.addEventListener("focusin", (event) => {
+      const from = event.relatedTarget;
+      if (from instanceof HTMLElement && !this.block.contains(from)) this.before = from;
+    });
   }
 
   /**
    * @param {string} words
    * @param {NoticeKind} kind
+   * @param {NoticeAction | null} action
    */
-  show(words, kind = "") {
-    this.kind = kind;
-    this.words.set(words);
+  show(words, kind = "", action = null) {
+    if (this.dismissed.get(kind) === words) return;
+    if (LASTING.has(kind) && this.rows.some((row) => row.kind === kind && row.words === words)) return;
+    if (kind !== "undo") this.hide(kind);
+    const row = { kind, words, node: element("div", { className: "notice", role: "alert" }, element("p", {}, words)) };
+    if (action) row.node.append(this.button(action.word, `${action.word}: ${words}`, () => this.do(row, action)));
+    row.node.append(this.button("Dismiss", "Dismiss the notice", () => this.dismiss(row), "dismiss"));
+    this.rows.unshift(row);
+    this.block.prepend(row.node);
     this.block.hidden = false;
   }
 
-  /** @param {NoticeKind} kind */
+  /**
+   * That kind is well again.
+   * @param {NoticeKind} kind
+   */
   hide(kind) {
-    if (kind === this.kind) this.block.hidden = true;
+    this.dismissed.delete(kind);
+    for (const row of this.rows.filter((each) => each.kind === kind)) this.remove(row);
+  }
+
+  /** @param {Row} row */
+  dismiss(row) {
+    if (LASTING.has(row.kind)) this.dismissed.set(row.kind, row.words);
+    this.remove(row);
+  }
+
+  /**
+   * @param {Row} row
+   * @param {NoticeAction} action
+   */
+  do(row, action) {
+    this.remove(row);
+    action.act();
+  }
+
+  /** @param {Row} row */
+  remove(row) {
+    const hadFocus = row.node.contains(document.activeElement);
+    this.rows = this.rows.filter((each) => each !== row);
+    row.node.remove();
+    this.block.hidden = this.rows.length === 0;
+    if (hadFocus) this.giveFocus();
+  }
+
+  /** Whoever uses the keyboard goes on at the next notice, or where he came from. */
+  giveFocus() {
+    const next = this.block.querySelector("button") || this.before;
+    if (next) next.focus();
+  }
+
+  /**
+   * @param {string} word
+   * @param {string} label
+   * @param {() => void} act
+   * @param {string} className
+   */
+  button(word, label, act, className = "") {
+    const made = element("button", { type: "button", className }, word);
+    made.setAttribute("aria-label", label);
+    made.addEventListener("click", (event) => {
+      // After a click by pointer the keyboard is the board's.
+      if (event.detail > 0) made.blur();
+      act();
+    });
+    return made;
+  }
+
+  /**
+   * Stands in an element, as in a dialog that is open: what is behind it can neither be used nor read.
+   * @param {HTMLElement} host
+   */
+  moveTo(host) {
+    host.append(this.block);
   }
 }

@@ -1,52 +1,66 @@
 // The page: a session, its views, and what the buttons do. All that is shown comes from answers of the bench.
 
-import { isStop, readRun, refusalOf } from "./answers.js";
-import { keyOfKeyboard } from "./board_keys.js";
-import { BoardView } from "./board_view.js";
-import { Cabinet } from "./cabinet.js";
-import { Clock } from "./clock.js";
-import { Cell, block, button, field } from "./dom.js";
-import { EditorView } from "./editor_view.js";
-import { Cancelled } from "./faults.js";
-import { KeptSession } from "./kept_session.js";
+import { addressOf } from "./session/address.js";
+import { isStop, readRun, refusalOf } from "./bench/answers.js";
+import { AskView } from "./ask_view.js";
+import { keyOfKeyboard } from "./board/board_keys.js";
+import { BoardView } from "./board/board_view.js";
+import { Clock } from "./time/clock.js";
+import { NONE } from "./time/cycles.js";
+import { CyclesView } from "./time/cycles_view.js";
+import { Cell, block, button, field, isDialogOpen } from "./dom.js";
+import { Editors } from "./text/editors.js";
+import { Face } from "./board/face.js";
+import { lampNames } from "./board/face_board.js";
+import { Cancelled } from "./bench/faults.js";
+import { HistoryView } from "./time/history_view.js";
+import { KeptSession, newRecord } from "./session/kept_session.js";
+import { lineOfChange } from "./worker/key_queue.js";
+import { Layout } from "./layout.js";
 import { LogView } from "./log_view.js";
-import { Pressing, wantsKey } from "./pressing.js";
-import { Rate } from "./rate.js";
-import { SessionsView } from "./sessions_view.js";
+import { cellWords, wordsOfCell } from "./help/manual.js";
+import { putNames } from "./bench/names_in_lines.js";
+import { Pressing, wantsKey } from "./board/pressing.js";
+import { Rate } from "./time/rate.js";
+import { REASONS } from "./time/reached.js";
+import { listenToCaret, listenToHere } from "./machine/run_to.js";
+import { scopeOf } from "./waves/scope_of_page.js";
+import { SessionDesk } from "./session/session_desk.js";
+import { Sharing } from "./session/sharing.js";
+import { SourceSync } from "./machine/source_sync.js";
+import { TextsDesk } from "./session/texts_desk.js";
+import { Travel } from "./time/travel.js";
 import { WorkView } from "./work_view.js";
 import { wordsOfTime } from "./words.js";
 
 /**
- * @typedef {import("./bench.js").Bench} Bench
- * @typedef {import("./examples.js").Example} Example
- * @typedef {import("./locks.js").Locks} Locks
- * @typedef {import("./locks.js").Release} Release
+ * @typedef {import("./bench/bench.js").Bench} Bench
+ * @typedef {import("./worker/bench_session.js").Answered} Answered
+ * @typedef {import("./worker/examples.js").Example} Example
+ * @typedef {import("./session/locks.js").Locks} Locks
+ * @typedef {import("./session/locks.js").Release} Release
+ * @typedef {import("./help/manual.js").ManualSection} ManualSection
  * @typedef {import("./notice.js").Notice} Notice
- * @typedef {import("./protocol.js").Frame} Frame
- * @typedef {import("./protocol.js").Shown} Shown
- * @typedef {import("./store.js").SessionRecord} SessionRecord
- * @typedef {import("./store.js").SessionStore} SessionStore
+ * @typedef {import("./bench/protocol.js").Frame} Frame
+ * @typedef {import("./bench/bench.js").Ways} Ways
+ * @typedef {import("./bench/protocol.js").ServedLines} ServedLines
+ * @typedef {import("./bench/protocol.js").Shown} Shown
+ * @typedef {import("./time/speeds.js").Speed} Speed
+ * @typedef {import("./session/store.js").SessionRecord} SessionRecord
+ * @typedef {import("./session/store.js").SessionStore} SessionStore
  * @typedef {import("./words.js").Words} Words
- * @typedef {{ bench: Bench, store: SessionStore, locks: Locks, words: Words, notice: Notice, examples: Example[] }} Parts
+ * @typedef {{ bench: Bench, store: SessionStore, locks: Locks, words: Words, notice: Notice, examples: Example[],
+ *   manual: ManualSection[] }} Parts
  */
 
-/** @type {Record<string, string>} */
-const REASONS = {
-  code: "before a code that is not an instruction",
-  break: "at a breakpoint",
-  watch: "after a watched character changed",
-};
-/** The texts of the editors are kept so many milliseconds after the last change. */
-const EDIT_TIME = 600;
 /** How often the session is kept while time runs. */
 const KEEP_TIME = 1000;
-/** Refusals of boards whose part is found by trying. */
-const FIRST_OF_BOARDS = 20;
-const LAST_OF_BOARDS = 27;
 
 export class Page {
   /** @param {Parts} parts */
-  constructor({ bench, store, locks, words, notice, examples }) {
+  constructor(parts) {
+    const { bench, store, words, notice, manual } = parts;
+    this.cellWords = cellWords(manual);
     this.bench = bench;
     this.store = store;
     this.words = words;
@@ -55,10 +69,10 @@ export class Page {
     this.session = null;
     /** When the session was kept last. */
     this.kept = 0;
-    /** The timer of an edit that is to be kept. */
-    this.editing = 0;
     /** Whether another worker is being started in the place of one that died. */
     this.isRestarting = false;
+    /** @type {(answer: string) => void} a run has ended early */
+    this.ended = () => {};
     /** Whether the keyboard presses keys of the board. */
     this.types = true;
     this.rate = new Rate(0);
@@ -66,87 +80,172 @@ export class Page {
     this.pressing = this.makePressing();
     this.machine = this.makeBoardView();
     this.log = new LogView(words);
+    this.layout = new Layout(() => this.printed());
     this.work = new WorkView();
-    this.boardEditor = this.makeEditor("board-editor", "wire");
-    this.programEditor = this.makeEditor("program-editor", "asm");
+    this.editors = this.makeEditors(manual);
+    this.boardEditor = this.editors.board;
+    this.programEditor = this.editors.program;
+    this.source = this.makeSource();
+    this.source.editor = this.programEditor;
     this.status = new Cell(block("status"));
     this.rateTold = new Cell(block("rate"));
+    this.cycles = new CyclesView(() => this.keep());
+    this.travel = this.makeTravel();
+    this.history = this.makeHistory();
     this.runWord = new Cell(button("run"));
-    this.cabinet = new Cabinet(bench, store, locks, words, {
-      session: () => this.session,
-      keep: () => this.keep(),
-      refuse: (told) => notice.show(told, "session"),
-      use: (record, release) => this.use(record, release),
-    });
-    this.sessions = this.makeSessionsView(examples);
+    this.ask = new AskView();
+    this.texts = this.makeTexts();
+    this.desk = this.makeDesk(parts);
+    this.sharing = this.makeSharing();
+    this.sessions = this.desk.view;
+    this.scope = scopeOf(this);
     bench.listener = { frame: (frame) => this.ran(frame), failed: (fault) => this.failed(fault), died: () => this.restart() };
   }
 
   makeClock() {
     return new Clock({
       advance: async (cycles) => this.ran(await this.bench.call("advance", [cycles])),
+      instruct: () => this.instruct(),
       runFull: () => this.bench.call("run", [document.hidden]),
       stoodStill: (time, wasHidden) => this.stoodStill(time, wasHidden),
       failed: (fault) => this.failed(fault),
     });
   }
 
+  /** @returns {BoardView} */
   makeBoardView() {
     return new BoardView({
       listen: (node, key) => this.pressing.listen(node, key),
       isRunning: () => this.clock.isRunning,
+      isFast: () => this.clock.isRunning && !this.clock.isSlow,
       ask: (lines) => this.bench.call("ask", [lines]),
-      toggle: (isSet, word, place) => this.act(`${isSet ? "un" : ""}${word} ${place}\n`),
+      act: (line) => this.act(line),
+      wordsOfRefusal: (number) => this.words.ofRefusal(number),
+      explain: (name) => wordsOfCell(this.cellWords, name),
+      isAt: (counter) => this.source.showNext(counter, this.clock.isRunning && !this.clock.isSlow),
+      breakAt: (breakpoints) => this.source.showBreakpoints(breakpoints),
+      wentTo: (address) => this.source.reveal(address),
       failed: (fault) => this.failed(fault),
     });
+  }
+
+  makeTravel() {
+    return new Travel(this.bench, {
+      stand: async () => {
+        if (this.clock.isRunning) await this.stop();
+      },
+      change: (words, work) => this.change(words, work),
+      counter: () => this.machine.counter,
+      tell: (words) => this.status.set(words),
+    });
+  }
+
+  makeHistory() {
+    const { travel } = this;
+    /** @type {(address: number) => void} */
+    const runTo = (address) => {
+      travel.goOn({ kind: "here", address });
+    };
+    listenToHere(this.machine.listing.block, (node) => this.machine.listing.rows.addressAt(node), runTo);
+    listenToCaret(block("program-editor"), () => this.addressOfCaret(), runTo, (words) => this.status.set(words));
+    return new HistoryView({
+      goOn: (goal) => travel.goOn(goal),
+      goBack: (goal) => travel.goBack(goal),
+      goForward: () => travel.goForward(),
+      tell: (words) => this.status.set(words),
+    });
+  }
+
+  /** The address of the line of the source that the caret is in; undefined where it puts nothing into ROM. */
+  addressOfCaret() {
+    const { map } = this.source;
+    return map ? map.addressOf(this.programEditor.editor.editor.getCursor().line + 1) : undefined;
   }
 
   /** @returns {Pressing} */
   makePressing() {
     return new Pressing({
-      isRunning: () => this.clock.isRunning,
+      isRunning: () => this.clock.movesKeys,
       isDown: (place) => this.machine.front.isDown(place),
       press: (place) => this.queue("press", place),
       release: (place) => this.queue("release", place),
       change: (word, place) => {
         this.queue("forget", place);
-        this.act(`${word} ${place}\n`);
+        this.act(`${lineOfChange({ word, place })}\n`);
       },
       meant: (event) => {
-        if (event.ctrlKey || event.metaKey || event.altKey || !this.types || this.sessions.isOpen) return undefined;
+        if (event.ctrlKey || event.metaKey || event.altKey || !this.types || isDialogOpen()) return undefined;
         return wantsKey(event.target, event.key) ? undefined : keyOfKeyboard(this.machine.front.keys, event.key);
       },
     });
   }
 
-  /**
-   * @param {string} id
-   * @param {"wire" | "asm"} word
-   */
-  makeEditor(id, word) {
-    return new EditorView(id, word, this.words, {
-      edited: () => this.edited(),
+  /** @param {ManualSection[]} manual */
+  makeEditors(manual) {
+    return new Editors(this.bench, this.words, manual, {
+      edited: () => this.texts.edited(),
       act: (lines) => this.act(lines),
-      find: async (text, number) => {
-        if (word !== "wire" || number < FIRST_OF_BOARDS || number > LAST_OF_BOARDS) return null;
-        return this.bench.call("boardFault", [text, number]);
-      },
+      stop: async () => (this.clock.isRunning ? this.stop() : undefined),
+      run: () => this.run(),
+      counter: () => this.machine.counter,
+      toggleBreakpoint: (line) => this.source.toggleBreakpoint(line).catch((fault) => this.failed(fault)),
+      meaningOf: (name) => this.source.meaningOf(name),
+      hasFaults: (name, count) => this.layout.tabs.mark(name, count > 0 ? `${count} fault${count > 1 ? "s" : ""}` : ""),
+      failed: (fault) => this.failed(fault),
     });
   }
 
-  /** @param {Example[]} examples */
-  makeSessionsView(examples) {
-    const { cabinet } = this;
-    return new SessionsView(examples, this.store.keeps, {
-      kept: () => cabinet.kept(),
-      isShown: (id) => this.session !== null && this.session.record.id === id,
-      open: (id) => cabinet.open(id),
-      copy: (id) => cabinet.copy(id),
-      remove: (record) => cabinet.remove(record),
-      begin: (example) => this.begin(example),
-      openFile: (file) => cabinet.openFile(file),
-      save: () => cabinet.save(),
+  /** @returns {SourceSync} */
+  makeSource() {
+    return new SourceSync({
+      text: () => this.programEditor.sent,
+      check: (text) => this.bench.call("checkProgram", [text]),
+      toggle: (isSet, address) => this.machine.toggle(isSet, "break", String(address)),
+      refuse: (words) => this.machine.told.show(words),
+      changed: (map, words) => this.machine.nameLines(map, words),
+      wordsOfRefusal: (number) => this.words.ofRefusal(number),
+    });
+  }
+
+  /** The program's text, or what stands in ROM, may be another one. */
+  checkSource() {
+    this.source.check().catch((fault) => this.failed(fault));
+  }
+
+  /** @returns {TextsDesk} */
+  makeTexts() {
+    return new TextsDesk(this.boardEditor, this.programEditor, this.ask, this.notice, {
+      session: () => this.session,
+      touch: () => this.touch(),
+      keep: () => this.keep(),
+      named: (boardText) => {
+        this.machine.readFace(boardText);
+        this.checkSource();
+      },
+      source: () => this.bench.call("source", []),
+      failed: (fault) => this.failed(fault),
+    });
+  }
+
+  /** @param {Parts} parts */
+  makeDesk(parts) {
+    return new SessionDesk(parts, {
+      session: () => this.session,
+      keep: () => this.keep(),
+      use: (record, release, example) => this.use(record, release, example),
       rename: (name) => this.rename(name),
+      link: (link) => this.sharing.open(link),
+    });
+  }
+
+  /** @returns {Sharing} */
+  makeSharing() {
+    const { cabinet } = this.desk;
+    return new Sharing(this.bench, this.ask, this.notice, this.words, {
+      shown: () => this.session && this.session.record,
+      address: () => this.showName(),
+      begin: (texts, file, runs) => cabinet.useNew(async () => newRecord(texts.name || "session", file, texts, runs)),
+      save: () => cabinet.save(),
     });
   }
 
@@ -156,23 +255,26 @@ export class Page {
    * Shows a session in the place of the one that is here, which stays where the new one is refused.
    * @param {SessionRecord} record
    * @param {Release} release
+   * @param {string} example where nothing was done yet in a session of an example, its name
    */
-  async use(record, release) {
+  async use(record, release, example) {
     await this.bench.call("settled", [record.file]);
     const old = this.session;
     if (old) await this.leave();
     const shown = await this.open(record);
     if (old) old.release();
-    this.session = new KeptSession(this.store, record, release);
+    this.session = new KeptSession(this.store, record, release, example);
     this.pressing.forget();
-    field("name").value = record.name;
-    this.boardEditor.text = record.boardText;
-    this.programEditor.text = record.programText;
+    this.scope.forget();
+    this.texts.show(record);
+    this.source.forget();
     this.log.clear();
+    this.cycles.open(record.cycles);
     this.show(shown);
-    location.replace(`#session=${record.id}`);
+    this.showName();
     block("bench").hidden = false;
     block("session-bar").hidden = false;
+    this.checkSource();
     await this.keep();
     if (record.runs) this.run();
     else this.halted("Stopped.");
@@ -187,29 +289,59 @@ export class Page {
   /** @param {SessionRecord} record */
   async open(record) {
     try {
-      return await this.bench.call("open", [record.file]);
+      return await this.callOpen(record);
     } catch (fault) {
       if (this.session) this.halted("Stopped.");
       throw fault;
     }
   }
 
+  /** @param {SessionRecord} record */
+  callOpen({ file, cycles = NONE }) {
+    return this.bench.call("open", [file, cycles.total, cycles.reset]);
+  }
+
   /**
-   * A new session from an example. Its other lines are put where they can be sent.
+   * A new session from an example.
    * @param {Example} example
    */
-  async begin(example) {
-    const isDone = await this.cabinet.begin(example);
-    if (isDone && example.lines) field("lines").value = example.lines;
-    return isDone;
+  begin(example) {
+    return this.desk.begin(example);
+  }
+
+  /** Its name stands in its field and in the title of the tab; its address is the one of this session, or of the example that it is yet. */
+  showName() {
+    if (!this.session) return;
+    const { record, example } = this.session;
+    field("name").value = record.name;
+    document.title = `${record.name} - Fethsaim`;
+    location.replace(example ? addressOf("example", example) : addressOf("session", record.id));
+  }
+
+  /** Something is done in the session that is shown: from here on it is kept. */
+  touch() {
+    if (!this.session) return;
+    this.desk.touched();
+    if (!this.session.touch()) return;
+    this.showName();
+    this.keep();
   }
 
   /** @param {string} name */
   async rename(name) {
     if (!this.session) return;
     this.session.record.name = name.trim() || "session";
-    field("name").value = this.session.record.name;
+    this.touch();
+    this.showName();
     await this.keep();
+  }
+
+  /**
+   * What is printed beside the lamps.
+   * @returns {import("./print_view.js").Printed}
+   */
+  printed() {
+    return { name: this.session ? this.session.record.name : "", board: this.boardEditor.text, program: this.programEditor.text };
   }
 
   /**
@@ -218,21 +350,60 @@ export class Page {
    * @param {string} lines
    */
   async act(lines) {
+    const told = await this.change("Lines are served.", (ways) => this.bench.call("serve", [lines], ways));
+    return told && told.first;
+  }
+
+  /**
+   * Lines that were typed, in which `@NAME` stands for a name's value.
+   * @param {string} typed
+   */
+  async send(typed) {
+    const { lines, words } = putNames(typed, this.source.map);
+    if (words === "") return this.act(lines);
+    this.notice.show(words);
+    return null;
+  }
+
+  /**
+   * Work that changes the session, in the same way; gives what was told of it.
+   * @template {ServedLines} Result
+   * @param {string} words what it is
+   * @param {(ways: Ways) => Promise<Result>} work
+   */
+  async change(words, work) {
     let told;
     try {
-      told = await this.work.show("Lines are served.", (signal, progress) => this.bench.call("serve", [lines], { signal, progress }));
+      told = await this.work.show(words, (signal, progress) => work({ signal, progress }));
     } catch (fault) {
       // Time that runs goes on where lines were cancelled.
       if (fault instanceof Cancelled) this.notice.show(this.words.ofFailure(fault));
       else this.failed(fault);
       return null;
     }
-    if (told.touchesRom) this.machine.listing.forget();
+    if (told.touchesRom) this.machine.forgetRom();
+    const { counter } = this.machine;
     this.show(told);
+    this.tellCounter(counter, told.entries);
+    if (told.touchesRom) this.checkSource();
+    this.touch();
     const fault = await this.keep();
     if (told.status !== 0) this.notice.show("Not all lines were served: at most 16,777,216 bytes are read at once.");
     this.log.show(told.entries, fault);
-    return told.first;
+    return told;
+  }
+
+  /**
+   * What the status says of a stop must not outlive it.
+   * @param {string} before the counter before lines were served
+   * @param {Answered[]} entries
+   */
+  tellCounter(before, entries) {
+    const { counter } = this.machine;
+    const isReset = entries.some(({ line, answers }) => line.trim() === "reset" && refusalOf(answers[0]) === null);
+    const { isRunning } = this.clock;
+    if (isReset) this.status.set(isRunning ? "Time runs. The board was reset." : `The board was reset; it stands at ${counter}.`);
+    else if (counter !== before && !isRunning) this.status.set(`Stopped at ${counter}.`);
   }
 
   /** Writes the session to the store; what time has done is in the log once that is through. */
@@ -253,10 +424,17 @@ export class Page {
    * Takes what the session is now, and shows it.
    * @param {Shown} shown
    */
-  show({ look, file, board }) {
+  show({ look, file, board, total, reset, future }) {
     if (!this.session) return;
     this.bench.giveBack(this.session.take(file));
-    if (board) this.machine.draw(board, this.boardEditor.text);
+    this.cycles.take({ total, reset }, this.clock.isRunning);
+    this.session.record.cycles = this.cycles.cycles.kept;
+    this.history.showFuture(future);
+    if (board) {
+      this.machine.draw(board, this.boardEditor.text);
+      this.history.draw(this.machine.board, lampNames(new Face(this.boardEditor.text), this.machine.board.lamps.length));
+      this.editors.look(board.length === 1);
+    }
     this.machine.show(look);
   }
 
@@ -278,12 +456,27 @@ export class Page {
     this.keep();
   }
 
-  /** @param {boolean} isFull */
-  async setFull(isFull) {
-    if (!isFull && this.clock.isFull && this.clock.isRunning) this.ran(await this.bench.call("halt", []));
-    this.clock.setFull(isFull);
+  /** By the button. */
+  runOrStop() {
+    this.touch();
+    if (this.clock.isRunning) this.stop();
+    else this.run();
+  }
+
+  /** @param {Speed} speed */
+  async setSpeed(speed) {
+    if (!speed.isFull && this.clock.isFull && this.clock.isRunning) this.ran(await this.bench.call("halt", []));
+    this.clock.setSpeed(speed);
     this.rate = new Rate(this.clock.now);
-    this.bench.isRunning = isFull && this.clock.isRunning;
+    this.bench.isRunning = speed.isFull && this.clock.isRunning;
+    this.machine.showListing();
+  }
+
+  /** One instruction of the time that runs: breakpoints and watches stop it, as any run. */
+  async instruct() {
+    this.ran(await this.bench.call("advance", [1]));
+    const { registers } = this.machine.reader;
+    if (this.clock.isRunning && registers && registers.owed === "1") this.ran(await this.bench.call("advance", [1]));
   }
 
   /** @param {boolean} isHidden */
@@ -345,11 +538,11 @@ export class Page {
   ran(frame) {
     this.rate.add(frame.cycles, this.clock.now);
     this.log.collect(frame.ran);
-    // What is marked then is what the last look found different.
     if (frame.end) this.clock.stop();
     this.show(frame);
     if (frame.end) {
       this.halted(this.reasonOf(frame.end));
+      this.ended(frame.end);
       this.keep();
       return;
     }
@@ -378,32 +571,9 @@ export class Page {
    * @param {string} place
    */
   queue(word, place) {
+    this.touch();
     this.bench.call(word, [place]).catch((fault) => this.failed(fault));
     if (word === "press") this.clock.hurry();
-  }
-
-  // --- texts ---
-
-  /** The editors' texts are kept a moment after the last change; the names of the keys are taken from the board's text then. */
-  edited() {
-    if (!this.session) return;
-    const { record } = this.session;
-    record.boardText = this.boardEditor.text;
-    record.programText = this.programEditor.text;
-    clearTimeout(this.editing);
-    this.editing = window.setTimeout(() => {
-      this.machine.nameKeys(record.boardText);
-      this.keep();
-    }, EDIT_TIME);
-  }
-
-  async takeFromRom() {
-    try {
-      this.programEditor.text = await this.bench.call("source", []);
-      this.edited();
-    } catch (fault) {
-      this.failed(fault);
-    }
   }
 
   // --- faults ---
@@ -432,7 +602,7 @@ export class Page {
       await this.bench.start();
       this.notice.show("The bench's worker has stopped and was started anew. The session is as it was before.");
       if (!this.session) return;
-      this.show(await this.bench.call("open", [this.session.record.file]));
+      this.show(await this.callOpen(this.session.record));
       this.isRestarting = false;
       this.halted("Stopped.");
     } catch (fault) {

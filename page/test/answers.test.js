@@ -2,8 +2,8 @@
 import assert from "node:assert/strict";
 import { test } from "node:test";
 import {
-  isStop, readBoard, readDisplay, readListing, readMarks, readPorts, readRam, readRegisters, readRun, refusalOf,
-} from "../src/answers.js";
+  isStop, readBoard, readListing, readMarks, readPorts, readRam, readRegisters, readRun, refusalOf,
+} from "../src/bench/answers.js";
 
 test("refusals, with a line and without", () => {
   assert.deepEqual(refusalOf("no 34 line 2"), { number: 34, line: 2 });
@@ -59,23 +59,7 @@ test("a board", () => {
   assert.deepEqual(board.lamps, ["ram1.0.2"]);
   assert.deepEqual([board.rows, board.columns], [3, 2]);
   assert.deepEqual(board.banks.map(({ bank, chips }) => [bank, chips]), [[1, 2]]);
-  assert.deepEqual(board.chains.map(({ chips }) => chips), [1]);
-  assert.deepEqual(readBoard(["board"]), { banks: [], chains: [], roms: [], lamps: [], rows: 0, columns: 0 });
-});
-
-/** Lamps of digits, four each, the highest bit first; `width` 5 has a point after each. */
-const lampsOf = (digits, width, point = -1) => digits.map((digit, at) => (
-  digit.toString(2).padStart(4, "0").replace(/0/g, ".").replace(/1/g, "*") + (width === 5 ? (at === point ? "*" : ".") : ""))).join("");
-
-test("displays with points: three signs, and leading zeros are not shown", () => {
-  assert.deepEqual(readDisplay(`...${lampsOf([0, 0, 0, 0, 0, 0, 4, 2], 5)}`), { number: "42", fault: "" });
-  assert.deepEqual(readDisplay(`*..${lampsOf([0, 0, 0, 3, 1, 4], 5, 3)}`), { number: "-3.14", fault: "" });
-  assert.deepEqual(readDisplay(`.**${lampsOf([0, 0, 0, 0], 5)}`), { number: "0", fault: "overflow division by zero" });
-  assert.deepEqual(readDisplay(`...${lampsOf([0, 0, 12, 4], 5)}`), { number: "?4", fault: "" });
-});
-
-test("displays of digits alone, with two signs or none; and lamps that are none", () => {
-  assert.deepEqual(readDisplay(lampsOf([1, 2, 3], 4)), { number: "123", fault: "" });
-  assert.deepEqual(readDisplay(`*.${lampsOf([0, 2, 3], 4)}`), { number: "-23", fault: "" });
-  for (const lamps of ["........", "...........", "................."]) assert.equal(readDisplay(lamps), null);
+  assert.deepEqual(board.chains.map(({ clock, data, chips }) => [clock, data, chips]), [["rom0.0", "rom0.1", 1]]);
+  assert.deepEqual([board.matrix.chain, board.matrix.first, board.matrix.columns], [0, 0, ["rom0.2", "rom0.3"]]);
+  assert.deepEqual(readBoard(["board"]), { banks: [], chains: [], roms: [], lamps: [], rows: 0, columns: 0, matrix: null });
 });

@@ -1,8 +1,8 @@
 // The page's side of the worker, over a worker that is none.
 import assert from "node:assert/strict";
 import { mock, test } from "node:test";
-import { Bench } from "../src/bench.js";
-import { Cancelled, WorkerDied } from "../src/faults.js";
+import { Bench } from "../src/bench/bench.js";
+import { Cancelled, WorkerDied } from "../src/bench/faults.js";
 
 /** Gives a bench over workers that do as they are told by the test. */
 function begin() {

@@ -1,7 +1,7 @@
 import assert from "node:assert/strict";
 import { test } from "node:test";
-import { BenchSession, MOST_ENTRIES } from "../src/bench_session.js";
-import { FullSpeed } from "../src/full_speed.js";
+import { BenchSession, MOST_ENTRIES } from "../src/worker/bench_session.js";
+import { FullSpeed } from "../src/worker/full_speed.js";
 import { FakeEngine } from "./fake_engine.js";
 
 const goesOn = async () => true;
@@ -18,7 +18,7 @@ test("cycles pass in one call, which looks as well", () => {
   assert.equal(engine.calls, 1);
   assert.deepEqual(frame.ran.map(({ line }) => line), ["press 0 1", "run 5000"]);
   assert.deepEqual([frame.cycles, frame.end, frame.changesKeys], [5000, "", true]);
-  assert.equal(frame.look[0], "lamps .");
+  assert.match(frame.look[0], / lamps \. breaks /);
   assert.equal(session.file[0], 2);
 });
 
@@ -48,7 +48,7 @@ test("lines are served piece by piece, as if at once", async () => {
   assert.equal(told.first, "ok 1");
   assert.equal(told.entries.length, MOST_ENTRIES);
   assert.match(told.entries[MOST_ENTRIES - 1].answers[0], /^ok /);
-  assert.equal(told.look.length, 6);
+  assert.equal(told.look.length, 2);
 });
 
 test("of long work nothing is done where a piece fails, or it is cancelled", async () => {

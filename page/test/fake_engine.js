@@ -1,17 +1,14 @@
 // In the place of the module: a session of one byte, the count of its commands. Lines: `run N` answers `ok C ran N end`, or stops early
 // where the count comes to `stopAt`; `trap` fails; all else that is no question is `ok C`. After `memory` calls it refuses by 90.
 
-import { BenchRefusal, BenchTrap } from "../src/faults.js";
-import { readInputs } from "../src/inputs.js";
-import { hex } from "../src/numbers.js";
+import { BenchRefusal, BenchTrap } from "../src/bench/faults.js";
+import { readInputs } from "../src/bench/inputs.js";
+import { hex } from "../src/bench/numbers.js";
 
 const QUESTIONS = {
   board: () => ["board", "[[ram]]", "bank = 0", "chips = 1"],
-  lamps: (count) => [`lamps ${count % 2 ? "*" : "."}`],
-  regs: (count) => [`acc 0 cy 0 pc ${hex(count, 3)} owed 0 dcl 0 test 0 r 0000000000000000 ret 000 000 000`],
-  ports: () => ["ports", "src 00", "keys -"],
-  breaks: () => ["breaks -"],
-  watches: () => ["watches -"],
+  state: (count) => [`state seq ${count} acc 0 cy 0 pc ${hex(count, 3)} owed 0 dcl 0 test 0 r 0000000000000000 ret 000,000,000 src 00 `
+    + `banks 0.00 roms - rams 0.0.0 chains - keys - lamps ${count % 2 ? "*" : "."} breaks - watches -`],
   ram: () => ["ram 0 chips 1", "0.0.0 0000000000000000 0000"],
 };
 

@@ -1,6 +1,6 @@
 import assert from "node:assert/strict";
 import { test } from "node:test";
-import { endOfInputs, linesOf, matchAnswers, readInputs } from "../src/inputs.js";
+import { endOfInputs, linesOf, matchAnswers, readInputs } from "../src/bench/inputs.js";
 
 const kinds = (lines) => readInputs(lines).map(({ kind, text }) => (text.length > 0 ? `${kind}+${text.length}` : kind));
 
@@ -48,4 +48,16 @@ test("the rows of a map go to it", () => {
   const inputs = readInputs("map\nNOP\n.\nmap\n.\nseq\n");
   const answers = [["map lines 1 names 1", "line 1 000 1", "name ON 00A"], ["map lines 0 names 0"], ["seq 1"]];
   assert.deepEqual(matchAnswers(inputs, answers.flat()), answers);
+});
+
+test("a listing ends after the last address, and another one may begin higher than it", () => {
+  const inputs = readInputs(linesOf(["list 4094 9", "list 4095 9", "list 0 1", "list 5 1"]));
+  const answers = [["FFE 40 24 JUN 0x024"], ["FFF 00    NOP"], ["000 00    NOP"], ["005 00    NOP"]];
+  assert.deepEqual(matchAnswers(inputs, answers.flat()), answers);
+});
+
+test("a map has as many rows as its first line says", () => {
+  const inputs = readInputs("map\n.\nlist 0 1\n");
+  assert.deepEqual(matchAnswers(inputs, ["map lines 2 names 1", "line 1 000 1", "line 2 001 0"])[0].length, 3);
+  assert.deepEqual(matchAnswers(inputs, ["map lines 0 names 0", "line 1 000 1"]), [["map lines 0 names 0"], ["line 1 000 1"]]);
 });

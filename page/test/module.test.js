@@ -2,8 +2,8 @@
 import assert from "node:assert/strict";
 import { readFileSync } from "node:fs";
 import { test } from "node:test";
-import { BenchCalls } from "../src/bench_calls.js";
-import { Engine } from "../src/engine.js";
+import { BenchCalls } from "../src/worker/bench_calls.js";
+import { Engine } from "../src/worker/engine.js";
 
 const page = readFileSync(new URL("../fethsaim.html", import.meta.url), "utf8");
 const partOf = (id) => new RegExp(`id="${id}">([^<]*)<`).exec(page)[1];

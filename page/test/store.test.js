@@ -1,8 +1,8 @@
 // Keeping, over a fake of the browser's store that answers when the test says so.
 import assert from "node:assert/strict";
 import { test } from "node:test";
-import { KeptSession, newRecord } from "../src/kept_session.js";
-import { Forgetful, NotKept, Store, wordsOfStoreFault } from "../src/store.js";
+import { KeptSession, newRecord } from "../src/session/kept_session.js";
+import { Forgetful, NotKept, Store, wordsOfStoreFault } from "../src/session/store.js";
 
 /** As much of IndexedDB as the store uses: one transaction after the other, in tasks of their own. */
 class FakeBase {

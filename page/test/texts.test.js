@@ -1,24 +1,15 @@
 import assert from "node:assert/strict";
 import { test } from "node:test";
-import { findBoardFault } from "../src/board_fault.js";
-import { BenchRefusal, BenchTrap, Cancelled, WorkerDied, packFault, unpackFault } from "../src/faults.js";
-import { hex, numberOf, upTo } from "../src/numbers.js";
-import { Ran, wordsOfRan } from "../src/ran.js";
-import { faultOfLines } from "../src/text_fault.js";
+import { findBoardFault } from "../src/bench/board_fault.js";
+import { BenchRefusal, BenchTrap, Cancelled, WorkerDied, packFault, unpackFault } from "../src/bench/faults.js";
+import { hex, numberOf, upTo } from "../src/bench/numbers.js";
+import { Ran, wordsOfRan } from "../src/bench/ran.js";
 import { Words } from "../src/words.js";
 
 test("numbers", () => {
   assert.deepEqual(["12", "0x1E", "0XFF", "1E", "", "-1", "1.5"].map(numberOf), [12, 30, 255, NaN, NaN, NaN, NaN]);
   assert.equal(hex(30, 3), "01E");
   assert.deepEqual(upTo(3), [0, 1, 2]);
-});
-
-test("lines that cannot be sent, are too long, or are not of ASCII", () => {
-  assert.equal(faultOfLines("NOP\nNOP ; plain\n"), null);
-  assert.deepEqual(faultOfLines("NOP\n.\r\nNOP\n"), { line: 2, number: 0 });
-  assert.deepEqual(faultOfLines(`NOP\n${"x".repeat(256)}\n`), { line: 2, number: 12 });
-  assert.deepEqual(faultOfLines("NOP ; caf\u00e9\n"), { line: 1, number: 14 });
-  assert.deepEqual(faultOfLines(`${"\u00e9".repeat(128)}\n`), { line: 1, number: 12 });
 });
 
 const BOARD = `# a board

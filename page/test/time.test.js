@@ -1,7 +1,7 @@
 import assert from "node:assert/strict";
 import { test } from "node:test";
-import { Rate } from "../src/rate.js";
-import { MOST_DUE, REAL_CYCLES, RealTime } from "../src/real_time.js";
+import { Rate } from "../src/time/rate.js";
+import { MOST_DUE, REAL_CYCLES, RealTime } from "../src/time/real_time.js";
 import { wordsOfTime } from "../src/words.js";
 
 test("a second of frames is 92,593 cycles, whatever their length", () => {

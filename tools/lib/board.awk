@@ -1,7 +1,7 @@
 # A board as the bench tells it: reads the lines of the answer to `board`. Needs face.awk.
 #
 # take_board(lines, n) fills rom_port[c], ram_chips[b], chain_bits[k], key_rows, key_columns, and lamp_count; check_face() adds to
-# face_faults what the comments name and the board has not.
+# face_faults and face_notes what the comments name and the board has not.
 
 function take_board(lines, n,    i, words, table, rom, bank, marks) {
     key_rows = key_columns = lamp_count = chain_count = 0
@@ -37,6 +37,32 @@ function check_face(    i, name, d) {
     for (d = 1; d <= display_count; d++) {
         if (display_end(d) > lamp_count) face_fault(display_line[d], "the display needs lamps up to number " display_end(d) - 1 ", and the board has " lamp_count)
     }
+    check_lamps_of_face()
+    for (name in port_name) {
+        if (!has_place(name)) face_note(port_line[name], "the board has no " name)
+    }
+}
+
+# What else a face tells of lamps; of each line the highest number alone.
+function check_lamps_of_face(    i, n, most) {
+    for (n in lamp_colour) if (!(colour_line[n] in most) || n + 0 > most[colour_line[n]]) most[colour_line[n]] = n + 0
+    for (i in most) if (most[i] >= lamp_count) face_note(i, "a colour for lamp " most[i] ", and the board has " lamp_count)
+    for (i = 1; i <= grid_count; i++) {
+        if (grid_lamp[i] >= lamp_count) face_note(grid_line[grid_row[i]], "a place for lamp " grid_lamp[i] ", and the board has " lamp_count)
+    }
+    for (i = 1; i <= group_count; i++) {
+        n = group_first[i] + group_rows[i] * group_columns[i] - 1
+        if (n >= lamp_count) face_note(group_line[i], "the " group_kind[i] " needs lamps up to number " n ", and the board has " lamp_count)
+    }
+}
+
+# Whether the board has a ROM (`rom0`), a RAM chip (`ram0.0`) or a chain (`chain0`).
+function has_place(place,    number) {
+    number = place
+    gsub(/[a-z]/, "", number)
+    if (place ~ /^rom/) return (number in rom_port)
+    if (place ~ /^chain/) return number + 0 < chain_count
+    return substr(number, 3) + 0 < ram_chips[substr(number, 1, 1)] + 0
 }
 
 # The lines of a file: lines[1] to lines[n], where n is returned.

@@ -1,5 +1,6 @@
-# Tells each refusal among the answers to a script. Needs refusals.awk, numbers.awk and inputs.awk. The environment has `script`,
-# `answers`, `text_name` and `text_before` (see explain_script in tool.sh), `folder`, `mcs4` and `board_fault`, the program that finds the part of a board.
+# Tells each refusal among the answers to a script. Needs refusals.awk, numbers.awk, inputs.awk and names.awk. The environment has
+# `script`, `answers`, `text_name`, `text_before` and `with_source` (see explain_script in tool.sh), `folder`, `mcs4` and `board_fault`, the
+# program that finds the part of a board.
 
 BEGIN {
     read_inputs(ENVIRON["script"])
@@ -9,6 +10,7 @@ BEGIN {
         print "the answers are none of this script: " wrong
         exit 2
     }
+    if (ENVIRON["with_source"] == 1) take_known_map()
     name = ENVIRON["text_name"]
     before = ENVIRON["text_before"] + 0
     refused = 0
@@ -36,6 +38,19 @@ function tell_unanswered(i) {
     if (i == input_count) print "line " input_line[i] " was not answered"
     else print "line " input_line[i] " and those after it were not answered"
     print "    " substr(script_line[input_line[i]], 1, 120)
+    tell_place(i)
+}
+
+# The place in the source of an address that a line has.
+function tell_place(i,    words, word, at) {
+    if (!map_count || input_has_text[i]) return
+    split(input_words[i], words)
+    if (words[1] ~ /^(break|unbreak|list)$/) word = words[2]
+    else if (words[1] == "poke" && words[2] == "pc") word = words[3]
+    else if (words[1] == "poke" && words[2] ~ /^rom\./) word = substr(words[2], 5)
+    else return
+    at = number_of(word)
+    if (at >= 0 && at < 4096) print "    " place_in_source(at)
 }
 
 # The status of a refusal stands in the first line of what is told; the lines at fault follow, `from` to `to` of the script.
@@ -68,6 +83,7 @@ function tell(i, line,    words, count, from, to, where, n, at) {
     }
     if (name == "" || where != "") {
         for (n = from; n <= to; n++) print "    " substr(script_line[n], 1, 120)
+        tell_place(i)
     }
 }
 

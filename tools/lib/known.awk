@@ -6,6 +6,5 @@ function read_known(    lines, n) {
     take_board(lines, n)
     read_face(ENVIRON["folder"] "/board_text")
     check_face()
-    n = read_lines(ENVIRON["folder"] "/known_map", lines)
-    take_map(lines, n, ENVIRON["folder"] "/program_text")
+    take_known_map()
 }

@@ -2,7 +2,9 @@
 #
 # take_map(lines, n, source) fills, for i from 1 to map_count, map_at[i] and map_size[i]; name_value[name]; source_line[i], the lines of
 # the file `source`; and, for the names that are labels, is_label[name], label_at[address] (the first one there), and the addresses that
-# have labels, label_place[1] to label_place[label_count], rising.
+# have labels, label_place[1] to label_place[label_count], rising; line_of[address], the line that fills it, and begins[address], the line
+# of the instruction that begins there. take_known_map() takes what stands in the folder that the environment names (map_program in
+# tool.sh), with `program_before`, how many lines of the file stand before the source.
 
 function take_map(lines, n, source,    i, j, words, line, name) {
     map_count = 0
@@ -34,7 +36,15 @@ function take_map(lines, n, source,    i, j, words, line, name) {
     }
 }
 
-# Whether a line has bytes that are no instruction.
+function take_known_map(    lines, n, file) {
+    file = ENVIRON["folder"] "/known_map"
+    n = 0
+    while ((getline lines[n + 1] < file) > 0) n++
+    close(file)
+    take_map(lines, n, ENVIRON["folder"] "/program_text")
+}
+
+# Whether a line has bytes that are not an instruction.
 function is_data(line) {
     sub(/;.*/, "", line)
     sub(/^[ \t]*[A-Za-z_][A-Za-z0-9_]*[ \t]*:/, "", line)
@@ -62,9 +72,43 @@ function label_below(at,    low, high, middle) {
     return label_found[at] = low ? label_at[label_place[low]] : ""
 }
 
-# An address with its name: `012 (next + 2)`.
-function named_address(at,    name) {
+# An address by the label at it or nearest below it: `next + 2`; by its digits where there is none.
+function name_of(at,    name) {
     name = label_below(at)
     if (name == "") return sprintf("%03X", at)
-    return sprintf("%03X (%s%s)", at, name, at > name_value[name] ? " + " at - name_value[name] : "")
+    return name (at > name_value[name] ? " + " at - name_value[name] : "")
+}
+
+# An address with its name: `012 (next + 2)`.
+function named_address(at) {
+    return label_below(at) == "" ? sprintf("%03X", at) : sprintf("%03X (%s)", at, name_of(at))
+}
+
+# A line with blanks in the place of its tabs.
+function expanded(text,    line, at) {
+    line = ""
+    while (at = index(text, "\t")) {
+        line = line substr(text, 1, at - 1)
+        do line = line " "
+        while (length(line) % 8)
+        text = substr(text, at + 1)
+    }
+    return line text
+}
+
+# A line of the source without its comment.
+function code_of_line(line,    text) {
+    text = expanded(source_line[line])
+    sub(/;.*/, "", text)
+    sub(/ +$/, "", text)
+    return text
+}
+
+# An address with its name and the line of the source that fills it: `014 (wait), line 22: wait: FIM P1, time`.
+function place_in_source(at,    code) {
+    if (!(at in line_of)) return sprintf("%03X, which the source does not fill", at)
+    code = code_of_line(line_of[at])
+    gsub(/ +/, " ", code)
+    sub(/^ /, "", code)
+    return named_address(at) ", line " line_of[at] + ENVIRON["program_before"] ": " code
 }

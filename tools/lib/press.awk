@@ -9,12 +9,12 @@ function fault(what) {
 }
 
 function key(name) {
-    if (!(name in key_row)) {
-        if (key_count == 0) fault(" has no comments `# row R: NAME ..` that name its keys")
+    if (!has_key(name)) {
+        if (key_count == 0 && pin_kind == "") fault(" has no comments `# row R: NAME ..` that name its keys")
         else fault(" has no key " name)
         return
     }
-    lines = lines "press " key_row[name] " " key_column[name] "\nrun " ENVIRON["down"] "\nrelease " key_row[name] " " key_column[name] "\nrun " ENVIRON["up"] "\n"
+    lines = lines key_command("press", name) "\nrun " ENVIRON["down"] "\n" key_command("release", name) "\nrun " ENVIRON["up"] "\n"
 }
 
 BEGIN {
@@ -29,7 +29,7 @@ BEGIN {
     if (failed) exit 1
     count = split(ENVIRON["keys"], words)
     for (i = 1; i <= count; i++) {
-        if (words[i] in key_row) key(words[i])
+        if (has_key(words[i])) key(words[i])
         else for (j = 1; j <= length(words[i]); j++) {
             key(substr(words[i], j, 1))
             if (failed) exit 1

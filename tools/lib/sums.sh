@@ -113,11 +113,11 @@ sum_of_module() {
     } | sum_of_input
 }
 
-# The checksum of what the page is made from: its module, the page's folder but for what is made or tested there, the examples, and the
-# texts that tools and page share.
+# The checksum of what the page is made from: its module, the page's folder but for what is made or tested there, the examples, the texts
+# that tools and page share, and the manual, whose tables the page shows.
 sum_of_page() {
     {
         sum_of_module
-        (cd "$top" && find page examples tools/lib/*.txt -type f -print) | grep -vxE "$page_made" | sums_of_files
+        (cd "$top" && find page examples tools/lib/*.txt docs/MANUAL.md -type f -print) | grep -vxE "$page_made" | sums_of_files
     } | sum_of_input
 }

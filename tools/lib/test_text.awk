@@ -140,15 +140,15 @@ function time_of(words, from, count,    word, unit, joined) {
     return word + 0
 }
 
-# The places of keys, `ROW COLUMN NAME`, one a line. A word that is no key is taken letter by letter, where this is allowed.
+# The names of keys, one a line. A word that is no key is taken letter by letter, where this is allowed.
 function keys_of(words, from, count, letters,    i, j, text) {
     text = ""
     for (i = from; i <= count; i++) {
-        if (words[i] in key_row) text = text key_place(words[i])
+        if (has_key(words[i])) text = text words[i] "\n"
         else if (!letters || length(words[i]) == 1) no_key(words[i])
         else {
             for (j = 1; j <= length(words[i]); j++) {
-                if (substr(words[i], j, 1) in key_row) text = text key_place(substr(words[i], j, 1))
+                if (has_key(substr(words[i], j, 1))) text = text substr(words[i], j, 1) "\n"
                 else {
                     no_key(substr(words[i], j, 1) (length(words[i]) > 1 ? ", nor " words[i] : ""))
                     break
@@ -159,14 +159,11 @@ function keys_of(words, from, count, letters,    i, j, text) {
     return text
 }
 
-function key_place(name) {
-    return key_row[name] " " key_column[name] " " name "\n"
-}
-
 function no_key(name,    i, text) {
     text = ""
     for (i = 1; i <= key_count; i++) text = text " " key_names[i]
-    test_fault("the board has no key " name (key_count ? "; it has:" text : "; its text names no keys (`# row 0: NAME ..`)"))
+    if (pin_kind != "") text = text " " pin_name
+    test_fault("the board has no key " name (text != "" ? "; it has:" text : "; its text names no keys (`# row 0: NAME ..`)"))
 }
 
 # A number, or the address of `@LABEL`; -1 where it is none.

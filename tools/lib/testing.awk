@@ -133,14 +133,13 @@ function advance(n) {
     return ""
 }
 
-function do_keys(i, kind,    places, count, k, parts, wrong) {
-    count = split(step_keys[i], places, "\n")
+function do_keys(i, kind,    names, count, k, wrong) {
+    count = split(step_keys[i], names, "\n")
     for (k = 1; k < count; k++) {
-        split(places[k], parts)
-        if (kind != "release") press(parts[1], parts[2], parts[3])
+        if (kind != "release") press(names[k])
         if (kind == "keys" && (wrong = advance(down)) != "") return wrong
         if (kind != "press") {
-            command("release " parts[1] " " parts[2])
+            command(key_command("release", names[k]))
             outside_change()
         }
         if (kind == "keys" && (wrong = advance(up)) != "") return wrong
@@ -148,8 +147,8 @@ function do_keys(i, kind,    places, count, k, parts, wrong) {
     return ""
 }
 
-function press(row, column, name) {
-    command("press " row " " column)
+function press(name) {
+    command(key_command("press", name))
     outside_change()
     if (profiling) key_went_down(name)
 }

@@ -83,6 +83,7 @@ take_program_text() {
 
 # The program is there, and built: where it has to be built first, its words tell how far it is, before anything is asked of it.
 need_bench() {
+    : > "$folder/version"
     "$mcs4" --version < /dev/null > "$folder/version" 2>&1 &
     child=$!
     told=0
@@ -170,10 +171,10 @@ explain_text() {
 
 # Tells each refusal among the answers to a script, and the lines that were not answered. With a third word, which names a file, the
 # first refusal alone is told, and its line is that of a text which is this file. The status is 1 where there is anything to tell, 2
-# where the answers are none of this script.
+# where the answers are none of this script. Where `with_source` is 1 (know_source), addresses are told with their names and lines, too.
 explain_script() {
     script=$1 answers=$2 folder=$folder text_name=${3-} text_before=${text_before:-0} board_fault="$lib/board_fault.awk" \
-        awk -f "$lib/refusals.awk" -f "$lib/numbers.awk" -f "$lib/inputs.awk" -f "$lib/explain.awk" < /dev/null
+        awk -f "$lib/refusals.awk" -f "$lib/numbers.awk" -f "$lib/inputs.awk" -f "$lib/names.awk" -f "$lib/explain.awk" < /dev/null
 }
 
 # A session with a board and a program, `base.mcs` in the folder, and what it tells of them (`known_board`, `known_map`). Where one of
@@ -305,6 +306,28 @@ is_listed($0) {
     if (substr($0, 8, 1) != " ") printf "%03X %s\n", hex_number($1) + 1, $3
 }
 bytes
+}
+
+# What `--source PROGRAM SESSION` makes known: the map and the text of PROGRAM, which has to be what stands in SESSION's ROM, byte for byte.
+know_source() {
+    copy_session "$2" start.mcs
+    need_session "$2"
+    map_program "$1"
+    awk 'BEGIN { for (at = 0; at < 4096; at += 256) print "list " at " 256" }' | serve open "$folder/start.mcs" rom "$2"
+    tool_name=$tool
+    export folder tool_name
+    awk -f "$lib/numbers.awk" -f "$lib/names.awk" -f "$lib/check_program.awk" -f - "$folder/rom" <<'same' || exit 1
+function die(what) {
+    print ENVIRON["tool_name"] ": " what | "cat 1>&2"
+    close("cat 1>&2")
+    differs = 1
+}
+is_listed($0) { take_listed($0, byte_at) }
+END {
+    take_program(byte_at)
+    exit differs
+}
+same
 }
 
 # An awk program, from standard input, that talks with the bench (bench.awk), with these parts of lib; its status. mawk has to be told

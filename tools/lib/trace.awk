@@ -1,4 +1,5 @@
-# A trace: what an instruction does. Needs numbers.awk, bench.awk and, where names are wanted (`names_known`), names.awk.
+# A trace: what an instruction does. Needs numbers.awk, bench.awk and names.awk. Names are said where `names_known`, and lines of the
+# source, with their numbers, where `source_known`.
 #
 # begin_trace() reads the listing and the state; trace_step() does one instruction, or the second cycle of one, and returns its line;
 # at_stop(why) is the line for an instruction that is not done.
@@ -6,10 +7,7 @@
 function begin_trace(    at, n, i, lines) {
     for (at = 0; at < 4096; at += 256) {
         n = ask_all(sprintf("list 0x%03X 256", at), lines)
-        for (i = 1; i <= n; i++) {
-            trace_code[hex_number(substr(lines[i], 1, 3))] = substr(lines[i], 5, 2)
-            if (substr(lines[i], 8, 1) != " ") trace_code[hex_number(substr(lines[i], 1, 3)) + 1] = substr(lines[i], 8, 2)
-        }
+        for (i = 1; i <= n; i++) take_listed(lines[i], trace_code)
     }
     know("state")
 }
@@ -81,13 +79,23 @@ function trace_step(    before, name, at, byte, old, new, n, m, text, change, be
     return trace_line(begun, text, "acc " now["acc"] " cy " now["cy"] " " change)
 }
 
-# Where names are wanted, a label stands on a line of its own above its instruction.
+# A label stands on a line of its own above its instruction, but for one that the instruction's line of the source has.
 function trace_line(cycle, what, rest,    line, at) {
-    line = sprintf("%8d  %-25s  %s", cycle, what, rest)
+    at = what ~ /^[0-9A-F]/ ? hex_number(substr(what, 1, 3)) : -1
+    if (source_known) line = sprintf("%8d  %-42s  %s", cycle, by_source(what, at), rest)
+    else line = sprintf("%8d  %-25s  %s", cycle, what, rest)
     sub(/ +$/, "", line)
-    at = hex_number(substr(what, 1, 3))
-    if (names_known && what ~ /^[0-9A-F]/ && (at in label_at)) line = "          " label_at[at] ":\n" line
+    if (names_known && (at in label_at) && !(source_known && begins[at] == label_line[label_at[at]])) {
+        line = "          " label_at[at] ":\n" line
+    }
     return line
+}
+
+# An instruction by its line of the source; one that begins where no line does stays as it is.
+function by_source(what, at,    number) {
+    if (!(at in line_of)) return what
+    number = sprintf("%5d", line_of[at] + ENVIRON["program_before"])
+    return substr(what, 1, 9) number "  " ((at in begins) ? code_of_line(begins[at]) : substr(what, 11))
 }
 
 function at_stop(why) {

@@ -1,5 +1,6 @@
 # The trace of a copy of a session, for tools/trace. Needs trace.awk and check_program.awk. The environment has `cycles`, `instructions`
-# (0, or how many before the stop) and `program` (the name of a program whose names are wanted, or "").
+# (0, or how many before the stop), `program` (the name of a program whose names are wanted, or "") and `with_source` (1 where its lines
+# are).
 
 function die(what) {
     print "trace: " what | "cat 1>&2"
@@ -38,6 +39,7 @@ BEGIN {
         if (ENVIRON["program"] != "") {
             take_program(trace_code)
             names_known = 1
+            source_known = ENVIRON["with_source"] == 1
         }
         if (!ended) print_trace()
     }

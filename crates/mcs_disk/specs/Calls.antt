@@ -42,6 +42,14 @@ clock_of (Wrote at from ∷ calls) = clock_of calls + 1
 clock_of (Failed at from ∷ calls) = clock_of calls
 clock_of (Synced ∷ calls) = clock_of calls + 1
 
+-- how many of these calls are writes
+abbrev pub writes_of : List DiskCall → ℕ
+writes_of [] = 0
+writes_of (WasRead ∷ calls) = writes_of calls
+writes_of (Wrote at from ∷ calls) = writes_of calls + 1
+writes_of (Failed at from ∷ calls) = writes_of calls + 1
+writes_of (Synced ∷ calls) = writes_of calls
+
 -- what a power cut after these calls, or when t or more of them had answered Ok, may leave
 abbrev pub since_after : List ℕ → List DiskCall → ℕ → List ℕ → Type 0
 since_after start [] t c = images_after start [] c
@@ -54,6 +62,7 @@ abbrev pub called_disk : Type 0 → ℕ → List ℕ → List ℕ → List DiskC
 called_disk honest faults bytes start calls = record {
   size = length bytes;
   faults = faults;
+  writes = writes_of calls;
   honest = honest;
   bytes = bytes;
   clock = clock_of calls;

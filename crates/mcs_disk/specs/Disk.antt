@@ -7,6 +7,8 @@ pub record DiskState : Type 1 where
   pub size : ℕ
   -- how many calls have failed; it stays at its greatest value
   pub faults : ℕ
+  -- how many writes were asked of it, also those that have failed
+  pub writes : ℕ
   -- the premise that the rest stands under
   pub honest : Type 0
   -- the bytes that a read gives

@@ -17,8 +17,13 @@ pub record CountsFault (old new : DiskState) (failed : Type 0) : Type 0 where
   pub fault : failed → new.faults ≡ min (old.faults + 1) most_faults
   pub no_fault : ¬ failed → new.faults ≡ old.faults
 
+-- no write was asked of the disk, honest or not
+abbrev pub WritesNothing : DiskState → DiskState → Type 0
+WritesNothing old new = new.writes ≡ old.writes
+
 -- nothing but the count of faults has changed
 pub record IsUntouched (old new : DiskState) : Type 0 where
+  pub unwritten : WritesNothing old new
   pub bytes : new.bytes ≡ old.bytes
   pub clock : new.clock ≡ old.clock
   pub images : (c : List ℕ) → new.images c ↔ old.images c

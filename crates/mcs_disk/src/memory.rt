@@ -1,7 +1,7 @@
 //! A disk in memory.
-ghost use Rattle.std.specs.Prelude.{◌≡◌, ◌+◌, ◌≤◌, length, IfOk, IsOk};
+ghost use Rattle.std.specs.Prelude.{◌≡◌, ◌+◌, ◌≤◌, length, IfOk, IsOk, OnOk};
 ghost use Rattle.mcs_disk.specs.Disk.{IsCall, Reads, Writes, Syncs};
-ghost use Rattle.mcs_disk.specs.Moments.{IsFresh, IsNew};
+ghost use Rattle.mcs_disk.specs.Moments.{IsFresh, IsNew, WritesNothing};
 ghost use Rattle.mcs_disk.specs.Calls.{bytes_after};
 ghost use Rattle.mcs_disk.specs.CallLaws.{lawful};
 
@@ -60,6 +60,7 @@ impl Disk for MemDisk {
     fn read(&mut self, at: usize, into: &mut [u8]) -> Result<(), DiskFault>
         requires { at + length into.old ≤ (mem_disk_state self.old).size }
         ensures call { IsCall (mem_disk_state self.old) (mem_disk_state self.new) result }
+        ensures unwritten { WritesNothing (mem_disk_state self.old) (mem_disk_state self.new) }
         ensures honest { (mem_disk_state self.old).honest
             → Reads at into.old into.new (mem_disk_state self.old) (mem_disk_state self.new)
             result }
@@ -73,6 +74,8 @@ impl Disk for MemDisk {
     fn write(&mut self, at: usize, from: &[u8]) -> Result<(), DiskFault>
         requires { at + length from.now ≤ (mem_disk_state self.old).size }
         ensures call { IsCall (mem_disk_state self.old) (mem_disk_state self.new) result }
+        ensures counted { OnOk result
+            ((mem_disk_state self.new).writes ≡ (mem_disk_state self.old).writes + 1) }
         ensures honest { (mem_disk_state self.old).honest
             → Writes at from.now (mem_disk_state self.old) (mem_disk_state self.new) result }
         ensures answered { IsOk result }
@@ -84,6 +87,7 @@ impl Disk for MemDisk {
 
     fn sync(&mut self) -> Result<(), DiskFault>
         ensures call { IsCall (mem_disk_state self.old) (mem_disk_state self.new) result }
+        ensures unwritten { WritesNothing (mem_disk_state self.old) (mem_disk_state self.new) }
         ensures honest { (mem_disk_state self.old).honest
             → Syncs (mem_disk_state self.old) (mem_disk_state self.new) result }
         ensures answered { IsOk result }

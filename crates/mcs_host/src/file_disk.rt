@@ -1,6 +1,7 @@
 //! A session file of the host, as a disk.
 ghost use Rattle.std.specs.Prelude.{◌≡◌, ◌↔◌, ◌<◌, ◌≤◌, ◌^◌, ◌+◌, ℕ, List, IfOk, OnOk, IsTrue, length, min, vec_len};
 ghost use Rattle.mcs_disk.specs.Disk.{most_faults, part, IsCall, Reads, Torn, Writes};
+ghost use Rattle.mcs_disk.specs.Moments.{WritesNothing};
 ghost use Rattle.mcs_disk.specs.Calls.{bytes_after};
 
 use crate::ending::Ending;
@@ -109,6 +110,7 @@ impl Disk for FileDisk {
     fn read(&mut self, at: usize, into: &mut [u8]) -> Result<(), DiskFault>
         requires { at + length into.old ≤ (as_disk self.old).size }
         ensures call { IsCall (as_disk self.old) (as_disk self.new) result }
+        ensures unwritten { WritesNothing (as_disk self.old) (as_disk self.new) }
         ensures honest { (as_disk self.old).honest → Reads at into.old into.new
             (as_disk self.old) (as_disk self.new) result }
         // On every file, honest or not.
@@ -126,6 +128,8 @@ impl Disk for FileDisk {
     fn write(&mut self, at: usize, from: &[u8]) -> Result<(), DiskFault>
         requires { at + length from.now ≤ (as_disk self.old).size }
         ensures call { IsCall (as_disk self.old) (as_disk self.new) result }
+        ensures counted { OnOk result
+            ((as_disk self.new).writes ≡ (as_disk self.old).writes + 1) }
         ensures honest { (as_disk self.old).honest → Writes at from.now
             (as_disk self.old) (as_disk self.new) result }
         // Also where the write failed: it may have reached any part of the range.

@@ -36,10 +36,11 @@ impl NotingDisk {
 }
 
 impl Disk for NotingDisk {
-    // Contracts see its size and its faults alone.
+    // Contracts see its size, its faults and how many writes it had alone.
     ghost state = { λ d. record {
       size = (⟦<MemDisk as Disk>⟧.state d.disk).size;
       faults = (⟦<MemDisk as Disk>⟧.state d.disk).faults;
+      writes = (⟦<MemDisk as Disk>⟧.state d.disk).writes;
       honest = ⊥;
       bytes = [];
       clock = 0;

@@ -1,7 +1,7 @@
 //! Reads the contents of a disk: its snapshot and records. Nothing here writes.
 ghost use Rattle.std.specs.Prelude.{◌≡◌, ◌≢◌, ◌≤◌, ◌<◌, ◌+◌, ◌^◌, List, ℕ, length, slice_index, IfOk, IfSome, IfNone, OnOk, IsErrOf};
 ghost use Rattle.mcs_disk.specs.Disk.{IsCall, part};
-ghost use Rattle.mcs_disk.specs.Moments.{CountsFault, IsDurable, AddsNoImage};
+ghost use Rattle.mcs_disk.specs.Moments.{CountsFault, IsDurable, AddsNoImage, WritesNothing};
 ghost use Rattle.mcs_journal.specs.declared.format.TheConstants.{FILE_SIZE};
 ghost use Rattle.mcs_journal.specs.File.{Holds, IsLog, slot_of, spelled, start_of};
 ghost use Rattle.mcs_journal.specs.Writing.{IsHeader, IsNext, IsNoRecord, IsSnapshot};
@@ -20,6 +20,7 @@ use std::alloc::Global;
 pub fn read_at<D: Disk>(disk: &mut D, at: usize, into: &mut [u8]) -> Result<(), DiskFault>
     requires { at + length into.old ≤ (D.state disk.old).size }
     ensures call { IsCall (D.state disk.old) (D.state disk.new) result }
+    ensures unwritten { WritesNothing (D.state disk.old) (D.state disk.new) }
     ensures rests { (D.state disk.old).honest → AddsNoImage (D.state disk.old) (D.state disk.new) }
     ensures durable { (D.state disk.old).honest → IsDurable (D.state disk.old)
         → OnOk result (IsDurable (D.state disk.new)) }
@@ -44,6 +45,7 @@ pub fn read_record<D: Disk>(
     requires some { 1 ≤ room }
     ensures tells { CountsFault (D.state disk.old) (D.state disk.new)
         (IsErrOf result OpenFault.Device) }
+    ensures unwritten { WritesNothing (D.state disk.old) (D.state disk.new) }
     ensures rests { (D.state disk.old).honest → AddsNoImage (D.state disk.old) (D.state disk.new) }
     ensures durable { (D.state disk.old).honest → IsDurable (D.state disk.old)
         → OnOk result (IsDurable (D.state disk.new)) }
@@ -88,6 +90,7 @@ pub fn read_log<D: Disk>(alloc: Global, disk: &mut D, at: usize) -> Result<Log, 
     requires fits { (D.state disk.old).size < 2 ^ 64 }
     ensures tells { CountsFault (D.state disk.old) (D.state disk.new)
         (IsErrOf result OpenFault.Device) }
+    ensures unwritten { WritesNothing (D.state disk.old) (D.state disk.new) }
     ensures rests { (D.state disk.old).honest → AddsNoImage (D.state disk.old) (D.state disk.new) }
     ensures durable { (D.state disk.old).honest → IsDurable (D.state disk.old)
         → OnOk result (IsDurable (D.state disk.new)) }
@@ -114,6 +117,7 @@ pub fn read_header<D: Disk>(disk: &mut D) -> Result<Slot, OpenFault>
     requires size { (D.state disk.old).size ≡ FILE_SIZE }
     ensures tells { CountsFault (D.state disk.old) (D.state disk.new)
         (IsErrOf result OpenFault.Device) }
+    ensures unwritten { WritesNothing (D.state disk.old) (D.state disk.new) }
     ensures rests { (D.state disk.old).honest → AddsNoImage (D.state disk.old) (D.state disk.new) }
     ensures durable { (D.state disk.old).honest → IsDurable (D.state disk.old)
         → OnOk result (IsDurable (D.state disk.new)) }
@@ -142,6 +146,7 @@ pub fn read_snapshot<D: Disk>(alloc: Global, disk: &mut D, start: usize) -> Resu
     requires fits { (D.state disk.old).size < 2 ^ 64 }
     ensures tells { CountsFault (D.state disk.old) (D.state disk.new)
         (IsErrOf result OpenFault.Device) }
+    ensures unwritten { WritesNothing (D.state disk.old) (D.state disk.new) }
     ensures rests { (D.state disk.old).honest → AddsNoImage (D.state disk.old) (D.state disk.new) }
     ensures durable { (D.state disk.old).honest → IsDurable (D.state disk.old)
         → OnOk result (IsDurable (D.state disk.new)) }
@@ -177,6 +182,7 @@ pub fn read_contents<D: Disk>(alloc: Global, disk: &mut D) -> Result<Found, Open
     requires size { (D.state disk.old).size ≡ FILE_SIZE }
     ensures tells { CountsFault (D.state disk.old) (D.state disk.new)
         (IsErrOf result OpenFault.Device) }
+    ensures unwritten { WritesNothing (D.state disk.old) (D.state disk.new) }
     ensures rests { (D.state disk.old).honest → AddsNoImage (D.state disk.old) (D.state disk.new) }
     ensures within { IfOk result (λ found. found.log.used + 1 ≤ LOG_SIZE) }
     ensures durable { (D.state disk.old).honest → OnOk result (IsDurable (D.state disk.new)) }

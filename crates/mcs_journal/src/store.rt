@@ -1,6 +1,6 @@
 //! A store: a snapshot and records on a disk.
 ghost use Rattle.std.specs.Prelude.{◌≡◌, ◌≢◌, ◌⊎◌, ◌≤◌, ◌+◌, ◌↔◌, List, [], ◌∷◌, ◌++◌, ℕ, length, is_ok, IsTrue, IsErr, IsErrAnd, OnOk, OnErr, IfErr, IfOk};
-ghost use Rattle.mcs_disk.specs.Moments.{Changes, CountsFault, AddsNoImage};
+ghost use Rattle.mcs_disk.specs.Moments.{Changes, CountsFault, AddsNoImage, WritesNothing};
 ghost use Rattle.mcs_journal.specs.Answers.{Creates, Opens, RefusesCreate, RefusesOpen};
 ghost use Rattle.mcs_journal.specs.declared.format.TheConstants.{MOST_RECORD, MOST_SNAPSHOT};
 ghost use Rattle.mcs_journal.specs.File.{HasRoom, Holds, IsRecord, spelled};
@@ -64,6 +64,8 @@ impl<D: Disk + Drop> Store<D> {
             CountsFault (D.state disk) (D.state refused.1) (refused.0 ≡ CreateFault.Device)) }
         ensures no_memory { IfErr result (λ refused.
             refused.0 ≡ CreateFault.NoMemory → refused.1 ≡ disk) }
+        ensures unwritten { IfErr result (λ refused. refused.0 ≢ CreateFault.Device
+            → WritesNothing (D.state disk) (D.state refused.1)) }
         ensures wrong_size { (D.state disk).size ≢ FILE_SIZE → IsErrAnd result (λ refused.
             ((refused.0 ≡ CreateFault.NotBlank) ⊎ (refused.0 ≡ CreateFault.NoMemory))
             × (refused.1 ≡ disk)) }
@@ -106,6 +108,10 @@ impl<D: Disk + Drop> Store<D> {
             CountsFault (D.state disk) (D.state opened.store.disk) ⊥) }
         ensures refusal_counts { IfErr result (λ refused.
             CountsFault (D.state disk) (D.state refused.1) (refused.0 ≡ OpenFault.Device)) }
+        ensures unwritten { IfOk result (λ opened.
+            WritesNothing (D.state disk) (D.state opened.store.disk)) }
+        ensures refused_unwritten { IfErr result (λ refused.
+            WritesNothing (D.state disk) (D.state refused.1)) }
         ensures wrong_size { (D.state disk).size ≢ FILE_SIZE → IsErrAnd result (λ refused.
             ((refused.0 ≡ OpenFault.NotASession) ⊎ (refused.0 ≡ OpenFault.NoMemory))
             × (refused.1 ≡ disk)) }

@@ -3,7 +3,7 @@
 //! disk before the bytes that it speaks of.
 ghost use Rattle.std.specs.Prelude.{◌≡◌, ◌≤◌, ◌+◌, List, [], ◌∷◌, ◌++◌, ℕ, length, take, slice_index, OnOk, IsErrOf};
 ghost use Rattle.mcs_disk.specs.Disk.{IsCall};
-ghost use Rattle.mcs_disk.specs.Moments.{Changes, CountsFault, KeepsEarlierImages, IsDurable, AddsNoImage};
+ghost use Rattle.mcs_disk.specs.Moments.{Changes, CountsFault, KeepsEarlierImages, IsDurable, AddsNoImage, WritesNothing};
 ghost use Rattle.mcs_journal.specs.declared.format.TheConstants.{FILE_SIZE, MOST_RECORD, MOST_SNAPSHOT, STAGE_SIZE};
 ghost use Rattle.mcs_journal.specs.File.{Holds, IsBlank, IsRecord, be16, slot_of};
 ghost use Rattle.mcs_journal.specs.Writing.{Commits, IsArea, IsCommitPlace, other_slot};
@@ -113,6 +113,7 @@ pub fn check_blank<D: Disk>(disk: &mut D) -> Result<(), CreateFault>
     requires size { (D.state disk.old).size ≡ FILE_SIZE }
     ensures tells { CountsFault (D.state disk.old) (D.state disk.new)
         (IsErrOf result CreateFault.Device) }
+    ensures unwritten { WritesNothing (D.state disk.old) (D.state disk.new) }
     ensures rests { (D.state disk.old).honest → AddsNoImage (D.state disk.old) (D.state disk.new) }
     ensures ticks { (D.state disk.old).honest
         → OnOk result ((D.state disk.new).clock ≡ (D.state disk.old).clock + 1) }

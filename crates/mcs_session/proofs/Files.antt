@@ -1,7 +1,7 @@
 -- What a session's disk stands for when it is made and opened.
 use Rattle.std.proofs.Common.{◌≡◌, inl, inr, ⊎_elim, Bool, true, false, None, ap, List, [], ◌∷◌, ℕ, sym, ◌∙◌, subst, refl, arith}
 use Rattle.mcs_disk.specs.Disk.{DiskState, IsLawful}
-use Rattle.mcs_disk.specs.Moments.{IsDurable, AddsNoImage}
+use Rattle.mcs_disk.specs.Moments.{IsDurable, AddsNoImage, WritesNothing}
 use Rattle.mcs_journal.specs.Answers.{Creates, IsNoSession, Opens, RefusesOpen}
 use Rattle.mcs_journal.specs.File.{Holds}
 use Rattle.mcs_journal.specs.declared.fault.OpenFault.{OpenFault}
@@ -23,6 +23,7 @@ use Rattle.mcs_version1.proofs.Lifting.{command-lifts}
 use Rattle.mcs_session.specs.Version1.{Replays1, RecordsStandFor1, StandsForLifted}
 use Rattle.mcs_session.specs.Stands.{Replays, RecordsStandFor, StandsFor, StandsByEither, StandsSince, HoldsState, IsAt, IsAtLifted}
 use Rattle.mcs_session.specs.Answers.{CreatesSession, FailsMigrating, LeftRefused, MayMigrate, OpensSession, RefusesSession}
+use Rattle.mcs_session.specs.LogUse.{UsesLog, empty_log}
 use Rattle.mcs_session.specs.Invariant.{IsRecorded, IsReplayed, MayReplace, Replaced}
 use Rattle.mcs_session.proofs.Records.{same_pair_state}
 
@@ -49,6 +50,11 @@ pub recorded_new : (disk : DiskState) (snap : List ℕ) (s : BenchState) → Spe
 unfolding stands_new stand_new
 recorded_new disk snap s spells held durable = record { durable = durable; stands = stands_new disk.bytes snap s spells held; count = refl }
 
+-- its log is empty
+pub empty_uses : (file : List ℕ) (s : BenchState) → HoldsState file s → UsesLog file empty_log
+unfolding stands_new stand_new
+empty_uses file s held = record { state = s; stands = stands_new file held.snap s held.spells held.holds; bytes = refl; cycles = refl }
+
 pub created : (old new : DiskState) (snap : List ℕ) (s : BenchState) → SpellsState snap s → s ≡ new_bench_state → Creates old new snap → CreatesSession old new
 created old new snap s spells is made =
     let stands : StandsFor new.bytes new_bench_state = subst (λ (t : BenchState). StandsFor new.bytes t) is (stands_new new.bytes snap s spells made.holds) in
@@ -73,11 +79,12 @@ rests_may old new s rests = record {
 }
 
 -- a file of the last version
-pub opened_session : (old new : DiskState) (snap : List ℕ) (records : List (List ℕ)) (cycles : ℕ) (s : BenchState) → Opens old new snap records → IsReplayed false snap records cycles s → OpensSession old new s
-opened_session old new snap records cycles s opened replayed = record {
+pub opened_session : (old new : DiskState) (snap : List ℕ) (records : List (List ℕ)) (cycles : ℕ) (s : BenchState) → WritesNothing old new → Opens old new snap records → IsReplayed false snap records cycles s → OpensSession old new s
+opened_session old new snap records cycles s unwritten opened replayed = record {
   stands = inl (stands_by snap records s replayed.stand old.bytes opened.holds);
   moments = rests_may old new s opened.rests;
   rests = λ _. opened.rests;
+  unwritten = λ _. unwritten;
   migrated = λ first. absurd (not_both snap replayed.stand.start first.stand.start replayed.stand.snapshot (subst (λ (x : List ℕ). SpellsState1 x first.stand.start) (same_snap _ _ _ _ _ first.holds opened.holds) first.stand.snapshot));
   at = at_of new s opened.durable (stands_by snap records s replayed.stand new.bytes (held_on old new snap records opened));
 }
@@ -148,10 +155,14 @@ pub migrated_session : (old mid new : DiskState) (snap : List ℕ) (records : Li
 migrated_session old mid new snap records cycles s lawful opened replayed moments held durable = record {
   stands = inr (by_first old.bytes snap records s opened.holds replayed.stand);
   moments = migrates old mid new snap records s lawful opened replayed.stand moments;
-  rests = λ last. absurd (not_both last.snap last.stand.start replayed.stand.snapshot.first last.stand.snapshot (subst (λ (x : List ℕ). SpellsState1 x replayed.stand.snapshot.first) (sym (same_snap _ _ _ _ _ last.holds opened.holds)) replayed.stand.snapshot.spells));
+  rests = λ last. absurd (of_last last);
+  unwritten = λ last. absurd (of_last last);
   migrated = λ _. held;
   at = at_of new s durable (holds_state new.bytes s held);
 }
+  where
+    of_last : StandsFor old.bytes s → ⊥
+    of_last last = not_both last.snap last.stand.start replayed.stand.snapshot.first last.stand.snapshot (subst (λ (x : List ℕ). SpellsState1 x replayed.stand.snapshot.first) (sym (same_snap _ _ _ _ _ last.holds opened.holds)) replayed.stand.snapshot.spells)
 
 pub fails_migrating : (old mid new : DiskState) (snap : List ℕ) (records : List (List ℕ)) (cycles : ℕ) (s : BenchState) → IsLawful new → Opens old mid snap records → IsReplayed true snap records cycles s
     → LeavesOnly mid new (Either (λ c. Holds c snap records) (λ c. HoldsState c s)) → FailsMigrating old new
@@ -210,10 +221,10 @@ left_store Device old new h = inl h
 left_store NoMemory old new h = h
 
 -- what `begin` did with a log that was opened
-pub opened_by : (v : Bool) (old mid new : DiskState) (snap : List ℕ) (records : List (List ℕ)) (cycles : ℕ) (s : BenchState) → IsLawful new → Opens old mid snap records → IsReplayed v snap records cycles s
+pub opened_by : (v : Bool) (old mid new : DiskState) (snap : List ℕ) (records : List (List ℕ)) (cycles : ℕ) (s : BenchState) → IsLawful new → WritesNothing old mid → Opens old mid snap records → IsReplayed v snap records cycles s
     → (v ≡ false → OpensSession old mid s → OpensSession old new s) → (v ≡ true → Replaced mid new snap records s) → OpensSession old new s
-opened_by false old mid new snap records cycles s lawful opened replayed same replaced = same refl (opened_session old mid snap records cycles s opened replayed)
-opened_by true old mid new snap records cycles s lawful opened replayed same replaced =
+opened_by false old mid new snap records cycles s lawful unwritten opened replayed same replaced = same refl (opened_session old mid snap records cycles s unwritten opened replayed)
+opened_by true old mid new snap records cycles s lawful unwritten opened replayed same replaced =
     let now = replaced refl in migrated_session old mid new snap records cycles s lawful opened replayed now.moments now.held now.durable
 
 pub failed_by : (v : Bool) (old mid new : DiskState) (snap : List ℕ) (records : List (List ℕ)) (cycles : ℕ) (s : BenchState) → v ≡ true → IsLawful new → Opens old mid snap records → IsReplayed v snap records cycles s
@@ -249,7 +260,18 @@ opens_first old new s u lawful each opens =
     let same : u ≡ s = one_either old.bytes u s opens.stands (inr here) in
     (same, (subst (HoldsState new.bytes) same (opens.migrated (subst (StandsForLifted old.bytes) (sym same) here)), stays_first old new s u opens.moments same each))
 
-pub fails_first : (old new : DiskState) (s : BenchState) → IsLawful old → IsAtLifted old s → FailsMigrating old new → StandsSince old.clock new s
+fails_first : (old new : DiskState) (s : BenchState) → IsLawful old → IsAtLifted old s → FailsMigrating old new → StandsSince old.clock new s
 fails_first old new s lawful each fails =
     let here : StandsForLifted old.bytes s = each old.bytes (lawful.counts_now old.clock old.bytes (omega arith) lawful.current) in
     stays_first old new s fails.state fails.moments (one_first old.bytes fails.state s fails.stands here) each
+
+-- what a refusal left, for whatever reason, is what was there or what stands for the same state
+rests_first : (old new : DiskState) (s : BenchState) → IsAtLifted old s → AddsNoImage old new → StandsSince old.clock new s
+rests_first old new s each rests image left = inr (each image (rests.nothing_else old.clock image (omega arith) left))
+
+pub refused_first : (fault : OpenFault) (old new : DiskState) (s : BenchState) → IsLawful old → IsAtLifted old s → LeftRefused fault old new → StandsSince old.clock new s
+refused_first NotASession old new s lawful each rests = rests_first old new s each rests
+refused_first Damaged old new s lawful each rests = rests_first old new s each rests
+refused_first Device old new s lawful each (inl rests) = rests_first old new s each rests
+refused_first Device old new s lawful each (inr fails) = fails_first old new s lawful each fails
+refused_first NoMemory old new s lawful each rests = rests_first old new s each rests

@@ -11,8 +11,10 @@ use Rattle.mcs_model.specs.Fold.{fold}
 use Rattle.mcs_session.specs.Stands.{StandsFor, IsAt}
 use Rattle.mcs_session.specs.Answers.{Acknowledges, MayLeave, Ticks}
 use Rattle.mcs_session.specs.Standing.{SessionState, Standing}
+use Rattle.mcs_session.specs.LogUse.{UsesLog, use_after_all}
 use Rattle.mcs_session.specs.Kept.{Carries, IsSettled, IsSettledAt, IsSpaced, Kept, KeptWhole, StandsForPrefix, acknowledged_by, last_moment}
 use Rattle.mcs_session.proofs.Folds.{standing_after-further}
+use Rattle.mcs_session.proofs.Using.{ticked_by, timed_more, use_append}
 use Rattle.mcs_session.proofs.Prefixes.{acknowledged-append, acknowledged_all, acknowledged_before, acknowledged_few, acknowledged_none, last_append, prefix_all, prefix_more, prefix_none, prefix_one, prefix_past, spaced_append, spaced_le}
 
 -- ---- two runs
@@ -46,6 +48,7 @@ kept_more d e f s t cs done ds a same b =
       count = length-append a.kept.moments b.moments ∙ let n : length a.kept.moments + length b.moments ≡ length cs + length done = omega (arith, a.kept.count, b.count) in n ∙ sym (length-append cs done);
       spaced = spaced_append d.clock a.kept.moments b.moments a.kept.spaced (subst P (sym last) b.spaced);
       within = omega (arith, whole, b.within);
+      timed = λ log uses. timed_more d.clock e.clock log cs done a.kept.moments b.moments (a.kept.timed log uses) a.now (b.timed (use_after_all log cs) (a.log log uses));
       each = each_more d e f s t cs done ds a same b;
       stretch = leaves_then d e f (λ c. Unit {0}) b.lawful a.kept.stretch b.stretch;
       lawful = b.lawful;
@@ -56,6 +59,7 @@ unfolding kept_more
 whole_more d e f s t cs ds a same b = record {
   kept = kept_more d e f s t cs ds ds a same b.kept;
   now = b.now ∙ ap (λ (c : ℕ). last_moment c b.kept.moments) a.now ∙ sym (last_append d.clock a.kept.moments b.kept.moments);
+  log = λ log uses. subst (UsesLog f.bytes) (sym (use_append log cs ds)) (b.log (use_after_all log cs) (a.log log uses));
 }
 
 -- after a run in which no call failed
@@ -84,7 +88,7 @@ goes_nowhere d e a = record {
 }
 
 stays : (d : DiskState) → IsUntouched d d
-stays d = record { bytes = refl; clock = refl; images = λ image. (λ now. now, λ now. now); since = λ u image. (λ now. now, λ now. now) }
+stays d = record { unwritten = refl; bytes = refl; clock = refl; images = λ image. (λ now. now, λ now. now); since = λ u image. (λ now. now, λ now. now) }
 
 pub stays_keeps : (d e : DiskState) (s : BenchState) → IsUntouched d e → IsSettledAt d s → IsLawful e → KeptWhole d e s []
 stays_keeps d e s a h lawful = record {
@@ -93,11 +97,13 @@ stays_keeps d e s a h lawful = record {
     count = refl;
     spaced = tt;
     within = omega (arith, a.clock);
+    timed = λ log uses. refl;
     each = λ u image le now. prefix_none s [] image (h.at image (h.lawful.longer d.clock u image le ((a.since u image).0 now)));
     stretch = goes_nowhere d e a;
     lawful = lawful;
   };
   now = a.clock;
+  log = λ log uses. subst (λ (file : List ℕ). UsesLog file log) (sym a.bytes) uses;
 }
 
 pub whole_nothing : (d : DiskState) (s : BenchState) → IsSettledAt d s → KeptWhole d d s []
@@ -140,6 +146,7 @@ acknowledged_keeps d e s c a lawful = record {
     moments = e.clock ∷ [];
     count = refl;
     spaced = (spaced_by d e c a.ticks, tt);
+    timed = λ log uses. ap (λ (m : ℕ). m ∷ []) (ticked_by d e log c uses a.ticks);
     within = omega arith;
     each = λ u image le now. elim (cases_lt u e.clock) [
       | inl early ↦
@@ -154,6 +161,7 @@ acknowledged_keeps d e s c a lawful = record {
     lawful = lawful;
   };
   now = refl;
+  log = a.log;
 }
 
 pub failed_keeps : (d e : DiskState) (s : BenchState) (c : Command) → MayLeave d e s (after s c) → IsLawful e → Kept d e s [] (c ∷ [])
@@ -161,6 +169,7 @@ failed_keeps d e s c a lawful = record {
   moments = [];
   count = refl;
   spaced = tt;
+  timed = λ log uses. refl;
   within = a.later;
   each = λ u image le now.
       ⊎_elim

@@ -3,5 +3,6 @@ pub mod Prefixes
 pub mod Keeping
 pub mod Records
 pub mod Files
+pub mod Using
 pub mod Room
 pub mod Reopening

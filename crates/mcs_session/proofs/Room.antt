@@ -16,6 +16,7 @@ use Rattle.mcs_codec.specs.Codec.{Spells}
 use Rattle.mcs_codec.specs.CommandBytes.{command_bytes}
 use Rattle.mcs_session.specs.Invariant.{HasMadeRoom, IsRecorded, IsReplayed}
 use Rattle.mcs_session.specs.Cycles.{log_cycles, replay_cycles}
+use Rattle.mcs_session.specs.LogUse.{LogUse, UsesLog, use_after}
 use Rattle.mcs_session.specs.Stands.{HasSpace, HoldsState, StandsFor}
 use Rattle.mcs_session.proofs.Files.{at_of, recorded_new, stands_by, stands_new}
 use Rattle.mcs_session.proofs.Records.{pair_more, replayed_more, same_list}
@@ -53,8 +54,11 @@ pub room_there : (disk : DiskState) (used bytes more cycles : ℕ) (s : BenchSta
     → HasRoom used bytes → cycles + more ≤ REPLAY_CYCLES → HasMadeRoom disk disk bytes more cycles s
 room_there disk used bytes more cycles s was is room few =
     let count = was.count in
+    let space : HasSpace disk.bytes bytes more = record { state = s; stands = was.stands; log = omega (arith, is, room); replay = omega (arith, count, few) } in
     record {
-      ticks = inl (record { state = s; stands = was.stands; log = omega (arith, is, room); replay = omega (arith, count, few) }, refl);
+      ticks = inl (space, refl);
+      there = λ _. refl;
+      replaced = λ none. absurd (none space);
       recorded = was;
     }
 
@@ -87,6 +91,8 @@ pub room_made : {T E : Type 0} (result : Result T E) (old new : DiskState) (used
     → OnOk result ((used' ≡ 0) × (cycles' ≡ 0)) → OnOk result (HasMadeRoom old new bytes more cycles' s)
 room_made (Ok x) old new used used' bytes more cycles cycles' s was is none changes empty = record {
   ticks = inr (no_space old used bytes more cycles s was is none, changes.ticks);
+  there = λ space. absurd (no_space old used bytes more cycles s was is none space);
+  replaced = λ _. changes.after;
   recorded = recorded_there (Ok x) old new used' cycles cycles' s was refl changes empty;
 }
 room_made (Err e) old new used used' bytes more cycles cycles' s was is none changes empty = tt
@@ -147,5 +153,5 @@ ticked old mid new bytes more cycles s c is_long is_more made tick =
           inr (λ room. none.0 (subst (λ (n : ℕ). HasSpace old.bytes bytes n) (sym is_more) (subst (λ (n : ℕ). HasSpace old.bytes n (replay_cycles c)) (sym is_long) room)), omega (arith, tick, four))
     ]
 
-pub acknowledged : (old new : DiskState) (cycles : ℕ) (s : BenchState) (c : Command) → MayLeave old new s (after s c) → Ticks old new c → IsRecorded new cycles (after s c) → Acknowledges old new s c
-acknowledged old new cycles s c moments ticks was = record { moments = moments; ticks = ticks; now = at_of new (after s c) was.durable was.stands }
+pub acknowledged : (old new : DiskState) (cycles : ℕ) (s : BenchState) (c : Command) → MayLeave old new s (after s c) → Ticks old new c → IsRecorded new cycles (after s c) → ((log : LogUse) → UsesLog old.bytes log → UsesLog new.bytes (use_after log c)) → Acknowledges old new s c
+acknowledged old new cycles s c moments ticks was used = record { moments = moments; ticks = ticks; log = used; now = at_of new (after s c) was.durable was.stands }

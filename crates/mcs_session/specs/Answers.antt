@@ -1,7 +1,7 @@
 -- What the calls of a session answer, and what they do to the disk.
 use Rattle.std.specs.Prelude.{◌≡◌, ◌⊎◌, ◌+◌, min, Bool, true, false, ℕ, None, Some, Result, Ok, Err}
 use Rattle.mcs_disk.specs.Disk.{DiskState, most_faults}
-use Rattle.mcs_disk.specs.Moments.{Either, KeepsEarlierImages, LeavesOnly, AddsNoImage, IsUntouched}
+use Rattle.mcs_disk.specs.Moments.{Either, KeepsEarlierImages, LeavesOnly, AddsNoImage, IsUntouched, WritesNothing}
 use Rattle.mcs_journal.specs.Answers.{IsNoSession}
 use Rattle.mcs_journal.specs.File.{IsBlank}
 use Rattle.mcs_journal.specs.declared.fault.OpenFault.{OpenFault}
@@ -12,6 +12,7 @@ use Rattle.mcs_model.specs.BenchState.{BenchState, new_bench_state}
 use Rattle.mcs_model.specs.Command.{refusal, after, reply}
 use Rattle.mcs_session.specs.declared.fault.SessionFault.{SessionFault}
 use Rattle.mcs_session.specs.declared.fault.SessionFault.TheVariants.{Refused, Device, Closed}
+use Rattle.mcs_session.specs.LogUse.{LogUse, UsesLog, use_after}
 use Rattle.mcs_session.specs.Stands.{HasRoomFor, HoldsState, IsAt, StandsByEither, StandsFor}
 use Rattle.mcs_session.specs.Version1.{StandsForLifted}
 
@@ -37,6 +38,7 @@ pub record OpensSession (old new : DiskState) (s : BenchState) : Type 0 where
   pub stands : StandsByEither old.bytes s
   pub moments : MayMigrate old new s
   pub rests : StandsFor old.bytes s → AddsNoImage old new
+  pub unwritten : StandsFor old.bytes s → WritesNothing old new
   pub migrated : StandsForLifted old.bytes s → HoldsState new.bytes s
   pub at : IsAt new s
 
@@ -97,6 +99,7 @@ Ticks old new c =
 pub record Acknowledges (old new : DiskState) (s : BenchState) (c : Command) : Type 0 where
   pub moments : MayLeave old new s (after s c)
   pub ticks : Ticks old new c
+  pub log : (log : LogUse) → UsesLog old.bytes log → UsesLog new.bytes (use_after log c)
   pub now : IsAt new (after s c)
 
 -- what the command does to an honest disk

@@ -38,11 +38,14 @@ pub record IsReplayed
   pub stand : RecordsStandFor first snap records s
   pub count : cycles ≡ log_cycles stand.commands
 
--- Room was made for a record of that many bytes and that many cycles, in no step where there was
--- room and else in four. The disk stands for the same state still, by a log of that many cycles.
+-- Room was made for a record of that many bytes and that many cycles: in no step where there was
+-- room, and else in four, by a snapshot of the state in the place of all records. The disk stands for
+-- the same state still, by a log of that many cycles.
 pub record HasMadeRoom (old new : DiskState) (bytes more cycles : ℕ) (s : BenchState) : Type 0 where
   pub ticks : (HasSpace old.bytes bytes more × (new.clock ≡ old.clock))
       ⊎ (¬ (HasSpace old.bytes bytes more) × (new.clock ≡ old.clock + 4))
+  pub there : HasSpace old.bytes bytes more → new.bytes ≡ old.bytes
+  pub replaced : ¬ (HasSpace old.bytes bytes more) → HoldsState new.bytes s
   pub recorded : IsRecorded new cycles s
 
 -- a pair stands on an honest disk, and it is all that is there

@@ -7,6 +7,7 @@ use Rattle.mcs_model.specs.declared.command.Command.{Command}
 use Rattle.mcs_model.specs.BenchState.{BenchState}
 use Rattle.mcs_model.specs.Fold.{fold}
 use Rattle.mcs_session.specs.Answers.{OpensSession}
+use Rattle.mcs_session.specs.LogUse.{LogUse, UsesLog, moments_of, use_after_all}
 use Rattle.mcs_session.specs.Standing.{Premise, SessionState, standing_after}
 use Rattle.mcs_session.specs.Stands.{StandsFor, IsAt}
 
@@ -51,6 +52,8 @@ pub record Kept (old new : DiskState) (s : BenchState) (done reached : List Comm
   pub moments : List ℕ
   pub count : length moments ≡ length done
   pub spaced : IsSpaced old.clock moments
+  -- eight where the log, in use as it was then, had no room for the record of the command, else four
+  pub timed : (log : LogUse) → UsesLog old.bytes log → moments ≡ moments_of old.clock log done
   pub within : last_moment old.clock moments ≤ new.clock
   -- whatever a power cut at some moment since t left stands for a prefix that holds what was
   -- acknowledged by t
@@ -63,6 +66,7 @@ pub record Kept (old new : DiskState) (s : BenchState) (done reached : List Comm
 pub record KeptWhole (old new : DiskState) (s : BenchState) (cs : List Command) : Type 0 where
   pub kept : Kept old new s cs cs
   pub now : new.clock ≡ last_moment old.clock kept.moments
+  pub log : (log : LogUse) → UsesLog old.bytes log → UsesLog new.bytes (use_after_all log cs)
 
 -- the premise of what is kept: an open session on an honest disk
 abbrev pub IsOpenOnHonestDisk : Premise

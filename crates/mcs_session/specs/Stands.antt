@@ -1,6 +1,7 @@
--- What a session file stands for, and what it has room for. Where a definition takes a Boolean
--- first, that is true where the snapshot and the records are of version 1; what they stand for is
--- then what version 2 makes of them.
+-- What a session file stands for, and what it has room for. What one of version 1 stands for is said
+-- by the definitions of version 1 and carried over (`StandsForLifted` in Version1). Where a
+-- definition here takes a Boolean first, that is true where the snapshot and the records are of
+-- version 1: they are read as carried over, and the commands are those of version 2 from there on.
 use Rattle.std.specs.Prelude.{◌≡◌, ◌⊎◌, ◌+◌, ◌≤◌, ℕ, Bool, false, List, [], ◌∷◌, None, length}
 use Rattle.mcs_codec.specs.Codec.{SpellsBy, SpellsState, SpellsStateBy}
 use Rattle.mcs_codec.specs.CommandBytes.{command_bytes}
@@ -49,7 +50,8 @@ pub record HoldsState (file : List ℕ) (s : BenchState) : Type 0 where
   pub spells : SpellsState snap s
   pub holds : Holds file snap []
 
--- whatever a power cut now leaves stands for this state
+-- Whatever a power cut leaves stands for this state, one now and one at any moment since the last
+-- call that answered Ok: a call that failed after it is no step of the clock.
 abbrev pub IsAt : DiskState → BenchState → Type 0
 IsAt disk s = (image : List ℕ) → disk.since disk.clock image → StandsFor image s
 

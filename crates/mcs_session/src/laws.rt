@@ -6,7 +6,7 @@ ghost use Rattle.mcs_journal.specs.declared.fault.OpenFault.{OpenFault};
 ghost use Rattle.mcs_model.specs.declared.command.Command.{Command};
 ghost use Rattle.mcs_model.specs.BenchState.{BenchState};
 ghost use Rattle.mcs_model.specs.Fold.{fold};
-ghost use Rattle.mcs_session.specs.Answers.{FailsMigrating, OpensSession, RefusesSession};
+ghost use Rattle.mcs_session.specs.Answers.{LeftRefused, OpensSession, RefusesSession};
 ghost use Rattle.mcs_session.specs.Kept.{IsAfterPrefix, IsReopened, Kept, StandsForPrefix, acknowledged_by};
 ghost use Rattle.mcs_session.specs.Stands.{HoldsState, IsAtLifted, StandsByEither, StandsFor, StandsSince};
 
@@ -59,14 +59,15 @@ pub fn at_the_end_all_is_kept<D: Disk>()
 {}
 
 /// A session of version 1 is opened in the state that it stood for, carried over. Whatever a power
-/// cut since the opening began leaves stands for that state, also where the opening failed; once it
-/// is open, the disk holds a snapshot of version 2 and no records.
+/// cut since the opening began leaves stands for that state, however the opening ended: by Ok, by a
+/// device fault before, within or after what it writes, or for lack of memory. Once it is open, the
+/// disk holds a snapshot of version 2 and no records.
 pub fn a_file_of_version_1_keeps_its_state<D: Disk>()
     ensures opened { (old new : D) (s u : BenchState) → (D.state old).honest
         → IsAtLifted (D.state old) s → OpensSession (D.state old) (D.state new) u
         → (u ≡ s) × (HoldsState (D.state new).bytes s
         × StandsSince (D.state old).clock (D.state new) s) }
-    ensures failed { (old new : D) (s : BenchState) → (D.state old).honest
-        → IsAtLifted (D.state old) s → FailsMigrating (D.state old) (D.state new)
+    ensures refused { (old new : D) (s : BenchState) (fault : OpenFault) → (D.state old).honest
+        → IsAtLifted (D.state old) s → LeftRefused fault (D.state old) (D.state new)
         → StandsSince (D.state old).clock (D.state new) s }
 {}

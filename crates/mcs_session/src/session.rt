@@ -1,6 +1,6 @@
 //! A bench whose commands are recorded on a disk.
 ghost use Rattle.std.specs.Prelude.{◌≡◌, ◌≢◌, ◌⊎◌, ◌↔◌, IsTrue, true, false, IsErrAnd, IfOk, IfErr};
-ghost use Rattle.mcs_disk.specs.Moments.{CountsFault};
+ghost use Rattle.mcs_disk.specs.Moments.{CountsFault, WritesNothing};
 ghost use Rattle.mcs_journal.specs.Answers.{RefusesCreate};
 ghost use Rattle.mcs_model.specs.BenchState.{new_bench_state};
 ghost use Rattle.mcs_session.specs.Stands.{StandsFor, IsAt};
@@ -55,6 +55,8 @@ impl<D: Disk + Drop> Session<D> {
             CountsFault (D.state disk) (D.state refused.1) (refused.0 ≡ CreateFault.Device)) }
         ensures no_memory { IfErr result (λ refused.
             refused.0 ≡ CreateFault.NoMemory → refused.1 ≡ disk) }
+        ensures unwritten { IfErr result (λ refused. refused.0 ≢ CreateFault.Device
+            → WritesNothing (D.state disk) (D.state refused.1)) }
         ensures wrong_size { (D.state disk).size ≢ FILE_SIZE → IsErrAnd result (λ refused.
             ((refused.0 ≡ CreateFault.NotBlank) ⊎ (refused.0 ≡ CreateFault.NoMemory))
             × (refused.1 ≡ disk)) }
@@ -99,6 +101,8 @@ impl<D: Disk + Drop> Session<D> {
         ensures counts { IfOk result (λ s. CountsFault (D.state disk) (D.state s.disk) ⊥) }
         ensures refusal_counts { IfErr result (λ refused.
             CountsFault (D.state disk) (D.state refused.1) (refused.0 ≡ OpenFault.Device)) }
+        ensures unwritten { IfErr result (λ refused. refused.0 ≢ OpenFault.Device
+            → WritesNothing (D.state disk) (D.state refused.1)) }
         ensures wrong_size { (D.state disk).size ≢ FILE_SIZE → IsErrAnd result (λ refused.
             ((refused.0 ≡ OpenFault.NotASession) ⊎ (refused.0 ≡ OpenFault.NoMemory))
             × (refused.1 ≡ disk)) }

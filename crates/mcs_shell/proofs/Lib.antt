@@ -11,3 +11,5 @@ pub mod Doing
 pub mod Looping
 pub mod Surviving
 pub mod MapLaws
+pub mod InTurn
+pub mod InFile

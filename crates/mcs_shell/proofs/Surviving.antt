@@ -106,6 +106,7 @@ survives_as_kept state_of lawful a b met kept =
       moments = kept.moments;
       count = kept.count;
       spaced = kept.spaced;
+      timed = kept.timed;
       within = kept.within;
       reopened = λ t found opened u le h. reopened t a.session.disk b.session.disk (state_of found) (state_of opened) s u done may kept le h;
       not_refused = λ t found fault le cut h. found_is_opened t a.session.disk b.session.disk (state_of found) s done may fault kept le cut (lawful found cut.honest) h;

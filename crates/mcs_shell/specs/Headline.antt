@@ -1,20 +1,24 @@
--- The headline: what is found again after a power cut at any moment of a run.
-use Rattle.std.specs.Prelude.{◌≡◌, ◌⊎◌, ◌≤◌, ℕ, List, [], ◌∷◌, ◌++◌, length}
+-- The headline: what a run answered, and what is found again after a power cut at any moment of it.
+use Rattle.std.specs.Prelude.{◌≡◌, ◌≢◌, ◌⊎◌, ◌≤◌, Bool, ℕ, List, [], ◌∷◌, ◌++◌, length}
+use Rattle.std.specs.Io.KnownBytes.{Appends, Consumes}
 use mathlib.Core.Logic.{inl, inr}
+use Rattle.mcs_answers.specs.AnswerTexts.{session_text}
 use Rattle.mcs_disk.specs.Disk.{DiskState}
 use Rattle.mcs_disk.specs.PowerCut.{IsLeftByCut}
 use Rattle.mcs_journal.specs.declared.fault.OpenFault.{OpenFault}
 use Rattle.mcs_journal.specs.declared.fault.OpenFault.TheVariants as open_fault
 use Rattle.mcs_model.specs.BenchState.{BenchState}
+use Rattle.mcs_session.specs.LogUse.{LogUse, UsesLog, moments_of}
 use Rattle.mcs_session.specs.Answers.{RefusesSession}
 use Rattle.mcs_session.specs.Kept.{IsAfterPrefix, IsOpenOnHonestDisk, IsReopened, IsSpaced, acknowledged_by, last_moment}
-use Rattle.mcs_session.specs.Standing.{SessionState}
+use Rattle.mcs_session.specs.Standing.{SessionState, Standing, session_state, standing_after}
+use Rattle.mcs_shell.specs.Inputs.{Input, inputs}
 use Rattle.mcs_shell.specs.declared.ends.ShellEnd.{ShellEnd}
 use Rattle.mcs_shell.specs.declared.ends.ShellEnd.TheVariants.{End, ReadFault, WriteFault, DeviceFault, InputLimit, NoMemory}
 use Rattle.mcs_shell.specs.declared.outcome.Outcome.TheVariants.{Device}
 use Rattle.mcs_shell.specs.Shell.{Began, EndsBy, LoopRan, Ran, Run}
 use Rattle.mcs_shell.specs.Stage.{KnownBytes, Stage, staged, with_out}
-use Rattle.mcs_shell.specs.Transcript.{Served, all_commands, all_reached}
+use Rattle.mcs_shell.specs.Transcript.{MayEnd, Served, all_commands, all_reached, commands, inputs_in, transcript}
 
 -- the inputs that a run met, in turn, each with what came of it; the last one may have been
 -- answered in part
@@ -66,6 +70,9 @@ pub record SurvivesPowerCuts
   pub moments : List ℕ
   pub count : length moments ≡ length (all_commands a.standing.state met)
   pub spaced : IsSpaced a.disk.clock moments
+  -- eight where the log, in use as it was then, had no room for the record of the command, else four
+  pub timed : (log : LogUse) → UsesLog a.disk.bytes log
+      → moments ≡ moments_of a.disk.clock log (all_commands a.standing.state met)
   pub within : last_moment a.disk.clock moments ≤ ran.clock
   pub reopened : (t : ℕ) (found opened : E) (u : BenchState) → a.disk.clock ≤ t
       → IsReopened t ran (state_of found) (state_of opened) u
@@ -74,3 +81,43 @@ pub record SurvivesPowerCuts
   pub not_refused : (t : ℕ) (found : E) (fault : OpenFault) → a.disk.clock ≤ t
       → IsLeftByCut t ran (state_of found) → RefusesSession fault (state_of found)
       → (fault ≡ open_fault.Device) ⊎ (fault ≡ open_fault.NoMemory)
+
+-- ---- both halves
+
+-- each outcome is one that may come of its input in its turn
+unfoldable pub MayMeet : Standing → Served → Type 0
+MayMeet m [] = Unit {0}
+MayMeet m (p ∷ rest) =
+    MayEnd m p.0 p.1 × MayMeet (standing_after m (commands m.state p.0 p.1)) rest
+
+-- A run met these inputs, the first of those that the bytes which it read spell. What it wrote is
+-- the first line of a session and then their answers, each that of the state after the commands
+-- accepted before it. Only a write that failed, and a shell that had no memory to begin, leave the
+-- last of it out.
+pub record AnswersInTurn
+    (end : ShellEnd) (reader reader' : KnownBytes) (a b : Stage) (met : Served) : Type 0 where
+  pub bytes : List ℕ
+  pub consumed : Consumes reader reader' bytes
+  pub whole : Bool
+  pub not_met : List Input
+  pub spelled : inputs bytes whole ≡ inputs_in met ++ not_met
+  pub all_met : end ≢ WriteFault → end ≢ DeviceFault → end ≢ NoMemory → not_met ≡ []
+  pub may : MayMeet a.session.standing met
+  pub told : List ℕ
+  pub left_out : List ℕ
+  pub written : Appends a.out b.out told
+  pub parts : told ++ left_out
+      ≡ session_text a.session.standing.state ++ transcript a.session.standing.state met
+  pub all_told : end ≢ WriteFault → end ≢ NoMemory → left_out ≡ []
+
+-- The answers of a run are those of the inputs that it met, in turn, and what is found after a power
+-- cut is the bench after a prefix of the commands among them that holds what was acknowledged
+-- (`state_of` and `found_of` are what contracts see of the disks).
+pub record AnswersAndSurvives
+    {D E : Type 0} (state_of : D → DiskState) (found_of : E → DiskState)
+    (run : Run state_of) : Type 0 where
+  pub met : Served
+  pub answers : AnswersInTurn run.end run.reader run.reader'
+      (staged state_of run.before run.out) (staged state_of run.after run.out') met
+  pub survives : SurvivesPowerCuts found_of (session_state state_of run.before)
+      (state_of run.after.disk) met

@@ -12,3 +12,4 @@ pub mod Shell
 pub mod Finishing
 pub mod Headline
 pub mod Program
+pub mod InFile

@@ -35,6 +35,7 @@ loop-records-preserved g c = record {
   size = c.in_ok-record.ensures.tells.size ∙ c.loop-records.invariant.size;
   honest = (λ h. c.loop-records.invariant.honest.0 (c.read_record.ensures.tells.honest.0 h), λ h. c.read_record.ensures.tells.honest.1 (c.loop-records.invariant.honest.1 h));
   faults = c.in_ok-record.ensures.tells.no_fault (λ no. cc) ∙ c.loop-records.invariant.faults;
+  unwritten = c.read_record.ensures.unwritten ∙ c.loop-records.invariant.unwritten;
   rests = λ h. rests_then _ _ _ (c.loop-records.invariant.rests h) (c.read_record.ensures.rests (c.loop-records.invariant.honest.1 h));
   durable = λ h d. c.in_ok-record.ensures.durable (c.loop-records.invariant.honest.1 h) (c.loop-records.invariant.durable h d);
   within = omega (arith, room, long, c.loop-records.invariant.within);

@@ -1,5 +1,6 @@
 use Rattle.std.proofs.Common.{arith}
 use Rattle.mcs_session.proofs.Room.{acknowledged, appended, few_cycles, recorded_more, ticked}
+use Rattle.mcs_session.proofs.Using.{logged}
 use Rattle.mcs_session.proofs.recording.CommandLog.record.Goals as goal
 
 pub make_room-requires-clause-more : goal.make_room-requires-clause-more
@@ -37,3 +38,4 @@ returns-clause-acknowledges g c = λ honest was.
     let still = c.in_ok-make_room.ensures.counts.honest.1 honest in
     let changes = c.in_ok-append.ensures.appends still now.stands.snap now.stands.records now.stands.holds in
     acknowledged _ _ _ _ _ (returns-clause-moments g c honest was) (ticked (g.D.Disk.state c.args.self.now.store.disk) (g.D.Disk.state c.make_room.new.self.store.disk) (g.D.Disk.state c.append.new.self.disk) _ _ _ _ _ c.encode_command-count.ensures.count c.replay_cycles-more.ensures made changes.ticks) (returns-clause-recorded g c honest was)
+    (logged (g.D.Disk.state c.args.self.now.store.disk) (g.D.Disk.state c.make_room.new.self.store.disk) (g.D.Disk.state c.append.new.self.disk) _ _ _ _ _ _ c.encode_command-count.ensures.count c.replay_cycles-more.ensures made (rw (c.as_slice.ensures.value, c.in_ok-make_room.ensures.payload) c.encode_command-count.ensures.spells) c.requires.accepted c.in_ok-make_room.ensures.room.1 changes.after)

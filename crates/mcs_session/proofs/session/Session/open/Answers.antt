@@ -21,7 +21,7 @@ returns-in-Ok-begin-clause-opened g c = λ honest.
     let now = c.in-Ok-open.ensures.counts.honest.1 honest in
     let replayed = rw (c.bytes.ensures, c.in-Ok-Some.field-0-is) at c.in-Ok-Some.ensures.some in
     rw c.in-Ok-begin.ensures.open.1 (
-    opened_by _ _ _ _ _ _ _ _ (g.met.D.Disk.lawful c.in-Ok-begin.session.disk (c.in-Ok-begin.ensures.counts.honest.1 now)) opened replayed
+    opened_by _ _ _ _ _ _ _ _ (g.met.D.Disk.lawful c.in-Ok-begin.session.disk (c.in-Ok-begin.ensures.counts.honest.1 now)) c.in-Ok-open.ensures.unwritten opened replayed
     (λ last o. rw (c.in-Ok-begin.ensures.same last) o)
     (λ first. c.in-Ok-begin.ensures.first first now _ _ (held_on _ _ _ _ opened)))
 

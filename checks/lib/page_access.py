@@ -1,0 +1,238 @@
+"""What checks/page looks at for those who do not see the page, or see it badly: names, roles and states as the browser tells them to a screen
+reader (its accessibility tree), the way of the Tab key, and the contrast of all letters, borders, marks and lamps in both colour schemes."""
+
+import re
+
+from page_in_browser import ESCAPE, READY, STATUS, TAB, TEXT_OF_EDITOR, choose_example, lines_answered, show_text
+from verdicts import comes, verdict
+from web_driver import Chromium
+
+# What can be used, by its role in the tree.
+CONTROLS = {"button", "textbox", "searchbox", "combobox", "checkbox", "slider", "tab", "option", "link", "spinbutton", "DisclosureTriangle",
+            "radio", "switch"}
+# What has to have a name so that one knows where one is.
+PLACES = {"region", "group", "tablist", "tabpanel", "dialog", "table", "log", "complementary", "image", "alertdialog"}
+# Signs that say nothing where they are read out.
+SIGNS = re.compile("[\u25b2-\u25cf\u2713]")
+
+
+def check(browser, page, _folder, _mcs4):
+    browser.go("about:blank")
+    browser.go(page.as_uri())
+    browser.until(READY, True)
+    check_answers_told(browser)
+    check_tab_key(browser)
+    if isinstance(browser, Chromium):
+        check_views(browser)
+
+
+def check_answers_told(browser):
+    """The answer to a line that was sent is said, and a refusal with its words; what time does is not."""
+    choose_example(browser, "three lamps")
+    browser.click("#run")
+    browser.until(STATUS, "Stopped.")
+    told = "return document.getElementById('answer-told').textContent"
+    lines_answered(browser, "poke acc 5")
+    comes(browser, "an answer is said", told, re.compile(r"^ok \d+$"))
+    lines_answered(browser, "poke acc 77")
+    comes(browser, "and a refusal in words", told, re.compile(r"^no \d+.*: [a-z]"))
+
+
+# What the Tab key stops at, from the session's name on, as the panel that it is in; a text is left by Escape and then Tab.
+PLACE = """
+const at = document.activeElement;
+const place = at.closest("#session-bar, #clock, #history, #front, #texts, #processor, #listing, #memory, #ports, #talk, #scope, #notice");
+return place ? place.id : ''"""
+IN_EDITOR = "return document.activeElement.closest('.CodeMirror') !== null"
+ORDER = ["session-bar", "clock", "history", "front", "texts", "processor", "listing", "memory", "ports", "talk", "scope"]
+
+
+def check_tab_key(browser):
+    """Tab goes through the panels in the order in which they stand, and is caught nowhere."""
+    show_text(browser, "program")
+    browser.script("document.getElementById('name').focus()")
+    seen = []
+    stops = 0
+    while stops < 90 and browser.script(PLACE) in ORDER:
+        place = browser.script(PLACE)
+        if place not in seen[-1:]:
+            seen.append(place)
+        if place == "scope":
+            break
+        browser.keys([ESCAPE, TAB] if browser.script(IN_EDITOR) else [TAB], 1, 1)
+        stops += 1
+    verdict("Tab goes through the panels in their order", seen, ORDER)
+    verdict("in few stops", stops < 80, True)
+    browser.script("document.querySelector('#program-editor .CodeMirror').CodeMirror.focus()")
+    before = browser.script(TEXT_OF_EDITOR, "#program-editor")
+    browser.keys([ESCAPE, TAB])
+    verdict("Escape and then Tab leaves a text", browser.script(IN_EDITOR), False)
+    verdict("which is as it was", browser.script(TEXT_OF_EDITOR, "#program-editor"), before)
+
+
+# --- the accessibility tree, and colours, by Chromium's driver ---
+
+def value(node, key):
+    return (node.get(key) or {}).get("value", "")
+
+
+def nodes_of(browser):
+    """What a screen reader is told of, each with its properties."""
+    nodes = browser.command("Accessibility.getFullAXTree")["nodes"]
+    for node in nodes:
+        if not node.get("ignored"):
+            told = {each["name"]: each["value"].get("value") for each in node.get("properties", [])}
+            yield value(node, "role"), str(value(node, "name")).strip(), told
+
+
+def check_names(browser, view):
+    """All that can be used, and each place, has a name, which is made of words."""
+    nodes = list(nodes_of(browser))
+    without = [role for role, name, _ in nodes if role in CONTROLS and not name]
+    verdict(f"{view}: all that can be used has a name", without, [])
+    without = [role for role, name, told in nodes if role in PLACES and not name and role != "group"]
+    verdict(f"{view}: so has each place", without, [])
+    signs = [name for role, name, _ in nodes if role in CONTROLS | PLACES | {"heading"} and SIGNS.search(name)]
+    verdict(f"{view}: names are words", signs, [])
+    return nodes
+
+
+def check_contrast(browser, view):
+    for scheme in ("light", "dark"):
+        browser.command("Emulation.setEmulatedMedia", features=[{"name": "prefers-color-scheme", "value": scheme}])
+        browser.until(f"return matchMedia('(prefers-color-scheme: {scheme})').matches", True)
+        verdict(f"{view}: the contrast, {scheme}", browser.script(CONTRAST), [])
+    browser.command("Emulation.setEmulatedMedia", features=[])
+
+
+def look_at(browser, view):
+    nodes = check_names(browser, view)
+    check_contrast(browser, view)
+    return nodes
+
+
+OPEN_ALL = "for (const each of document.querySelectorAll(`${arguments[0]} details`)) each.open = true"
+
+
+def check_views(browser):
+    browser.command("Accessibility.enable")
+    # Nothing fades, so that what is measured is what stays.
+    browser.script("const still = new CSSStyleSheet(); still.replaceSync('* { transition: none !important }'); "
+                   "document.adoptedStyleSheets = [still]")
+    check_board(browser)
+    check_other_views(browser)
+    check_dialogs(browser)
+    browser.command("Accessibility.disable")
+
+
+def check_board(browser):
+    choose_example(browser, "traffic light")
+    comes(browser, "a lamp is lit", "return document.querySelectorAll('.bulb.lit').length > 0", True)
+    browser.click("#run")
+    browser.until(STATUS, "Stopped.")
+    browser.click("#step")
+    comes(browser, "a step leaves marks", "return document.querySelectorAll('.changed').length > 0", True)
+    browser.click("#lines-of-program button.next")
+    comes(browser, "a breakpoint is said as pressed", "return document.querySelector('#lines-of-program .next').getAttribute('aria-pressed')", "true")
+    verdict("the line that comes next is said as the current one",
+            browser.script("return document.querySelector('#lines-of-program [aria-current]').classList.contains('next')"), True)
+    nodes = look_at(browser, "the board and the source")
+    roles = [role for role, *_ in nodes]
+    verdict("there is one main part, one banner and one foot", [roles.count(each) for each in ("main", "banner", "contentinfo")], [1, 1, 1])
+    levels = [told.get("level") for role, _, told in nodes if role == "heading"]
+    verdict("one heading is the page's, all others are of its parts", (levels[0], set(levels[1:])), (1, {2}))
+    folds = [told for role, name, told in nodes if role == "button" and name in ("Processor", "RAM", "Waves")]
+    verdict("what folds says so", [told.get("expanded") for told in folds], [True, True, True])
+    verdict("tabs say which one is in front", [told.get("selected") for role, _, told in nodes if role == "tab"].count(True), 1)
+    lamps = [name for role, name, _ in nodes if role == "image" and re.search(", (lit|dark)$", name)]
+    verdict("each lamp says whether it is lit", len(lamps), browser.script("return document.querySelectorAll('.bulb').length"))
+
+
+def check_other_views(browser):
+    choose_example(browser, "calculator")
+    browser.click("#run")
+    browser.until(STATUS, "Stopped.")
+    for name in ("board", "wiring"):
+        show_text(browser, name)
+        browser.script(OPEN_ALL, "#wiring")
+        look_at(browser, f"the view {name}")
+    show_text(browser, "program")
+    browser.type_into("#step-count", "x\ue007")
+    wrong = [name for role, name, told in nodes_of(browser) if told.get("invalid") == "true"]
+    verdict("a field with a wrong value says so", wrong, ["How many instructions to do"])
+    browser.click("#record")
+    comes(browser, "waves are there", "return document.getElementById('waves').hidden", False)
+    browser.script(OPEN_ALL, "#scope")
+    look_at(browser, "the waves")
+
+
+def check_dialogs(browser):
+    browser.click("#help-button")
+    browser.script(OPEN_ALL, "#help")
+    look_at(browser, "the help")
+    browser.click("#help-close")
+    browser.click("#sessions-button")
+    comes(browser, "the dialog of sessions is there", "return document.getElementById('sessions').open", True)
+    nodes = look_at(browser, "the dialog of sessions")
+    verdict("it is modal", [told.get("modal") for role, _, told in nodes if role == "dialog"], [True])
+    browser.click("#close-sessions")
+    browser.click("#from-rom")
+    comes(browser, "a question is asked", "return document.querySelectorAll('#ask[open]').length", 1)
+    look_at(browser, "a question")
+    browser.keys([ESCAPE])
+    comes(browser, "Escape leaves it", "return document.querySelectorAll('#ask[open]').length", 0)
+
+
+# The contrast of two colours, as WCAG has it; what is transparent is laid over the ground.
+CONTRAST = """
+const parts = (text) => (text.match(/[\\d.]+/g) || []).map(Number);
+const over = (text, ground) => {
+  const [red, green, blue, alpha = 1] = parts(text);
+  return [red, green, blue].map((each, at) => each * alpha + ground[at] * (1 - alpha));
+};
+const light = (colour) => colour.map((each) => each / 255).map((each) => (each <= 0.04045 ? each / 12.92 : ((each + 0.055) / 1.055) ** 2.4))
+  .reduce((sum, each, at) => sum + each * [0.2126, 0.7152, 0.0722][at], 0);
+const contrast = (one, other) => {
+  const [low, high] = [light(one), light(other)].sort((a, b) => a - b);
+  return (high + 0.05) / (low + 0.05);
+};
+const PAPER = parts(getComputedStyle(document.body).backgroundColor);
+const groundOf = (node) => (node ? over(getComputedStyle(node).backgroundColor, groundOf(node.parentElement)) : PAPER);
+const isSeen = (each) => each.checkVisibility() && !each.closest(":disabled, .unseen, [aria-hidden=true]:not(#wiring-picture *), option");
+const root = document.querySelector("dialog[open]") || document.body;
+const shown = (selector) => [...root.querySelectorAll(selector)].filter(isSeen);
+const faults = [];
+const look = (what, node, colour, ground, least) => {
+  const found = contrast(over(colour, ground), ground);
+  if (found < least) faults.push(`${what} ${node.id || node.className.baseVal || node.className || node.textContent.slice(0, 20)} ${found.toFixed(2)}`);
+};
+for (const each of shown("button, input:not([type=checkbox]), select, textarea, [role=tab]")) {
+  const style = getComputedStyle(each);
+  if (style.borderTopStyle === "none" || parts(style.borderTopColor)[3] === 0 || !parseFloat(style.borderTopWidth)) continue;
+  look("border", each, style.borderTopColor, groundOf(each.parentElement), 3);
+}
+for (const each of shown(".changed")) {
+  look("mark", each, getComputedStyle(each).boxShadow.match(/rgba?\\([^)]*\\)/)[0], groundOf(each.parentElement), 3);
+}
+for (const each of shown(".bulb")) {
+  if (getComputedStyle(each).opacity !== "1") faults.push("a lamp that is seen through");
+  look("lamp", each, getComputedStyle(each).borderTopColor, groundOf(each.parentElement), 3);
+}
+const [lit, dark] = [".bulb.lit", ".bulb:not(.lit)"].map((each) => shown(each)[0]);
+if (lit && dark) {
+  const [one, other] = [lit, dark].map((each) => over(getComputedStyle(each).borderTopColor, groundOf(each.parentElement)));
+  const fill = contrast(groundOf(lit), groundOf(dark));
+  if (contrast(one, other) < 3 && fill < 3) faults.push(`lit beside dark ${contrast(one, other).toFixed(2)}, ${fill.toFixed(2)}`);
+}
+for (const each of shown("svg :is(rect, circle, path):not(.picture *, .number *, .cap, .glass)")) {
+  const { stroke } = getComputedStyle(each);
+  if (stroke !== "none") look("line", each, stroke, groundOf(each.closest("svg").parentElement), 3);
+}
+const walker = document.createTreeWalker(root, NodeFilter.SHOW_TEXT);
+for (let node = walker.nextNode(); node; node = walker.nextNode()) {
+  const each = node.parentElement;
+  if (!node.textContent.trim() || !isSeen(each) || each.closest("script, style, noscript")) continue;
+  const style = getComputedStyle(each);
+  look("text", each, each.closest("svg") ? style.fill : style.color, groundOf(each.closest("svg") ? each.closest("svg").parentElement : each), 4.5);
+}
+return [...new Set(faults)].slice(0, 12)"""

@@ -1,0 +1,220 @@
+"""What checks/page looks at in the editors of the page: typing, faults, completion, help, undoing, limits, and assembling and running."""
+
+import re
+import time
+
+from page_in_browser import NOTICE, PUT_INTO_EDITOR, READY, STATUS, TEXT_OF_EDITOR, choose_example, show_text
+from verdicts import comes, verdict
+
+CONTROL, SHIFT, ENTER, ESCAPE, TAB = "\ue009", "\ue008", "\ue007", "\ue00c", "\ue004"
+END, DOWN, F9 = "\ue010", "\ue015", "\ue039"
+PROGRAM, BOARD = "#program-editor", "#board-editor"
+# A text that could be sent, of 16,383 bytes.
+LONGEST = "; a line of a comment, with words in it, and then some more of them\n" * 240 + "\tNOP\n" * 12 + ";\n"
+
+EDITOR = "const editor = document.querySelector(`${arguments[0]} .CodeMirror`).CodeMirror; "
+CARET = f"{EDITOR}const at = editor.getCursor(); return [at.line, at.ch, editor.getSelection()]"
+SET_CARET = f"{EDITOR}editor.setCursor(arguments[1], arguments[2]); editor.focus()"
+FAULTS = "return [...document.querySelectorAll('{} .faults-told li')].map((each) => each.textContent).join('|')"
+UNDERLINED = "return [...document.querySelectorAll('{} .fault')].map((each) => each.textContent).join(' ')"
+TOLD = "return document.querySelector('{} .told').textContent"
+MEANING = "return document.querySelector('{} .meaning').textContent"
+LISTING = "return document.querySelector('#lines-of-program').textContent"
+INSIDE = "return document.activeElement.closest('.paper') !== null"
+# How long a key takes, from the key to the end of all that is done for it, in the median.
+KEY_TIMES = f"""{EDITOR}
+editor.setCursor(arguments[1], 0);
+const times = [];
+for (let key = 0; key < 100; key++) {{
+  const begun = performance.now();
+  editor.replaceSelection(key % 20 === 19 ? "\\n" : "x", "end", "+input");
+  times.push(performance.now() - begun);
+}}
+editor.undo();
+times.sort((one, other) => one - other);
+return times[50]"""
+# How much slower the browser is than it would be alone on the machine: the mean time of many short loops beside the least one.
+SLOWNESS = """
+const times = [];
+let sum = 0;
+for (let round = 0; round < 200; round++) {
+  const begun = performance.now();
+  for (let at = 0; at < 500000; at++) sum += at % 7;
+  times.push(performance.now() - begun);
+}
+return times.reduce((all, time) => all + time, 0) / times.length / Math.max(0.1, Math.min(...times))"""
+PASTE = """
+const data = new DataTransfer();
+data.setData("text/plain", arguments[1].repeat(arguments[2]));
+const input = document.querySelector(`${arguments[0]} .CodeMirror`).CodeMirror.getInputField();
+input.focus();
+const paste = new Event("paste", { bubbles: true, cancelable: true });
+Object.defineProperty(paste, "clipboardData", { value: data });
+input.dispatchEvent(paste)"""
+
+FAULTY = """start:  LDX 5           ; für
+        FIM R0, 5
+        JUN strat
+        LDM 16
+loop:   NOP
+loop:   NOP
+"""
+WORDS = re.compile(r"^line 1: LDX is no instruction; .*\|line 2: FIM takes a pair, P0 to P7\|line 3: strat is not defined; start\?"
+                   r"\|line 4: LDM takes a value, 0 to 15\|line 6: loop is defined in line 5 already$")
+
+
+def put(browser, editor, text):
+    browser.script(PUT_INTO_EDITOR, editor, text)
+
+
+def check_faults(browser):
+    """All faults of a program while it is typed."""
+    put(browser, PROGRAM, "")
+    browser.script(SET_CARET, PROGRAM, 0, 0)
+    put(browser, PROGRAM, FAULTY)
+    browser.script(SET_CARET, PROGRAM, 1, 3)
+    comes(browser, "all faults of a program, in words", FAULTS.format(PROGRAM), WORDS)
+    verdict("with the words at fault underlined", browser.script(UNDERLINED.format(PROGRAM)), "LDX R0 strat 16 loop")
+    verdict("the caret stays, and nothing is selected", browser.script(CARET, PROGRAM), [1, 3, ""])
+    verdict("each fault is in the margin of its line",
+            browser.script("return document.querySelectorAll('#program-editor .mark-faults').length"), 5)
+    verdict("the tab tells how many", browser.text("#program-tab"), re.compile("5 faults$"))
+    browser.click(f"{PROGRAM} .send")
+    comes(browser, "a program with faults is not assembled", TOLD.format(PROGRAM), re.compile("^line 1: LDX is no instruction.*4 more$"))
+    browser.click(f"{PROGRAM} .faults-told li:nth-child(3) button")
+    verdict("a fault in the list leads to its word", browser.script(CARET, PROGRAM), [2, 12, ""])
+    put(browser, PROGRAM, FAULTY.replace("LDX", "LDM").replace("R0", "P0").replace("strat", "start").replace("16", "1\t; caf\u00e9")
+        .replace("loop:   NOP\nloop:", "loop:   NOP\nmore:"))
+    comes(browser, "mended, no fault is left", FAULTS.format(PROGRAM), "")
+
+
+def check_typing(browser):
+    """Tab, completion, help, search, undo."""
+    put(browser, PROGRAM, "loop:\tNOP\n")
+    browser.script(SET_CARET, PROGRAM, 1, 0)
+    # A key, so that Tab indents.
+    browser.keys([DOWN, TAB, "l", "d"], 5, 5)
+    browser.chord(CONTROL, " ")
+    comes(browser, "what begins so can be chosen", "return [...document.querySelectorAll('.CodeMirror-hint')]"
+          ".map((each) => each.textContent.slice(0, 3)).join()", "LD ,LDM")
+    browser.keys([DOWN, ENTER, " ", "5", ENTER, "J", "U", "N", " ", "l", "o"], 5, 5)
+    browser.chord(CONTROL, " ")
+    browser.until("return document.querySelectorAll('.CodeMirror-hint').length", 1)
+    browser.keys([ENTER], 5, 5)
+    comes(browser, "Tab indents, and what was chosen is there", TEXT_OF_EDITOR.replace("arguments[0]", f"'{PROGRAM}'"),
+          "loop:\tNOP\n\tLDM 5\n\tJUN loop")
+    browser.script(SET_CARET, PROGRAM, 1, 2)
+    comes(browser, "the instruction at the caret is explained", MEANING.format(PROGRAM),
+          "LDM d: 1 word, 1 cycle. Load immediate: d into ACC. The carry stays.")
+    browser.chord(CONTROL, "f")
+    browser.keys([*"jun", ENTER, ESCAPE], 5, 5)
+    comes(browser, "what is sought is selected", CARET.replace("arguments[0]", f"'{PROGRAM}'"), [2, 4, "JUN"])
+    browser.keys([ESCAPE, TAB], 5, 5)
+    verdict("Escape, then Tab leaves the text", browser.script(INSIDE), False)
+    verdict("and the text stays", browser.script(TEXT_OF_EDITOR, PROGRAM), "loop:\tNOP\n\tLDM 5\n\tJUN loop")
+
+
+def check_limits(browser):
+    """The longest text: typing stays quick; more is refused in words."""
+    put(browser, PROGRAM, LONGEST)
+    verdict("the counter", browser.text(f"{PROGRAM} .size"), "16,382 of 16,384 bytes")
+    time_of_key, slowness = browser.script(KEY_TIMES, PROGRAM, 120), browser.script(SLOWNESS)
+    print(f"a key at the longest text takes {time_of_key:.1f} ms in {browser.name}, which others make {slowness:.1f} times as slow meanwhile")
+    verdict("a key takes less than 16 ms", time_of_key / slowness < 16, True)
+    put(browser, PROGRAM, "\tNOP\n")
+    browser.script(SET_CARET, PROGRAM, 1, 0)
+    browser.script(PASTE, PROGRAM, "\tNOP\n", 1_000_000)
+    comes(browser, "5 MB pasted are refused in words", TOLD.format(PROGRAM), re.compile("^It was not put in: the text would have 5,000,005 bytes"))
+    verdict("and the text is as it was", browser.script(TEXT_OF_EDITOR, PROGRAM), "\tNOP\n")
+
+
+def check_sessions(browser):
+    """A text's undo history is its session's."""
+    choose_example(browser, "die")
+    before = browser.script(TEXT_OF_EDITOR, PROGRAM)
+    browser.click("#from-rom")
+    browser.until("return document.getElementById('ask').open", True)
+    browser.click("#ask .bar button:first-child")
+    time.sleep(0.5)
+    browser.script(SET_CARET, PROGRAM, 0, 0)
+    browser.chord(CONTROL, "z")
+    comes(browser, "what was taken from ROM is undone by one step", TEXT_OF_EDITOR.replace("arguments[0]", f"'{PROGRAM}'"), before)
+    browser.chord(CONTROL, "z")
+    verdict("and there is no step before that", browser.script(TEXT_OF_EDITOR, PROGRAM), before)
+
+
+def check_running(browser):
+    """One button assembles and runs; the other one says what it leaves."""
+    choose_example(browser, "traffic light")
+    browser.until(STATUS, re.compile("^Time runs"))
+    put(browser, PROGRAM, "\tLDM 7\nstop:\tJUN stop\n")
+    browser.click("#assemble-only")
+    comes(browser, "assembling alone says what it leaves", TOLD.format(PROGRAM), re.compile(
+        r"^3 bytes assembled\. \d+ bytes of before stay in ROM, from 0x0..? on\. The counter stays at ..., nothing was reset\.$".replace(", n", "; n")))
+    browser.script(SET_CARET, PROGRAM, 0, 0)
+    browser.chord(CONTROL, ENTER)
+    comes(browser, "Control and Enter assemble and run", TOLD.format(PROGRAM), "3 bytes assembled, the rest of ROM is 0. It runs from 000 on.")
+    comes(browser, "time runs", STATUS, re.compile("^Time runs"))
+    browser.until("return document.querySelector('#registers').textContent", re.compile("^acc7"))
+    browser.click("#run")
+    browser.until(STATUS, re.compile("^Stopped"))
+    comes(browser, "the machine is at the program's end", "return document.querySelector('#registers').textContent", re.compile("^acc7.*pc00[12]"))
+    browser.script("document.getElementById('lines').value = 'list 3 40'")
+    browser.click("#send")
+    comes(browser, "ROM has nothing else", "return document.querySelector('#log').textContent.split('list 3 40').pop().replace(/... 00 +NOP/g, '')", "")
+    lines = browser.script("return document.querySelector('#log').textContent")
+    verdict("by one text and a reset", len(re.findall("reset", lines)), 1)
+
+
+def check_empty(browser):
+    """An empty bench offers a board; a program on a bench without its ROM is told at its line."""
+    choose_example(browser, "empty bench")
+    put(browser, PROGRAM, "; nothing yet\n\tLDM 1\n")
+    comes(browser, "a ROM that is lacking is told at its line", FAULTS.format(PROGRAM), re.compile(r"^line 2: the board has no ROM 0, .*wire a \[\[rom\]\]"))
+    show_text(browser, "board")
+    browser.click("#first-board")
+    comes(browser, "an empty bench gets a board", TOLD.format(BOARD), "The board is wired.")
+    verdict("with lamps", browser.script("return document.querySelectorAll('#lamps li').length"), 4)
+    verdict("and it is not offered again", browser.script("return document.getElementById('board-offer').hidden"), True)
+    show_text(browser, "program")
+    comes(browser, "then the program has no fault", FAULTS.format(PROGRAM), "")
+
+
+FAULTY_BOARD = """[[rom]]
+chip = 77       # für
+port = "0000"
+size = 3
+
+[[lamp]]
+lime = "rom0.0"
+"""
+WORDS_OF_BOARD = ("line 2: chip is 0 to 15|line 4: size is no key of rom, which has chip, port|line 6: this lamp lacks line"
+                  "|line 7: lime is no key of lamp; line?")
+
+
+def check_board(browser):
+    """All faults of a board while it is typed."""
+    show_text(browser, "board")
+    put(browser, BOARD, FAULTY_BOARD)
+    comes(browser, "all faults of a board, in words", FAULTS.format(BOARD), WORDS_OF_BOARD)
+    verdict("with what is at fault underlined", browser.script(UNDERLINED.format(BOARD)), "77 size [[lamp]] lime")
+    put(browser, BOARD, FAULTY_BOARD.replace("77", "7").replace("size = 3\n", "").replace("lime", "line"))
+    comes(browser, "a lamp at a ROM that the board lacks", FAULTS.format(BOARD), "line 6: rom0.0: the board has no ROM 0")
+    put(browser, BOARD, "[[rom]]\nchip = 0\nport = 0000\n")
+    comes(browser, "what is no TOML", FAULTS.format(BOARD), 'line 3: a number has no 0 before it; a text stands in quotes: "0000"')
+    show_text(browser, "program")
+
+
+def check_editor(browser, page, _folder, _mcs4):
+    browser.go("about:blank")
+    browser.go(page.as_uri())
+    comes(browser, "the page is ready", READY, True)
+    show_text(browser, "program")
+    check_faults(browser)
+    check_typing(browser)
+    check_limits(browser)
+    check_sessions(browser)
+    check_running(browser)
+    check_board(browser)
+    check_empty(browser)
+    verdict("no notice but what was done", browser.script(NOTICE), "The source was taken from ROM.")

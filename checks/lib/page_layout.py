@@ -1,0 +1,465 @@
+"""What checks/page looks at of the layout: where things stand at each size, the listing's scrolling, marks, cells, print, names."""
+
+import re
+import time
+
+from page_in_browser import ENTER, ESCAPE, READY, STATUS, choose_example, key, lines_answered, show_text
+from verdicts import comes, verdict
+from web_driver import Chromium
+
+PAGE_UP, PAGE_DOWN, END, HOME, UP, DOWN, RIGHT, LEFT = "\ue00e", "\ue00f", "\ue010", "\ue011", "\ue013", "\ue015", "\ue014", "\ue012"
+F2 = "\ue032"
+
+
+def check(browser, page, _folder, _mcs4):
+    browser.go("about:blank")
+    browser.go(page.as_uri())
+    browser.until(READY, True)
+    choose_example(browser, "calculator")
+    check_tabs(browser)
+    check_folds(browser)
+    check_listing(browser)
+    check_follow(browser)
+    check_marks(browser)
+    check_cells(browser)
+    check_refusals(browser)
+    check_names(browser)
+    check_swipe(browser)
+    check_letters(browser)
+    if isinstance(browser, Chromium):
+        check_sizes(browser)
+        check_phone(browser)
+        check_forced_colours(browser)
+        check_print(browser)
+
+
+# --- tabs and panels ---
+
+FRONT = "return document.querySelector('[role=tab][aria-selected=true]').id"
+SHOWN = "return [...document.querySelectorAll('[role=tabpanel]')].filter((each) => each.checkVisibility()).map((each) => each.id).join(' ')"
+
+
+def check_tabs(browser):
+    """Tabs by ARIA's pattern; nothing that is typed goes when another tab comes to the front."""
+    show_text(browser, "board")
+    verdict("a click shows the board's text", browser.script(SHOWN), "board-editor")
+    browser.script("document.getElementById('board-tab').focus()")
+    browser.keys([HOME])
+    verdict("Home goes to the first tab", browser.script(FRONT), "program-tab")
+    browser.keys([RIGHT])
+    verdict("an arrow shows the next one", (browser.script(FRONT), browser.script(SHOWN)), ("board-tab", "board-editor"))
+    verdict("one tab is a stop of the Tab key", browser.script("return document.querySelectorAll('[role=tab][tabindex=\"0\"]').length"), 1)
+    browser.keys([LEFT])
+    verdict("and back", browser.script(SHOWN), "program-editor")
+
+
+def check_folds(browser):
+    browser.click("#talk .fold")
+    folded = "return document.querySelector('#talk .fold').getAttribute('aria-expanded') + document.getElementById('log').checkVisibility()"
+    verdict("a panel folds", browser.script(folded), "falsefalse")
+    show_text(browser, "board")
+    browser.reload()
+    browser.until(READY, True)
+    verdict("and is folded after a reload", browser.script(folded), "falsefalse")
+    verdict("the tab is kept, too", browser.script(FRONT), "board-tab")
+    browser.click("#talk .fold")
+    verdict("it unfolds", browser.script(folded), "truetrue")
+    show_text(browser, "program")
+
+
+# --- the listing ---
+
+ROWS = "return [...document.querySelectorAll('#lines-of-program button')].filter((each) => !each.hidden).map((each) => each.textContent)"
+FOCUSED = "return document.activeElement.closest('#lines-of-program') ? document.activeElement.textContent.replace(/\\W/g, '').slice(0, 3) : ''"
+TOP = "return document.getElementById('lines-of-program').scrollTop"
+
+
+def addresses(browser):
+    return [re.sub(r"\W", "", line)[:3] for line in browser.script(ROWS)]
+
+
+def focus_row(browser, at):
+    browser.script("document.querySelectorAll('#lines-of-program button')[arguments[0]].focus()", at)
+
+
+def check_listing(browser):
+    """All 4,096 bytes can be gone through, by keys, wheel and scroll bar."""
+    browser.click("#run")
+    browser.until(STATUS, "Stopped.")
+    focus_row(browser, 3)
+    browser.keys([HOME])
+    comes(browser, "Home goes to 000", FOCUSED, "000")
+    verdict("follow is off then", browser.script("return document.getElementById('follow').checked"), False)
+    shown = addresses(browser)
+    browser.keys([DOWN])
+    comes(browser, "an arrow goes to the next line", FOCUSED, shown[1])
+    browser.keys([UP, UP])
+    comes(browser, "and stays at the first one", FOCUSED, "000")
+    seen = set(shown)
+    for _ in range(60):
+        before = addresses(browser)[-1]
+        browser.keys([PAGE_DOWN], 1, 1)
+        browser.until(FOCUSED, re.compile("."))
+        time.sleep(0.05)
+        rows = addresses(browser)
+        seen.update(rows)
+        if before > "2FF":
+            break
+    verdict("page by page each line of the program is shown", lines_of_program(browser) - seen, set())
+    focus_row(browser, 3)
+    browser.keys([END])
+    comes(browser, "End goes to FFF", FOCUSED, re.compile("FF[EF]"))
+    for _ in range(4):
+        browser.keys([PAGE_DOWN], 1, 1)
+    verdict("and PageDown stays there", browser.script(FOCUSED)[:2], "FF")
+    browser.keys([PAGE_UP, PAGE_UP])
+    comes(browser, "PageUp goes back", "return Number(document.activeElement.textContent.slice(0, 4) < '\u25cfFF') && 1", re.compile("[01]"))
+    check_scroll_bar(browser)
+
+
+def lines_of_program(browser):
+    """Where instructions begin, by a list that begins at 000, up to 2FF."""
+    told = lines_answered(browser, "list 0 256\nlist 0x100 256\nlist 0x200 256")
+    return {found for found in re.findall(r"(?<![0-9A-F])([0-2][0-9A-F]{2}) (?:[0-9A-F]{2} ){1,2}", told) if found <= "23F"} - {"list"}
+
+
+def check_scroll_bar(browser):
+    browser.script("document.getElementById('lines-of-program').scrollTop = arguments[0] * 20", 0x100)
+    comes(browser, "the scroll bar goes to 100", ROWS, re.compile(r"^\['\W*10[0-3]"))
+    browser.script("document.getElementById('lines-of-program').scrollTop = 1e9")
+    comes(browser, "and to the end", ROWS, re.compile(r"FF[EF][^,]*\]$"))
+    browser.type_into("#go-to", f"0x010{ENTER}")
+    comes(browser, "go to brings an address to the top", ROWS, re.compile(r"^\['\W*010"))
+    comes(browser, "and the box is scrolled there", TOP, 16 * 20)
+
+
+NEXT = "const next = document.querySelector('#lines-of-program .next'); return next ? next.textContent : ''"
+
+
+def check_follow(browser):
+    browser.click("#step")
+    before = addresses(browser)
+    browser.click("#step")
+    verdict("without follow the listing stays", addresses(browser), before)
+    browser.click("#follow")
+    comes(browser, "with follow it shows the counter", NEXT, re.compile("."))
+    for _ in range(5):
+        browser.click("#step")
+        comes(browser, "a line begins at the counter at each step", NEXT, re.compile(f"{text_of(browser, 'pc')}"))
+    browser.click("#run")
+    comes(browser, "while time runs it follows, too", NEXT, re.compile("."))
+    browser.click("#run")
+    browser.until(STATUS, "Stopped.")
+
+
+def text_of(browser, name):
+    return browser.script("return document.getElementById(arguments[0]).textContent", f"value-{name}")
+
+
+# --- marks and cells ---
+
+MARKED = "return [...document.querySelectorAll('#registers .changed')].map((each) => each.id.slice('value-'.length)).join(' ')"
+COUNT_MARKS = """
+window.marks = 0;
+new MutationObserver((all) => { window.marks += all.filter((each) => each.target.classList.contains("changed")).length; })
+  .observe(document.body, { subtree: true, attributes: true, attributeFilter: ["class"] })"""
+# It sets R5, and then waits for about two seconds.
+SLOW = "FIM P0, 0x00\\nLDM 7\\nXCH R5\\nwait: ISZ R0, wait\\nISZ R1, wait\\nISZ R2, wait\\nISZ R3, wait\\nend: IAC\\nJUN end\\n"
+
+
+def check_marks(browser):
+    """What is marked at a stop is what differs from the stop before, however long ago it changed."""
+    choose_example(browser, "three lamps")
+    browser.click("#run")
+    browser.until(STATUS, "Stopped.")
+    lines_answered(browser, f"asm\n{SLOW}.\nreset\nbreak 12".replace("\\n", "\n"))
+    comes(browser, "after a reset the status is true", STATUS, "The board was reset; it stands at 000.")
+    browser.script(COUNT_MARKS)
+    browser.click("#run")
+    comes(browser, "a long run ends at its breakpoint", STATUS, "Stopped at 00C, at a breakpoint.", 40)
+    verdict("while it ran nothing was marked but at the stop", browser.script("return window.marks") < 12, True)
+    verdict("what changed at its start is marked", "R5" in browser.script(MARKED).split(), True)
+    verdict("what came back to what it was is not", "R0" in browser.script(MARKED).split(), False)
+    browser.click("#step")
+    browser.until(STATUS, "One instruction was done.")
+    verdict("the next stop marks what it changed alone", "R5" in browser.script(MARKED).split(), False)
+    browser.click("#reset")
+    comes(browser, "Reset says where the board stands", STATUS, "The board was reset; it stands at 000.")
+
+
+EDITED = "return document.getElementById('cell-editor').hidden ? '' : document.querySelector('#cell-editor label').textContent"
+TOLD = "return document.getElementById('cell-told').textContent"
+
+
+def edit(browser, cell, opening, typed):
+    browser.script("document.querySelector(arguments[0]).focus()", cell)
+    browser.keys([opening])
+    browser.until(EDITED, re.compile("."))
+    browser.keys([*typed])
+
+
+def double_click(browser, selector):
+    browser.show(selector)
+    browser.script("const cell = document.querySelector(arguments[0]); for (const [kind, detail] of [['click', 1], ['click', 2], "
+                   "['dblclick', 2]]) cell.dispatchEvent(new MouseEvent(kind, { bubbles: true, detail }))", selector)
+
+
+def check_cells(browser):
+    """Registers and RAM are edited in place; a refusal stands at the cell; what cannot be poked says so."""
+    edit(browser, "#value-R5", F2, ["b", ENTER])
+    comes(browser, "F2 and a digit poke a register", "return document.getElementById('value-R5').textContent", "B")
+    verdict("the focus is back at the cell", browser.script("return document.activeElement.id"), "value-R5")
+    edit(browser, "#value-pc", ENTER, ["0", "1", "0", ENTER])
+    comes(browser, "the counter is written as it is shown", "return document.getElementById('value-pc').textContent", "010")
+    edit(browser, "#value-cy", ENTER, ["2", ENTER])
+    comes(browser, "a value out of range is refused at the cell", TOLD, re.compile("."))
+    verdict("in words of the bench", browser.script(TOLD), re.compile("value|range|number", re.I))
+    browser.keys([ESCAPE])
+    comes(browser, "Escape leaves", EDITED, "")
+    verdict("and the value is as it was", text_of(browser, "cy"), "0")
+    edit(browser, "#value-acc", ENTER, ["x", ENTER])
+    comes(browser, "what is no digit is refused", TOLD, re.compile("hexadecimal"))
+    browser.keys([ESCAPE])
+    character = ".ram button:nth-child(3)"
+    double_click(browser, character)
+    comes(browser, "a double click opens a character of RAM", EDITED, re.compile(r"bank 0, chip 0, register 0, character 2: SRC byte 02"))
+    browser.keys(["9", ENTER])
+    comes(browser, "and Enter pokes it", f"return document.querySelector('{character}').textContent", "9")
+    verdict("it is not watched", browser.script(f"return document.querySelector('{character}').getAttribute('aria-pressed')"), "false")
+    verdict("the log has its line", "poke ram.0.0x02 0x9" in browser.text("#log"), True)
+    edit(browser, ".ram button.status", F2, ["4", ENTER])
+    comes(browser, "a status character, too", "return document.querySelector('.ram button.status').textContent", "4")
+    double_click(browser, ".ram .port span")
+    comes(browser, "a port says why it cannot be poked", AT, re.compile("WMP"))
+
+
+AT = "const told = document.querySelector('.told-at'); return told.hidden ? '' : told.textContent"
+
+
+def check_refusals(browser):
+    """The ninth watch and the thirty-third breakpoint are refused where the click was."""
+    lines_answered(browser, "\n".join(f"watch 7 {at}" for at in range(8)))
+    browser.click(".ram button:nth-child(5)")
+    comes(browser, "a watch too many is refused at its cell", AT, re.compile("8 characters"))
+    near = "const [a, b] = [arguments[0], '.told-at'].map((each) => document.querySelector(each).getBoundingClientRect()); " \
+        "return Math.abs(a.left - b.left) + Math.abs(a.bottom - b.top) < 260"
+    verdict("near it", browser.script(near, ".ram button:nth-child(5)"), True)
+    lines_answered(browser, "\n".join([*(f"unwatch 7 {at}" for at in range(8)), *(f"break {0x300 + at}" for at in range(32))]))
+    browser.click("#lines-of-program button:nth-child(2)")
+    comes(browser, "a breakpoint too many is refused at its line", AT, re.compile("32 breakpoints"))
+    lines_answered(browser, "\n".join(f"unbreak {0x300 + at}" for at in range(32)))
+
+
+# --- for everyone ---
+
+NAMED = """
+return [...document.querySelectorAll(".ram button")].filter((each) => !/^[0-9A-F]$/.test(each.textContent) || each.ariaLabel
+  || !/bank \\d, chip \\d, register \\d, (character \\d+: SRC byte [0-9A-F]{2}|status character \\d)/.test(each.title)).length"""
+# What is said of itself while time runs: changes in places that are announced, in so many seconds.
+SAID = """
+window.said = 0;
+const places = [...document.querySelectorAll("output, [aria-live], [role=status], [role=alert], [role=log]")];
+const observer = new MutationObserver((all) => { window.said += all.length; });
+for (const each of places) {
+  if (each.getAttribute("aria-live") !== "off") observer.observe(each, { childList: true, characterData: true, subtree: true });
+}"""
+
+
+def check_names(browser):
+    verdict("each RAM character has its value as its name, and its address beside it", browser.script(NAMED), 0)
+    verdict("the tab has the session's name", browser.script("return document.title"), re.compile("^three lamps"))
+    choose_example(browser, "stopwatch")
+    time.sleep(1)
+    browser.script(SAID)
+    time.sleep(3)
+    verdict("three seconds of running time are announced in a few words", browser.script("return window.said") <= 6, True)
+
+
+SWIPE = """
+const key = document.querySelector(arguments[0]);
+const fire = (kind) => key.dispatchEvent(new PointerEvent(kind, { bubbles: true, cancelable: true, pointerId: 77, pointerType: "touch",
+  isPrimary: true, button: kind === "pointerdown" ? 0 : -1 }));
+key.setPointerCapture = () => {};
+fire("pointerdown");
+setTimeout(() => fire("pointercancel"), arguments[1])"""
+DOWN_KEYS = "return document.querySelectorAll(\"#keys [aria-pressed='true']\").length"
+
+
+def check_swipe(browser):
+    """A swipe that begins on a key leaves no key down, quick or slow, while time runs and while it stands still."""
+    choose_example(browser, "calculator")
+    browser.until(STATUS, re.compile("runs"))
+    before = lines_answered(browser, "seq")
+    verdict("keys let a finger scroll", browser.script("return getComputedStyle(document.querySelector('.key')).touchAction"), "pan-y")
+    for what, wait in (("quick", 20), ("slow", 200)):
+        browser.script(SWIPE, key("7"), wait)
+        time.sleep(0.5)
+        verdict(f"after a {what} swipe no key is down", browser.script(DOWN_KEYS), 0)
+    browser.click("#run")
+    browser.until(STATUS, "Stopped.")
+    for what, wait in (("quick", 20), ("slow", 200)):
+        browser.script(SWIPE, key("7"), wait)
+        time.sleep(0.5)
+        verdict(f"after a {what} swipe while time stands still no key is down", browser.script(DOWN_KEYS), 0)
+    verdict("the bench has served lines meanwhile", lines_answered(browser, "seq") != before, True)
+
+
+SMALL = """
+const small = new Map();
+const walker = document.createTreeWalker(document.body, NodeFilter.SHOW_TEXT);
+for (let node = walker.nextNode(); node; node = walker.nextNode()) {
+  const parent = node.parentElement;
+  if (!node.textContent.trim() || !parent.checkVisibility() || parent.closest("script, style, noscript")) continue;
+  const size = parseFloat(getComputedStyle(parent).fontSize);
+  if (size < 11) small.set(`${parent.localName}.${parent.className} in ${parent.parentElement.id || parent.parentElement.className}`, size);
+}
+return [...small].join("; ")"""
+
+
+def check_letters(browser):
+    verdict("no letters below 11 pixels", browser.script(SMALL), "")
+    show_text(browser, "board")
+    verdict("nor with the board's text", browser.script(SMALL), "")
+    show_text(browser, "program")
+
+
+# --- sizes, print and colours, by Chromium's driver ---
+
+def at_size(browser, width, height, mobile=False):
+    browser.command("Emulation.setDeviceMetricsOverride", width=width, height=height, deviceScaleFactor=1, mobile=mobile)
+    time.sleep(0.3)
+    browser.script("scrollTo(0, 0)")
+
+
+BOXES = """
+return Object.fromEntries(["clock", "front", "groups", "keys", "texts", "program-editor", "listing", "memory", "scope"].map((id) => {
+  const box = document.getElementById(id).getBoundingClientRect();
+  return [id, { left: box.left, right: box.right, top: box.top, bottom: box.bottom }];
+}))"""
+SIDEWAYS = "return document.documentElement.scrollWidth - document.documentElement.clientWidth"
+
+
+def check_sizes(browser):
+    """From 1,280 pixels on source and lamps are side by side above the fold, and the width is used."""
+    choose_example(browser, "traffic light")
+    for width, height in ((1280, 800), (1366, 768), (1440, 900), (1920, 1080)):
+        at_size(browser, width, height)
+        told = browser.script(BOXES)
+        beside = told["front"]["right"] <= told["texts"]["left"] and abs(told["front"]["top"] - told["texts"]["top"]) < 3
+        verdict(f"lamps and source are side by side at {width}", beside, True)
+        verdict(f"the bars above take little room at {width}", told["front"]["top"] < 150, True)
+        verdict(f"lamps are above the fold at {width}", told["groups"]["bottom"] < height, True)
+        verdict(f"so are the keys at {width}", told["keys"]["bottom"] < height, True)
+        source = told["program-editor"]
+        verdict(f"the source is above the fold at {width}", min(source["bottom"], height) - source["top"] > 0.6 * height, True)
+        verdict(f"so is the listing at {width}", told["listing"]["top"] < 0.65 * height, True)
+        right = max(each["right"] for each in told.values())
+        verdict(f"the width is used at {width}", right > width - 40 and told["front"]["left"] < 40, True)
+        verdict(f"nothing scrolls sideways at {width}", browser.script(SIDEWAYS), 0)
+    for width in (1000, 768, 700, 699, 320):
+        at_size(browser, width, 800)
+        verdict(f"nothing scrolls sideways at {width}", browser.script(SIDEWAYS), 0)
+    browser.command("Emulation.clearDeviceMetricsOverride")
+
+
+SEEN = """
+const box = document.querySelector(arguments[0]).getBoundingClientRect();
+return box.top >= -1 && box.bottom <= innerHeight + 1 && box.height > 0"""
+
+
+def swipe_up(browser, x, y):
+    """A finger goes up by 180 pixels, as the browser's own scrolling takes it."""
+    moves = [{"type": "pointerMove", "duration": 16, "x": int(x), "y": int(y) - 18 * step} for step in range(11)]
+    browser.actions({"type": "pointer", "id": "swipe", "parameters": {"pointerType": "touch"},
+                     "actions": [moves[0], {"type": "pointerDown", "button": 0}, *moves[1:], {"type": "pointerUp", "button": 0}]})
+
+
+MENU = """
+const [word, item] = ["menu-button", "save-session-button"].map((id) => document.getElementById(id));
+return `${word.getAttribute("aria-expanded")} ${item.checkVisibility()}`"""
+
+
+def check_menu(browser):
+    """On a phone the session's buttons are in a menu, which a choice or Escape shuts."""
+    verdict("the menu is shut", browser.script(MENU), "false false")
+    browser.click("#menu-button")
+    verdict("it opens", browser.script(MENU), "true true")
+    browser.keys([ESCAPE])
+    verdict("Escape shuts it", browser.script(MENU), "false false")
+    browser.click("#menu-button")
+    browser.click("#help-button")
+    verdict("what is chosen is done", browser.script("return document.getElementById('help').checkVisibility()"), True)
+    verdict("and the menu is shut", browser.script(MENU), "false false")
+    browser.click("#help-close")
+
+
+def check_phone(browser):
+    """On a phone lamps and keys stay in view, and a swipe that begins on a key scrolls."""
+    at_size(browser, 375, 667, True)
+    browser.command("Emulation.setTouchEmulationEnabled", enabled=True)
+    browser.reload()
+    browser.until(READY, True)
+    check_menu(browser)
+    for width, height in ((390, 844), (360, 640), (375, 667)):
+        at_size(browser, width, height, True)
+        told = browser.script(BOXES)
+        verdict(f"at {width} a phone does not scroll sideways", browser.script(SIDEWAYS), 0)
+        verdict(f"lamps and keys are above the bar of time at {width}", told["keys"]["bottom"] < told["clock"]["top"], True)
+        verdict(f"which is small at {width}", told["clock"]["bottom"] - told["clock"]["top"] < 116, True)
+    browser.script("document.getElementById('program-editor').scrollIntoView({ block: 'end' })")
+    for what in (".bulb", ".key", "#run"):
+        verdict(f"{what} is in view beside the text on a phone", browser.script(SEEN, what), True)
+    browser.script("scrollTo(0, 0)")
+    browser.click("#run")
+    browser.until(STATUS, "Stopped.")
+    browser.script("scrollTo(0, 0)")
+    box = browser.script("const box = document.querySelector('.key').getBoundingClientRect(); return [box.x + 20, box.y + 15]")
+    swipe_up(browser, *box)
+    comes(browser, "a swipe that begins on a key scrolls the page", "return scrollY > 100", True)
+    comes(browser, "and presses nothing that stays down", DOWN_KEYS, 0)
+    browser.command("Emulation.setTouchEmulationEnabled", enabled=False)
+    browser.command("Emulation.clearDeviceMetricsOverride")
+
+
+def emulate(browser, media="", **features):
+    named = [{"name": name.replace("_", "-"), "value": value} for name, value in features.items()]
+    browser.command("Emulation.setEmulatedMedia", media=media, features=named)
+    time.sleep(0.2)
+
+
+LAMP_LOOKS = """
+const look = (each) => { const style = getComputedStyle(each); return `${style.backgroundColor} ${style.borderTopColor}`; };
+const [lit, dark] = [".bulb.lit", ".bulb:not(.lit)"].map((each) => look(document.querySelector(each)));
+return lit !== dark && !lit.startsWith("rgba(0, 0, 0, 0)")"""
+
+
+def check_forced_colours(browser):
+    choose_example(browser, "traffic light")
+    comes(browser, "a lamp is lit", "return document.querySelectorAll('.bulb.lit').length > 0", True)
+    browser.click("#run")
+    browser.until(STATUS, "Stopped.")
+    browser.click("#step")
+    comes(browser, "a step leaves marks", "return document.querySelectorAll('.changed').length > 0", True)
+    emulate(browser, forced_colors="active")
+    verdict("where the system forces colours a lit lamp is full", browser.script(LAMP_LOOKS), True)
+    outlined = "return getComputedStyle(document.querySelector('.changed')).outlineStyle"
+    verdict("and marks have a line", browser.script(outlined), "solid")
+    emulate(browser)
+
+
+PRINTED = """
+return [...document.querySelectorAll("#bench *")].filter((each) => each.checkVisibility() && each.matches("button:not(.fold), select, #log, "
+  + "textarea, .CodeMirror")).length"""
+
+
+def check_print(browser):
+    board = browser.script("return document.querySelector('#board-title') !== null")
+    emulate(browser, media="print")
+    comes(browser, "print has the texts", "return document.querySelectorAll('#print h2').length", 2)
+    told = browser.text("#print")
+    verdict("the source whole", "JMS" in told or "JUN" in told, True)
+    verdict("and the board", board and "lamp = [" in told and "[[rom]]" in told, True)
+    verdict("lamps are printed", browser.script("return document.querySelector('.bulb').checkVisibility()"), True)
+    verdict("and no buttons, fields or editors", browser.script(PRINTED), 0)
+    emulate(browser)
+    verdict("the page is as before", browser.script("return document.getElementById('texts').checkVisibility()"), True)

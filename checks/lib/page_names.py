@@ -1,0 +1,194 @@
+"""What checks/page looks at where the source and the machine meet: lines, names and addresses, beside what tools/listing prints."""
+
+import os
+import pathlib
+import re
+import subprocess
+
+from page_in_browser import ENTER, NOTICE, PUT_INTO_EDITOR, READY, STATUS, choose_example, lines_answered, show_text
+from verdicts import comes, verdict
+
+TOP = pathlib.Path(__file__).resolve().parent.parent.parent
+PROGRAM = TOP / "examples/calculator/calculator.asm"
+STEPS = 60
+STEPS_AT_ONCE = 6
+SOURCE_TOLD = "return document.getElementById('source-told').textContent"
+TOLD_AT = "const told = document.querySelector('.told-at'); return told.hidden ? '' : told.textContent"
+GO_TO_TOLD = "return document.getElementById('go-to-told').textContent"
+CHOSEN = "return document.getElementById('follow').checked"
+STACK = "return [...document.querySelectorAll('.stack button')].map((row) => [...row.children].map((part) => part.textContent).join(' '))"
+# The addresses of the listing's lines, and the lines whose margin shows a breakpoint.
+ADDRESSES = "return [...document.querySelectorAll('#lines-of-program button:not([hidden])')].map((row) => row.textContent.match(/[0-9A-F]{3}/)[0])"
+LABELS = "return [...document.querySelectorAll('#lines-of-program .labels')].map((label) => label.textContent).join('')"
+MARGIN = """
+const lines = [];
+document.querySelector("#program-editor .CodeMirror").CodeMirror.eachLine((line) => {
+  if (line.gutterMarkers && line.gutterMarkers.breakpoints) lines.push(line.lineNo() + 1);
+});
+return lines.join(" ")"""
+
+# Steps so many times; after each step the counter, and the source line that is marked and seen, with its number in the margin.
+STEP_THROUGH = """
+const shown = () => document.querySelector("#log").textContent;
+const marked = () => [...document.querySelectorAll("#program-editor .CodeMirror-code .next")].map((line) => {
+  const seen = line.getBoundingClientRect();
+  const box = document.querySelector("#program-editor .CodeMirror-scroll").getBoundingClientRect();
+  const isSeen = seen.top >= box.top - 1 && seen.bottom <= box.bottom + 1;
+  const number = line.querySelector(".CodeMirror-linenumber").textContent;
+  return isSeen ? `${number} ${line.querySelector(".CodeMirror-line").textContent}` : "not seen";
+});
+const frame = () => new Promise((done) => setTimeout(done, 5));
+return (async () => {
+  const told = [];
+  for (let step = 0; step < arguments[0]; step++) {
+    const before = shown();
+    document.getElementById("step").click();
+    while (shown() === before) await frame();
+    await frame();
+    await frame();
+    told.push([document.querySelector(".stack .value").textContent, marked().join(" and ")]);
+  }
+  return told;
+})();"""
+
+# A click on the number of a line, as by the pointer.
+CLICK_MARGIN = """
+const editor = document.querySelector("#program-editor .CodeMirror").CodeMirror;
+editor.scrollIntoView({ line: arguments[0] - 1, ch: 0 }, 60);
+const numbers = [...document.querySelectorAll("#program-editor .CodeMirror-linenumber")];
+const node = numbers.find((each) => each.textContent === String(arguments[0]));
+node.scrollIntoView({ block: "center" });
+const { left, top, width, height } = node.getBoundingClientRect();
+const at = { clientX: left + width / 2, clientY: top + height / 2, button: 0, buttons: 1, bubbles: true, cancelable: true, detail: 1 };
+for (const kind of ["mousedown", "mouseup", "click"]) node.dispatchEvent(new MouseEvent(kind, at));"""
+
+
+def listing_of(mcs4, *words):
+    told = dict(os.environ, MCS4=str(mcs4))
+    return subprocess.run([TOP / "tools/listing", *words, PROGRAM], stdout=subprocess.PIPE, text=True, check=True, env=told).stdout
+
+
+def listed(mcs4):
+    """What tools/listing prints: by the addresses that they begin at, the numbers and texts of the source lines; and the names' values."""
+    told = listing_of(mcs4).splitlines()
+    # Further rows of a line have no text.
+    rows = [row for row in told if row[17:] or not re.match("[0-9A-F]{3} ", row)]
+    lines = {row[:3]: (number, row[17:]) for number, row in enumerate(rows, 1) if re.match("[0-9A-F]{3} [0-9A-F]{2}", row)}
+    return lines, dict(line.split() for line in listing_of(mcs4, "--names").splitlines())
+
+
+def words_of(text):
+    return " ".join(text.split())
+
+
+def go_to(browser, text):
+    browser.script("document.getElementById('go-to').value = ''")
+    browser.type_into("#go-to", text + ENTER)
+
+
+def check_steps(browser, source):
+    browser.click("#run")
+    browser.until(STATUS, "Stopped.")
+    lines_answered(browser, "reset")
+    told = []
+    for chunk in range(STEPS // STEPS_AT_ONCE):
+        told += browser.script(STEP_THROUGH, STEPS_AT_ONCE)
+        # Another routine each time.
+        lines_answered(browser, f"run {20 + 61 * chunk}")
+    wanted = [[counter, words_of("{} {}".format(*source[counter]))] for counter, _ in told]
+    verdict(f"the source line at each of {STEPS} steps", [[counter, words_of(line)] for counter, line in told], wanted)
+    verdict("they go through several routines", len({counter for counter, _ in told}) > STEPS // 3, True)
+
+
+def check_breakpoint_at_name(browser, source, values, lines):
+    go_to(browser, "scan")
+    comes(browser, "go to a name", f"{ADDRESSES}.includes('{values['scan']}')", True)
+    verdict("and the listing follows no more", browser.script(CHOSEN), False)
+    browser.click("#break-there")
+    line = source[values["scan"]][0]
+    comes(browser, "a breakpoint at a name stands in the source's margin", MARGIN, str(line))
+    browser.click("#run")
+    comes(browser, "a run stops there", STATUS, f"Stopped at {values['scan']}, at a breakpoint.")
+    call = next(number for number, text in enumerate(lines, 1) if "JMS scan" in text.expandtabs(1))
+    comes(browser, "the counter and the return addresses by name", STACK, re.compile(
+        rf"^\['pc {values['scan']} scan, line {line}', 'ret 1 {int(values['await'], 16) + 2:03X} await \+ 2, call in line {call}', "
+        r"'ret 2 ... left over', 'ret 3 ... left over'\]$"))
+    browser.click("#break-there")
+    comes(browser, "the same button clears it", MARGIN, "")
+
+
+def check_margin(browser, source, values):
+    show = source[values["show"]][0]
+    browser.script(CLICK_MARGIN, show)
+    comes(browser, "a breakpoint by a click in the margin", MARGIN, str(show))
+    browser.click("#reset")
+    browser.click("#run")
+    comes(browser, "a run stops at that line", STATUS, f"Stopped at {values['show']}, at a breakpoint.")
+    browser.script(CLICK_MARGIN, show)
+    comes(browser, "another click clears it", MARGIN, "")
+    browser.script(CLICK_MARGIN, 1)
+    comes(browser, "a line without bytes takes none, in words", TOLD_AT, re.compile("^Line 1 puts no bytes into ROM"))
+
+
+def check_go_to(browser):
+    for text, address in (("01E", "01E"), ("0x11E", "11E"), ("30", "01E"), ("100", "100")):
+        go_to(browser, text)
+        comes(browser, f"go to {text}", f"{ADDRESSES}.includes('{address}')", True)
+    for text, words in (("nosuch", "^nosuch is neither a name of the program nor an address"), ("4096", "^4096 is no address")):
+        go_to(browser, text)
+        comes(browser, f"{text} is no address, in words", GO_TO_TOLD, re.compile(words))
+        verdict("and the field is marked", browser.script("return document.getElementById('go-to').getAttribute('aria-invalid')"), "true")
+    go_to(browser, "scan")
+    comes(browser, "an address takes the words away", GO_TO_TOLD, "")
+
+
+def check_names_in_lines(browser, values):
+    verdict("a name in a line", lines_answered(browser, "list @scan 1"), re.compile(rf"^list 0x{values['scan']} 1{values['scan']} "))
+    browser.type_into("#lines", "break @nosuch" + ENTER)
+    comes(browser, "one that the program lacks, in words", NOTICE, "@nosuch: the program has no such name.")
+    verdict("and the line can be mended", browser.script("return document.getElementById('lines').value"), "break @nosuch")
+    browser.script("document.getElementById('lines').value = ''")
+    browser.click("#notice button")
+
+
+def put(browser, text):
+    show_text(browser, "program")
+    browser.script(PUT_INTO_EDITOR, "#program-editor", text)
+
+
+def check_difference(browser, source, lines):
+    line = source["106"][0]
+    changed = [*lines[:line - 1], "\tLDM 3", *lines[line:]]
+    put(browser, "\n".join(["; one line more", *changed]) + "\n")
+    differs = f"The source differs from ROM at 0x106, line {line + 1}: assemble it."
+    comes(browser, "a text that is not in ROM says where it differs", SOURCE_TOLD, differs)
+    comes(browser, "and names nothing", LABELS, "")
+    browser.script(CLICK_MARGIN, line)
+    comes(browser, "nor takes it a breakpoint", TOLD_AT, differs)
+    put(browser, "\n".join(["; one line more", *lines]) + "\n")
+    comes(browser, "another comment alone makes no difference", SOURCE_TOLD, "")
+    comes(browser, "and names are there", LABELS, re.compile("scan:"))
+    lines_answered(browser, "poke rom.0x106 0xD3")
+    comes(browser, "nor is it in ROM where a byte was poked", SOURCE_TOLD, differs)
+    lines_answered(browser, "poke rom.0x106 0xD2")
+    comes(browser, "as long as it is there", SOURCE_TOLD, "")
+    put(browser, "\tLDM 3\n\tJUN nowhere\n")
+    comes(browser, "a text with a fault says so", SOURCE_TOLD, re.compile("^The source has a fault in line 2: no 32"))
+    put(browser, "\tORG 0xF00\n\tNOP\n")
+    comes(browser, "and one that has no ROM", SOURCE_TOLD, "The board has no ROM at 0xF00, where line 2 of the source stands.")
+
+
+def check(browser, page, _folder, mcs4):
+    source, values = listed(mcs4)
+    lines = PROGRAM.read_text().splitlines()
+    browser.go(page.as_uri())
+    browser.until(READY, True)
+    choose_example(browser, "calculator")
+    show_text(browser, "program")
+    check_steps(browser, source)
+    check_breakpoint_at_name(browser, source, values, lines)
+    check_margin(browser, source, values)
+    check_go_to(browser)
+    check_names_in_lines(browser, values)
+    check_difference(browser, source, lines)
+    choose_example(browser, "calculator")

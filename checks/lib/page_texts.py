@@ -1,0 +1,260 @@
+"""What checks/page looks at of texts, projects and links: nothing that a user has made is lost."""
+
+import pathlib
+import re
+import subprocess
+import time
+
+from page_in_browser import NOTICE, READY, STATUS, choose_example, lines_answered, show_text, told_of
+from verdicts import comes, verdict
+
+TOP = pathlib.Path(__file__).resolve().parent.parent.parent
+NAME = "return document.getElementById('name').value"
+TEXTS = "return ['board', 'program'].map((name) => document.querySelector(`#${name}-editor .CodeMirror`).CodeMirror.getValue())"
+PROGRAM_TEXT = "return document.querySelector('#program-editor .CodeMirror').CodeMirror.getValue()"
+LINES = "return document.getElementById('lines').value"
+ASKED = "return document.getElementById('ask').open ? document.getElementById('ask-title').textContent : ''"
+KEPT = "return document.querySelectorAll('#kept li').length"
+UNDO = "#notice button:not(.dismiss)"
+
+# A board and a program with comments, names and letters beyond ASCII that only a text keeps.
+BOARD = (TOP / "examples/three_lamps/board.toml").read_text() + "# row 0: WALK\n"
+PROGRAM = "; my own light\nstart:\tFIM P0, 0x00\t; f\u00fcr the first lamp\n\tJUN start"
+
+
+def kept_download(folder, name):
+    """A file that the page saves, once it is there whole."""
+    saved = folder / "downloads" / name
+    end = time.monotonic() + 20
+    # Some browsers make an empty file first.
+    while not (saved.exists() and saved.stat().st_size > 0) and time.monotonic() < end:
+        time.sleep(0.05)
+    time.sleep(0.1)
+    return saved
+
+
+def rename(browser, name):
+    browser.script("const field = document.getElementById('name'); field.value = arguments[0]; field.dispatchEvent(new Event('change'))", name)
+
+
+def check_project(browser, folder):
+    """A project is saved and opened again, to the byte."""
+    told_of(browser, "#board-editor", BOARD)
+    told_of(browser, "#program-editor", PROGRAM)
+    rename(browser, "my light")
+    browser.click("#save-button")
+    saved = kept_download(folder, "my light.mcsp")
+    before = saved.read_bytes()
+    verdict("a project is a text with both texts in it", BOARD in before.decode() and PROGRAM in before.decode(), True)
+    saved.unlink()
+    project = folder / "project.mcsp"
+    project.write_bytes(before)
+    rename(browser, "another one")
+    told_of(browser, "#program-editor", "\tNOP\n")
+    browser.type_into("#file", str(project))
+    comes(browser, "a project is opened", NAME, "my light")
+    verdict("with its texts", browser.script(TEXTS), [BOARD, PROGRAM])
+    browser.click("#save-button")
+    verdict("and saved again it is the same, to the byte", kept_download(folder, "my light.mcsp").read_bytes() == before, True)
+    return project
+
+
+def check_damaged(browser, folder, whole):
+    """Files that are cut, damaged or foreign are refused in words; what was there stays."""
+    shown = browser.script(TEXTS)
+    cut = folder / "cut.mcsp"
+    cut.write_bytes(whole[:-700])
+    changed = folder / "changed.mcsp"
+    changed.write_bytes(whole.replace(b"my own", b"my 0wn"))
+    newer = folder / "newer.mcsp"
+    newer.write_bytes(whole.replace(b"project 1", b"project 2"))
+    foreign = folder / "foreign.png"
+    foreign.write_bytes(b"\x89PNG\r\n\x1a\n" + bytes(100))
+    for path, words in ((cut, "cut off: its last line"), (changed, "damaged, or was changed by hand"), (newer, "of version 2"),
+                        (foreign, "no 50: not a session file")):
+        browser.type_into("#file", str(path))
+        comes(browser, f"{path.name} is refused in words", NOTICE,
+              re.compile(f"{path.name} was not opened: .*{words}.*The session that is shown is as it was"))
+    verdict("and the texts are as they were", browser.script(TEXTS), shown)
+
+
+def check_undo(browser):
+    """What is replaced is asked for before, and can be brought back."""
+    mine, of_rom = "; mine\n\tLDM 5\n\tJUN 0\n", "\tLDM 5\n\tJUN 0x000\n"
+    told_of(browser, "#program-editor", mine)
+    taken = browser.script(TEXTS)
+    show_text(browser, "program")
+    browser.click("#from-rom")
+    comes(browser, "to replace a source is asked for", ASKED, "Replace the source?")
+    browser.click("#ask .bar button:last-child")
+    verdict("what is refused is not done", browser.script(TEXTS), taken)
+    browser.click("#from-rom")
+    browser.until(ASKED, re.compile("."))
+    browser.click("#ask .bar button:first-child")
+    comes(browser, "the source is that of the ROM", PROGRAM_TEXT, of_rom)
+    browser.click(UNDO)
+    comes(browser, "and is brought back", PROGRAM_TEXT, mine)
+    browser.click(UNDO)
+    comes(browser, "the undoing can be undone, too", PROGRAM_TEXT, of_rom)
+    browser.click(UNDO)
+    browser.until(PROGRAM_TEXT, mine)
+    browser.click("#notice .dismiss")
+    time.sleep(1)
+    browser.reload()
+    browser.until(READY, True)
+    verdict("the texts are kept", browser.script(PROGRAM_TEXT), mine)
+
+
+def count_kept(browser):
+    """How many sessions the dialog lists; it is open then."""
+    browser.click("#sessions-button")
+    browser.until("return document.getElementById('sessions').open", True)
+    return browser.script(KEPT)
+
+
+def check_examples(browser):
+    """An example is no session before something is done in it."""
+    before = count_kept(browser)
+    browser.click("#close-sessions")
+    choose_example(browser, "die")
+    comes(browser, "an example has its own address", "return location.hash", "#example=die")
+    comes(browser, "the tab names the session", "return document.title", "die - Fethsaim")
+    verdict("it is not kept yet", count_kept(browser), before)
+    browser.click("#close-sessions")
+    browser.click("#step")
+    comes(browser, "once something is done it is", "return location.hash", re.compile("^#session="))
+    verdict("and is listed", count_kept(browser), before + 1)
+    browser.click("#close-sessions")
+    rename(browser, "my die")
+    verdict("its name stands in the tab", browser.script("return document.title"), "my die - Fethsaim")
+    choose_example(browser, "lamps")
+    verdict("an example's lines wait to be sent", browser.script(LINES) != "", True)
+    choose_example(browser, "die")
+    verdict("and go with it", browser.script(LINES), "")
+    browser.script("document.getElementById('lines').value = 'poke r5 9'")
+    choose_example(browser, "traffic light")
+    verdict("but not what was typed", browser.script(LINES), "poke r5 9")
+    browser.script("document.getElementById('lines').value = ''")
+    return before + 1
+
+
+def check_deleting(browser, kept):
+    """Sessions are deleted several at once, and brought back."""
+    verdict("examples alone have made no session", count_kept(browser), kept)
+    browser.click("#choose-all")
+    browser.click("#delete-chosen")
+    comes(browser, "all are deleted at once", KEPT, 0)
+    verdict("the keyboard goes on in the dialog", browser.script("return document.activeElement.closest('#sessions') !== null"), True)
+    browser.click(UNDO)
+    comes(browser, "and brought back", KEPT, kept)
+    browser.click("#kept li button[aria-label^='delete']")
+    comes(browser, "one is deleted", KEPT, kept - 1)
+    browser.click("#notice .dismiss")
+    browser.click("#deleted button")
+    comes(browser, "what was deleted is listed, too", KEPT, kept)
+    browser.click("#close-sessions")
+
+
+def check_notices(browser, folder):
+    """Each kind of notice stays by itself; the status is true after a reset."""
+    choose_example(browser, "calculator")
+    browser.click("#run")
+    browser.until(STATUS, "Stopped.")
+    browser.type_into("#file", str(folder / "cut.mcsp"))
+    browser.until(NOTICE, re.compile("cut off"))
+    told_of(browser, "#program-editor", "\tNOP\n")
+    browser.click("#from-rom")
+    browser.until(ASKED, re.compile("."))
+    browser.click("#ask .bar button:first-child")
+    comes(browser, "a notice of another kind stands beside it", NOTICE, re.compile("taken from ROM.*cut off"))
+    browser.type_into("#file", str(folder / "changed.mcsp"))
+    comes(browser, "one of the same kind takes its place", NOTICE, re.compile("^changed.mcsp was not opened.*taken from ROM[^f]*$"))
+    browser.click("#notice .dismiss")
+    browser.click("#notice .dismiss")
+    comes(browser, "each can be dismissed", NOTICE, "")
+    lines_answered(browser, "reset\nbreak 0x024")
+    browser.click("#run")
+    browser.until(STATUS, re.compile("at a breakpoint"))
+    browser.click("#reset")
+    comes(browser, "the status after a reset", STATUS, "The board was reset; it stands at 000.")
+
+
+def open_link(browser, page, link):
+    """The page, opened by an address with a link in it."""
+    browser.go("about:blank")
+    browser.go(f"{page.as_uri()}#{link}")
+    browser.until(READY, True)
+
+
+def check_link(browser, page):
+    """A link holds name and texts; what it is is shown before it is opened; a cut one is refused in words."""
+    told_of(browser, "#board-editor", BOARD)
+    told_of(browser, "#program-editor", PROGRAM)
+    rename(browser, "my light")
+    browser.script("navigator.clipboard.writeText = async (text) => { window.copied = text; }")
+    browser.click("#share-button")
+    comes(browser, "a link is copied", NOTICE, re.compile("A link of [0-9,]+ characters was copied"))
+    link = browser.script("return window.copied").split("#")[1]
+    verdict("it is compressed, for the address", link, re.compile(r"^link=1\.[\w-]+$"))
+    browser.click("#notice .dismiss")
+    browser.script("navigator.clipboard.writeText = async () => { throw new DOMException('', 'NotAllowedError'); }")
+    browser.click("#share-button")
+    comes(browser, "where nothing may be copied it is shown, selected", "return document.getElementById('link')"
+          " ? document.getElementById('link').value.slice(document.getElementById('link').selectionStart).split('#')[1] : ''", link)
+    browser.click("#ask .bar button:last-child")
+    choose_example(browser, "die")
+    kept = count_kept(browser)
+    open_link(browser, page, link)
+    comes(browser, "a link is shown before it is opened", ASKED, 'Open "my light" from a link?')
+    verdict("with what it holds", browser.text("#ask"), re.compile("Three lamps.*text has 1[0-9] lines, the source 3 lines.*1 ROM, 1 RAM chip, 3 lamps"))
+    browser.click("#ask .bar button:last-child")
+    comes(browser, "what is not wanted is not opened", "return location.hash", re.compile("^#(session|example)="))
+    verdict("and nothing is made", count_kept(browser), kept)
+    open_link(browser, page, link)
+    comes(browser, "it is asked again", ASKED, re.compile("my light"))
+    browser.click("#ask .bar button:first-child")
+    comes(browser, "it becomes a session", NAME, "my light")
+    verdict("with its texts", browser.script(TEXTS), [BOARD, PROGRAM])
+    verdict("which is kept", count_kept(browser), kept + 1)
+    browser.click("#close-sessions")
+    for what, made in (("a cut link", link[:-9]), ("a link that is made by hand", "link=1.aGVsbG8"), ("another one", "link=hello")):
+        before = browser.script(TEXTS)
+        open_link(browser, page, made)
+        comes(browser, f"{what} is refused in words", NOTICE, re.compile("The link was not opened: it is cut off, or was changed"))
+        verdict("and the bench is as it was", browser.script(TEXTS), before)
+
+
+def check_drop(browser, project):
+    """A file that is dropped on the page is opened."""
+    browser.script("""
+const data = new DataTransfer();
+data.items.add(new File([arguments[0]], "dropped.mcsp"));
+document.body.dispatchEvent(new DragEvent("drop", { dataTransfer: data, bubbles: true, cancelable: true }))""", project.decode())
+    comes(browser, "a project that is dropped is opened", TEXTS, [BOARD, PROGRAM])
+
+
+def check_tool(folder, project):
+    """tools/project takes a project of the page apart, and puts it together to the byte."""
+    tool = TOP / "tools/project"
+    parts, again = folder / "parts", folder / "again.mcsp"
+    subprocess.run([tool, "split", project, parts], check=True)
+    verdict("the tool finds the board's text", (parts / "board.toml").read_text(), BOARD)
+    verdict("and the source", (parts / "program.asm").read_text(), PROGRAM)
+    subprocess.run([tool, "join", parts, again], check=True)
+    verdict("and puts the project together to the byte", again.read_bytes() == project.read_bytes(), True)
+
+
+def check_texts(browser, page, folder, _mcs4):
+    browser.go("about:blank")
+    browser.go(page.as_uri())
+    comes(browser, "the page is ready", READY, True)
+    browser.click("#run")
+    browser.until(STATUS, "Stopped.")
+    project = check_project(browser, folder)
+    check_damaged(browser, folder, project.read_bytes())
+    check_tool(folder, project)
+    check_undo(browser)
+    check_deleting(browser, check_examples(browser))
+    check_notices(browser, folder)
+    check_drop(browser, project.read_bytes())
+    check_link(browser, page)

@@ -1,0 +1,288 @@
+"""What checks/page looks at in the browser of time: cycles, steps over and out and to goals, back and forward, slow motion. What the page
+says is compared with what the program, tools/trace and tools/cycles say of the same session."""
+
+import os
+import pathlib
+import re
+import subprocess
+
+from page_in_browser import DIGITS, NOTICE, RATE, READY, SPEED, STATUS, choose_example, key, lines_answered
+from verdicts import comes, verdict
+
+TOP = pathlib.Path(__file__).resolve().parent.parent.parent
+MARKED = "return document.querySelector('#cycles span:last-child').textContent"
+SINCE_STOP = "return document.querySelector('#cycles span:nth-child(2) b').textContent"
+SINCE_RESET = "return document.querySelector('#cycles span:first-child b').textContent"
+CHANGE = """
+const field = document.querySelector(arguments[0]);
+field.value = arguments[1];
+field.dispatchEvent(new Event("input"))"""
+PRESS = """
+document.body.dispatchEvent(new KeyboardEvent("keydown", { key: arguments[0], shiftKey: arguments[1], bubbles: true, cancelable: true }))"""
+# The bytes of the session that is kept, once they are there.
+KEPT = """
+window.keptFile = "";
+const id = location.hash.slice("#session=".length);
+indexedDB.open("fethsaim", 1).onsuccess = (opened) => {
+  const asked = opened.target.result.transaction("sessions").objectStore("sessions").get(id);
+  asked.onsuccess = () => { window.keptFile = asked.result.file.join(" "); };
+}"""
+KEPT_FILE = "return window.keptFile"
+ALL = "seq\nstate\nram 0\nbreaks\nwatches"
+
+
+class Program:
+    """The program beside the page, on sessions of its own."""
+
+    def __init__(self, folder, mcs4):
+        self.folder = folder
+        self.mcs4 = mcs4
+        self.env = dict(os.environ, MCS4=str(mcs4))
+
+    def tool(self, name, *words, lines=""):
+        tool = [TOP / "tools" / name, *map(str, words)]
+        return subprocess.run(tool, input=lines, stdout=subprocess.PIPE, text=True, check=True, env=self.env).stdout
+
+    def session(self, name, lines):
+        """A new session with these lines; gives their answers."""
+        file = self.folder / f"{name}.mcs"
+        file.unlink(missing_ok=True)
+        return file, subprocess.run([self.mcs4, "new", file], input=lines, stdout=subprocess.PIPE, text=True, check=True).stdout
+
+    def cycles(self, answers):
+        """The cycles of the last run among answers, by tools/cycles."""
+        line = len(answers.splitlines())
+        return int(self.tool("cycles", line, line, lines=answers).split(" ")[0])
+
+
+def texts_of(name):
+    folder = TOP / "examples" / name
+    board, program = (folder / "board.toml").read_text(), (folder / f"{name}.asm").read_text()
+    return f"wire\n{board}.\nasm\n{program}.\n"
+
+
+def first_call(program, name):
+    """The first JMS of an example: the cycles before it, those over it, its address and that behind it."""
+    file, _ = program.session(name, texts_of(name))
+    lines = [line for line in program.tool("trace", file, 3000).splitlines() if re.match(r" *\d+  [0-9A-F]{3} ", line)]
+    at = next(at for at, line in enumerate(lines) if " JMS " in line)
+    cycles, address = lines[at].split()[:2]
+    behind = f"{int(address, 16) + 2:03X}"
+    end = next(line for line in lines[at + 1:] if line.split()[1] == behind)
+    return int(cycles), int(end.split()[0]) - int(cycles), address, behind
+
+
+def counted(cycles):
+    """A number of cycles as the page writes it: 10.8 microseconds each."""
+    time = cycles * 10.8 / 1000
+    return f"{cycles:,} cycles, " + (f"{time:.3f} ms" if time < 1000 else f"{time / 1000:.3f} s")
+
+
+def stand(browser):
+    """Stops the time that runs."""
+    if browser.script("return document.getElementById('run').textContent") == "Stop":
+        browser.click("#run")
+        browser.until(STATUS, "Stopped.")
+
+
+def at_rest(browser, name):
+    """A new session of an example that stands still, after a reset."""
+    choose_example(browser, name)
+    browser.until("return document.getElementById('run').textContent", "Stop", 3)
+    stand(browser)
+    lines_answered(browser, "reset")
+    browser.until(SINCE_RESET, "0 cycles, 0.000 ms")
+
+
+def state(browser):
+    """The answers to all questions; what time has done may come into the log just before them."""
+    told = lines_answered(browser, ALL)
+    return told[told.index("seqseq"):]
+
+
+def check_over(browser, program, name, example):
+    """Over a JMS, into it, out of it, and to the line behind it: as many cycles as the trace has, and nothing stays."""
+    before, over, address, behind = first_call(program, example)
+    at_rest(browser, name)
+    lines_answered(browser, f"run {before}")
+    browser.click("#over")
+    comes(browser, f"{name}: Over comes back behind the JMS at {address}", STATUS, f"Returned to {behind}, after {counted(over)}.")
+    verdict("the counter has the cycles since the stop", browser.script(SINCE_STOP), counted(over))
+    verdict("and those since the reset", browser.script(SINCE_RESET), counted(before + over))
+    verdict("no breakpoint and no watch stays", state(browser)[-len("breaksbreaks -watcheswatches -"):], "breaksbreaks -watcheswatches -")
+    for what, again in {"by F10": lambda: browser.script(PRESS, "F10", False),
+                        "into it by F11, and out by Shift and F11": lambda: into_and_out(browser)}.items():
+        browser.click("#back-stop")
+        comes(browser, f"{name}: back to the stop before", STATUS, re.compile(f"^Back at the stop at {address}"))
+        again()
+        comes(browser, f"{name}: the same {what}", STATUS, re.compile(f"^Returned to {behind}, after "))
+        verdict("after as many cycles", browser.script(SINCE_RESET), counted(before + over))
+
+
+def into_and_out(browser):
+    browser.script(PRESS, "F11", False)
+    browser.until(STATUS, "One instruction was done.")
+    browser.script(PRESS, "F11", True)
+
+
+def check_run_to(browser):
+    """To a line of the listing, by Control and a click."""
+    browser.click("#back-stop")
+    browser.until(STATUS, re.compile("^Back at"))
+    address = browser.script("""
+const next = document.querySelector("#lines-of-program .next");
+const row = next.nextElementSibling;
+row.dispatchEvent(new MouseEvent("click", { ctrlKey: true, bubbles: true, cancelable: true }));
+return row.textContent.match(/[0-9A-F]{3}/)[0]""")
+    comes(browser, "Control and a click run to a line", STATUS, re.compile(f"^Stopped at {address}, as wanted, after [0-9,]+ cycles?, "))
+    verdict("it has no breakpoint", browser.script("return document.querySelectorAll('#lines-of-program [aria-pressed=true]').length"), 0)
+
+
+def check_run_to_source(browser):
+    """To the line of the source that the caret is in, by Control and F10; and to a change of a lamp that is named."""
+    at_rest(browser, "three lamps")
+    browser.script("""
+const editor = document.querySelector("#program-editor .CodeMirror").CodeMirror;
+editor.setCursor(editor.getValue().split("\\n").findIndex((line) => line.startsWith("turn:")), 0);
+editor.getInputField().dispatchEvent(new KeyboardEvent("keydown", { key: "F10", ctrlKey: true, bubbles: true, cancelable: true }))""")
+    comes(browser, "Control and F10 in the source run to the label turn", STATUS, re.compile("^Stopped at 016, as wanted, after 11 cycles, "))
+    lines_answered(browser, "reset")
+    browser.script(CHANGE, "#change-place", "right")
+    browser.click("#until-change")
+    comes(browser, "to a change of a lamp by its name", STATUS, "Stopped at 007, after lamp 2 changed, after 7 cycles, 0.076 ms.")
+
+
+def check_many(browser, program):
+    """So many instructions: as many cycles as the trace has for them."""
+    file, _ = program.session("many", texts_of("three_lamps"))
+    lines = [line for line in program.tool("trace", file, 400).splitlines() if re.match(r" *\d+  [0-9A-F]{3} ", line)]
+    at_rest(browser, "three lamps")
+    browser.script(CHANGE, "#step-count", "50")
+    browser.click("#step-many")
+    comes(browser, "50 instructions", STATUS, f"50 instructions were done, after {counted(int(lines[50].split()[0]))}.")
+    browser.script(CHANGE, "#step-count", "many")
+    browser.click("#step-many")
+    comes(browser, "what is no number is refused in words", STATUS, re.compile("^Nothing was done: give a number"))
+
+
+def check_stopwatch(browser):
+    """A hundredth of a second of the stopwatch is 926 cycles, measured between two marks."""
+    at_rest(browser, "stopwatch")
+    lines_answered(browser, "test 0")
+    browser.script(CHANGE, "#change-place", "lamps")
+    for _ in range(2):
+        browser.script("document.getElementById('status').textContent = ''")
+        browser.click("#until-change")
+        browser.until(STATUS, re.compile("after lamps changed, after"))
+        browser.click("#mark")
+    verdict("from one hundredth to the next", browser.script(MARKED), re.compile(r"between the marks 926 cycles, 10\.001 ms$"))
+    lamps = lines_answered(browser, "lamps")
+    browser.click("#back-change")
+    comes(browser, "back to the change of the lamps", STATUS, re.compile("^Back at ..., 1 cycle, 0.011 ms before: this instruction changes lamps"))
+    verdict("it is not done yet", lines_answered(browser, "lamps") != lamps, True)
+    browser.click("#step")
+    browser.until(STATUS, "One instruction was done.")
+    verdict("and it does it", lines_answered(browser, "lamps"), lamps)
+    browser.script(CHANGE, "#change-place", "chain2.0")
+    browser.click("#until-change")
+    comes(browser, "a line that the board lacks", STATUS, "Nothing was done: this board has no chain2.0.")
+    browser.script(CHANGE, "#change-place", "r99")
+    browser.click("#back-change")
+    comes(browser, "a name that is none", STATUS, re.compile("^Nothing was done: name what is to change: acc, cy"))
+
+
+def check_back(browser):
+    """Back and forward, over keys that were pressed while time ran: the same answers, and the same file."""
+    at_rest(browser, "calculator")
+    browser.click("#run")
+    for legend in "12":
+        browser.fingers([key(legend)], 60)
+    browser.until(DIGITS, "12")
+    stand(browser)
+    there = state(browser)
+    browser.script(KEPT)
+    file = browser.until(KEPT_FILE, re.compile("."))
+    browser.click("#back-stop")
+    comes(browser, "back before Run", STATUS, re.compile("^Back at the stop at 000, [0-9,]+ cycles"))
+    verdict("the display is that of then", browser.script(DIGITS), "0")
+    browser.click("#forward")
+    comes(browser, "forward again", STATUS, re.compile("^Forward again to ..., [0-9,]+ cycles"))
+    browser.script(KEPT)
+    verdict("the bytes that are kept are the same", browser.until(KEPT_FILE, re.compile(".")) == file, True)
+    verdict("and so are the answers", state(browser), there)
+    for _ in range(3):
+        browser.script("document.getElementById('status').textContent = ''")
+        browser.click("#back-instruction")
+        browser.until(STATUS, re.compile("^Back at ..., [12] cycles?, .* before: this instruction is not done.$"))
+    verdict("three instructions back it is another moment", state(browser) != there, True)
+    verdict("Forward is possible", browser.script("return document.getElementById('forward').disabled"), False)
+    for _ in range(3):
+        browser.click("#forward")
+    comes(browser, "forward as often, and no further", "return document.getElementById('forward').disabled", True)
+    verdict("leads to the same again", state(browser), there)
+    browser.click("#back-stop")
+    browser.until("return document.getElementById('forward').disabled", False)
+    lines_answered(browser, "poke r5 9")
+    comes(browser, "once something else is done, there is no forward", "return document.getElementById('forward').disabled", True)
+    browser.reload()
+    browser.until(READY, True)
+    verdict("the present is what is kept", re.search("r [0-9A-F]{5}9", lines_answered(browser, "regs")) is not None, True)
+    browser.click("#back-stop")
+    comes(browser, "a page that was loaded anew remembers nothing", STATUS, "Nothing was done: the page remembers no stop before this one.")
+
+
+def check_never(browser):
+    """A goal that never comes: cancelled, or left by a reload, the session is as it was."""
+    choose_example(browser, "empty bench")
+    lines_answered(browser, 'wire\n[[rom]]\nchip = 0\nport = "0000"\n.\nasm\nround: JUN round\n.')
+    before = state(browser)
+    browser.click("#out")
+    browser.until("return document.getElementById('work').hidden", False)
+    browser.click("#cancel")
+    comes(browser, "what never comes is cancelled", NOTICE, re.compile("^It was cancelled. The session is as it was before.$"))
+    verdict("nothing was done", state(browser), before)
+    browser.click("#notice button")
+    browser.click("#out")
+    browser.until("return document.getElementById('work').hidden", False)
+    browser.reload()
+    browser.until(READY, True)
+    verdict("nor is anything left of it by a page that goes in the middle", state(browser), before)
+
+
+def check_slow(browser):
+    """Slow motion, and the line that runs is followed."""
+    at_rest(browser, "three lamps")
+    verdict("the speeds", browser.script("return [...document.getElementById('speed').options].map((each) => each.textContent).join(', ')"),
+            "real time, 1/10, 1/100, 1/1,000, an instruction a second, full speed")
+    browser.click("#run")
+    for speed, rate in {"tenth": "^9,?[12]..$", "hundredth": "^9[0-4].$", "thousandth": "^(8[89]|9[0-6])$"}.items():
+        browser.script(SPEED, speed)
+        comes(browser, f"cycles a second at 1/{speed}", RATE, re.compile(rate.replace(",?", "")))
+    comes(browser, "the line that runs is marked", "return document.querySelectorAll('#lines-of-program .next').length", 1)
+    browser.script("window.firstLine = document.querySelector('#lines-of-program .next').textContent")
+    comes(browser, "and followed", "return document.querySelector('#lines-of-program .next').textContent !== window.firstLine", True)
+    stand(browser)
+    browser.script(SPEED, "instruction")
+    browser.click("#run")
+    browser.until(SINCE_STOP, re.compile("^[3-9] cycles"))
+    stand(browser)
+    verdict("an instruction a second ends between instructions", re.search("owed 0", lines_answered(browser, "regs")) is not None, True)
+    browser.script(SPEED, "real")
+    browser.click("#run")
+    comes(browser, "and real time is held again", RATE, re.compile("^9[0-4]...$"))
+    stand(browser)
+
+
+def check(browser, page, folder, mcs4):
+    program = Program(folder, mcs4)
+    browser.go(page.as_uri())
+    browser.until(READY, True)
+    check_over(browser, program, "three lamps", "three_lamps")
+    check_over(browser, program, "calculator", "calculator")
+    check_run_to(browser)
+    check_run_to_source(browser)
+    check_many(browser, program)
+    check_stopwatch(browser)
+    check_back(browser)
+    check_never(browser)
+    check_slow(browser)

@@ -1,0 +1,57 @@
+-- How much of a log is in use, and when the commands of a run are acknowledged for it.
+use Rattle.std.specs.Prelude.{◌≡◌, ◌+◌, ◌&&◌, Bool, ℕ, List, [], ◌∷◌, length, nat_le, if◌then◌else◌}
+use Rattle.mcs_codec.specs.CommandBytes.{command_bytes}
+use Rattle.mcs_journal.specs.File.{spelled}
+use Rattle.mcs_journal.specs.declared.format.TheConstants.{LOG_SIZE}
+use Rattle.mcs_model.specs.declared.command.Command.{Command}
+use Rattle.mcs_model.specs.declared.limits.TheConstants.{REPLAY_CYCLES}
+use Rattle.mcs_model.specs.BenchState.{BenchState}
+use Rattle.mcs_session.specs.Cycles.{log_cycles, replay_cycles}
+use Rattle.mcs_session.specs.Stands.{StandsFor}
+
+-- the bytes of a log's records, and the cycles of their commands
+pub record LogUse : Type 0 where
+  pub bytes : ℕ
+  pub cycles : ℕ
+
+-- the log of a file that stands for a state is in use by so much
+pub record UsesLog (file : List ℕ) (log : LogUse) : Type 0 where
+  pub state : BenchState
+  pub stands : StandsFor file state
+  pub bytes : log.bytes ≡ length (spelled stands.records)
+  pub cycles : log.cycles ≡ log_cycles stands.stand.commands
+
+-- there is room for the record of a command: for its bytes with one more commit byte, and for its
+-- cycles
+abbrev pub has_room_for : LogUse → Command → Bool
+has_room_for log c =
+    nat_le (log.bytes + 3 + length (command_bytes c) + 1) LOG_SIZE
+    && nat_le (log.cycles + replay_cycles c) REPLAY_CYCLES
+
+abbrev pub empty_log : LogUse
+empty_log = record { bytes = 0; cycles = 0 }
+
+abbrev pub with_record : LogUse → Command → LogUse
+with_record log c = record {
+  bytes = log.bytes + 3 + length (command_bytes c);
+  cycles = log.cycles + replay_cycles c;
+}
+
+-- the use of a log once a command was recorded: where there was no room, a snapshot took the place of
+-- all records first
+abbrev pub use_after : LogUse → Command → LogUse
+use_after log c = with_record (if has_room_for log c then log else empty_log) c
+
+abbrev pub use_after_all : LogUse → List Command → LogUse
+use_after_all log [] = log
+use_after_all log (c ∷ cs) = use_after_all (use_after log c) cs
+
+-- the steps of the clock that recording a command takes
+abbrev pub steps_of : LogUse → Command → ℕ
+steps_of log c = if has_room_for log c then 4 else 8
+
+-- the moments at which these commands, done in turn from that clock on, are acknowledged
+abbrev pub moments_of : ℕ → LogUse → List Command → List ℕ
+moments_of clock log [] = []
+moments_of clock log (c ∷ cs) =
+    (clock + steps_of log c) ∷ moments_of (clock + steps_of log c) (use_after log c) cs

@@ -1,0 +1,44 @@
+-- The headline down to a file of the host: what the program finds in it after a stop.
+use Rattle.std.specs.Prelude.{◌≡◌, ◌⊎◌, ◌≤◌, ℕ, List, length}
+use Rattle.mcs_host.specs.Ending.{IsLeftSince, as_disk, found_in}
+use Rattle.mcs_host.specs.FileDisk.{IsOpened}
+use Rattle.mcs_host.specs.declared.file_disk.FileDisk.{FileDisk}
+use Rattle.mcs_host.specs.declared.words.Choice.TheVariants as choice
+use Rattle.mcs_session.specs.Kept.{IsAfterPrefix, IsSpaced, acknowledged_by, last_moment}
+use Rattle.mcs_session.specs.Standing.{SessionView}
+use Rattle.mcs_shell.specs.Headline.{AnswersInTurn}
+use Rattle.mcs_shell.specs.Program.{IsBegunOn, IsRefusedWith}
+use Rattle.mcs_shell.specs.Shell.{Run}
+use Rattle.mcs_shell.specs.Stage.{staged}
+use Rattle.mcs_shell.specs.Transcript.{Served, all_commands, all_reached}
+
+-- A file was left at a clock of t or later, by a close, a kill or a power cut. Then it was opened
+-- with what is found in it, and is honest from then on.
+pub record IsFoundAgain (t : ℕ) (file again : FileDisk) : Type 0 where
+  pub left : IsLeftSince t file
+  pub opened : IsOpened (as_disk again)
+  pub bytes : (as_disk again).bytes ≡ found_in file
+  pub honest : (as_disk again).honest
+
+-- A run over a file of the host met these inputs, and its answers are theirs. However and whenever
+-- the file was left since the run began: what the program's `open` begins on the file as it is found
+-- is the bench after a prefix of the commands answered `ok` and the one answered `no 53`, and the
+-- prefix holds each one acknowledged by that time. The program refuses it by 53 and by 90 alone.
+pub record SurvivesInFile (run : Run as_disk) : Type 0 where
+  pub met : Served
+  pub answers : AnswersInTurn run.end run.reader run.reader'
+      (staged as_disk run.before run.out) (staged as_disk run.after run.out') met
+  pub moments : List ℕ
+  pub count : length moments ≡ length (all_commands run.before.state met)
+  pub spaced : IsSpaced (as_disk run.before.disk).clock moments
+  pub within : last_moment (as_disk run.before.disk).clock moments
+      ≤ (as_disk run.after.disk).clock
+  pub reopened : (t : ℕ) (again : FileDisk) (name : List ℕ) (session : SessionView FileDisk)
+      → (as_disk run.before.disk).clock ≤ t → IsFoundAgain t run.after.disk again
+      → IsBegunOn as_disk (choice.Open name) again session
+      → IsAfterPrefix run.before.state (all_reached run.before.state met)
+      (acknowledged_by t moments) session.state
+  pub not_refused : (t : ℕ) (again : FileDisk) (name : List ℕ) (number : ℕ)
+      → (as_disk run.before.disk).clock ≤ t → IsFoundAgain t run.after.disk again
+      → IsRefusedWith as_disk (choice.Open name) again number
+      → (number ≡ 53) ⊎ (number ≡ 90)

@@ -1,0 +1,45 @@
+"""The tables of docs/MANUAL.md that the page shows, so that they stand once."""
+
+import pathlib
+import re
+
+MANUAL = pathlib.Path(__file__).resolve().parent.parent / "docs/MANUAL.md"
+# The sections whose tables the page shows, in the order of its help.
+SECTIONS = ("The 45 instructions", "The form of a program", "The sixteen conditions of JCN", "The keys of the text", "The names of lines",
+            "The face of a board", "Commands", "Places", "Queries", "The keyboard", "What the cells show")
+
+
+def section_of(manual, title):
+    """The text below a heading, up to the next one."""
+    found = re.search(rf"^#+ {re.escape(title)}\n(.*?)(?=^#|\Z)", manual, re.M | re.S)
+    if found is None:
+        raise ValueError(f"docs/MANUAL.md has no section '{title}'")
+    return found.group(1)
+
+
+def cells_of(line):
+    """The cells of a row. A bar inside a cell is written as a backslash and a bar."""
+    return [cell.strip().replace("\\|", "|") for cell in re.split(r"(?<!\\)\|", line.strip()[1:-1])]
+
+
+def tables_of(section):
+    """The tables of a section: of each the line in bold type before it, if there is one, its head and its rows."""
+    tables = []
+    caption = ""
+    rows = []
+    for line in [*section.splitlines(), ""]:
+        if line.startswith("|"):
+            rows.append(cells_of(line))
+            continue
+        if rows:
+            tables.append({"caption": caption, "head": rows[0], "rows": rows[2:]})
+            rows, caption = [], ""
+        bold = re.fullmatch(r"\*\*(.+)\*\*", line)
+        caption = bold.group(1) if bold else caption
+    return tables
+
+
+def manual_tables():
+    """The sections, each with its tables."""
+    manual = MANUAL.read_text()
+    return [{"title": title, "tables": tables_of(section_of(manual, title))} for title in SECTIONS]

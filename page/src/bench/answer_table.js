@@ -1,0 +1,36 @@
+// Which line opens a text, and which answer is whose: the table tools/lib/answers.txt, which says what its columns are.
+
+import table from "#answer-table";
+
+/**
+ * What a word that begins a line of the bench means: whether it opens a text; the form of the first line of its answer, and of each
+ * further one (null where there is none); and how many those are, as the table writes it.
+ * @typedef {{ opensText: boolean, first: RegExp, further: RegExp | null, count: string }} Form
+ */
+
+const COLUMNS = 5;
+
+/**
+ * @param {string} text a table
+ * @returns {Map<string, Form>}
+ */
+export function readForms(text) {
+  const rows = text.split("\n").filter((line) => !line.startsWith("#")).map((line) => line.split("\t"));
+  return new Map(rows.filter((row) => row.length === COLUMNS).map(([word, opens, first, further, count]) => [word, {
+    opensText: opens === "text", first: new RegExp(first), further: further === "-" ? null : new RegExp(further), count,
+  }]));
+}
+
+/** By the first word of a line. */
+export const FORMS = readForms(table);
+
+/** Each line of a listing. */
+const LISTED = /** @type {RegExp} */ (/** @type {Form} */ (FORMS.get("list")).further);
+
+/**
+ * Whether an answer is a line of a listing.
+ * @param {string} answer
+ */
+export function isListed(answer) {
+  return LISTED.test(answer);
+}

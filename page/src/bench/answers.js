@@ -1,0 +1,160 @@
+// What answers say.
+
+import { isListed } from "./answer_table.js";
+
+/**
+ * @typedef {{ cycles: number, end: string }} Run
+ * @typedef {{ number: number, line: number }} Refusal
+ * @typedef {{ accumulator: string, carry: string, counter: string, owed: string, bank: string, test: string, registers: string[],
+ *   returns: string[] }} Registers
+ * @typedef {{ characters: string, status: string }} RamRegister
+ * @typedef {{ registers: Map<string, RamRegister>, ports: Map<string, string> }} Ram
+ * @typedef {{ chip: string, out: string, in: string }} RomPort
+ * @typedef {{ sources: string[], roms: RomPort[], chains: string[], keys: string[] }} Ports
+ * @typedef {{ address: number, line: string }} Listed
+ * @typedef {{ clock: string, data: string, chips: number }} Chain
+ * @typedef {{ chain: number, first: number, rows: number, columns: string[] }} Matrix row r is driven by bit `first + r` of the chain
+ * @typedef {{ banks: { bank: number, chips: number }[], chains: Chain[], roms: { chip: number, port: string }[], lamps: string[],
+ *   rows: number, columns: number, matrix: Matrix | null }} Board
+ */
+
+/**
+ * The number of a refusal and the line that it names, 0 for none; null where an answer is not one.
+ * @param {string} answer
+ * @returns {Refusal | null}
+ */
+export function refusalOf(answer) {
+  const found = /^no (\d+)(?: line (\d+))?$/.exec(answer);
+  return found && { number: Number(found[1]), line: Number(found[2] || 0) };
+}
+
+/**
+ * `ok 7 ran 100 end`: how many cycles a run took and why it stopped; null where it is not the answer to a run.
+ * @param {string} answer
+ * @returns {Run | null}
+ */
+export function readRun(answer) {
+  const found = /^ok \d+ ran (\d+) (\w+)$/.exec(answer);
+  return found && { cycles: Number(found[1]), end: found[2] };
+}
+
+/**
+ * Whether a command was not done to its end: refused, or a run that stopped early.
+ * @param {string} answer
+ */
+export function isStop(answer) {
+  const run = readRun(answer);
+  return run ? run.end !== "end" : refusalOf(answer) !== null;
+}
+
+/**
+ * The answer to `regs`.
+ * @param {string} answer
+ * @returns {Registers}
+ */
+export function readRegisters(answer) {
+  const words = answer.split(" ");
+  return {
+    accumulator: words[1], carry: words[3], counter: words[5], owed: words[7], bank: words[9], test: words[11],
+    registers: [...words[13]], returns: words.slice(15),
+  };
+}
+
+/**
+ * The counter and the owed cycle alone, of the answer to `regs`.
+ * @param {string} answer
+ */
+export function readCounter(answer) {
+  const [, , , , , counter, , owed] = answer.split(" ", 8);
+  return { counter, owed };
+}
+
+/**
+ * The answer to `ram B`: the registers by `bank.chip.register`, and the ports by `bank.chip`.
+ * @param {string[]} answers
+ * @returns {Ram}
+ */
+export function readRam(answers) {
+  const registers = new Map();
+  const ports = new Map();
+  for (const answer of answers.slice(1)) {
+    const [place, first, second] = answer.split(" ");
+    if (first === "out") ports.set(place, second);
+    else registers.set(place, { characters: first, status: second });
+  }
+  return { registers, ports };
+}
+
+/**
+ * The answer to `ports`.
+ * @param {string[]} answers
+ * @returns {Ports}
+ */
+export function readPorts(answers) {
+  /** @type {Ports} */
+  const told = { sources: [], roms: [], chains: [], keys: [] };
+  for (const answer of answers.slice(1)) {
+    const words = answer.split(" ");
+    if (words[0] === "src") told.sources = words.slice(1);
+    if (words[0] === "rom") told.roms.push({ chip: words[1], out: words[3], in: words[5] });
+    if (words[0] === "chain") told.chains.push(words.slice(2).join(""));
+    if (words[0] === "keys" && words[1] !== "-") told.keys = words.slice(1);
+  }
+  return told;
+}
+
+/**
+ * `breaks 000 003`, `watches 0.00`, `lamps **.`: what stands after the first word.
+ * @param {string} answer
+ */
+export function readMarks(answer) {
+  const words = answer.split(" ").slice(1);
+  return words[0] === "-" ? [] : words;
+}
+
+/**
+ * The lines of a listing among answers.
+ * @param {string[]} answers
+ * @returns {Listed[]}
+ */
+export function readListing(answers) {
+  return answers.filter(isListed).map((line) => ({ address: parseInt(line.slice(0, 3), 16), line }));
+}
+
+/**
+ * The tables of a board as the bench writes its text: each value is written as JSON writes it.
+ * @param {string[]} answers
+ * @returns {Record<string, any>[]}
+ */
+function readTables(answers) {
+  /** @type {Record<string, any>[]} */
+  const tables = [];
+  for (const answer of answers.slice(1)) {
+    const header = /^\[+([a-z]+)\]+$/.exec(answer);
+    const value = /^([a-z]+) = (.*)$/.exec(answer);
+    if (header) tables.push({ table: header[1] });
+    else if (value) tables[tables.length - 1][value[1]] = JSON.parse(value[2]);
+  }
+  return tables;
+}
+
+/**
+ * The answer to `board`.
+ * @param {string[]} answers
+ * @returns {Board}
+ */
+export function readBoard(answers) {
+  const tables = readTables(answers);
+  /** @type {(name: string) => any[]} */
+  const of = (name) => tables.filter((entry) => entry.table === name);
+  const [keys = null] = of("keys");
+  return {
+    banks: of("ram"),
+    chains: of("chain"),
+    roms: of("rom"),
+    lamps: of("lamp").map((lamp) => lamp.line),
+    rows: keys ? keys.rows : 0,
+    columns: keys ? keys.columns.length : 0,
+    matrix: keys,
+  };
+}

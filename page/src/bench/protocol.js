@@ -1,0 +1,38 @@
+// The messages between the page and the worker. A request has a number, and one reply with that number; the rest has none.
+
+/**
+ * @typedef {import("../worker/bench_session.js").Told} Told
+ * @typedef {import("../worker/examples.js").Example} Example
+ * @typedef {import("./faults.js").PackedFault} PackedFault
+ * @typedef {import("./ran.js").RanEntry} RanEntry
+ *
+ * What a session is now: the answers of a look, the bytes of its file (transferred), the answer to `board` where it may be new, the
+ * cycles that were counted, in all and up to the last reset, and how many times forward is possible.
+ * @typedef {{ look: string[], file: ArrayBuffer, board: string[] | null, total: number, reset: number,
+ *   future: number }} Shown
+ *
+ * What time has done: the lines, the cycles, the answer that ended the run early ("" where none did), whether a key was changed.
+ * @typedef {{ ran: RanEntry[], cycles: number, end: string, changesKeys: boolean } & Shown} Frame
+ *
+ * @typedef {Told & Shown} ServedLines
+ * @typedef {Omit<import("../worker/going_back.js").Aim, "moment">} AimTold
+ * @typedef {ServedLines & AimTold & { isDone: boolean, cycles: number }} Gone where going back or forward has led, over how many cycles
+ * @typedef {ServedLines & { found: import("../worker/seek.js").Found }} ReachedLines and how the goal was reached
+ *
+ * To the worker.
+ * @typedef {{ kind: "request", number: number, call: string, words: any[] }} Request
+ * @typedef {{ kind: "cancel", number: number }} Cancel stops a request that serves lines
+ * @typedef {{ kind: "ping" }} Ping asks for a sign of life
+ * @typedef {{ kind: "spare", buffer: ArrayBuffer }} Spare gives an array back that a file came in (transferred)
+ * @typedef {Request | Cancel | Ping | Spare} ToWorker
+ *
+ * To the page.
+ * @typedef {{ kind: "reply", number: number, result?: any, fault?: PackedFault }} Reply
+ * @typedef {{ kind: "progress", number: number, done: number, total: number }} Progress how far the lines of a request are served
+ * @typedef {{ kind: "frame", frame: Frame }} FrameMessage at full speed
+ * @typedef {{ kind: "failed", fault: PackedFault }} Failed time at full speed has stopped by a fault
+ * @typedef {{ kind: "pong" }} Pong
+ * @typedef {Reply | Progress | FrameMessage | Failed | Pong} ToPage
+ */
+
+export {};

@@ -1,0 +1,57 @@
+// The answer to `state`: all that is not ROM or RAM, in one line of keys and values in a fixed order.
+
+import { readRegisters } from "./answers.js";
+
+/**
+ * @typedef {import("./answers.js").Ports} Ports
+ * @typedef {import("./answers.js").Registers} Registers
+ *
+ * The parts of the line that are shown apart, each as it is written, so that one that stayed the same need not be read.
+ * @typedef {{ registers: string, ports: string, lamps: string, breaks: string, watches: string }} StateParts
+ */
+
+const STATE = /^state seq \d+ (acc .*) src (.*) lamps (\S+) breaks (\S+) watches (\S+)$/;
+
+/**
+ * @param {string} answer
+ * @returns {StateParts}
+ */
+export function partsOfState(answer) {
+  const found = STATE.exec(answer);
+  if (!found) throw new Error(`the bench answers state by ${answer}`);
+  const [, registers, ports, lamps, breaks, watches] = found;
+  return { registers, ports, lamps, breaks, watches };
+}
+
+/**
+ * The items of a value that is a list.
+ * @param {string} value
+ */
+export function itemsOf(value) {
+  return value === "-" ? [] : value.split(",");
+}
+
+/**
+ * @param {string} part
+ * @returns {Registers}
+ */
+export function registersOf(part) {
+  return readRegisters(part.replace(/,/g, " "));
+}
+
+/**
+ * @param {string} part from the value of `src` on
+ * @returns {Ports}
+ */
+export function portsOf(part) {
+  const [source, , banks, , roms, , , , chains, , keys] = part.split(" ");
+  return {
+    sources: [source, ...itemsOf(banks)],
+    roms: itemsOf(roms).map((rom) => {
+      const [chip, out, reads] = rom.split(".");
+      return { chip, out, in: reads };
+    }),
+    chains: itemsOf(chains),
+    keys: itemsOf(keys),
+  };
+}

@@ -1,0 +1,193 @@
+// All that is shown of the board and its machine: one look after the other is read, and what is new in it goes to the view that shows it.
+
+import { readBoard, refusalOf } from "../bench/answers.js";
+import { CellEditor } from "../machine/cell_editor.js";
+import { Changes } from "../machine/changes.js";
+import { Cell, Switch, block, button } from "../dom.js";
+import { Face } from "./face.js";
+import { lampColours, lampNames } from "./face_board.js";
+import { FrontView } from "./front_view.js";
+import { GoToView } from "../machine/go_to_view.js";
+import { ListingView } from "../machine/listing_view.js";
+import { LookReader } from "../bench/look.js";
+import { PortsView, RegistersView } from "../machine/machine_view.js";
+import { hex } from "../bench/numbers.js";
+import { RamView } from "../machine/ram_view.js";
+import { StackView } from "../machine/stack_view.js";
+import { ToldAt } from "../told_at.js";
+import { WiringView } from "./wiring_view.js";
+
+/**
+ * @typedef {import("./board_keys.js").BoardKey} BoardKey
+ * @typedef {import("../bench/look.js").Changed} Changed
+ * @typedef {import("../machine/source_map.js").SourceMap} SourceMap
+ *
+ * What it calls: a button presses its key; whether time runs, and so fast that no line of the program is followed; questions are asked; a
+ * line is served, which gives its answer, or null where it failed; a refusal is put into words; what a cell shows is told; the source
+ * is told where the counter is, which breakpoints there are, or that the listing went to an address; a call failed.
+ * @typedef {{ listen: (node: HTMLButtonElement, key: BoardKey) => void, isRunning: () => boolean, isFast: () => boolean,
+ *   ask: (lines: string) => Promise<string[]>, act: (line: string) => Promise<string | null>, wordsOfRefusal: (number: number) => string,
+ *   explain: (name: string) => string,
+ *   isAt: (counter: number) => void, breakAt: (breakpoints: string[]) => void, wentTo: (address: number) => void,
+ *   failed: (fault: unknown) => void }} BoardCalls
+ */
+
+/** @typedef {{ seeLamps: (lamps: string) => void, seeKeys: (keysDown: number) => void }} Watcher */
+
+export class BoardView {
+  /** @param {BoardCalls} calls */
+  constructor(calls) {
+    this.calls = calls;
+    this.board = readBoard([]);
+    this.reader = new LookReader();
+    this.changes = new Changes();
+    this.front = new FrontView(calls.listen);
+    this.told = new ToldAt();
+    this.editor = new CellEditor({
+      poke: async (place, value) => this.refusalOf(await calls.act(`poke ${place} ${value}\n`)),
+      tell: (words, at) => this.told.show(words, at),
+    });
+    this.registers = new RegistersView(this.changes, this.editor, calls.explain);
+    this.ram = new RamView(this.changes, this.editor, (bank, source, isSet, cell) => (
+      this.toggle(isSet, "watch", `${bank} 0x${hex(source, 2)}`, cell)));
+    this.ports = new PortsView(this.changes, this.editor, calls.explain);
+    this.wiring = new WiringView();
+    /** @type {Watcher | null} is told of lamps and keys */
+    this.watcher = null;
+    /** @type {(address: number, isSet: boolean, at?: HTMLElement) => void} */
+    const toggleBreakpoint = (address, isSet, at) => {
+      this.toggle(isSet, "break", `0x${hex(address, 3)}`, at);
+    };
+    this.listing = new ListingView(calls.ask, toggleBreakpoint, () => this.showListing());
+    this.goTo = new GoToView(this.listing, toggleBreakpoint, (address) => {
+      this.showListing();
+      calls.wentTo(address);
+    });
+    this.stack = new StackView(this.changes, calls.explain, calls.ask, (address) => this.goTo.show(address));
+    this.sourceTold = new Cell(block("source-told"));
+    this.testWord = new Cell(button("test"));
+    /** Whether the TEST pin is at 1. */
+    this.test = new Switch((isOn) => button("test").setAttribute("aria-pressed", String(isOn)));
+  }
+
+  /**
+   * Sets or clears a breakpoint or a watch; a refusal is told where the click was.
+   * @param {boolean} isSet
+   * @param {"watch" | "break"} word
+   * @param {string} place
+   * @param {HTMLElement} [at]
+   */
+  async toggle(isSet, word, place, at) {
+    const refusal = this.refusalOf(await this.calls.act(`${isSet ? "un" : ""}${word} ${place}\n`));
+    if (refusal) this.told.show(`Not set: ${refusal}`, at);
+  }
+
+  /**
+   * The words of a refusal, "" for an answer that is none.
+   * @param {string | null} answer
+   */
+  refusalOf(answer) {
+    if (answer === null) return "It was not done.";
+    const refusal = refusalOf(answer);
+    return refusal ? `${this.calls.wordsOfRefusal(refusal.number)}.` : "";
+  }
+
+  /** The counter of the last look, as it is written. */
+  get counter() {
+    return this.reader.registers ? this.reader.registers.counter : "";
+  }
+
+  /**
+   * Draws another board.
+   * @param {string[]} answers to `board`
+   * @param {string} boardText has the face
+   */
+  draw(answers, boardText) {
+    this.board = readBoard(answers);
+    this.reader.forget();
+    this.changes.forget();
+    this.editor.close(false);
+    const face = new Face(boardText);
+    this.front.draw(this.board, face);
+    this.ram.draw(this.board);
+    this.ports.draw(this.board, face);
+    const count = this.board.lamps.length;
+    this.wiring.draw(this.board, { names: lampNames(face, count), colours: lampColours(face, count) });
+    this.forgetRom();
+  }
+
+  /** The bytes of ROM may have changed. */
+  forgetRom() {
+    this.listing.forget();
+    this.stack.forget();
+  }
+
+  /** @param {string} boardText may have another face */
+  readFace(boardText) {
+    this.front.change(this.board, new Face(boardText));
+  }
+
+  /**
+   * Shows the names of the program that stands in ROM.
+   * @param {SourceMap | null} map null where the source is not that program
+   * @param {string} words why it is not
+   */
+  nameLines(map, words) {
+    this.sourceTold.set(words);
+    this.listing.nameLines(map);
+    this.goTo.takeNames(map);
+    this.showListing();
+  }
+
+  /** @param {string[]} look */
+  show(look) {
+    this.showChanged(this.reader.read(look));
+    if (this.calls.isRunning()) this.changes.runs();
+    else this.changes.stops();
+  }
+
+  /** @param {Changed} changed */
+  showChanged({ lamps, registers, ports, breakpoints, watches, ram = [] }) {
+    if (lamps !== undefined) this.front.showLamps(lamps);
+    if (ports) {
+      this.front.showKeys(ports.keys);
+      this.ports.show(ports);
+      this.wiring.showPorts(ports);
+    }
+    if (registers) {
+      this.registers.show(registers);
+      this.stack.show(registers);
+      this.testWord.set(`TEST ${registers.test}`);
+      this.test.set(registers.test === "1");
+      this.front.showTest(registers.test);
+      this.wiring.showTest(registers.test === "1");
+      this.listing.counter = parseInt(registers.counter, 16);
+    }
+    for (const told of ram) {
+      this.ram.show(told);
+      this.wiring.showRam(told);
+    }
+    if (this.watcher) this.tellWatcher(this.watcher, lamps, ports);
+    if (watches) this.ram.showWatches(watches);
+    if (breakpoints) this.listing.breakpoints = new Set(breakpoints);
+    if (breakpoints) this.calls.breakAt(breakpoints);
+    if (registers || breakpoints || this.listing.lines.length === 0) this.showListing();
+  }
+
+  /**
+   * @param {Watcher} watcher
+   * @param {string | undefined} lamps
+   * @param {import("../bench/answers.js").Ports | undefined} ports
+   */
+  tellWatcher(watcher, lamps, ports) {
+    if (lamps !== undefined) watcher.seeLamps(lamps);
+    if (ports) watcher.seeKeys(ports.keys.length);
+  }
+
+  showListing() {
+    this.calls.isAt(this.listing.counter);
+    const isRunning = this.calls.isRunning();
+    this.listing.show(this.calls.isFast()).catch(this.calls.failed);
+    this.stack.explain(this.listing.map, isRunning).catch(this.calls.failed);
+  }
+}

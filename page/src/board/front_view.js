@@ -1,0 +1,152 @@
+// The front of a board: its title, its displays and lamps, and its keys, with what is at its TEST pin.
+
+import { hintOfKeys, keysOf } from "./board_keys.js";
+import { DisplayView } from "./display_view.js";
+import { block, button, element, oneStop, pressedSwitch, setStop } from "../dom.js";
+import { sorted } from "./face.js";
+import { missingOf } from "./face_board.js";
+import { LampsView } from "./lamps_view.js";
+
+/**
+ * @typedef {import("../bench/answers.js").Board} Board
+ * @typedef {import("./board_keys.js").BoardKey} BoardKey
+ * @typedef {import("./face.js").Face} Face
+ * @typedef {BoardKey & { button: HTMLButtonElement, down: import("../dom.js").Switch }} ShownKey
+ */
+
+const TITLE = "Lamps and keys";
+
+export class FrontView {
+  /** @param {(button: HTMLButtonElement, key: BoardKey) => void} listen makes a button press its key */
+  constructor(listen) {
+    this.listen = listen;
+    /** @type {ShownKey[]} with what is at TEST, if the face tells that */
+    this.keys = [];
+    /** @type {Set<string>} the keys that the bench tells to be down, as `row.column` */
+    this.down = new Set();
+    /** The level of the TEST pin. */
+    this.level = "";
+    /** What `lamps` told last. */
+    this.marks = "";
+    /** What the face was read from. */
+    this.told = "";
+    this.columns = 1;
+    this.lamps = new LampsView();
+    this.display = new DisplayView();
+    this.block = block("keys");
+    oneStop(this.block, () => this.columns);
+  }
+
+  /**
+   * Draws another board.
+   * @param {Board} board
+   * @param {Face} face
+   */
+  draw(board, face) {
+    this.told = face.told;
+    this.marks = "";
+    this.drawFace(board, face);
+  }
+
+  /**
+   * Draws another face of the same board, if it is another one. A text without any face may be one that is just being written: the board
+   * keeps its face then until it is wired.
+   * @param {Board} board
+   * @param {Face} face
+   */
+  change(board, face) {
+    this.drawFaults(board, face);
+    if (this.told === face.told || face.told === "") return;
+    this.told = face.told;
+    this.drawFace(board, face);
+    this.showLamps(this.marks);
+  }
+
+  /**
+   * @param {Board} board
+   * @param {Face} face
+   */
+  drawFace(board, face) {
+    const heading = block("front-title");
+    (heading.querySelector("button") || heading).textContent = face.title || TITLE;
+    this.display.draw(board.lamps, face);
+    this.lamps.draw(board.lamps, face);
+    this.drawKeys(board, face);
+    this.drawFaults(board, face);
+  }
+
+  /**
+   * What the comments tell and what is not understood, or is not on the board.
+   * @param {Board} board
+   * @param {Face} face
+   */
+  drawFaults(board, face) {
+    const faults = sorted([...face.faults, ...missingOf(face, board)]);
+    const root = block("face-faults");
+    root.replaceChildren(...faults.map(({ line, words }) => element("li", {}, `line ${line} of the board's text: ${words}`)));
+    root.hidden = faults.length === 0;
+  }
+
+  /**
+   * @param {Board} board
+   * @param {Face} face
+   */
+  drawKeys(board, face) {
+    this.columns = Math.max(1, board.columns);
+    this.block.style.setProperty("--columns", String(this.columns));
+    this.block.classList.toggle("many", this.columns > 5);
+    this.keys = keysOf(board, face).map((key) => this.shownKey(key));
+    this.block.replaceChildren(...this.keys.map((key) => key.button));
+    this.block.hidden = this.keys.length === 0;
+    block("typing-label").hidden = this.keys.length === 0;
+    // What the face shows is turned there.
+    button("test").hidden = face.test !== null;
+    setStop(this.block);
+    block("keys-hint").textContent = hintOfKeys(this.keys);
+    this.showKeys([...this.down]);
+  }
+
+  /**
+   * @param {BoardKey} key
+   * @returns {ShownKey}
+   */
+  shownKey(key) {
+    const node = element("button", { type: "button", className: "key", disabled: key.legend === "" }, element("b", {}, key.legend));
+    node.classList.toggle("unnamed", !key.isNamed);
+    node.classList.toggle("at-test", key.place.startsWith("test"));
+    node.classList.toggle("switch", key.isSwitch);
+    if (key.letter && key.letter !== key.legend) node.append(element("kbd", {}, key.letter));
+    node.setAttribute("aria-label", key.words);
+    this.listen(node, key);
+    return { ...key, button: node, down: pressedSwitch(node) };
+  }
+
+  /** @param {string} marks a `*` for each lamp that is lit */
+  showLamps(marks) {
+    this.marks = marks;
+    this.lamps.show(marks);
+    this.display.show(marks);
+  }
+
+  /**
+   * Which keys are down, as the bench tells it.
+   * @param {string[]} down
+   */
+  showKeys(down) {
+    this.down = new Set(down);
+    for (const key of this.keys) key.down.set(this.isDown(key.place));
+  }
+
+  /** @param {string} level of the TEST pin */
+  showTest(level) {
+    if (this.level === level) return;
+    this.level = level;
+    for (const key of this.keys) key.down.set(this.isDown(key.place));
+  }
+
+  /** @param {string} place */
+  isDown(place) {
+    if (place.startsWith("test ")) return place === `test ${this.level}`;
+    return this.down.has(place.replace(" ", "."));
+  }
+}

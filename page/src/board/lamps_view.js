@@ -1,0 +1,156 @@
+// The lamps of a board: where its face tells a place for them, there; all others in rows, with their names or those of their lines.
+
+import { block, element } from "../dom.js";
+import { isLit } from "./display_text.js";
+import { endOf } from "./face_board.js";
+import { upTo } from "../bench/numbers.js";
+
+/**
+ * @typedef {import("./face.js").Face} Face
+ * @typedef {import("./face.js").Group} Group
+ */
+
+/** A lamp that is drawn. It changes the page only where it is lit or dark now and was not before. */
+class Lamp {
+  /**
+   * @param {number} at its number
+   * @param {string} name
+   * @param {string} line
+   * @param {string} colour
+   */
+  constructor(at, name, line, colour) {
+    this.at = at;
+    this.isLit = false;
+    this.words = { lit: `${name}, lit`, dark: `${name}, dark` };
+    this.node = element("span", { className: `bulb ${colour}`, title: line });
+    this.node.setAttribute("role", "img");
+    this.node.setAttribute("aria-label", this.words.dark);
+  }
+
+  /** @param {boolean} isOn */
+  set(isOn) {
+    if (this.isLit === isOn) return;
+    this.isLit = isOn;
+    this.node.classList.toggle("lit", isOn);
+    this.node.setAttribute("aria-label", isOn ? this.words.lit : this.words.dark);
+  }
+}
+
+/** @param {string} line `ram0.3.2` is line 2 of the port `ram0.3` */
+function portOf(line) {
+  return line.slice(0, line.lastIndexOf("."));
+}
+
+export class LampsView {
+  constructor() {
+    /** @type {Lamp[]} */
+    this.lamps = [];
+    /** @type {string[]} */
+    this.lines = [];
+    /** @type {Face | null} */
+    this.face = null;
+  }
+
+  /**
+   * @param {string[]} lines of the board's lamps
+   * @param {Face} face
+   */
+  draw(lines, face) {
+    this.lamps = [];
+    this.lines = lines;
+    this.face = face;
+    const groups = face.groups.filter((group) => endOf(group) <= lines.length);
+    const grid = face.grid.filter(({ lamp }) => lamp < lines.length);
+    const placed = new Set(grid.map(({ lamp }) => lamp));
+    for (const group of groups) for (let at = group.first; at < endOf(group); at++) placed.add(at);
+    if (groups.some(({ kind }) => kind === "display")) placed.add(minusOf(face));
+    const drawn = groups.filter(({ kind }) => kind !== "display").map((group) => this.drawGroup(group));
+    if (grid.length > 0) drawn.push(this.drawGrid(grid));
+    block("groups").replaceChildren(...drawn);
+    block("lamps").replaceChildren(...this.drawRows(upTo(lines.length).filter((at) => !placed.has(at))));
+  }
+
+  /** @param {number} at */
+  nameOf(at) {
+    const told = this.face && this.face.lamps.get(at);
+    return told ? told.text.replace(/_/g, " ") : "";
+  }
+
+  /**
+   * @param {number} at
+   * @param {string} name what it is called where it has none
+   */
+  lamp(at, name) {
+    const colour = this.face && this.face.colours.get(at);
+    const lamp = new Lamp(at, this.nameOf(at) || name, this.lines[at], colour ? colour.text : "red");
+    this.lamps.push(lamp);
+    return lamp.node;
+  }
+
+  /**
+   * A die, a bar or a matrix.
+   * @param {Group} group
+   */
+  drawGroup({ kind, first, rows, columns }) {
+    const cells = upTo(rows * columns).map((at) => {
+      const place = rows > 1 ? `row ${Math.floor(at / columns)}, column ${at % columns}` : `lamp ${at + 1} of ${columns}`;
+      return element("li", {}, this.lamp(first + at, place));
+    });
+    const list = element("ul", { className: `group ${kind}` }, ...cells);
+    list.setAttribute("aria-label", kind);
+    list.style.setProperty("--columns", String(columns));
+    return list;
+  }
+
+  /** @param {Face["grid"]} grid */
+  drawGrid(grid) {
+    const named = grid.some(({ lamp }) => this.nameOf(lamp) !== "");
+    const cells = grid.map(({ row, column, lamp }) => {
+      const node = element("li", {}, this.lamp(lamp, `row ${row}, column ${column}`));
+      if (named) node.append(element("span", {}, this.nameOf(lamp)));
+      node.style.setProperty("grid-row", String(row + 1));
+      node.style.setProperty("grid-column", String(column + 1));
+      return node;
+    });
+    const list = element("ul", { className: named ? "group grid named" : "group grid" }, ...cells);
+    list.setAttribute("aria-label", "lamps");
+    return list;
+  }
+
+  /**
+   * Lamps without a place: those with names, and between them the unnamed ones, a row for each port.
+   * @param {number[]} loose
+   */
+  drawRows(loose) {
+    /** @type {{ port: string, cells: HTMLElement[] }[]} */
+    const rows = [];
+    for (const at of loose) {
+      const name = this.nameOf(at);
+      const port = name ? "" : portOf(this.lines[at]);
+      if (rows.length === 0 || rows[rows.length - 1].port !== port) rows.push({ port, cells: [] });
+      const shown = name || this.lines[at].slice(port.length + 1);
+      rows[rows.length - 1].cells.push(element("li", {}, this.lamp(at, this.lines[at]), element("span", {}, shown)));
+    }
+    return rows.map(({ port, cells }) => {
+      const list = element("ul", {}, ...cells);
+      const told = this.face && this.face.ports.get(port);
+      list.setAttribute("aria-label", port || "lamps");
+      if (!port) return element("div", { className: "lamp-row named" }, list);
+      return element("div", { className: "lamp-row" }, element("b", { title: port }, told ? told.text : port), list);
+    });
+  }
+
+  /** @param {string} marks a `*` for each lamp that is lit */
+  show(marks) {
+    for (const lamp of this.lamps) lamp.set(isLit(marks, lamp.at));
+  }
+}
+
+/**
+ * The lamp that is the minus of a display, -1 where there is none.
+ * @param {Face} face
+ */
+export function minusOf(face) {
+  for (const [at, { text }] of face.lamps) if (text === "minus") return at;
+  return -1;
+}

@@ -1,0 +1,184 @@
+// Fingers on keys: pointers, the keyboard, and what they mean while time runs and while it stands still.
+
+/**
+ * @typedef {import("./board_keys.js").BoardKey} BoardKey
+ *
+ * What it calls: whether time runs; whether the bench tells a key to be down; changes of keys that wait for their time; and a change at
+ * once, while time stands still.
+ * @typedef {{ isRunning: () => boolean, isDown: (place: string) => boolean, press: (place: string) => void,
+ *   release: (place: string) => void, change: (word: "press" | "release", place: string) => void,
+ *   meant: (event: KeyboardEvent) => BoardKey | undefined }} PressingCalls
+ */
+
+/**
+ * What a finger has done to a key: whether the key is to stay so when the finger goes, and what takes it back.
+ * @typedef {{ stays: boolean, takeBack: () => void }} Held
+ */
+
+/** A finger on the glass presses after so many milliseconds, or when it goes: one that swipes over the page has been told by then. */
+const SWIPE_TIME = 60;
+
+export class Pressing {
+  /** @param {PressingCalls} calls */
+  constructor(calls) {
+    this.calls = calls;
+    /** @type {Map<string, Held>} the keys that a finger holds */
+    this.held = new Map();
+    /** @type {Map<number, number>} the timers of fingers that may be swiping, by pointer */
+    this.resting = new Map();
+  }
+
+  /** Forgets the fingers: the keys are others now. */
+  forget() {
+    this.held.clear();
+    for (const timer of this.resting.values()) clearTimeout(timer);
+    this.resting.clear();
+  }
+
+  /**
+   * @param {HTMLButtonElement} button
+   * @param {BoardKey} key
+   */
+  listen(button, key) {
+    const { place } = key;
+    button.addEventListener("pointerdown", (event) => {
+      if (event.button !== 0) return;
+      event.preventDefault();
+      button.setPointerCapture(event.pointerId);
+      if (event.pointerType === "touch") this.rest(event.pointerId, key);
+      else this.down(key, event.shiftKey);
+    });
+    button.addEventListener("pointerup", (event) => {
+      // A tap was shorter than the time that tells it from a swipe.
+      if (this.lift(event.pointerId)) this.down(key, false);
+      this.up(place);
+    });
+    button.addEventListener("pointercancel", (event) => {
+      if (!this.lift(event.pointerId)) this.takeBack(place);
+    });
+    button.addEventListener("lostpointercapture", () => this.up(place));
+    button.addEventListener("contextmenu", (event) => event.preventDefault());
+    button.addEventListener("keydown", (event) => this.activate(event, () => this.down(key, event.shiftKey)));
+    button.addEventListener("keyup", (event) => this.activate(event, () => this.up(place)));
+    // A click that is neither, as a screen reader makes it, is a short press.
+    button.addEventListener("click", (event) => {
+      if (event.detail !== 0 || (event instanceof PointerEvent && event.pointerId > 0)) return;
+      this.down(key, false);
+      this.up(place);
+    });
+  }
+
+  /**
+   * @param {KeyboardEvent} event
+   * @param {() => void} act
+   */
+  activate(event, act) {
+    if (event.key !== " " && event.key !== "Enter") return;
+    event.preventDefault();
+    event.stopPropagation();
+    if (!event.repeat) act();
+  }
+
+  /**
+   * A finger rests on a key: it is pressed in a moment, unless the browser takes the finger for a swipe.
+   * @param {number} pointer
+   * @param {BoardKey} key
+   */
+  rest(pointer, key) {
+    this.resting.set(pointer, window.setTimeout(() => {
+      this.resting.delete(pointer);
+      this.down(key, false);
+    }, SWIPE_TIME));
+  }
+
+  /**
+   * A finger goes; whether it had pressed nothing so far.
+   * @param {number} pointer
+   */
+  lift(pointer) {
+    clearTimeout(this.resting.get(pointer));
+    return this.resting.delete(pointer);
+  }
+
+  /**
+   * A switch stays as a press puts it, and so does a key that is pressed with Shift.
+   * @param {Pick<BoardKey, "place" | "isSwitch">} key
+   * @param {boolean} hasShift
+   */
+  down({ place, isSwitch }, hasShift) {
+    if (this.held.has(place)) return;
+    const isDown = this.calls.isDown(place);
+    const { change, press, release } = this.calls;
+    if (!this.calls.isRunning()) {
+      change(isDown ? "release" : "press", place);
+      this.held.set(place, { stays: true, takeBack: () => change(isDown ? "press" : "release", place) });
+    } else if (isDown) {
+      // It stayed down; this press lets it go.
+      release(place);
+      this.held.set(place, { stays: true, takeBack: () => press(place) });
+    } else {
+      press(place);
+      this.held.set(place, { stays: hasShift || isSwitch, takeBack: () => release(place) });
+    }
+  }
+
+  /**
+   * The finger was swiping: the key is as it was before.
+   * @param {string} place
+   */
+  takeBack(place) {
+    const held = this.held.get(place);
+    this.held.delete(place);
+    if (held) held.takeBack();
+  }
+
+  /**
+   * The finger goes. Where time stands still meanwhile, the key goes up when it runs on.
+   * @param {string} place
+   */
+  up(place) {
+    const held = this.held.get(place);
+    if (held === undefined) return;
+    this.held.delete(place);
+    if (!held.stays) this.calls.release(place);
+  }
+
+  allUp() {
+    for (const place of [...this.held.keys()]) this.up(place);
+  }
+
+  /** The keys of the keyboard press the keys of the board, where nothing else on the page wants them. */
+  listenToKeyboard() {
+    /** @type {Map<string, string>} */
+    const typedAt = new Map();
+    addEventListener("keydown", (event) => {
+      const key = this.calls.meant(event);
+      if (!key) return;
+      event.preventDefault();
+      if (event.repeat || typedAt.has(event.code)) return;
+      typedAt.set(event.code, key.place);
+      this.down(key, false);
+    });
+    addEventListener("keyup", (event) => {
+      const place = typedAt.get(event.code);
+      typedAt.delete(event.code);
+      if (place !== undefined) this.up(place);
+    });
+    // What goes up elsewhere is not told to this page.
+    addEventListener("blur", () => {
+      typedAt.clear();
+      this.allUp();
+    });
+  }
+}
+
+/**
+ * Whether an element wants a key of the keyboard for itself.
+ * @param {EventTarget | null} target
+ * @param {string} typed
+ */
+export function wantsKey(target, typed) {
+  if (!(target instanceof Element)) return false;
+  if (target.matches("input:not([type=checkbox]), textarea, select") || target.closest("[contenteditable]")) return true;
+  return target.matches("button, summary, a, input") && (typed === "Enter" || typed === " ");
+}

@@ -1,0 +1,264 @@
+// The wiring of a board as a drawing: its parts with their pins, and the wires between them, each at its place. Nothing here draws.
+
+/**
+ * @typedef {import("../bench/answers.js").Board} Board
+ *
+ * A pin of a part. `line` is the line of the board that it is at, as the board's text names it ("" for the TEST pin); a lamp has a colour.
+ * @typedef {{ line: string, label: string, colour?: string, x: number, y: number }} Pin
+ *
+ * A part: its name in the text (`rom 1`, `ram 0.2`, `chain 0`, `keys`, `lamps`, `processor`), what it is called, and where it stands.
+ * @typedef {{ id: string, kind: string, title: string, x: number, y: number, width: number, height: number, pins: Pin[],
+ *   says: string[] }} Part
+ *
+ * A wire from the pin that drives a line to a pin that takes it.
+ * @typedef {{ line: string, from: Pin, to: Pin }} Wire
+ * @typedef {{ parts: Part[], wires: Wire[], width: number, height: number }} Picture
+ *
+ * What the lamps are called, "" for one without a name, and their colours, "" for one that has none of its own.
+ * @typedef {{ names: string[], colours: string[] }} LampLook
+ */
+
+export const PIN_STEP = 18;
+export const HEAD = 26;
+const GAP = 14;
+const EDGE = 10;
+/** The columns of parts: how wide their parts are, and how much room the wires have before them. */
+const COLUMNS = [
+  { room: 0, width: 70 },
+  { room: 16, width: 112 },
+  { room: 90, width: 118 },
+  { room: 90, width: 150 },
+];
+
+/** Parts of one column, one below the other. */
+class Column {
+  /**
+   * @param {number} x
+   * @param {number} width
+   */
+  constructor(x, width) {
+    this.x = x;
+    this.width = width;
+    this.bottom = EDGE;
+  }
+
+  /**
+   * Adds a part with pins at its left and its right side.
+   * @param {Pick<Part, "id" | "kind" | "title" | "says">} part
+   * @param {{ line: string, label: string, colour?: string }[]} left
+   * @param {{ line: string, label: string }[]} right
+   * @returns {Part}
+   */
+  add(part, left, right) {
+    const { x, width } = this;
+    const y = this.bottom;
+    const height = HEAD + Math.max(left.length, right.length, 1) * PIN_STEP;
+    this.bottom += height + GAP;
+    /** @type {(pinX: number) => (pin: { line: string, label: string, colour?: string }, at: number) => Pin} */
+    const put = (pinX) => (pin, at) => ({ ...pin, x: pinX, y: y + HEAD + at * PIN_STEP + PIN_STEP / 2 });
+    return { ...part, x, y, width, height, pins: [...left.map(put(x)), ...right.map(put(x + width))] };
+  }
+}
+
+/** Which line each pin of the board takes, with the words for it. */
+class Uses {
+  /** @param {Board} board */
+  constructor(board) {
+    /** @type {Map<string, string[]>} */
+    this.words = new Map();
+    /** @type {Map<string, number>} at which of all uses a line is used first */
+    this.places = new Map();
+    board.chains.forEach(({ clock, data }, at) => {
+      this.add(clock, `clocks chain ${at}`);
+      this.add(data, `is the data of chain ${at}`);
+    });
+    if (board.matrix) this.addMatrix(board.matrix);
+    board.lamps.forEach((line, at) => this.add(line, `lights lamp ${at}`));
+  }
+
+  /** @param {NonNullable<Board["matrix"]>} matrix */
+  addMatrix({ chain, first, rows, columns }) {
+    for (let row = 0; row < rows; row++) this.add(`chain${chain}.${first + row}`, `drives row ${row} of the keys`);
+    columns.forEach((line, at) => this.add(line, `reads column ${at} of the keys`));
+  }
+
+  /**
+   * @param {string} line
+   * @param {string} words
+   */
+  add(line, words) {
+    if (!this.words.has(line)) this.places.set(line, this.places.size);
+    this.words.set(line, [...(this.words.get(line) || []), words]);
+  }
+
+  /**
+   * How far down a line is used: rows come first, then columns, then lamps.
+   * @param {string} line
+   */
+  placeOf(line) {
+    return this.places.get(line) || 0;
+  }
+
+  /** @param {string} line */
+  of(line) {
+    return this.words.get(line) || [];
+  }
+
+  /**
+   * What a line does, in words.
+   * @param {string} name
+   * @param {string} line
+   */
+  say(name, line) {
+    const uses = this.of(line);
+    return `${name} ${uses.length > 0 ? uses.join(" and ") : "is not used"}`;
+  }
+}
+
+/**
+ * The four lines of a port, line 3 first in the mask.
+ * @param {string} chip `rom1` or `ram0.2`
+ */
+function linesOfPort(chip) {
+  return [0, 1, 2, 3].map((number) => ({ line: `${chip}.${number}`, label: String(number) }));
+}
+
+/**
+ * @param {Column} column
+ * @param {Board["roms"][number]} rom
+ * @param {Uses} uses
+ */
+function drawRom(column, { chip, port }, uses) {
+  const pins = linesOfPort(`rom${chip}`).map((pin, at) => ({ ...pin, label: `${port[3 - at] === "i" ? "in" : "out"} ${at}` }));
+  const says = pins.map(({ line, label }) => uses.say(`line ${line}, ${label.startsWith("in") ? "an input" : "an output"},`, line));
+  return column.add({ id: `rom ${chip}`, kind: "rom", title: `ROM ${chip} · 4001`, says }, [], pins);
+}
+
+/**
+ * @param {Column} column
+ * @param {number} bank
+ * @param {number} chip
+ * @param {Uses} uses
+ */
+function drawRam(column, bank, chip, uses) {
+  const pins = linesOfPort(`ram${bank}.${chip}`).map((pin) => ({ ...pin, label: `out ${pin.label}` }));
+  const says = pins.map(({ line }) => uses.say(`line ${line}, an output,`, line));
+  return column.add({ id: `ram ${bank}.${chip}`, kind: "ram", title: `RAM ${bank}.${chip} · 4002`, says }, [], pins);
+}
+
+/**
+ * A chain with the bits that something uses.
+ * @param {Column} column
+ * @param {Board["chains"][number]} chain
+ * @param {number} at
+ * @param {Uses} uses
+ */
+function drawChain(column, { clock, data, chips }, at, uses) {
+  const bits = Array.from({ length: chips * 10 }, (_, bit) => ({ line: `chain${at}.${bit}`, label: `bit ${bit}` }));
+  const used = bits.filter(({ line }) => uses.of(line).length > 0).sort((one, other) => uses.placeOf(one.line) - uses.placeOf(other.line));
+  const says = [`its clock is ${clock}`, `its data is ${data}`, ...used.map(({ line, label }) => uses.say(label, line))];
+  const inputs = [{ line: clock, label: "clock" }, { line: data, label: "data" }];
+  return column.add({ id: `chain ${at}`, kind: "chain", title: `Chain ${at} · ${chips} × 4003`, says }, inputs, used);
+}
+
+/**
+ * @param {Column} column
+ * @param {NonNullable<Board["matrix"]>} matrix
+ */
+function drawKeys(column, { chain, first, rows, columns }) {
+  const rowPins = Array.from({ length: rows }, (_, row) => ({ line: `chain${chain}.${first + row}`, label: `row ${row}` }));
+  const columnPins = columns.map((line, at) => ({ line, label: `column ${at}` }));
+  const says = [...rowPins.map(({ line, label }) => `${label} is driven by ${line}`), ...columnPins.map(({ line, label }) => (
+    `${label} is read at ${line}`))];
+  return column.add({ id: "keys", kind: "keys", title: `Keys · ${rows} × ${columns.length}`, says }, [...rowPins, ...columnPins], []);
+}
+
+/**
+ * @param {Column} column
+ * @param {string[]} lamps
+ * @param {LampLook} look
+ */
+function drawLamps(column, lamps, { names, colours }) {
+  const pins = lamps.map((line, at) => ({ line, label: names[at] || `lamp ${at}`, colour: colours[at] || "red" }));
+  const says = pins.map(({ line, label }) => `${label} is at ${line}`);
+  return column.add({ id: "lamps", kind: "lamps", title: `Lamps · ${lamps.length}`, says }, pins, []);
+}
+
+/**
+ * The wires: a line goes from the pin of the chip or chain that has it to each other pin with its name.
+ * @param {Part[]} parts
+ */
+function wiresOf(parts) {
+  /** @type {Map<string, Pin>} */
+  const sources = new Map();
+  for (const part of parts) {
+    const owner = part.id.replace(" ", "");
+    for (const pin of part.pins) if (pin.line.startsWith(`${owner}.`)) sources.set(pin.line, pin);
+  }
+  /** @type {Wire[]} */
+  const wires = [];
+  for (const { pins } of parts) {
+    for (const pin of pins) {
+      const from = sources.get(pin.line);
+      if (from && from !== pin) wires.push({ line: pin.line, from, to: pin });
+    }
+  }
+  return wires;
+}
+
+/**
+ * The columns, of which those that have no parts take no room.
+ * @param {boolean[]} areUsed
+ */
+function columnsOf(areUsed) {
+  let right = EDGE;
+  return COLUMNS.map(({ room, width }, at) => {
+    const column = new Column(right + room, width);
+    if (areUsed[at]) right += room + width;
+    return column;
+  });
+}
+
+/**
+ * The drawing of a board.
+ * @param {Board} board
+ * @param {LampLook} look
+ * @returns {Picture}
+ */
+export function drawBoard(board, look = { names: [], colours: [] }) {
+  const uses = new Uses(board);
+  const hasChips = board.roms.length + board.banks.length > 0;
+  const hasFront = board.matrix !== null || board.lamps.length > 0;
+  const columns = columnsOf([true, hasChips, board.chains.length > 0, hasFront]);
+  const [first, second, third, fourth] = columns;
+  const says = ["it reads the ROMs' bytes and ports, writes the ports, and reads and writes RAM", "TEST is its own input"];
+  const parts = [first.add({ id: "processor", kind: "processor", title: "4004", says }, [], [{ line: "", label: "TEST" }])];
+  for (const rom of [...board.roms].sort((one, other) => one.chip - other.chip)) parts.push(drawRom(second, rom, uses));
+  for (const { bank, chips } of board.banks) {
+    for (let chip = 0; chip < chips; chip++) parts.push(drawRam(second, bank, chip, uses));
+  }
+  board.chains.forEach((chain, at) => parts.push(drawChain(third, chain, at, uses)));
+  if (board.matrix) parts.push(drawKeys(fourth, board.matrix));
+  if (board.lamps.length > 0) parts.push(drawLamps(fourth, board.lamps, look));
+  const width = Math.max(...parts.map((part) => part.x + part.width)) + EDGE;
+  return { parts, wires: wiresOf(parts), width, height: Math.max(...columns.map(({ bottom }) => bottom)) };
+}
+
+/**
+ * Whether a line of a port is at 1.
+ * @param {string} digit what the port has, as a hexadecimal digit
+ * @param {number} line
+ */
+export function isHigh(digit, line) {
+  return ((parseInt(digit, 16) >> line) & 1) === 1;
+}
+
+/**
+ * Whether a line of a ROM's port is at 1: an input line has what is read at it, an output line what the latch holds.
+ * @param {string} mask the port in the board's text, line 3 first
+ * @param {{ out: string, in: string }} told
+ * @param {number} line
+ */
+export function isHighAtRom(mask, told, line) {
+  return isHigh(mask[3 - line] === "i" ? told.in : told.out, line);
+}

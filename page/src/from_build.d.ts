@@ -1,0 +1,5 @@
+// What page/build puts into the scripts of the page.
+declare module "#answer-table" {
+  const text: string;
+  export default text;
+}

@@ -1,0 +1,78 @@
+// What guides: the help, the first program, the box for lines, and the picture of the wiring beside its text.
+
+import { readRun } from "../bench/answers.js";
+import { partAtLine, placesOfParts } from "../bench/board_places.js";
+import { HelpView } from "./help_view.js";
+import { LinesView } from "./lines_view.js";
+import { linesOfBench } from "./manual.js";
+import { TourView } from "./tour_view.js";
+
+/**
+ * @typedef {import("./manual.js").ManualSection} ManualSection
+ * @typedef {import("../page.js").Page} Page
+ */
+
+export class Guide {
+  /**
+   * @param {Page} page
+   * @param {ManualSection[]} manual
+   */
+  constructor(page, manual) {
+    this.page = page;
+    this.help = new HelpView(manual);
+    this.lines = new LinesView(linesOfBench(manual), {
+      send: (lines) => page.send(lines),
+      wordsOf: (answer) => page.log.wordsOf(answer),
+      help: (wanted) => this.help.open(wanted),
+    });
+    this.tour = new TourView({ begin: (example) => this.beginTour(example), put: (program) => this.put(program) });
+    page.machine.watcher = this.tour;
+    page.ended = (answer) => this.ended(answer);
+    page.layout.tabs.whenShown("wiring", () => page.machine.wiring.setShown(true));
+    for (const name of ["program", "board"]) page.layout.tabs.whenShown(name, () => page.machine.wiring.setShown(false));
+    page.machine.wiring.setShown(page.layout.tabs.shown === "wiring");
+    page.machine.wiring.select = (name) => this.selectPart(name);
+    page.boardEditor.editor.caret = (line) => page.machine.wiring.mark(partAtLine(placesOfParts(page.boardEditor.text), line));
+    addEventListener("keydown", (event) => this.typed(event));
+  }
+
+  /** @param {string} answer that ended a run early */
+  ended(answer) {
+    const run = readRun(answer);
+    if (run) this.tour.seeEnd(run.end);
+  }
+
+  /**
+   * Shows a part's lines in the board's text.
+   * @param {string} name
+   */
+  selectPart(name) {
+    const { boardEditor, layout } = this.page;
+    const lines = placesOfParts(boardEditor.text).get(name);
+    if (!lines) return;
+    layout.tabs.choose("board");
+    boardEditor.editor.select(lines);
+  }
+
+  /** @param {KeyboardEvent} event */
+  typed(event) {
+    if (event.key !== "F1" || this.page.sessions.isOpen) return;
+    event.preventDefault();
+    if (this.help.isOpen) this.help.close();
+    else this.help.open();
+  }
+
+  /** @param {import("../worker/examples.js").Example} example */
+  async beginTour(example) {
+    const isDone = await this.page.begin(example);
+    if (isDone) this.help.close();
+    if (isDone) this.page.layout.tabs.choose("program");
+    return isDone;
+  }
+
+  /** @param {string} program */
+  put(program) {
+    this.page.layout.tabs.choose("program");
+    this.page.programEditor.replaceText(program);
+  }
+}

@@ -1,0 +1,40 @@
+// Where "go to" goes: a name of the program, an address as listings print it, or a number as lines write it.
+
+import { LAST_ADDRESS, numberOf } from "../bench/numbers.js";
+
+/**
+ * @typedef {import("./source_map.js").SourceMap} SourceMap
+ *
+ * The address, or why there is none, in words.
+ * @typedef {{ address: number, words: string }} Goal
+ */
+
+/** Three digits are an address of a listing, also where all of them are decimal ones. */
+const OF_LISTING = /^[0-9a-f]{3}$/i;
+const NUMBER = /^(0x[0-9a-f]+|\d+)$/i;
+
+/**
+ * @param {string} words
+ * @returns {Goal}
+ */
+function refused(words) {
+  return { address: 0, words };
+}
+
+/**
+ * @param {string} text
+ * @param {SourceMap | null} map the program that stands in ROM
+ * @returns {Goal}
+ */
+export function goalOf(text, map) {
+  const word = text.trim();
+  const value = map ? map.valueOf(word) : undefined;
+  if (value !== undefined) return { address: value, words: "" };
+  const address = OF_LISTING.test(word) ? parseInt(word, 16) : numberOf(word);
+  if (address <= LAST_ADDRESS) return { address, words: "" };
+  if (NUMBER.test(word)) return refused(`${word} is no address: the last one is FFF, or 4095.`);
+  const forms = "write an address as the listing does (01E), as 0x01E or in decimal (30)";
+  if (word === "") return refused(`Nothing to go to: ${forms}.`);
+  if (map) return refused(`${word} is neither a name of the program nor an address: ${forms}.`);
+  return refused(`${word} is no address: ${forms}. Names are known while the source is what stands in ROM.`);
+}

@@ -1,0 +1,41 @@
+// Asks the bench for the stretch of a listing that is wanted, and for no more.
+
+import { readListing } from "../bench/answers.js";
+import { linesOf, matchAnswers, readInputs } from "../bench/inputs.js";
+import { beginningsOf, isInStep, linesNeeded } from "./listing_stretch.js";
+
+/**
+ * @typedef {import("../bench/answers.js").Listed} Listed
+ * @typedef {import("./listing_stretch.js").Goal} Goal
+ */
+
+export class ListingReader {
+  /** @param {(lines: string) => Promise<string[]>} ask gives the answers to questions */
+  constructor(ask) {
+    this.ask = ask;
+  }
+
+  /**
+   * A list that is in step with the goal's anchor; most often the first one that is tried is.
+   * @param {Goal} goal
+   * @param {number} rows
+   */
+  async read(goal, rows) {
+    /** @type {Listed[]} */
+    let lines = [];
+    for (const start of beginningsOf(goal, rows)) {
+      lines = await this.list(start, linesNeeded(start, goal, rows));
+      if (isInStep(lines, goal.anchor)) break;
+    }
+    return lines;
+  }
+
+  /**
+   * @param {number} start
+   * @param {number} count
+   */
+  async list(start, count) {
+    const lines = linesOf([`list ${start} ${count}`]);
+    return readListing(matchAnswers(readInputs(lines), await this.ask(lines))[0]);
+  }
+}

@@ -1,0 +1,143 @@
+// The RAM of a board, bank by bank: each character with its address, watched by a click and edited in place.
+
+import { Cell, block, element, oneStop, pressedSwitch, setStop } from "../dom.js";
+import { hex, upTo } from "../bench/numbers.js";
+
+/**
+ * @typedef {import("../bench/answers.js").Board} Board
+ * @typedef {import("../bench/answers.js").Ram} Ram
+ * @typedef {import("./cell_editor.js").CellEditor} CellEditor
+ * @typedef {import("./changes.js").Changes} Changes
+ * @typedef {import("../dom.js").Switch} Switch
+ * @typedef {{ bank: number, chip: number, register: number }} Register where a register is
+ * @typedef {{ characters: Cell[], status: Cell[], shown: string }} ShownRegister
+ */
+
+const CHARACTERS = 16;
+const STATUS = 4;
+const PORT_WORDS = "No line changes what a port of a RAM chip puts out: a program does, by WMP.";
+
+/** @param {Register} register */
+function wordsOf({ bank, chip, register }) {
+  return `bank ${bank}, chip ${chip}, register ${register}`;
+}
+
+export class RamView {
+  /**
+   * @param {Changes} changes
+   * @param {CellEditor} editor
+   * @param {(bank: number, source: number, isWatched: boolean, cell: HTMLElement) => void} toggleWatch
+   */
+  constructor(changes, editor, toggleWatch) {
+    this.changes = changes;
+    this.editor = editor;
+    this.toggleWatch = toggleWatch;
+    /** @type {Map<string, Switch>} whether a character is watched, by its name in answers */
+    this.watched = new Map();
+    /** @type {Map<string, ShownRegister>} */
+    this.registers = new Map();
+    /** @type {Map<string, Cell>} */
+    this.ports = new Map();
+    this.block = block("banks");
+    oneStop(this.block, () => CHARACTERS + STATUS);
+  }
+
+  /**
+   * Draws the banks that have chips.
+   * @param {Board} board
+   */
+  draw(board) {
+    this.watched.clear();
+    this.registers.clear();
+    this.ports.clear();
+    this.block.replaceChildren(...board.banks.map((bank) => this.drawBank(bank)));
+    block("memory-hint").hidden = board.banks.length === 0;
+    if (board.banks.length === 0) this.block.textContent = "This board has no RAM.";
+    setStop(this.block);
+  }
+
+  /** @param {{ bank: number, chips: number }} bank */
+  drawBank({ bank, chips }) {
+    const rows = upTo(chips).flatMap((chip) => upTo(4).map((register) => this.drawRegister({ bank, chip, register })));
+    const heads = ["characters 0 to F", "status", "port"].map((word) => element("th", { scope: "col" }, word));
+    const head = element("thead", {}, element("tr", {}, element("td"), ...heads));
+    return element("table", { className: "ram" }, element("caption", {}, `bank ${bank}`), head, element("tbody", {}, ...rows));
+  }
+
+  /** @param {Register} at */
+  drawRegister(at) {
+    const { bank, chip, register } = at;
+    const characters = upTo(CHARACTERS).map((character) => this.drawCharacter(at, character));
+    const status = upTo(STATUS).map((character) => this.drawStatus(at, character));
+    this.registers.set(`${bank}.${chip}.${register}`, { characters, status, shown: "" });
+    const cells = [characters, status].map((some) => element("td", {}, ...some.map(({ node }) => node)));
+    const row = element("tr", {}, element("th", { scope: "row", title: wordsOf(at) }, `${chip}.${register}`), ...cells);
+    if (register === 0) row.append(this.drawPort(bank, chip));
+    return row;
+  }
+
+  /**
+   * @param {Register} at
+   * @param {number} character
+   */
+  drawCharacter(at, character) {
+    const { bank } = at;
+    const source = at.chip * 64 + at.register * 16 + character;
+    const button = element("button", { type: "button", title: `${wordsOf(at)}, character ${character}: SRC byte ${hex(source, 2)}` });
+    const watched = pressedSwitch(button);
+    this.watched.set(`${bank}.${hex(source, 2)}`, watched);
+    this.editor.offer(button, { place: `ram.${bank}.0x${hex(source, 2)}`, name: button.title, digits: 1 });
+    let wasOn = false;
+    button.addEventListener("click", (event) => {
+      if (event.detail > 0) button.blur();
+      if (event.detail > 2) return;
+      // The second click of a double click takes back what the first one did.
+      wasOn = event.detail === 2 ? !wasOn : watched.isOn;
+      this.toggleWatch(bank, source, wasOn, button);
+    });
+    return new Cell(button);
+  }
+
+  /**
+   * @param {Register} at
+   * @param {number} character
+   */
+  drawStatus(at, character) {
+    const button = element("button", { type: "button", className: "status", title: `${wordsOf(at)}, status character ${character}` });
+    const place = `st.${at.bank}.${at.chip * 4 + at.register}.${character}`;
+    this.editor.offer(button, { place, name: button.title, digits: 1 });
+    return new Cell(button);
+  }
+
+  /**
+   * @param {number} bank
+   * @param {number} chip
+   */
+  drawPort(bank, chip) {
+    const cell = new Cell(element("span", { title: `bank ${bank}, chip ${chip}: what its output port holds` }));
+    this.editor.refuse(cell.node, PORT_WORDS);
+    this.ports.set(`${bank}.${chip}`, cell);
+    return element("td", { rowSpan: 4, className: "port" }, cell.node);
+  }
+
+  /** @param {Ram} told */
+  show(told) {
+    for (const [place, { characters, status }] of told.registers) {
+      const shown = this.registers.get(place);
+      if (!shown || shown.shown === characters + status) continue;
+      shown.shown = characters + status;
+      shown.characters.forEach((cell, at) => this.changes.set(cell, characters[at]));
+      shown.status.forEach((cell, at) => this.changes.set(cell, status[at]));
+    }
+    for (const [place, value] of told.ports) {
+      const port = this.ports.get(place);
+      if (port) this.changes.set(port, value);
+    }
+  }
+
+  /** @param {string[]} names */
+  showWatches(names) {
+    const watched = new Set(names);
+    for (const [name, isWatched] of this.watched) isWatched.set(watched.has(name));
+  }
+}

@@ -1,0 +1,167 @@
+// Sessions and files: opening, making, copying, saving. A session that cannot be opened leaves the one that is shown alone.
+
+import { download } from "./download.js";
+import { runsAtOnce } from "../worker/examples.js";
+import { newRecord } from "./kept_session.js";
+import { LONGEST_PROJECT, isProject, projectText, readProject } from "./project_file.js";
+import { NotKept, wordsOfStoreFault } from "./store.js";
+
+/**
+ * @typedef {import("../bench/bench.js").Bench} Bench
+ * @typedef {import("../worker/examples.js").Example} Example
+ * @typedef {import("./kept_session.js").KeptSession} KeptSession
+ * @typedef {import("./locks.js").Locks} Locks
+ * @typedef {import("./locks.js").Release} Release
+ * @typedef {import("./store.js").SessionRecord} SessionRecord
+ * @typedef {import("./store.js").SessionStore} SessionStore
+ * @typedef {import("../words.js").Words} Words
+ *
+ * What it calls: the session that is shown; it is kept; another one is shown in its place; something was refused.
+ * @typedef {{ session: () => KeptSession | null, keep: () => Promise<string>, refuse: (words: string) => void,
+ *   use: (record: SessionRecord, release: Release, example: string) => Promise<void> }} Desk where nothing was done yet in a session of
+ *   an example, `example` is its name
+ */
+
+const IN_ANOTHER_TAB = "This session is open in another tab. Go on there, close that tab, or open a copy of it.";
+
+export class Cabinet {
+  /**
+   * @param {Bench} bench
+   * @param {SessionStore} store
+   * @param {Locks} locks
+   * @param {Words} words
+   * @param {Desk} desk
+   */
+  constructor(bench, store, locks, words, desk) {
+    this.bench = bench;
+    this.store = store;
+    this.locks = locks;
+    this.words = words;
+    this.desk = desk;
+  }
+
+  /** The sessions that are kept, the one that was changed last before the others. */
+  async kept() {
+    try {
+      return (await this.store.all()).sort((a, b) => b.changed - a.changed);
+    } catch (fault) {
+      this.desk.refuse(`The sessions that are kept could not be read: ${wordsOfStoreFault(fault)}.`);
+      return [];
+    }
+  }
+
+  /** @param {string} id */
+  async keptRecord(id) {
+    const record = await this.store.get(id);
+    if (!record) throw new NotKept("it is no longer kept here");
+    return record;
+  }
+
+  /**
+   * @param {string} words
+   * @returns {false}
+   */
+  refuse(words) {
+    this.desk.refuse(words);
+    return false;
+  }
+
+  /**
+   * Opens a session that is kept; false where it is in use elsewhere, gone or damaged, which is told.
+   * @param {string} id
+   */
+  async open(id) {
+    const release = await this.locks.take(id);
+    if (!release) return this.refuse(IN_ANOTHER_TAB);
+    try {
+      await this.desk.use(await this.keptRecord(id), release, "");
+      return true;
+    } catch (fault) {
+      release();
+      return this.refuse(`The session was not opened: ${this.words.ofFault(fault)}.`);
+    }
+  }
+
+  /**
+   * Makes a record, takes its lock and shows it.
+   * @param {() => Promise<SessionRecord>} make
+   * @param {string} example
+   */
+  async useNew(make, example = "") {
+    try {
+      const record = await make();
+      await this.desk.use(record, (await this.locks.take(record.id)) || (() => {}), example);
+      return true;
+    } catch (fault) {
+      return this.refuse(`No session was made: ${this.words.ofFault(fault)}.`);
+    }
+  }
+
+  /**
+   * A new session from an example.
+   * @param {Example} example
+   */
+  begin(example) {
+    const texts = { boardText: example.board, programText: example.program };
+    return this.useNew(async () => newRecord(example.name, await this.bench.call("make", [example]), texts, runsAtOnce(example)),
+      example.name);
+  }
+
+  /** @param {string} id */
+  async copy(id) {
+    const shown = this.desk.session();
+    if (shown && shown.record.id === id) await this.desk.keep();
+    return this.useNew(async () => {
+      const record = await this.keptRecord(id);
+      return newRecord(`${record.name}, a copy`, record.file, record);
+    });
+  }
+
+  /**
+   * A file becomes a new session: a project, or a session alone.
+   * @param {File} file
+   */
+  async openFile(file) {
+    try {
+      const bytes = new Uint8Array(await file.slice(0, LONGEST_PROJECT + 1).arrayBuffer());
+      const record = isProject(bytes) ? await this.ofProject(bytes) : await this.ofSession(file.name, bytes);
+      return await this.useNew(async () => record);
+    } catch (fault) {
+      return this.refuse(`${file.name} was not opened: ${this.words.ofFault(fault)}. The session that is shown is as it was.`);
+    }
+  }
+
+  /**
+   * A project's session stays as it is, to the byte.
+   * @param {Uint8Array} bytes
+   */
+  async ofProject(bytes) {
+    const project = readProject(bytes, this.bench.size);
+    await this.bench.call("settled", [project.file]);
+    return newRecord(project.name || "session", project.file, project);
+  }
+
+  /**
+   * The bench itself says whether bytes are a session.
+   * @param {string} fileName
+   * @param {Uint8Array} bytes
+   */
+  async ofSession(fileName, bytes) {
+    // One byte more than a session has is enough for the bench to see that it is too long.
+    const settled = await this.bench.call("settled", [bytes.slice(0, this.bench.size + 1)]);
+    const texts = await this.bench.call("texts", [settled]);
+    return newRecord(fileName.replace(/\.mcs$/i, ""), settled, texts);
+  }
+
+  /** Saves the session that is shown with its texts, as a project. */
+  save() {
+    const session = this.desk.session();
+    if (session) download(session.record.name, ".mcsp", new Blob([projectText(session.record)], { type: "application/octet-stream" }));
+  }
+
+  /** Saves the session alone, for the program. */
+  saveSession() {
+    const session = this.desk.session();
+    if (session) download(session.record.name, ".mcs", new Blob([session.record.file], { type: "application/octet-stream" }));
+  }
+}

@@ -1,0 +1,29 @@
+// The checksum that POSIX's `cksum` prints, so that whoever has a file can see by a command of the system that it is whole.
+
+const POLYNOMIAL = 0x04c11db7;
+
+/** What each value of a byte does to the remainder. */
+const STEPS = Uint32Array.from({ length: 256 }, (_, value) => {
+  let left = value << 24;
+  for (let bit = 0; bit < 8; bit++) left = left < 0 ? (left << 1) ^ POLYNOMIAL : left << 1;
+  return left;
+});
+
+/**
+ * @param {number} sum
+ * @param {number} byte
+ */
+function step(sum, byte) {
+  return (sum << 8) ^ STEPS[((sum >>> 24) ^ byte) & 255];
+}
+
+/**
+ * The sum of some bytes: their remainder, with their count after them, as a number without a sign.
+ * @param {Uint8Array} bytes
+ */
+export function checksum(bytes) {
+  let sum = 0;
+  for (let at = 0; at < bytes.length; at++) sum = step(sum, bytes[at]);
+  for (let left = bytes.length; left > 0; left = Math.floor(left / 256)) sum = step(sum, left & 255);
+  return ~sum >>> 0;
+}

@@ -1,0 +1,50 @@
+// What texts are, in words for someone who has not seen them yet.
+
+import { Face } from "../board/face.js";
+
+/** @typedef {import("../bench/answers.js").Board} Board */
+
+/**
+ * The first sentence of the comment that a text begins with, "" where there is none.
+ * @param {string} text
+ * @param {string} mark begins a comment
+ */
+function firstSentence(text, mark) {
+  const comment = [];
+  for (const line of text.split("\n")) {
+    const words = line.startsWith(mark) ? line.replace(/^[#; ]+|[#; ]+$/g, "") : "";
+    if (words === "") break;
+    comment.push(words);
+  }
+  const [sentence] = comment.join(" ").split(/[.:](?: |$)/);
+  return sentence && `${sentence[0].toUpperCase()}${sentence.slice(1)}.`;
+}
+
+/**
+ * A title: the one that the board's text tells, or the first sentence of a text.
+ * @param {string} boardText
+ * @param {string} programText
+ */
+export function titleOf(boardText, programText) {
+  return new Face(boardText).title || firstSentence(boardText, "#") || firstSentence(programText, ";");
+}
+
+/**
+ * @param {number} count
+ * @param {string} word
+ */
+function counted(count, word) {
+  return count === 0 ? [] : [`${count} ${word}${count === 1 ? "" : "s"}`];
+}
+
+/**
+ * What is on a board, as `2 ROMs, 1 RAM chip, 3 lamps`.
+ * @param {Board} board
+ */
+export function wordsOfBoard({ roms, banks, chains, lamps, rows, columns }) {
+  const chips = banks.reduce((sum, bank) => sum + bank.chips, 0);
+  const shifts = chains.reduce((sum, chain) => sum + chain.chips, 0);
+  const parts = [...counted(roms.length, "ROM"), ...counted(chips, "RAM chip"), ...counted(shifts, "shift register"),
+    ...counted(lamps.length, "lamp"), ...counted(rows * columns, "key")];
+  return parts.length === 0 ? "no chip yet" : parts.join(", ");
+}

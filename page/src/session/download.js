@@ -1,0 +1,18 @@
+// Gives the user a file.
+
+import { element } from "../dom.js";
+
+/** How long the bytes of a file are held for the browser, in milliseconds. */
+const HELD_TIME = 10000;
+
+/**
+ * @param {string} name
+ * @param {string} ending of the file's name
+ * @param {Blob} bytes
+ */
+export function download(name, ending, bytes) {
+  const link = element("a", { href: URL.createObjectURL(bytes) });
+  link.download = `${name.replace(/[^\w .,()-]/g, "_").trim() || "session"}${ending}`;
+  link.click();
+  setTimeout(() => URL.revokeObjectURL(link.href), HELD_TIME);
+}

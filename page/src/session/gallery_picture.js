@@ -1,0 +1,127 @@
+// The picture of an example in the gallery: its front, small, as its text tells it. Which lamps are lit depends on the program, so some
+// are drawn lit: the first of each colour, and the digits of a display.
+
+import { placesOfParts } from "../bench/board_places.js";
+import { Face } from "../board/face.js";
+import { endOf } from "../board/face_board.js";
+import { upTo } from "../bench/numbers.js";
+
+/**
+ * A shape: a lamp, a key with its legend, or a display with its digits. Sizes are in the picture's own units.
+ * @typedef {{ kind: "lamp", x: number, y: number, size: number, colour: string, isLit: boolean }} LampShape
+ * @typedef {{ kind: "key", x: number, y: number, width: number, height: number, legend: string }} KeyShape
+ * @typedef {{ kind: "display", x: number, y: number, width: number, height: number, digits: string }} DisplayShape
+ * @typedef {LampShape | KeyShape | DisplayShape} Shape
+ * @typedef {{ width: number, height: number, shapes: Shape[] }} GalleryPicture
+ */
+
+const WIDTH = 120;
+const GAP = 4;
+/** Where the pips of a die stand, in the order of its lamps: columns from the left and rows from the top, 0 to 2. */
+const PIPS = [[0, 0], [2, 0], [0, 1], [1, 1], [2, 1], [0, 2], [2, 2]];
+
+class Drawing {
+  /** @param {string} text of a board */
+  constructor(text) {
+    this.face = new Face(text);
+    this.places = placesOfParts(text);
+    /** @type {Shape[]} */
+    this.shapes = [];
+    this.bottom = GAP;
+    /** @type {Set<string>} the colours of which one lamp is lit */
+    this.litColours = new Set();
+    /** @type {Set<number>} the lamps that are drawn */
+    this.drawn = new Set();
+  }
+
+  get lampCount() {
+    return [...this.places.keys()].filter((name) => name.startsWith("lamp ")).length;
+  }
+
+  /**
+   * @param {number} lamp
+   * @param {number} x of its middle
+   * @param {number} y of its middle
+   * @param {number} size
+   */
+  lamp(lamp, x, y, size) {
+    const told = this.face.colours.get(lamp);
+    const colour = told ? told.text : "red";
+    const isLit = !this.litColours.has(colour);
+    this.litColours.add(colour);
+    this.drawn.add(lamp);
+    this.shapes.push({ kind: "lamp", x, y, size, colour, isLit });
+  }
+
+  drawGroups() {
+    for (const group of this.face.groups.filter((each) => endOf(each) <= this.lampCount)) {
+      for (let lamp = group.first; lamp < endOf(group); lamp++) this.drawn.add(lamp);
+      if (group.kind === "display") this.drawDisplay(group.rows);
+      else if (group.kind === "die") this.drawAt(upTo(7).map((at) => ({ lamp: group.first + at, column: PIPS[at][0], row: PIPS[at][1] })));
+      else {
+        const { first, rows, columns } = group;
+        this.drawAt(upTo(rows * columns).map((at) => ({ lamp: first + at, column: at % columns, row: Math.floor(at / columns) })));
+      }
+    }
+  }
+
+  /** @param {number} digits */
+  drawDisplay(digits) {
+    const height = 24;
+    const text = upTo(digits).map((at) => String((at + 1) % 10)).join("");
+    this.shapes.push({ kind: "display", x: GAP, y: this.bottom, width: WIDTH - 2 * GAP, height, digits: text });
+    this.bottom += height + GAP;
+  }
+
+  /**
+   * Lamps on a grid, as large as they fit.
+   * @param {{ lamp: number, column: number, row: number }[]} places
+   */
+  drawAt(places) {
+    if (places.length === 0) return;
+    const columns = Math.max(...places.map(({ column }) => column)) + 1;
+    const rows = Math.max(...places.map(({ row }) => row)) + 1;
+    const step = Math.min(16, (WIDTH - 2 * GAP) / columns);
+    const left = (WIDTH - columns * step) / 2;
+    for (const { lamp, column, row } of places) {
+      this.lamp(lamp, left + (column + 0.5) * step, this.bottom + (row + 0.5) * step, step * 0.36);
+    }
+    this.bottom += rows * step + GAP;
+  }
+
+  drawOtherLamps() {
+    const columns = 8;
+    const others = upTo(this.lampCount).filter((lamp) => !this.drawn.has(lamp));
+    this.drawAt(others.map((lamp, at) => ({ lamp, column: at % Math.min(columns, others.length), row: Math.floor(at / columns) })));
+  }
+
+  drawKeys() {
+    const keys = [...this.face.keys].map(([place, { text }]) => {
+      const [row, column] = place.split(" ").map(Number);
+      return { row, column, legend: text };
+    }).filter(({ legend }) => legend !== "");
+    if (keys.length === 0) return;
+    const columns = Math.max(...keys.map(({ column }) => column)) + 1;
+    const width = Math.min(30, (WIDTH - 2 * GAP) / columns);
+    const left = (WIDTH - columns * width) / 2;
+    const height = Math.min(14, width);
+    for (const { row, column, legend } of keys) {
+      const [x, y] = [left + column * width + 1, this.bottom + row * height + 1];
+      this.shapes.push({ kind: "key", x, y, width: width - 2, height: height - 2, legend });
+    }
+    this.bottom += (Math.max(...keys.map(({ row }) => row)) + 1) * height + GAP;
+  }
+}
+
+/**
+ * @param {string} boardText
+ * @returns {GalleryPicture}
+ */
+export function galleryPicture(boardText) {
+  const drawing = new Drawing(boardText);
+  drawing.drawGroups();
+  drawing.drawAt(drawing.face.grid.filter(({ lamp }) => lamp < drawing.lampCount));
+  drawing.drawOtherLamps();
+  drawing.drawKeys();
+  return { width: WIDTH, height: Math.max(40, drawing.bottom), shapes: drawing.shapes };
+}

@@ -1,0 +1,98 @@
+// A session that is open in this tab: its record, which is the newest that the bench has told, and how it is kept.
+
+import { wordsOfStoreFault } from "./store.js";
+
+/**
+ * @typedef {import("./locks.js").Release} Release
+ * @typedef {import("./store.js").SessionRecord} SessionRecord
+ * @typedef {import("./store.js").SessionStore} SessionStore
+ */
+
+let made = 0;
+
+/**
+ * @param {string} name
+ * @param {Uint8Array} file
+ * @param {{ boardText: string, programText: string }} texts
+ * @param {boolean} runs
+ * @returns {SessionRecord}
+ */
+export function newRecord(name, file, { boardText, programText }, runs = false) {
+  made += 1;
+  const id = `${Date.now().toString(36)}-${made}-${Math.floor(Math.random() * 1e9).toString(36)}`;
+  return { id, name, file, boardText, programText, runs, revision: 0, changed: Date.now() };
+}
+
+export class KeptSession {
+  /**
+   * @param {SessionStore} store
+   * @param {SessionRecord} record
+   * @param {Release} release gives the lock of the session back
+   * @param {string} example where nothing was done yet in a session of an example, the name of it; such a session is not kept
+   */
+  constructor(store, record, release, example = "") {
+    this.store = store;
+    this.record = record;
+    this.release = release;
+    this.example = example;
+    /** @type {Promise<string>} the write that is under way */
+    this.writing = Promise.resolve("");
+    /** @type {Promise<string> | null} the write after it */
+    this.waiting = null;
+  }
+
+  /**
+   * Takes the new bytes of the file; gives the array of the old ones, which is free then.
+   * @param {ArrayBuffer} file
+   * @returns {ArrayBuffer}
+   */
+  take(file) {
+    const old = this.record.file.buffer;
+    this.record.file = new Uint8Array(file);
+    return old;
+  }
+
+  /**
+   * Writes what the session is now. The promise gives "" once it is on the disk, and else what went wrong, in words. Calls that come
+   * while it writes share the next write.
+   * @returns {Promise<string>}
+   */
+  keep() {
+    if (this.isUntouched) return Promise.resolve("");
+    if (this.waiting === null) {
+      this.waiting = this.writing.then(() => {
+        this.waiting = null;
+        this.writing = this.write();
+        return this.writing;
+      });
+    }
+    return this.waiting;
+  }
+
+  /** The same for a page that is just going away and cannot wait. Some stores need the answer to the write before. */
+  keepNow() {
+    return this.store.isWhole && !this.isUntouched ? this.write() : this.keep();
+  }
+
+  get isUntouched() {
+    return this.example !== "";
+  }
+
+  /** Something is done in the session: from here on it is kept. Tells whether this is the first time. */
+  touch() {
+    const { isUntouched } = this;
+    this.example = "";
+    return isUntouched;
+  }
+
+  /** @returns {Promise<string>} */
+  async write() {
+    try {
+      this.record.changed = Date.now();
+      await this.store.put(this.record);
+      return "";
+    } catch (fault) {
+      return wordsOfStoreFault(fault);
+    }
+  }
+}

@@ -1,0 +1,33 @@
+// The lines of an example, put where they can be sent. What a user has typed there is not lost by it.
+
+import { byId } from "../dom.js";
+
+/** @typedef {import("../notice.js").Notice} Notice */
+
+export class OfferedLines {
+  /** @param {Notice} notice */
+  constructor(notice) {
+    this.notice = notice;
+    this.area = byId("lines", HTMLTextAreaElement);
+    /** What was offered last. */
+    this.offered = "";
+  }
+
+  /** @param {string} lines of an example, "" where another session has none */
+  offer(lines) {
+    const typed = this.area.value;
+    const isOwn = typed.trim() !== "" && typed !== this.offered;
+    this.offered = lines;
+    if (isOwn && lines === "") return;
+    this.put(lines);
+    if (!isOwn) return;
+    this.notice.show("The example's lines stand in the place of lines that were not sent.", "undo",
+      { word: "Undo", act: () => this.put(typed) });
+  }
+
+  /** @param {string} lines */
+  put(lines) {
+    this.area.value = lines;
+    this.area.dispatchEvent(new Event("input"));
+  }
+}

@@ -1,0 +1,242 @@
+// A project: the session's file, its name and the texts of both editors in one file, which is a text. tools/project takes it apart
+// and puts it together, to the byte as here; the manual ("A project file") says what each line of it is.
+
+import { checksum } from "./checksum.js";
+import { hex } from "../bench/numbers.js";
+
+/**
+ * @typedef {{ name: string, boardText: string, programText: string }} Texts
+ * @typedef {Texts & { file: Uint8Array }} Project
+ * @typedef {"wire" | "asm"} Word the line before a text
+ */
+
+const FIRST_LINE = "fethsaim project 1";
+const ABOUT = "# A board, its program and a session of the bench Fethsaim. Its page opens this file; tools/project takes it apart.";
+/** A text ends at a line with a dot alone, as one that is sent to the bench does. */
+const DOT = ".";
+const LAST_LINE = "end";
+const SUM_LINE = /^cksum \d+$/;
+/** So many bytes stand in a line of the session; a line of zeros is left out. */
+const BYTES_OF_LINE = 16;
+/** No project has more bytes: its texts and its session have far less. */
+export const LONGEST_PROJECT = 4 << 20;
+
+/** Why bytes are no project, in words. */
+export class NotAProject extends Error {}
+
+// --- writing ---
+
+/**
+ * The lines of a text. In a line of dots alone one more dot stands in the file, so that none of them ends the text.
+ * @param {Word} word
+ * @param {string} text
+ */
+function linesOfText(word, text) {
+  const lines = text.split("\n");
+  if (lines[lines.length - 1] === "") lines.pop();
+  return [word, ...lines.map((line) => (/^\.+$/.test(line) ? `.${line}` : line)), DOT];
+}
+
+/**
+ * A line is told to have no end where the last one of a text has none.
+ * @param {Word} word
+ * @param {string} text
+ */
+function unended(word, text) {
+  return text === "" || text.endsWith("\n") ? [] : [`unended ${word}`];
+}
+
+/** @param {Uint8Array} file */
+function linesOfFile(file) {
+  const lines = [];
+  for (let at = 0; at < file.length; at += BYTES_OF_LINE) {
+    const bytes = file.subarray(at, at + BYTES_OF_LINE);
+    if (bytes.some((byte) => byte !== 0)) {
+      const digits = Array.from(bytes, (byte) => byte.toString(16).padStart(2, "0")).join("");
+      lines.push(`${hex(at, 5).toLowerCase()} ${digits}`);
+    }
+  }
+  return [`session ${file.length}`, ...lines, DOT];
+}
+
+/**
+ * A carriage return before the end of a line says nothing, to the bench neither.
+ * @param {string} text
+ */
+function plainLines(text) {
+  return text.replace(/\r(?=\n|$)/g, "");
+}
+
+/**
+ * The lines of a name and two texts.
+ * @param {Texts} texts
+ */
+export function linesOfTexts({ name, boardText, programText }) {
+  const board = plainLines(boardText);
+  const program = plainLines(programText);
+  return [`name ${name.replace(/\s+/g, " ").trim()}`, ...unended("wire", board), ...unended("asm", program),
+    ...linesOfText("wire", board), ...linesOfText("asm", program)];
+}
+
+/**
+ * The text of a project.
+ * @param {Project} project
+ */
+export function projectText(project) {
+  const rest = `${[ABOUT, ...linesOfTexts(project), ...linesOfFile(project.file), LAST_LINE].join("\n")}\n`;
+  return `${FIRST_LINE}\ncksum ${checksum(new TextEncoder().encode(rest))}\n${rest}`;
+}
+
+// --- reading ---
+
+/**
+ * Whether bytes begin as those of a project do.
+ * @param {Uint8Array} bytes
+ */
+export function isProject(bytes) {
+  return /^\uFEFF?fethsaim project /.test(new TextDecoder("utf-8", { ignoreBOM: true }).decode(bytes.subarray(0, 40)));
+}
+
+/** The lines of a project, one after the other. */
+export class Lines {
+  /** @param {string} text */
+  constructor(text) {
+    this.all = text.split("\n");
+    this.at = 0;
+  }
+
+  get next() {
+    return this.all[this.at];
+  }
+
+  take() {
+    const line = this.all[this.at];
+    this.at += 1;
+    return line;
+  }
+
+  /**
+   * @param {string} wanted
+   * @returns {NotAProject}
+   */
+  fault(wanted) {
+    return new NotAProject(`line ${this.at + 1} of the project has to be ${wanted}`);
+  }
+
+  /**
+   * The lines from a word on up to a dot.
+   * @param {string} word
+   */
+  upToDot(word) {
+    if (this.next !== word) throw this.fault(`\`${word}\``);
+    const end = this.all.indexOf(DOT, this.at + 1);
+    if (end < 0) throw new NotAProject(`the text after \`${word}\` has no end, a line with a dot alone`);
+    const lines = this.all.slice(this.at + 1, end);
+    this.at = end + 1;
+    return lines;
+  }
+}
+
+/**
+ * Its first two lines are looked at, and its last one.
+ * @param {string} text
+ */
+function checkWhole(text) {
+  const first = text.slice(0, text.indexOf("\n"));
+  const version = /^fethsaim project (\d+)$/.exec(first);
+  if (!version) throw new NotAProject("not a project of Fethsaim");
+  if (first !== FIRST_LINE) throw new NotAProject(`a project of version ${version[1]}, which this page does not know`);
+  if (!text.endsWith(`\n${LAST_LINE}\n`)) throw new NotAProject(`the project is cut off: its last line, \`${LAST_LINE}\`, is missing`);
+  const found = /^[^\n]*\ncksum (\d+)\n/.exec(text);
+  if (!found) return;
+  const sum = checksum(new TextEncoder().encode(text.slice(found[0].length)));
+  if (sum !== Number(found[1])) {
+    throw new NotAProject("the project is damaged, or was changed by hand: its checksum is another one. "
+      + "Whoever changes one by hand takes its line `cksum` out");
+  }
+}
+
+/**
+ * The lines up to the first text: its name, and which texts have a last line without an end.
+ * @param {Lines} lines
+ */
+function readHead(lines) {
+  let name = "";
+  const open = new Set();
+  while (lines.next !== "wire") {
+    const [isOfHead, word, rest] = /^(name|unended) (.+)$|^#/.exec(lines.next) || [];
+    if (isOfHead === undefined) throw lines.fault("one of the head: `name`, `unended`, `#`, or `wire`, which begins the board's text");
+    if (word === "name") name = rest;
+    if (word === "unended") open.add(rest);
+    lines.take();
+  }
+  return { name, open };
+}
+
+/**
+ * @param {Lines} lines
+ * @param {Word} word
+ * @param {Set<string>} open
+ */
+function readText(lines, word, open) {
+  const text = lines.upToDot(word).map((line) => `${/^\.\.+$/.test(line) ? line.slice(1) : line}\n`).join("");
+  return open.has(word) ? text.slice(0, -1) : text;
+}
+
+/**
+ * A name and two texts.
+ * @param {Lines} lines
+ * @returns {Texts}
+ */
+export function readTexts(lines) {
+  const { name, open } = readHead(lines);
+  return { name, boardText: readText(lines, "wire", open), programText: readText(lines, "asm", open) };
+}
+
+/**
+ * @param {Lines} lines
+ * @param {number} size how many bytes a session file has
+ */
+function readFile(lines, size) {
+  const first = lines.at + 2;
+  const file = new Uint8Array(size);
+  let end = 0;
+  lines.upToDot(`session ${size}`).forEach((line, at) => {
+    const found = /^([0-9a-f]{5}) ([0-9a-f]{32})$/.exec(line);
+    const address = found ? parseInt(found[1], 16) : 0;
+    if (!found || address % BYTES_OF_LINE !== 0 || address < end || address >= size) {
+      throw new NotAProject(`line ${first + at} of the project is not one of a session`);
+    }
+    file.set((found[2].match(/../g) || []).map((digits) => parseInt(digits, 16)), address);
+    end = address + BYTES_OF_LINE;
+  });
+  return file;
+}
+
+/**
+ * What is in a project; it throws where bytes are none.
+ * @param {Uint8Array} bytes
+ * @param {number} size how many bytes a session file has
+ * @returns {Project}
+ */
+export function readProject(bytes, size) {
+  if (bytes.length > LONGEST_PROJECT) throw new NotAProject("the file has more bytes than a project can have");
+  const text = decoded(bytes);
+  checkWhole(text);
+  const lines = new Lines(text);
+  lines.take();
+  if (SUM_LINE.test(lines.next)) lines.take();
+  const texts = readTexts(lines);
+  const file = readFile(lines, size);
+  if (lines.take() !== LAST_LINE || lines.at !== lines.all.length - 1) throw lines.fault("the end of the file");
+  return { ...texts, file };
+}
+
+/** @param {Uint8Array} bytes */
+function decoded(bytes) {
+  try {
+    return plainLines(new TextDecoder("utf-8", { fatal: true }).decode(bytes));
+  } catch {
+    throw new NotAProject("the project is damaged: it is not a text in UTF-8");
+  }
+}

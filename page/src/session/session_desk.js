@@ -1,0 +1,156 @@
+// Sessions on the page: which one is shown first, what the dialog of sessions does, and what an address names.
+
+import { readAddress } from "./address.js";
+import { Bin, namesOf } from "./bin.js";
+import { Cabinet } from "./cabinet.js";
+import { OfferedLines } from "./offered_lines.js";
+import { Persistence } from "./persistence.js";
+import { SessionsView } from "./sessions_view.js";
+
+/**
+ * @typedef {import("../worker/examples.js").Example} Example
+ * @typedef {import("./kept_session.js").KeptSession} KeptSession
+ * @typedef {import("./locks.js").Release} Release
+ * @typedef {import("../page.js").Parts} Parts
+ * @typedef {import("./store.js").SessionRecord} SessionRecord
+ *
+ * What it calls: the session that is shown; it is kept; another one is shown in its place; it gets another name; a link is opened.
+ * @typedef {{ session: () => KeptSession | null, keep: () => Promise<string>, rename: (name: string) => void,
+ *   use: (record: SessionRecord, release: Release, example: string) => Promise<void>, link: (text: string) => Promise<void> }} Calls
+ */
+
+const KEPT_HERE = "They are kept in this browser, on this machine. To have one elsewhere, or to be safe when the browser forgets, save it "
+  + "to a file. An example is kept from the first thing on that you do in it.";
+const PROMISED = " The browser has promised to keep them where its space is short, too.";
+const KEPT_NOWHERE = "This browser keeps nothing for this page: save a session to a file before you leave.";
+
+export class SessionDesk {
+  /**
+   * @param {Parts} parts
+   * @param {Calls} calls
+   */
+  constructor({ bench, store, locks, words, notice, examples }, calls) {
+    this.calls = calls;
+    this.store = store;
+    this.notice = notice;
+    this.examples = examples;
+    this.persistence = new Persistence();
+    this.lines = new OfferedLines(notice);
+    /** @type {(words: string) => void} */
+    const refuse = (told) => notice.show(told, "session");
+    this.cabinet = new Cabinet(bench, store, locks, words, {
+      ...calls,
+      refuse,
+      use: async (record, release, example) => {
+        await calls.use(record, release, example);
+        this.lines.offer("");
+      },
+    });
+    this.bin = new Bin(store, locks, refuse);
+    this.view = this.makeView();
+  }
+
+  makeView() {
+    const { cabinet, bin, calls } = this;
+    return new SessionsView(this.examples, this.notice, {
+      kept: () => cabinet.kept(),
+      isShown: (id) => this.isShown(id),
+      open: (id) => this.open(id),
+      copy: (id) => cabinet.copy(id),
+      remove: (records) => this.remove(records),
+      deleted: () => bin.deleted,
+      bringBack: (records) => bin.bringBack(records),
+      begin: (example) => this.begin(example),
+      openFile: (file) => cabinet.openFile(file),
+      save: () => cabinet.save(),
+      saveSession: () => cabinet.saveSession(),
+      rename: (name) => calls.rename(name),
+      keptWhere: () => (this.store.keeps ? KEPT_HERE + (this.persistence.isPromised ? PROMISED : "") : KEPT_NOWHERE),
+    });
+  }
+
+  /** @param {string} id */
+  isShown(id) {
+    const session = this.calls.session();
+    return session !== null && session.record.id === id;
+  }
+
+  /** There is something to lose from here on. */
+  touched() {
+    if (this.store.keeps) this.persistence.ask();
+  }
+
+  /** @param {string} id */
+  open(id) {
+    return this.cabinet.open(id);
+  }
+
+  /**
+   * A new session from an example. Its other lines are put where they can be sent.
+   * @param {Example} example
+   */
+  async begin(example) {
+    const isDone = await this.cabinet.begin(example);
+    if (isDone) this.lines.offer(example.lines);
+    return isDone;
+  }
+
+  /** @param {string} name of an example */
+  async beginNamed(name) {
+    const example = this.examples.find((each) => each.name === name);
+    if (example) return this.begin(example);
+    this.notice.show(`The address names an example, "${name}", that this page does not have.`, "session");
+    return false;
+  }
+
+  /**
+   * Deletes sessions, which can be undone.
+   * @param {SessionRecord[]} records
+   */
+  async remove(records) {
+    const done = await this.bin.remove(records);
+    if (done.length === 0) return;
+    this.notice.show(`Deleted ${namesOf(done)}.`, "undo", { word: "Undo", act: () => this.bringBack(done) });
+  }
+
+  /** @param {SessionRecord[]} records */
+  async bringBack(records) {
+    await this.bin.bringBack(records);
+    if (this.view.isOpen) await this.view.draw();
+  }
+
+  /** What the address names, else the session that was used last and is not open in another tab, else the first example. */
+  async openFirst() {
+    const { kind, value } = readAddress(location.hash);
+    if (!(await this.openNamed(kind, value))) await this.openLast(kind === "" || kind === "link");
+    if (kind === "link") await this.calls.link(value);
+  }
+
+  /**
+   * @param {string} kind
+   * @param {string} value
+   */
+  async openNamed(kind, value) {
+    if (kind === "session") return this.open(value);
+    return kind === "example" ? this.beginNamed(value) : false;
+  }
+
+  /** @param {boolean} isQuiet whether sessions that are open in other tabs are passed over without a word */
+  async openLast(isQuiet) {
+    for (const record of await this.cabinet.kept()) {
+      if (await this.open(record.id)) return;
+      if (isQuiet) this.notice.hide("session");
+    }
+    await this.begin(this.examples[0]);
+  }
+
+  /** The address is another one: what it names is shown, if it is not here already. */
+  async follow() {
+    const { kind, value } = readAddress(location.hash);
+    const session = this.calls.session();
+    if (!session) return;
+    if (kind === "link") await this.calls.link(value);
+    else if (kind === "session" && !this.isShown(value)) await this.open(value);
+    else if (kind === "example" && session.example !== value) await this.beginNamed(value);
+  }
+}

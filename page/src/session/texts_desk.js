@@ -1,0 +1,142 @@
+// The texts of the two editors, as the session that is shown has them: they are kept, and one that is replaced can be brought back.
+
+/**
+ * @typedef {import("../ask_view.js").AskView} AskView
+ * @typedef {import("./kept_session.js").KeptSession} KeptSession
+ * @typedef {import("../notice.js").Notice} Notice
+ * @typedef {{ text: string, open: (session: string, text: string) => void, replaceText: (text: string) => void }} TextEditor
+ *
+ * What it calls: the session that is shown; something is done in it; it is kept; names in the board's text may be others; a source
+ * text of what is in ROM; a call failed.
+ * @typedef {{ session: () => KeptSession | null, touch: () => void, keep: () => Promise<string>, named: (boardText: string) => void,
+ *   source: () => Promise<string>, failed: (fault: unknown) => void }} DeskCalls
+ */
+
+/** The texts are kept so many milliseconds after the last change. */
+const EDIT_TIME = 600;
+
+/**
+ * How many lines a text has, in words.
+ * @param {string} text
+ */
+export function wordsOfLines(text) {
+  const count = text === "" ? 0 : text.replace(/\n$/, "").split("\n").length;
+  return `${count.toLocaleString("en")} line${count === 1 ? "" : "s"}`;
+}
+
+export class TextsDesk {
+  /**
+   * @param {TextEditor} board
+   * @param {TextEditor} program
+   * @param {AskView} ask
+   * @param {Notice} notice
+   * @param {DeskCalls} calls
+   */
+  constructor(board, program, ask, notice, calls) {
+    this.board = board;
+    this.program = program;
+    this.ask = ask;
+    this.notice = notice;
+    this.calls = calls;
+    /** The timer of an edit that is to be kept. */
+    this.editing = 0;
+  }
+
+  /**
+   * Shows the texts of another session.
+   * @param {{ id: string, boardText: string, programText: string }} record
+   */
+  show({ id, boardText, programText }) {
+    clearTimeout(this.editing);
+    this.board.open(id, boardText);
+    this.program.open(id, programText);
+  }
+
+  /** They are kept a moment after the last change; the names of the keys are taken from the board's text then. */
+  edited() {
+    const session = this.calls.session();
+    if (!session) return;
+    const { record } = session;
+    record.boardText = this.board.text;
+    record.programText = this.program.text;
+    this.calls.touch();
+    clearTimeout(this.editing);
+    this.editing = setTimeout(() => {
+      this.calls.named(record.boardText);
+      this.calls.keep();
+    }, EDIT_TIME);
+  }
+
+  async takeFromRom() {
+    const session = this.calls.session();
+    if (!session) return;
+    try {
+      const found = await this.calls.source();
+      const old = this.program.text;
+      if (found === old) {
+        this.notice.show("The source is what is in ROM already.", "refusal");
+      } else if (old.trim() === "" || (await this.isMeant(old, found))) {
+        if (this.isShown(session)) this.replaceProgram(found, "The source was taken from ROM.");
+      }
+    } catch (fault) {
+      this.calls.failed(fault);
+    }
+  }
+
+  /**
+   * @param {string} old
+   * @param {string} found
+   */
+  isMeant(old, found) {
+    return this.ask.ask({
+      title: "Replace the source?",
+      words: [`The source has ${wordsOfLines(old)}. What is in ROM gives ${wordsOfLines(found)}, without comments and names.`],
+      accept: "Replace it",
+      refuse: "Leave it as it is",
+    });
+  }
+
+  /** @param {KeptSession} session */
+  isShown(session) {
+    const shown = this.calls.session();
+    return shown !== null && shown.record.id === session.record.id;
+  }
+
+  /**
+   * Puts another source in the place of the one that is here, which can be brought back.
+   * @param {string} text
+   * @param {string} words what was done
+   */
+  replaceProgram(text, words) {
+    const session = this.calls.session();
+    if (!session) return;
+    const old = this.program.text;
+    this.program.replaceText(text);
+    this.edited();
+    if (old !== "") this.offer(session, old, words);
+  }
+
+  /**
+   * @param {KeptSession} session
+   * @param {string} old
+   * @param {string} words
+   */
+  offer(session, old, words) {
+    this.notice.show(words, "undo", { word: "Undo", act: () => this.bringBack(session, old, words) });
+  }
+
+  /**
+   * Brings a source back; what is there by then can be brought back in its turn.
+   * @param {KeptSession} session
+   * @param {string} old
+   * @param {string} words
+   */
+  bringBack(session, old, words) {
+    if (this.isShown(session)) {
+      this.replaceProgram(old, "The source is the one from before.");
+    } else {
+      this.offer(session, old, words);
+      this.notice.show(`That was in the session "${session.record.name}". Open it first; then it can be undone.`, "refusal");
+    }
+  }
+}

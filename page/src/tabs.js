@@ -1,0 +1,108 @@
+// Tabs by the pattern of ARIA: one stop of the Tab key, arrows, Home and End go from one tab to the next and show it.
+
+import { block, button, onClick } from "./dom.js";
+
+/** @typedef {{ name: string, tab: HTMLButtonElement, panel: HTMLElement, mark: HTMLElement, listeners: (() => void)[] }} Shown */
+
+export class Tabs {
+  /**
+   * The tab of a name is `NAME-tab`; what it shows is what its `aria-controls` names.
+   * @param {string[]} names
+   * @param {string} first is in front
+   * @param {(name: string) => void} chosen a user has chosen a tab
+   */
+  constructor(names, first, chosen) {
+    this.chosen = chosen;
+    this.tabs = names.map((name) => this.makeTab(name));
+    this.front = this.tabs[0];
+    this.show(first);
+  }
+
+  /**
+   * @param {string} name
+   * @returns {Shown}
+   */
+  makeTab(name) {
+    const tab = button(`${name}-tab`);
+    const mark = document.createElement("span");
+    mark.className = "mark";
+    tab.append(mark);
+    onClick(tab, () => this.choose(name));
+    tab.addEventListener("keydown", (event) => this.typed(event));
+    return { name, tab, panel: block(tab.getAttribute("aria-controls") || ""), mark, listeners: [] };
+  }
+
+  /** @param {string} name */
+  find(name) {
+    const found = this.tabs.find((each) => each.name === name);
+    if (!found) throw new Error(`there is no tab ${name}`);
+    return found;
+  }
+
+  /** The name of the tab in front. */
+  get shown() {
+    return this.front.name;
+  }
+
+  /** @param {string} name */
+  choose(name) {
+    this.show(name);
+    this.chosen(name);
+  }
+
+  /**
+   * Brings a tab to the front; the first one where it is not offered.
+   * @param {string} name
+   */
+  show(name) {
+    this.front = this.tabs.find((each) => each.name === name && !each.tab.hidden) || this.tabs[0];
+    for (const each of this.tabs) {
+      const isFront = each === this.front;
+      each.tab.setAttribute("aria-selected", String(isFront));
+      each.tab.tabIndex = isFront ? 0 : -1;
+      each.panel.hidden = !isFront;
+    }
+    for (const listen of this.front.listeners) listen();
+  }
+
+  /**
+   * @param {string} name
+   * @param {() => void} listen is called whenever the tab has come to the front: what it shows can be measured then
+   */
+  whenShown(name, listen) {
+    this.find(name).listeners.push(listen);
+  }
+
+  /**
+   * Offers a tab that was hidden until there was something to show, or takes it away.
+   * @param {string} name
+   * @param {boolean} isThere
+   */
+  offer(name, isThere = true) {
+    const found = this.find(name);
+    found.tab.hidden = !isThere;
+    if (!isThere && this.front === found) this.show(this.tabs[0].name);
+  }
+
+  /**
+   * A few words on a tab about what it shows, "" for none.
+   * @param {string} name
+   * @param {string} words
+   */
+  mark(name, words) {
+    const { mark } = this.find(name);
+    if (mark.textContent !== words) mark.textContent = words;
+  }
+
+  /** @param {KeyboardEvent} event */
+  typed(event) {
+    const offered = this.tabs.filter((each) => !each.tab.hidden);
+    const at = offered.indexOf(this.front);
+    /** @type {Record<string, number>} */
+    const next = { ArrowRight: at + 1, ArrowLeft: at - 1, Home: 0, End: -1 };
+    if (!(event.key in next) || event.ctrlKey || event.altKey || event.metaKey) return;
+    event.preventDefault();
+    this.choose(offered[(next[event.key] + offered.length) % offered.length].name);
+    this.front.tab.focus();
+  }
+}

@@ -1,0 +1,135 @@
+// A line of a program's text, cut into its words. What is right in it the bench alone says; this is for colours, help, and words of faults.
+
+/**
+ * A word and where it stands in its line.
+ * @typedef {{ text: string, from: number, to: number }} Word
+ *
+ * A line's parts: a label or the name that it defines, whether it defines one by `=`, the first word of its statement, the operands of
+ * that (of a definition its value), and where its comment begins.
+ * @typedef {{ label: Word | null, defines: boolean, head: Word | null, operands: Word[], comment: number }} Parts
+ *
+ * @typedef {"comment" | "label" | "instruction" | "directive" | "register" | "number" | "name" | "unknown"} Kind
+ * @typedef {Word & { kind: Kind }} Token
+ */
+
+export const DIRECTIVES = ["ORG", "DB"];
+export const REGISTER = /^[Rr](\d|1[0-5])$/;
+export const PAIR = /^[Pp][0-7]$/;
+export const NUMBER = /^(\d+|0x[0-9A-Fa-f]+)$/;
+export const NAME = /^[A-Za-z_][A-Za-z0-9_]*$/;
+export const LONGEST_NAME = 16;
+
+/**
+ * The word in a stretch of a line, without the blanks round it; null where there is none.
+ * @param {string} line
+ * @param {number} from
+ * @param {number} to
+ * @returns {Word | null}
+ */
+function wordIn(line, from, to) {
+  const text = line.slice(from, to);
+  const trimmed = text.trim();
+  if (trimmed === "") return null;
+  const at = from + text.indexOf(trimmed);
+  return { text: trimmed, from: at, to: at + trimmed.length };
+}
+
+/**
+ * The words between commas; one that is missing is an empty word at its place.
+ * @param {string} line
+ * @param {number} from
+ * @param {number} to
+ */
+function operandsIn(line, from, to) {
+  if (line.slice(from, to).trim() === "") return [];
+  const words = [];
+  for (let at = from; at <= to;) {
+    const comma = line.indexOf(",", at);
+    const end = comma < 0 || comma > to ? to : comma;
+    words.push(wordIn(line, at, end) || { text: "", from: end, to: end });
+    at = end + 1;
+  }
+  return words;
+}
+
+/**
+ * @param {string} line
+ * @returns {Parts}
+ */
+export function partsOf(line) {
+  const mark = line.indexOf(";");
+  const comment = mark < 0 ? line.length : mark;
+  const colon = /^[^:=,]*?:/.exec(line.slice(0, comment));
+  const label = colon ? wordIn(line, 0, colon[0].length - 1) : null;
+  const from = colon ? colon[0].length : 0;
+  const equals = line.slice(0, comment).indexOf("=", from);
+  if (equals >= 0) {
+    const value = wordIn(line, equals + 1, comment);
+    return { label: label || wordIn(line, from, equals), defines: true, head: null, operands: value ? [value] : [], comment };
+  }
+  const found = /^\s*([^\s,]+)/.exec(line.slice(from, comment));
+  if (!found) return { label, defines: false, head: null, operands: [], comment };
+  const end = from + found[0].length;
+  const head = { text: found[1], from: end - found[1].length, to: end };
+  return { label, defines: false, head, operands: operandsIn(line, end, comment), comment };
+}
+
+/**
+ * What an operand is by its form.
+ * @param {string} text
+ * @returns {Kind}
+ */
+export function kindOfOperand(text) {
+  if (REGISTER.test(text) || PAIR.test(text)) return "register";
+  if (NUMBER.test(text)) return "number";
+  return NAME.test(text) ? "name" : "unknown";
+}
+
+/**
+ * The words of a line with their kinds, as they stand in it.
+ * @param {string} line
+ * @param {(word: string) => boolean} isInstruction
+ * @returns {Token[]}
+ */
+export function tokensOf(line, isInstruction) {
+  const { label, head, operands, comment } = partsOf(line);
+  /** @type {Token[]} */
+  const tokens = [];
+  if (label) tokens.push({ ...label, kind: "label" });
+  if (head) {
+    const word = head.text.toUpperCase();
+    const other = DIRECTIVES.includes(word) ? "directive" : "unknown";
+    tokens.push({ ...head, kind: isInstruction(word) ? "instruction" : other });
+  }
+  for (const word of operands.filter(({ text }) => text !== "")) tokens.push({ ...word, kind: kindOfOperand(word.text) });
+  if (comment < line.length) tokens.push({ text: line.slice(comment), from: comment, to: line.length, kind: "comment" });
+  return tokens;
+}
+
+/**
+ * The names that a text defines, each with its first line, from 1.
+ * @param {string[]} lines
+ * @returns {Map<string, number>}
+ */
+export function namesOf(lines) {
+  const names = new Map();
+  lines.forEach((line, at) => {
+    const { label } = partsOf(line);
+    if (label && NAME.test(label.text) && !names.has(label.text)) names.set(label.text, at + 1);
+  });
+  return names;
+}
+
+/**
+ * The word of letters and digits round a place of a line; null where there is none.
+ * @param {string} line
+ * @param {number} at
+ * @returns {Word | null}
+ */
+export function wordAt(line, at) {
+  const before = /\w*$/.exec(line.slice(0, at));
+  const after = /^\w*/.exec(line.slice(at));
+  const from = at - (before ? before[0].length : 0);
+  const to = at + (after ? after[0].length : 0);
+  return from === to ? null : { text: line.slice(from, to), from, to };
+}

@@ -1,0 +1,146 @@
+// What is wrong between the parts of a board: parts that are there twice or too often, lines that it lacks, and lines of the wrong
+// direction. The text itself is right so far.
+
+/**
+ * @typedef {import("./board_reader.js").Entry} Entry
+ * @typedef {import("./board_reader.js").Value} Value
+ * @typedef {import("./text_fault.js").Fault} Fault
+ * @typedef {{ line: number, from: number, to: number }} Place
+ */
+
+/** @type {Record<string, number>} */
+const MOST = { rom: 16, ram: 8, chain: 4, lamp: 64 };
+/** @type {Record<string, string>} */
+const NUMBERS = { rom: "chip", ram: "bank" };
+const BITS = 10;
+
+/**
+ * @param {number} number
+ * @param {Place} place
+ * @param {string} words
+ * @returns {Fault}
+ */
+function fault(number, { line, from, to }, words) {
+  return { number, line, from, to, words };
+}
+
+/** What the parts of a board are. */
+class Parts {
+  /** @param {Entry[]} entries */
+  constructor(entries) {
+    this.entries = entries;
+    /** @type {Map<number, string>} the ports of the ROMs */
+    this.ports = new Map();
+    /** @type {Map<number, number>} how many chips each bank has */
+    this.banks = new Map();
+    /** @type {number[]} how many chips each chain has */
+    this.chains = [];
+    for (const { table, keys } of entries) {
+      const values = new Map(keys.map(({ name, value }) => [name, value.inner]));
+      if (table === "rom") this.ports.set(Number(values.get("chip")), String(values.get("port")));
+      if (table === "ram") this.banks.set(Number(values.get("bank")), Number(values.get("chips")));
+      if (table === "chain") this.chains.push(Number(values.get("chips")));
+    }
+  }
+
+  /**
+   * What a line that is named lacks on this board; "" where it is there.
+   * @param {string} name
+   */
+  lackOf(name) {
+    const [kind, first, second] = /** @type {string[]} */ (/^([a-z]+)(\d+)\.(\d+)/.exec(name)).slice(1);
+    if (kind === "rom") return this.ports.has(Number(first)) ? "" : `the board has no ROM ${first}`;
+    if (kind === "chain") return this.lackOfBit(Number(first), Number(second));
+    const chips = this.banks.get(Number(first));
+    if (chips === undefined) return `the board has no RAM in bank ${first}`;
+    return Number(second) < chips ? "" : `bank ${first} has ${chips === 1 ? "chip 0 alone" : `chips 0 to ${chips - 1}`}`;
+  }
+
+  /**
+   * @param {number} chain
+   * @param {number} bit
+   */
+  lackOfBit(chain, bit) {
+    if (chain >= this.chains.length) return `the board has no chain ${chain}`;
+    const last = this.chains[chain] * BITS - 1;
+    return bit <= last ? "" : `chain ${chain} has bits 0 to ${last}`;
+  }
+
+  /**
+   * Whether a line is an input line of a ROM.
+   * @param {string} name
+   */
+  isInput(name) {
+    const rom = /^rom(\d+)\.(\d)$/.exec(name);
+    return rom !== null && (this.ports.get(Number(rom[1])) || "")[3 - Number(rom[2])] === "i";
+  }
+
+  /**
+   * @param {Value} value
+   * @param {string} what the key that it is the value of
+   * @returns {Fault[]}
+   */
+  faultsOfLine(value, what) {
+    const name = String(value.inner);
+    const lack = this.lackOf(name);
+    if (lack) return [fault(25, value, `${name}: ${lack}`)];
+    const isInput = this.isInput(name);
+    if (what === "columns") return isInput ? [] : [fault(26, value, `${name} is not an input line: a column needs an i in its ROM's port`)];
+    if (isInput) return [fault(26, value, `${name} is an input line (i in its ROM's port); ${what} takes an output line`)];
+    const isBit = name.startsWith("chain") && what !== "line";
+    return isBit ? [fault(26, value, `${name} is a bit of a chain; ${what} takes an output line of a ROM or a RAM chip`)] : [];
+  }
+
+  /**
+   * @param {Entry} entry
+   * @returns {Fault[]}
+   */
+  faultsOfLines({ table, keys }) {
+    const lines = keys.filter(({ name }) => ["clock", "data", "line"].includes(name)).flatMap(({ name, value }) => (
+      this.faultsOfLine(value, name)));
+    if (table !== "[keys]") return lines;
+    const columns = keys.filter(({ name }) => name === "columns").flatMap(({ value }) => /** @type {Value[]} */ (value.inner));
+    const [chain, first, rows] = ["chain", "first", "rows"].map((wanted) => keys.find(({ name }) => name === wanted));
+    const faults = columns.flatMap((value) => this.faultsOfLine(value, "columns"));
+    if (!chain || !first || !rows) return faults;
+    const last = Number(first.value.inner) + Number(rows.value.inner) - 1;
+    const lack = this.lackOfBit(Number(chain.value.inner), last);
+    if (lack) faults.push(fault(25, lack.includes("bits") ? rows.value : chain.value, lack));
+    return faults;
+  }
+}
+
+/**
+ * Parts that are there twice, or too often.
+ * @param {Entry[]} entries
+ * @returns {Fault[]}
+ */
+function faultsOfCounts(entries) {
+  /** @type {Map<string, number>} the lines of parts that have a number */
+  const seen = new Map();
+  /** @type {Map<string, number>} */
+  const counts = new Map();
+  return entries.flatMap((entry) => {
+    const { table, keys } = entry;
+    const count = (counts.get(table) || 0) + 1;
+    counts.set(table, count);
+    if (table === "[keys]" && count > 1) return [fault(20, entry, "keys is there already: a board has one key matrix")];
+    if (count > (MOST[table] || count)) return [fault(27, entry, `a board has at most ${MOST[table]} ${table}`)];
+    const key = keys.find(({ name }) => name === NUMBERS[table]);
+    if (!key) return [];
+    const name = `${key.name} ${key.value.inner}`;
+    const before = seen.get(name);
+    seen.set(name, entry.line);
+    return before ? [fault(24, key.value, `${name} is there already, in line ${before}`)] : [];
+  });
+}
+
+/**
+ * @param {Entry[]} entries
+ * @returns {Fault[]}
+ */
+export function faultsOfParts(entries) {
+  const faults = faultsOfCounts(entries);
+  const parts = new Parts(entries);
+  return faults.length > 0 ? faults : entries.flatMap((entry) => parts.faultsOfLines(entry));
+}

@@ -1,0 +1,133 @@
+// What is wrong in a board's text that the bench has refused: all of it, each with its place and what was expected.
+
+import { meant, mostAlike } from "./alike.js";
+import { faultsOfParts } from "./board_parts.js";
+import { readBoardText } from "./board_reader.js";
+
+/**
+ * @typedef {import("./board_reader.js").BoardText} BoardText
+ * @typedef {import("./board_reader.js").Entry} Entry
+ * @typedef {import("./board_reader.js").Key} Key
+ * @typedef {import("./board_reader.js").Value} Value
+ * @typedef {import("./text_fault.js").Fault} Fault
+ */
+
+/** @type {Record<string, { from: number, to: number }>} whole numbers, by table and key */
+const RANGES = {
+  "rom.chip": { from: 0, to: 15 }, "ram.bank": { from: 0, to: 7 }, "ram.chips": { from: 1, to: 4 }, "chain.chips": { from: 1, to: 8 },
+  "keys.chain": { from: 0, to: 3 }, "keys.first": { from: 0, to: 79 }, "keys.rows": { from: 1, to: 10 },
+};
+/** @type {Record<string, string[]>} the keys of each table */
+const KEYS = {
+  rom: ["chip", "port"], ram: ["bank", "chips"], chain: ["clock", "data", "chips"], lamp: ["line"],
+  keys: ["chain", "first", "rows", "columns"],
+};
+const LINE = /^(rom(\d|1[0-5])\.[0-3]|ram[0-7]\.[0-3]\.[0-3]|chain[0-3]\.(\d|[1-7]\d))$/;
+const LINE_FORMS = "rom1.0, ram0.0.3 or chain0.5";
+
+/**
+ * @param {number} number
+ * @param {{ line: number, from: number, to: number }} place
+ * @param {string} words
+ * @returns {Fault}
+ */
+export function faultAt(number, { line, from, to }, words) {
+  return { number, line, from, to, words };
+}
+
+/**
+ * What is wrong with a value; "" where nothing is.
+ * @param {string} table
+ * @param {Key} key
+ */
+function wordsOfValue(table, { name, value }) {
+  const { inner, whole } = value;
+  const range = RANGES[`${table}.${name}`];
+  if (range) {
+    const fits = typeof inner === "number" && whole && inner >= range.from && inner <= range.to;
+    const kind = typeof inner === "string" ? ", a number without quotes" : "";
+    return fits ? "" : `${name} is ${range.from} to ${range.to}${kind}`;
+  }
+  if (name === "port") {
+    const words = "port is four characters for lines 3, 2, 1 and 0, each i, 0 or 1: \"iiii\"";
+    return typeof inner === "string" && /^[i01]{4}$/.test(inner) ? "" : words;
+  }
+  if (name === "columns") return Array.isArray(inner) && inner.length > 0 ? "" : "columns is one to eight lines: [\"rom1.0\", \"rom1.1\"]";
+  return wordsOfLine(name, value);
+}
+
+/**
+ * @param {string} name
+ * @param {Value} value
+ */
+function wordsOfLine(name, { inner }) {
+  return typeof inner === "string" && LINE.test(inner) ? "" : `${name} is the name of a line, in quotes: ${LINE_FORMS}`;
+}
+
+/**
+ * @param {Entry} entry
+ * @param {Key} key
+ * @returns {Fault[]}
+ */
+function faultsOfKey({ table }, key) {
+  const kind = table.replace(/[[\]]/g, "");
+  if (!KEYS[kind].includes(key.name)) {
+    const likes = mostAlike(key.name, KEYS[kind]);
+    return [faultAt(21, key, `${key.name} is no key of ${kind}${meant(likes) || `, which has ${KEYS[kind].join(", ")}`}`)];
+  }
+  const words = wordsOfValue(kind, key);
+  if (words) return [faultAt(23, key.value, words)];
+  if (key.name !== "columns" || !Array.isArray(key.value.inner)) return [];
+  const [ninth] = key.value.inner.slice(8);
+  const bad = key.value.inner.map((value) => ({ value, words: wordsOfLine("a column", value) })).filter((each) => each.words);
+  const faults = bad.map((each) => faultAt(23, each.value, each.words));
+  return ninth ? [...faults, faultAt(27, ninth, "a matrix has at most 8 columns")] : faults;
+}
+
+/**
+ * @param {Entry} entry
+ * @returns {Fault[]}
+ */
+function faultsOfEntry(entry) {
+  const kind = entry.table.replace(/[[\]]/g, "");
+  if (!KEYS[kind]) {
+    const likes = mostAlike(kind, Object.keys(KEYS));
+    return [faultAt(21, entry, `${kind} is no part of a board${meant(likes) || `, which has ${Object.keys(KEYS).join(", ")}`}`)];
+  }
+  const isSingle = entry.table.startsWith("[");
+  if (isSingle !== (kind === "keys")) {
+    return [faultAt(23, entry, kind === "keys" ? "a board has one key matrix: [keys]" : `there may be several: [[${kind}]]`)];
+  }
+  const seen = new Map();
+  const faults = entry.keys.flatMap((key) => {
+    const before = seen.get(key.name);
+    seen.set(key.name, key.line);
+    return before ? [faultAt(20, key, `${key.name} is there already, in line ${before}`)] : faultsOfKey(entry, key);
+  });
+  const lacks = KEYS[kind].filter((name) => !seen.has(name));
+  return [...faults, ...(lacks.length > 0 ? [faultAt(22, entry, `this ${kind} lacks ${lacks.join(" and ")}`)] : [])];
+}
+
+/**
+ * Faults that hide others: where a text is no TOML, what it lacks is not known, and where a value is wrong, what hangs on it.
+ * @param {Fault[]} faults
+ */
+function surest(faults) {
+  if (faults.some(({ number }) => number === 20)) return faults.filter(({ number }) => [20, 21, 23].includes(number));
+  const early = faults.filter(({ number }) => number < 25 || number === 27);
+  return early.length > 0 ? early : faults;
+}
+
+/**
+ * All that is wrong in a board's text, as it is sent; by line.
+ * @param {string} sent
+ * @returns {Fault[]}
+ */
+export function faultsOfBoard(sent) {
+  const { entries, others, faults } = readBoardText(sent);
+  const unknown = others.map((key) => (KEYS[key.name] ? faultAt(23, key.value, `${key.name} is a table, or an array of tables`)
+    : faultAt(21, key, `${key.name} is no key at the top of a board`)));
+  const all = [...faults, ...unknown, ...entries.flatMap(faultsOfEntry)];
+  if (all.length === 0) all.push(...faultsOfParts(entries));
+  return surest(all).sort((one, other) => one.line - other.line || one.from - other.from);
+}

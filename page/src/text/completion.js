@@ -1,0 +1,86 @@
+// What a word that is being typed can become.
+
+import { DIRECTIVES, namesOf, partsOf } from "./assembly.js";
+import { operandsOfForm } from "./program_words.js";
+import { tableAt } from "./text_help.js";
+import { commentAt } from "./text_fault.js";
+
+/**
+ * @typedef {import("../help/manual.js").Instruction} Instruction
+ *
+ * A word that fits, and what it is.
+ * @typedef {{ text: string, what: string }} Fitting
+ * @typedef {{ from: number, to: number, list: Fitting[] }} Completion the characters of the line that it takes the place of
+ */
+
+const MOST_FITTING = 60;
+/** Between a form and what it does. */
+const COLUMN = "   ";
+const REGISTERS = [...Array(16).keys()].map((number) => `R${number}`);
+const PAIRS = [...Array(8).keys()].map((number) => `P${number}`);
+
+/**
+ * Words of which nothing is said.
+ * @param {string[]} words
+ * @returns {Fitting[]}
+ */
+function alone(words) {
+  return words.map((text) => ({ text, what: "" }));
+}
+
+/**
+ * The words that begin as what stands before the caret does, whatever its case.
+ * @param {string} line
+ * @param {number} at
+ * @param {Fitting[]} words
+ * @returns {Completion}
+ */
+function fitting(line, at, words) {
+  const found = /[\w]*$/.exec(line.slice(0, at));
+  const begun = found ? found[0] : "";
+  const low = begun.toLowerCase();
+  const list = words.filter(({ text }) => text.toLowerCase().startsWith(low) && text !== begun).slice(0, MOST_FITTING);
+  return { from: at - begun.length, to: at, list };
+}
+
+/**
+ * @param {string[]} lines
+ * @param {number} line from 0
+ * @param {number} at
+ * @param {Map<string, Instruction>} instructions
+ * @returns {Completion}
+ */
+export function completeProgram(lines, line, at, instructions) {
+  const text = lines[line];
+  const before = text.slice(0, at);
+  const { head, comment } = partsOf(before);
+  if (comment < before.length) return { from: at, to: at, list: [] };
+  // The word that is being typed is no name of its own.
+  const others = namesOf(lines.map((each, number) => (number === line ? before : each)));
+  if (!head || head.to === at) {
+    const mnemonics = [...instructions].map(([name, { form, does }]) => ({ text: name, what: form.slice(name.length) + COLUMN + does }));
+    return fitting(text, at, [...mnemonics, ...alone(DIRECTIVES)]);
+  }
+  const instruction = instructions.get(head.text.toUpperCase());
+  const kinds = instruction ? operandsOfForm(instruction.form) : [];
+  const kind = kinds[before.slice(head.to).split(",").length - 1] || "";
+  if (kind === "Pk") return fitting(text, at, alone(PAIRS));
+  if (kind === "Rk") return fitting(text, at, alone(REGISTERS));
+  return kind !== "" || head.text.toUpperCase() === "DB" ? fitting(text, at, alone([...others.keys()])) : { from: at, to: at, list: [] };
+}
+
+/**
+ * @param {string[]} lines
+ * @param {number} line from 0
+ * @param {number} at
+ * @param {Map<string, Map<string, string>>} tables
+ * @returns {Completion}
+ */
+export function completeBoard(lines, line, at, tables) {
+  const text = lines[line];
+  const before = text.slice(0, at);
+  if (commentAt(before, "#") < before.length || /=[^{]*$/.test(before)) return { from: at, to: at, list: [] };
+  if (/^\s*\[/.test(before)) return fitting(text, at, alone([...tables.keys()]));
+  const keys = tables.get(tableAt(lines, line)) || new Map();
+  return fitting(text, at, [...keys].map(([name, values]) => ({ text: name, what: values })));
+}

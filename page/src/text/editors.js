@@ -1,0 +1,244 @@
+// Both editors and the bench: their texts are tried while they are typed, and sent.
+
+import { readBoard, refusalOf } from "../bench/answers.js";
+import { counted, programTexts, wordsOfAssembled } from "./assembling.js";
+import { defineAssemblyMode } from "./assembly_mode.js";
+import { faultsOfBoard } from "./board_words.js";
+import { completeBoard, completeProgram } from "./completion.js";
+import { block, button, onClick } from "../dom.js";
+import { EditorView } from "./editor_view.js";
+import { faceFaults } from "../board/face.js";
+import { LiveFaults } from "./live_faults.js";
+import { instructionsOf } from "../help/manual.js";
+import { findProgramFaults, lacksOfRom } from "./program_faults.js";
+import { SourceMap } from "../machine/source_map.js";
+import { faultsOfLines } from "./text_fault.js";
+import { boardTables, helpForBoard, helpForProgram } from "./text_help.js";
+import { TOUR_BOARD } from "../help/tour.js";
+
+/**
+ * @typedef {import("../bench/bench.js").Bench} Bench
+ * @typedef {import("../help/manual.js").ManualSection} ManualSection
+ * @typedef {import("./program_faults.js").AllFaults} AllFaults
+ * @typedef {import("./text_fault.js").Fault} Fault
+ * @typedef {import("../words.js").Words} Words
+ *
+ * What they call: a text was edited; lines are sent, which gives the first answer, or null where they failed; time is stopped, and runs;
+ * the counter, as it is written; a breakpoint is wanted at a line of the program, or is not wanted any more; what a name of the program
+ * means; a text has so many faults; a call failed.
+ * @typedef {{ edited: () => void, act: (lines: string) => Promise<string | null>, stop: () => Promise<void>, run: () => void,
+ *   counter: () => string, toggleBreakpoint: (line: number) => void, meaningOf: (name: string) => string,
+ *   hasFaults: (name: "program" | "board", count: number) => void, failed: (fault: unknown) => void }} EditorsCalls
+ */
+
+/** Refusals of texts have numbers up to here. */
+const LAST_OF_TEXTS = 42;
+const LACKS_ROM = 42;
+
+export class Editors {
+  /**
+   * @param {Bench} bench
+   * @param {Words} words
+   * @param {ManualSection[]} manual
+   * @param {EditorsCalls} calls
+   */
+  constructor(bench, words, manual, calls) {
+    this.bench = bench;
+    this.words = words;
+    this.calls = calls;
+    this.instructions = instructionsOf(manual);
+    this.tables = boardTables(manual);
+    defineAssemblyMode(new Set(this.instructions.keys()));
+    this.program = this.makeProgram();
+    this.board = this.makeBoard();
+    this.programFaults = new LiveFaults((isWanted) => this.findInProgram(isWanted), (found) => this.show("program", found), calls.failed);
+    onClick(button("assemble-only"), () => this.assembleOnly().catch(calls.failed));
+    onClick(button("first-board"), () => this.wireFirst().catch(calls.failed));
+    this.boardFaults = new LiveFaults((isWanted) => this.findInBoard(isWanted), (found) => this.show("board", found), calls.failed);
+  }
+
+  makeProgram() {
+    return new EditorView("program-editor", {
+      mark: ";",
+      mode: "assembly",
+      gutters: ["breakpoints", "CodeMirror-linenumbers", "addresses"],
+      wordsAt: (lines, line, at) => helpForProgram(lines, line, at, this.instructions, this.calls.meaningOf),
+      complete: (lines, line, at) => completeProgram(lines, line, at, this.instructions),
+    }, {
+      edited: () => {
+        this.programFaults.edited();
+        this.calls.edited();
+      },
+      send: () => this.assembleAndRun().catch(this.calls.failed),
+      toggleBreakpoint: this.calls.toggleBreakpoint,
+    });
+  }
+
+  makeBoard() {
+    return new EditorView("board-editor", {
+      mark: "#",
+      mode: "toml",
+      gutters: ["CodeMirror-linenumbers"],
+      wordsAt: (lines, line, at) => helpForBoard(lines, line, at, this.tables),
+      complete: (lines, line, at) => completeBoard(lines, line, at, this.tables),
+    }, {
+      edited: () => {
+        this.boardFaults.edited();
+        this.calls.edited();
+      },
+      send: () => this.wire().catch(this.calls.failed),
+      toggleBreakpoint: () => {},
+    });
+  }
+
+  /**
+   * The texts of another session are shown, or the board is another one.
+   * @param {boolean} isEmpty whether the bench has no board
+   */
+  look(isEmpty) {
+    block("board-offer").hidden = !isEmpty;
+    this.programFaults.look().catch(this.calls.failed);
+    this.boardFaults.look().catch(this.calls.failed);
+  }
+
+  /**
+   * What a text would be answered; the session stays as it is.
+   * @param {"asm" | "wire"} word
+   * @param {string} text
+   */
+  async refuse(word, text) {
+    const [answer] = await this.bench.call("ask", [`${word}\n${text}.\n`]);
+    const refusal = refusalOf(answer);
+    return refusal && refusal.number <= LAST_OF_TEXTS ? refusal : null;
+  }
+
+  /**
+   * @param {() => boolean} isWanted
+   * @returns {Promise<AllFaults | undefined>}
+   */
+  async findInProgram(isWanted) {
+    const { text, sent } = this.program;
+    const found = await findProgramFaults(text, this.instructions, (number) => this.words.ofRefusal(number),
+      async (part) => (isWanted() ? this.refuse("asm", part) : undefined));
+    if (!found || !found.rest || found.rest.number !== LACKS_ROM || found.faults.length > 0) return found;
+    const { map } = await this.bench.call("checkProgram", [sent]);
+    return { ...found, faults: lacksOfRom(sent.split("\n"), new SourceMap(map, sent), await this.roms()) };
+  }
+
+  /**
+   * @param {() => boolean} isWanted
+   * @returns {Promise<AllFaults | undefined>}
+   */
+  async findInBoard(isWanted) {
+    const { sent } = this.board;
+    const unsent = faultsOfLines(sent);
+    if (unsent.length > 0) return { faults: unsent, areAll: true, rest: null };
+    const refusal = await this.refuse("wire", sent);
+    if (!isWanted()) return undefined;
+    if (!refusal) return { faults: [], areAll: true, rest: null };
+    const faults = faultsOfBoard(sent);
+    if (faults.some(({ number }) => number === refusal.number)) return { faults, areAll: true, rest: null };
+    return { faults: [await this.findPart(sent, refusal.number)], areAll: false, rest: null };
+  }
+
+  /**
+   * The part of a board's text that is refused by a number, found by taking parts away.
+   * @param {string} sent
+   * @param {number} number
+   * @returns {Promise<Fault>}
+   */
+  async findPart(sent, number) {
+    const lines = await this.bench.call("boardFault", [sent, number]);
+    const line = lines ? lines.from : 1;
+    return { number, line, from: 0, to: (sent.split("\n")[line - 1] || "").length, words: this.words.ofRefusal(number) };
+  }
+
+  /**
+   * @param {"program" | "board"} name
+   * @param {AllFaults} found
+   */
+  show(name, { faults, areAll }) {
+    const told = name === "board" ? [...faults, ...this.faultsOfFace()] : faults;
+    this[name].showFaults(told, areAll || faults.length < 2 ? "" : "There may be more.");
+    this.calls.hasFaults(name, told.length);
+  }
+
+  /** What the board's comments tell and what is not understood: the board can be wired all the same. */
+  faultsOfFace() {
+    const { lines, text } = this.board;
+    return faceFaults(text).map(({ line, words }) => ({ number: 0, line, from: 0, to: (lines[line - 1] || "").length, words }));
+  }
+
+  /**
+   * Puts the program into ROM, as the only one there, and begins with it.
+   */
+  async assembleAndRun() {
+    if (!(await this.hasNoFaults("program"))) return;
+    await this.calls.stop();
+    const { sent } = this.program;
+    const { size, left } = await this.bench.call("leftovers", [sent]);
+    const lines = programTexts(sent, left).map((text) => `asm\n${text}.\n`).join("");
+    const answer = await this.calls.act(`${lines}reset\n`);
+    if (answer === null) return;
+    const refusal = refusalOf(answer);
+    this.program.tell(refusal ? this.wordsOfRefusal(refusal) : `${counted(size)} assembled, the rest of ROM is 0. It runs from 000 on.`);
+    if (!refusal) this.calls.run();
+  }
+
+  /** Puts the program's bytes into ROM; nothing else changes. */
+  async assembleOnly() {
+    if (!(await this.hasNoFaults("program"))) return;
+    const { sent } = this.program;
+    const answer = await this.calls.act(`asm\n${sent}.\n`);
+    if (answer === null) return;
+    const refusal = refusalOf(answer);
+    const leftovers = await this.bench.call("leftovers", [sent]);
+    this.program.tell(refusal ? this.wordsOfRefusal(refusal) : wordsOfAssembled(leftovers, this.calls.counter()));
+  }
+
+  async wire() {
+    if (!(await this.hasNoFaults("board"))) return;
+    const answer = await this.calls.act(`wire\n${this.board.sent}.\n`);
+    if (answer === null) return;
+    const refusal = refusalOf(answer);
+    this.board.tell(refusal ? this.wordsOfRefusal(refusal) : "The board is wired.");
+    await this.programFaults.look();
+  }
+
+  /** An empty bench gets a board. */
+  async wireFirst() {
+    this.board.replaceText(TOUR_BOARD);
+    await this.wire();
+  }
+
+  /** @param {import("../bench/answers.js").Refusal} refusal */
+  wordsOfRefusal({ number }) {
+    return `no ${number}: ${this.words.ofRefusal(number)}`;
+  }
+
+  /**
+   * Looks at a text before it is sent: one with faults is not sent, and says so.
+   * @param {"program" | "board"} name
+   */
+  async hasNoFaults(name) {
+    const found = await (name === "program" ? this.programFaults : this.boardFaults).look();
+    if (found && found.faults.length > 0) this.refuseFaults(name, found.faults);
+    return found !== undefined && found.faults.length === 0;
+  }
+
+  /**
+   * A text with faults is not sent.
+   * @param {"program" | "board"} name
+   * @param {Fault[]} faults
+   */
+  refuseFaults(name, faults) {
+    const [{ line, words }] = faults;
+    this[name].tell(`line ${line}: ${words}${faults.length > 1 ? `, and ${faults.length - 1} more` : ""}`);
+    this[name].reveal(line);
+  }
+
+  /** The numbers of the ROMs of the board that is wired. */
+  async roms() {
+    return new Set(readBoard(await this.bench.call("ask", ["board\n"])).roms.map(({ chip }) => chip));
+  }
+}

@@ -1,0 +1,226 @@
+// What is wrong in a line of a program that the bench has refused: the word at fault, and what was expected.
+
+import { meant, mostAlike } from "./alike.js";
+import { DIRECTIVES, LONGEST_NAME, NAME, NUMBER, PAIR, REGISTER, partsOf } from "./assembly.js";
+
+/**
+ * @typedef {import("./assembly.js").Parts} Parts
+ * @typedef {import("./assembly.js").Word} Word
+ * @typedef {import("../help/manual.js").Instruction} Instruction
+ *
+ * What is known of the program: the instructions by their mnemonics, and its names with their lines.
+ * @typedef {{ instructions: Map<string, Instruction>, names: Map<string, number> }} Facts
+ *
+ * @typedef {{ word: Word | null, words: string }} Found
+ */
+
+/**
+ * The operands of instructions by their letters in the manual's table, and the largest value of each.
+ * @type {Record<string, { what: string, most: number }>}
+ */
+const OPERANDS = {
+  Pk: { what: "a pair, P0 to P7", most: 0 },
+  Rk: { what: "a register, R0 to R15", most: 0 },
+  c: { what: "a condition, 0 to 15", most: 15 },
+  d: { what: "a value, 0 to 15", most: 15 },
+  b: { what: "a byte, 0 to 255", most: 255 },
+  t: { what: "an address, 0 to 4095, or a name", most: 4095 },
+};
+/** What other assemblers call it, and what does it here. */
+const ELSEWHERE = new Map(Object.entries({
+  JMP: "JUN", GOTO: "JUN", BRA: "JUN", CALL: "JMS", JSR: "JMS", RET: "BBL", RTS: "BBL", MOV: "LD or XCH", LDA: "LD", STA: "XCH", STO: "XCH",
+  JZ: "JCN 4", JNZ: "JCN 12", JC: "JCN 2", JNC: "JCN 10", DJNZ: "ISZ", BYTE: "DB", DEFB: "DB", EQU: "NAME = NUMBER", HLT: "JUN to itself",
+  HALT: "JUN to itself", DEC: "DAC", INP: "RDR", OUT: "WRR", LDI: "LDM",
+}));
+
+/**
+ * What is written as other assemblers write numbers, or as a calculation.
+ * @param {string} text
+ */
+function wordsOfNumber(text) {
+  const hexadecimal = /^(?:\$|0X|&H?|#\$)([0-9A-Fa-f]+)$/.exec(text) || /^([0-9][0-9A-Fa-f]*)[Hh]$/.exec(text);
+  if (hexadecimal) return `hexadecimal is 0x${hexadecimal[1].toUpperCase()}`;
+  const binary = /^(?:0b|%)([01]+)$/i.exec(text) || /^([01]+)[Bb]$/.exec(text);
+  if (binary) return `binary numbers are not written; it is ${parseInt(binary[1], 2)}`;
+  const letter = /^(['"])(.)\1?$/.exec(text);
+  if (letter) return `letters are not written; the code of ${letter[2]} is 0x${letter[2].charCodeAt(0).toString(16).toUpperCase()}`;
+  if (/^#\w+$/.test(text)) return `without #: ${text.slice(1)}`;
+  if (/^-\d+$/.test(text)) return "there are no negative numbers";
+  if (/[-+*/()<>]/.test(text)) return "there are no expressions: write one number or one name";
+  if (/\s/.test(text)) return "a comma stands between two operands";
+  if (/^\d/.test(text)) return "a number is decimal digits, or 0x and hexadecimal digits";
+  return "";
+}
+
+/**
+ * What a word cannot be as a name; "" where it can.
+ * @param {string} text
+ * @param {Facts} facts
+ */
+function wordsOfName(text, { instructions }) {
+  const upper = text.toUpperCase();
+  if (text.length > LONGEST_NAME) return `a name has at most ${LONGEST_NAME} characters; this has ${text.length}`;
+  if (!NAME.test(text)) return "a name begins with a letter or _ and goes on with letters, digits and _";
+  if (instructions.has(upper)) return `${text} is an instruction, so it cannot be a name`;
+  if (upper === "WPM" || DIRECTIVES.includes(upper)) return `${text} cannot be a name`;
+  return REGISTER.test(text) || PAIR.test(text) ? `${text} is a register, so it cannot be a name` : "";
+}
+
+/**
+ * What one operand has to be, where it is not.
+ * @param {string} head
+ * @param {string} kind its letters in the table
+ * @param {Word} word
+ * @param {Facts} facts
+ * @param {boolean} isFirst
+ * @returns {Found | null}
+ */
+function faultOfOperand(head, kind, word, facts, isFirst) {
+  const { what } = OPERANDS[kind];
+  const takes = isFirst ? `${head} takes ${what}` : `${head} takes ${what}, after the comma`;
+  const { text } = word;
+  if (kind === "Pk" && PAIR.test(text)) return null;
+  if (kind === "Rk" && REGISTER.test(text)) return null;
+  if (kind === "Pk" || kind === "Rk") return { word, words: /\s/.test(text) ? `${takes}; ${wordsOfNumber(text)}` : takes };
+  if (NUMBER.test(text)) return null;
+  const reason = text === "" || REGISTER.test(text) || PAIR.test(text) ? "" : wordsOfNumber(text) || wordsOfName(text, facts);
+  if (reason) return { word, words: `${takes}; ${reason}` };
+  return NAME.test(text) && !wordsOfName(text, facts) ? null : { word, words: takes };
+}
+
+/**
+ * @param {string} form as `JCN c, t`
+ * @returns {string[]}
+ */
+export function operandsOfForm(form) {
+  const rest = form.split(" ").slice(1).join(" ");
+  return rest === "" ? [] : rest.split(", ");
+}
+
+/**
+ * @param {Parts} parts
+ * @param {Word} head
+ * @param {Facts} facts
+ * @returns {Found}
+ */
+function faultOfHead({ label, operands }, head, { instructions }) {
+  const upper = head.text.toUpperCase();
+  if (upper === "WPM") return { word: head, words: "WPM is not on this bench: its ROM cannot be written by a program" };
+  const other = ELSEWHERE.get(upper);
+  const isAlone = !label && operands.length === 0 && NAME.test(head.text);
+  const question = other ? `; ${other}?` : meant(mostAlike(upper, [...instructions.keys(), ...DIRECTIVES]));
+  return { word: head, words: `${head.text} is no instruction${question || (isAlone ? `; a label has a colon: ${head.text}:` : "")}` };
+}
+
+/**
+ * @param {Word} head
+ * @param {Word[]} operands
+ * @param {Facts} facts
+ * @returns {Found | null}
+ */
+function faultOfDirective(head, operands, facts) {
+  if (head.text.toUpperCase() === "ORG") {
+    const isNumber = operands.length === 1 && NUMBER.test(operands[0].text);
+    if (isNumber) return null;
+    const reason = operands[0] && !NAME.test(operands[0].text) ? wordsOfNumber(operands[0].text) : "";
+    return { word: operands[0] || head, words: `ORG takes one number, 0 to 4095 (0xFFF)${reason ? `; ${reason}` : ""}` };
+  }
+  if (operands.length === 0) return { word: head, words: "DB takes bytes, 0 to 255, with commas between them" };
+  return operands.map((word) => faultOfOperand("DB", "b", word, facts, true)).find((found) => found !== null) || null;
+}
+
+/**
+ * A line of no form that the assembler knows.
+ * @param {Parts} parts
+ * @param {Facts} facts
+ * @returns {Found | null}
+ */
+function faultOfForm(parts, facts) {
+  const { label, defines, head, operands } = parts;
+  const badName = label && wordsOfName(label.text, facts);
+  if (badName) return { word: label, words: badName };
+  if (defines) {
+    const reason = operands[0] ? wordsOfNumber(operands[0].text) : "";
+    return { word: operands[0] || label, words: `after = stands one number${reason ? `; ${reason}` : ""}` };
+  }
+  if (!head) return { word: label, words: "a name stands before the colon" };
+  const upper = head.text.toUpperCase();
+  if (DIRECTIVES.includes(upper)) return faultOfDirective(head, operands, facts);
+  const instruction = facts.instructions.get(upper);
+  if (!instruction) return faultOfHead(parts, head, facts);
+  const kinds = operandsOfForm(instruction.form);
+  if (kinds.length === 0) return { word: operands[0] || head, words: `${upper} takes nothing after it` };
+  for (let at = 0; at < Math.min(kinds.length, operands.length); at++) {
+    const found = faultOfOperand(upper, kinds[at], operands[at], facts, at === 0);
+    if (found) return found;
+  }
+  const extra = operands[kinds.length];
+  const wanted = kinds.map((kind) => OPERANDS[kind].what).join(", and ");
+  return { word: extra || head, words: `${upper} takes ${wanted}${extra ? ", no more" : ""}` };
+}
+
+/**
+ * A value out of its range.
+ * @param {Parts} parts
+ * @param {Facts} facts
+ * @returns {Found | null}
+ */
+function faultOfValue({ head, operands, defines, label }, { instructions }) {
+  if (defines) return { word: operands[0] || label, words: "a number of a name is 0 to 4095" };
+  if (!head) return null;
+  const upper = head.text.toUpperCase();
+  const instruction = instructions.get(upper);
+  const kinds = instruction ? operandsOfForm(instruction.form) : operands.map(() => (upper === "ORG" ? "t" : "b"));
+  const values = operands.map((word, at) => ({ word, kind: OPERANDS[kinds[at] || "b"] })).filter(({ kind }) => kind.most > 0);
+  const tooLarge = values.find(({ word, kind }) => NUMBER.test(word.text) && Number(word.text) > kind.most);
+  const named = values.find(({ word }) => NAME.test(word.text));
+  const found = tooLarge || named;
+  if (!found) return null;
+  const what = upper === "ORG" ? "an address, 0 to 4095" : found.kind.what;
+  return { word: found.word, words: `${upper} takes ${what}${tooLarge ? "" : `; ${found.word.text} is more`}` };
+}
+
+/**
+ * The last operand that is a name, or the last one of all.
+ * @param {Parts} parts
+ */
+function target({ operands }) {
+  return [...operands].reverse().find(({ text }) => NAME.test(text)) || operands[operands.length - 1] || null;
+}
+
+/**
+ * @param {Parts} parts
+ * @param {Facts} facts
+ * @returns {Found | null}
+ */
+function faultOfUnknown({ operands }, { names }) {
+  const word = operands.find(({ text }) => NAME.test(text) && !REGISTER.test(text) && !PAIR.test(text) && !names.has(text));
+  if (!word) return null;
+  const likes = mostAlike(word.text, names.keys());
+  const isHex = /^[0-9A-Fa-f]+$/.test(word.text) && likes.length === 0;
+  return { word, words: `${word.text} is not defined${isHex ? `; 0x${word.text.toUpperCase()}?` : meant(likes)}` };
+}
+
+/**
+ * What is wrong in a line, by the number of its refusal; null where no more can be told than the number's own words.
+ * @param {string} line
+ * @param {number} number
+ * @param {Facts} facts
+ * @returns {Found | null}
+ */
+export function wordsOfProgramLine(line, number, facts) {
+  const parts = partsOf(line);
+  if (number === 30) return faultOfForm(parts, facts);
+  if (number === 31 && parts.label) {
+    return { word: parts.label, words: `${parts.label.text} is defined in line ${facts.names.get(parts.label.text)} already` };
+  }
+  if (number === 32) return faultOfUnknown(parts, facts);
+  if (number === 33) return faultOfValue(parts, facts);
+  if (number === 34 && parts.head) {
+    const word = target(parts);
+    const head = parts.head.text.toUpperCase();
+    return { word, words: `${word ? word.text : "it"} is on another page; ${head} reaches the page of the address after its two words` };
+  }
+  if (number === 35) return { word: parts.head, words: "an earlier line has put a byte at this address; look at the ORG lines" };
+  return null;
+}

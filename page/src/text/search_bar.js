@@ -1,0 +1,96 @@
+// The search in a text: a bar above it, the next and the one before, and how many there are.
+
+import CodeMirror from "codemirror";
+import { Cell, element, onClick } from "../dom.js";
+
+/** @typedef {import("codemirror").Editor} Editor */
+
+/** More than so many are not counted. */
+const MOST_COUNTED = 1000;
+
+export class SearchBar {
+  /**
+   * @param {Editor} editor
+   * @param {HTMLElement} place takes the bar, before all else
+   * @param {string} label of the text
+   */
+  constructor(editor, place, label) {
+    this.editor = editor;
+    this.field = element("input", { "type": "search", "aria-label": `Search in ${label}`, "autocomplete": "off", "spellcheck": false });
+    this.told = new Cell(element("p", { role: "status" }));
+    const before = element("button", { type: "button", title: "Shift and Enter" }, "Previous");
+    const next = element("button", { type: "button", title: "Enter" }, "Next");
+    const close = element("button", { type: "button", title: "Escape" }, "Close");
+    this.bar = element("div", { role: "search", className: "search bar", hidden: true }, this.field, before, next, close, this.told.node);
+    place.prepend(this.bar);
+    onClick(before, () => this.find(true));
+    onClick(next, () => this.find(false));
+    onClick(close, () => this.close());
+    this.field.addEventListener("input", () => this.find(false, this.editor.getCursor("from")));
+    this.field.addEventListener("keydown", (event) => this.typed(event));
+  }
+
+  /** Begins with what is selected, or was sought last. */
+  open() {
+    const chosen = this.editor.getSelection();
+    if (chosen && !chosen.includes("\n")) this.field.value = chosen;
+    this.bar.hidden = false;
+    this.field.focus();
+    this.field.select();
+  }
+
+  close() {
+    this.bar.hidden = true;
+    this.told.set("");
+    this.editor.focus();
+  }
+
+  /** @param {KeyboardEvent} event */
+  typed(event) {
+    if (event.key !== "Enter" && event.key !== "Escape") return;
+    event.preventDefault();
+    if (event.key === "Escape") this.close();
+    else this.find(event.shiftKey);
+  }
+
+  /**
+   * Selects the next place, whatever its case, or the one before; after the last one comes the first one.
+   * @param {boolean} isBack
+   * @param {import("codemirror").Position} from
+   */
+  find(isBack, from = this.editor.getCursor(isBack ? "from" : "to")) {
+    const wanted = this.field.value;
+    if (wanted === "") {
+      this.told.set("");
+      return;
+    }
+    const { editor } = this;
+    const edge = isBack ? CodeMirror.Pos(editor.lastLine()) : CodeMirror.Pos(editor.firstLine(), 0);
+    const found = [from, edge].map((place) => this.cursorAt(wanted, place)).find((cursor) => cursor.find(isBack));
+    this.told.set(found ? this.count(wanted) : "not found");
+    if (!found) return;
+    editor.setSelection(found.from(), found.to());
+    editor.scrollIntoView({ from: found.from(), to: found.to() }, 60);
+  }
+
+  /**
+   * @param {string} wanted
+   * @param {import("codemirror").Position} place
+   */
+  cursorAt(wanted, place) {
+    return this.editor.getSearchCursor(wanted, place, true);
+  }
+
+  /** @param {string} wanted */
+  count(wanted) {
+    const cursor = this.cursorAt(wanted, CodeMirror.Pos(0, 0));
+    const here = this.editor.getCursor("from");
+    let count = 0;
+    let at = 0;
+    while (count < MOST_COUNTED && cursor.findNext()) {
+      count += 1;
+      if (CodeMirror.cmpPos(cursor.from(), here) <= 0) at = count;
+    }
+    return `${Math.max(1, at)} of ${count}`;
+  }
+}

@@ -1,0 +1,186 @@
+// An editor of a text: CodeMirror with what the page's two texts have in common. A text that is opened has a document of its own, with its
+// own undo history; the documents of the sessions are kept as long as the page lives.
+
+import CodeMirror from "codemirror";
+import { LONGEST_TEXT, sizeOf } from "./text_fault.js";
+
+/**
+ * @typedef {import("codemirror").Editor} Editor
+ * @typedef {import("codemirror").Doc} Doc
+ * @typedef {import("codemirror").KeyMap} KeyMap
+ * @typedef {import("codemirror").Position} Position
+ * @typedef {import("codemirror/addon/hint/show-hint")} HintTypes the types of what the page uses beside the editor itself
+ * @typedef {import("codemirror/addon/search/searchcursor")} SearchTypes
+ * @typedef {import("codemirror").EditorChangeCancellable} Change
+ *
+ * What it calls: the text was edited; the caret was moved; a gutter was clicked at a line; a text was not taken, since it is too long.
+ * @typedef {{ edited: () => void, moved: () => void, clickedGutter: (line: number) => void, refused: (size: number) => void }} TextCalls
+ *
+ * What an editor is made of: its place, its name for those who do not see it, the mode of its text, the gutters beside the faults, and
+ * its own keys.
+ * @typedef {{ place: HTMLElement, label: string, mode: string, gutters: string[], keys: KeyMap, calls: TextCalls }} TextParts
+ */
+
+/** How many documents are kept. */
+const MOST_DOCUMENTS = 30;
+const INDENT = 8;
+/** They do nothing alone. */
+const OTHER_KEYS = ["Shift", "Control", "Alt", "Meta"];
+/** What comes in by one act of these has to have room. */
+const AT_ONCE = /^(paste|drop)/;
+
+export class TextEditor {
+  /** @param {TextParts} parts */
+  constructor(parts) {
+    this.mode = parts.mode;
+    this.calls = parts.calls;
+    /** @type {(line: number) => void} the caret has come to a line */
+    this.caret = () => {};
+    /** Whether Tab leaves the editor: after Escape, and where Tab has come to it. */
+    this.tabLeaves = true;
+    /** @type {Map<string, Doc>} the documents by the names that they were opened by */
+    this.documents = new Map();
+    this.name = "";
+    /** @type {string | null} the text, where it was read since the last edit */
+    this.value = null;
+    /** @type {Editor} */
+    this.editor = CodeMirror(parts.place, {
+      mode: parts.mode,
+      inputStyle: "contenteditable",
+      screenReaderLabel: parts.label,
+      lineNumbers: true,
+      gutters: ["faults", ...parts.gutters],
+      indentUnit: INDENT,
+      tabSize: INDENT,
+      indentWithTabs: true,
+      undoDepth: 1000,
+      extraKeys: { "Shift-Tab": "indentLess", ...parts.keys },
+    });
+    this.nameInput();
+    this.listen();
+  }
+
+  /** What a screen reader is told beside the label. */
+  nameInput() {
+    const input = this.editor.getInputField();
+    input.setAttribute("role", "textbox");
+    input.setAttribute("aria-multiline", "true");
+    input.setAttribute("aria-description", "Tab indents. Escape and then Tab leaves the text.");
+  }
+
+  listen() {
+    const { editor, calls } = this;
+    editor.on("changes", () => {
+      this.value = null;
+      calls.edited();
+    });
+    editor.on("cursorActivity", () => {
+      calls.moved();
+      this.caret(editor.getCursor().line + 1);
+    });
+    editor.on("blur", () => {
+      this.tabLeaves = true;
+    });
+    editor.on("mousedown", () => {
+      this.tabLeaves = false;
+    });
+    editor.on("keydown", (_, event) => this.typed(event));
+    editor.on("gutterClick", (_, line) => calls.clickedGutter(line + 1));
+    // A file that is dropped is the page's.
+    editor.on("drop", (_, /** @type {DragEvent & { codemirrorIgnore?: boolean }} */ event) => {
+      event.codemirrorIgnore = event.dataTransfer !== null && event.dataTransfer.files.length > 0;
+    });
+    editor.on("beforeChange", (_, change) => this.judge(change));
+    // It cannot be measured while it is hidden; and an observer must not change sizes itself.
+    new ResizeObserver(() => requestAnimationFrame(() => editor.refresh())).observe(editor.getWrapperElement());
+  }
+
+  /**
+   * Tab indents once something was typed or clicked here; after Escape, and where Tab has come here, it goes on as everywhere.
+   * @param {KeyboardEvent & { codemirrorIgnore?: boolean }} event
+   */
+  typed(event) {
+    if (event.key === "Escape") this.tabLeaves = true;
+    else if (event.key === "Tab") event.codemirrorIgnore = this.tabLeaves;
+    else if (!OTHER_KEYS.includes(event.key)) this.tabLeaves = false;
+  }
+
+  /**
+   * What is pasted or dropped, and is more than a text can have, is not taken.
+   * @param {Change} change
+   */
+  judge(change) {
+    if (!change.origin || !AT_ONCE.test(change.origin)) return;
+    const gone = this.editor.getRange(change.from, change.to).length;
+    const size = this.size - gone + change.text.join("\n").length;
+    if (size <= LONGEST_TEXT) return;
+    change.cancel();
+    this.calls.refused(size);
+  }
+
+  get text() {
+    if (this.value === null) this.value = this.editor.getValue();
+    return this.value;
+  }
+
+  /** How many bytes the text has when it is sent. */
+  get size() {
+    return sizeOf(this.text);
+  }
+
+  /**
+   * Shows the text of a session: in the document that it had, where the text is still the one in it.
+   * @param {string} name of the session
+   * @param {string} text
+   */
+  open(name, text) {
+    if (this.name) this.documents.set(this.name, this.editor.getDoc());
+    const kept = this.documents.get(name);
+    this.name = name;
+    this.value = null;
+    this.editor.swapDoc(kept && kept.getValue() === text ? kept : CodeMirror.Doc(text, this.mode));
+    this.documents.delete(name);
+    for (const old of [...this.documents.keys()].slice(0, -MOST_DOCUMENTS)) this.documents.delete(old);
+  }
+
+  /**
+   * Puts another text in the place of all, as one step that can be undone.
+   * @param {string} text
+   */
+  replaceText(text) {
+    const last = this.editor.lastLine();
+    this.editor.replaceRange(text, { line: 0, ch: 0 }, { line: last, ch: this.editor.getLine(last).length }, "replace");
+  }
+
+  /**
+   * Selects whole lines, and brings them into view.
+   * @param {{ from: number, to: number }} lines
+   */
+  select({ from, to }) {
+    this.editor.setSelection({ line: from - 1, ch: 0 }, { line: to - 1, ch: (this.editor.getLine(to - 1) || "").length });
+    this.editor.focus();
+  }
+
+  /**
+   * Brings a line into view, where it is not in it; neither the caret nor the page moves.
+   * @param {number} line from 1
+   */
+  reveal(line) {
+    const { editor } = this;
+    const { top, clientHeight } = editor.getScrollInfo();
+    const from = editor.heightAtLine(line - 1, "local");
+    const room = editor.defaultTextHeight() * 2;
+    if (from - room < top) editor.scrollTo(null, Math.max(0, from - room));
+    else if (from + 2 * room > top + clientHeight) editor.scrollTo(null, from + 2 * room - clientHeight);
+  }
+
+  /**
+   * Puts the caret at a place, which a user has asked for.
+   * @param {Position} place
+   */
+  goTo(place) {
+    this.editor.setCursor(place);
+    this.editor.focus();
+    this.tabLeaves = false;
+  }
+}

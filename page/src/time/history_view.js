@@ -1,0 +1,95 @@
+// The bar of steps and of the past: back and forward, so many instructions, and on or back to a change.
+
+import { button, byId, element, field, onClick } from "../dom.js";
+import { PLACES_TOLD, placeOf } from "../bench/places.js";
+import { upTo } from "../bench/numbers.js";
+
+/**
+ * @typedef {import("../bench/answers.js").Board} Board
+ * @typedef {import("../worker/going_back.js").BackGoal} BackGoal
+ * @typedef {import("../worker/seek.js").Goal} Goal
+ *
+ * What it calls: time passes until a goal is reached; back and forward; the status says something.
+ * @typedef {{ goOn: (goal: Goal) => void, goBack: (goal: BackGoal) => void, goForward: () => void, tell: (words: string) => void }}
+ *   HistoryCalls
+ */
+
+const MOST_INSTRUCTIONS = 1000000;
+
+/**
+ * The names of places that a board has, the most wanted ones first; others can be typed.
+ * @param {Board} board
+ * @param {string[]} lampNames "" for a lamp without one
+ */
+export function offeredPlaces({ banks, roms, lamps, chains }, lampNames) {
+  const rams = banks.flatMap(({ bank, chips }) => upTo(chips).map((chip) => `ram${bank}.${chip}`));
+  const ports = [...roms.map(({ chip }) => `rom${chip}`), ...rams];
+  const some = lamps.length > 0 ? ["lamps", ...lamps.slice(0, 16).map((_, at) => lampNames[at] || `lamp ${at}`)] : [];
+  return [...some, ...ports, ...chains.map((_, at) => `chain${at}.0`), "acc", "cy", "dcl", ...upTo(16).map((number) => `r${number}`)];
+}
+
+export class HistoryView {
+  /** @param {HistoryCalls} calls */
+  constructor(calls) {
+    this.calls = calls;
+    this.count = field("step-count");
+    this.place = field("change-place");
+    this.forward = button("forward");
+    /** @type {string[]} */
+    this.lampNames = [];
+    onClick(button("back-stop"), () => calls.goBack({ kind: "stop" }));
+    onClick(button("back-instruction"), () => calls.goBack({ kind: "instruction" }));
+    onClick(this.forward, () => calls.goForward());
+    onClick(button("step-many"), () => this.stepMany());
+    onClick(button("until-change"), () => this.withPlace((place) => calls.goOn({ kind: "change", place })));
+    onClick(button("back-change"), () => this.withPlace((place) => calls.goBack({ kind: "change", place })));
+    this.onEnter(this.count, () => this.stepMany());
+    this.onEnter(this.place, () => this.withPlace((place) => calls.goOn({ kind: "change", place })));
+  }
+
+  /**
+   * @param {HTMLInputElement} input
+   * @param {() => void} act
+   */
+  onEnter(input, act) {
+    input.addEventListener("keydown", (event) => {
+      if (event.key !== "Enter") return;
+      event.preventDefault();
+      act();
+    });
+  }
+
+  /** @param {number} future how many times forward is possible */
+  showFuture(future) {
+    const isNone = future === 0;
+    if (this.forward.disabled !== isNone) this.forward.disabled = isNone;
+  }
+
+  /**
+   * @param {Board} board
+   * @param {string[]} lampNames "" for a lamp without one
+   */
+  draw(board, lampNames) {
+    this.lampNames = lampNames;
+    const places = offeredPlaces(board, lampNames);
+    byId("change-places", HTMLDataListElement).replaceChildren(...places.map((value) => element("option", { value })));
+  }
+
+  stepMany() {
+    const text = this.count.value.trim().replace(/,/g, "");
+    const count = /^\d+$/.test(text) ? Number(text) : 0;
+    const isCount = count >= 1 && count <= MOST_INSTRUCTIONS;
+    this.count.setAttribute("aria-invalid", String(!isCount));
+    if (isCount) this.calls.goOn({ kind: "count", count });
+    else this.calls.tell(`Nothing was done: give a number of instructions, 1 to ${MOST_INSTRUCTIONS.toLocaleString("en")}.`);
+  }
+
+  /** @param {(place: string) => void} act */
+  withPlace(act) {
+    const lamp = this.lampNames.indexOf(this.place.value.trim() || "-");
+    const place = placeOf(lamp >= 0 ? `lamp ${lamp}` : this.place.value);
+    this.place.setAttribute("aria-invalid", String(place === null));
+    if (place) act(place.name);
+    else this.calls.tell(`Nothing was done: name what is to change: ${PLACES_TOLD}.`);
+  }
+}

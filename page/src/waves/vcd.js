@@ -1,0 +1,95 @@
+// A recording as a VCD file (IEEE 1364), as tools/wave writes it: the same bytes for the same lines of the same session.
+
+/** @typedef {import("./waves.js").Waves} Waves */
+
+/** Units of time in a cycle of 10.8 microseconds: a unit is 100 ns. */
+const UNITS = 108;
+/** More lines than a recording can have: a change is one number, of its moment and its line. */
+const LINES = 1024;
+/** Letters that begin no value in the file: a reader that does not know one kind of value takes nothing else for one then. */
+const LETTERS = "ACDEFGHIJKLMNOPQSTUVWY";
+
+/**
+ * The short name of a line in the file, by its number from 0 on.
+ * @param {number} number
+ */
+function codeOf(number) {
+  let text = "";
+  for (let rest = number; rest >= 0; rest = Math.floor(rest / LETTERS.length) - 1) text = LETTERS[rest % LETTERS.length] + text;
+  return text;
+}
+
+/** @type {Record<string, string>} */
+const KINDS = { pc: "wire 12", label: "string 1" };
+
+/**
+ * The text of a line's value.
+ * @param {Waves} waves
+ * @param {number} line
+ * @param {number} moment
+ * @param {string} code
+ */
+function changeText(waves, line, moment, code) {
+  const { field } = waves.lines[line];
+  if (field === "pc") return `b${waves.counterAt(moment).toString(2).padStart(12, "0")} ${code}`;
+  if (field === "label") return `s${waves.labelAt(moment) || "-"} ${code}`;
+  return `${waves.levelAt(line, moment)}${code}`;
+}
+
+/**
+ * @param {Waves} waves
+ * @param {number[]} chosen
+ * @param {string[]} codes
+ */
+function headerOf(waves, chosen, codes) {
+  return [
+    "$version Fethsaim $end",
+    "$comment 108 units of time are a cycle of the 4004, 10.8 microseconds $end",
+    "$timescale 100 ns $end",
+    "$scope module board $end",
+    ...chosen.map((line, at) => `$var ${KINDS[waves.lines[line].field] || "wire 1"} ${codes[at]} ${waves.lines[line].name} $end`),
+    "$upscope $end",
+    "$enddefinitions $end",
+    "#0",
+    "$dumpvars",
+    ...chosen.map((line, at) => changeText(waves, line, 0, codes[at])),
+    "$end",
+  ];
+}
+
+/**
+ * The changes of the chosen lines in their order: by moments, then by lines.
+ * @param {Waves} waves
+ * @param {number[]} chosen
+ */
+function changesOf(waves, chosen) {
+  const counts = chosen.map((line) => waves.changesOf(line).length);
+  const changes = new Float64Array(counts.reduce((sum, count) => sum + count, 0));
+  let at = 0;
+  chosen.forEach((line, place) => {
+    for (const moment of waves.changesOf(line)) {
+      changes[at] = moment * LINES + place;
+      at += 1;
+    }
+  });
+  return changes.sort();
+}
+
+/**
+ * @param {Waves} waves
+ * @param {number[]} chosen the lines, by their numbers, in the order in which the file has them
+ */
+export function vcdText(waves, chosen) {
+  const codes = chosen.map((_, at) => codeOf(at));
+  const text = headerOf(waves, chosen, codes);
+  let told = 0;
+  for (const change of changesOf(waves, chosen)) {
+    const moment = Math.floor(change / LINES);
+    const place = change % LINES;
+    if (moment !== told) text.push(`#${moment * UNITS}`);
+    told = moment;
+    text.push(changeText(waves, chosen[place], moment, codes[place]));
+  }
+  if (waves.cycles > told) text.push(`#${waves.cycles * UNITS}`);
+  return `${text.join("\n")}\n`;
+}

@@ -1,0 +1,88 @@
+// What is told of recordings, in words.
+
+/**
+ * @typedef {import("./waves.js").Instruction} Instruction
+ * @typedef {import("./waves.js").Waves} Waves
+ */
+
+/** The most cycles of a recording. */
+export const MOST_CYCLES = 100000;
+
+/** @param {number} number */
+function grouped(number) {
+  return String(number).replace(/\B(?=(\d{3})+$)/g, ",");
+}
+
+/**
+ * The time of cycles of 10.8 microseconds, exact.
+ * @param {number} cycles
+ */
+export function microseconds(cycles) {
+  const tenths = cycles * 108;
+  return `${grouped(Math.floor(tenths / 10))}.${tenths % 10}`;
+}
+
+/** @param {number} cycles */
+export function cyclesText(cycles) {
+  return `${grouped(cycles)} ${cycles === 1 ? "cycle" : "cycles"}`;
+}
+
+/**
+ * What lies between two cursors.
+ * @param {number} cycles
+ */
+export function betweenText(cycles) {
+  return `A to B: ${cyclesText(cycles)}, ${microseconds(cycles)} microseconds`;
+}
+
+/** @param {Instruction} instruction */
+export function instructionText({ listed, line, source, isSecond, isEnd }) {
+  if (isSecond) return "the second cycle of an instruction";
+  const text = listed.replace(/ +/g, " ");
+  const sourceText = line > 0 ? `; line ${line} of the source: ${source}` : "";
+  return `${isEnd ? "next: " : ""}${text}${sourceText}`;
+}
+
+/**
+ * A cursor: where it stands, and the instruction there.
+ * @param {string} name
+ * @param {number} moment
+ * @param {Waves} waves
+ */
+export function cursorText(name, moment, waves) {
+  return `${name}: cycle ${grouped(moment)}, ${microseconds(moment)} microseconds: ${instructionText(waves.instructionAt(moment))}`;
+}
+
+/**
+ * The same for those who do not see it, with the value of the chosen line.
+ * @param {number} moment
+ * @param {Waves} waves
+ * @param {number} line -1 for none
+ */
+export function spokenText(moment, waves, line) {
+  const value = line < 0 ? "" : `${waves.lines[line].name} is ${waves.valueAt(line, moment)}, `;
+  return `${value}cycle ${grouped(moment)}, ${instructionText(waves.instructionAt(moment))}`;
+}
+
+/**
+ * @param {Waves} waves
+ * @param {number} wanted cycles
+ * @param {boolean} isBefore whether they are those before a moment
+ */
+export function recordedText({ cycles, recorded }, wanted, isBefore) {
+  if (cycles === 0 && isBefore) return "Nothing was recorded: since the session was opened or wired, no cycle was done before this moment.";
+  const told = `${cyclesText(cycles)} recorded, ${microseconds(cycles)} microseconds.`;
+  if (recorded.isStuck) return `${told} Then comes a code that is no instruction.`;
+  return cycles < wanted ? `${told} The past reaches no further back.` : told;
+}
+
+/**
+ * The number of cycles that a text tells, or 0 where it is not one from 1 to 100,000.
+ * @param {string} text
+ */
+export function readCycles(text) {
+  const plain = text.trim().replace(/,/g, "");
+  if (!/^[0-9]{1,6}$/.test(plain)) return 0;
+  const cycles = Number(plain);
+  return cycles <= MOST_CYCLES ? cycles : 0;
+}

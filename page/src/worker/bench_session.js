@@ -1,0 +1,246 @@
+// The session in the worker: the bytes of its file, the keys that wait, and the calls on them. A call is done whole or not at all.
+
+import { CycleCount, acceptedOf } from "./accepted.js";
+import { isStop, readBoard, readRun, refusalOf } from "../bench/answers.js";
+import { Cancelled } from "../bench/faults.js";
+import { endOfInputs, linesOf, matchAnswers, readInputs } from "../bench/inputs.js";
+import { KeyQueue } from "./key_queue.js";
+import { lookOf, questionsOf } from "../bench/look.js";
+import { SEGMENT_ENTRIES, Timeline } from "./timeline.js";
+
+/**
+ * @typedef {import("./accepted.js").Accepted} Accepted
+ * @typedef {import("./engine.js").Engine} Engine
+ * @typedef {import("./engine.js").Served} Served
+ * @typedef {import("../bench/inputs.js").Input} Input
+ * @typedef {import("./key_queue.js").Step} Step
+ * @typedef {import("../bench/ran.js").RanEntry} RanEntry
+ * @typedef {{ line: string, textLines: number, answers: string[] }} Answered an input, how many lines its text had, and its answers
+ * @typedef {{ entries: Answered[], first: string, status: number, touchesRom: boolean, wires: boolean }} Told what came of lines:
+ *   the last inputs, the first answer, the status of the shell's end, and whether bytes of ROM or the board may be others now
+ * @typedef {Told & { look: string[] }} ToldAndSeen
+ * @typedef {{ ran: RanEntry[], cycles: number, end: string, changesKeys: boolean, look: string[] }} Frame what came of cycles; `end` is
+ *   the answer that ended the run early, "" where none did
+ */
+
+/** So many of the inputs that were served are told. */
+export const MOST_ENTRIES = 400;
+/** A piece of long work takes about so many milliseconds. */
+const PIECE_TIME = 40;
+const FIRST_PIECE = 4096;
+
+/** @type {Record<string, true>} */
+const TOUCHES_ROM = { poke: true, wire: true, asm: true };
+
+export class BenchSession {
+  /**
+   * Opens a session; it throws where the bytes hold none.
+   * @param {Engine} engine
+   * @param {Uint8Array} file is kept, and changed by each call
+   * @param {CycleCount} [count] the cycles that were counted up to here
+   */
+  constructor(engine, file, count = new CycleCount()) {
+    this.engine = engine;
+    this.file = file;
+    this.count = count;
+    /** Takes the new bytes of a call, until they are in the place of the old ones. */
+    this.next = new Uint8Array(file.length);
+    this.queue = new KeyQueue();
+    this.desk = deskOf(engine, file);
+    this.timeline = new Timeline(this);
+  }
+
+  /**
+   * The answers to questions; nothing is changed.
+   * @param {string} lines
+   */
+  ask(lines) {
+    return this.engine.ask(this.file, lines).answers;
+  }
+
+  look() {
+    return lookAt(this.engine, this.file, this.desk);
+  }
+
+  adopt() {
+    [this.file, this.next] = [this.next, this.file];
+  }
+
+  /**
+   * Lets so many cycles pass, with the changes of keys that are due, and looks, in one call.
+   * @param {number} cycles
+   * @returns {Frame}
+   */
+  advance(cycles) {
+    const { steps, answers, look } = this.serveSteps(this.queue.plan(cycles));
+    this.adopt();
+    const runs = answers.map(readRun);
+    /** @type {(at: number) => number} */
+    const cyclesOf = (at) => (runs[at] || { cycles: 0 }).cycles;
+    this.queue.done(steps, cyclesOf);
+    const accepted = steps.map(({ line }, at) => ({ line, cycles: cyclesOf(at), resets: false }));
+    this.count.add(accepted);
+    this.timeline.record(accepted.filter((_, at) => refusalOf(answers[at]) === null), this);
+    const ran = steps.map(({ line, change }, at) => (
+      { line, answer: answers[at], runs: change ? 0 : 1, cycles: cyclesOf(at) }));
+    const last = answers[answers.length - 1];
+    if (isStop(last)) this.timeline.stop();
+    return {
+      ran,
+      cycles: runs.reduce((sum, run) => sum + (run ? run.cycles : 0), 0),
+      end: isStop(last) ? last : "",
+      changesKeys: steps.some((step) => step.change !== null),
+      look,
+    };
+  }
+
+  /**
+   * The session is what it was at another moment; gives whether its board is another one.
+   * @param {{ file: Uint8Array, count: CycleCount }} present
+   */
+  become({ file, count }) {
+    const desk = deskOf(this.engine, file);
+    const wires = desk.board.join("\n") !== this.desk.board.join("\n");
+    this.file = file.slice();
+    this.count = count.copy();
+    this.desk = desk;
+    this.queue.clear();
+    return wires;
+  }
+
+  /**
+   * Serves steps up to the first run that stops early, or a refusal. Whether there is one shows only in the answers; then what came of
+   * the call is not taken, and the steps up to there are served alone.
+   * @param {Step[]} steps
+   */
+  serveSteps(steps) {
+    let served = this.trySteps(steps);
+    const stop = served.answers.findIndex((answer, at) => at < steps.length && isStop(answer));
+    let done = steps;
+    if (stop >= 0 && stop < steps.length - 1) {
+      done = steps.slice(0, stop + 1);
+      served = this.trySteps(done);
+    }
+    const answers = served.answers.slice(0, done.length);
+    return { steps: done, answers, look: lookOf(this.desk.inputs, served.answers.slice(done.length)) };
+  }
+
+  /** @param {Step[]} steps */
+  trySteps(steps) {
+    return this.engine.serve(this.file, linesOf(steps.map((step) => step.line)) + this.desk.questions, this.next);
+  }
+
+  /**
+   * Serves lines, piece by piece: all of them, or none where a piece fails or the work is cancelled.
+   * @param {string} lines
+   * @param {(done: number) => Promise<boolean>} goesOn is told after each piece how many characters are done, and says whether to go on
+   * @returns {Promise<ToldAndSeen>}
+   */
+  async serve(lines, goesOn) {
+    const told = new Telling(this.count.copy());
+    // `from` is the file that the next piece is served on; the session's own stays until all is done.
+    let [from, to] = [this.file, this.next];
+    let size = FIRST_PIECE;
+    for (let at = 0; at < lines.length;) {
+      const end = endOfInputs(lines, at, size);
+      const begun = performance.now();
+      const piece = lines.slice(at, end);
+      const served = this.engine.serve(from, piece, to);
+      [from, to] = [to, from === this.file ? new Uint8Array(from.length) : from];
+      told.add(piece, served);
+      at = end;
+      if (served.status !== 0) break;
+      size = nextSize(size, performance.now() - begun);
+      if (at < lines.length && !(await goesOn(at))) throw new Cancelled();
+    }
+    const desk = told.wires ? deskOf(this.engine, from) : this.desk;
+    const look = lookAt(this.engine, from, desk);
+    // From here on nothing fails: it is done.
+    if (from !== this.file) [this.file, this.next] = [from, this.file];
+    this.desk = desk;
+    this.timeline.stop();
+    this.count = told.count;
+    this.timeline.record(told.accepted, this);
+    this.timeline.stop();
+    // What waits for its time was meant for the keys of the other board.
+    if (told.wires) this.queue.clear();
+    return { ...told.told(), look };
+  }
+}
+
+/**
+ * What is asked about a board: the answer to `board`, the questions of a look, and the same as inputs.
+ * @typedef {{ board: string[], questions: string, inputs: Input[] }} Desk
+ */
+
+/**
+ * @param {Engine} engine
+ * @param {Uint8Array} file
+ * @returns {Desk}
+ */
+function deskOf(engine, file) {
+  const board = engine.ask(file, "board\n").answers;
+  const questions = linesOf(questionsOf(readBoard(board)));
+  return { board, questions, inputs: readInputs(questions) };
+}
+
+/**
+ * @param {Engine} engine
+ * @param {Uint8Array} file
+ * @param {Desk} desk
+ */
+function lookAt(engine, file, { questions, inputs }) {
+  return lookOf(inputs, engine.ask(file, questions).answers);
+}
+
+/**
+ * The size of the next piece, by the time that this one took.
+ * @param {number} size
+ * @param {number} time
+ */
+function nextSize(size, time) {
+  const wanted = size * Math.min(4, Math.max(0.25, PIECE_TIME / Math.max(1, time)));
+  return Math.round(Math.min(1 << 20, Math.max(256, wanted)));
+}
+
+/** Gathers what came of pieces. */
+class Telling {
+  /** @param {CycleCount} count the cycles before the first piece */
+  constructor(count) {
+    this.count = count;
+    /** @type {Accepted[]} where they are more than can be done again, not all of them */
+    this.accepted = [];
+    /** @type {Answered[]} */
+    this.entries = [];
+    this.first = "";
+    this.status = 0;
+    this.touchesRom = false;
+    this.wires = false;
+  }
+
+  /**
+   * @param {string} lines
+   * @param {Served} served
+   */
+  add(lines, { status, answers }) {
+    const inputs = readInputs(lines);
+    const matched = matchAnswers(inputs, answers);
+    const accepted = acceptedOf(inputs, matched);
+    this.count.add(accepted);
+    if (this.accepted.length <= SEGMENT_ENTRIES) this.accepted = this.accepted.concat(accepted);
+    if (this.first === "" && answers.length > 0) this.first = answers[0];
+    this.status = status;
+    this.touchesRom = this.touchesRom || inputs.some((input) => TOUCHES_ROM[input.kind]);
+    // A board that is refused leaves the old one as it is.
+    this.wires = this.wires || inputs.some((input, at) => input.kind === "wire" && !matched[at].some(isStop));
+    const from = Math.max(0, inputs.length - MOST_ENTRIES);
+    const entries = inputs.slice(from).map(({ line, text }, at) => ({ line, textLines: text.length, answers: matched[from + at] }));
+    this.entries = [...this.entries, ...entries].slice(-MOST_ENTRIES);
+  }
+
+  /** @returns {Told} */
+  told() {
+    const { entries, first, status, touchesRom, wires } = this;
+    return { entries, first, status, touchesRom, wires };
+  }
+}

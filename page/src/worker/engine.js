@@ -1,0 +1,218 @@
+// The proved module and its calls: bytes of a session file and lines in, answers and bytes out. It keeps no session; whoever calls
+// has the bytes of the file, and they stay as they were unless a call gives new ones.
+
+import { BenchRefusal, BenchTrap, NO_MEMORY } from "../bench/faults.js";
+
+/**
+ * What came of lines: the status of the shell's end, its first line, `session N`, and the answers after that.
+ * @typedef {{ status: number, opened: string, answers: string[] }} Served
+ * @typedef {{ place: bigint, room: number }} Stretch a stretch of the module's memory
+ * @typedef {"page_serve_and_settle" | "page_ask"} ServingCall
+ * @typedef {(file: bigint, fileSize: bigint, input: bigint, inputSize: bigint, answers: bigint, room: bigint, told: bigint) => number}
+ *   Serving
+ * @typedef {{ memory: WebAssembly.Memory, page_file_size: () => bigint, page_buffer: (count: bigint) => bigint,
+ *   page_buffer_back: (place: bigint) => void, page_begin: (file: bigint, size: bigint) => number,
+ *   page_serve_and_settle: Serving, page_ask: Serving }} Calls what the module exports
+ */
+
+const ROOM_AT_FIRST = 1 << 20;
+/** A number of 32 bits, and a count of 64 at its eighth byte. */
+const TOLD_SIZE = 16;
+const COUNT_AT = 8;
+
+/** The module at work, with the stretches of its memory that are lent to its calls. */
+class Instance {
+  /** @param {WebAssembly.Module} module */
+  constructor(module) {
+    this.calls = callsOf(module);
+    /** How many bytes a session file has. */
+    this.size = Number(this.calls.page_file_size());
+    this.bytes = new Uint8Array(this.calls.memory.buffer);
+    // One byte more, so that a file that is too long is seen to be so.
+    this.file = this.stretch(this.size + 1);
+    this.input = this.stretch(ROOM_AT_FIRST);
+    this.answers = this.stretch(ROOM_AT_FIRST);
+    this.told = this.stretch(TOLD_SIZE);
+  }
+
+  /**
+   * @param {number} room
+   * @returns {Stretch}
+   */
+  stretch(room) {
+    const place = this.calls.page_buffer(BigInt(room));
+    if (place === BigInt(0)) throw new BenchRefusal(NO_MEMORY);
+    return { place, room };
+  }
+
+  /**
+   * A stretch that has room for so many bytes: the one that is there, or a larger one in its place.
+   * @param {Stretch} stretch
+   * @param {number} room
+   */
+  larger(stretch, room) {
+    if (room <= stretch.room) return stretch;
+    const found = this.stretch(room);
+    this.calls.page_buffer_back(stretch.place);
+    return found;
+  }
+
+  /**
+   * The bytes of a stretch, as they lie now: growing memory takes the old ones away.
+   * @param {Stretch} stretch
+   * @param {number} count
+   */
+  view({ place }, count) {
+    const { buffer } = this.calls.memory;
+    if (this.bytes.buffer !== buffer) this.bytes = new Uint8Array(buffer);
+    return this.bytes.subarray(Number(place), Number(place) + count);
+  }
+
+  /**
+   * Puts lines into memory; gives how many bytes they have.
+   * @param {string} lines
+   * @param {TextEncoder} encoder
+   */
+  takeLines(lines, encoder) {
+    // No letter needs more than three bytes.
+    if (lines.length * 3 <= this.input.room) {
+      return encoder.encodeInto(lines, this.view(this.input, this.input.room)).written || 0;
+    }
+    const bytes = encoder.encode(lines);
+    this.input = this.larger(this.input, bytes.length);
+    this.view(this.input, bytes.length).set(bytes);
+    return bytes.length;
+  }
+
+  /** @param {Uint8Array} file */
+  takeFile(file) {
+    this.file = this.larger(this.file, file.length);
+    this.view(this.file, file.length).set(file);
+  }
+
+  /** What a call has told: a number, and a count. */
+  readTold() {
+    const words = new DataView(this.calls.memory.buffer, Number(this.told.place), TOLD_SIZE);
+    return { number: words.getUint32(0, true), count: Number(words.getBigUint64(COUNT_AT, true)) };
+  }
+}
+
+/**
+ * @param {WebAssembly.Module} module
+ * @returns {Calls}
+ */
+function callsOf(module) {
+  try {
+    return /** @type {Calls} */ (/** @type {unknown} */ (new WebAssembly.Instance(module, {}).exports));
+  } catch (fault) {
+    throw fault instanceof RangeError ? new BenchRefusal(NO_MEMORY) : fault;
+  }
+}
+
+export class Engine {
+  /** @param {BufferSource} bytes the module */
+  static async load(bytes) {
+    return new Engine(await WebAssembly.compile(bytes));
+  }
+
+  /** @param {WebAssembly.Module} module */
+  constructor(module) {
+    this.module = module;
+    this.encoder = new TextEncoder();
+    this.decoder = new TextDecoder();
+    /** @type {Instance | null} null where there was no memory to start it anew: the next call tries again */
+    this.started = new Instance(module);
+    /** How many bytes a session file has. */
+    this.size = this.started.size;
+  }
+
+  get instance() {
+    if (!this.started) this.started = new Instance(this.module);
+    return this.started;
+  }
+
+  /**
+   * Calls the module. After a trap nothing in its memory can be relied on, so another instance takes its place.
+   * @param {(calls: Calls) => number} act
+   */
+  call(act) {
+    try {
+      return act(this.instance.calls) !== 0;
+    } catch (fault) {
+      this.started = null;
+      this.started = new Instance(this.module);
+      throw new BenchTrap(fault instanceof Error ? fault.message : String(fault));
+    }
+  }
+
+  /**
+   * Makes the file of a new session.
+   * @param {Uint8Array} [into] takes it
+   */
+  begin(into = new Uint8Array(this.size)) {
+    const { instance } = this;
+    if (!this.call((calls) => calls.page_begin(instance.file.place, BigInt(this.size)))) throw new BenchRefusal(NO_MEMORY);
+    into.set(instance.view(instance.file, this.size));
+    return into;
+  }
+
+  /**
+   * Serves lines on the session of a file, and puts a snapshot in the place of its log.
+   * @param {Uint8Array} file
+   * @param {string} lines
+   * @param {Uint8Array} into takes the new file; it may be the old one
+   * @returns {Served}
+   */
+  serve(file, lines, into) {
+    const served = this.answersOf("page_serve_and_settle", file, lines);
+    into.set(this.instance.view(this.instance.file, file.length));
+    return served;
+  }
+
+  /**
+   * Answers lines as `serve` would; the session is as it was.
+   * @param {Uint8Array} file
+   * @param {string} lines
+   * @returns {Served}
+   */
+  ask(file, lines) {
+    return this.answersOf("page_ask", file, lines);
+  }
+
+  /**
+   * @param {ServingCall} name
+   * @param {Uint8Array} file
+   * @param {string} lines
+   * @returns {Served}
+   */
+  answersOf(name, file, lines) {
+    const { instance } = this;
+    const inputSize = instance.takeLines(lines, this.encoder);
+    let told = this.tryToServe(name, file, inputSize);
+    if (told.answersNeed > 0) {
+      instance.answers = instance.larger(instance.answers, told.answersNeed);
+      told = this.tryToServe(name, file, inputSize);
+    }
+    const answers = this.decoder.decode(instance.view(instance.answers, told.count)).split("\n");
+    answers.pop();
+    const [opened] = answers.splice(0, 1);
+    return { status: told.number, opened, answers };
+  }
+
+  /**
+   * One call. Where the answers have no room, it tells how many bytes they need, and nothing was done.
+   * @param {ServingCall} name
+   * @param {Uint8Array} file
+   * @param {number} inputSize
+   */
+  tryToServe(name, file, inputSize) {
+    const { instance } = this;
+    instance.takeFile(file);
+    const { file: bytes, input, answers, told } = instance;
+    const isServed = this.call((calls) => calls[name](bytes.place, BigInt(file.length), input.place, BigInt(inputSize),
+      answers.place, BigInt(answers.room), told.place));
+    const { number, count } = instance.readTold();
+    if (!isServed && number !== 0) throw new BenchRefusal(number);
+    return { number, count, answersNeed: isServed ? 0 : count };
+  }
+}

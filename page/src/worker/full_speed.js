@@ -1,0 +1,72 @@
+// Full speed, in the worker: batches of cycles one after the other, and when they are told.
+
+import { Ran } from "../bench/ran.js";
+
+/**
+ * @typedef {import("./bench_session.js").BenchSession} BenchSession
+ * @typedef {import("./bench_session.js").Frame} Frame
+ */
+
+/** A batch takes about so many milliseconds. */
+const BATCH_TIME = 30;
+const FIRST_BATCH = 50000;
+const LARGEST_BATCH = 8000000;
+/** A page that is hidden is told once in so many milliseconds, for it to keep the session. */
+const HIDDEN_TIME = 1000;
+
+/** Nothing done yet: the cycles, the answer that ended the run early, whether a key was changed, and the answers of the last look. */
+function nothing() {
+  return { cycles: 0, end: "", changesKeys: false, look: /** @type {string[]} */ ([]) };
+}
+
+export class FullSpeed {
+  constructor() {
+    this.isOn = false;
+    this.isHidden = false;
+    this.size = FIRST_BATCH;
+    this.told = 0;
+    this.ran = new Ran();
+    this.since = nothing();
+  }
+
+  /** @param {boolean} isHidden whether the page is hidden */
+  start(isHidden) {
+    this.isOn = true;
+    this.isHidden = isHidden;
+    this.take();
+  }
+
+  stop() {
+    this.isOn = false;
+  }
+
+  /** @param {BenchSession} session */
+  batch(session) {
+    const begun = performance.now();
+    const frame = session.advance(this.size);
+    const time = performance.now() - begun;
+    this.ran.add(frame.ran);
+    const { cycles, changesKeys } = this.since;
+    this.since = { cycles: cycles + frame.cycles, end: frame.end, changesKeys: changesKeys || frame.changesKeys, look: frame.look };
+    if (frame.end) this.isOn = false;
+    const wanted = this.size * Math.min(2, Math.max(0.5, BATCH_TIME / Math.max(1, time)));
+    this.size = Math.round(Math.min(LARGEST_BATCH, Math.max(FIRST_BATCH, wanted)));
+  }
+
+  /** @param {boolean} isAwaited whether the page has taken what was told before */
+  isToBeTold(isAwaited) {
+    if (!this.isOn) return true;
+    return isAwaited && (!this.isHidden || this.since.changesKeys || performance.now() - this.told >= HIDDEN_TIME);
+  }
+
+  /**
+   * What was done since this was told last.
+   * @returns {Frame}
+   */
+  take() {
+    this.told = performance.now();
+    const { since } = this;
+    this.since = nothing();
+    return { ...since, ran: this.ran.take() };
+  }
+}

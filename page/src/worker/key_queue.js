@@ -1,0 +1,115 @@
+// Changes of keys that wait for their time. A program reads the keys only now and then, so that a key has to stay down, and then up,
+// for some time to be seen, however short the press was.
+
+/** 43 ms down and 22 ms up, as tools/panel has it, in cycles. */
+export const DOWN_CYCLES = 4000;
+export const UP_CYCLES = 2000;
+/** The longest run of one line. */
+export const LONGEST_RUN = 100000;
+
+/**
+ * The lines of a run of so many cycles.
+ * @param {number} cycles
+ */
+export function runLines(cycles) {
+  const rest = cycles % LONGEST_RUN;
+  return `run ${LONGEST_RUN}\n`.repeat(Math.floor(cycles / LONGEST_RUN)) + (rest > 0 ? `run ${rest}\n` : "");
+}
+
+/**
+ * @typedef {{ place: string, word: "press" | "release" }} Change
+ * @typedef {{ line: string, change: Change | null }} Step a line: a change of a key, or a run
+ */
+
+/**
+ * How many cycles have to pass after a change.
+ * @param {Change} change
+ */
+function cyclesAfter(change) {
+  return change.word === "press" ? DOWN_CYCLES : UP_CYCLES;
+}
+
+/**
+ * The line of such a change. The place of what is at TEST is `test 0`, with the level while it is pressed.
+ * @param {Change} change
+ */
+export function lineOfChange({ word, place }) {
+  if (!place.startsWith("test ")) return `${word} ${place}`;
+  const level = Number(place.slice(5));
+  return `test ${word === "press" ? level : 1 - level}`;
+}
+
+export class KeyQueue {
+  constructor() {
+    /** @type {Change[]} */
+    this.changes = [];
+    /** How many cycles have to pass before the next change. */
+    this.wait = 0;
+  }
+
+  /** @param {string} place */
+  press(place) {
+    this.changes.push({ place, word: "press" });
+  }
+
+  /** @param {string} place */
+  release(place) {
+    this.changes.push({ place, word: "release" });
+  }
+
+  /**
+   * Forgets the changes that wait for a key.
+   * @param {string} place
+   */
+  forget(place) {
+    this.changes = this.changes.filter((change) => change.place !== place);
+  }
+
+  clear() {
+    this.changes = [];
+    this.wait = 0;
+  }
+
+  /**
+   * The steps of so many cycles: lines of runs, and between them the changes of keys that are due.
+   * @param {number} cycles
+   * @returns {Step[]}
+   */
+  plan(cycles) {
+    /** @type {Step[]} */
+    const steps = [];
+    let { wait } = this;
+    let left = cycles;
+    let next = 0;
+    while (left > 0) {
+      const change = this.changes[next];
+      if (change && wait === 0) {
+        steps.push({ line: lineOfChange(change), change });
+        wait = cyclesAfter(change);
+        next += 1;
+      }
+      const most = this.changes[next] ? Math.min(wait, LONGEST_RUN) : LONGEST_RUN;
+      const run = Math.min(left, most);
+      steps.push({ line: `run ${run}`, change: null });
+      left -= run;
+      wait = Math.max(0, wait - run);
+    }
+    return steps;
+  }
+
+  /**
+   * Takes note of steps that were done; the last run may have been shorter.
+   * @param {Step[]} steps
+   * @param {(at: number) => number} cyclesOf how many cycles a run took
+   */
+  done(steps, cyclesOf) {
+    steps.forEach(({ change }, at) => {
+      if (change) {
+        this.changes = this.changes.filter((each) => each !== change);
+        this.wait = cyclesAfter(change);
+      } else {
+        this.wait = Math.max(0, this.wait - cyclesOf(at));
+      }
+    });
+  }
+}

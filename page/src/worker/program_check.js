@@ -1,0 +1,117 @@
+// Whether a program's text is what stands in ROM: the text is assembled on a session of its own, which has all ROMs, and the bytes are
+// compared.
+
+import { readBoard, readListing, refusalOf } from "../bench/answers.js";
+import { matchAnswers, readInputs } from "../bench/inputs.js";
+import { hex, upTo } from "../bench/numbers.js";
+
+/**
+ * @typedef {import("../bench/answers.js").Refusal} Refusal
+ * @typedef {import("./engine.js").Engine} Engine
+ *
+ * A program: the answers to `map`, or why the text is refused; and the byte that it puts at each address, -1 where it puts none.
+ * @typedef {{ text: string, map: string[], refusal: Refusal | null, bytes: Int16Array }} Program
+ *
+ * The first address where ROM has another byte than the program; `hasRom` is false where the board has no ROM there.
+ * @typedef {{ address: number, hasRom: boolean }} Difference
+ * @typedef {{ map: string[], refusal: Refusal | null, difference: Difference | null }} Checked
+ */
+
+const ADDRESSES = 4096;
+const PAGE_BYTES = 256;
+const PAGES = upTo(ADDRESSES / PAGE_BYTES);
+const NONE = -1;
+const LONGEST_TEXT = 16384;
+const TEXT_TOO_LONG = 13;
+const ALL_ROMS = `wire\n${PAGES.map((chip) => `[[rom]]\nchip = ${chip}\nport = "0000"\n`).join("")}.\n`;
+
+/** @param {number[]} pages */
+function listsOf(pages) {
+  return pages.map((page) => `list 0x${hex(page * PAGE_BYTES, 3)} ${PAGE_BYTES}\n`).join("");
+}
+
+/**
+ * The bytes that lists tell.
+ * @param {string[]} answers
+ */
+function bytesOf(answers) {
+  const bytes = new Int16Array(ADDRESSES).fill(NONE);
+  for (const { address, line } of readListing(answers)) {
+    bytes[address] = parseInt(line.slice(4, 6), 16);
+    if (line[7] !== " ") bytes[address + 1] = parseInt(line.slice(7, 9), 16);
+  }
+  return bytes;
+}
+
+/**
+ * Why a text cannot even be asked about: it is too long for the bench, or a line that is a dot alone would end it. That has no number.
+ * @param {string} text
+ * @returns {Refusal | null}
+ */
+function faultOfText(text) {
+  if (text.length > LONGEST_TEXT) return { number: TEXT_TOO_LONG, line: 0 };
+  const dot = text.split("\n").findIndex((line) => line === "." || line === ".\r");
+  return dot < 0 ? null : { number: 0, line: dot + 1 };
+}
+
+/**
+ * What the bench makes of a program's text.
+ * @param {Engine} engine
+ * @param {string} text
+ * @returns {Program}
+ */
+export function readProgram(engine, text) {
+  const fault = faultOfText(text);
+  if (fault) return { text, map: [], refusal: fault, bytes: bytesOf([]) };
+  const whole = text === "" || text.endsWith("\n") ? text : `${text}\n`;
+  const lines = `${ALL_ROMS}asm\n${whole}.\nmap\n${whole}.\n${listsOf(PAGES)}`;
+  const [, loaded, map, ...lists] = matchAnswers(readInputs(lines), engine.ask(engine.begin(), lines).answers);
+  const refusal = refusalOf(loaded[0]) || refusalOf(map[0]);
+  const bytes = bytesOf(refusal ? [] : lists.flat());
+  const isPut = putBy(map);
+  return { text, map: refusal ? [] : map, refusal, bytes: bytes.map((byte, address) => (isPut[address] ? byte : NONE)) };
+}
+
+/**
+ * Whether a program puts a byte at each address, by the answers to `map`.
+ * @param {string[]} map
+ */
+function putBy(map) {
+  const isPut = new Uint8Array(ADDRESSES);
+  for (const answer of map) {
+    const [kind, , address, size] = answer.split(" ");
+    if (kind === "line") isPut.fill(1, parseInt(address, 16), parseInt(address, 16) + Number(size));
+  }
+  return isPut;
+}
+
+/**
+ * How many bytes a program puts, and the addresses where ROM has a byte beside it that is not 0.
+ * @param {Engine} engine
+ * @param {Uint8Array} file
+ * @param {Program} program
+ * @returns {import("../text/assembling.js").Leftovers}
+ */
+export function leftoversOf(engine, file, program) {
+  const bytes = bytesOf(engine.ask(file, listsOf(PAGES)).answers);
+  const left = upTo(ADDRESSES).filter((address) => program.bytes[address] === NONE && bytes[address] > 0);
+  return { size: program.bytes.filter((byte) => byte !== NONE).length, left };
+}
+
+/**
+ * Where ROM differs first from a program; null where all its bytes stand there.
+ * @param {Engine} engine
+ * @param {Uint8Array} file
+ * @param {string[]} board the answers to `board`
+ * @param {Program} program
+ * @returns {Difference | null}
+ */
+export function differenceOf(engine, file, board, program) {
+  const pages = PAGES.filter((page) => program.bytes.subarray(page * PAGE_BYTES, (page + 1) * PAGE_BYTES).some((byte) => byte !== NONE));
+  if (pages.length === 0) return null;
+  const roms = new Set(readBoard(board).roms.map(({ chip }) => chip));
+  const bytes = bytesOf(engine.ask(file, listsOf(pages)).answers);
+  const hasRom = (/** @type {number} */ address) => roms.has(Math.floor(address / PAGE_BYTES));
+  const address = program.bytes.findIndex((byte, at) => byte !== NONE && (byte !== bytes[at] || !hasRom(at)));
+  return address < 0 ? null : { address, hasRom: hasRom(address) };
+}

@@ -1,0 +1,85 @@
+// Texts for a session file, which has neither comments nor names: those of an example where they fit, else what the bench says and a
+// source that is made of the ROM.
+
+import { readListing } from "../bench/answers.js";
+import { linesOfExample } from "./examples.js";
+import { BenchRefusal, NO_MEMORY } from "../bench/faults.js";
+import { LAST_ADDRESS, hex, upTo } from "../bench/numbers.js";
+
+/**
+ * @typedef {import("./examples.js").Example} Example
+ * @typedef {{ boardText: string, programText: string }} Texts
+ * @typedef {import("./engine.js").Engine} Engine
+ */
+
+/** How many lines one `list` gives at most. */
+const LONGEST_LISTING = 256;
+const ALL_ROM = upTo(16).map((page) => `list ${page * 256} ${LONGEST_LISTING}\n`).join("");
+
+/**
+ * @param {Engine} engine
+ * @param {Uint8Array} file
+ * @param {Example[]} examples
+ * @returns {Texts}
+ */
+export function textsOfFile(engine, file, examples) {
+  const board = engine.ask(file, "board\n").answers.join("\n");
+  const rom = engine.ask(file, ALL_ROM).answers.join("\n");
+  const like = new Uint8Array(file.length);
+  for (const example of examples.filter((each) => each.board)) {
+    engine.serve(engine.begin(like), linesOfExample(example), like);
+    if (engine.ask(like, "board\n").answers.join("\n") !== board) continue;
+    const isSame = engine.ask(like, ALL_ROM).answers.join("\n") === rom;
+    return { boardText: example.board, programText: isSame ? example.program : sourceOfRom(engine, file) };
+  }
+  const lines = board.split("\n").slice(1);
+  return { boardText: lines.map((line) => `${line}\n`).join(""), programText: sourceOfRom(engine, file) };
+}
+
+/** @param {string} line of a listing */
+function isOfTwoBytes(line) {
+  return line.slice(7, 9).trim() !== "";
+}
+
+/**
+ * The lines of a listing of all ROMs, from 000 to FFF.
+ * @param {Engine} engine
+ * @param {Uint8Array} file
+ */
+function listAll(engine, file) {
+  const lines = [];
+  let address = 0;
+  while (address <= LAST_ADDRESS) {
+    const listed = readListing(engine.ask(file, `list ${address} ${LONGEST_LISTING}\n`).answers);
+    if (listed.length === 0) throw new BenchRefusal(NO_MEMORY);
+    lines.push(...listed);
+    const last = listed[listed.length - 1];
+    address = last.address + (isOfTwoBytes(last.line) ? 2 : 1);
+  }
+  return lines;
+}
+
+/** From so many NOP on a stretch of ROM counts as empty. */
+const FEW_NOPS = 4;
+
+/**
+ * A source text for the bytes in ROM, which assembles to the same bytes; empty stretches are left out.
+ * @param {Engine} engine
+ * @param {Uint8Array} file
+ */
+export function sourceOfRom(engine, file) {
+  const text = [];
+  /** @type {string[]} */
+  let empty = [];
+  for (const { address, line } of listAll(engine, file)) {
+    if (line.slice(4, 6) === "00" && !isOfTwoBytes(line)) {
+      empty.push("\tNOP");
+    } else {
+      if (empty.length < FEW_NOPS) text.push(...empty);
+      else text.push(`\tORG 0x${hex(address, 3)}`);
+      empty = [];
+      text.push(`\t${line.slice(10)}`);
+    }
+  }
+  return text.length === 0 ? "" : `${text.join("\n")}\n`;
+}

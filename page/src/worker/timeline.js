@@ -1,0 +1,210 @@
+// The past of a session, for going back: its file at some moments, and what was accepted after each of them, which is done again on a copy
+// of that file. Of a long past the stops stay longest. It is in memory alone, as long as the session is open in this worker.
+
+import { Cancelled } from "../bench/faults.js";
+
+/**
+ * @typedef {import("./accepted.js").Accepted} Accepted
+ * @typedef {import("./accepted.js").CycleCount} CycleCount
+ * @typedef {import("./engine.js").Engine} Engine
+ * @typedef {{ line: string, cycles: number, resets: boolean, isStop: boolean }} Entry a command; `isStop`: time stood still before it
+ * @typedef {{ file: Uint8Array, count: CycleCount, entries: Entry[], cycles: number, letters: number, follows: boolean }} Segment a file,
+ *   the cycles that were counted up to it, and what came after it; `follows`: it is where the segment before it ends
+ * @typedef {{ segment: number, entry: number, cycles: number }} Moment after so many entries of a segment, and so many cycles of the next
+ * @typedef {{ file: Uint8Array, count: CycleCount }} Present
+ * @typedef {() => Promise<boolean>} GoesOn says whether to go on
+ */
+
+/** A segment has at most about so many cycles, which are done again in a moment, so many entries, and so many letters in their lines. */
+const SEGMENT_CYCLES = 4000000;
+export const SEGMENT_ENTRIES = 4000;
+const SEGMENT_LETTERS = 200000;
+/** Each has a file of 164 KB. */
+const MOST_SEGMENTS = 48;
+/** So many times forward is possible after going back. */
+export const MOST_FORWARD = 64;
+/** A command whose text is longer is not done again: another segment begins after it. */
+const LONGEST_LINE = 20000;
+/** About so many cycles, and at most so many lines, are done again at once. */
+const PIECE_CYCLES = 1000000;
+const PIECE_LINES = 500;
+
+export class Timeline {
+  /** @param {Present} present */
+  constructor(present) {
+    /** @type {Segment[]} */
+    this.segments = [segmentAt(present, false)];
+    /** Whether time stands still: what comes next begins at a stop. */
+    this.isStopped = true;
+    /** @type {({ segments: Segment[] } & Present)[]} where forward leads to, the next one last */
+    this.future = [];
+  }
+
+  get last() {
+    return this.segments[this.segments.length - 1];
+  }
+
+  /** Time stands still here. */
+  stop() {
+    this.isStopped = true;
+  }
+
+  /**
+   * Takes note of what was done; what is kept is not changed later.
+   * @param {Accepted[]} accepted
+   * @param {Present} present what the session is after it
+   */
+  record(accepted, present) {
+    if (accepted.length === 0) return;
+    this.future = [];
+    const { last } = this;
+    const isTooLong = accepted.length > SEGMENT_ENTRIES || accepted.some(({ line }) => line.length > LONGEST_LINE);
+    if (!isTooLong) {
+      for (const { line, cycles, resets } of accepted) {
+        last.entries.push({ line, cycles, resets, isStop: this.isStopped });
+        last.cycles += cycles;
+        last.letters += line.length;
+        this.isStopped = false;
+      }
+    }
+    const isFull = last.cycles >= SEGMENT_CYCLES || last.entries.length >= SEGMENT_ENTRIES || last.letters >= SEGMENT_LETTERS;
+    if (isTooLong || isFull) {
+      this.segments.push(segmentAt(present, !isTooLong));
+      if (this.segments.length > MOST_SEGMENTS) this.thin();
+    }
+  }
+
+  /** Forgets the oldest segment that holds no stop, else the oldest. */
+  thin() {
+    const found = this.segments.findIndex(({ entries }, at) => at < this.segments.length - 1 && !entries.some(({ isStop }) => isStop));
+    const at = Math.max(0, found);
+    this.segments = this.segments.filter((_, each) => each !== at);
+    this.segments[at] = { ...this.segments[at], follows: false };
+  }
+
+  /** @returns {Moment} the present */
+  get end() {
+    return { segment: this.segments.length - 1, entry: this.last.entries.length, cycles: 0 };
+  }
+
+  /**
+   * The last stop before the present; null where there is none.
+   * @returns {Moment | null}
+   */
+  lastStop() {
+    for (let segment = this.segments.length - 1; segment >= 0; segment--) {
+      const { entries } = this.segments[segment];
+      for (let entry = entries.length - 1; entry >= 0; entry--) {
+        if (entries[entry].isStop) return { segment, entry, cycles: 0 };
+      }
+    }
+    return null;
+  }
+
+  /**
+   * The moment so many cycles, 1 or more, before another one: what was done between cycles there is done. Null where the past does not
+   * reach so far.
+   * @param {number} back
+   * @param {Moment} [from]
+   * @returns {Moment | null}
+   */
+  before(back, from = this.end) {
+    let left = back - from.cycles;
+    if (left <= 0) return { ...from, cycles: -left };
+    let { segment, entry } = from;
+    for (;;) {
+      if (entry === 0) {
+        if (!this.segments[segment].follows) return null;
+        segment -= 1;
+        entry = this.segments[segment].entries.length;
+        continue;
+      }
+      entry -= 1;
+      left -= this.segments[segment].entries[entry].cycles;
+      if (left <= 0 && this.segments[segment].entries[entry].cycles > 0) return { segment, entry, cycles: -left };
+    }
+  }
+
+  /**
+   * What the session was at a moment, done again on a copy.
+   * @param {Engine} engine
+   * @param {Moment} moment
+   * @param {GoesOn} goesOn
+   * @returns {Promise<Present>}
+   */
+  async at(engine, moment, goesOn) {
+    const { file, count, entries } = this.segments[moment.segment];
+    const done = [...entries.slice(0, moment.entry), ...partOf(entries[moment.entry], moment.cycles)];
+    const found = { file: file.slice(), count: count.copy() };
+    for (let from = 0; from < done.length;) {
+      if (from > 0 && !(await goesOn())) throw new Cancelled();
+      const piece = pieceOf(done, from);
+      from += piece.length;
+      engine.serve(found.file, piece.map(({ line }) => `${line}\n`).join(""), found.file);
+    }
+    found.count.add(done);
+    return found;
+  }
+
+  /**
+   * Makes a moment the present. Forward leads back to what is here.
+   * @param {Moment} moment
+   * @param {Present} present what the session is here
+   */
+  goBack(moment, present) {
+    const { segments } = this;
+    this.future.push({ segments, ...present });
+    if (this.future.length > MOST_FORWARD) this.future.shift();
+    const whole = segments[moment.segment];
+    const entries = [...whole.entries.slice(0, moment.entry), ...partOf(whole.entries[moment.entry], moment.cycles)];
+    const cycles = entries.reduce((sum, entry) => sum + entry.cycles, 0);
+    this.segments = [...segments.slice(0, moment.segment), { ...whole, entries, cycles }];
+    this.isStopped = true;
+  }
+
+  /**
+   * Goes where the last going back came from; null where nothing lies there.
+   * @returns {Present | null}
+   */
+  goForward() {
+    const next = this.future.pop();
+    if (!next) return null;
+    this.segments = next.segments;
+    this.isStopped = true;
+    return next;
+  }
+}
+
+/**
+ * The entries, from a place on, that are done again at once.
+ * @param {Entry[]} entries
+ * @param {number} from
+ */
+function pieceOf(entries, from) {
+  let cycles = 0;
+  let to = from;
+  while (to < entries.length && to - from < PIECE_LINES && cycles < PIECE_CYCLES) {
+    cycles += entries[to].cycles;
+    to += 1;
+  }
+  return entries.slice(from, to);
+}
+
+/**
+ * @param {Present} present
+ * @param {boolean} follows
+ * @returns {Segment}
+ */
+function segmentAt({ file, count }, follows) {
+  return { file: file.slice(), count: count.copy(), entries: [], cycles: 0, letters: 0, follows };
+}
+
+/**
+ * The first cycles of an entry, as an entry of its own; none where there are none.
+ * @param {Entry | undefined} entry
+ * @param {number} cycles
+ * @returns {Entry[]}
+ */
+function partOf(entry, cycles) {
+  return entry && cycles > 0 ? [{ line: `run ${cycles}`, cycles, resets: false, isStop: entry.isStop }] : [];
+}

@@ -1,0 +1,32 @@
+// What the bench says of texts from elsewhere, on an empty session: its board, and what it refuses.
+
+import { faultsOfLines, sentText } from "../text/text_fault.js";
+
+/**
+ * @typedef {import("./engine.js").Engine} Engine
+ * @typedef {{ boardText: string, programText: string }} Texts
+ * @typedef {{ word: "wire" | "asm", answer: string }} Refused a text by the line before it, and what is answered to it
+ * @typedef {{ file: Uint8Array, board: string[], refused: Refused[] }} Tried the session with what was accepted, and the answer to `board`
+ */
+
+/**
+ * @param {Engine} engine
+ * @param {Texts} texts
+ * @returns {Tried}
+ */
+export function tryTexts(engine, { boardText, programText }) {
+  const file = engine.begin();
+  /** @type {Refused[]} */
+  const refused = [];
+  /** @type {(word: "wire" | "asm", sent: string) => void} */
+  const tryOne = (word, sent) => {
+    if (sent === "") return;
+    // A line in it that ends a text would make lines of what follows.
+    const [fault] = faultsOfLines(sent);
+    const answer = fault ? `line ${fault.line}: ${fault.words}` : engine.serve(file, `${word}\n${sent}.\n`, file).answers[0];
+    if (!/^ok /.test(answer)) refused.push({ word, answer });
+  };
+  tryOne("wire", sentText(boardText, "#"));
+  tryOne("asm", sentText(programText, ";"));
+  return { file, board: engine.ask(file, "board\n").answers, refused };
+}

@@ -1,0 +1,73 @@
+// What the page says of boards that the bench refuses; the numbers are those of the manual ("Refusals of a board").
+import assert from "node:assert/strict";
+import { readFileSync } from "node:fs";
+import { test } from "node:test";
+import { readBoardText } from "../src/text/board_reader.js";
+import { faultsOfBoard } from "../src/text/board_words.js";
+import { completeBoard } from "../src/text/completion.js";
+import { commentAt } from "../src/text/text_fault.js";
+import { boardTables, helpForBoard, tableAt } from "../src/text/text_help.js";
+
+const told = (text) => faultsOfBoard(text).map(({ number, line, words }) => `${line}: ${number} ${words}`);
+const wordAtFault = (text) => faultsOfBoard(text).map(({ line, from, to }) => text.split("\n")[line - 1].slice(from, to));
+const ROM = '[[rom]]\nchip = 0\nport = "iii0"\n';
+const CHAIN = '[[chain]]\nclock = "rom0.0"\ndata = "rom0.0"\nchips = 1\n';
+
+test("the boards of the examples are right", () => {
+  for (const name of ["calculator", "three_lamps"]) {
+    assert.deepEqual(told(readFileSync(new URL(`../../examples/${name}/board.toml`, import.meta.url), "utf8")), []);
+  }
+});
+
+test("what is not TOML", () => {
+  assert.deepEqual(told("[[rom\n"), ["1: 20 ] is missing: [[rom]]"]);
+  assert.deepEqual(told('[[rom]]\nchip 0\nport = "0000\n'),
+    ["2: 20 = is missing after chip", '3: 20 the closing " of the text is missing']);
+  assert.deepEqual(told("port = 0000\n"), ['1: 20 a number has no 0 before it; a text stands in quotes: "0000"']);
+  assert.deepEqual(told("[[rom]]\nport = iiii\n"), ['2: 20 iiii is a text, so it stands in quotes: "iiii"']);
+  assert.deepEqual(told('[[rom]]\nchip = 0\nchip = 1\nport = "0000"\n'), ["3: 20 chip is there already, in line 2"]);
+});
+
+test("keys and values", () => {
+  assert.deepEqual(told('[[rom]]\nchip = 16\nport = "0000"\n'), ["2: 23 chip is 0 to 15"]);
+  assert.deepEqual(wordAtFault('[[rom]]\nchip = 16\nport = "oooo"\n'), ["16", '"oooo"']);
+  assert.deepEqual(told('[[rom]]\nchip = "0"\nport = "0000"\n'), ["2: 23 chip is 0 to 15, a number without quotes"]);
+  assert.deepEqual(told('[[rom]]\nchip = 1.0\nport = "0000"\n'), ["2: 23 chip is 0 to 15"]);
+  assert.deepEqual(told("[[ram]]\nbank = 0\nchip = 1\n"), ["1: 22 this ram lacks chips", "3: 21 chip is no key of ram; chips?"]);
+  assert.deepEqual(told("[[rmo]]\n"), ["1: 21 rmo is no part of a board; rom?"]);
+  assert.deepEqual(told("[[keys]]\n"), ["1: 23 a board has one key matrix: [keys]"]);
+  assert.deepEqual(told("rom = [\n  { chip = 0, port = '1i0i' }, # one\n  { chip = 0x4D, port = '0000' },\n]\n"),
+    ["3: 23 chip is 0 to 15"]);
+});
+
+test("parts that the board lacks, and lines of the wrong direction", () => {
+  assert.deepEqual(told(`${ROM}${ROM}`), ["5: 24 chip 0 is there already, in line 1"]);
+  assert.deepEqual(told(`${ROM}[[lamp]]\nline = "rom9.0"\n`), ["5: 25 rom9.0: the board has no ROM 9"]);
+  assert.deepEqual(told(`${ROM}[[lamp]]\nline = "rom0.1"\n`).map((each) => each.slice(0, 31)), ["5: 26 rom0.1 is an input line ("]);
+  assert.deepEqual(told(`${ROM}${CHAIN}[keys]\nchain = 0\nfirst = 5\nrows = 6\ncolumns = ["rom0.1"]\n`),
+    ["11: 25 chain 0 has bits 0 to 9"]);
+  assert.deepEqual(told(`${ROM}${CHAIN.repeat(5)}`), ["20: 27 a board has at most 4 chain"]);
+});
+
+test("a text is read with its places", () => {
+  const { entries } = readBoardText(`${ROM}# a comment\n`);
+  assert.deepEqual(entries[0].keys.map(({ name, line, value }) => [name, line, value.inner]), [["chip", 2, 0], ["port", 3, "iii0"]]);
+  assert.equal(commentAt('a = "#" # b', "#"), 8);
+});
+
+// The table of the manual, as page/build reads it.
+const manual = readFileSync(new URL("../../docs/MANUAL.md", import.meta.url), "utf8");
+const rows = manual.split("### The keys of the text")[1].split("###")[0].split("\n").filter((line) => /^\| [`|]/.test(line))
+  .map((line) => line.slice(1, -1).split("|").map((cell) => cell.trim()));
+const tables = boardTables([{ title: "The keys of the text", tables: [{ caption: "", head: [], rows }] }]);
+
+test("the keys of a board's tables are those of the manual", () => {
+  assert.deepEqual([...tables].map(([table, keys]) => [table, [...keys.keys()].join()]),
+    [["rom", "chip,port"], ["ram", "bank,chips"], ["chain", "clock,data,chips"], ["keys", "chain,first,rows,columns"], ["lamp", "line"]]);
+  assert.deepEqual([tableAt(["[[rom]]", "c"], 1), tableAt(["rom = [", "  { chip = 0 },"], 1), tableAt(["# x"], 0)], ["rom", "rom", ""]);
+  assert.equal(helpForBoard(["[[rom]]", "chip = 0"], 1, 2, tables), "chip of rom: 0 to 15, no number twice.");
+  const texts = (lines, line, at) => completeBoard(lines, line, at, tables).list.map(({ text }) => text);
+  assert.deepEqual(texts(["[[rom]]", "p"], 1, 1), ["port"]);
+  assert.deepEqual(texts(["[[r"], 0, 3), ["rom", "ram"]);
+  assert.deepEqual(texts(["[[rom]]", 'port = "i'], 1, 9), []);
+});

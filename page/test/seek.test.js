@@ -1,0 +1,63 @@
+// Goals, on the module of the page itself. What is expected was counted by tools/trace and tools/cycles, as docs/MANUAL.md shows it.
+import assert from "node:assert/strict";
+import { test } from "node:test";
+import { begin, counterOf } from "./page_session.js";
+
+test("over a JMS: as many cycles as a breakpoint behind it takes, and nothing stays", async () => {
+  // Up to the JMS at 007: FIM, SRC, LDM, XCH, LD, WMP are 7 cycles.
+  const calls = await begin("three lamps", "run 7\n");
+  assert.equal(counterOf(calls), "007");
+  const told = await calls.goOn({ kind: "over" });
+  assert.deepEqual([told.found.isReached, told.found.cycles, counterOf(calls)], [true, told.total - 7, "009"]);
+  const sent = told.entries.map(({ line, answers }) => [line, answers[0].slice(5)]);
+  assert.deepEqual(sent, [[`run ${told.found.cycles}`, `ran ${told.found.cycles} end`]]);
+  assert.deepEqual(calls.ask("breaks\nwatches\n"), ["breaks -", "watches -"]);
+  const other = await begin("three lamps", "run 7\nbreak 0x009\n");
+  const [answer] = (await other.serve("run 100000\n")).entries[0].answers;
+  assert.equal(answer.split(" ")[3], String(told.found.cycles));
+});
+
+test("over anything else is one instruction, and out ends behind the JMS", async () => {
+  const calls = await begin("three lamps");
+  assert.deepEqual((await calls.goOn({ kind: "over" })).found, { cycles: 2, isReached: true, end: "" });
+  await calls.serve("run 7\n");
+  assert.equal(counterOf(calls), "014");
+  assert.equal((await calls.goOn({ kind: "out" })).found.isReached, true);
+  assert.equal(counterOf(calls), "009");
+});
+
+test("to an address, so many instructions, and to a change", async () => {
+  const calls = await begin("three lamps");
+  await calls.goOn({ kind: "here", address: 0x14 });
+  assert.equal(counterOf(calls), "014");
+  assert.deepEqual((await calls.goOn({ kind: "count", count: 3 })).found, { cycles: 6, isReached: true, end: "" });
+  const before = calls.ask("lamps\n")[0];
+  const told = await calls.goOn({ kind: "change", place: "lamps" });
+  assert.equal(told.found.isReached, true);
+  assert.notEqual(calls.ask("lamps\n")[0], before);
+  const fresh = await begin("three lamps");
+  assert.equal((await fresh.goOn({ kind: "change", place: "r4" })).found.cycles, 5);
+});
+
+test("to an address that is far away, also where all breakpoints are taken", async () => {
+  const loops = "far: ISZ R0, far\nISZ R1, far\nISZ R2, far\nISZ R3, far\nend: JUN end\n";
+  const setup = `wire\n[[rom]]\nchip = 0\nport = "0000"\n.\nasm\n${loops}.\n`;
+  const calls = await begin("empty bench", setup);
+  const { found } = await calls.goOn({ kind: "here", address: 8 });
+  assert.deepEqual([found.isReached, counterOf(calls)], [true, "008"]);
+  const taken = await begin("empty bench", `${setup}${Array.from({ length: 32 }, (_, at) => `break ${at + 16}\n`).join("")}`);
+  const other = await taken.goOn({ kind: "here", address: 4 });
+  await calls.goBack({ kind: "stop" });
+  assert.deepEqual(other.found, (await calls.goOn({ kind: "here", address: 4 })).found);
+});
+
+test("a breakpoint and a watch of the user come first; a goal that never comes does nothing", async () => {
+  const calls = await begin("three lamps", "run 7\nbreak 0x016\n");
+  assert.deepEqual((await calls.goOn({ kind: "over" })).found, { cycles: 4, isReached: false, end: "break" });
+  assert.equal(counterOf(calls), "016");
+  assert.deepEqual((await calls.goOn({ kind: "change", place: "chain0.1" })).found, { cycles: 0, isReached: false, end: "lacks" });
+  const empty = await begin("empty bench", "wire\n[[rom]]\nchip = 0\nport = \"0000\"\n.\nasm\nx: JUN x\n.\n");
+  const before = Buffer.from(empty.session.file);
+  const told = await empty.goOn({ kind: "out" }, 5000);
+  assert.deepEqual([told.found.end, told.entries.length, Buffer.compare(before, empty.session.file)], ["bound", 0, 0]);
+});

@@ -1,0 +1,67 @@
+import assert from "node:assert/strict";
+import { readFileSync } from "node:fs";
+import { test } from "node:test";
+import { deflateRawSync } from "node:zlib";
+import { LONGEST_LINK, NotALink, SAFE_LINK, linkOf, readLink } from "../src/session/share_link.js";
+
+const file = (name) => readFileSync(new URL(`../../examples/${name}`, import.meta.url), "utf8");
+const calculator = {
+  name: "calculator", boardText: file("calculator/board.toml"), programText: file("calculator/calculator.asm"),
+};
+
+/** A browser without streams that compress. */
+async function without(names, act) {
+  const kept = names.map((name) => globalThis[name]);
+  names.forEach((name) => { globalThis[name] = undefined; });
+  try {
+    return await act();
+  } finally {
+    names.forEach((name, at) => { globalThis[name] = kept[at]; });
+  }
+}
+
+test("what goes into a link comes out", async () => {
+  const few = { name: "a lock", boardText: "", programText: "; f\u00fcr\n.\nNOP" };
+  for (const texts of [calculator, few, { name: "x", boardText: "\n", programText: "wire\n.\n" }]) {
+    const link = await linkOf(texts);
+    assert.match(link, /^1\.[\w-]+$/);
+    assert.deepEqual(await readLink(link), texts);
+  }
+});
+
+test("the largest example fits well", async () => {
+  const { length } = await linkOf(calculator);
+  assert.ok(length < 10000 && length > 1000, String(length));
+  assert.ok(SAFE_LINK < LONGEST_LINK);
+});
+
+test("a browser that cannot compress makes a longer link, which every one reads", async () => {
+  const link = await without(["CompressionStream"], () => linkOf(calculator));
+  assert.match(link, /^0\./);
+  assert.deepEqual(await without(["DecompressionStream"], () => readLink(link)), calculator);
+  const packed = await linkOf(calculator);
+  await assert.rejects(without(["DecompressionStream"], () => readLink(packed)), /no DecompressionStream.*project file/);
+});
+
+test("each cut of a link is refused, and each letter that is another one", async () => {
+  const texts = { name: "die", boardText: "# a board\n", programText: "\tNOP\n\tJUN 0\n" };
+  for (const link of [await linkOf(texts), await without(["CompressionStream"], () => linkOf(texts))]) {
+    for (let length = 0; length < link.length; length++) await assert.rejects(readLink(link.slice(0, length)), NotALink, `${length}`);
+    for (let at = 2; at < link.length - 1; at++) {
+      const other = link[at] === "A" ? "B" : "A";
+      await assert.rejects(readLink(link.slice(0, at) + other + link.slice(at + 1)), NotALink, `${at}`);
+    }
+  }
+});
+
+test("links that are made by hand", async () => {
+  for (const link of ["", "hello", "1.", "0.", "1.%%%", "0.QQ", "1.QUJD", `0.${btoa("0\nname x\n").replace(/=/g, "")}`]) {
+    await assert.rejects(readLink(link), { message: "it is cut off, or was changed" }, link);
+  }
+  await assert.rejects(readLink("2.QQ"), /newer page/);
+});
+
+test("a link that would fill the memory is refused", async () => {
+  const bytes = deflateRawSync(new Uint8Array(1 << 24));
+  await assert.rejects(readLink(`1.${bytes.toString("base64url")}`), /more than a board and a program/);
+});

@@ -1,0 +1,191 @@
+// Recordings: lines, what is taken of answers, edges, VCD. The board and the answers are those of the manual's first hour.
+import assert from "node:assert/strict";
+import { test } from "node:test";
+import { readBoard } from "../src/bench/answers.js";
+import { vcdText } from "../src/waves/vcd.js";
+import { isHigh, linesOfBoard, readState } from "../src/waves/wave_lines.js";
+import { WaveTaking } from "../src/worker/wave_taking.js";
+import { Waves, countUpTo } from "../src/waves/waves.js";
+
+const BOARD = readBoard([
+  "board", "[[rom]]", "chip = 0", 'port = "0000"', "[[rom]]", "chip = 1", 'port = "iiii"', "[[rom]]", "chip = 2", 'port = "iiii"',
+  "[[ram]]", "bank = 0", "chips = 1", "[[ram]]", "bank = 1", "chips = 1", "[[chain]]", 'clock = "rom0.0"', 'data = "rom0.1"', "chips = 1",
+  "[keys]", "chain = 0", "first = 0", "rows = 10",
+  'columns = ["rom1.0", "rom1.1", "rom1.2", "rom1.3", "rom2.0", "rom2.1", "rom2.2", "rom2.3"]',
+  "[[lamp]]", 'line = "chain0.0"', "[[lamp]]", 'line = "chain0.1"', "[[lamp]]", 'line = "ram0.0.3"',
+]);
+const STATE = "state seq 8 acc 6 cy 0 pc 00A owed 0 dcl 0 test 1 r 1000000000000000 ret 000,000,000 src 10 banks 0.10,1.00 "
+  + "roms 0.3.0,1.0.6,2.0.0 rams 0.0.0,1.0.0 chains 1100000000 keys 0.1,1.2 lamps **. breaks 003,00F watches 0.3F";
+const TEXT = "# row 0: 7 CE =\n# lamp 1: minus over.flow\n";
+
+/** Other values in a state. */
+function stateWith(changes) {
+  return Object.entries(changes).reduce((state, [key, value]) => state.replace(new RegExp(` ${key} \\S+`), ` ${key} ${value}`), STATE);
+}
+
+function linesWith(hasLabels = false) {
+  return linesOfBoard(BOARD, readState(STATE), TEXT, hasLabels);
+}
+
+function numberOf(lines, name) {
+  return lines.findIndex((line) => line.name === name);
+}
+
+test("the lines of a board have the names of the manual, and those of the board's text", () => {
+  const names = linesWith(true).map(({ name }) => name);
+  assert.deepEqual(names.slice(0, 12), [0, 1, 2].flatMap((rom) => [0, 1, 2, 3].map((line) => `rom${rom}.${line}`)));
+  assert.deepEqual(names.slice(12, 20), [0, 1].flatMap((bank) => [0, 1, 2, 3].map((line) => `ram${bank}.0.${line}`)));
+  assert.deepEqual(names.slice(20, 30), [..."0123456789"].map((bit) => `chain0.${bit}`));
+  assert.deepEqual(names.slice(30, 33), ["lamp0", "lamp.minus", "lamp2"]);
+  assert.deepEqual(names.slice(33, 37), ["key.7", "key.CE", "key0.2", "key0.3"]);
+  assert.deepEqual(names.slice(-4), ["key9.7", "test", "pc", "label"]);
+  assert.equal(names.length, 12 + 8 + 10 + 3 + 80 + 3);
+});
+
+test("what each line is, by the answer to state", () => {
+  const state = readState(STATE);
+  const high = linesWith().filter((line) => line.field !== "pc" && isHigh(line, state[line.field])).map(({ name }) => name);
+  assert.deepEqual(high,
+    ["rom0.0", "rom0.1", "rom1.1", "rom1.2", "chain0.0", "chain0.1", "lamp0", "lamp.minus", "key.CE", "key1.2", "test"]);
+});
+
+test("an output line is what its latch holds, an input line what RDR would read", () => {
+  const mixed = readBoard(["board", "[[rom]]", "chip = 12", 'port = "i0i1"']);
+  const state = readState(stateWith({ roms: "12.F.4", rams: "-", chains: "-", keys: "-", lamps: "-" }));
+  const lines = linesOfBoard(mixed, state, "", false);
+  assert.deepEqual(lines.slice(0, 4).map((line) => [line.name, isHigh(line, state.roms)]),
+    [["rom12.0", true], ["rom12.1", false], ["rom12.2", true], ["rom12.3", false]]);
+});
+
+/** Five instructions of which the third has two cycles. */
+function record(cycles) {
+  const taking = new WaveTaking(linesWith(), STATE, cycles);
+  taking.addStep("ok 9 ran 1 end", stateWith({ pc: "00B", roms: "0.1.0,1.0.6,2.0.0" }));
+  taking.addStep("ok 10 ran 1 end", stateWith({ pc: "00C", roms: "0.1.0,1.0.6,2.0.0", lamps: "***" }));
+  taking.addStep("ok 11 ran 2 end", stateWith({ pc: "00A", roms: "0.1.0,1.0.6,2.0.0", lamps: "***" }));
+  taking.addStep("ok 12 ran 1 end", stateWith({ pc: "00B", lamps: "***", test: "0" }));
+  taking.addStep("ok 13 ran 0 code", stateWith({ pc: "00B", lamps: "***", test: "0" }));
+  return taking;
+}
+
+const LISTING = [[0x00a, "00A E2    WRR"], [0x00b, "00B E1    WMP"], [0x00c, "00C 40 0A JUN 0x00A"]];
+
+function wavesOf(taking, program = null) {
+  return new Waves({ ...taking.taken(), listing: LISTING, program });
+}
+
+test("changes stand at the moment after their instruction", () => {
+  const waves = wavesOf(record(100));
+  const of = (name) => [...waves.changesOf(numberOf(waves.lines, name))];
+  assert.deepEqual([of("rom0.1"), of("lamp2"), of("test"), of("rom0.0")], [[1, 5], [2], [5], []]);
+  assert.deepEqual(of("pc"), [1, 2, 4, 5]);
+  assert.deepEqual([waves.cycles, waves.recorded.isStuck], [5, true]);
+});
+
+test("a recording ends at its last cycle, inside an instruction too", () => {
+  const waves = wavesOf(record(3));
+  assert.deepEqual([waves.cycles, waves.recorded.isStuck], [3, false]);
+  assert.deepEqual([...waves.changesOf(numberOf(waves.lines, "pc"))], [1, 2]);
+  assert.equal(wavesOf(record(4)).counterAt(4), 0x00a);
+});
+
+test("a bench that refuses is told", () => {
+  const taking = new WaveTaking(linesWith(), STATE, 5);
+  assert.throws(() => taking.addStep("no 46", STATE), /no 46/);
+});
+
+test("cycle by cycle: an instruction of two cycles is one, and commands between cycles take no time", () => {
+  const taking = new WaveTaking(linesWith(), STATE, 3);
+  taking.add("ok 9 ran 1 end", stateWith({ pc: "020", owed: "1" }));
+  taking.add("ok 10", stateWith({ pc: "020", owed: "1", keys: "0.1" }));
+  taking.add("ok 11 ran 1 break", stateWith({ pc: "020", keys: "0.1" }));
+  taking.add("ok 12", stateWith({ pc: "020", keys: "0.1", test: "0" }));
+  taking.add("ok 13", stateWith({ pc: "020", keys: "0.1" }));
+  taking.add("ok 14", stateWith({ pc: "030", keys: "0.1" }));
+  taking.add("ok 15 ran 1 watch", stateWith({ pc: "031", keys: "0.1" }));
+  taking.add("ok 16", stateWith({ pc: "031", keys: "0.1", test: "0" }));
+  const waves = wavesOf(taking);
+  const of = (name) => [...waves.changesOf(numberOf(waves.lines, name))];
+  assert.deepEqual([of("key1.2"), of("test"), of("pc")], [[1], [3], [2, 3]]);
+  assert.deepEqual([0, 1, 2, 3].map((moment) => waves.counterAt(moment)), [0x00a, 0x00a, 0x030, 0x031]);
+});
+
+test("values and edges", () => {
+  const waves = wavesOf(record(100));
+  const data = numberOf(waves.lines, "rom0.1");
+  assert.deepEqual([0, 1, 4, 5].map((moment) => waves.valueAt(data, moment)), ["1", "0", "0", "1"]);
+  assert.equal(waves.changeAfter(data, 0), 1);
+  assert.equal(waves.changeAfter(data, 1), 5);
+  assert.equal(waves.changeAfter(data, 5), undefined);
+  assert.equal(waves.changeBefore(data, 5), 1);
+  assert.equal(waves.changeBefore(data, 1), undefined);
+  assert.deepEqual([0, 2, 3, 4].map((moment) => waves.valueAt(numberOf(waves.lines, "pc"), moment)), ["00A", "00C", "00C", "00A"]);
+});
+
+test("the instruction at a moment, in both its cycles", () => {
+  const waves = wavesOf(record(100), {
+    text: "stop: NOP\n  JUN go ; on", lines: new Uint16Array(4096).fill(2, 0x00c, 0x00e), labels: [{ address: 0x00b, name: "stop" }],
+  });
+  for (const moment of [2, 3]) {
+    const { address, listed, line, source, isEnd } = waves.instructionAt(moment);
+    assert.deepEqual([address, listed, line, source, isEnd], [0x00c, "00C 40 0A JUN 0x00A", 2, "JUN go ; on", false]);
+  }
+  assert.deepEqual([waves.instructionAt(0).line, waves.instructionAt(5).isEnd], [0, true]);
+  assert.deepEqual([waves.labelAt(0), waves.labelAt(1), waves.labelAt(3)], ["", "stop", "stop"]);
+});
+
+test("the first sample may be the second cycle of an instruction", () => {
+  const taking = new WaveTaking(linesWith(), stateWith({ owed: "1" }), 1);
+  taking.addStep("ok 9 ran 1 end", STATE);
+  assert.deepEqual([wavesOf(taking).instructionAt(0).isSecond, wavesOf(taking).instructionAt(1).isSecond], [true, false]);
+});
+
+test("a VCD file: a cycle is 108 units of 100 ns, lines in the order of the choice", () => {
+  const waves = wavesOf(record(100));
+  const text = vcdText(waves, ["lamp2", "rom0.1", "pc"].map((name) => numberOf(waves.lines, name)));
+  assert.equal(text, `$version Fethsaim $end
+$comment 108 units of time are a cycle of the 4004, 10.8 microseconds $end
+$timescale 100 ns $end
+$scope module board $end
+$var wire 1 A lamp2 $end
+$var wire 1 C rom0.1 $end
+$var wire 12 D pc $end
+$upscope $end
+$enddefinitions $end
+#0
+$dumpvars
+0A
+1C
+b000000001010 D
+$end
+#108
+0C
+b000000001011 D
+#216
+1A
+b000000001100 D
+#432
+b000000001010 D
+#540
+1C
+b000000001011 D
+`);
+});
+
+test("a VCD file ends with the end of the recording", () => {
+  const waves = wavesOf(record(3));
+  const text = vcdText(waves, [numberOf(waves.lines, "test")]);
+  assert.match(text, /#0\n\$dumpvars\n1A\n\$end\n#324\n$/);
+});
+
+test("the short names of lines in the file differ", () => {
+  const waves = wavesOf(record(3));
+  const all = waves.lines.map((_, line) => line);
+  const codes = vcdText(waves, all).split("\n").filter((line) => line.startsWith("$var")).map((line) => line.split(" ")[3]);
+  assert.equal(new Set(codes).size, all.length);
+  assert.deepEqual([codes[0], codes[21], codes[22], codes[43], codes[44]], ["A", "Y", "AA", "AY", "CA"]);
+});
+
+test("how many of rising numbers are at most one of them", () => {
+  assert.deepEqual([0, 1, 2, 5, 9].map((most) => countUpTo([1, 2, 5], most)), [0, 1, 2, 3, 3]);
+});

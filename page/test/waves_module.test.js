@@ -1,0 +1,96 @@
+// Recordings with the module of the page itself.
+import assert from "node:assert/strict";
+import { readFileSync } from "node:fs";
+import { test } from "node:test";
+import { BenchCalls } from "../src/worker/bench_calls.js";
+import { vcdText } from "../src/waves/vcd.js";
+import { Waves } from "../src/waves/waves.js";
+
+const page = readFileSync(new URL("../fethsaim.html", import.meta.url), "utf8");
+const partOf = (id) => new RegExp(`id="${id}">([^<]*)<`).exec(page)[1];
+const module = Buffer.from(partOf("module"), "base64");
+const { examples } = JSON.parse(partOf("data"));
+
+async function begin(name, goesOn = async () => true) {
+  const calls = new BenchCalls(goesOn);
+  await calls.load(module, examples);
+  const example = examples.find((each) => each.name === name);
+  calls.open(calls.make(example));
+  return { calls, texts: { board: example.board, program: example.program } };
+}
+
+function numberOf(waves, name) {
+  return waves.lines.findIndex((line) => line.name === name);
+}
+
+function wholeText(waves) {
+  return vcdText(waves, waves.lines.map((_, line) => line));
+}
+
+test("the stopwatch counts every 926 cycles, and its session is as it was", async () => {
+  const { calls, texts } = await begin("stopwatch");
+  await calls.serve("test 0\n");
+  const before = calls.session.file.slice();
+  const waves = new Waves(await calls.record(20000, false, texts));
+  const lamp = waves.changesOf(numberOf(waves, "lamp15"));
+  assert.ok(lamp.length > 15);
+  assert.deepEqual(new Set([...lamp].slice(2).map((moment, at) => moment - lamp[at + 1])), new Set([926]));
+  assert.deepEqual(calls.session.file, before);
+  assert.equal(waves.labelAt(0), "wait");
+  assert.match(waves.instructionAt(lamp[3] - 1).source, /^WMP/);
+});
+
+test("what was recorded up to here is what is recorded from there on", async () => {
+  const { calls, texts } = await begin("stopwatch");
+  await calls.serve("test 0\nrun 1001\n");
+  const later = new Waves(await calls.record(4000, false, texts));
+  await calls.serve("run 1500\n");
+  calls.advance(2000);
+  await calls.serve("break 0x00C\nrun 500\nunbreak 0x00C\nstep\n");
+  const before = calls.session.file.slice();
+  const whole = new Waves(await calls.record(100000, true, texts));
+  const cycles = whole.cycles - 1001;
+  assert.ok(cycles > 3500 && cycles < 4000);
+  assert.equal(calls.ask("seq\n").length, 1);
+  const earlier = new Waves(await calls.record(cycles, true, texts));
+  assert.equal(earlier.cycles, cycles);
+  const short = wholeText(earlier).split("\n").slice(0, -2).join("\n");
+  assert.ok(wholeText(later).startsWith(short));
+  assert.deepEqual(calls.session.file, before);
+});
+
+test("keys that were pressed stand in the past, and it ends as it is here", async () => {
+  const { calls, texts } = await begin("calculator");
+  await calls.serve("run 30000\npress 2 0\nrun 4000\nrelease 2 0\nstep\nstep\n");
+  const waves = new Waves(await calls.record(5000, true, texts));
+  const key = numberOf(waves, "key.1");
+  const [down, up, ...others] = waves.changesOf(key);
+  assert.deepEqual([up - down, waves.levelAt(key, down), others], [4000, 1, []]);
+  assert.equal(waves.counterAt(5000), parseInt(/ pc (...)/.exec(calls.ask("regs\n")[0])[1], 16));
+  const lamps = calls.ask("lamps\n")[0].slice("lamps ".length);
+  const shown = waves.lines.map((line, at) => [line, at]).filter(([line]) => line.field === "lamps")
+    .map(([, at]) => (waves.levelAt(at, 5000) ? "*" : ".")).join("");
+  assert.equal(shown, lamps);
+});
+
+test("the past begins with the board, and where nothing was done nothing is recorded", async () => {
+  const { calls, texts } = await begin("three lamps");
+  assert.equal((await calls.record(100, true, texts)).cycles, 0);
+  await calls.serve("run 500\nwire\n[[rom]]\nchip = 0\nport = \"0000\"\n.\nrun 30\n");
+  const recorded = await calls.record(100, true, texts);
+  const names = ["rom0.0", "rom0.1", "rom0.2", "rom0.3", "test", "pc", "label"];
+  assert.deepEqual([recorded.cycles, recorded.lines.map(({ name }) => name)], [30, names]);
+});
+
+test("a code that is no instruction ends a recording, and it is told", async () => {
+  const { calls, texts } = await begin("three lamps");
+  await calls.serve("poke rom.0x018 0xFF\npoke rom.0x014 0xFF\n");
+  const recorded = await calls.record(100, false, texts);
+  assert.deepEqual([recorded.isStuck, recorded.program], [true, null]);
+  assert.ok(recorded.cycles < 100);
+});
+
+test("a recording is told how far it is, and cancelled", async () => {
+  const { calls, texts } = await begin("calculator", async () => false);
+  await assert.rejects(calls.record(100000, false, texts), /cancelled/);
+});
