@@ -135,7 +135,7 @@ export const TOUR = [
     title: "A breakpoint",
     words: ["A run stops before a line that has a breakpoint. Click beside the line show: in Source, or on the line in the listing.",
       "Then run.",
-      "Step goes on by one instruction. A second click takes the breakpoint away.",
+      "Into (F11) goes on by one instruction. A second click takes the breakpoint away.",
       "The step is done when a run has stopped at a breakpoint."],
     program: "",
     isDone: ({ end }) => end === "break",
