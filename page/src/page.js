@@ -190,6 +190,7 @@ export class Page {
       counter: () => this.machine.counter,
       toggleBreakpoint: (line) => this.source.toggleBreakpoint(line).catch((fault) => this.failed(fault)),
       meaningOf: (name) => this.source.meaningOf(name),
+      replaceBoard: (text, words) => this.texts.replace("board", text, words),
       hasFaults: (name, count) => this.layout.tabs.mark(name, count > 0 ? `${count} fault${count > 1 ? "s" : ""}` : ""),
       failed: (fault) => this.failed(fault),
     });
