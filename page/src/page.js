@@ -104,7 +104,7 @@ export class Page {
 
   makeClock() {
     return new Clock({
-      advance: async (cycles) => this.ran(await this.bench.call("advance", [cycles])),
+      advance: async (cycles, key) => this.ran(await this.bench.call("advance", [cycles, key])),
       instruct: () => this.instruct(),
       runFull: () => this.bench.call("run", [document.hidden]),
       stoodStill: (time, wasHidden) => this.stoodStill(time, wasHidden),
@@ -581,8 +581,8 @@ export class Page {
    */
   queue(word, place) {
     this.touch();
+    if (word === "press" && this.clock.hurry(place)) return;
     this.bench.call(word, [place]).catch((fault) => this.failed(fault));
-    if (word === "press") this.clock.hurry();
   }
 
   // --- faults ---
