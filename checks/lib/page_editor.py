@@ -21,6 +21,14 @@ TOLD = "return document.querySelector('{} .told').textContent"
 MEANING = "return document.querySelector('{} .meaning').textContent"
 LISTING = "return document.querySelector('#lines-of-program').textContent"
 INSIDE = "return document.activeElement.closest('.paper') !== null"
+# How far the numbers of the lines that are shown stand from their lines, at the end of a text that is wider than its box.
+NUMBERS = f"""{EDITOR}
+editor.scrollTo(1000, 1e6);
+const rows = [...editor.getWrapperElement().querySelectorAll(".CodeMirror-code > *")].filter((row) => row.querySelector(".CodeMirror-linenumber"));
+const top = (row, part) => row.querySelector(part).getBoundingClientRect().top;
+const apart = rows.map((row) => Math.abs(top(row, ".CodeMirror-linenumber") - top(row, ".CodeMirror-line")));
+const last = rows[rows.length - 1].querySelector(".CodeMirror-linenumber").textContent;
+return [last, editor.getScrollInfo().width > editor.getScrollInfo().clientWidth, Math.max(...apart) < 2]"""
 # How long a key takes, from the key to the end of all that is done for it, in the median.
 KEY_TIMES = f"""{EDITOR}
 editor.setCursor(arguments[1], 0);
@@ -112,6 +120,14 @@ def check_typing(browser):
     browser.keys([ESCAPE, TAB], 5, 5)
     verdict("Escape, then Tab leaves the text", browser.script(INSIDE), False)
     verdict("and the text stays", browser.script(TEXT_OF_EDITOR, PROGRAM), "loop:\tNOP\n\tLDM 5\n\tJUN loop")
+
+
+def check_numbers(browser):
+    put(browser, PROGRAM, "\tNOP\n" * 200 + "; " + "a long line " * 40 + "\n\tNOP")
+    time.sleep(0.3)
+    browser.script(NUMBERS, PROGRAM)
+    time.sleep(0.3)
+    verdict("at the end of a wide text each number stands beside its line", browser.script(NUMBERS, PROGRAM), ["202", True, True])
 
 
 def check_limits(browser):
@@ -212,6 +228,7 @@ def check_editor(browser, page, _folder, _mcs4):
     show_text(browser, "program")
     check_faults(browser)
     check_typing(browser)
+    check_numbers(browser)
     check_limits(browser)
     check_sessions(browser)
     check_running(browser)

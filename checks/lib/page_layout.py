@@ -391,6 +391,11 @@ def check_menu(browser):
     verdict("what is chosen is done", browser.script("return isShown(document.getElementById('help'))"), True)
     verdict("and the menu is shut", browser.script(MENU), "false false")
     browser.click("#help-close")
+    browser.click("#menu-button")
+    browser.click("#sessions-button")
+    wide = "const box = document.getElementById('sessions'); return box.open && box.scrollWidth - box.clientWidth"
+    comes(browser, "the dialog of sessions does not scroll sideways", wide, 0)
+    browser.click("#close-sessions")
 
 
 def check_phone(browser):

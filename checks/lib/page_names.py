@@ -62,6 +62,17 @@ const { left, top, width, height } = node.getBoundingClientRect();
 const at = { clientX: left + width / 2, clientY: top + height / 2, button: 0, buttons: 1, bubbles: true, cancelable: true, detail: 1 };
 for (const kind of ["mousedown", "mouseup", "click"]) node.dispatchEvent(new MouseEvent(kind, at));"""
 
+# Where a word of a line stands on the screen, once that line is in view.
+WORD_PLACE = """
+const editor = document.querySelector("#program-editor .CodeMirror").CodeMirror;
+const [line, word] = arguments;
+editor.scrollIntoView({ line: line - 1, ch: 0 }, 60);
+editor.getWrapperElement().scrollIntoView({ block: "center" });
+const at = editor.getLine(line - 1).indexOf(word);
+const { left, top, bottom } = editor.charCoords({ line: line - 1, ch: at + 1 }, "window");
+return [left, (top + bottom) / 2]"""
+MEANING = "return document.querySelector('#program-editor .meaning').textContent"
+
 
 def listing_of(mcs4, *words):
     told = dict(os.environ, MCS4=str(mcs4))
@@ -130,6 +141,27 @@ def check_margin(browser, source, values):
     comes(browser, "a line without bytes takes none, in words", TOLD_AT, re.compile("^Line 1 puts no bytes into ROM"))
 
 
+def point_at(browser, line, word):
+    """The pointer comes to a word of the source, and rests there."""
+    x, y = browser.script(WORD_PLACE, line, word)
+    browser.actions({"type": "pointer", "id": "mouse", "parameters": {"pointerType": "mouse"}, "actions": [
+        {"type": "pointerMove", "duration": 0, "x": int(x) + shift, "y": int(y)} for shift in (1, 2)]})
+
+
+def check_pointing(browser, source, values, lines):
+    """What the pointer rests on is explained: a label with its address and line, a number with its value, an instruction, a register."""
+    line_of = {word: next(number for number, text in enumerate(lines, 1) if re.search(pattern, text)) for word, pattern in {
+        "scan": r"JMS scan\b", "nonzero": r"^nonzero\s*=", "JMS": r"JMS scan\b", "P1": r"FIM P1,"}.items()}
+    for word, words in {
+        "scan": f"scan: address 0x{values['scan']}, line {source[values['scan']][0]}",
+        "JMS": re.compile(r"^JMS t: 2 words, 2 cycles\. .*The carry stays\.$"),
+        "nonzero": f"nonzero = 0x{values['nonzero'][-2:]}, {int(values['nonzero'], 16)}",
+        "P1": "P1: the pair of R2, its upper four bits, and R3, its lower ones.",
+    }.items():
+        point_at(browser, line_of[word], word)
+        comes(browser, f"the pointer on {word} shows what it is", MEANING, words)
+
+
 def check_go_to(browser):
     for text, address in (("01E", "01E"), ("0x11E", "11E"), ("30", "01E"), ("100", "100")):
         go_to(browser, text)
@@ -188,6 +220,7 @@ def check(browser, page, _folder, mcs4):
     check_steps(browser, source)
     check_breakpoint_at_name(browser, source, values, lines)
     check_margin(browser, source, values)
+    check_pointing(browser, source, values, lines)
     check_go_to(browser)
     check_names_in_lines(browser, values)
     check_difference(browser, source, lines)

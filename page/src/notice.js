@@ -4,9 +4,9 @@
 import { block, element } from "./dom.js";
 
 /**
- * What stays wrong while it lasts (`kept`, `store`), what was refused (`session`, `refusal`), a link that was copied (`share`), any other
- * fault (""), and `undo`.
- * @typedef {"" | "kept" | "session" | "store" | "refusal" | "share" | "undo"} NoticeKind
+ * What stays wrong while it lasts (`kept`, `store`), what was refused (`session`, `refusal`), a link that was copied (`share`), the session
+ * that was left for a new one (`left`), any other fault (""), and `undo`.
+ * @typedef {"" | "kept" | "session" | "store" | "refusal" | "share" | "left" | "undo"} NoticeKind
  * @typedef {{ word: string, act: () => void }} NoticeAction a button beside the words
  * @typedef {{ kind: NoticeKind, words: string, node: HTMLElement }} Row
  */

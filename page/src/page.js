@@ -104,7 +104,7 @@ export class Page {
 
   makeClock() {
     return new Clock({
-      advance: async (cycles) => this.ran(await this.bench.call("advance", [cycles])),
+      advance: async (cycles, key) => this.ran(await this.bench.call("advance", [cycles, key])),
       instruct: () => this.instruct(),
       runFull: () => this.bench.call("run", [document.hidden]),
       stoodStill: (time, wasHidden) => this.stoodStill(time, wasHidden),
@@ -190,6 +190,7 @@ export class Page {
       counter: () => this.machine.counter,
       toggleBreakpoint: (line) => this.source.toggleBreakpoint(line).catch((fault) => this.failed(fault)),
       meaningOf: (name) => this.source.meaningOf(name),
+      replaceBoard: (text, words) => this.texts.replace("board", text, words),
       hasFaults: (name, count) => this.layout.tabs.mark(name, count > 0 ? `${count} fault${count > 1 ? "s" : ""}` : ""),
       failed: (fault) => this.failed(fault),
     });
@@ -423,8 +424,9 @@ export class Page {
   /**
    * Takes what the session is now, and shows it.
    * @param {Shown} shown
+   * @param {boolean} [isPassing] whether time has come here and goes on
    */
-  show({ look, file, board, total, reset, future }) {
+  show({ look, file, board, total, reset, future }, isPassing = false) {
     if (!this.session) return;
     this.bench.giveBack(this.session.take(file));
     this.cycles.take({ total, reset }, this.clock.isRunning);
@@ -435,7 +437,13 @@ export class Page {
       this.history.draw(this.machine.board, lampNames(new Face(this.boardEditor.text), this.machine.board.lamps.length));
       this.editors.look(board.length === 1);
     }
-    this.machine.show(look);
+    this.machine.show(look, isPassing);
+  }
+
+  /** The rate is measured from here on. */
+  beginRate() {
+    this.rate = new Rate(this.clock.now);
+    this.showRate();
   }
 
   showRate() {
@@ -451,7 +459,7 @@ export class Page {
     this.runWord.set("Stop");
     this.status.set("Time runs.");
     this.clock.start();
-    this.rate = new Rate(this.clock.now);
+    this.beginRate();
     this.bench.isRunning = this.clock.isFull;
     this.keep();
   }
@@ -467,7 +475,7 @@ export class Page {
   async setSpeed(speed) {
     if (!speed.isFull && this.clock.isFull && this.clock.isRunning) this.ran(await this.bench.call("halt", []));
     this.clock.setSpeed(speed);
-    this.rate = new Rate(this.clock.now);
+    this.beginRate();
     this.bench.isRunning = speed.isFull && this.clock.isRunning;
     this.machine.showListing();
   }
@@ -492,7 +500,7 @@ export class Page {
    * @param {boolean} wasHidden
    */
   stoodStill(time, wasHidden) {
-    this.rate = new Rate(this.clock.now);
+    this.beginRate();
     this.status.set(`Time runs. It stood still for ${wordsOfTime(time)} ${wasHidden ? "while hidden" : "while the page was held up"}.`);
   }
 
@@ -507,6 +515,7 @@ export class Page {
     this.runWord.set("Run");
     this.status.set(words);
     this.showRate();
+    this.machine.showRest();
     this.machine.showListing();
   }
 
@@ -536,17 +545,17 @@ export class Page {
    * @param {Frame} frame
    */
   ran(frame) {
-    this.rate.add(frame.cycles, this.clock.now);
+    const isNewRate = this.rate.add(frame.cycles, this.clock.now);
     this.log.collect(frame.ran);
     if (frame.end) this.clock.stop();
-    this.show(frame);
+    this.show(frame, true);
     if (frame.end) {
       this.halted(this.reasonOf(frame.end));
       this.ended(frame.end);
       this.keep();
       return;
     }
-    this.showRate();
+    if (isNewRate || !this.clock.isRunning) this.showRate();
     // A key that was pressed is kept at once. A page that is hidden is told once a second.
     if (frame.changesKeys || document.hidden || performance.now() - this.kept >= KEEP_TIME) this.keep();
   }
@@ -572,8 +581,8 @@ export class Page {
    */
   queue(word, place) {
     this.touch();
+    if (word === "press" && this.clock.hurry(place)) return;
     this.bench.call(word, [place]).catch((fault) => this.failed(fault));
-    if (word === "press") this.clock.hurry();
   }
 
   // --- faults ---

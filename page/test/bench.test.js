@@ -106,11 +106,22 @@ test("a script fault in the worker ends it, and another one can be started", asy
   assert.deepEqual(await again, ["seq 0"]);
 });
 
-test("arrays of files go back to the worker, but no others", async () => {
+test("arrays of files go back to the worker with the next request, but no others", async () => {
   const { bench, worker } = await started();
   const count = worker.sent.length;
   bench.giveBack(new ArrayBuffer(4));
-  assert.equal(worker.sent.length, count);
   bench.giveBack(new ArrayBuffer(5));
-  assert.equal(worker.sent[count].kind, "spare");
+  assert.equal(worker.sent.length, count);
+  bench.call("ask", ["seq\n"]);
+  bench.call("ask", ["seq\n"]);
+  assert.deepEqual(worker.sent.slice(count).map(({ spare }) => spare.map(({ byteLength }) => byteLength)), [[5], []]);
+});
+
+test("at full speed they go back at once", async () => {
+  const { bench, worker } = await started();
+  const count = worker.sent.length;
+  bench.isRunning = true;
+  bench.giveBack(new ArrayBuffer(4));
+  bench.giveBack(new ArrayBuffer(5));
+  assert.deepEqual(worker.sent.slice(count).map(({ kind }) => kind), ["spare"]);
 });

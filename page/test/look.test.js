@@ -17,19 +17,34 @@ test("the questions of a board, and what is new in each look", () => {
   const inputs = readInputs(linesOf(questions));
   const look = lookOf(inputs, [STATE, ...RAM]);
   const reader = new LookReader();
-  const first = reader.read(look);
-  assert.equal(first.lamps, "**.");
+  assert.deepEqual(reader.take(look), { lamps: "**.", keys: ["0.1", "1.2"], test: "1" });
+  const first = reader.readRest();
   assert.equal(first.registers.counter, "00A");
   assert.deepEqual(first.ports.keys, ["0.1", "1.2"]);
   assert.deepEqual([first.breakpoints, first.watches], [["003", "00F"], ["0.3F"]]);
   assert.equal(first.ram[0].ports.get("0.0"), "1");
-  assert.deepEqual(reader.read(look), {});
-  assert.deepEqual(reader.read(lookOf(inputs, [STATE.replace("seq 8", "seq 9"), ...RAM])), {});
+  for (const same of [look, lookOf(inputs, [STATE.replace("seq 8", "seq 9"), ...RAM])]) {
+    assert.deepEqual([reader.take(same), reader.readRest()], [{}, {}]);
+  }
   const next = lookOf(inputs, [STATE.replace("lamps **.", "lamps .**"), ...RAM]);
-  assert.deepEqual(reader.read(next), { lamps: ".**" });
+  assert.deepEqual([reader.take(next), reader.readRest()], [{ lamps: ".**" }, {}]);
   assert.equal(reader.registers.accumulator, "6");
   reader.forget();
-  assert.equal(Object.keys(reader.read(next)).length, 6);
+  assert.equal(Object.keys(reader.take(next)).length, 3);
+  assert.equal(Object.keys(reader.readRest()).length, 5);
+});
+
+test("what is not drawn at each look is new since it was drawn last", () => {
+  const reader = new LookReader();
+  const lookAt = (state, ...ram) => [state, ram.join("\n")];
+  reader.take(lookAt(STATE, ...RAM));
+  reader.readRest();
+  assert.deepEqual(reader.take(lookAt(STATE.replace("keys 0.1,1.2", "keys -").replace("acc 6", "acc 7"), ...RAM)), { keys: [] });
+  assert.deepEqual(reader.take(lookAt(STATE.replace("test 1", "test 0").replace("acc 6", "acc 8"), RAM[0], RAM[1], "0.0 out 2")),
+    { keys: ["0.1", "1.2"], test: "0" });
+  const { registers, ram, ...others } = reader.readRest();
+  assert.deepEqual([registers.accumulator, registers.test, ram[0].ports.get("0.0"), others], ["8", "0", "2", {}]);
+  assert.deepEqual(reader.readRest(), {});
 });
 
 test("the registers and the ports of a state", () => {
@@ -47,8 +62,9 @@ test("the registers and the ports of a state", () => {
 
 test("an empty bench has nothing to show, and what is no state is told", () => {
   const reader = new LookReader();
-  const seen = reader.read([EMPTY]);
-  assert.deepEqual([seen.lamps, seen.breakpoints, seen.watches], ["", [], []]);
+  assert.deepEqual(reader.take([EMPTY]), { lamps: "", keys: [], test: "1" });
+  const seen = reader.readRest();
+  assert.deepEqual([seen.breakpoints, seen.watches], [[], []]);
   assert.deepEqual(seen.ports, { sources: ["00"], roms: [], chains: [], keys: [] });
-  assert.throws(() => reader.read(["no 90"]), /the bench answers state by no 90/);
+  assert.throws(() => reader.take(["no 90"]), /the bench answers state by no 90/);
 });

@@ -52,6 +52,8 @@ export class Bench {
     this.isRunning = false;
     /** How many bytes a session file has. */
     this.size = 0;
+    /** @type {ArrayBuffer[]} arrays that files came in, which go back with the next request */
+    this.spare = [];
     setInterval(() => this.watch(), WATCH_TIME);
   }
 
@@ -87,7 +89,8 @@ export class Bench {
         return;
       }
       this.waiting.set(number, { done, fail, progress });
-      this.send({ kind: "request", number, call, words });
+      const spare = this.spare.splice(0);
+      this.send({ kind: "request", number, call, words, spare }, spare);
     });
   }
 
@@ -117,11 +120,13 @@ export class Bench {
   }
 
   /**
-   * Gives an array back to the worker that a file came in.
+   * Gives an array back to the worker that a file came in: where frames come by themselves at once, else with the next request.
    * @param {ArrayBuffer} buffer
    */
   giveBack(buffer) {
-    if (buffer.byteLength === this.size) this.send({ kind: "spare", buffer }, [buffer]);
+    if (buffer.byteLength !== this.size) return;
+    if (this.isRunning) this.send({ kind: "spare", buffer }, [buffer]);
+    else this.spare.push(buffer);
   }
 
   /**

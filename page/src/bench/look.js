@@ -11,7 +11,8 @@ import { itemsOf, partsOfState, portsOf, registersOf } from "./state_line.js";
  * @typedef {import("./answers.js").Registers} Registers
  * @typedef {import("./inputs.js").Input} Input
  * @typedef {import("./state_line.js").StateParts} StateParts
- * @typedef {{ lamps?: string, registers?: Registers, ports?: Ports, breakpoints?: string[], watches?: string[], ram?: Ram[] }} Changed
+ * @typedef {{ lamps?: string, keys?: string[], test?: string }} ChangedFront
+ * @typedef {{ registers?: Registers, ports?: Ports, breakpoints?: string[], watches?: string[], ram?: Ram[] }} Changed
  */
 
 /**
@@ -32,36 +33,56 @@ export function lookOf(inputs, answers) {
 }
 
 /** @type {StateParts} */
-const NOTHING = { registers: "", ports: "", lamps: "", breaks: "", watches: "" };
+const NOTHING = { registers: "", test: "", ports: "", keys: "", lamps: "", breaks: "", watches: "" };
 
-/** Reads one look after the other, and tells what is new. */
+/** Reads one look after the other, and tells what is new: of the front of the board in each look, of all else where that is drawn. */
 export class LookReader {
   constructor() {
-    /** @type {string[]} */
-    this.before = [];
+    /** @type {string[]} the last look */
+    this.look = [];
     this.parts = NOTHING;
-    /** @type {Registers | null} the registers of the last look */
+    /** @type {string[]} the look that was read whole last */
+    this.before = [];
+    this.partsBefore = NOTHING;
+    /** @type {Registers | null} the registers that were read last */
     this.registers = null;
   }
 
   /** All is new at the next look. */
   forget() {
-    this.before = [];
-    this.parts = NOTHING;
+    this.look = this.before = [];
+    this.parts = this.partsBefore = NOTHING;
   }
 
   /**
+   * Takes a look; what is new of the front since the look before.
    * @param {string[]} look
-   * @returns {Changed}
+   * @returns {ChangedFront}
    */
-  read(look) {
-    const { before, parts: old } = this;
+  take(look) {
+    const { parts: old } = this;
     const parts = partsOfState(look[0]);
-    this.before = look;
+    this.look = look;
     this.parts = parts;
-    /** @type {Changed} */
+    /** @type {ChangedFront} */
     const changed = {};
     if (parts.lamps !== old.lamps) changed.lamps = itemsOf(parts.lamps).join("");
+    if (parts.keys !== old.keys) changed.keys = itemsOf(parts.keys);
+    if (parts.test !== old.test) changed.test = parts.test;
+    return changed;
+  }
+
+  /**
+   * What is new of all else in the look that was taken last, since this was asked last.
+   * @returns {Changed}
+   */
+  readRest() {
+    const { look, parts, before, partsBefore: old } = this;
+    this.before = look;
+    this.partsBefore = parts;
+    /** @type {Changed} */
+    const changed = {};
+    if (look === before) return changed;
     if (parts.registers !== old.registers) changed.registers = this.registers = registersOf(parts.registers);
     if (parts.ports !== old.ports) changed.ports = portsOf(parts.ports);
     if (parts.breaks !== old.breaks) changed.breakpoints = itemsOf(parts.breaks);

@@ -20,7 +20,7 @@
  * @typedef {ServedLines & { found: import("../worker/seek.js").Found }} ReachedLines and how the goal was reached
  *
  * To the worker.
- * @typedef {{ kind: "request", number: number, call: string, words: any[] }} Request
+ * @typedef {{ kind: "request", number: number, call: string, words: any[], spare: ArrayBuffer[] }} Request with arrays as below
  * @typedef {{ kind: "cancel", number: number }} Cancel stops a request that serves lines
  * @typedef {{ kind: "ping" }} Ping asks for a sign of life
  * @typedef {{ kind: "spare", buffer: ArrayBuffer }} Spare gives an array back that a file came in (transferred)

@@ -6,11 +6,12 @@ import { readRegisters } from "./answers.js";
  * @typedef {import("./answers.js").Ports} Ports
  * @typedef {import("./answers.js").Registers} Registers
  *
- * The parts of the line that are shown apart, each as it is written, so that one that stayed the same need not be read.
- * @typedef {{ registers: string, ports: string, lamps: string, breaks: string, watches: string }} StateParts
+ * The parts of the line that are shown apart, each as it is written, so that one that stayed the same need not be read. The level of the
+ * TEST pin is among the registers too, and the keys that are down among the ports.
+ * @typedef {{ registers: string, test: string, ports: string, keys: string, lamps: string, breaks: string, watches: string }} StateParts
  */
 
-const STATE = /^state seq \d+ (acc .*) src (.*) lamps (\S+) breaks (\S+) watches (\S+)$/;
+const STATE = /^state seq \d+ (acc .* test (\d) .*) src (.* keys (\S+)) lamps (\S+) breaks (\S+) watches (\S+)$/;
 
 /**
  * @param {string} answer
@@ -19,8 +20,8 @@ const STATE = /^state seq \d+ (acc .*) src (.*) lamps (\S+) breaks (\S+) watches
 export function partsOfState(answer) {
   const found = STATE.exec(answer);
   if (!found) throw new Error(`the bench answers state by ${answer}`);
-  const [, registers, ports, lamps, breaks, watches] = found;
-  return { registers, ports, lamps, breaks, watches };
+  const [, registers, test, ports, keys, lamps, breaks, watches] = found;
+  return { registers, test, ports, keys, lamps, breaks, watches };
 }
 
 /**

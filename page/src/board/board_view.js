@@ -20,6 +20,7 @@ import { WiringView } from "./wiring_view.js";
 /**
  * @typedef {import("./board_keys.js").BoardKey} BoardKey
  * @typedef {import("../bench/look.js").Changed} Changed
+ * @typedef {import("../bench/look.js").ChangedFront} ChangedFront
  * @typedef {import("../machine/source_map.js").SourceMap} SourceMap
  *
  * What it calls: a button presses its key; whether time runs, and so fast that no line of the program is followed; questions are asked; a
@@ -34,12 +35,17 @@ import { WiringView } from "./wiring_view.js";
 
 /** @typedef {{ seeLamps: (lamps: string) => void, seeKeys: (keysDown: number) => void }} Watcher */
 
+/** While time runs, what nobody can read in a frame is drawn so often, in milliseconds. */
+const DRAWN_TIME = 100;
+
 export class BoardView {
   /** @param {BoardCalls} calls */
   constructor(calls) {
     this.calls = calls;
     this.board = readBoard([]);
     this.reader = new LookReader();
+    /** When all was drawn last. */
+    this.drawn = 0;
     this.changes = new Changes();
     this.front = new FrontView(calls.listen);
     this.told = new ToldAt();
@@ -92,7 +98,7 @@ export class BoardView {
     return refusal ? `${this.calls.wordsOfRefusal(refusal.number)}.` : "";
   }
 
-  /** The counter of the last look, as it is written. */
+  /** The counter that is shown, as it is written. */
   get counter() {
     return this.reader.registers ? this.reader.registers.counter : "";
   }
@@ -139,49 +145,60 @@ export class BoardView {
     this.showListing();
   }
 
-  /** @param {string[]} look */
-  show(look) {
-    this.showChanged(this.reader.read(look));
+  /**
+   * Shows a look: lamps, displays and keys at once; all else at once, too, but where time runs by.
+   * @param {string[]} look
+   * @param {boolean} [isPassing] whether time has come here and goes on, so that another look follows
+   */
+  show(look, isPassing = false) {
+    this.showFront(this.reader.take(look));
+    if (isPassing && this.calls.isFast() && performance.now() - this.drawn < DRAWN_TIME) return;
+    this.showRest();
     if (this.calls.isRunning()) this.changes.runs();
     else this.changes.stops();
   }
 
-  /** @param {Changed} changed */
-  showChanged({ lamps, registers, ports, breakpoints, watches, ram = [] }) {
+  /** Draws what is not drawn yet of the last look. */
+  showRest() {
+    this.drawn = performance.now();
+    this.showChanged(this.reader.readRest());
+  }
+
+  /** @param {ChangedFront} changed */
+  showFront({ lamps, keys, test }) {
     if (lamps !== undefined) this.front.showLamps(lamps);
+    if (keys) this.front.showKeys(keys);
+    if (test !== undefined) {
+      this.testWord.set(`TEST ${test}`);
+      this.test.set(test === "1");
+      this.front.showTest(test);
+      this.wiring.showTest(test === "1");
+    }
+    if (this.watcher && (keys || lamps !== undefined)) {
+      this.watcher.seeKeys(this.front.down.size);
+      this.watcher.seeLamps(this.front.marks);
+    }
+  }
+
+  /** @param {Changed} changed */
+  showChanged({ registers, ports, breakpoints, watches, ram = [] }) {
     if (ports) {
-      this.front.showKeys(ports.keys);
       this.ports.show(ports);
       this.wiring.showPorts(ports);
     }
     if (registers) {
       this.registers.show(registers);
       this.stack.show(registers);
-      this.testWord.set(`TEST ${registers.test}`);
-      this.test.set(registers.test === "1");
-      this.front.showTest(registers.test);
-      this.wiring.showTest(registers.test === "1");
       this.listing.counter = parseInt(registers.counter, 16);
     }
     for (const told of ram) {
       this.ram.show(told);
       this.wiring.showRam(told);
     }
-    if (this.watcher) this.tellWatcher(this.watcher, lamps, ports);
     if (watches) this.ram.showWatches(watches);
     if (breakpoints) this.listing.breakpoints = new Set(breakpoints);
     if (breakpoints) this.calls.breakAt(breakpoints);
     if (registers || breakpoints || this.listing.lines.length === 0) this.showListing();
-  }
-
-  /**
-   * @param {Watcher} watcher
-   * @param {string | undefined} lamps
-   * @param {import("../bench/answers.js").Ports | undefined} ports
-   */
-  tellWatcher(watcher, lamps, ports) {
-    if (lamps !== undefined) watcher.seeLamps(lamps);
-    if (ports) watcher.seeKeys(ports.keys.length);
   }
 
   showListing() {

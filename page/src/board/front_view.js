@@ -16,6 +16,14 @@ import { LampsView } from "./lamps_view.js";
 
 const TITLE = "Lamps and keys";
 
+/**
+ * Whether nothing is wired at all: what can be begun with is offered then.
+ * @param {Board} board
+ */
+function isBare({ roms, banks, chains, lamps }) {
+  return [roms, banks, chains, lamps].every((parts) => parts.length === 0);
+}
+
 export class FrontView {
   /** @param {(button: HTMLButtonElement, key: BoardKey) => void} listen makes a button press its key */
   constructor(listen) {
@@ -102,7 +110,7 @@ export class FrontView {
     // What the face shows is turned there.
     button("test").hidden = face.test !== null;
     setStop(this.block);
-    block("keys-hint").textContent = hintOfKeys(this.keys);
+    block("keys-hint").textContent = isBare(board) ? "" : hintOfKeys(this.keys);
     this.showKeys([...this.down]);
   }
 

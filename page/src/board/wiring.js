@@ -26,7 +26,7 @@ const EDGE = 10;
 const COLUMNS = [
   { room: 0, width: 70 },
   { room: 16, width: 112 },
-  { room: 90, width: 118 },
+  { room: 80, width: 138 },
   { room: 90, width: 150 },
 ];
 

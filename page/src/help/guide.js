@@ -5,6 +5,7 @@ import { partAtLine, placesOfParts } from "../bench/board_places.js";
 import { HelpView } from "./help_view.js";
 import { LinesView } from "./lines_view.js";
 import { linesOfBench } from "./manual.js";
+import { isOfTour } from "./tour.js";
 import { TourView } from "./tour_view.js";
 
 /**
@@ -73,6 +74,8 @@ export class Guide {
   /** @param {string} program */
   put(program) {
     this.page.layout.tabs.choose("program");
-    this.page.programEditor.replaceText(program);
+    const { programEditor, texts } = this.page;
+    if (isOfTour(programEditor.text)) programEditor.replaceText(program);
+    else texts.replace("program", program, "The program of this step stands in Source.");
   }
 }

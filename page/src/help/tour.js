@@ -51,6 +51,14 @@ line = "ram0.0.2"
 line = "ram0.0.3"
 `;
 
+/**
+ * What it begins with.
+ * @type {import("../worker/examples.js").Example}
+ */
+export const FIRST_PROGRAM = {
+  name: "first program", title: "Five steps to a program of one's own.", board: TOUR_BOARD, program: "", lines: "", project: "",
+};
+
 const LAMP = `; Lights the first lamp.
         FIM P0, 0x00    ; RAM chip 0 of bank 0
         SRC P0          ; is selected
@@ -127,7 +135,7 @@ export const TOUR = [
     title: "A breakpoint",
     words: ["A run stops before a line that has a breakpoint. Click beside the line show: in Source, or on the line in the listing.",
       "Then run.",
-      "Step goes on by one instruction. A second click takes the breakpoint away.",
+      "Into (F11) goes on by one instruction. A second click takes the breakpoint away.",
       "The step is done when a run has stopped at a breakpoint."],
     program: "",
     isDone: ({ end }) => end === "break",
@@ -141,6 +149,14 @@ export const TOUR = [
     isDone: ({ end }) => end === "watch",
   },
 ];
+
+/**
+ * Whether a text is nothing of the user's own: none, or a program of a step.
+ * @param {string} text
+ */
+export function isOfTour(text) {
+  return text.trim() === "" || TOUR.some(({ program }) => program === text);
+}
 
 /** Watches over a step. */
 export class TourWatch {

@@ -1,7 +1,7 @@
 // The first program in five steps, beside the bench.
 
 import { Cell, block, button, element, onClick } from "../dom.js";
-import { TOUR, TOUR_BOARD, TourWatch } from "./tour.js";
+import { FIRST_PROGRAM, TOUR, TourWatch } from "./tour.js";
 
 /**
  * @typedef {import("../worker/examples.js").Example} Example
@@ -9,9 +9,6 @@ import { TOUR, TOUR_BOARD, TourWatch } from "./tour.js";
  * What it calls: a new session with the tour's board, which gives whether it was made; a program is put into the source.
  * @typedef {{ begin: (example: Example) => Promise<boolean>, put: (program: string) => void }} TourCalls
  */
-
-/** @type {Example} */
-const FIRST_PROGRAM = { name: "first program", title: "Five steps to a program of one's own.", board: TOUR_BOARD, program: "", lines: "" };
 
 export class TourView {
   /** @param {TourCalls} calls */
@@ -26,7 +23,7 @@ export class TourView {
     this.told = new Cell(block("tour-told"));
     this.put = button("tour-put");
     this.next = button("tour-next");
-    onClick(button("tour-begin"), () => this.begin());
+    for (const name of ["tour-begin", "first-program"]) onClick(button(name), () => this.begin());
     onClick(button("tour-close"), () => this.close());
     onClick(this.put, () => calls.put(this.watch.step.program));
     onClick(this.next, () => (this.watch.at === TOUR.length - 1 ? this.close() : this.show(this.watch.at + 1)));

@@ -16,8 +16,10 @@ import { NotKept, wordsOfStoreFault } from "./store.js";
  * @typedef {import("./store.js").SessionStore} SessionStore
  * @typedef {import("../words.js").Words} Words
  *
- * What it calls: the session that is shown; it is kept; another one is shown in its place; something was refused.
+ * What it calls: the session that is shown; it is kept; another one is shown in its place; one was left for a new one; something was
+ * refused.
  * @typedef {{ session: () => KeptSession | null, keep: () => Promise<string>, refuse: (words: string) => void,
+ *   left: (record: SessionRecord) => void,
  *   use: (record: SessionRecord, release: Release, example: string) => Promise<void> }} Desk where nothing was done yet in a session of
  *   an example, `example` is its name
  */
@@ -88,9 +90,11 @@ export class Cabinet {
    * @param {string} example
    */
   async useNew(make, example = "") {
+    const before = this.desk.session();
     try {
       const record = await make();
       await this.desk.use(record, (await this.locks.take(record.id)) || (() => {}), example);
+      if (before && !before.isUntouched) this.desk.left(before.record);
       return true;
     } catch (fault) {
       return this.refuse(`No session was made: ${this.words.ofFault(fault)}.`);
@@ -102,9 +106,14 @@ export class Cabinet {
    * @param {Example} example
    */
   begin(example) {
+    const { name, project } = example;
+    return this.useNew(() => (project === "" ? this.ofExample(example) : this.ofProject(new TextEncoder().encode(project))), name);
+  }
+
+  /** @param {Example} example */
+  async ofExample(example) {
     const texts = { boardText: example.board, programText: example.program };
-    return this.useNew(async () => newRecord(example.name, await this.bench.call("make", [example]), texts, runsAtOnce(example)),
-      example.name);
+    return newRecord(example.name, await this.bench.call("make", [example]), texts, runsAtOnce(example));
   }
 
   /** @param {string} id */

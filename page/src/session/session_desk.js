@@ -3,6 +3,7 @@
 import { readAddress } from "./address.js";
 import { Bin, namesOf } from "./bin.js";
 import { Cabinet } from "./cabinet.js";
+import { FIRST_PROGRAM } from "../help/tour.js";
 import { OfferedLines } from "./offered_lines.js";
 import { Persistence } from "./persistence.js";
 import { SessionsView } from "./sessions_view.js";
@@ -41,8 +42,10 @@ export class SessionDesk {
     this.cabinet = new Cabinet(bench, store, locks, words, {
       ...calls,
       refuse,
+      left: (record) => this.tellLeft(record),
       use: async (record, release, example) => {
         await calls.use(record, release, example);
+        notice.hide("left");
         this.lines.offer("");
       },
     });
@@ -75,8 +78,18 @@ export class SessionDesk {
     return session !== null && session.record.id === id;
   }
 
-  /** There is something to lose from here on. */
+  /**
+   * A session was left for a new one, which may not have been meant.
+   * @param {SessionRecord} record
+   */
+  tellLeft({ id, name }) {
+    const where = this.store.keeps ? "is kept" : "stays as long as this page is open";
+    this.notice.show(`The session "${name}" ${where}, as you left it.`, "left", { word: "Back to it", act: () => this.open(id) });
+  }
+
+  /** Something is done in the session that is shown: there is something to lose from here on, and it is the one that was meant. */
   touched() {
+    this.notice.hide("left");
     if (this.store.keeps) this.persistence.ask();
   }
 
@@ -97,7 +110,7 @@ export class SessionDesk {
 
   /** @param {string} name of an example */
   async beginNamed(name) {
-    const example = this.examples.find((each) => each.name === name);
+    const example = [...this.examples, FIRST_PROGRAM].find((each) => each.name === name);
     if (example) return this.begin(example);
     this.notice.show(`The address names an example, "${name}", that this page does not have.`, "session");
     return false;

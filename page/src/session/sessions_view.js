@@ -36,7 +36,7 @@ export class SessionsView {
       bringBack: (records) => this.changeKept(() => calls.bringBack(records)),
       button: (word, label, act) => this.button(word, label, act),
     });
-    onClick(button("sessions-button"), () => this.open());
+    for (const name of ["sessions-button", "first-example"]) onClick(button(name), () => this.open());
     onClick(button("close-sessions"), () => this.close());
     onClick(button("open-button"), () => field("file").click());
     onClick(button("save-button"), () => this.calls.save());

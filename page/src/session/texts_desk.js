@@ -12,6 +12,10 @@
  *   source: () => Promise<string>, failed: (fault: unknown) => void }} DeskCalls
  */
 
+/** The two texts, as they are called in words. */
+const WHAT = { board: "The board's text", program: "The source" };
+/** @typedef {keyof typeof WHAT} TextName */
+
 /** The texts are kept so many milliseconds after the last change. */
 const EDIT_TIME = 600;
 
@@ -76,7 +80,7 @@ export class TextsDesk {
       if (found === old) {
         this.notice.show("The source is what is in ROM already.", "refusal");
       } else if (old.trim() === "" || (await this.isMeant(old, found))) {
-        if (this.isShown(session)) this.replaceProgram(found, "The source was taken from ROM.");
+        if (this.isShown(session)) this.replace("program", found, "The source was taken from ROM.");
       }
     } catch (fault) {
       this.calls.failed(fault);
@@ -103,39 +107,38 @@ export class TextsDesk {
   }
 
   /**
-   * Puts another source in the place of the one that is here, which can be brought back.
+   * Puts another text in the place of the one that is here, which can be brought back.
+   * @param {TextName} name
    * @param {string} text
    * @param {string} words what was done
    */
-  replaceProgram(text, words) {
+  replace(name, text, words) {
     const session = this.calls.session();
     if (!session) return;
-    const old = this.program.text;
-    this.program.replaceText(text);
+    const old = this[name].text;
+    this[name].replaceText(text);
     this.edited();
-    if (old !== "") this.offer(session, old, words);
+    if (old.trim() !== "" && old !== text) this.offer(session, { name, old, words });
   }
 
   /**
    * @param {KeptSession} session
-   * @param {string} old
-   * @param {string} words
+   * @param {{ name: TextName, old: string, words: string }} replaced
    */
-  offer(session, old, words) {
-    this.notice.show(words, "undo", { word: "Undo", act: () => this.bringBack(session, old, words) });
+  offer(session, replaced) {
+    this.notice.show(replaced.words, "undo", { word: "Undo", act: () => this.bringBack(session, replaced) });
   }
 
   /**
-   * Brings a source back; what is there by then can be brought back in its turn.
+   * Brings a text back; what is there by then can be brought back in its turn.
    * @param {KeptSession} session
-   * @param {string} old
-   * @param {string} words
+   * @param {{ name: TextName, old: string, words: string }} replaced
    */
-  bringBack(session, old, words) {
+  bringBack(session, replaced) {
     if (this.isShown(session)) {
-      this.replaceProgram(old, "The source is the one from before.");
+      this.replace(replaced.name, replaced.old, `${WHAT[replaced.name]} is the one from before.`);
     } else {
-      this.offer(session, old, words);
+      this.offer(session, replaced);
       this.notice.show(`That was in the session "${session.record.name}". Open it first; then it can be undone.`, "refusal");
     }
   }

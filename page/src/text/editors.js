@@ -25,10 +25,11 @@ import { TOUR_BOARD } from "../help/tour.js";
  *
  * What they call: a text was edited; lines are sent, which gives the first answer, or null where they failed; time is stopped, and runs;
  * the counter, as it is written; a breakpoint is wanted at a line of the program, or is not wanted any more; what a name of the program
- * means; a text has so many faults; a call failed.
+ * means; a text has so many faults; a board's text is put in the place of the one that is there, with words about it; a call failed.
  * @typedef {{ edited: () => void, act: (lines: string) => Promise<string | null>, stop: () => Promise<void>, run: () => void,
  *   counter: () => string, toggleBreakpoint: (line: number) => void, meaningOf: (name: string) => string,
- *   hasFaults: (name: "program" | "board", count: number) => void, failed: (fault: unknown) => void }} EditorsCalls
+ *   hasFaults: (name: "program" | "board", count: number) => void, replaceBoard: (text: string, words: string) => void,
+ *   failed: (fault: unknown) => void }} EditorsCalls
  */
 
 /** Refusals of texts have numbers up to here. */
@@ -96,9 +97,21 @@ export class Editors {
    * @param {boolean} isEmpty whether the bench has no board
    */
   look(isEmpty) {
-    block("board-offer").hidden = !isEmpty;
+    this.offerBoard(isEmpty);
     this.programFaults.look().catch(this.calls.failed);
     this.boardFaults.look().catch(this.calls.failed);
+  }
+
+  /**
+   * An empty bench says what it can begin with. Whoever has chosen by the keyboard goes on in that panel.
+   * @param {boolean} isOffered
+   */
+  offerBoard(isOffered) {
+    const offer = block("board-offer");
+    const hadFocus = offer.contains(document.activeElement);
+    offer.hidden = !isOffered;
+    const heading = block("front-title").querySelector("button");
+    if (hadFocus && !isOffered && heading) heading.focus();
   }
 
   /**
@@ -207,7 +220,7 @@ export class Editors {
 
   /** An empty bench gets a board. */
   async wireFirst() {
-    this.board.replaceText(TOUR_BOARD);
+    this.calls.replaceBoard(TOUR_BOARD, "The first board's text stands in Board.");
     await this.wire();
   }
 

@@ -12,15 +12,17 @@ export class Rate {
   }
 
   /**
+   * Whether another rate is told now.
    * @param {number} cycles that were done
    * @param {number} now milliseconds
    */
   add(cycles, now) {
     this.cycles += cycles;
     const time = now - this.since;
-    if (time < MEASURED) return;
+    if (time < MEASURED) return false;
     this.told = (this.cycles / time) * 1000;
     this.since = now;
     this.cycles = 0;
+    return true;
   }
 }

@@ -1,8 +1,9 @@
 // The examples: texts for a new session.
 
 /**
- * `lines` are for the user to send; where there are none, time runs at once.
- * @typedef {{ name: string, title: string, board: string, program: string, lines: string }} Example
+ * `lines` are for the user to send; where there are none, time runs at once. An example that is a project has its text in `project` ("" in
+ * any other): its session is the one in there, and stands still.
+ * @typedef {{ name: string, title: string, board: string, program: string, lines: string, project: string }} Example
  */
 
 /**

@@ -40,7 +40,10 @@ class BenchWorker {
 
   /** @param {ToWorker} message */
   take(message) {
-    if (message.kind === "request") this.requests.push(message);
+    if (message.kind === "request") {
+      this.requests.push(message);
+      this.calls.spare.push(...message.spare);
+    }
     if (message.kind === "cancel") this.cancelled = message.number;
     if (message.kind === "spare") this.calls.spare.push(message.buffer);
     if (message.kind === "ping") this.tell({ kind: "pong" });

@@ -1,0 +1,194 @@
+"""What checks/page looks at as one who comes to the page for the first time would do it, by the keyboard alone: an empty bench gets a board,
+a program is typed, refused, mended and run, stopped and stepped, lost and brought back, saved, and opened again to the byte; then an
+example that is a project, whose session stands where its texts say."""
+
+import re
+import time
+
+from page_editor import CARET, FAULTS, PROGRAM, SET_CARET, TOLD
+from page_in_browser import ENTER, ESCAPE, NOTICE, READY, STATUS, TAB, TEXT_OF_EDITOR, focused, lines_answered
+from page_names import MARGIN, SOURCE_TOLD
+from page_texts import ASKED, NAME, PROGRAM_TEXT, TEXTS, kept_download
+from verdicts import comes, verdict
+
+CONTROL, BACKSPACE, END, UP = "\ue009", "\ue003", "\ue010", "\ue013"
+F8, F9, F11 = "\ue038", "\ue039", "\ue03b"
+LAMPS = "return [...document.querySelectorAll('.bulb')].map((each) => (each.classList.contains('lit') ? '*' : '.')).join('')"
+KEYS_DOWN = "return [...document.querySelectorAll(\"#keys [aria-pressed='true']\")].map((each) => each.textContent).join(' ')"
+OFFERED = "return document.getElementById('board-offer').checkVisibility()"
+OPEN = "return document.getElementById('sessions').open"
+IN_SOURCE = "e.closest('#program-editor .CodeMirror') !== null"
+REGISTERS = "return document.getElementById('registers').textContent"
+# It shows on the lamps which keys are down; its comment is what a source of the ROM would lack.
+TYPED = ["; my first program", "LDM 3", "WRR", "read: RDR", "WMQ", "JUN read"]
+FAULT = "line 5: WMQ is no instruction; WMP?"
+DROP = """
+const data = new DataTransfer();
+data.items.add(new File([arguments[1]], arguments[0]));
+document.body.dispatchEvent(new DragEvent("drop", { dataTransfer: data, bubbles: true, cancelable: true }))"""
+
+
+def go_by_tab(browser, what, code, most=90):
+    verdict(f"Tab comes to {what}", focused(browser, TAB, code, most), True)
+
+
+def type_keys(browser, text):
+    browser.keys([*text], 2, 2)
+
+
+def choose_by_keyboard(browser, name):
+    """An example, by keys alone."""
+    browser.script("document.getElementById('name').focus()")
+    focused(browser, TAB, "e.id === 'sessions-button'", 5)
+    browser.keys([ENTER])
+    browser.until(OPEN, True)
+    go_by_tab(browser, f"the example {name}", f"e.getAttribute('aria-label') === 'new session: {name}'")
+    browser.keys([ENTER])
+    comes(browser, f"Enter opens {name}", NAME, name)
+    browser.until(OPEN, False)
+
+
+def go_to_source(browser):
+    browser.script("document.getElementById('program-tab').focus()")
+    go_by_tab(browser, "the source", IN_SOURCE)
+
+
+def check_board(browser):
+    """An empty bench says what one can begin with."""
+    choose_by_keyboard(browser, "empty bench")
+    verdict("an empty bench offers a beginning", browser.script(OFFERED), True)
+    go_by_tab(browser, "a board to begin with", "e.id === 'first-board'")
+    browser.keys([ENTER])
+    comes(browser, "it has four lamps", LAMPS, "....")
+    verdict("and is offered no more", browser.script(OFFERED), False)
+    verdict("the keyboard goes on in that panel", browser.script("return document.activeElement.closest('#front') !== null"), True)
+
+
+def check_program(browser):
+    """A program is typed, refused, mended and run."""
+    go_to_source(browser)
+    for line in TYPED:
+        type_keys(browser, line)
+        browser.keys([ENTER], 2, 2)
+    comes(browser, "a fault is told while one types", FAULTS.format(PROGRAM), FAULT)
+    before = browser.script(CARET, PROGRAM)
+    browser.chord(CONTROL, ENTER)
+    comes(browser, "Control and Enter assemble nothing then", TOLD.format(PROGRAM), FAULT)
+    verdict("and the caret stays", browser.script(CARET, PROGRAM), before)
+    browser.keys([UP, UP, END, BACKSPACE, "P"], 5, 5)
+    comes(browser, "mended, it has no fault", FAULTS.format(PROGRAM), "")
+    browser.chord(CONTROL, ENTER)
+    comes(browser, "and is assembled and run", TOLD.format(PROGRAM), "6 bytes assembled, the rest of ROM is 0. It runs from 000 on.")
+    comes(browser, "time runs", STATUS, re.compile("^Time runs"))
+    comes(browser, "the source is what is in ROM", SOURCE_TOLD, "")
+
+
+def check_keys(browser):
+    """Keys of the board by the keyboard; the lamps show them."""
+    browser.keys([ESCAPE, TAB], 5, 5)
+    shown = browser.script(LAMPS)
+    browser.script("window.shown = new Set()")
+    browser.script("new MutationObserver(() => window.shown.add([...document.querySelectorAll('.bulb')].map((each) => "
+                   "(each.classList.contains('lit') ? '*' : '.')).join(''))).observe(document.getElementById('lamps'), "
+                   "{ subtree: true, attributes: true })")
+    letter = browser.script("return document.querySelector('#keys kbd').textContent")
+    browser.keys([letter], 300, 100)
+    comes(browser, "a key lights a lamp", "return window.shown.size > 0 && [...window.shown].some((each) => each !== arguments[0])"
+          .replace("arguments[0]", f"'{shown}'"), True)
+    comes(browser, "and is up again", KEYS_DOWN, "")
+
+
+def check_stop(browser):
+    """Stopped, with a breakpoint in the source, and stepped."""
+    browser.keys([F8])
+    browser.until(STATUS, "Stopped.")
+    go_to_source(browser)
+    browser.script(SET_CARET, PROGRAM, 3, 0)
+    browser.keys([F9])
+    comes(browser, "F9 sets a breakpoint", MARGIN, "4")
+    browser.keys([F8])
+    comes(browser, "a run stops there", STATUS, re.compile("^Stopped at 002, at a breakpoint"))
+    browser.keys([F11])
+    comes(browser, "F11 does one instruction", STATUS, "One instruction was done.")
+    verdict("the next one is WMP", browser.script(REGISTERS), re.compile("pc003"))
+    browser.keys([F9])
+    comes(browser, "F9 clears it", MARGIN, "")
+
+
+def check_loss(browser):
+    """The text is lost, and brought back."""
+    mine = browser.script(PROGRAM_TEXT)
+    browser.script("document.getElementById('from-rom').focus()")
+    browser.keys([ENTER])
+    browser.until(ASKED, "Replace the source?")
+    verdict("the keyboard is at the answer", browser.script("return document.activeElement.textContent"), "Replace it")
+    browser.keys([ENTER])
+    browser.until(ASKED, "")
+    comes(browser, "a source of the ROM has no comment", PROGRAM_TEXT, re.compile(r"^\s*LDM 3\s+WRR\s+RDR\s+WMP\s+JUN 0x002\s*$"))
+    go_to_source(browser)
+    browser.chord(CONTROL, "z")
+    comes(browser, "Control and Z bring the text back", PROGRAM_TEXT, mine)
+
+
+def check_file(browser, folder):
+    """Saved, a wrong file refused, and opened again to the byte."""
+    texts = browser.script(TEXTS)
+    browser.script("document.getElementById('save-button').focus()")
+    browser.keys([ENTER])
+    saved = kept_download(folder, "empty bench.mcsp")
+    whole = saved.read_bytes()
+    saved.unlink()
+    verdict("a project has the text as it is", all(line in whole.decode() for line in ("; my first program", "read: RDR")), True)
+    browser.script(DROP, "holiday.jpg", "no session at all")
+    comes(browser, "a wrong file that is dropped is refused in words", NOTICE,
+          re.compile(r"holiday\.jpg was not opened: no 50: not a session file.*The session that is shown is as it was"))
+    verdict("and the texts are as they were", browser.script(TEXTS), texts)
+    go_to_source(browser)
+    browser.script(SET_CARET, PROGRAM, 0, 0)
+    type_keys(browser, "; not this")
+    comes(browser, "something else is typed", TEXT_OF_EDITOR.replace("arguments[0]", f"'{PROGRAM}'"), re.compile("^; not this"))
+    browser.script(DROP, "mine.mcsp", whole.decode())
+    comes(browser, "the project is opened again", TEXTS, texts)
+    comes(browser, "what was left for it can be come back to", NOTICE, re.compile('The session "empty bench" is kept, as you left it'))
+    browser.script("document.getElementById('save-button').focus()")
+    browser.keys([ENTER])
+    verdict("and saved again it is the same, to the byte", kept_download(folder, "empty bench.mcsp").read_bytes() == whole, True)
+    browser.script("document.querySelector(\"#notice button[aria-label^='Back to it']\").focus()")
+    browser.keys([ENTER])
+    comes(browser, "back to the other one", PROGRAM_TEXT, re.compile("^; not this"))
+
+
+def check_example(browser):
+    """An example that is a project: its texts have their comments, and its session stands where they say."""
+    choose_by_keyboard(browser, "a fault to find")
+    verdict("its source has its comments", browser.script(PROGRAM_TEXT), re.compile("^; Four lamps should count from 0 to 9"))
+    comes(browser, "it is what is in ROM", SOURCE_TOLD, "")
+    comes(browser, "its breakpoint is there", MARGIN, re.compile(r"^\d+$"))
+    comes(browser, "it shows a 9", LAMPS, "*..*")
+    verdict("and its count has just become ten", browser.script(REGISTERS), re.compile("R5A"))
+    verdict("time stands still", browser.script("return document.getElementById('run').textContent"), "Run")
+    comes(browser, "no session is made before something is done", "return location.hash", "#example=a%20fault%20to%20find")
+    source = browser.script(PROGRAM_TEXT)
+    at = source.split("\n").index("        SUB R4")
+    go_to_source(browser)
+    browser.script(SET_CARET, PROGRAM, at, len("        SUB R4"))
+    browser.keys([BACKSPACE, "5"], 5, 5)
+    browser.chord(CONTROL, ENTER)
+    comes(browser, "mended, it is assembled and run", TOLD.format(PROGRAM), re.compile("bytes assembled, the rest of ROM is 0"))
+    browser.until(STATUS, re.compile("at a breakpoint"))
+    begun = "\n".join(["unbreak 8", "reset", *["run 91000"] * 10, "lamps", "run 97000", "lamps"])
+    verdict("and counts to 9, and then from 0 on", lines_answered(browser, begun), re.compile(r"lamps \*\.\.\*.*lamps \.\.\.\."))
+
+
+def check(browser, page, folder, _mcs4):
+    browser.go("about:blank")
+    browser.go(page.as_uri())
+    comes(browser, "the page is ready", READY, True)
+    check_board(browser)
+    check_program(browser)
+    check_keys(browser)
+    check_stop(browser)
+    check_loss(browser)
+    check_file(browser, folder)
+    time.sleep(0.7)
+    check_example(browser)
