@@ -1,22 +1,35 @@
 //! The text of a survey, as the shell answers it to `map`.
 ghost use Rattle.std.specs.Prelude.{◌≡◌, ◌≤◌, ◌<◌, ◌++◌, string_bytes, length, map, OnOk, IfOk};
-ghost use Rattle.mcs_model.specs.QueryText.{address_text, as_line};
+ghost use Rattle.mcs_model.specs.QueryText.{address_text, as_line, hex_digit};
 ghost use Rattle.mcs_source.specs.MapText.{head_row, line_row, line_rows, name_row, place_text, text_of, survey_text};
 
 use crate::surveys::Survey;
 use mcs_source::survey::Span;
 use std::alloc::{AllocError, Global};
 
+/// The upper case hexadecimal digit of a number below 16.
+fn hex_digit(number: u16) -> char
+    requires { number < 16 }
+    ensures digit { result ≡ hex_digit number }
+    ensures ascii { result < 128 }
+{
+    let nibble = number as u8;
+    if nibble < 10 {
+        (b'0' + nibble) as char
+    } else {
+        (b'A' - 10 + nibble) as char
+    }
+}
+
 /// Writes the three digits of an address.
-#[tactic(auto, using(std::proofs::lemmas::Fmt::hex_one_digit))]
 fn push_address(out: &mut String, at: u16) -> Result<(), AllocError>
     requires { at < 4096 }
     ensures { OnOk result (string_bytes out.new ≡ string_bytes out.old ++ address_text at) }
 {
-    let high = at / 256;
-    let middle = at / 16 % 16;
-    let low = at % 16;
-    write!(out, "{high:X}{middle:X}{low:X}")
+    out.push(hex_digit(at / 256))?;
+    out.push(hex_digit(at / 16 % 16))?;
+    out.push(hex_digit(at % 16))?;
+    Ok(())
 }
 
 /// Writes an address, or `1000` for the place after the last one.

@@ -3,27 +3,29 @@ use Rattle.std.proofs.Common.{◌≡◌, ◌∙◌, ℕ, List, Option, length, a
 use Rattle.mcs_disk.specs.States.{mem_disk_state}
 use Rattle.mcs_disk.specs.declared.memory.MemDisk.{MemDisk}
 use Rattle.mcs_page.specs.Page.{IsWhole, Resumes}
+use Rattle.mcs_session.specs.Kept.{Carries, IsOpenOnHonestDisk}
 use Rattle.mcs_session.specs.Standing.{SessionView, Standing}
+use Rattle.mcs_shell.proofs.Steps.{carries_unhalted}
+use Rattle.mcs_shell.specs.Transcript.{commands, in_turn}
 use Rattle.mcs_shell.specs.Shell.{Ran}
 use Rattle.mcs_shell.specs.Stage.{Stage}
 use Rattle.mcs_shell.specs.declared.ends.ShellEnd.{ShellEnd}
 use Rattle.mcs_shell.specs.declared.ends.ShellEnd.TheVariants.{End, ReadFault, WriteFault, DeviceFault, InputLimit, NoMemory}
 
+-- where all of its input was served, no step halted it
+carries : (end : ShellEnd) (reader reader' : Option (List ℕ)) (a b : Stage) → IsWhole end → (ran : Ran end reader reader' a b) → Carries IsOpenOnHonestDisk a.session b.session (in_turn commands a.session.standing.state ran.served.met)
+carries End reader reader' a b whole ran = carries_unhalted IsOpenOnHonestDisk a.session b.session a.session.standing.state ran.served.met (ran.served.halts ∙ ran.ends.2) ran.served.serves.leaves
+carries InputLimit reader reader' a b whole ran = carries_unhalted IsOpenOnHonestDisk a.session b.session a.session.standing.state ran.served.met (ran.served.halts ∙ ran.ends.2) ran.served.serves.leaves
+carries ReadFault reader reader' a b whole ran = absurd whole
+carries WriteFault reader reader' a b whole ran = absurd whole
+carries DeviceFault reader reader' a b whole ran = absurd whole
+carries NoMemory reader reader' a b whole ran = absurd whole
+
 pub keeps_size : (end : ShellEnd) (reader reader' : Option (List ℕ)) (a b : Stage) → IsWhole end → Ran end reader reader' a b → b.session.disk.size ≡ a.session.disk.size
-keeps_size End reader reader' a b whole ran = ran.ran.ends.1.carries.size
-keeps_size InputLimit reader reader' a b whole ran = ran.ran.ends.1.carries.size
-keeps_size ReadFault reader reader' a b whole ran = absurd whole
-keeps_size WriteFault reader reader' a b whole ran = absurd whole
-keeps_size DeviceFault reader reader' a b whole ran = absurd whole
-keeps_size NoMemory reader reader' a b whole ran = absurd whole
+keeps_size end reader reader' a b whole ran = (carries end reader reader' a b whole ran).size
 
 pub keeps_open : (end : ShellEnd) (reader reader' : Option (List ℕ)) (a b : Stage) → IsWhole end → Ran end reader reader' a b → b.session.standing.live ≡ a.session.standing.live
-keeps_open End reader reader' a b whole ran = ap (λ (s : Standing). s.live) ran.ran.ends.1.carries.standing
-keeps_open InputLimit reader reader' a b whole ran = ap (λ (s : Standing). s.live) ran.ran.ends.1.carries.standing
-keeps_open ReadFault reader reader' a b whole ran = absurd whole
-keeps_open WriteFault reader reader' a b whole ran = absurd whole
-keeps_open DeviceFault reader reader' a b whole ran = absurd whole
-keeps_open NoMemory reader reader' a b whole ran = absurd whole
+keeps_open end reader reader' a b whole ran = ap (λ (s : Standing). s.live) (carries end reader reader' a b whole ran).standing
 
 -- the disk of a session has the size of its file
 pub size_resumed : (file : List ℕ) (session : SessionView MemDisk) → Resumes file session → (mem_disk_state session.disk).size ≡ length file

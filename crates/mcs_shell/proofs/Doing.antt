@@ -1,6 +1,5 @@
 -- What an input leaves, by its answer.
-use Rattle.std.proofs.Common.{◌≡◌, ◌≢◌, ◌⊎◌, ◌↔◌, ℕ, Bool, true, false, List, [], ◌∷◌, Option, Some, None, Result, Ok, Err, OnErr, OnOk, inl, inr, sym, ap, ◌∙◌, refl, subst}
-use Rattle.std.specs.Io.KnownBytes.{Appends}
+use Rattle.std.proofs.Common.{◌≡◌, ◌≢◌, ◌⊎◌, ◌↔◌, ◌||◌, ◌++◌, ℕ, Bool, true, false, List, [], ◌∷◌, Option, Some, None, Result, Ok, Err, OnErr, OnOk, inl, inr, sym, ap, append-nil, ◌∙◌, refl, subst}
 use Rattle.mcs_disk.specs.Disk.{DiskState, IsLawful}
 use Rattle.mcs_model.specs.declared.command.Command.{Command}
 use Rattle.mcs_model.specs.declared.command.Reply.{Reply}
@@ -17,19 +16,19 @@ use Rattle.mcs_lines.specs.declared.requests.Request.TheVariants.{Change}
 use Rattle.mcs_shell.specs.declared.spelling.TextRefusal.{TextRefusal}
 use Rattle.mcs_lines.specs.declared.requests.TextKind.{TextKind}
 use Rattle.mcs_shell.specs.declared.texts.TextFault.{TextFault}
-use Rattle.mcs_shell.specs.declared.outcome.Halt.{Halt}
-use Rattle.mcs_shell.specs.declared.outcome.Halt.TheVariants as halt
+use Rattle.mcs_shell.specs.declared.ends.ShellEnd.{ShellEnd}
 use Rattle.mcs_shell.specs.Inputs.{Input, Line, Text, BadText, text_fault_of, judged_text, text_or_fault}
 use Rattle.mcs_shell.specs.Spelling.{Does, Tells, spelled_by, text_refusal}
 use Rattle.mcs_session.specs.Answers.{Applied, Closes, Recorded}
-use Rattle.mcs_session.specs.Standing.{SessionState}
+use Rattle.mcs_session.specs.Standing.{Premise, SessionState}
 use Rattle.mcs_shell.specs.Stage.{Stage}
 use Rattle.mcs_shell.specs.RefusalNumbers.{session_fault_number}
 use Rattle.mcs_answers.specs.AnswerTexts.{no_text, ok_text}
-use Rattle.mcs_shell.specs.Transcript.{MayEnd, accepted, answer, asked, asked_by, change_answer, commands, plain_answer, reached, spelled_answer, takes_memory}
-use Rattle.mcs_session.specs.Kept.{IsSettled, Kept}
-use Rattle.mcs_shell.specs.Serving.{Sent, ServedLine, Answered, CutShort, Failed, Fares, GotSome, KeptBy, Leaves, WentOn, outcome_of}
-use Rattle.mcs_session.proofs.Keeping.{acknowledged_keeps, failed_keeps, stays_keeps, whole_nothing}
+use Rattle.mcs_shell.specs.Transcript.{MayEnd, accepted, answer, asked, asked_by, change_answer, commands, halt_of, is_device, plain_answer, reached, spelled_answer, takes_memory}
+use Rattle.mcs_session.specs.Kept.{IsSettled}
+use Rattle.mcs_shell.specs.Serving.{Answered, Leaves, Meets, Serves, Wrote, outcome_of}
+use Rattle.mcs_session.proofs.Keeping.{acknowledged_keeps, carries_nothing, failed_keeps, stays_keeps}
+use Rattle.mcs_shell.proofs.Served.{or_no, or_none}
 
 abbrev pub at : Bool → BenchState → DiskState → SessionState
 at live s d = record { standing = record { live = live; state = s }; disk = d }
@@ -66,13 +65,13 @@ unfolding answer commands reached MayEnd
 ok_changed r false s d b c told h k = absurd (h.applied)
 ok_changed r true s d b c told h k =
     let yes : refusal s c ≡ None = h.applied.0 in
-    let P : List Command → Type 0 = λ cs. Leaves (at true s d) Plain cs cs b in
+    let P : List Command → Type 0 = λ cs. Leaves IsSettled false (at true s d) b cs cs in
     record {
       may = inr refl;
       told_is = k ∙ ap (λ v. ok_text v b.standing.state) (h.applied.1) ∙ ap (ok_text (reply s c)) (h.applied.2) ∙ sym (text_accepted s c yes);
       leaves = subst P (sym (accepted_alone s c yes)) (record {
-        state = h.applied.2;
-        closes = h.closes;
+        standing = λ k. record { live = h.closes.0 k; state = h.applied.2 k };
+        same_faults = h.closes.1;
         size = h.size;
         honest = h.honest;
         kept = λ given. acknowledged_keeps d b.disk s c (h.records given.honest.1) (h.lawful (h.honest.1 given.honest.1));
@@ -84,13 +83,13 @@ unfolding answer commands reached MayEnd
 refused_changed f false s d b c told h k = absurd (h.applied)
 refused_changed f true s d b c told h k =
     let no : refusal s c ≡ Some f = h.applied.0 in
-    let P : List Command → Type 0 = λ cs. Leaves (at true s d) Plain cs cs b in
+    let P : List Command → Type 0 = λ cs. Leaves IsSettled false (at true s d) b cs cs in
     record {
       may = inr refl;
       told_is = k ∙ sym (text_refused s c f no);
       leaves = subst P (sym (refused_none s c f no)) (record {
-        state = h.applied.1;
-        closes = h.closes;
+        standing = λ k. record { live = h.closes.0 k; state = h.applied.1 k };
+        same_faults = h.closes.1;
         size = h.size;
         honest = h.honest;
         kept = λ given. stays_keeps d b.disk s (h.records given.honest.1) given.settled (h.lawful (h.honest.1 given.honest.1));
@@ -102,13 +101,14 @@ unfolding answer commands reached MayEnd
 device_changed false s d b c told h k = absurd (h.applied)
 device_changed true s d b c told h k =
     let alone : accepted s (Some c) ≡ c ∷ [] = accepted_alone s c (h.applied.0) in
-    let P : List Command → Type 0 = λ cs. Leaves (at true s d) Device [] cs b in
+    let P : List Command → Type 0 = λ cs. Leaves IsSettled true (at true s d) b [] cs in
     record {
       may = (λ none. let x : c ∷ [] ≡ [] = sym alone ∙ none in absurd (cc x), refl);
       told_is = k;
       leaves = subst P (sym alone) (record {
+        closed = h.closes.0;
         state = h.applied.1;
-        closes = h.closes;
+        faults = h.closes.1;
         size = h.size;
         honest = h.honest;
         kept = λ given. failed_keeps d b.disk s c (h.records given.honest.1) (h.lawful (h.honest.1 given.honest.1));
@@ -121,7 +121,7 @@ closed_changed true s d b c told h k = absurd (h.applied)
 closed_changed false s d b c told h k = record {
   may = (λ x. absurd (cc x), refl);
   told_is = k;
-  leaves = record { state = h.applied; closes = h.closes; size = h.size; honest = h.honest; kept = λ given. absurd (cc given.honest.0) };
+  leaves = record { standing = λ k. record { live = h.closes.0 k; state = h.applied k }; same_faults = h.closes.1; size = h.size; honest = h.honest; kept = λ given. absurd (cc given.honest.0) };
 }
 
 -- it was not recorded
@@ -132,24 +132,18 @@ fault_changed fault.Closed = closed_changed
 
 -- ---- inputs that change nothing
 
-leaves_nothing : (a : SessionState) → Leaves a Plain [] [] a
-leaves_nothing a = record { state = refl; closes = (refl, refl); size = refl; honest = (λ h. h, λ h. h); kept = λ given. whole_nothing a.disk a.standing.state given.settled }
-
-leaves_refused : (a : SessionState) → Leaves a NoMemory [] [] a
-leaves_refused a = record { state = refl; closes = (refl, refl); size = refl; honest = (λ h. h, λ h. h); kept = λ given. whole_nothing a.disk a.standing.state given.settled }
-
 -- an input that asks for no command
 pub answered_plain : (a : SessionState) (i : Input) (told : List ℕ) → asked i ≡ None → told ≡ plain_answer a.standing.state i → Answered a i Plain told a
 unfolding answer commands reached MayEnd
 answered_plain a i told none k =
-    let P : List Command → Type 0 = λ cs. Leaves a Plain cs cs a in
+    let P : List Command → Type 0 = λ cs. Leaves IsSettled false a a cs cs in
     let nothing : accepted a.standing.state (asked i) ≡ [] = ap (accepted a.standing.state) none in
-    record { may = inl none; told_is = k; leaves = subst P (sym nothing) (leaves_nothing a) }
+    record { may = inl none; told_is = k; leaves = subst P (sym nothing) (carries_nothing a) }
 
 -- memory for it was refused
 pub answered_no_memory : (a : SessionState) (i : Input) (told : List ℕ) → takes_memory i ≡ true → told ≡ no_text NO_MEMORY → Answered a i NoMemory told a
 unfolding answer commands reached MayEnd
-answered_no_memory a i told takes k = record { may = takes; told_is = k; leaves = leaves_refused a }
+answered_no_memory a i told takes k = record { may = takes; told_is = k; leaves = carries_nothing a }
 
 pub answered_as : (a b : SessionState) (i j : Input) (o : Outcome) (told : List ℕ) → i ≡ j → Answered a j o told b → Answered a i o told b
 answered_as a b i j o told same h = let P : Input → Type 0 = λ x. Answered a x o told b in subst P (sym same) h
@@ -176,11 +170,11 @@ answered_alike : (a b : SessionState) (i j : Input) (o : Outcome) (told : List �
     → Answered a j o told b → Answered a i o told b
 unfolding answer commands reached MayEnd
 answered_alike a b i j Plain told same alike takes h =
-    let P : Option Command → Type 0 = λ q. Leaves a Plain (accepted a.standing.state q) (accepted a.standing.state q) b in
+    let P : Option Command → Type 0 = λ q. Leaves IsSettled false a b (accepted a.standing.state q) (accepted a.standing.state q) in
     let Q : Option Command → Type 0 = λ q. (q ≡ None) ⊎ (a.standing.live ≡ true) in
     record { may = subst Q (sym same) h.may; told_is = h.told_is ∙ sym alike; leaves = subst P (sym same) h.leaves }
 answered_alike a b i j Device told same alike takes h =
-    let P : Option Command → Type 0 = λ q. Leaves a Device [] (accepted a.standing.state q) b in
+    let P : Option Command → Type 0 = λ q. Leaves IsSettled true a b [] (accepted a.standing.state q) in
     let Q : Option Command → Type 0 = λ q. (accepted a.standing.state q ≢ []) × (a.standing.live ≡ true) in
     record { may = subst Q (sym same) h.may; told_is = h.told_is; leaves = subst P (sym same) h.leaves }
 answered_alike a b i j Closed told same alike takes h =
@@ -204,52 +198,37 @@ pub answered_told_text : (a : SessionState) (kind : TextKind) (text lines told :
     → spelled_by kind text ≡ Ok (Tells lines) → told ≡ lines → Answered a (Text kind text) Plain told a
 answered_told_text a kind text lines told is k = answered_plain a (Text kind text) told (ap asked_by is) (k ∙ sym (ap (spelled_answer a.standing.state) is))
 
--- ---- an input that was answered
+-- ---- an input that was answered, and its answer
 
-pub reached_same : (s : BenchState) (i : Input) (o : Outcome) → o ≢ Device → reached s i o ≡ commands s i o
-unfolding reached commands
-reached_same s i Plain h = refl
-reached_same s i Device h = absurd (h refl)
-reached_same s i Closed h = refl
-reached_same s i NoMemory h = refl
+pub no_halt : (o : Outcome) → o ≢ Device → halt_of true o ≡ None
+no_halt Plain h = refl
+no_halt Device h = absurd (h refl)
+no_halt Closed h = refl
+no_halt NoMemory h = refl
 
-kept_of : (o : Outcome) (d e : DiskState) (s : BenchState) (i : Input) → KeptBy o d e s (commands s i o) (reached s i o) → Kept d e s (commands s i o) (reached s i o)
-unfolding reached commands
-kept_of Plain d e s i h = h.kept
-kept_of Device d e s i h = h
-kept_of Closed d e s i h = h.kept
-kept_of NoMemory d e s i h = h.kept
+abbrev pub leaves_as : (Given : Premise) (f g : Bool) (a b : SessionState) (cs ds rs qs : List Command) → f ≡ g → cs ≡ ds → rs ≡ qs → Leaves Given g a b ds qs → Leaves Given f a b cs rs
+leaves_as Given f g a b cs ds rs qs e k l h =
+    subst (λ (v : Bool). Leaves Given v a b cs rs) (sym e) (subst (λ (v : List Command). Leaves Given g a b v rs) (sym k) (subst (λ (v : List Command). Leaves Given g a b ds v) (sym l) h))
 
-pub fares_of : (a b : SessionState) (i : Input) (o : Outcome) (told : List ℕ) → Answered a i o told b → Fares IsSettled a [] a.standing i o b
-fares_of a b i o told h = record {
-  may = h.may;
-  state = h.leaves.state;
-  closes = h.leaves.closes;
-  size = h.leaves.size;
-  honest = h.leaves.honest;
-  kept = λ given. kept_of o a.disk b.disk a.standing.state i (h.leaves.kept given);
+serves_one : (a b : Stage) (i : Input) (o : Outcome) (told : List ℕ) (whole : Bool) → Answered a.session i o told b.session → Wrote whole a.out b.out told
+    → Serves IsSettled a (record { input = i; outcome = o; whole = whole } ∷ []) b
+serves_one a b i o told whole h sent =
+    let s = a.session.standing.state in
+    let P : List ℕ → Type 0 = λ v. Wrote whole a.out b.out v in
+    record {
+      may = (h.may, λ more. absurd (more refl), tt);
+      wrote = (b.out, subst P h.told_is sent, refl);
+      leaves = leaves_as IsSettled (is_device o || false) (is_device o) a.session b.session (commands s i o ++ []) (commands s i o) (reached s i o ++ []) (reached s i o)
+          (or_no (is_device o)) (append-nil (commands s i o)) (append-nil (reached s i o)) h.leaves;
+    }
+
+pub meets_one : (a b : Stage) (i : Input) (o : Outcome) (told : List ℕ) (halted : Option ShellEnd) → Answered a.session i o told b.session
+    → ((whole : Bool) × Wrote whole a.out b.out told × (halted ≡ halt_of whole o)) → Meets IsSettled (i ∷ []) a b halted
+meets_one a b i o told halted h sent = record {
+  met = record { input = i; outcome = o; whole = sent.0 } ∷ [];
+  serves = serves_one a b i o told sent.0 h sent.1;
+  halts = or_none (halt_of sent.0 o) ∙ sym sent.2;
+  not_met = [];
+  spelled = refl;
+  all_met = λ none. refl;
 }
-
-pub cut_of : (a : SessionState) (b : Stage) (i : Input) (o : Outcome) (told : List ℕ) (out : Option (List ℕ)) → Answered a i o told b.session → GotSome out b.out told → CutShort IsSettled a [] a.standing i out b
-cut_of a b i o told out h got = record { outcome = o; fares = fares_of a b.session i o told h; written = subst (λ (x : List ℕ). GotSome out b.out x) h.told_is got }
-
-pub failed_of : (a : SessionState) (b : Stage) (i : Input) (o : Outcome) (told : List ℕ) (out : Option (List ℕ)) → Answered a i o told b.session → o ≡ Device → Appends out b.out told → Failed IsSettled a [] a.standing i out b
-failed_of a b i Device told out h is got = let P : List ℕ → Type 0 = λ x. Appends out b.out x in record { fares = fares_of a b.session i Device told h; written = subst P h.told_is got }
-failed_of a b i Plain told out h is got = absurd (cc is)
-failed_of a b i Closed told out h is got = absurd (cc is)
-failed_of a b i NoMemory told out h is got = absurd (cc is)
-
-pub went_of : (a b : Stage) (i : Input) (o : Outcome) (told : List ℕ) → Answered a.session i o told b.session → o ≢ Device → Appends a.out b.out told → WentOn a i b
-went_of a b i Device told h is got = absurd (is refl)
-went_of a b i Plain told h is got = let P : List ℕ → Type 0 = λ x. Appends a.out b.out x in
-    record { outcome = Plain; may = (is, h.may); written = subst P h.told_is got; carries = record { standing = λ k. record { live = h.leaves.closes.0 k; state = h.leaves.state k }; same_faults = h.leaves.closes.1; size = h.leaves.size; honest = h.leaves.honest; kept = h.leaves.kept } }
-went_of a b i Closed told h is got = let P : List ℕ → Type 0 = λ x. Appends a.out b.out x in
-    record { outcome = Closed; may = (is, h.may); written = subst P h.told_is got; carries = record { standing = λ k. record { live = h.leaves.closes.0 k; state = h.leaves.state k }; same_faults = h.leaves.closes.1; size = h.leaves.size; honest = h.leaves.honest; kept = h.leaves.kept } }
-went_of a b i NoMemory told h is got = let P : List ℕ → Type 0 = λ x. Appends a.out b.out x in
-    record { outcome = NoMemory; may = (is, h.may); written = subst P h.told_is got; carries = record { standing = λ k. record { live = h.leaves.closes.0 k; state = h.leaves.state k }; same_faults = h.leaves.closes.1; size = h.leaves.size; honest = h.leaves.honest; kept = h.leaves.kept } }
-
--- what was answered was sent, or not
-pub served_of : {T : Type 0} → (r : Result T Halt) (a b : Stage) (i : Input) (o : Outcome) (told : List ℕ) → Answered a.session i o told b.session → Sent r o told a.out b.out → ServedLine r a i b
-served_of (Ok u) a b i o told h k = went_of a b i o told h k.no_fault k.sent
-served_of (Err halt.Write) a b i o told h k = cut_of a.session b i o told a.out h k.some
-served_of (Err halt.Device) a b i o told h k = failed_of a.session b i o told a.out h k.fault k.sent

@@ -1,5 +1,5 @@
 -- A run over a file of the host, and what is found in the file after a stop.
-use Rattle.std.proofs.Common.{◌≡◌, ◌⊎◌, inl, inr, ℕ, List, length, Option, ap, sym, ◌∙◌, subst}
+use Rattle.std.proofs.Common.{◌≡◌, ◌⊎◌, inl, inr, ℕ, List, length, ap, sym, ◌∙◌, subst}
 use Rattle.mcs_disk.specs.Calls.{since_after}
 use Rattle.mcs_disk.specs.CallLaws.{lawful, length-bytes_after, sized}
 use Rattle.mcs_disk.specs.PowerCut.{IsLeftByCut}
@@ -10,14 +10,12 @@ use Rattle.mcs_journal.specs.declared.fault.OpenFault.{OpenFault}
 use Rattle.mcs_journal.specs.declared.fault.OpenFault.TheVariants as open_fault
 use Rattle.mcs_session.specs.Kept.{IsOpenOnHonestDisk}
 use Rattle.mcs_session.specs.Standing.{session_state}
-use Rattle.mcs_shell.specs.declared.ends.ShellEnd.{ShellEnd}
-use Rattle.mcs_shell.specs.declared.ends.ShellEnd.TheVariants.{End, ReadFault, WriteFault, DeviceFault, InputLimit, NoMemory}
-use Rattle.mcs_shell.specs.Headline.{SurvivesPowerCuts, inputs_of}
+use Rattle.mcs_shell.specs.Headline.{SurvivesPowerCuts}
 use Rattle.mcs_shell.specs.InFile.{IsFoundAgain, SurvivesInFile}
 use Rattle.mcs_shell.specs.RefusalNumbers.{open_fault_number}
-use Rattle.mcs_shell.specs.Shell.{EndsBy, Ran, Run}
-use Rattle.mcs_shell.specs.Stage.{Stage, staged}
-use Rattle.mcs_shell.proofs.Surviving.{survives}
+use Rattle.mcs_shell.specs.Shell.{Run}
+use Rattle.mcs_shell.specs.Stage.{staged}
+use Rattle.mcs_shell.proofs.Surviving.{honest_after, survives}
 use Rattle.mcs_shell.proofs.InTurn.{answers_of_run}
 
 left_by_cut : (t : ℕ) (file again : FileDisk) → (as_disk file).honest → IsFoundAgain t file again → IsLeftByCut t (as_disk file) (as_disk again)
@@ -31,23 +29,6 @@ left_by_cut t file again honest h =
       durable = h.opened.durable;
     }
 
-honest_by_end : (end : ShellEnd) (bytes : List ℕ) (left : Option (List ℕ)) (a b : Stage) → EndsBy IsOpenOnHonestDisk end bytes left a b → a.session.disk.honest → b.session.disk.honest
-honest_by_end End bytes left a b h = h.1.carries.honest.1
-honest_by_end ReadFault bytes left a b h = h.1.carries.honest.1
-honest_by_end InputLimit bytes left a b h = h.1.carries.honest.1
-honest_by_end WriteFault bytes left a b h = h.2.some.ended.fares.honest.1
-honest_by_end DeviceFault bytes left a b h = h.2.some.ended.fares.honest.1
-honest_by_end NoMemory bytes left a b h = absurd h
-
-honest_after : (end : ShellEnd) (r r' : Option (List ℕ)) (a b : Stage) → Ran end r r' a b → a.session.disk.honest → b.session.disk.honest
-honest_after NoMemory r r' a b ran = ran.0.carries.honest.1
-honest_after WriteFault r r' a b (inl x) = x.0.carries.honest.1
-honest_after WriteFault r r' a b (inr x) = honest_by_end WriteFault x.ran.bytes r' _ b x.ran.ends
-honest_after End r r' a b x = honest_by_end End x.ran.bytes r' _ b x.ran.ends
-honest_after ReadFault r r' a b x = honest_by_end ReadFault x.ran.bytes r' _ b x.ran.ends
-honest_after DeviceFault r r' a b x = honest_by_end DeviceFault x.ran.bytes r' _ b x.ran.ends
-honest_after InputLimit r r' a b x = honest_by_end InputLimit x.ran.bytes r' _ b x.ran.ends
-
 number_of : (fault : OpenFault) (number : ℕ) → number ≡ open_fault_number fault → (fault ≡ open_fault.Device) ⊎ (fault ≡ open_fault.NoMemory) → (number ≡ 53) ⊎ (number ≡ 90)
 number_of fault number told (inl is) = inl (told ∙ ap open_fault_number is)
 number_of fault number told (inr is) = inr (told ∙ ap open_fault_number is)
@@ -57,10 +38,9 @@ survives_in_file run given =
     let a = staged as_disk run.before run.out in
     let b = staged as_disk run.after run.out' in
     let honest : (as_disk run.after.disk).honest = honest_after run.end run.reader run.reader' a b run.ran given.1 in
-    let kept : SurvivesPowerCuts as_disk (session_state as_disk run.before) (as_disk run.after.disk) (inputs_of run) =
+    let kept : SurvivesPowerCuts as_disk (session_state as_disk run.before) (as_disk run.after.disk) run.ran.served.met =
     survives as_disk (λ (e : FileDisk) is. lawful _ e.faults e.bytes.items e.history.start e.history.calls e.kept) run.end run.reader run.reader' a b run.ran given in
     record {
-      met = inputs_of run;
       answers = answers_of_run run.end run.reader run.reader' a b run.ran;
       moments = kept.moments;
       count = kept.count;

@@ -1,173 +1,110 @@
 -- What a run answered to the inputs that it met.
-use Rattle.std.proofs.Common.{◌≡◌, ℕ, List, [], ◌∷◌, ◌++◌, Bool, false, Option, take, drop, ap, append_assoc, sym, ◌∙◌, refl, subst, inl, inr}
-use Rattle.std.specs.Io.KnownBytes.{Appends, Consumes}
-use Rattle.std.proofs.KnownBytes.{Appends-trans}
-use Rattle.std.proofs.lemmas.List.{append-nil, take-append-drop}
+use Rattle.std.proofs.Common.{◌≡◌, ◌≢◌, ℕ, List, [], ◌∷◌, ◌++◌, Bool, true, false, Option, None, Some, take, drop, ap, append_assoc, append-nil, sym, ◌∙◌, refl, subst, inl, inr}
+use Rattle.std.specs.Io.KnownBytes.{Appends}
+use Rattle.std.specs.Option.{option_or}
+use Rattle.std.proofs.KnownBytes.{Appends-nil, Appends-trans}
+use Rattle.std.proofs.lemmas.List.{take-append-drop}
 use Rattle.mcs_answers.specs.AnswerTexts.{session_text}
 use Rattle.mcs_model.specs.BenchState.{BenchState}
-use Rattle.mcs_session.specs.Kept.{IsOpenOnHonestDisk}
 use Rattle.mcs_session.specs.Standing.{Standing, standing_after}
-use Rattle.mcs_session.proofs.Folds.{standing_after-append}
 use Rattle.mcs_shell.specs.declared.ends.ShellEnd.{ShellEnd}
 use Rattle.mcs_shell.specs.declared.ends.ShellEnd.TheVariants.{End, ReadFault, WriteFault, DeviceFault, InputLimit, NoMemory}
 use Rattle.mcs_shell.specs.declared.outcome.Outcome.{Outcome}
-use Rattle.mcs_shell.specs.declared.outcome.Outcome.TheVariants.{Device}
-use Rattle.mcs_shell.specs.Headline.{AnswersInTurn, MayMeet, inputs_met, met_by_end}
-use Rattle.mcs_shell.specs.Inputs.{Input, inputs}
-use Rattle.mcs_shell.specs.Serving.{CutShort, Failed, GotSome}
-use Rattle.mcs_shell.specs.Shell.{LoopRan, Ran, ServedAll, ServedSome}
-use Rattle.mcs_shell.specs.Stage.{Stage, with_out}
-use Rattle.mcs_shell.specs.Transcript.{MayEnd, Served, Went, all_commands, answer, commands, inputs_in, transcript}
-use Rattle.mcs_shell.proofs.Served.{alone, state_after, transcript-alone, transcript-append, transcript-nothing}
+use Rattle.mcs_shell.specs.Headline.{AnswersInTurn}
+use Rattle.mcs_shell.specs.Serving.{Wrote, WroteAll}
+use Rattle.mcs_shell.specs.Shell.{Ran}
+use Rattle.mcs_shell.specs.Stage.{KnownBytes, Stage}
+use Rattle.mcs_shell.specs.Transcript.{MayMeet, Step, answer, commands, halt_after, halt_of, in_turn}
 
-may_all : (m : Standing) (served : Served) → Went m served → MayMeet m served
-unfolding Went MayMeet
-may_all m [] h = tt
-may_all m (p ∷ rest) h = (h.0.1, may_all (standing_after m (commands m.state p.0 p.1)) rest h.1)
+-- of these bytes some were written, and the others were not, which are none unless a write failed
+record Told (old new : KnownBytes) (bytes : List ℕ) (halted : Option ShellEnd) : Type 0 where
+  pub told : List ℕ
+  pub left_out : List ℕ
+  pub written : Appends old new told
+  pub parts : told ++ left_out ≡ bytes
+  pub all_told : halted ≢ Some WriteFault → left_out ≡ []
 
-may_last : (m : Standing) (served : Served) (i : Input) (o : Outcome) → Went m served → MayEnd (standing_after m (all_commands m.state served)) i o → MayMeet m (served ++ (i, o) ∷ [])
-unfolding Went MayMeet all_commands
-may_last m [] i o went h = (h, tt)
-may_last m (p ∷ rest) i o went h =
-    let n = standing_after m (commands m.state p.0 p.1) in
-    (went.0.1, may_last n rest i o went.1 (subst (λ (v : Standing). MayEnd v i o) (standing_after-append m (commands m.state p.0 p.1) (all_commands n.state rest)) h))
+cut_later : (whole : Bool) (o : Outcome) (rest : List Step) → (rest ≢ [] → halt_of whole o ≡ None) → halt_after rest ≡ Some WriteFault → option_or (halt_of whole o) (halt_after rest) ≡ Some WriteFault
+cut_later whole o [] goes cut = absurd (cc cut)
+cut_later whole o (x ∷ rest) goes cut = ap (λ (h : Option ShellEnd). option_or h (halt_after (x ∷ rest))) (goes (λ e. absurd (cc e))) ∙ cut
 
-may_none : (m : Standing) → MayMeet m []
-unfolding MayMeet
-may_none m = tt
-
-inputs_in-last : (served : Served) (i : Input) (o : Outcome) (rest : List Input) → inputs_in served ++ i ∷ rest ≡ inputs_in (served ++ (i, o) ∷ []) ++ rest
-inputs_in-last [] i o rest = refl
-inputs_in-last (p ∷ served) i o rest = ap (λ (v : List Input). p.0 ∷ v) (inputs_in-last served i o rest)
-
-transcript-last : (s : BenchState) (served : Served) (i : Input) (o : Outcome) → transcript s (served ++ (i, o) ∷ []) ≡ transcript s served ++ answer (state_after s served) i o
-transcript-last s served i o = transcript-append s served (alone i o) ∙ ap (λ (v : List ℕ). transcript s served ++ v) (transcript-alone (state_after s served) i o)
-
--- ---- a run that met no input
-
-told_none : (s : BenchState) (told left_out : List ℕ) → told ++ left_out ≡ session_text s → told ++ left_out ≡ session_text s ++ transcript s []
-told_none s told left_out e = e ∙ sym (append-nil (session_text s)) ∙ ap (λ (v : List ℕ). session_text s ++ v) (sym (transcript-nothing s))
-
-no_memory : (r r' : Option (List ℕ)) (a b : Stage) → Consumes r r' [] → Appends a.out b.out [] → AnswersInTurn NoMemory r r' a b []
-no_memory r r' a b consumed written = record {
-  bytes = [];
-  consumed = consumed;
-  whole = false;
-  not_met = inputs [] false;
-  spelled = refl;
-  all_met = λ x y z. absurd (z refl);
-  may = may_none a.session.standing;
-  told = [];
-  left_out = session_text a.session.standing.state;
-  written = written;
-  parts = told_none a.session.standing.state [] (session_text a.session.standing.state) refl;
-  all_told = λ x y. absurd (y refl);
+-- one answer, and then the others
+told_first : (s : BenchState) (whole : Bool) (o : Outcome) (rest : List Step) (old middle new : KnownBytes) (bytes : List ℕ) → Wrote whole old middle bytes → (rest ≢ [] → halt_of whole o ≡ None) → WroteAll s rest middle new
+    → Told middle new (in_turn answer s rest) (halt_after rest) → Told old new (bytes ++ in_turn answer s rest) (option_or (halt_of whole o) (halt_after rest))
+told_first s true o rest old middle new bytes wrote goes others t = record {
+  told = bytes ++ t.told;
+  left_out = t.left_out;
+  written = Appends-trans old middle new bytes t.told wrote t.written;
+  parts = append_assoc bytes t.told t.left_out ∙ ap (λ v. bytes ++ v) t.parts;
+  all_told = λ uncut. t.all_told (λ cut. uncut (cut_later true o rest goes cut));
 }
-
-not_begun : (r r' : Option (List ℕ)) (a b : Stage) → Consumes r r' [] → GotSome a.out b.out (session_text a.session.standing.state) → AnswersInTurn WriteFault r r' a b []
-not_begun r r' a b consumed some = record {
-  bytes = [];
-  consumed = consumed;
-  whole = false;
-  not_met = inputs [] false;
-  spelled = refl;
-  all_met = λ x y z. absurd (x refl);
-  may = may_none a.session.standing;
-  told = take some.count (session_text a.session.standing.state);
-  left_out = drop some.count (session_text a.session.standing.state);
-  written = some.got;
-  parts = told_none a.session.standing.state (take some.count (session_text a.session.standing.state)) (drop some.count (session_text a.session.standing.state)) (take-append-drop some.count (session_text a.session.standing.state));
-  all_told = λ x y. absurd (x refl);
+told_first s false o [] old middle new bytes wrote goes others t = record {
+  told = take wrote.count bytes;
+  left_out = drop wrote.count bytes;
+  written = subst (λ (v : KnownBytes). Appends old v (take wrote.count bytes)) (sym others) wrote.got;
+  parts = take-append-drop wrote.count bytes ∙ sym (append-nil bytes);
+  all_told = λ uncut. absurd (uncut refl);
 }
+told_first s false o (x ∷ rest) old middle new bytes wrote goes others t = absurd (cc (goes (λ e. absurd (cc e))))
 
--- ---- a run that wrote its first line
+told_all : (m : Standing) (met : List Step) (old new : KnownBytes) → MayMeet m met → WroteAll m.state met old new → Told old new (in_turn answer m.state met) (halt_after met)
+told_all m [] old new may wrote = record { told = []; left_out = []; written = subst (λ (v : KnownBytes). Appends old v []) (sym wrote) (Appends-nil old); parts = refl; all_told = λ uncut. refl }
+told_all m (x ∷ rest) old new may wrote =
+    let n = standing_after m (commands m.state x.input x.outcome) in
+    told_first n.state x.whole x.outcome rest old wrote.0 new (answer m.state x.input x.outcome) wrote.1 may.1 wrote.2 (told_all n rest wrote.0 new may.2 wrote.2)
 
-told_all : (end : ShellEnd) (whole : Bool) (bytes : List ℕ) (r r' : Option (List ℕ)) (a : Stage) (started : Option (List ℕ)) (b : Stage)
-    → Appends a.out started (session_text a.session.standing.state) → Consumes r r' bytes → (h : ServedAll IsOpenOnHonestDisk (inputs bytes whole) (with_out a started) b)
-    → AnswersInTurn end r r' a b h.served
-told_all end whole bytes r r' a started b first consumed h =
+-- ---- a run that wrote its first line, or not
+
+begun : (end : ShellEnd) (r r' : KnownBytes) (a b : Stage) (ran : Ran end r r' a b) → ran.begun ≡ true → (end ≢ WriteFault → ran.halted ≢ Some WriteFault) → (end ≢ WriteFault → end ≢ DeviceFault → ran.halted ≡ None)
+    → AnswersInTurn end r r' a b ran.served.met
+begun end r r' a b ran whole uncut none =
     let s = a.session.standing.state in
+    let met = ran.served.met in
+    let serves = ran.served.serves in
+    let first : Appends a.out ran.started (session_text s) = subst (λ (v : Bool). Wrote v a.out ran.started (session_text s)) whole ran.first in
+    let t : Told ran.started b.out (in_turn answer s met) (halt_after met) = told_all a.session.standing met ran.started b.out serves.may serves.wrote in
     record {
-      bytes = bytes;
-      consumed = consumed;
-      whole = whole;
-      not_met = [];
-      spelled = h.spelled ∙ sym (append-nil (inputs_in h.served));
-      all_met = λ x y z. refl;
-      may = may_all a.session.standing h.served h.went;
-      told = session_text s ++ transcript s h.served;
-      left_out = [];
-      written = Appends-trans a.out started b.out (session_text s) (transcript s h.served) first h.written;
-      parts = append-nil (session_text s ++ transcript s h.served);
-      all_told = λ x y. refl;
+      bytes = ran.bytes;
+      consumed = ran.consumed;
+      whole = ran.whole;
+      not_met = ran.served.not_met;
+      spelled = ran.served.spelled;
+      all_met = λ x y z. ran.served.all_met (none x y);
+      may = serves.may;
+      told = session_text s ++ t.told;
+      left_out = t.left_out;
+      written = Appends-trans a.out ran.started b.out (session_text s) t.told first t.written;
+      parts = append_assoc (session_text s) t.told t.left_out ∙ ap (λ v. session_text s ++ v) t.parts;
+      all_told = λ x z. t.all_told (λ cut. uncut x (sym ran.served.halts ∙ cut));
     }
 
-told_fault : (whole : Bool) (bytes : List ℕ) (r r' : Option (List ℕ)) (a : Stage) (started : Option (List ℕ)) (b : Stage)
-    → Appends a.out started (session_text a.session.standing.state) → Consumes r r' bytes → (h : ServedSome IsOpenOnHonestDisk Failed (inputs bytes whole) (with_out a started) b)
-    → AnswersInTurn DeviceFault r r' a b (h.served ++ (h.last, Device) ∷ [])
-told_fault whole bytes r r' a started b first consumed h =
+not_begun : (end : ShellEnd) (r r' : KnownBytes) (a b : Stage) (ran : Ran end r r' a b) → ran.begun ≡ false → ran.served.met ≡ [] → (end ≢ WriteFault → end ≢ NoMemory → ⊥) → AnswersInTurn end r r' a b ran.served.met
+not_begun end r r' a b ran cut none by =
     let s = a.session.standing.state in
-    let t = state_after s h.served in
-    let P : List ℕ → Type 0 = λ v. Appends started b.out v in
-    let met : Served = h.served ++ (h.last, Device) ∷ [] in
+    let some : Wrote false a.out ran.started (session_text s) = subst (λ (v : Bool). Wrote v a.out ran.started (session_text s)) cut ran.first in
+    let then : b.out ≡ ran.started = subst (λ (v : List Step). WroteAll s v ran.started b.out) none ran.served.serves.wrote in
     record {
-      bytes = bytes;
-      consumed = consumed;
-      whole = whole;
-      not_met = h.rest;
-      spelled = h.spelled ∙ inputs_in-last h.served h.last Device h.rest;
-      all_met = λ x y z. absurd (y refl);
-      may = may_last a.session.standing h.served h.last Device h.went h.ended.fares.may;
-      told = session_text s ++ transcript s met;
-      left_out = [];
-      written = Appends-trans a.out started b.out (session_text s) (transcript s met) first
-          (subst P (sym (transcript-last s h.served h.last Device)) (Appends-trans started h.middle b.out (transcript s h.served) (answer t h.last Device) h.written h.ended.written));
-      parts = append-nil (session_text s ++ transcript s met);
-      all_told = λ x y. refl;
+      bytes = ran.bytes;
+      consumed = ran.consumed;
+      whole = ran.whole;
+      not_met = ran.served.not_met;
+      spelled = ran.served.spelled;
+      all_met = λ x y z. absurd (by x z);
+      may = ran.served.serves.may;
+      told = take some.count (session_text s);
+      left_out = drop some.count (session_text s);
+      written = subst (λ (v : KnownBytes). Appends a.out v (take some.count (session_text s))) (sym then) some.got;
+      parts = take-append-drop some.count (session_text s) ∙ sym (append-nil (session_text s)) ∙ ap (λ (v : List Step). session_text s ++ in_turn answer s v) (sym none);
+      all_told = λ x z. absurd (by x z);
     }
 
-told_some : (whole : Bool) (bytes : List ℕ) (r r' : Option (List ℕ)) (a : Stage) (started : Option (List ℕ)) (b : Stage)
-    → Appends a.out started (session_text a.session.standing.state) → Consumes r r' bytes → (h : ServedSome IsOpenOnHonestDisk CutShort (inputs bytes whole) (with_out a started) b)
-    → AnswersInTurn WriteFault r r' a b (h.served ++ (h.last, h.ended.outcome) ∷ [])
-told_some whole bytes r r' a started b first consumed h =
-    let s = a.session.standing.state in
-    let o = h.ended.outcome in
-    let last : List ℕ = answer (state_after s h.served) h.last o in
-    let some = h.ended.written in
-    let before : List ℕ = transcript s h.served in
-    let begun : List ℕ = take some.count last in
-    let cut : List ℕ = drop some.count last in
-    let whole_last : before ++ (begun ++ cut) ≡ transcript s (h.served ++ (h.last, o) ∷ []) = ap (λ (v : List ℕ). before ++ v) (take-append-drop some.count last) ∙ sym (transcript-last s h.served h.last o) in
-    record {
-      bytes = bytes;
-      consumed = consumed;
-      whole = whole;
-      not_met = h.rest;
-      spelled = h.spelled ∙ inputs_in-last h.served h.last o h.rest;
-      all_met = λ x y z. absurd (x refl);
-      may = may_last a.session.standing h.served h.last o h.went h.ended.fares.may;
-      told = session_text s ++ (before ++ begun);
-      left_out = cut;
-      written = Appends-trans a.out started b.out (session_text s) (before ++ begun) first (Appends-trans started h.middle b.out before begun h.written some.got);
-      parts = append_assoc (session_text s) (before ++ begun) cut ∙ ap (λ (v : List ℕ). session_text s ++ v) (append_assoc before begun cut ∙ whole_last);
-      all_told = λ x y. absurd (x refl);
-    }
-
-told_by_end : (end : ShellEnd) (r r' : Option (List ℕ)) (a : Stage) (started : Option (List ℕ)) (b : Stage)
-    → Appends a.out started (session_text a.session.standing.state) → (x : LoopRan IsOpenOnHonestDisk end r r' (with_out a started) b)
-    → AnswersInTurn end r r' a b (met_by_end end x.bytes r' (with_out a started) b x.ends)
-told_by_end End r r' a started b first x = told_all End _ x.bytes r r' a started b first x.consumed x.ends.1
-told_by_end ReadFault r r' a started b first x = told_all ReadFault _ x.bytes r r' a started b first x.consumed x.ends.1
-told_by_end InputLimit r r' a started b first x = told_all InputLimit _ x.bytes r r' a started b first x.consumed x.ends.1
-told_by_end WriteFault r r' a started b first x = told_some x.ends.0 x.bytes r r' a started b first x.consumed x.ends.2.some
-told_by_end DeviceFault r r' a started b first x = told_fault x.ends.0 x.bytes r r' a started b first x.consumed x.ends.2.some
-told_by_end NoMemory r r' a started b first x = absurd x.ends
-
-pub answers_of_run : (end : ShellEnd) (r r' : Option (List ℕ)) (a b : Stage) (ran : Ran end r r' a b) → AnswersInTurn end r r' a b (inputs_met end r r' a b ran)
-answers_of_run NoMemory r r' a b ran = no_memory r r' a b ran.0.consumed ran.1
-answers_of_run WriteFault r r' a b (inl x) = not_begun r r' a b x.0.consumed x.1
-answers_of_run WriteFault r r' a b (inr x) = told_by_end WriteFault r r' a x.started b x.first x.ran
-answers_of_run End r r' a b x = told_by_end End r r' a x.started b x.first x.ran
-answers_of_run ReadFault r r' a b x = told_by_end ReadFault r r' a x.started b x.first x.ran
-answers_of_run DeviceFault r r' a b x = told_by_end DeviceFault r r' a x.started b x.first x.ran
-answers_of_run InputLimit r r' a b x = told_by_end InputLimit r r' a x.started b x.first x.ran
+pub answers_of_run : (end : ShellEnd) (r r' : KnownBytes) (a b : Stage) (ran : Ran end r r' a b) → AnswersInTurn end r r' a b ran.served.met
+answers_of_run End r r' a b ran = begun End r r' a b ran ran.ends.0 (λ x e. absurd (cc (sym ran.ends.2 ∙ e))) (λ x y. ran.ends.2)
+answers_of_run ReadFault r r' a b ran = begun ReadFault r r' a b ran ran.ends.0 (λ x e. absurd (cc (sym ran.ends.2 ∙ e))) (λ x y. ran.ends.2)
+answers_of_run InputLimit r r' a b ran = begun InputLimit r r' a b ran ran.ends.0 (λ x e. absurd (cc (sym ran.ends.2 ∙ e))) (λ x y. ran.ends.2)
+answers_of_run DeviceFault r r' a b ran = begun DeviceFault r r' a b ran ran.ends.0 (λ x e. absurd (cc (sym ran.ends.1 ∙ e))) (λ x y. absurd (y refl))
+answers_of_run NoMemory r r' a b ran = not_begun NoMemory r r' a b ran ran.ends.0 ran.ends.2 (λ x z. z refl)
+answers_of_run WriteFault r r' a b ran = elim ran.ends [
+  | inl h ↦ begun WriteFault r r' a b ran h.0 (λ x. absurd (x refl)) (λ x y. absurd (x refl))
+  | inr h ↦ not_begun WriteFault r r' a b ran h.0 h.2 (λ x z. x refl)
+]

@@ -8,7 +8,7 @@ use Rattle.mcs_source.specs.Survey.{Survey, survey_of}
 use Rattle.mcs_lines.specs.declared.requests.TextKind.TheVariants.{Asm, Map}
 use Rattle.mcs_shell.specs.declared.spelling.TextRefusal.{TextRefusal}
 use Rattle.mcs_shell.specs.Inputs.{Text}
-use Rattle.mcs_shell.specs.Spelling.{done, load_command, mapped, spelled_by}
+use Rattle.mcs_shell.specs.Spelling.{Does, load_command, mapped, spelled_by}
 use Rattle.mcs_shell.specs.Transcript.{asked, asked_by}
 
 abbrev surveyed_as : (List (ℕ × ℕ) → Survey) → Result (List (ℕ × ℕ)) (ℕ × SourceFault) → Result Survey (ℕ × SourceFault)
@@ -18,7 +18,7 @@ asks_none : (f : List (ℕ × ℕ) → Survey) (r : Result (List (ℕ × ℕ)) (
 asks_none f (Ok pairs) = refl
 asks_none f (Err at) = refl
 
-refused_alike : (f : List (ℕ × ℕ) → Survey) (r : Result (List (ℕ × ℕ)) (ℕ × SourceFault)) (why : TextRefusal) → (mapped (surveyed_as f r) ≡ Err why) ↔ (done (load_command r) ≡ Err why)
+refused_alike : (f : List (ℕ × ℕ) → Survey) (r : Result (List (ℕ × ℕ)) (ℕ × SourceFault)) (why : TextRefusal) → (mapped (surveyed_as f r) ≡ Err why) ↔ (result_map_both Does (λ why. why) (load_command r) ≡ Err why)
 refused_alike f (Ok pairs) why = (λ e. absurd (cc e), λ e. absurd (cc e))
 refused_alike f (Err at) why = (λ e. e, λ e. e)
 

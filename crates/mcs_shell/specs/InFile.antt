@@ -10,7 +10,7 @@ use Rattle.mcs_shell.specs.Headline.{AnswersInTurn}
 use Rattle.mcs_shell.specs.Program.{IsBegunOn, IsRefusedWith}
 use Rattle.mcs_shell.specs.Shell.{Run}
 use Rattle.mcs_shell.specs.Stage.{staged}
-use Rattle.mcs_shell.specs.Transcript.{Served, all_commands, all_reached}
+use Rattle.mcs_shell.specs.Transcript.{commands, in_turn, reached}
 
 -- A file was left at a clock of t or later, by a close, a kill or a power cut. Then it was opened
 -- with what is found in it, and is honest from then on.
@@ -20,23 +20,24 @@ pub record IsFoundAgain (t : ℕ) (file again : FileDisk) : Type 0 where
   pub bytes : (as_disk again).bytes ≡ found_in file
   pub honest : (as_disk again).honest
 
--- A run over a file of the host met these inputs, and its answers are theirs. However and whenever
--- the file was left since the run began: what the program's `open` begins on the file as it is found
--- is the bench after a prefix of the commands answered `ok` and the one answered `no 53`, and the
--- prefix holds each one acknowledged by that time. The program refuses it by 53 and by 90 alone.
+-- The answers of a run over a file of the host are those of the inputs that it met. However and
+-- whenever the file was left since the run began: what the program's `open` begins on the file as it
+-- is found is the bench after a prefix of the commands answered `ok` and the one answered `no 53`,
+-- and the prefix holds each one acknowledged by that time. The program refuses it by 53 and by 90
+-- alone.
 pub record SurvivesInFile (run : Run as_disk) : Type 0 where
-  pub met : Served
-  pub answers : AnswersInTurn run.end run.reader run.reader'
-      (staged as_disk run.before run.out) (staged as_disk run.after run.out') met
+  pub answers : AnswersInTurn run.end run.reader run.reader' (staged as_disk run.before run.out)
+      (staged as_disk run.after run.out') run.ran.served.met
   pub moments : List ℕ
-  pub count : length moments ≡ length (all_commands run.before.state met)
+  pub count : length moments
+      ≡ length (in_turn commands run.before.state run.ran.served.met)
   pub spaced : IsSpaced (as_disk run.before.disk).clock moments
   pub within : last_moment (as_disk run.before.disk).clock moments
       ≤ (as_disk run.after.disk).clock
   pub reopened : (t : ℕ) (again : FileDisk) (name : List ℕ) (session : SessionView FileDisk)
       → (as_disk run.before.disk).clock ≤ t → IsFoundAgain t run.after.disk again
       → IsBegunOn as_disk (choice.Open name) again session
-      → IsAfterPrefix run.before.state (all_reached run.before.state met)
+      → IsAfterPrefix run.before.state (in_turn reached run.before.state run.ran.served.met)
       (acknowledged_by t moments) session.state
   pub not_refused : (t : ℕ) (again : FileDisk) (name : List ℕ) (number : ℕ)
       → (as_disk run.before.disk).clock ≤ t → IsFoundAgain t run.after.disk again

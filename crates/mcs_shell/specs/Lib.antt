@@ -1,7 +1,6 @@
 pub mod Told
 pub mod LineFeeds
 pub mod Inputs
-pub mod TextLaws
 pub mod Reading
 pub mod Spelling
 pub mod RefusalNumbers
@@ -9,7 +8,6 @@ pub mod Stage
 pub mod Transcript
 pub mod Serving
 pub mod Shell
-pub mod Finishing
 pub mod Headline
 pub mod Program
 pub mod InFile

@@ -1,6 +1,6 @@
 -- What a text comes to, and what is told where it spells nothing.
 use Rattle.std.specs.Prelude.{ℕ, List, [], ◌∷◌, nat_lt, if◌then◌else◌, Result, Ok, Err}
-use Rattle.std.specs.Global.{Vec}
+use Rattle.std.specs.Result.{result_map_both}
 use Rattle.mcs_model.specs.declared.board.BoardParts.{BoardParts}
 use Rattle.mcs_model.specs.declared.command.Command.{Command}
 use Rattle.mcs_model.specs.declared.command.Command.TheVariants as command
@@ -47,35 +47,21 @@ pub data Spelled : Type 0 where
   Does : Command → Spelled
   Tells : List ℕ → Spelled
 
--- a text that spells a command comes to that command
-abbrev pub done : Result Command TextRefusal → Result Spelled TextRefusal
-done (Ok c) = Ok (Does c)
-done (Err why) = Err why
-
 -- the map of a program, or why the text is none
 abbrev pub mapped : Result Survey (ℕ × SourceFault) → Result Spelled TextRefusal
 mapped (Ok survey) = Ok (Tells (survey_text survey))
 mapped (Err at) = Err (Program (at.0) (at.1))
 
--- lines that were made, or why there are none
-abbrev pub tells : Result (Vec ℕ) TextRefusal → Result Spelled TextRefusal
-tells (Ok lines) = Ok (Tells lines.items)
-tells (Err why) = Err why
-
 -- what a text comes to, or why it spells nothing
 unfoldable pub spelled_by : TextKind → List ℕ → Result Spelled TextRefusal
-spelled_by Wire text = done (wire_command (board_of_text text))
-spelled_by Asm text = done (load_command (assembled text))
+spelled_by Wire text = result_map_both Does (λ why. why) (wire_command (board_of_text text))
+spelled_by Asm text = result_map_both Does (λ why. why) (load_command (assembled text))
 spelled_by Map text = mapped (surveyed text)
 
 -- the code's value for it
 abbrev pub spelled_view : code.Spelled → Spelled
 spelled_view (spelled.Does c) = Does c
 spelled_view (spelled.Tells lines) = Tells lines.items
-
-abbrev pub read_view : Result code.Spelled TextRefusal → Result Spelled TextRefusal
-read_view (Ok x) = Ok (spelled_view x)
-read_view (Err why) = Err why
 
 -- the answer to a text that spells nothing
 abbrev pub text_refusal : TextRefusal → List ℕ

@@ -1,5 +1,6 @@
 -- What is answered to inputs, and what they do.
 use Rattle.std.specs.Prelude.{◌≡◌, ◌≢◌, ◌⊎◌, Bool, true, false, ℕ, List, [], ◌∷◌, ◌++◌, map, Option, Some, None, Result, Ok, Err}
+use Rattle.std.specs.Option.{option_or}
 use Rattle.mcs_model.specs.declared.command.Command.{Command}
 use Rattle.mcs_model.specs.BenchState.{BenchState}
 use Rattle.mcs_model.specs.Command.{refusal, after, reply}
@@ -10,6 +11,8 @@ use Rattle.mcs_lines.specs.RefusalNumbers.{line_fault_number}
 use Rattle.mcs_lines.specs.declared.requests.Request.TheVariants.{Nothing, Refused, Ask, Listing, Board, Change, Begin}
 use Rattle.mcs_answers.specs.AnswerTexts.{board_answer, listing_answer, no_text, ok_text, query_answer}
 use Rattle.mcs_session.specs.Standing.{Standing, standing_after}
+use Rattle.mcs_shell.specs.declared.ends.ShellEnd.{ShellEnd}
+use Rattle.mcs_shell.specs.declared.ends.ShellEnd.TheVariants.{WriteFault, DeviceFault}
 use Rattle.mcs_shell.specs.declared.outcome.Outcome.{Outcome}
 use Rattle.mcs_shell.specs.declared.outcome.Outcome.TheVariants.{Plain, Device, Closed, NoMemory}
 use Rattle.mcs_shell.specs.declared.spelling.TextRefusal.{TextRefusal}
@@ -49,10 +52,6 @@ MayEnd m i Plain = (asked i ≡ None) ⊎ (m.live ≡ true)
 MayEnd m i Device = (accepted m.state (asked i) ≢ []) × (m.live ≡ true)
 MayEnd m i Closed = (asked i ≢ None) × (m.live ≡ false)
 MayEnd m i NoMemory = takes_memory i ≡ true
-
--- what may come of an input that others follow: the shell ends where the device fails
-abbrev pub MayGo : Standing → Input → Outcome → Type 0
-MayGo m i o = (o ≢ Device) × MayEnd m i o
 
 -- the command that was answered `ok`, if any
 unfoldable pub commands : BenchState → Input → Outcome → List Command
@@ -99,31 +98,47 @@ answer s i Device = no_text DEVICE
 answer s i Closed = no_text CLOSED
 answer s i NoMemory = no_text NO_MEMORY
 
--- ---- inputs in turn, each with what came of it
+-- ---- inputs in turn
 
-abbrev pub Served : Type 0
-Served = List (Input × Outcome)
+-- an input that was met, what came of it, and whether its answer went out whole
+pub record Step : Type 0 where
+  pub input : Input
+  pub outcome : Outcome
+  pub whole : Bool
 
 -- the inputs alone
-abbrev pub inputs_in : Served → List Input
-inputs_in served = map (λ p. p.0) served
+abbrev pub inputs_in : List Step → List Input
+inputs_in met = map (λ (x : Step). x.input) met
 
--- the answers, in turn
-unfoldable pub transcript : BenchState → Served → List ℕ
-transcript s [] = []
-transcript s (p ∷ rest) = answer s p.0 p.1 ++ transcript (fold s (commands s p.0 p.1)) rest
+-- What each input gives by the state that it meets, in turn: `in_turn answer` are the answers,
+-- `in_turn commands` the commands answered `ok`, and `in_turn reached` those that may have reached
+-- the disk.
+abbrev pub in_turn : {A : Type 0} → (BenchState → Input → Outcome → List A) → BenchState
+    → List Step → List A
+in_turn f s [] = []
+in_turn f s (x ∷ rest) =
+    f s x.input x.outcome ++ in_turn f (fold s (commands s x.input x.outcome)) rest
 
--- the commands answered `ok`, in turn
-unfoldable pub all_commands : BenchState → Served → List Command
-all_commands s [] = []
-all_commands s (p ∷ rest) = commands s p.0 p.1 ++ all_commands (fold s (commands s p.0 p.1)) rest
+-- the end that an answer makes, which went out whole or not, if it makes one
+abbrev pub halt_of : Bool → Outcome → Option ShellEnd
+halt_of false o = Some WriteFault
+halt_of true Device = Some DeviceFault
+halt_of true o = None
 
--- the commands that may have reached the disk, in turn
-unfoldable pub all_reached : BenchState → Served → List Command
-all_reached s [] = []
-all_reached s (p ∷ rest) = reached s p.0 p.1 ++ all_reached (fold s (commands s p.0 p.1)) rest
+-- the end that one of these steps made, if one did
+abbrev pub halt_after : List Step → Option ShellEnd
+halt_after [] = None
+halt_after (x ∷ rest) = option_or (halt_of x.whole x.outcome) (halt_after rest)
 
--- each outcome is one that may come of its input in its turn
-unfoldable pub Went : Standing → Served → Type 0
-Went m [] = Unit {0}
-Went m (p ∷ rest) = MayGo m p.0 p.1 × Went (standing_after m (commands m.state p.0 p.1)) rest
+-- whether the device failed
+abbrev pub is_device : Outcome → Bool
+is_device Device = true
+is_device o = false
+
+-- each outcome is one that may come of its input in its turn, and the shell goes on after each but
+-- the last
+abbrev pub MayMeet : Standing → List Step → Type 0
+MayMeet m [] = Unit {0}
+MayMeet m (x ∷ rest) =
+    MayEnd m x.input x.outcome × (rest ≢ [] → halt_of x.whole x.outcome ≡ None)
+    × MayMeet (standing_after m (commands m.state x.input x.outcome)) rest

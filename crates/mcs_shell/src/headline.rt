@@ -3,7 +3,7 @@
 ghost use Rattle.mcs_host.specs.Ending.{as_disk};
 ghost use Rattle.mcs_session.specs.Kept.{IsOpenOnHonestDisk};
 ghost use Rattle.mcs_session.specs.Standing.{session_state};
-ghost use Rattle.mcs_shell.specs.Headline.{AnswersAndSurvives, SurvivesPowerCuts, inputs_of};
+ghost use Rattle.mcs_shell.specs.Headline.{AnswersAndSurvives};
 ghost use Rattle.mcs_shell.specs.InFile.{SurvivesInFile};
 ghost use Rattle.mcs_shell.specs.Shell.{Run};
 
@@ -17,13 +17,6 @@ use mcs_disk::Disk;
 pub fn a_run_answers_and_survives_power_cuts<D: Disk, E: Disk>()
     ensures { (run : Run D.state) → IsOpenOnHonestDisk (session_state D.state run.before)
         → AnswersAndSurvives D.state E.state run }
-{}
-
-/// What a power cut leaves of a run, by the inputs that its own promise names.
-pub fn a_run_survives_power_cuts<D: Disk, E: Disk>()
-    ensures { (run : Run D.state) → IsOpenOnHonestDisk (session_state D.state run.before)
-        → SurvivesPowerCuts E.state (session_state D.state run.before) (D.state run.after.disk)
-        (inputs_of run) }
 {}
 
 /// The same of a run over a file of the host, down to what is found in the file after a close, a

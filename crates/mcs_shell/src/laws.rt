@@ -1,17 +1,27 @@
 //! Laws of inputs, as the contracts of functions that do nothing.
-ghost use Rattle.std.specs.Prelude.{◌≡◌, ◌↔◌, ℕ, List, Err, None};
+ghost use Rattle.std.specs.Prelude.{◌≡◌, ◌↔◌, ◌∷◌, ◌++◌, [], ℕ, Bool, List, Err, None, codes, false, true};
+ghost use Rattle.std.specs.List.{flat_map, list_any};
+ghost use Rattle.mcs_lines.specs.Requests.{request_of};
+ghost use Rattle.mcs_lines.specs.declared.requests.Request.TheVariants.{Begin};
+ghost use Rattle.mcs_lines.specs.declared.requests.TextKind.{TextKind};
 ghost use Rattle.mcs_lines.specs.declared.requests.TextKind.TheVariants.{Asm, Map};
 ghost use Rattle.mcs_shell.specs.declared.spelling.TextRefusal.{TextRefusal};
-ghost use Rattle.mcs_shell.specs.Inputs.{Text};
+ghost use Rattle.mcs_shell.specs.declared.texts.TextFault.TheVariants.{NoEnd};
+ghost use Rattle.mcs_shell.specs.Inputs.{BadText, Commands, Text, group, is_dot_line, judged_text};
 ghost use Rattle.mcs_shell.specs.Spelling.{spelled_by};
 ghost use Rattle.mcs_shell.specs.Transcript.{asked};
-ghost use Rattle.mcs_shell.specs.TextLaws.{TextEndsAtDot, HasNoEnd};
 
-/// The lines after one that opens a text are one input up to a line that is a dot, and that input
-/// is refused where input ended before one.
+/// A line that begins a text, lines of which none is a dot, and a dot: they are one input, whose text
+/// is those lines, each followed by a line feed, and the lines after it are judged as if nothing had
+/// come before. Without a dot it is refused where input ended.
 pub fn a_text_ends_at_a_dot()
-    ensures ended { TextEndsAtDot }
-    ensures open { HasNoEnd }
+    ensures ended { (whole : Bool) (kind : TextKind) (line : List ℕ) (text rest : List (List ℕ))
+        → request_of line ≡ Begin kind → list_any is_dot_line text ≡ false
+        → group whole Commands (line ∷ (text ++ codes "." ∷ rest))
+        ≡ judged_text kind (flat_map (λ l. l ++ 10 ∷ []) text) ∷ group whole Commands rest }
+    ensures open { (kind : TextKind) (line : List ℕ) (text : List (List ℕ))
+        → request_of line ≡ Begin kind → list_any is_dot_line text ≡ false
+        → group true Commands (line ∷ text) ≡ BadText NoEnd ∷ [] }
 {}
 
 /// A map asks for no command, and it is refused where the program would be, for the same reason.

@@ -1,4 +1,4 @@
-//! What comes of an input, and what halts a shell.
+//! What comes of an input.
 
 /// What came of an input.
 #[derive(Clone, Copy)]
@@ -11,13 +11,4 @@ pub enum Outcome {
     Closed,
     /// Memory for it was refused, and nothing was done.
     NoMemory,
-}
-
-/// What halts a shell before its input ends.
-#[derive(Clone, Copy)]
-pub enum Halt {
-    /// An answer could not be written whole.
-    Write,
-    /// The device failed, and that was answered.
-    Device,
 }

@@ -1,14 +1,18 @@
 //! Lines as they come, in pieces.
-ghost use Rattle.std.specs.Prelude.{◌≡◌, ◌∷◌, ◌++◌, [], MatchOption, OnOk, IfErr, length};
+ghost use Rattle.std.specs.Prelude.{◌≡◌, ◌∷◌, ◌++◌, Bool, [], MatchOption, OnOk, length};
+ghost use Rattle.std.specs.Result.{result_err};
 ghost use Rattle.mcs_shell.specs.declared.texts.TextFault.TheVariants.{NoEnd};
 ghost use Rattle.mcs_shell.specs.LineFeeds.{HasNoFeed};
 ghost use Rattle.mcs_shell.specs.Inputs.{BadText, Line, judged_text};
 ghost use Rattle.mcs_shell.specs.Stage.{staged};
-ghost use Rattle.mcs_shell.specs.Serving.{Sent, ServedLine, Stopped, WentFurther};
+ghost use Rattle.mcs_shell.specs.Serving.{Feeds, Meets, Wrote};
+ghost use Rattle.mcs_shell.specs.Transcript.{halt_of};
+ghost use Rattle.mcs_session.specs.Kept.{IsSettled};
 
 use crate::answer::Answer;
 use crate::answering::{answer_request, answer_text};
-use crate::outcome::{Halt, Outcome};
+use crate::ends::ShellEnd;
+use crate::outcome::Outcome;
 use crate::sending::WriteStopped;
 use crate::texts::{TextFault, ends_text};
 use crate::unfinished::Unfinished;
@@ -20,13 +24,14 @@ use std::alloc::Global;
 use std::io::Write;
 
 /// Writes the answer to an input that met this outcome.
-fn deliver<W: Write>(outcome: Outcome, answer: &Answer, writer: &mut W) -> Result<(), Halt>
-    ensures { Sent result outcome answer.now (W.contents writer.old) (W.contents writer.new) }
+fn deliver<W: Write>(outcome: Outcome, answer: &Answer, writer: &mut W) -> Result<(), ShellEnd>
+    ensures { (whole : Bool) × Wrote whole (W.contents writer.old) (W.contents writer.new) answer.now
+        × (result_err result ≡ halt_of whole outcome) }
 {
     match answer.send(writer) {
-        Err(WriteStopped) => Err(Halt::Write),
+        Err(WriteStopped) => Err(ShellEnd::WriteFault),
         Ok(()) => match outcome {
-            Outcome::Device => Err(Halt::Device),
+            Outcome::Device => Err(ShellEnd::DeviceFault),
             _ => Ok(()),
         },
     }
@@ -38,9 +43,10 @@ fn serve_request<W: Write, D: Disk + Drop>(
     request: Request,
     writer: &mut W,
     session: &mut Session<D>,
-) -> Result<(), Halt>
-    ensures { ServedLine result (staged D.state session.old (W.contents writer.old)) (Line request)
-        (staged D.state session.new (W.contents writer.new)) }
+) -> Result<(), ShellEnd>
+    ensures { Meets IsSettled (Line request ∷ [])
+        (staged D.state session.old (W.contents writer.old))
+        (staged D.state session.new (W.contents writer.new)) (result_err result) }
 {
     let mut answer = Answer::new();
     let outcome = answer_request(alloc, &request, session, &mut answer);
@@ -54,9 +60,10 @@ fn serve_text<W: Write, D: Disk + Drop>(
     text: &[u8],
     writer: &mut W,
     session: &mut Session<D>,
-) -> Result<(), Halt>
-    ensures { ServedLine result (staged D.state session.old (W.contents writer.old))
-        (judged_text kind text.now) (staged D.state session.new (W.contents writer.new)) }
+) -> Result<(), ShellEnd>
+    ensures { Meets IsSettled (judged_text kind text.now ∷ [])
+        (staged D.state session.old (W.contents writer.old))
+        (staged D.state session.new (W.contents writer.new)) (result_err result) }
 {
     let mut answer = Answer::new();
     let outcome = answer_text(alloc, kind, text, session, &mut answer);
@@ -67,9 +74,10 @@ fn serve_text<W: Write, D: Disk + Drop>(
 pub(crate) fn serve_no_end<W: Write, D: Disk + Drop>(
     writer: &mut W,
     session: &mut Session<D>,
-) -> Result<(), Halt>
-    ensures { ServedLine result (staged D.state session.old (W.contents writer.old))
-        (BadText NoEnd) (staged D.state session.new (W.contents writer.new)) }
+) -> Result<(), ShellEnd>
+    ensures { Meets IsSettled (BadText NoEnd ∷ [])
+        (staged D.state session.old (W.contents writer.old))
+        (staged D.state session.new (W.contents writer.new)) (result_err result) }
 {
     let mut answer = Answer::new();
     answer.tell_refusal(TextFault::NoEnd.number());
@@ -82,15 +90,12 @@ pub(crate) fn end_line<W: Write, D: Disk + Drop>(
     unfinished: &mut Unfinished,
     writer: &mut W,
     session: &mut Session<D>,
-) -> Result<(), Halt>
+) -> Result<(), ShellEnd>
     requires { HasNoFeed unfinished.old.line }
-    ensures ok { OnOk result (WentFurther (staged D.state session.old (W.contents writer.old))
+    ensures fed { Feeds (staged D.state session.old (W.contents writer.old))
         (staged D.state session.new (W.contents writer.new))
-        unfinished.old unfinished.new (10 ∷ [])) }
+        unfinished.old unfinished.new (10 ∷ []) (result_err result) }
     ensures empty { OnOk result (length unfinished.new.line ≡ 0) }
-    ensures err { IfErr result (λ halt. Stopped halt
-        (staged D.state session.old (W.contents writer.old))
-        (staged D.state session.new (W.contents writer.new)) unfinished.old (10 ∷ [])) }
 {
     let line = without_return(unfinished.line());
     match unfinished.text() {
@@ -104,7 +109,7 @@ pub(crate) fn end_line<W: Write, D: Disk + Drop>(
                     unfinished.clear();
                     Ok(())
                 }
-                Err(halt) => Err(halt),
+                Err(end) => Err(end),
             },
         },
         Some((kind, text)) => {
@@ -114,7 +119,7 @@ pub(crate) fn end_line<W: Write, D: Disk + Drop>(
                         unfinished.clear();
                         Ok(())
                     }
-                    Err(halt) => Err(halt),
+                    Err(end) => Err(end),
                 }
             } else {
                 unfinished.end_line();
@@ -144,21 +149,18 @@ pub(crate) fn serve_chunk<W: Write, D: Disk + Drop>(
     unfinished: &mut Unfinished,
     writer: &mut W,
     session: &mut Session<D>,
-) -> Result<(), Halt>
+) -> Result<(), ShellEnd>
     requires { HasNoFeed unfinished.old.line }
-    ensures ok { OnOk result (WentFurther (staged D.state session.old (W.contents writer.old))
+    ensures { Feeds (staged D.state session.old (W.contents writer.old))
         (staged D.state session.new (W.contents writer.new))
-        unfinished.old unfinished.new chunk.now) }
-    ensures err { IfErr result (λ halt. Stopped halt
-        (staged D.state session.old (W.contents writer.old))
-        (staged D.state session.new (W.contents writer.new)) unfinished.old chunk.now) }
+        unfinished.old unfinished.new chunk.now (result_err result) }
 {
     let mut rest = chunk;
     while let Some((front, back)) = split_line(rest) {
         unfinished.keep(front);
         match end_line(alloc, unfinished, writer, session) {
             Ok(()) => {}
-            Err(halt) => return Err(halt),
+            Err(end) => return Err(end),
         }
         rest = back;
     }

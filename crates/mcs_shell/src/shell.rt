@@ -1,14 +1,16 @@
 //! The shell: it reads lines, does what they ask for, and writes the answers.
-ghost use Rattle.std.specs.Prelude.{◌≡◌, ◌<◌, ◌≤◌, take, length, IfOk, OnErr};
+ghost use Rattle.std.specs.Prelude.{◌≡◌, ◌<◌, ◌≤◌, [], true, take, length, IfOk, OnErr};
+ghost use Rattle.std.specs.Result.{result_err};
 ghost use Rattle.std.specs.Io.KnownBytes.{Keeps};
 ghost use Rattle.mcs_shell.specs.LineFeeds.{HasNoFeed};
 ghost use Rattle.mcs_shell.specs.Stage.{staged};
-ghost use Rattle.mcs_shell.specs.Shell.{LoopSettled, Ran, ReadSome, end_of_halt};
-ghost use Rattle.mcs_shell.specs.Finishing.{FinishedBy};
+ghost use Rattle.mcs_shell.specs.Shell.{Ran, RanGiven, ReadSome};
+ghost use Rattle.mcs_shell.specs.Serving.{Meets};
+ghost use Rattle.mcs_shell.specs.Inputs.{inputs_after};
+ghost use Rattle.mcs_session.specs.Kept.{IsSettled};
 
 use crate::answer::Answer;
 use crate::ends::ShellEnd;
-use crate::outcome::Halt;
 use crate::sending::WriteStopped;
 use crate::serving::{end_line, serve_chunk, serve_no_end};
 use crate::unfinished::Unfinished;
@@ -38,32 +40,20 @@ fn read_some<R: Read>(reader: &mut R, buffer: &mut [u8], most: usize) -> Result<
     }
 }
 
-/// The end that a halt gives.
-fn end_of(halt: Halt) -> ShellEnd
-    ensures { result ≡ end_of_halt halt }
-{
-    match halt {
-        Halt::Write => ShellEnd::WriteFault,
-        Halt::Device => ShellEnd::DeviceFault,
-    }
-}
-
 /// Refuses the text that is open where input has ended after a whole line.
 fn finish_text<W: Write, D: Disk + Drop>(
     unfinished: &Unfinished,
     writer: &mut W,
     session: &mut Session<D>,
-) -> ShellEnd
+) -> Result<(), ShellEnd>
     requires { length unfinished.now.line ≡ 0 }
-    ensures { FinishedBy result unfinished.now (staged D.state session.old (W.contents writer.old))
-        (staged D.state session.new (W.contents writer.new)) }
+    ensures { Meets IsSettled (inputs_after unfinished.now [] true)
+        (staged D.state session.old (W.contents writer.old))
+        (staged D.state session.new (W.contents writer.new)) (result_err result) }
 {
     match unfinished.text() {
-        None => ShellEnd::End,
-        Some(_) => match serve_no_end(writer, session) {
-            Ok(()) => ShellEnd::End,
-            Err(halt) => end_of(halt),
-        },
+        None => Ok(()),
+        Some(_) => serve_no_end(writer, session),
     }
 }
 
@@ -73,17 +63,18 @@ fn finish<W: Write, D: Disk + Drop>(
     unfinished: &mut Unfinished,
     writer: &mut W,
     session: &mut Session<D>,
-) -> ShellEnd
+) -> Result<(), ShellEnd>
     requires { HasNoFeed unfinished.old.line }
-    ensures { FinishedBy result unfinished.old (staged D.state session.old (W.contents writer.old))
-        (staged D.state session.new (W.contents writer.new)) }
+    ensures { Meets IsSettled (inputs_after unfinished.old [] true)
+        (staged D.state session.old (W.contents writer.old))
+        (staged D.state session.new (W.contents writer.new)) (result_err result) }
 {
     if unfinished.line().is_empty() {
         return finish_text(unfinished, writer, session);
     }
     match end_line(alloc, unfinished, writer, session) {
         Ok(()) => finish_text(unfinished, writer, session),
-        Err(halt) => end_of(halt),
+        Err(end) => Err(end),
     }
 }
 
@@ -97,7 +88,7 @@ fn run_loop<R: Read, W: Write, D: Disk + Drop>(
 ) -> ShellEnd
     requires some { 0 < length buffer.old }
     requires chunk { length buffer.old ≤ CHUNK_BYTES }
-    ensures { LoopSettled result (R.remaining reader.old) (R.remaining reader.new)
+    ensures { RanGiven IsSettled [] result (R.remaining reader.old) (R.remaining reader.new)
         (staged D.state session.old (W.contents writer.old))
         (staged D.state session.new (W.contents writer.new)) }
 {
@@ -107,7 +98,12 @@ fn run_loop<R: Read, W: Write, D: Disk + Drop>(
         let most = buffer.len().min(INPUT_BYTES - total);
         match read_some(reader, buffer, most) {
             Err(ReadFailed) => return ShellEnd::ReadFault,
-            Ok(0) => return finish(alloc, &mut unfinished, writer, session),
+            Ok(0) => {
+                return match finish(alloc, &mut unfinished, writer, session) {
+                    Ok(()) => ShellEnd::End,
+                    Err(end) => end,
+                };
+            }
             Ok(count) => match serve_chunk(
                 alloc,
                 &buffer[..count],
@@ -116,7 +112,7 @@ fn run_loop<R: Read, W: Write, D: Disk + Drop>(
                 session,
             ) {
                 Ok(()) => total += count,
-                Err(halt) => return end_of(halt),
+                Err(end) => return end,
             },
         }
     }

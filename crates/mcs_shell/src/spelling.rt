@@ -1,9 +1,10 @@
 //! What a text comes to.
 ghost use Rattle.std.specs.Prelude.{◌≡◌, IfOk};
+ghost use Rattle.std.specs.Result.{result_map_both};
 ghost use Rattle.mcs_source.specs.Assembly.{assembled};
 ghost use Rattle.mcs_wiring.specs.Wiring.{board_of_text};
 ghost use Rattle.mcs_source.specs.Survey.{surveyed};
-ghost use Rattle.mcs_shell.specs.Spelling.{load_command, mapped, read_view, spelled_by, tells, wire_command};
+ghost use Rattle.mcs_shell.specs.Spelling.{Tells, load_command, mapped, spelled_by, spelled_view, wire_command};
 
 use mcs_asm::{FaultKind, SourceFault, assemble, survey, survey_text};
 use mcs_lines::requests::TextKind;
@@ -61,7 +62,8 @@ fn read_program(alloc: Global, text: &str) -> Result<Result<Command, TextRefusal
 
 /// The map of a program, or why the text is none. It fails where memory is refused.
 fn read_map(alloc: Global, text: &str) -> Result<Result<Vec<u8>, TextRefusal>, AllocError>
-    ensures { IfOk result (λ told. tells told ≡ mapped (surveyed text.now)) }
+    ensures { IfOk result (λ told.
+        result_map_both (λ lines. Tells lines.items) (λ why. why) told ≡ mapped (surveyed text.now)) }
 {
     match survey(alloc, text) {
         Ok(survey) => Ok(Ok(survey_text(alloc, &survey)?)),
@@ -79,7 +81,8 @@ pub fn read_text(
     kind: TextKind,
     text: &str,
 ) -> Result<Result<Spelled, TextRefusal>, AllocError>
-    ensures { IfOk result (λ spelled. read_view spelled ≡ spelled_by kind text.now) }
+    ensures { IfOk result (λ spelled.
+        result_map_both spelled_view (λ why. why) spelled ≡ spelled_by kind text.now) }
 {
     match kind {
         TextKind::Wire => Ok(read_board(alloc, text)?.map(Spelled::Does)),

@@ -1,4 +1,3 @@
-use Rattle.mcs_shell.specs.Headline.{inputs_of}
 use Rattle.mcs_shell.specs.Stage.{staged}
 use Rattle.mcs_shell.proofs.Surviving.{survives}
 use Rattle.mcs_shell.proofs.InTurn.{answers_of_run}
@@ -9,7 +8,6 @@ returns g c = λ run given.
     let a = staged g.D.Disk.state run.before run.out in
     let b = staged g.D.Disk.state run.after run.out' in
     record {
-      met = inputs_of run;
       answers = answers_of_run run.end run.reader run.reader' a b run.ran;
       survives = survives g.E.Disk.state g.met.E.Disk.lawful run.end run.reader run.reader' a b run.ran given;
     }
