@@ -1,10 +1,14 @@
 //! The bench as a program: `mcs4 new FILE` and `mcs4 open FILE`.
 #![tactic(auto)]
 
-use mcs_shell::program::run_program;
+use mcs_shell::program::{Ended, run_program};
 use std::io;
 use std::process::ExitCode;
 
 fn main(rt: HostRuntime) -> io::Result<ExitCode> {
-    run_program(&rt)
+    let Ended {
+        status,
+        session: _session,
+    } = run_program(&rt);
+    status
 }

@@ -1,12 +1,12 @@
 //! The program: its words, its file, its session, its shell, its exit status.
-ghost use Rattle.std.specs.Prelude.{◌≡◌, ◌⊎◌, IfOk, IfErr, OnErr, None, true, map};
+ghost use Rattle.std.specs.Prelude.{◌≡◌, ◌⊎◌, IfOk, IfErr, IfSome, IfNone, IsSomeAnd, OnErr, None, true, map};
 ghost use Rattle.std.specs.Process.{exit_status};
 ghost use Rattle.mcs_host.specs.CommandLine.{chosen, takes_words};
 ghost use Rattle.mcs_host.specs.Ending.{as_disk};
 ghost use Rattle.mcs_host.specs.FileDisk.{IsOpened};
 ghost use Rattle.mcs_host.specs.declared.file_disk.FileDisk.{FileDisk};
 ghost use Rattle.mcs_host.specs.declared.file_fault.FileFault.{FileFault};
-ghost use Rattle.mcs_shell.specs.Program.{IsBegunOn, IsRefusedWith, RanToStatus, ServedAsChosen};
+ghost use Rattle.mcs_shell.specs.Program.{IsBegunOn, IsRefusedWith, RanToStatus, ServedAsChosen, ServedBySomeWords, ServedTo};
 ghost use Rattle.mcs_shell.specs.Shell.{Ran};
 ghost use Rattle.mcs_shell.specs.RefusalNumbers.{refusal_number};
 ghost use Rattle.mcs_shell.specs.Stage.{staged};
@@ -141,36 +141,102 @@ pub fn serve<R: Read, W: Write, D: Disk + Drop>(
     left
 }
 
-/// Runs the bench by these words, the program's name first: session, shell, exit status.
-pub fn run_words<S: AsStr>(rt: &HostRuntime, words: &[S]) -> io::Result<ExitCode>
-    ensures usage { IfOk result (λ code. exit_status code ≡ 2
-        → takes_words (map S.text words.entry.now) ≡ true
-        → chosen (map S.text words.entry.now) ≡ None) }
-    ensures status { IfOk result (λ code. (exit_status code ≡ 2)
-        ⊎ ((exit_status code ≡ 3)
-        ⊎ ServedAsChosen as_disk (chosen (map S.text words.entry.now)) (exit_status code))) }
+/// How the program ends.
+#[derive(Drop)]
+pub struct Ended<D: Disk + Drop> {
+    /// The exit status. An `Err` comes where it could not be told what to do, or why there is no
+    /// session.
+    pub status: io::Result<ExitCode>,
+    /// The session that was served, as its shell left it.
+    pub session: Option<Session<D>>,
+}
+
+/// Serves the session that a choice began over a reader and a writer, or tells why there is none.
+pub fn serve_begun<R: Read, W: Write, D: Disk + Drop>(
+    rt: &HostRuntime,
+    reader: &mut R,
+    writer: &mut W,
+    choice: &Choice,
+    begun: Result<Session<D>, Refusal>,
+) -> Ended<D>
+    ensures served { IfOk begun (λ before. IsSomeAnd result.session (λ after.
+        ServedTo D.state result.status (R.remaining reader.old) (R.remaining reader.new)
+        (W.contents writer.old) (W.contents writer.new) before after)) }
+    ensures refused { OnErr begun (IfOk result.status (λ code. exit_status code ≡ 3)) }
+    ensures unserved { OnErr begun (result.session ≡ None) }
+    ensures unread { OnErr begun (R.remaining reader.new ≡ R.remaining reader.old) }
+    ensures unwritten { OnErr begun (W.contents writer.new ≡ W.contents writer.old) }
 {
-    let choice = match choice(rt.alloc(), words) {
-        Ok(choice) => choice,
-        Err(fault) => return refuse_words(rt, fault),
-    };
-    match session_in(rt, &choice) {
+    match begun {
         Ok(mut session) => {
-            let (input, output) = (&mut rt.stdin(), &mut rt.stdout());
-            serve(rt, input, output, &mut session, choice.file())
+            let status = serve(rt, reader, writer, &mut session, choice.file());
+            Ended {
+                status,
+                session: Some(session),
+            }
         }
         Err(refusal) => {
-            let refused = refuse(rt, refusal.number());
-            tell_refusal(rt, &choice, refusal);
-            refused
+            let status = refuse(rt, refusal.number());
+            tell_refusal(rt, choice, refusal);
+            Ended {
+                status,
+                session: None,
+            }
         }
     }
 }
 
-/// Runs the bench by the words of the command line.
-pub fn run_program(rt: &HostRuntime) -> io::Result<ExitCode> {
+/// Runs the bench by these words, the program's name first, over a reader and a writer: session,
+/// shell, exit status. Without a session the status is 2 or 3, and nothing was read or answered.
+pub fn run_words<S: AsStr, R: Read, W: Write>(
+    rt: &HostRuntime,
+    words: &[S],
+    reader: &mut R,
+    writer: &mut W,
+) -> Ended<FileDisk>
+    ensures usage { IfOk result.status (λ code. exit_status code ≡ 2
+        → takes_words (map S.text words.entry.now) ≡ true
+        → chosen (map S.text words.entry.now) ≡ None) }
+    ensures served { IfSome result.session (λ after. ServedAsChosen as_disk
+        (chosen (map S.text words.entry.now)) result.status
+        (R.remaining reader.old) (R.remaining reader.new)
+        (W.contents writer.old) (W.contents writer.new) after) }
+    ensures unserved { IfNone result.session (IfOk result.status (λ code.
+        (exit_status code ≡ 2) ⊎ (exit_status code ≡ 3))) }
+    ensures unread { IfNone result.session
+        (R.remaining reader.new ≡ R.remaining reader.old) }
+    ensures unwritten { IfNone result.session
+        (W.contents writer.new ≡ W.contents writer.old) }
+{
+    let choice = match choice(rt.alloc(), words) {
+        Ok(choice) => choice,
+        Err(fault) => {
+            return Ended {
+                status: refuse_words(rt, fault),
+                session: None,
+            };
+        }
+    };
+    let begun = session_in(rt, &choice);
+    serve_begun(rt, reader, writer, &choice, begun)
+}
+
+/// Runs the bench by the words of the command line, over standard input and standard output. It
+/// hands the session back, so that nothing was done to it since its shell ended.
+pub fn run_program(rt: &HostRuntime) -> Ended<FileDisk>
+    ensures served { IfSome result.session (λ after.
+        ServedBySomeWords as_disk result.status after) }
+    ensures unserved { IfNone result.session (IfOk result.status (λ code.
+        (exit_status code ≡ 2) ⊎ (exit_status code ≡ 3))) }
+{
     match given_words(rt) {
-        Ok(words) => run_words(rt, words.as_slice()),
-        Err(fault) => refuse_words(rt, fault),
+        Ok(words) => {
+            let (input, output) = (&mut rt.stdin(), &mut rt.stdout());
+            run_words(rt, words.as_slice(), input, output)
+        }
+        Err(fault) => Ended {
+            status: refuse_words(rt, fault),
+            session: None,
+        },
     }
 }

@@ -1,28 +1,97 @@
-use Rattle.std.proofs.Common.{Result, Ok, Err, IfOk, inr}
+use Rattle.std.proofs.Common.{◌≡◌, ◌⊎◌, ℕ, List, Option, Some, None, Result, Ok, Err, IfOk, IfSome, IfNone, IsSomeAnd, OnErr, inr, sym, ◌∙◌}
+use Rattle.std.specs.Process.{exit_status}
+use Rattle.std.specs.declared.process.ExitCode.{ExitCode}
+use Rattle.mcs_host.specs.CommandLine.{meant}
+use Rattle.mcs_host.specs.Ending.{as_disk}
+use Rattle.mcs_host.specs.FileDisk.{IsOpened}
+use Rattle.mcs_host.specs.declared.file_disk.FileDisk.{FileDisk}
+use Rattle.mcs_host.specs.declared.words.Choice.{Choice}
+use Rattle.mcs_session.specs.Standing.{SessionView}
+use Rattle.mcs_shell.specs.Program.{IsBegunOn, ServedAsChosen, ServedTo}
+use Rattle.mcs_shell.specs.Shell.{exit_status_of}
+use Rattle.mcs_shell.specs.Stage.{KnownBytes}
+use Rattle.mcs_shell.specs.declared.ends.ShellEnd.{ShellEnd}
+use Rattle.mcs_shell.specs.declared.ends.ShellEnd.TheVariants.{End, ReadFault, WriteFault, DeviceFault, InputLimit, NoMemory}
+use Rattle.mcs_shell.specs.declared.refusal.Refusal.{Refusal}
 use Rattle.mcs_shell.proofs.program.run_words.Goals as goal
 
-if_ok : {A E : Type 0} (r : Result A E) (P Q : A → Type 0) → ((a : A) → P a → Q a) → IfOk r P → IfOk r Q
-if_ok (Ok a) P Q f h = f a h
-if_ok (Err e) P Q f h = tt
+-- what a choice began was served to what is handed back
+abbrev pub Serves : {E : Type 0} → Result (SessionView FileDisk) Refusal → Option (SessionView FileDisk) → Result ExitCode E
+    → KnownBytes → KnownBytes → KnownBytes → KnownBytes → Type 0
+Serves begun session status reader reader' out out' = IfOk begun (λ before. IsSomeAnd session (λ after.
+    ServedTo as_disk status reader reader' out out' before after))
 
-pub returns-in-Ok-session_in-clause-status : goal.returns-in-Ok-session_in-clause-status
-returns-in-Ok-session_in-clause-status g c =
-    let found = c.in-Ok-session_in.ensures.begun in
-    if_ok c.serve.result _ _ (λ code ran. inr (inr (record {
-      choice = c.in-Ok.choice;
-      chosen_is = c.in-Ok.ensures.given;
+not_two : (end : ShellEnd) → exit_status_of end ≡ 2 → ⊥
+not_two End e = cc e
+not_two ReadFault e = cc e
+not_two WriteFault e = cc e
+not_two DeviceFault e = cc e
+not_two InputLimit e = cc e
+not_two NoMemory e = cc e
+
+usage_of : {E : Type 0} (begun : Result (SessionView FileDisk) Refusal) (session : Option (SessionView FileDisk)) (status : Result ExitCode E)
+    (reader reader' out out' : KnownBytes) (P : Type 0) → Serves begun session status reader reader' out out'
+    → OnErr begun (IfOk status (λ code. exit_status code ≡ 3))
+    → IfOk status (λ code. exit_status code ≡ 2 → P)
+usage_of begun session (Err e) reader reader' out out' P served refused = tt
+usage_of (Ok before) (Some after) (Ok code) reader reader' out out' P served refused =
+    λ two. absurd (not_two served.end (sym served.status_is ∙ two))
+usage_of (Ok before) None (Ok code) reader reader' out out' P served refused = absurd served
+usage_of (Err refusal) session (Ok code) reader reader' out out' P served refused =
+    λ two. let e : 3 ≡ 2 = sym refused ∙ two in absurd (cc e)
+
+served_as_chosen : {E : Type 0} (entered : Option (List ℕ × List ℕ)) (choice : Choice) (begun : Result (SessionView FileDisk) Refusal)
+    (session : Option (SessionView FileDisk)) (status : Result ExitCode E) (reader reader' out out' : KnownBytes)
+    → entered ≡ Some (meant choice)
+    → IfOk begun (λ before. (disk : FileDisk) × IsOpened (as_disk disk) × IsBegunOn as_disk choice disk before)
+    → Serves begun session status reader reader' out out' → OnErr begun (session ≡ None)
+    → IfSome session (λ after. ServedAsChosen as_disk entered status reader reader' out out' after)
+served_as_chosen entered choice (Ok before) (Some after) status reader reader' out out' is found served none =
+    record {
+      choice = choice;
+      chosen_is = is;
       disk = found.0;
       opened = found.1;
-      run = record {
-        end = ran.end;
-        reader = _;
-        reader' = _;
-        before = c.in-Ok-session_in.session;
-        after = c.serve.new.session;
-        out = _;
-        out' = _;
-        ran = ran.ran;
-      };
+      before = before;
       begun = found.2;
-      status_is = ran.status_is;
-    }))) c.serve.ensures.ran
+      served = served;
+    }
+served_as_chosen entered choice (Ok before) None status reader reader' out out' is found served none = tt
+served_as_chosen entered choice (Err refusal) (Some after) status reader reader' out out' is found served none = absurd (cc none)
+served_as_chosen entered choice (Err refusal) None status reader reader' out out' is found served none = tt
+
+unserved_of : {E : Type 0} (begun : Result (SessionView FileDisk) Refusal) (session : Option (SessionView FileDisk)) (status : Result ExitCode E)
+    (reader reader' out out' : KnownBytes) → Serves begun session status reader reader' out out'
+    → OnErr begun (IfOk status (λ code. exit_status code ≡ 3))
+    → IfNone session (IfOk status (λ code. (exit_status code ≡ 2) ⊎ (exit_status code ≡ 3)))
+unserved_of begun (Some after) status reader reader' out out' served refused = tt
+unserved_of begun None (Err e) reader reader' out out' served refused = tt
+unserved_of (Ok before) None (Ok code) reader reader' out out' served refused = absurd served
+unserved_of (Err refusal) None (Ok code) reader reader' out out' served refused = inr refused
+
+untouched_of : {E : Type 0} (begun : Result (SessionView FileDisk) Refusal) (session : Option (SessionView FileDisk)) (status : Result ExitCode E)
+    (reader reader' out out' : KnownBytes) (P : Type 0) → Serves begun session status reader reader' out out' → OnErr begun P → IfNone session P
+untouched_of begun (Some after) status reader reader' out out' P served same = tt
+untouched_of (Ok before) None status reader reader' out out' P served same = absurd served
+untouched_of (Err refusal) None status reader reader' out out' P served same = same
+
+pub returns-clause-usage : goal.returns-clause-usage
+returns-clause-usage g c =
+    usage_of c.session_in-begun.result c.serve_begun.result.session c.serve_begun.result.status _ _ _ _ _ c.serve_begun.ensures.served c.serve_begun.ensures.refused
+
+pub returns-clause-served : goal.returns-clause-served
+returns-clause-served g c =
+    served_as_chosen _ c.in-Ok.choice c.session_in-begun.result c.serve_begun.result.session c.serve_begun.result.status _ _ _ _
+    c.in-Ok.ensures.given c.session_in-begun.ensures.begun c.serve_begun.ensures.served c.serve_begun.ensures.unserved
+
+pub returns-clause-unserved : goal.returns-clause-unserved
+returns-clause-unserved g c =
+    unserved_of c.session_in-begun.result c.serve_begun.result.session c.serve_begun.result.status _ _ _ _ c.serve_begun.ensures.served c.serve_begun.ensures.refused
+
+pub returns-clause-unread : goal.returns-clause-unread
+returns-clause-unread g c =
+    untouched_of c.session_in-begun.result c.serve_begun.result.session c.serve_begun.result.status _ _ _ _ _ c.serve_begun.ensures.served c.serve_begun.ensures.unread
+
+pub returns-clause-unwritten : goal.returns-clause-unwritten
+returns-clause-unwritten g c =
+    untouched_of c.session_in-begun.result c.serve_begun.result.session c.serve_begun.result.status _ _ _ _ _ c.serve_begun.ensures.served c.serve_begun.ensures.unwritten

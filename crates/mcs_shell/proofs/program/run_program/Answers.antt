@@ -1,0 +1,17 @@
+use Rattle.std.proofs.Common.{Option, None, Some, IfSome}
+use Rattle.mcs_shell.proofs.program.run_program.Goals as goal
+
+if_some : {A : Type 0} (o : Option A) (P Q : A → Type 0) → ((a : A) → P a → Q a) → IfSome o P → IfSome o Q
+if_some (Some a) P Q f h = f a h
+if_some None P Q f h = tt
+
+pub returns-in-Ok-clause-served : goal.returns-in-Ok-clause-served
+returns-in-Ok-clause-served c =
+    if_some c.run_words.result.session _ _ (λ after served. record {
+      words = _;
+      reader = _;
+      reader' = _;
+      out = _;
+      out' = _;
+      served = served;
+    }) c.run_words.ensures.served
