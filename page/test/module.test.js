@@ -68,6 +68,19 @@ test("keys are pressed, time passes, and the display shows it", async () => {
   assert.equal(calls.advance(1000).file, frame.file);
 });
 
+test("a key goes down with the cycles that it came with, or when its time comes", async () => {
+  const { calls } = await begin(calculator);
+  const lampsOf = ({ look }) => / lamps (\S+)/.exec(look[0])[1];
+  const linesOf = ({ ran }) => ran.map(({ line }) => line);
+  const before = calls.advance(100000);
+  const frame = calls.advance(2000, "2 1");
+  assert.deepEqual(linesOf(frame), ["press 2 1", "run 2000"]);
+  assert.notEqual(lampsOf(frame), lampsOf(before));
+  calls.release("2 1");
+  assert.deepEqual(linesOf(calls.advance(3000, "2 2")), ["run 2000", "release 2 1", "run 1000"]);
+  assert.deepEqual(linesOf(calls.advance(3000)), ["run 1000", "press 2 2", "run 2000"]);
+});
+
 test("a breakpoint ends a frame, and what came after it is not done", async () => {
   const { calls } = await begin(calculator);
   await calls.serve("break 0x024\n");

@@ -1,7 +1,7 @@
 import assert from "node:assert/strict";
 import { test } from "node:test";
 import { Rate } from "../src/time/rate.js";
-import { MOST_DUE, REAL_CYCLES, RealTime } from "../src/time/real_time.js";
+import { MOST_AHEAD, MOST_DUE, REAL_CYCLES, RealTime } from "../src/time/real_time.js";
 import { wordsOfTime } from "../src/words.js";
 
 test("a second of frames is 92,593 cycles, whatever their length", () => {
@@ -36,6 +36,54 @@ test("a page that was held up or asleep stood still, though the clock of the fra
   assert.equal(time.skipGap(999, 999), null);
   assert.deepEqual(time.skipGap(1000, 8000), { gap: 7001, wasHidden: false });
   assert.equal(time.due(1000), 0);
+});
+
+/** The cycles of a second of frames, and of keys at some times, each with what it lends. */
+function cyclesOf(frame, keys) {
+  const time = new RealTime(0, 0);
+  const events = keys.map((now) => ({ now, ahead: MOST_AHEAD }));
+  for (let now = 0; now <= 1000; now += frame) events.push({ now, ahead: 0 });
+  events.push({ now: 1000.5, ahead: 0 });
+  let sum = 0;
+  for (const { now, ahead } of events.sort((one, other) => one.now - other.now)) {
+    const due = time.due(now, ahead);
+    assert.ok(due >= 0, `${due} at ${now}`);
+    sum += due;
+    assert.ok(sum <= ((now + MOST_AHEAD) / 1000) * REAL_CYCLES, `ahead of its time at ${now}`);
+    assert.ok(Math.abs(time.reached - (sum + Math.max(0, time.owed)) * (1000 / REAL_CYCLES)) < 0.001, `reached at ${now}`);
+  }
+  return sum;
+}
+
+test("a second has as many cycles with keys as without, and no moment is more than a frame ahead", () => {
+  for (const frame of [1000 / 60, 1000 / 144, 7, 100]) {
+    const sum = cyclesOf(frame, []);
+    for (const keys of [[3], [3, 4, 5], [100, 130, 160.5, 700], Array.from({ length: 500 }, (_, at) => 1.7 * at)]) {
+      assert.equal(cyclesOf(frame, keys), sum);
+    }
+  }
+});
+
+test("a key is served at once, and frames then wait until it is paid back", () => {
+  const time = new RealTime(0, 0);
+  assert.equal(time.due(10), 925);
+  assert.equal(time.due(15, MOST_AHEAD), 464 + 1543);
+  assert.equal(time.due(20), 0);
+  assert.equal(time.due(25), 0);
+  assert.equal(time.due(31.6), 0);
+  assert.equal(time.due(40), Math.floor(40 * REAL_CYCLES / 1000) - 925 - 464 - 1543);
+});
+
+test("what was lent is forgotten where time stands still", () => {
+  const time = new RealTime(0, 0);
+  assert.equal(time.due(0, MOST_AHEAD), 1543);
+  time.hide();
+  time.skipGap(1000, 1000);
+  assert.equal(time.reached, 1000);
+  assert.equal(time.due(1010), 925);
+  assert.equal(time.due(1010, MOST_AHEAD), 1544);
+  time.goOn(1011, 1011);
+  assert.equal(time.due(1021), 925);
 });
 
 test("the rate is told every half second", () => {

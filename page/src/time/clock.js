@@ -1,15 +1,16 @@
 // Time: in real time, or slower, each frame of the browser lets the cycles pass that are due; at full speed the worker goes on by itself.
 // But for full speed, a page that is hidden stands still, and so it does while the browser or the machine does not run the page at all.
+// In real time a key does not wait for the next frame: cycles are lent for it.
 
-import { LONG_GAP, REAL_CYCLES, RealTime } from "./real_time.js";
+import { LONG_GAP, MOST_AHEAD, REAL_CYCLES, RealTime } from "./real_time.js";
 import { REAL, isFollowed, keepsKeys } from "./speeds.js";
 
 /**
  * @typedef {import("./speeds.js").Speed} Speed
  *
- * What the clock calls: so many cycles are due; an instruction is due; full speed begins; time stood still for so many milliseconds; a
- * call failed.
- * @typedef {{ advance: (cycles: number) => Promise<void>, instruct: () => Promise<void>, runFull: () => Promise<void>,
+ * What the clock calls: so many cycles are due, perhaps with a key that goes down; an instruction is due; full speed begins; time stood
+ * still for so many milliseconds; a call failed.
+ * @typedef {{ advance: (cycles: number, key: string) => Promise<void>, instruct: () => Promise<void>, runFull: () => Promise<void>,
  *   stoodStill: (time: number, wasHidden: boolean) => void, failed: (fault: unknown) => void }} ClockCalls
  */
 
@@ -21,6 +22,8 @@ export class Clock {
     this.speed = REAL;
     /** Whether a call is under way. */
     this.isBusy = false;
+    /** Whether a key was pressed since that call began. */
+    this.isHurried = false;
     /** The frame that is asked for. */
     this.next = 0;
     this.time = new RealTime(0, 0);
@@ -42,7 +45,7 @@ export class Clock {
 
   /** The time up to which what is done counts, in milliseconds. */
   get now() {
-    return this.isFull ? performance.now() : this.time.before;
+    return this.isFull ? performance.now() : this.time.reached;
   }
 
   start() {
@@ -88,27 +91,53 @@ export class Clock {
     });
   }
 
-  /** A key was pressed or let go: it is not to wait for the next frame. */
-  hurry() {
-    if (this.isRunning && !this.isFull) this.frame(performance.now());
+  /**
+   * A key goes down: it does not wait for the next frame. Gives whether it went along with the cycles; else it is yet to be told, and
+   * where a call is under way, cycles follow at its end.
+   * @param {string} key
+   */
+  hurry(key) {
+    if (!this.isRunning || this.isFull || this.speed.byInstruction) return false;
+    this.isHurried = this.isBusy;
+    return this.frame(performance.now(), this.ahead, key);
   }
 
-  /** @param {number} now */
-  async frame(now) {
+  /** So many milliseconds are lent for a key. */
+  get ahead() {
+    return this.speed === REAL ? MOST_AHEAD : 0;
+  }
+
+  /**
+   * Lets the cycles pass that are due; gives whether there are any.
+   * @param {number} now
+   * @param {number} [ahead] so many milliseconds are lent
+   * @param {string} [key] goes down before them
+   */
+  frame(now, ahead = 0, key = "") {
     // Some browsers call a hidden page now and then. What is due while a call is under way is due at the next frame.
-    if (document.hidden || this.isBusy) return;
+    if (document.hidden || this.isBusy) return false;
     const skipped = this.time.skipGap(now, Date.now());
     if (skipped && skipped.gap >= LONG_GAP) this.calls.stoodStill(skipped.gap, skipped.wasHidden);
-    const due = this.time.due(now);
-    if (due === 0) return;
+    const due = this.time.due(now, ahead);
+    if (due > 0) this.pass(due, key);
+    return due > 0;
+  }
+
+  /**
+   * @param {number} due
+   * @param {string} key
+   */
+  async pass(due, key) {
     this.isBusy = true;
+    this.isHurried = false;
     try {
       if (this.speed.byInstruction) await this.calls.instruct();
-      else await this.calls.advance(due);
+      else await this.calls.advance(due, key);
     } catch (fault) {
       this.calls.failed(fault);
     } finally {
       this.isBusy = false;
     }
+    if (this.isHurried && this.isRunning && !this.isFull) this.frame(performance.now(), this.ahead);
   }
 }

@@ -1,9 +1,12 @@
-// Real time: how many cycles are due. What a page that is hidden, held up or asleep has missed is left out.
+// Real time: how many cycles are due. What a page that is hidden, held up or asleep has missed is left out. For a key cycles are lent: they
+// are done before their time, and owed less afterwards.
 
 /** The real chip does so many cycles a second. */
 export const REAL_CYCLES = 92593;
 /** A frame owes at most so many: what a slow browser has missed is left out. */
 export const MOST_DUE = 20000;
+/** So many milliseconds time may run ahead for a key: a frame of a screen that shows 60 a second, which is when lamps can follow. */
+export const MOST_AHEAD = 1000 / 60;
 /** Frames that are so many milliseconds apart: time stood still between them. */
 export const LONG_GAP = 1000;
 
@@ -17,13 +20,19 @@ export class RealTime {
     this.before = now;
     this.seen = wall;
     this.wasHidden = false;
+    /** The cycles that are owed; what was lent counts below 0. */
     this.owed = 0;
     /** How many cycles, or instructions, a second owes. */
     this.perSecond = REAL_CYCLES;
   }
 
+  /** The time up to which cycles were done, by the clock of the frames. */
+  get reached() {
+    return this.before + (Math.max(0, -this.owed) * 1000) / this.perSecond;
+  }
+
   /**
-   * The same from these times on.
+   * The same from these times on; what was lent is forgotten.
    * @param {number} now
    * @param {number} wall
    */
@@ -57,12 +66,14 @@ export class RealTime {
   /**
    * The cycles that are due at this time; they count as done.
    * @param {number} now
+   * @param {number} [ahead] so many milliseconds are lent
    */
-  due(now) {
+  due(now, ahead = 0) {
     this.owed += (Math.max(0, now - this.before) / 1000) * this.perSecond;
     this.before = Math.max(now, this.before);
-    const due = Math.min(MOST_DUE, Math.floor(this.owed));
-    this.owed = this.owed > MOST_DUE ? 0 : this.owed - due;
+    if (this.owed > MOST_DUE) this.owed = MOST_DUE;
+    const due = Math.max(0, Math.floor(this.owed + (ahead / 1000) * this.perSecond));
+    this.owed -= due;
     return due;
   }
 }

@@ -32,7 +32,7 @@ export class Running {
   makeClock() {
     const { page } = this;
     return new Clock({
-      advance: async (cycles) => this.ran(await page.bench.call("advance", [cycles])),
+      advance: async (cycles, key) => this.ran(await page.bench.call("advance", [cycles, key])),
       instruct: () => this.instruct(),
       runFull: () => page.bench.call("run", [document.hidden]),
       stoodStill: (time, wasHidden) => this.stoodStill(time, wasHidden),
@@ -198,7 +198,7 @@ export class Running {
   queue(word, place) {
     const { bench, current, recovery } = this.page;
     current.touch();
+    if (word === "press" && this.clock.hurry(place)) return;
     bench.call(word, [place]).catch((fault) => recovery.failed(fault));
-    if (word === "press") this.clock.hurry();
   }
 }

@@ -271,9 +271,11 @@ export class BenchCalls {
   /**
    * Lets so many cycles pass.
    * @param {number} cycles
+   * @param {string} [key] goes down before them, or when its time comes
    * @returns {Frame}
    */
-  advance(cycles) {
+  advance(cycles, key = "") {
+    if (key !== "") this.press(key);
     const { look, ...told } = this.session.advance(cycles);
     return { ...told, ...this.shown(look, false) };
   }
