@@ -1,4 +1,4 @@
-# The face of a board: what the comments of its text tell of names, colours and places. page/src/board/face.js reads the same; checks/faces has
+# The face of a board: what the comments of its text say of names, colours and places. page/src/board/face.js reads the same; checks/faces has
 # texts that both are tried with. Needs numbers.awk.
 #
 #     # title: Desk calculator      what the board is

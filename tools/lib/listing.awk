@@ -1,4 +1,4 @@
-# Prints the lines of a program with their addresses and bytes: reads what `map` tells of it and the bytes of all ROM (`known_map` and
+# Prints the lines of a program with their addresses and bytes: reads what `map` says of it and the bytes of all ROM (`known_map` and
 # `known_bytes`, see map_program in tool.sh), and then the program. Needs numbers.awk.
 
 FNR == 1 { file++ }

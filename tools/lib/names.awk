@@ -1,4 +1,4 @@
-# What the answer to `map` tells of a program: its lines, their addresses and bytes, and its names. Needs numbers.awk.
+# What the answer to `map` says of a program: its lines, their addresses and bytes, and its names. Needs numbers.awk.
 #
 # take_map(lines, n, source) fills, for i from 1 to map_count, map_at[i] and map_size[i]; name_value[name]; source_line[i], the lines of
 # the file `source`; and, for the names that are labels, is_label[name], label_at[address] (the first one there), and the addresses that
