@@ -6,6 +6,8 @@ import time
 ELEMENT = "element-6066-11e4-a52e-4f735466cecf"
 # Between one finger and the next.
 PAUSE = {"type": "pause", "duration": 10}
+# What every script may use: whether an element can be seen. The oldest browsers have no call for it.
+BEFORE_SCRIPTS = "const isShown = (element) => element.getClientRects().length > 0;\n"
 
 
 class Fault(Exception):

@@ -7,7 +7,7 @@ import socket
 import subprocess
 import time
 
-from driven import ELEMENT, Driven, Fault
+from driven import BEFORE_SCRIPTS, ELEMENT, Driven, Fault
 
 SECONDS_TO_START = 90
 SECONDS_TO_ANSWER = 120
@@ -81,7 +81,7 @@ class Firefox(Driven):
         self.do("WebDriver:Refresh")
 
     def script(self, code, *words):
-        return self.do("WebDriver:ExecuteScript", script=code, args=list(words))
+        return self.do("WebDriver:ExecuteScript", script=BEFORE_SCRIPTS + code, args=list(words))
 
     def find(self, selector):
         return self.do("WebDriver:FindElement", using="css selector", value=selector)[ELEMENT]

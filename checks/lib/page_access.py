@@ -198,7 +198,7 @@ const contrast = (one, other) => {
 };
 const PAPER = parts(getComputedStyle(document.body).backgroundColor);
 const groundOf = (node) => (node ? over(getComputedStyle(node).backgroundColor, groundOf(node.parentElement)) : PAPER);
-const isSeen = (each) => each.checkVisibility() && !each.closest(":disabled, .unseen, [aria-hidden=true]:not(#wiring-picture *), option");
+const isSeen = (each) => isShown(each) && !each.closest(":disabled, .unseen, [aria-hidden=true]:not(#wiring-picture *), option");
 const root = document.querySelector("dialog[open]") || document.body;
 const shown = (selector) => [...root.querySelectorAll(selector)].filter(isSeen);
 const faults = [];

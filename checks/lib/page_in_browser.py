@@ -24,8 +24,8 @@ ENTER, ESCAPE, TAB, DOWN = "\ue007", "\ue00c", "\ue004", "\ue015"
 
 # How many elements that can be used have no name for those who do not see the page.
 WITHOUT_NAMES = """
-return [...document.querySelectorAll("button, input, select, textarea")].filter((each) => !each.textContent.trim() && !each.ariaLabel
-  && !each.labels?.length && !each.getAttribute("aria-labelledby")).length"""
+return [...document.querySelectorAll("button, input, select, textarea")].filter((each) => !each.textContent.trim()
+  && !each.getAttribute("aria-label") && !each.labels?.length && !each.getAttribute("aria-labelledby")).length"""
 
 # Takes note of the kept session while the page is hidden and at the moment when it is shown again.
 WATCH_HIDDEN = """

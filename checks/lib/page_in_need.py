@@ -23,7 +23,7 @@ IDBObjectStore.prototype.put = () => { throw new DOMException("", "QuotaExceeded
 
 # The buttons and fields that can be seen.
 SHOWN_CONTROLS = """
-return [...document.querySelectorAll("button, input, select, textarea")].filter((each) => each.checkVisibility())
+return [...document.querySelectorAll("button, input, select, textarea")].filter(isShown)
   .map((each) => each.textContent)"""
 
 

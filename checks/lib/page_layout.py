@@ -36,7 +36,7 @@ def check(browser, page, _folder, _mcs4):
 # --- tabs and panels ---
 
 FRONT = "return document.querySelector('[role=tab][aria-selected=true]').id"
-SHOWN = "return [...document.querySelectorAll('[role=tabpanel]')].filter((each) => each.checkVisibility()).map((each) => each.id).join(' ')"
+SHOWN = "return [...document.querySelectorAll('[role=tabpanel]')].filter(isShown).map((each) => each.id).join(' ')"
 
 
 def check_tabs(browser):
@@ -55,7 +55,7 @@ def check_tabs(browser):
 
 def check_folds(browser):
     browser.click("#talk .fold")
-    folded = "return document.querySelector('#talk .fold').getAttribute('aria-expanded') + document.getElementById('log').checkVisibility()"
+    folded = "return document.querySelector('#talk .fold').getAttribute('aria-expanded') + isShown(document.getElementById('log'))"
     verdict("a panel folds", browser.script(folded), "falsefalse")
     show_text(browser, "board")
     browser.reload()
@@ -253,8 +253,8 @@ def check_refusals(browser):
 # --- for everyone ---
 
 NAMED = """
-return [...document.querySelectorAll(".ram button")].filter((each) => !/^[0-9A-F]$/.test(each.textContent) || each.ariaLabel
-  || !/bank \\d, chip \\d, register \\d, (character \\d+: SRC byte [0-9A-F]{2}|status character \\d)/.test(each.title)).length"""
+return [...document.querySelectorAll(".ram button")].filter((each) => !/^[0-9A-F]$/.test(each.textContent)
+  || each.getAttribute("aria-label") || !/bank \\d, chip \\d, register \\d, (character \\d+: SRC byte [0-9A-F]{2}|status character \\d)/.test(each.title)).length"""
 # What is said of itself while time runs: changes in places that are announced, in so many seconds.
 SAID = """
 window.said = 0;
@@ -309,7 +309,7 @@ const small = new Map();
 const walker = document.createTreeWalker(document.body, NodeFilter.SHOW_TEXT);
 for (let node = walker.nextNode(); node; node = walker.nextNode()) {
   const parent = node.parentElement;
-  if (!node.textContent.trim() || !parent.checkVisibility() || parent.closest("script, style, noscript")) continue;
+  if (!node.textContent.trim() || !isShown(parent) || parent.closest("script, style, noscript")) continue;
   const size = parseFloat(getComputedStyle(parent).fontSize);
   if (size < 11) small.set(`${parent.localName}.${parent.className} in ${parent.parentElement.id || parent.parentElement.className}`, size);
 }
@@ -376,7 +376,7 @@ def swipe_up(browser, x, y):
 
 MENU = """
 const [word, item] = ["menu-button", "save-session-button"].map((id) => document.getElementById(id));
-return `${word.getAttribute("aria-expanded")} ${item.checkVisibility()}`"""
+return `${word.getAttribute("aria-expanded")} ${isShown(item)}`"""
 
 
 def check_menu(browser):
@@ -388,7 +388,7 @@ def check_menu(browser):
     verdict("Escape shuts it", browser.script(MENU), "false false")
     browser.click("#menu-button")
     browser.click("#help-button")
-    verdict("what is chosen is done", browser.script("return document.getElementById('help').checkVisibility()"), True)
+    verdict("what is chosen is done", browser.script("return isShown(document.getElementById('help'))"), True)
     verdict("and the menu is shut", browser.script(MENU), "false false")
     browser.click("#help-close")
     browser.click("#menu-button")
@@ -453,7 +453,7 @@ def check_forced_colours(browser):
 
 
 PRINTED = """
-return [...document.querySelectorAll("#bench *")].filter((each) => each.checkVisibility() && each.matches("button:not(.fold), select, #log, "
+return [...document.querySelectorAll("#bench *")].filter((each) => isShown(each) && each.matches("button:not(.fold), select, #log, "
   + "textarea, .CodeMirror")).length"""
 
 
@@ -464,7 +464,7 @@ def check_print(browser):
     told = browser.text("#print")
     verdict("the source whole", "JMS" in told or "JUN" in told, True)
     verdict("and the board", board and "lamp = [" in told and "[[rom]]" in told, True)
-    verdict("lamps are printed", browser.script("return document.querySelector('.bulb').checkVisibility()"), True)
+    verdict("lamps are printed", browser.script("return isShown(document.querySelector('.bulb'))"), True)
     verdict("and no buttons, fields or editors", browser.script(PRINTED), 0)
     emulate(browser)
-    verdict("the page is as before", browser.script("return document.getElementById('texts').checkVisibility()"), True)
+    verdict("the page is as before", browser.script("return isShown(document.getElementById('texts'))"), True)

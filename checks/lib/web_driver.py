@@ -12,7 +12,14 @@ import time
 import urllib.error
 import urllib.request
 
-from driven import ELEMENT, Driven, Fault
+from driven import BEFORE_SCRIPTS, ELEMENT, Driven, Fault
+
+
+def free_port():
+    """A port that nothing listens at; drivers that are asked to choose one do not all say which."""
+    with socket.socket() as line:
+        line.bind(("127.0.0.1", 0))
+        return line.getsockname()[1]
 
 
 class WebDriver(Driven):
@@ -38,7 +45,7 @@ class WebDriver(Driven):
         self.do("POST", "/refresh", {})
 
     def script(self, code, *words):
-        return self.do("POST", "/execute/sync", {"script": code, "args": list(words)})
+        return self.do("POST", "/execute/sync", {"script": BEFORE_SCRIPTS + code, "args": list(words)})
 
     def find(self, selector):
         return self.do("POST", "/element", {"using": "css selector", "value": selector})[ELEMENT]
@@ -89,8 +96,11 @@ class Chromium(WebDriver):
     blocks_data = {"profile.default_content_setting_values.cookies": 2}
 
     def __init__(self, folder, downloads, flags=(), **settings):
-        self.driver = subprocess.Popen(["chromedriver", "--port=0"], stdout=subprocess.PIPE, stderr=subprocess.DEVNULL, text=True)
-        self.root = f"http://127.0.0.1:{self._port()}"
+        port = free_port()
+        self.root = f"http://127.0.0.1:{port}"
+        self.driver = subprocess.Popen(["chromedriver", f"--port={port}"], stdout=subprocess.PIPE, stderr=subprocess.DEVNULL, text=True)
+        if not any("started successfully" in line for line in self.driver.stdout):
+            raise Fault("chromedriver did not start")
         options = {
             "args": ["--headless=new", "--no-sandbox", "--disable-gpu", "--hide-scrollbars", "--window-size=1280,900",
                      f"--user-data-dir={folder}", *flags],
@@ -101,12 +111,6 @@ class Chromium(WebDriver):
         self.session = "/session/" + begun["sessionId"]
         self.version = begun["capabilities"]["browserVersion"]
 
-    def _port(self):
-        for line in self.driver.stdout:
-            if "started successfully on port" in line:
-                return int(line.rsplit(" ", 1)[1].strip(" .\n"))
-        raise Fault("chromedriver did not start")
-
     def command(self, name, **words):
         """A command of the browser's own protocol."""
         return self.do("POST", "/goog/cdp/execute", {"cmd": name, "params": words})
@@ -116,7 +120,7 @@ class Chromium(WebDriver):
 
 
 class WebKit(WebDriver):
-    """Debian's MiniBrowser of WebKitGTK. It has no headless mode: where there is no display, Xvfb is one."""
+    """Debian's MiniBrowser of WebKitGTK, or the one that MINIBROWSER names. It has no headless mode: Xvfb is its display."""
 
     name = "WebKit"
     # No setting of it blocks the data of sites.
@@ -134,7 +138,7 @@ class WebKit(WebDriver):
         self.world = dict(os.environ, HOME=str(home), XDG_CONFIG_HOME=str(home), XDG_RUNTIME_DIR=str(home), GDK_BACKEND="x11",
                           WEBKIT_DISABLE_COMPOSITING_MODE="1", WEBKIT_DISABLE_SANDBOX_THIS_IS_DANGEROUS="1")
         self.world["DISPLAY"] = self._display()
-        port = self._free_port()
+        port = free_port()
         self.root = f"http://127.0.0.1:{port}"
         self.driver = subprocess.Popen(["WebKitWebDriver", f"--port={port}"], env=self.world, stdout=subprocess.DEVNULL,
                                        stderr=subprocess.DEVNULL)
@@ -152,14 +156,8 @@ class WebKit(WebDriver):
             raise Fault("Xvfb did not start")
         return f":{number}"
 
-    @staticmethod
-    def _free_port():
-        with socket.socket() as line:
-            line.bind(("127.0.0.1", 0))
-            return line.getsockname()[1]
-
     def _begin(self):
-        browser = glob.glob("/usr/lib/*/webkit2gtk-4.*/MiniBrowser")[0]
+        browser = os.environ.get("MINIBROWSER") or glob.glob("/usr/lib/*/webkit2gtk-4.*/MiniBrowser")[0]
         options = {"binary": browser, "args": ["--automation"]}
         asked = {"capabilities": {"alwaysMatch": {"browserName": "MiniBrowser", "webkitgtk:browserOptions": options}}}
         end = time.monotonic() + 60
