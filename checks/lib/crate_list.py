@@ -1,5 +1,5 @@
 #!/usr/bin/env python3
-"""Prints crates/README.md, a table of the crates, from crates.txt and the first sentence of each crate: `checks/lib/crate_list.py > crates/README.md`."""
+"""Prints crates/README.md, a list of the crates, from crates.txt and the first sentence of each crate: `checks/lib/crate_list.py > crates/README.md`."""
 
 import pathlib
 import re
@@ -7,8 +7,8 @@ import re
 TOP = pathlib.Path(__file__).resolve().parent.parent.parent
 HEAD = """# Crates
 
-Made from `crates.txt` by `checks/lib/crate_list.py`; lowest first, each crate above what it uses.
-What a crate has in it, and where to change what, is in [docs/MAP.md](../docs/MAP.md).
+Made from [crates.txt](../crates.txt), which has what each crate uses, by `checks/lib/crate_list.py`;
+lowest first. What a crate has in it, and where to change what, is in [docs/MAP.md](../docs/MAP.md).
 """
 
 
@@ -21,21 +21,16 @@ def first_sentence(crate):
 
 
 def crate_list():
-    """The whole text: for each heading of crates.txt a table of its crates."""
+    """The whole text: for each heading of crates.txt a list of its crates."""
     lines = [HEAD.rstrip("\n")]
-    crates = set()
     # The first two lines say how crates.txt is read.
     for line in (TOP / "crates.txt").read_text().splitlines()[2:]:
         if line.startswith("# "):
-            lines += ["", f"## {line[2:].capitalize()}", "", "| Crate | Is | Uses |", "|---|---|---|"]
+            lines += ["", f"## {line[2:].capitalize()}", ""]
         elif ":" in line:
-            name, used = line.split(":")
-            crate = name.split()[0]
-            crates.add(crate)
-            own = [word for word in used.split() if word in crates]
-            kit = [f"*{word}*" for word in used.split() if word not in crates]
-            lines.append(f"| [{crate}]({crate}/src) | {first_sentence(crate)} | {', '.join(own + kit) or 'nothing'} |")
-    return "\n".join([*lines, "", "*Slanted*: libraries of the kit.", ""])
+            crate = line.split()[0].rstrip(":")
+            lines.append(f"- [{crate}]({crate}/src): {first_sentence(crate)}")
+    return "\n".join([*lines, ""])
 
 
 if __name__ == "__main__":

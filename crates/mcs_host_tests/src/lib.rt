@@ -8,4 +8,6 @@ mod files;
 #[cfg(test)]
 mod sessions;
 #[cfg(test)]
+mod slots;
+#[cfg(test)]
 mod tests;

@@ -16,7 +16,7 @@ const ANSWERS: &[u8] =
     b"session 0\nok 1\nseq 1\nacc 0 cy 0 pc 000 owed 0 dcl 0 test 1 r 0000090000000000 ret 000 000 000\n";
 
 /// What the program is to do by a word of the command line with a file.
-fn chosen(alloc: Global, word: &str, path: &str) -> Option<Choice> {
+pub(crate) fn chosen(alloc: Global, word: &str, path: &str) -> Option<Choice> {
     choice(alloc, &["mcs4", word, path]).ok()
 }
 
@@ -29,7 +29,11 @@ fn begun(rt: &HostRuntime, choice: &Choice) -> Result<Session<FileDisk>, u8> {
 }
 
 /// The session of a word with a file, or the number that it is refused by: 0 where the words choose none.
-fn session_of(rt: &HostRuntime, word: &str, path: &str) -> Result<Session<FileDisk>, u8> {
+pub(crate) fn session_of(
+    rt: &HostRuntime,
+    word: &str,
+    path: &str,
+) -> Result<Session<FileDisk>, u8> {
     match chosen(rt.alloc(), word, path) {
         Some(choice) => begun(rt, &choice),
         None => Err(0),
@@ -42,7 +46,7 @@ fn seq_of(session: &Session<FileDisk>) -> u32 {
 }
 
 /// The count of the commands of the session of a word with a file, or the number that it is refused by.
-fn count_of(rt: &HostRuntime, word: &str, path: &str) -> Result<u32, u8> {
+pub(crate) fn count_of(rt: &HostRuntime, word: &str, path: &str) -> Result<u32, u8> {
     match session_of(rt, word, path) {
         Ok(session) => Ok(seq_of(&session)),
         Err(number) => Err(number),
@@ -50,7 +54,10 @@ fn count_of(rt: &HostRuntime, word: &str, path: &str) -> Result<u32, u8> {
 }
 
 /// A session that was not refused.
-fn accepted(rt: &impl Abort, session: Result<Session<FileDisk>, u8>) -> Session<FileDisk> {
+pub(crate) fn accepted(
+    rt: &impl Abort,
+    session: Result<Session<FileDisk>, u8>,
+) -> Session<FileDisk> {
     match session {
         Ok(session) => session,
         Err(number) => panic!(rt; "refused by {number}"),
@@ -58,14 +65,18 @@ fn accepted(rt: &impl Abort, session: Result<Session<FileDisk>, u8>) -> Session<
 }
 
 /// How the shell of a session ends over a script, and what it answers.
-fn serve(alloc: Global, mut script: &[u8], session: &mut Session<FileDisk>) -> (ShellEnd, Vec<u8>) {
+pub(crate) fn serve(
+    alloc: Global,
+    mut script: &[u8],
+    session: &mut Session<FileDisk>,
+) -> (ShellEnd, Vec<u8>) {
     let mut writer = Vec::new(alloc);
     let end = run_shell(alloc, &mut script, &mut writer, session);
     (end, writer)
 }
 
 /// The session answers a script so, and its shell comes to the end of input.
-fn expect_answers(
+pub(crate) fn expect_answers(
     rt: &impl Abort,
     alloc: Global,
     session: &mut Session<FileDisk>,
@@ -121,12 +132,12 @@ fn changed(rt: &impl Abort, alloc: Global, made: &[u8], (at, size, _): Change) -
     bytes
 }
 
-/// How a file of these bytes is refused, if it is written first, and is as it was then.
-fn refusal_of(rt: &HostRuntime, path: &str, bytes: &[u8]) -> Option<Result<u32, u8>> {
+/// How a word with a file of these bytes is refused, if it is written first, and is as it was then.
+fn refusal_of(rt: &HostRuntime, word: &str, path: &str, bytes: &[u8]) -> Option<Result<u32, u8>> {
     if !write(rt, path, bytes) {
         return None;
     }
-    let count = count_of(rt, "open", path);
+    let count = count_of(rt, word, path);
     match read(rt, path) {
         Some(left) if left.as_slice() == bytes => Some(count),
         _ => None,
@@ -141,8 +152,24 @@ fn files_that_hold_no_session(rt: HostRuntime) {
     let made = read(&rt, path).expect(&rt, "a file");
     for change in CHANGES.iter() {
         let file = changed(&rt, rt.alloc(), made.as_slice(), *change);
-        let refusal = refusal_of(&rt, path, file.as_slice());
+        let refusal = refusal_of(&rt, "open", path, file.as_slice());
         equal(&rt, refusal, Some(Err(change.2)));
+    }
+    equal(&rt, remove(&rt, path), true);
+}
+
+/// How many bytes of a session a file has on which `new` is refused.
+const KEPT: [usize; 4] = [163_856, 163_855, 9, 1];
+
+#[test]
+fn new_leaves_a_file_that_is_there(rt: HostRuntime) {
+    let path = "new_leaves_a_file_that_is_there.mcs";
+    let _ = remove(&rt, path);
+    equal(&rt, count_of(&rt, "new", path), Ok(0));
+    let made = read(&rt, path).expect(&rt, "a file");
+    for size in KEPT {
+        let file = &made[..size.min(made.len())];
+        equal(&rt, refusal_of(&rt, "new", path, file), Some(Err(55)));
     }
     equal(&rt, remove(&rt, path), true);
 }
