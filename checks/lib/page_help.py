@@ -114,7 +114,7 @@ def check_tour(browser):
 
 def check_hints(browser):
     titles = "return [...document.querySelectorAll('#processor [title], #ports [title]')].map((each) => each.title).join('; ')"
-    for words in ("the accumulator", "its second cycle is still owed", "the return addresses, the newest first", "what WRR has written"):
+    for words in ("the accumulator", "in the middle of an instruction of two cycles", "the return addresses, the newest first", "what WRR has written"):
         comes(browser, f"a cell says what it shows: {words}", titles, re.compile(words))
 
 

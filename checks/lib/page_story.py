@@ -11,7 +11,7 @@ from page_names import MARGIN, SOURCE_TOLD
 from page_texts import ASKED, NAME, PROGRAM_TEXT, TEXTS, kept_download
 from verdicts import comes, verdict
 
-CONTROL, BACKSPACE, END, UP = "\ue009", "\ue003", "\ue010", "\ue013"
+CONTROL, BACKSPACE, END, HOME, UP = "\ue009", "\ue003", "\ue010", "\ue011", "\ue013"
 F8, F9, F11 = "\ue038", "\ue039", "\ue03b"
 LAMPS = "return [...document.querySelectorAll('.bulb')].map((each) => (each.classList.contains('lit') ? '*' : '.')).join('')"
 KEYS_DOWN = "return [...document.querySelectorAll(\"#keys [aria-pressed='true']\")].map((each) => each.textContent).join(' ')"
@@ -49,7 +49,8 @@ def choose_by_keyboard(browser, name):
 
 
 def go_to_source(browser):
-    browser.script("document.getElementById('program-tab').focus()")
+    browser.script("document.querySelector('#text-tabs [aria-selected=true]').focus()")
+    browser.keys([HOME], 5, 5)
     go_by_tab(browser, "the source", IN_SOURCE)
 
 

@@ -71,17 +71,17 @@ async function startBench(examples) {
 
 /** @param {Page} page */
 function listenToButtons(page) {
-  const runOrStop = () => page.runOrStop();
+  const { recovery, running, serving, travel } = page;
+  const runOrStop = () => running.runOrStop();
   onClick(button("run"), runOrStop);
-  onClick(button("step"), () => page.step());
-  onClick(button("reset"), () => page.act("reset\n"));
-  onClick(button("test"), () => page.act(`test ${page.machine.test.isOn ? 0 : 1}\n`));
+  onClick(button("step"), () => running.step());
+  onClick(button("reset"), () => serving.act("reset\n"));
+  onClick(button("test"), () => serving.act(`test ${page.machine.test.isOn ? 0 : 1}\n`));
   onClick(button("from-rom"), () => page.texts.takeFromRom());
-  onClick(button("share-button"), () => page.sharing.share().catch((fault) => page.failed(fault)));
+  onClick(button("share-button"), () => page.sharing.share().catch((fault) => recovery.failed(fault)));
   listenToChoices(page);
-  const { travel } = page;
   new Stepping({
-    into: () => page.step(), goOn: (goal) => travel.goOn(goal), goBack: (goal) => travel.goBack(goal), runOrStop, isClosed: isDialogOpen,
+    into: () => running.step(), goOn: (goal) => travel.goOn(goal), goBack: (goal) => travel.goBack(goal), runOrStop, isClosed: isDialogOpen,
   });
 }
 
@@ -90,11 +90,11 @@ function listenToChoices(page) {
   const speed = byId("speed", HTMLSelectElement);
   const typing = field("typing");
   const show = () => {
-    speed.value = page.clock.speed.id;
+    speed.value = page.running.clock.speed.id;
     typing.checked = page.types;
   };
   speed.replaceChildren(...SPEEDS.map(({ id, words }) => element("option", { value: id }, words)));
-  speed.addEventListener("change", () => page.setSpeed(speedOf(speed.value)).catch((fault) => page.failed(fault)));
+  speed.addEventListener("change", () => page.running.setSpeed(speedOf(speed.value)).catch((fault) => page.recovery.failed(fault)));
   typing.addEventListener("change", () => {
     page.types = typing.checked;
   });
@@ -108,8 +108,8 @@ function listenToChoices(page) {
  * @param {Page} page
  */
 function listenToLeaving(page) {
-  document.addEventListener("visibilitychange", () => page.setHidden(document.hidden));
-  addEventListener("pagehide", () => page.session && page.session.keepNow());
+  document.addEventListener("visibilitychange", () => page.running.setHidden(document.hidden));
+  addEventListener("pagehide", () => page.current.keepNow());
   addEventListener("beforeunload", (event) => {
     if (!page.store.keeps) event.preventDefault();
   });
@@ -117,9 +117,9 @@ function listenToLeaving(page) {
   addEventListener("error", (event) => {
     // Browsers tell so that what was measured is shown a frame later; nothing fails.
     if (!event.error && /^ResizeObserver loop/.test(event.message)) return;
-    page.failed(event.error || event.message);
+    page.recovery.failed(event.error || event.message);
   });
-  addEventListener("unhandledrejection", (event) => page.failed(event.reason));
+  addEventListener("unhandledrejection", (event) => page.recovery.failed(event.reason));
   addEventListener("hashchange", () => page.desk.follow());
 }
 

@@ -116,7 +116,7 @@ function run_block(most,    at, byte, turns, i, to, register) {
     }
     run_and_look(turns * path_cycles)
     if (stop != "end" || took != turns * path_cycles || now["owed"] != "0" || (path_end >= 0 && hex_number(now["pc"]) != path_end)) {
-        die(sprintf("the bench went another way than the listing tells, at %03X: %s, counter %s", at, reply, now["pc"]))
+        die(sprintf("the bench went another way than the listing shows, at %03X: %s, counter %s", at, reply, now["pc"]))
     }
     to = elapsed - took
     for (i = 1; i < path_count; i++) {

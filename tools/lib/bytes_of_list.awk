@@ -22,7 +22,7 @@ END {
     }
     for (at = first; at < first + count; at++) {
         if (!(at in byte)) {
-            printf "rom: no answer tells the byte at %03X; tools/rom ask makes the questions\n", at | "cat 1>&2"
+            printf "rom: no answer shows the byte at %03X; tools/rom ask makes the questions\n", at | "cat 1>&2"
             close("cat 1>&2")
             exit 1
         }

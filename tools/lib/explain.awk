@@ -7,7 +7,7 @@ BEGIN {
     read_answers(ENVIRON["answers"])
     wrong = match_answers()
     if (wrong != "") {
-        print "the answers are none of this script: " wrong
+        print "these are not the answers to this script: " wrong
         exit 2
     }
     if (ENVIRON["with_source"] == 1) take_known_map()

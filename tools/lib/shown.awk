@@ -11,7 +11,7 @@ BEGIN {
     if (face_faults != "") {
         sub(/\n.*/, "", face_faults)
         tell(ENVIRON["board_name"] ": " face_faults)
-    } else if (!display_count) tell(ENVIRON["board_name"] " tells of no display: a comment `# display 0: 4 digits` does")
+    } else if (!display_count) tell(ENVIRON["board_name"] " has no display: a comment `# display 0: 4 digits` makes one")
     needed = 0
     for (d = 1; d <= display_count; d++) if (display_end(d) > needed) needed = display_end(d)
 }
@@ -29,6 +29,6 @@ $1 == "lamps" {
 }
 
 END {
-    if (!failed && !shown) tell("no answer tells the lamps")
+    if (!failed && !shown) tell("no answer shows the lamps")
     exit failed
 }

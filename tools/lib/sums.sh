@@ -3,7 +3,7 @@
 # shellcheck shell=sh disable=SC2034
 
 if ! command -v sha256sum > /dev/null; then
-    echo "${0##*/}: there is no sha256sum (Debian's package coreutils), so what the program was built from cannot be told" >&2
+    echo "${0##*/}: there is no sha256sum (Debian's package coreutils), so it cannot be known what the program was built from" >&2
     exit 1
 fi
 

@@ -171,7 +171,7 @@ explain_text() {
 
 # Tells each refusal among the answers to a script, and the lines that were not answered. With a third word, which names a file, the
 # first refusal alone is told, and its line is that of a text which is this file. The status is 1 where there is anything to tell, 2
-# where the answers are none of this script. Where `with_source` is 1 (know_source), addresses are told with their names and lines, too.
+# where these are not the answers to this script. Where `with_source` is 1 (know_source), addresses are told with their names and lines, too.
 explain_script() {
     script=$1 answers=$2 folder=$folder text_name=${3-} text_before=${text_before:-0} board_fault="$lib/board_fault.awk" \
         awk -f "$lib/refusals.awk" -f "$lib/numbers.awk" -f "$lib/inputs.awk" -f "$lib/names.awk" -f "$lib/explain.awk" < /dev/null

@@ -22,13 +22,13 @@ export class Guide {
     this.page = page;
     this.help = new HelpView(manual);
     this.lines = new LinesView(linesOfBench(manual), {
-      send: (lines) => page.send(lines),
+      send: (lines) => page.serving.send(lines),
       wordsOf: (answer) => page.log.wordsOf(answer),
       help: (wanted) => this.help.open(wanted),
     });
     this.tour = new TourView({ begin: (example) => this.beginTour(example), put: (program) => this.put(program) });
     page.machine.watcher = this.tour;
-    page.ended = (answer) => this.ended(answer);
+    page.running.ended = (answer) => this.ended(answer);
     page.layout.tabs.whenShown("wiring", () => page.machine.wiring.setShown(true));
     for (const name of ["program", "board"]) page.layout.tabs.whenShown(name, () => page.machine.wiring.setShown(false));
     page.machine.wiring.setShown(page.layout.tabs.shown === "wiring");
@@ -65,7 +65,7 @@ export class Guide {
 
   /** @param {import("../worker/examples.js").Example} example */
   async beginTour(example) {
-    const isDone = await this.page.begin(example);
+    const isDone = await this.page.desk.begin(example);
     if (isDone) this.help.close();
     if (isDone) this.page.layout.tabs.choose("program");
     return isDone;

@@ -17,7 +17,7 @@ export class CyclesView {
     this.sinceStop = new Cell(element("b"));
     this.markWord = new Cell(element("span"));
     this.marked = new Cell(element("b"));
-    const title = "marks this cycle; a second press tells how many cycles lie between";
+    const title = "marks this cycle; a second press shows how many cycles lie between";
     const mark = element("button", { id: "mark", type: "button", title }, "Mark");
     onClick(mark, () => {
       this.cycles.mark();

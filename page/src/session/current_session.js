@@ -1,0 +1,125 @@
+// The session that is shown: another one is shown in its place, it is kept, and its name stands where names stand.
+
+import { field, block } from "../dom.js";
+import { NONE } from "../time/cycles.js";
+import { addressOf } from "./address.js";
+import { KeptSession } from "./kept_session.js";
+
+/**
+ * @typedef {import("./locks.js").Release} Release
+ * @typedef {import("../page.js").Page} Page
+ * @typedef {import("../bench/protocol.js").Shown} Shown
+ * @typedef {import("./store.js").SessionRecord} SessionRecord
+ */
+
+export class CurrentSession {
+  /** @param {Page} page */
+  constructor(page) {
+    this.page = page;
+    /** @type {KeptSession | null} */
+    this.session = null;
+    /** When it was kept last. */
+    this.kept = 0;
+  }
+
+  /**
+   * Shows a session in the place of the one that is here, which stays where the new one is refused.
+   * @param {SessionRecord} record
+   * @param {Release} release
+   * @param {string} example where nothing was done yet in a session of an example, its name
+   */
+  async use(record, release, example) {
+    const { bench, running, store } = this.page;
+    await bench.call("settled", [record.file]);
+    const old = this.session;
+    if (old) await this.leave();
+    const shown = await this.open(record);
+    if (old) old.release();
+    this.session = new KeptSession(store, record, release, example);
+    this.page.begin(record);
+    this.page.show(shown);
+    this.showName();
+    block("bench").hidden = false;
+    block("session-bar").hidden = false;
+    this.page.checkSource();
+    await this.keep();
+    if (record.runs) running.run();
+    else running.halted("Stopped.");
+  }
+
+  /** Keeps the session that is left. Whether its time runs stays in its record, so that it goes on when it is come back to. */
+  async leave() {
+    await this.page.running.standStill();
+    await this.keep();
+  }
+
+  /**
+   * @param {SessionRecord} record
+   * @returns {Promise<Shown>}
+   */
+  async open(record) {
+    try {
+      return await this.callOpen(record);
+    } catch (fault) {
+      if (this.session) this.page.running.halted("Stopped.");
+      throw fault;
+    }
+  }
+
+  /**
+   * @param {SessionRecord} record
+   * @returns {Promise<Shown>}
+   */
+  callOpen({ file, cycles = NONE }) {
+    return this.page.bench.call("open", [file, cycles.total, cycles.reset]);
+  }
+
+  get name() {
+    return this.session ? this.session.record.name : "";
+  }
+
+  /** Its name stands in its field and in the title of the tab; its address is the one of this session, or of the example that it is yet. */
+  showName() {
+    if (!this.session) return;
+    const { record, example } = this.session;
+    field("name").value = record.name;
+    document.title = `${record.name} - Fethsaim`;
+    location.replace(example ? addressOf("example", example) : addressOf("session", record.id));
+  }
+
+  /** @param {string} name */
+  async rename(name) {
+    if (!this.session) return;
+    this.session.record.name = name.trim() || "session";
+    this.touch();
+    this.showName();
+    await this.keep();
+  }
+
+  /** Something is done in it: from here on it is kept. */
+  touch() {
+    if (!this.session) return;
+    this.page.desk.touched();
+    if (!this.session.touch()) return;
+    this.showName();
+    this.keep();
+  }
+
+  /** Writes it to the store; what time has done is in the log once that is through. */
+  async keep() {
+    if (!this.session) return "";
+    const { log, notice } = this.page;
+    this.kept = performance.now();
+    const ran = log.take();
+    const fault = await this.session.keep();
+    log.showRan(ran, fault);
+    if (fault) notice.show(`This session is not kept: ${fault}. It is still in this page; save it to a file.`, "kept");
+    else notice.hide("kept");
+    return fault;
+  }
+
+  /** The same for a page that is just going away. */
+  keepNow() {
+    if (this.session) this.session.keepNow();
+  }
+}

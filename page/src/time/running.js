@@ -1,0 +1,204 @@
+// Time that runs: by the clock or at full speed, up to a stop, and what is told of it.
+
+import { isStop, readRun, refusalOf } from "../bench/answers.js";
+import { Cell, block, button } from "../dom.js";
+import { wordsOfTime } from "../words.js";
+import { Clock } from "./clock.js";
+import { Rate } from "./rate.js";
+import { REASONS } from "./reached.js";
+
+/**
+ * @typedef {import("../bench/protocol.js").Frame} Frame
+ * @typedef {import("../page.js").Page} Page
+ * @typedef {import("./speeds.js").Speed} Speed
+ */
+
+/** How often the session is kept while time runs. */
+const KEEP_TIME = 1000;
+
+export class Running {
+  /** @param {Page} page */
+  constructor(page) {
+    this.page = page;
+    /** @type {(answer: string) => void} a run has ended early */
+    this.ended = () => {};
+    this.rate = new Rate(0);
+    this.clock = this.makeClock();
+    this.status = new Cell(block("status"));
+    this.rateTold = new Cell(block("rate"));
+    this.runWord = new Cell(button("run"));
+  }
+
+  makeClock() {
+    const { page } = this;
+    return new Clock({
+      advance: async (cycles, key) => this.ran(await page.bench.call("advance", [cycles, key])),
+      instruct: () => this.instruct(),
+      runFull: () => page.bench.call("run", [document.hidden]),
+      stoodStill: (time, wasHidden) => this.stoodStill(time, wasHidden),
+      failed: (fault) => page.recovery.failed(fault),
+    });
+  }
+
+  /** Whether time runs so fast that single lines cannot be followed. */
+  get isFast() {
+    return this.clock.isRunning && !this.clock.isSlow;
+  }
+
+  /** @param {string} words what the status says */
+  tell(words) {
+    this.status.set(words);
+  }
+
+  /** The rate is measured from here on. */
+  beginRate() {
+    this.rate = new Rate(this.clock.now);
+    this.showRate();
+  }
+
+  showRate() {
+    const rate = Math.round(this.rate.told);
+    this.rateTold.set(this.clock.isRunning && rate > 0 ? `${rate.toLocaleString("en")} cycles a second` : "");
+  }
+
+  run() {
+    const { bench, current } = this.page;
+    if (!current.session || this.clock.isRunning) return;
+    current.session.record.runs = true;
+    this.runWord.set("Stop");
+    this.tell("Time runs.");
+    this.clock.start();
+    this.beginRate();
+    bench.isRunning = this.clock.isFull;
+    current.keep();
+  }
+
+  /** By the button. */
+  runOrStop() {
+    this.page.current.touch();
+    if (this.clock.isRunning) this.stop();
+    else this.run();
+  }
+
+  /** @param {Speed} speed */
+  async setSpeed(speed) {
+    const { bench, machine } = this.page;
+    if (!speed.isFull && this.clock.isFull && this.clock.isRunning) this.ran(await bench.call("halt", []));
+    this.clock.setSpeed(speed);
+    this.beginRate();
+    bench.isRunning = speed.isFull && this.clock.isRunning;
+    machine.showListing();
+  }
+
+  /** One instruction of the time that runs: breakpoints and watches stop it, as any run. */
+  async instruct() {
+    const { bench, machine } = this.page;
+    this.ran(await bench.call("advance", [1]));
+    const { registers } = machine.reader;
+    if (this.clock.isRunning && registers && registers.owed === "1") this.ran(await bench.call("advance", [1]));
+  }
+
+  /** @param {boolean} isHidden */
+  setHidden(isHidden) {
+    const { bench, current, recovery } = this.page;
+    if (isHidden) this.clock.hide();
+    if (this.clock.isFull && this.clock.isRunning) bench.call("pace", [isHidden]).catch((fault) => recovery.failed(fault));
+    if (isHidden) current.keepNow();
+  }
+
+  /**
+   * Time stood still for so many milliseconds, and runs on.
+   * @param {number} time
+   * @param {boolean} wasHidden
+   */
+  stoodStill(time, wasHidden) {
+    this.beginRate();
+    this.tell(`Time runs. It stood still for ${wordsOfTime(time)} ${wasHidden ? "while hidden" : "while the page was held up"}.`);
+  }
+
+  /**
+   * Time stands still from here on; the words tell why.
+   * @param {string} words
+   */
+  halted(words) {
+    const { bench, current, machine } = this.page;
+    this.clock.stop();
+    bench.isRunning = false;
+    if (current.session) current.session.record.runs = false;
+    this.runWord.set("Run");
+    this.tell(words);
+    this.showRate();
+    machine.showRest();
+    machine.showListing();
+  }
+
+  /** Lets no more time pass, and takes what it has done. */
+  async standStill() {
+    if (!this.clock.isRunning) return;
+    this.clock.stop();
+    this.page.bench.isRunning = false;
+    this.ran(await this.page.bench.call("halt", []));
+  }
+
+  /** Stops time, and keeps what it has done. */
+  async stop() {
+    const { current, recovery } = this.page;
+    try {
+      await this.standStill();
+    } catch (fault) {
+      recovery.failed(fault);
+      return;
+    }
+    // A breakpoint may have come first.
+    if (current.session && current.session.record.runs) this.halted("Stopped.");
+    await current.keep();
+  }
+
+  /**
+   * Time has done something.
+   * @param {Frame} frame
+   */
+  ran(frame) {
+    const { current, log } = this.page;
+    const isNewRate = this.rate.add(frame.cycles, this.clock.now);
+    log.collect(frame.ran);
+    if (frame.end) this.clock.stop();
+    this.page.show(frame, true);
+    if (frame.end) {
+      this.halted(this.reasonOf(frame.end));
+      this.ended(frame.end);
+      current.keep();
+      return;
+    }
+    if (isNewRate || !this.clock.isRunning) this.showRate();
+    // A key that was pressed is kept at once. A page that is hidden is told once a second.
+    if (frame.changesKeys || document.hidden || performance.now() - current.kept >= KEEP_TIME) current.keep();
+  }
+
+  /** @param {string} answer that ended a run */
+  reasonOf(answer) {
+    const { machine, words } = this.page;
+    const run = readRun(answer);
+    const refusal = refusalOf(answer);
+    if (refusal) return `Stopped: ${answer}: ${words.ofRefusal(refusal.number)}.`;
+    return `Stopped at ${machine.counter}, ${run ? REASONS[run.end] || run.end : answer}.`;
+  }
+
+  async step() {
+    if (this.clock.isRunning) await this.stop();
+    const answer = await this.page.serving.act("step\n");
+    if (answer !== null) this.tell(isStop(answer) ? this.reasonOf(answer) : "One instruction was done.");
+  }
+
+  /**
+   * A change of a key for the time that runs.
+   * @param {"press" | "release" | "forget"} word
+   * @param {string} place
+   */
+  queue(word, place) {
+    const { bench, current, recovery } = this.page;
+    current.touch();
+    if (word === "press" && this.clock.hurry(place)) return;
+    bench.call(word, [place]).catch((fault) => recovery.failed(fault));
+  }
+}
