@@ -29,12 +29,21 @@ test("a wire goes from what drives a line, or is read at it, to what uses it", (
 });
 
 test("the words of a part say what its lines do", () => {
-  const { parts } = drawBoard(readBoard(BOARD), { names: ["red"], colours: ["green"] });
+  const { parts } = drawBoard(readBoard(BOARD), { names: ["red"], colours: ["green"], test: null });
   const says = (id) => parts.find((part) => part.id === id).says;
   assert.deepEqual(says("rom 0").slice(0, 2), ["line rom0.0, an output, clocks chain 0", "line rom0.1, an output, is the data of chain 0"]);
   assert.equal(says("rom 1")[2], "line rom1.2, an input, is not used");
   assert.deepEqual(parts.find(({ id }) => id === "lamps").pins.map(({ colour }) => colour), ["green", "red"]);
   assert.deepEqual(says("lamps"), ["red is at ram0.0.0", "lamp 1 is at chain0.9"]);
+});
+
+test("what is at TEST is a part with a wire to the processor, and has its words", () => {
+  const at = { names: [], colours: [], test: { kind: "button", name: "CROSS_THE_ROAD", level: 0, line: 1 } };
+  const { parts, wires } = drawBoard(readBoard(["board"]), at);
+  assert.deepEqual(parts.map(({ id, title }) => `${id} ${title}`), ["processor 4004", "test CROSS THE …"]);
+  assert.deepEqual(wires.map(({ from, to }) => `${from.label} ${to.label}`), ["button TEST"]);
+  assert.equal(parts[0].says[1], "its input TEST is at the button CROSS THE ROAD");
+  assert.deepEqual(parts[1].says, ["the button CROSS THE ROAD puts TEST to 0 while it is pressed"]);
 });
 
 test("an empty board has a processor", () => {

@@ -118,7 +118,7 @@ export class BoardView {
     this.ram.draw(this.board);
     this.ports.draw(this.board, face);
     const count = this.board.lamps.length;
-    this.wiring.draw(this.board, { names: lampNames(face, count), colours: lampColours(face, count) });
+    this.wiring.draw(this.board, { names: lampNames(face, count), colours: lampColours(face, count), test: face.test });
     this.forgetRom();
   }
 

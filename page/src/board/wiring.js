@@ -2,11 +2,13 @@
 
 /**
  * @typedef {import("../bench/answers.js").Board} Board
+ * @typedef {import("./face.js").TestPin} TestPin
  *
  * A pin of a part. `line` is the line of the board that it is at, as the board's text names it ("" for the TEST pin); a lamp has a colour.
  * @typedef {{ line: string, label: string, colour?: string, x: number, y: number }} Pin
  *
- * A part: its name in the text (`rom 1`, `ram 0.2`, `chain 0`, `keys`, `lamps`, `processor`), what it is called, and where it stands.
+ * A part: its name in the text (`rom 1`, `ram 0.2`, `chain 0`, `keys`, `lamps`, `test`, `processor`), what it is called, and where it
+ * stands.
  * @typedef {{ id: string, kind: string, title: string, x: number, y: number, width: number, height: number, pins: Pin[],
  *   says: string[] }} Part
  *
@@ -14,8 +16,9 @@
  * @typedef {{ line: string, from: Pin, to: Pin }} Wire
  * @typedef {{ parts: Part[], wires: Wire[], width: number, height: number }} Picture
  *
- * What the lamps are called, "" for one without a name, and their colours, "" for one that has none of its own.
- * @typedef {{ names: string[], colours: string[] }} LampLook
+ * What a face tells: what the lamps are called, "" for one without a name, their colours, "" for one that has none of its own, and what
+ * is at the TEST pin.
+ * @typedef {{ names: string[], colours: string[], test: TestPin | null }} Look
  */
 
 export const PIN_STEP = 18;
@@ -24,11 +27,14 @@ const GAP = 14;
 const EDGE = 10;
 /** The columns of parts: how wide their parts are, and how much room the wires have before them. */
 const COLUMNS = [
-  { room: 0, width: 70 },
+  { room: 0, width: 84 },
   { room: 16, width: 112 },
   { room: 80, width: 138 },
   { room: 90, width: 150 },
 ];
+
+/** The longest name that a part of the first column has room for. */
+const LONGEST_NAME = 11;
 
 /** Parts of one column, one below the other. */
 class Column {
@@ -125,6 +131,33 @@ function linesOfPort(chip) {
 
 /**
  * @param {Column} column
+ * @param {TestPin | null} test
+ */
+function drawProcessor(column, test) {
+  const says = ["it reads the ROMs' bytes and ports, writes the ports, and reads and writes RAM",
+    test ? `its input TEST is at the ${test.kind} ${nameOf(test)}` : "TEST is its own input"];
+  return column.add({ id: "processor", kind: "processor", title: "4004", says }, [], [{ line: "", label: "TEST" }]);
+}
+
+/** @param {TestPin} test */
+function nameOf({ name }) {
+  return name.replace(/_/g, " ");
+}
+
+/**
+ * The button or the switch at the TEST pin.
+ * @param {Column} column
+ * @param {TestPin} test
+ */
+function drawTest(column, test) {
+  const name = nameOf(test);
+  const title = name.length > LONGEST_NAME ? `${name.slice(0, LONGEST_NAME - 1)}…` : name;
+  const says = [`the ${test.kind} ${name} puts TEST to ${test.level} while it is pressed`];
+  return column.add({ id: "test", kind: "test", title, says }, [], [{ line: "", label: test.kind }]);
+}
+
+/**
+ * @param {Column} column
  * @param {Board["roms"][number]} rom
  * @param {Uses} uses
  */
@@ -176,7 +209,7 @@ function drawKeys(column, { chain, first, rows, columns }) {
 /**
  * @param {Column} column
  * @param {string[]} lamps
- * @param {LampLook} look
+ * @param {Look} look
  */
 function drawLamps(column, lamps, { names, colours }) {
   const pins = lamps.map((line, at) => ({ line, label: names[at] || `lamp ${at}`, colour: colours[at] || "red" }));
@@ -192,6 +225,7 @@ function wiresOf(parts) {
   /** @type {Map<string, Pin>} */
   const sources = new Map();
   for (const part of parts) {
+    if (part.id === "test") sources.set("", part.pins[0]);
     const owner = part.id.replace(" ", "");
     for (const pin of part.pins) if (pin.line.startsWith(`${owner}.`)) sources.set(pin.line, pin);
   }
@@ -222,17 +256,17 @@ function columnsOf(areUsed) {
 /**
  * The drawing of a board.
  * @param {Board} board
- * @param {LampLook} look
+ * @param {Look} look
  * @returns {Picture}
  */
-export function drawBoard(board, look = { names: [], colours: [] }) {
+export function drawBoard(board, look = { names: [], colours: [], test: null }) {
   const uses = new Uses(board);
   const hasChips = board.roms.length + board.banks.length > 0;
   const hasFront = board.matrix !== null || board.lamps.length > 0;
   const columns = columnsOf([true, hasChips, board.chains.length > 0, hasFront]);
   const [first, second, third, fourth] = columns;
-  const says = ["it reads the ROMs' bytes and ports, writes the ports, and reads and writes RAM", "TEST is its own input"];
-  const parts = [first.add({ id: "processor", kind: "processor", title: "4004", says }, [], [{ line: "", label: "TEST" }])];
+  const parts = [drawProcessor(first, look.test)];
+  if (look.test) parts.push(drawTest(first, look.test));
   for (const rom of [...board.roms].sort((one, other) => one.chip - other.chip)) parts.push(drawRom(second, rom, uses));
   for (const { bank, chips } of board.banks) {
     for (let chip = 0; chip < chips; chip++) parts.push(drawRam(second, bank, chip, uses));

@@ -15,15 +15,19 @@ import { HEAD, drawBoard, isHigh, isHighAtRom } from "./wiring.js";
  * @typedef {(Switch | undefined)[]} Levels the lines of a port or of a chain that are drawn
  */
 
+/** How far a wire between parts of one column goes out. */
+const OUT = 12;
+
 /** @param {Wire} wire */
 function pathOf({ from, to }) {
+  if (from.x === to.x) return `M${from.x} ${from.y}C${from.x + OUT} ${from.y} ${to.x + OUT} ${to.y} ${to.x} ${to.y}`;
   const bend = Math.max(30, Math.abs(to.x - from.x) / 2);
   return `M${from.x} ${from.y}C${from.x + bend} ${from.y} ${to.x - bend} ${to.y} ${to.x} ${to.y}`;
 }
 
 export class WiringView {
   constructor() {
-    /** @type {(name: string) => void} a part, or a lamp, was chosen: `rom 1`, `ram 0`, `chain 0`, `keys`, `lamp 3` */
+    /** @type {(name: string) => void} a part, or a lamp, was chosen: `rom 1`, `ram 0`, `chain 0`, `keys`, `lamp 3`, `test` */
     this.select = () => {};
     this.root = block("wiring-picture");
     this.words = block("wiring-words");
@@ -66,7 +70,7 @@ export class WiringView {
   /**
    * Draws another board.
    * @param {Board} board
-   * @param {import("./wiring.js").LampLook} look
+   * @param {import("./wiring.js").Look} look
    */
   draw(board, look) {
     const { parts, wires, width, height } = drawBoard(board, look);
@@ -176,7 +180,7 @@ export class WiringView {
 
   /**
    * Marks the part that the caret in the board's text stands at.
-   * @param {string} name `rom 1`, `ram 0`, `lamp 3`; "" for none
+   * @param {string} name `rom 1`, `ram 0`, `lamp 3`, `test`; "" for none
    */
   mark(name) {
     if (name === this.marked) return;

@@ -2,6 +2,7 @@
 
 import { readRun } from "../bench/answers.js";
 import { partAtLine, placesOfParts } from "../bench/board_places.js";
+import { Face } from "../board/face.js";
 import { HelpView } from "./help_view.js";
 import { LinesView } from "./lines_view.js";
 import { linesOfBench } from "./manual.js";
@@ -33,7 +34,7 @@ export class Guide {
     for (const name of ["program", "board"]) page.layout.tabs.whenShown(name, () => page.machine.wiring.setShown(false));
     page.machine.wiring.setShown(page.layout.tabs.shown === "wiring");
     page.machine.wiring.select = (name) => this.selectPart(name);
-    page.boardEditor.editor.caret = (line) => page.machine.wiring.mark(partAtLine(placesOfParts(page.boardEditor.text), line));
+    page.boardEditor.editor.caret = (line) => page.machine.wiring.mark(partAtLine(this.places, line));
     addEventListener("keydown", (event) => this.typed(event));
   }
 
@@ -43,13 +44,21 @@ export class Guide {
     if (run) this.tour.seeEnd(run.end);
   }
 
+  /** The lines of each part in the board's text; of what is at TEST, the comment that tells it. */
+  get places() {
+    const { text } = this.page.boardEditor;
+    const places = placesOfParts(text);
+    const { test } = new Face(text);
+    return test ? places.set("test", { from: test.line, to: test.line }) : places;
+  }
+
   /**
    * Shows a part's lines in the board's text.
    * @param {string} name
    */
   selectPart(name) {
     const { boardEditor, layout } = this.page;
-    const lines = placesOfParts(boardEditor.text).get(name);
+    const lines = this.places.get(name);
     if (!lines) return;
     layout.tabs.choose("board");
     boardEditor.editor.select(lines);
