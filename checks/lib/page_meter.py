@@ -63,7 +63,7 @@ worker.onmessage = ({ data }) => {
   window.alone = data;
   worker.terminate();
 };
-worker.postMessage({ module, board: `wire\\n${board}.\\nasm\\n${program}.\\n`, runs: "run 100000\\n".repeat(500), cycles: 5e7 });"""
+worker.postMessage({ module, board: `wire\\n${board}.\\nasm\\n${program}.\\n`, runs: "run 100000\\n".repeat(3000), cycles: 3e8 });"""
 
 # Measures the time from the next key to the next change of the digits.
 TIME_OF_KEY = """

@@ -8,7 +8,7 @@ import { Ran } from "../bench/ran.js";
  */
 
 /** A batch takes about so many milliseconds. */
-const BATCH_TIME = 30;
+const BATCH_TIME = 50;
 const FIRST_BATCH = 50000;
 const LARGEST_BATCH = 8000000;
 /** A page that is hidden is told once in so many milliseconds, for it to keep the session. */
