@@ -65,8 +65,9 @@ def check_wiring(browser):
     browser.keys([ENTER])
     comes(browser, "Enter on a part selects its lines in the board's text", SELECTED, re.compile(r"^\[\[rom\]\]\nchip = 0\n"))
     browser.click("#wiring-tab")
-    browser.click("#wiring-picture .of-test")
-    comes(browser, "so does a click on the button at TEST", SELECTED, "# test: button WALK")
+    browser.script("document.querySelector('#wiring-picture .of-test').focus()")
+    browser.keys([ENTER])
+    comes(browser, "and on the button at TEST its line", SELECTED, "# test: button WALK")
     browser.click("#wiring-tab")
     verdict("and the part where the caret stands is marked",
             browser.script("return document.querySelectorAll('#wiring-picture .marked').length") >= 1, True)

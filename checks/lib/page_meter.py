@@ -36,6 +36,39 @@ const post = postMessage.bind(self);
 self.postMessage = (message, transfer) => post({ ...message, took: performance.now() - begun }, transfer);
 """
 
+# At full speed: the worker tells the page each half second for which part of that time it was in the module.
+MODULE_METER = """
+(() => {
+  const made = WebAssembly.Instance;
+  let [spent, since] = [0, performance.now()];
+  WebAssembly.Instance = function (...words) {
+    const { exports } = new made(...words);
+    const page_serve_and_settle = (...given) => {
+      const begun = performance.now();
+      const result = exports.page_serve_and_settle(...given);
+      const now = performance.now();
+      spent += now - begun;
+      if (now - since > 500) {
+        postMessage({ kind: "inModule", part: spent / (now - since) });
+        [spent, since] = [0, now];
+      }
+      return result;
+    };
+    return { exports: { ...exports, page_serve_and_settle } };
+  };
+})();"""
+# Before the page's script: `parts` gets them.
+PARTS_METER = """
+window.parts = [];
+const listen = Worker.prototype.addEventListener;
+Worker.prototype.addEventListener = function (kind, act) {
+  listen.call(this, kind, (event) => {
+    if (event.data && event.data.kind === "inModule") window.parts.push(event.data.part);
+    else act(event);
+  });
+};"""
+PARTS = "return window.parts"
+
 # Cycles a second of one long call of the module, in a worker of its own; they are in `alone` when it is done.
 MODULE_ALONE = """
 const work = `onmessage = async ({ data: { module, board, runs, cycles } }) => {
