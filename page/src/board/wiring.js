@@ -18,7 +18,7 @@
  *
  * What a face tells: what the lamps are called, "" for one without a name, their colours, "" for one that has none of its own, and what
  * is at the TEST pin.
- * @typedef {{ names: string[], colours: string[], test: TestPin | null }} Look
+ * @typedef {{ names: string[], colours: string[], test: TestPin | null }} Appearance
  */
 
 export const PIN_STEP = 18;
@@ -209,7 +209,7 @@ function drawKeys(column, { chain, first, rows, columns }) {
 /**
  * @param {Column} column
  * @param {string[]} lamps
- * @param {Look} look
+ * @param {Appearance} look
  */
 function drawLamps(column, lamps, { names, colours }) {
   const pins = lamps.map((line, at) => ({ line, label: names[at] || `lamp ${at}`, colour: colours[at] || "red" }));
@@ -256,7 +256,7 @@ function columnsOf(areUsed) {
 /**
  * The drawing of a board.
  * @param {Board} board
- * @param {Look} look
+ * @param {Appearance} look
  * @returns {Picture}
  */
 export function drawBoard(board, look = { names: [], colours: [], test: null }) {

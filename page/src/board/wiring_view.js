@@ -70,7 +70,7 @@ export class WiringView {
   /**
    * Draws another board.
    * @param {Board} board
-   * @param {import("./wiring.js").Look} look
+   * @param {import("./wiring.js").Appearance} look
    */
   draw(board, look) {
     const { parts, wires, width, height } = drawBoard(board, look);
