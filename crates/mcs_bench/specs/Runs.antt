@@ -41,7 +41,7 @@ alters_selected t =
 -- whether the instruction at the counter gives the selected character another value, where that is watched
 abbrev pub WillChange : List ℕ → Machine → Bool → Type 0
 WillChange watches t b =
-    ((instruction_at t.0 t.1 ≢ Some Wrm) × (b ≡ false))
+    (((watches ≡ []) ⊎ (instruction_at t.0 t.1 ≢ Some Wrm)) × (b ≡ false))
     ⊎ ((instruction_at t.0 t.1 ≡ Some Wrm) ×
     (b ≡ (is_listed watches (selected t) && alters_selected t)))
 

@@ -7,8 +7,8 @@ use crate::bench::Bench;
 use mcs_model::regs::Regs;
 use mcs_nibble::{Addr, Nibble};
 
-/// Where no breakpoint is set, two runs come to the state that one run of all their cycles comes to, the count of
-/// commands aside.
+/// Where no breakpoint is set and no character watched, two runs come to the state that one run of all their cycles comes
+/// to, the count of commands aside.
 pub fn runs_add_up()
     ensures { RunsAddUp }
 {

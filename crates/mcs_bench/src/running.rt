@@ -1,10 +1,10 @@
 //! Runs and steps of a processor over a rig of the bench's size.
-ghost use Rattle.std.specs.Prelude.{◌≡◌, ◌≢◌, ◌<◌, ◌*◌, ◌+◌, ◌&&◌, ◌==◌, not, unwrap_or, true, false, [], Some, MatchOption, slice_index};
+ghost use Rattle.std.specs.Prelude.{◌≡◌, ◌≢◌, ◌<◌, ◌*◌, ◌+◌, ◌&&◌, ◌==◌, not, unwrap_or, true, false, [], Some, None, MatchOption, slice_index};
 ghost use Rattle.mcs_model.specs.Bus.{src_of};
 ghost use Rattle.mcs_model.specs.Effect.{cycle_of, instruction_at};
 ghost use Rattle.mcs_model.specs.Running.{InstructionRan, is_outside};
 ghost use Rattle.mcs_model.specs.Listed.{is_listed};
-ghost use Rattle.mcs_bench.specs.Runs.{RanOn, RanTo, Seen, SteppedTo, WillChange, mark_of};
+ghost use Rattle.mcs_bench.specs.Runs.{RanOn, RanTo, SteppedTo, WillChange, mark_of};
 
 use crate::breaks::Breaks;
 use crate::watches::Watches;
@@ -23,9 +23,11 @@ fn is_outside(cpu: &Cpu, rig: &BenchRig) -> bool
 /// Why a run stops after a cycle, where the processor's counter is at an address, except for a code outside and its end.
 #[inline(always)]
 fn mark_at(cpu: &Cpu, at: Addr, breaks: &Breaks, changed: bool) -> Option<Stop>
-    ensures { result ≡ mark_of (cpu.now.owed == 0 && is_listed breaks.now at) changed }
+    ensures mark { result ≡ mark_of (cpu.now.owed == 0 && is_listed breaks.now at) changed }
+    ensures owed { cpu.now.owed < 2 }
 {
-    if breaks.contains(at) && cpu.regs().owed == 0 {
+    let owed = cpu.regs().owed;
+    if breaks.contains(at) && owed == 0 {
         Some(Stop::Breakpoint)
     } else if changed {
         Some(Stop::Watched)
@@ -58,30 +60,48 @@ fn will_change(cpu: &Cpu, rig: &BenchRig, watches: &Watches, at: Addr) -> bool
     src / 64 < rig.board().bank_chips(bank)
 }
 
-/// The cycles of the instruction at an address, at most `left` of them, and whether a watched character has changed.
+/// The same, which looks at nothing where no character is watched.
 #[inline(always)]
-fn run_instruction<const WATCHED: bool>(
-    cpu: &mut Cpu,
-    rig: &mut BenchRig,
+fn foresees_change<const WATCHED: bool>(
+    cpu: &Cpu,
+    rig: &BenchRig,
     watches: &Watches,
     at: Addr,
-    left: u32,
-) -> (Addr, u32, bool)
-    requires free { cpu.old.owed ≢ 1 }
-    requires some { 0 < left }
-    requires watched { WATCHED ≡ false → watches.now ≡ [] }
-    ensures ran { InstructionRan left (record cpu.old { pc = at }, rig.old)
-        (record cpu.new { pc = result.0 }, rig.new) result.1 }
-    ensures owes { cpu.new.owed ≡ 1 → result.1 ≡ left }
-    ensures seen { Seen watches.now (record cpu.old { pc = at }, rig.old) result.1 result.2 }
+) -> bool
+    requires { WATCHED ≡ false → watches.now ≡ [] }
+    ensures { WillChange watches.now (record cpu.now { pc = at }, rig.now) result }
 {
     if !WATCHED {
-        let (next, cycles) = mcs_board::run_instruction(cpu, rig, at, left);
-        return (next, cycles, false);
+        return false;
     }
-    let changed = will_change(cpu, rig, watches, at);
+    will_change(cpu, rig, watches, at)
+}
+
+/// The instruction at an address, for at most `left` cycles, where a run may end with it: how many cycles it did, the
+/// address where the processor goes on, and why the run stops there. It is told whether a watched character changes. A
+/// call, since one copy serves both loops.
+#[inline(never)]
+fn run_last(
+    cpu: &mut Cpu,
+    rig: &mut BenchRig,
+    breaks: &Breaks,
+    at: Addr,
+    left: u32,
+    changes: bool,
+) -> (u32, Addr, Option<Stop>)
+    requires free { cpu.old.owed ≢ 1 }
+    requires some { 0 < left }
+    ensures ran { InstructionRan left (record cpu.old { pc = at }, rig.old)
+        (record cpu.new { pc = result.1 }, rig.new) result.0 }
+    ensures none { result.0 ≡ 0 → result.2 ≡ None }
+    ensures mark { 0 < result.0 → result.2
+        ≡ mark_of (cpu.new.owed == 0 && is_listed breaks.now result.1) changes }
+{
     let (next, cycles) = mcs_board::run_instruction(cpu, rig, at, left);
-    (next, cycles, changed)
+    if cycles == 0 {
+        return (cycles, next, None);
+    }
+    (cycles, next, mark_at(cpu, next, breaks, changes))
 }
 
 /// Runs for at most `n` cycles, up to the first breakpoint or change of a watched character: how many cycles it did, the
@@ -109,18 +129,29 @@ fn run_loop<const WATCHED: bool>(
             return (1, at, Some(why));
         }
     }
-    while left > 0 {
-        let (next, cycles, changed) = run_instruction::<WATCHED>(cpu, rig, watches, at, left);
+    // The last cycle, and a change of a watched character, are left to `run_last`: the loop asks neither whether a cycle
+    // is owed nor what has changed.
+    while left > 1 {
+        if foresees_change::<WATCHED>(cpu, rig, watches, at) {
+            let (cycles, next, mark) = run_last(cpu, rig, breaks, at, left, true);
+            return (n - (left - cycles), next, mark);
+        }
+        let (next, cycles) = mcs_board::run_instruction(cpu, rig, at, left);
         if cycles == 0 {
             return (n - left, next, None);
         }
         at = next;
         left -= cycles;
-        if let Some(why) = mark_at(cpu, at, breaks, changed) {
-            return (n - left, at, Some(why));
+        if breaks.contains(at) {
+            return (n - left, at, mark_at(cpu, at, breaks, false));
         }
     }
-    (n, at, None)
+    if left == 0 {
+        return (n, at, None);
+    }
+    let changes = foresees_change::<WATCHED>(cpu, rig, watches, at);
+    let (cycles, next, mark) = run_last(cpu, rig, breaks, at, left, changes);
+    (n - (left - cycles), next, mark)
 }
 
 /// Runs for at most `n` cycles, up to the first breakpoint or change of a watched character: how many cycles it did, and

@@ -1,9 +1,9 @@
-use Rattle.std.proofs.Common.{◌≡◌, ◌≢◌, ℕ, ◌<◌, ◌-◌, ◌∙◌, ◌&&◌, false, Some, None, sym, ap, subst, arith, eqb}
+use Rattle.std.proofs.Common.{◌≡◌, ◌≢◌, ℕ, ◌<◌, ◌-◌, ◌∙◌, ◌&&◌, true, false, Some, None, sym, ap, subst, arith, eqb}
 use Rattle.mcs_model.specs.Listed.{is_listed}
-use Rattle.mcs_bench.specs.Runs.{RanOn, mark_of}
+use Rattle.mcs_bench.specs.Runs.{RanOn, WillChange, mark_of}
 use Rattle.mcs_model.specs.declared.regs.Regs.{Regs}
 use Rattle.mcs_model.specs.Running.{Machine, Stops}
-use Rattle.mcs_bench.proofs.Runs.{Keeps, starts, starts-begun, begun-marks, left-marks, left-goes, watched-at}
+use Rattle.mcs_bench.proofs.Runs.{Keeps, starts, starts-begun, begun-marks, left-marks, left-goes, watched-at, unlisted-by, listed-owes, told-seen, left-last}
 use Rattle.mcs_bench.proofs.running.run_loop.Goals as goal
 use Rattle.mcs_bench.proofs.running.run_loop.Goals.{then-n-gt0+then-regs-eq1+in_default, else-n-gt0, else-n-gt0-via-then-n-gt0+else-regs-eq1, else-n-gt0-via-else-n-gt0}
 
@@ -14,7 +14,7 @@ returns-in-Some g c =
     let counter : ℕ = c.regs-at.result.pc in
     let there : counter ≡ c.args.cpu.now.pc = ap (λ (r : Regs). r.pc) c.regs-at.ensures.same in
     let owed : c.args.cpu.now.owed ≡ 1 = sym (ap (λ (r : Regs). r.owed) c.regs.ensures.same) ∙ c.if-regs-eq1.true in
-    let on = sym c.mark_at.ensures ∙ c.in-Some.is in
+    let on = sym c.mark_at.ensures.mark ∙ c.in-Some.is in
     subst (λ (r : Regs). RanOn stops c.args.n s (record r { pc = counter }, c.args.rig.now) 1 (Some c.in-Some.why)) (sym c.set_owed.ensures)
     (begun-marks stops c.args.n s counter c.in-Some.why c.if-n-gt0.true owed there (subst (λ (r : Regs). mark_of (eqb r.owed 0 && is_listed c.args.breaks.now counter) false ≡ Some c.in-Some.why) c.set_owed.ensures on))
 
@@ -27,7 +27,7 @@ loop-left-init g c =
     elim c.if-n-gt0.branch [
       | then-n-gt0+then-regs-eq1+in_default w ↦ (
           let owed : c.args.cpu.now.owed ≡ 1 = sym (ap (λ (r : Regs). r.owed) w.regs.ensures.same) ∙ w.if-regs-eq1.true in
-          let off = sym w.mark_at.ensures ∙ w.in_default.is in
+          let off = sym w.mark_at.ensures.mark ∙ w.in_default.is in
           let first = starts-begun stops c.args.n s counter w.if-n-gt0.true owed there (subst (λ (r : Regs). mark_of (eqb r.owed 0 && is_listed c.args.breaks.now counter) false ≡ None) w.set_owed.ensures off) in
           subst (λ l. Keeps stops c.args.n l s (record c.if-n-gt0.cpu { pc = counter }, c.args.rig.now)) (sym w.left-is)
           (subst (λ (r : Regs). Keeps stops c.args.n (c.args.n - 1) s (record r { pc = counter }, c.args.rig.now)) (sym (w.cpu-is ∙ w.set_owed.ensures)) first))
@@ -40,16 +40,24 @@ loop-left-init g c =
           (subst (λ (r : Regs). Keeps stops c.args.n c.args.n s (record r { pc = counter }, c.args.rig.now)) (sym w.cpu-is) (starts stops c.args.n s counter free there)))
     ]
 
-pub returns-in-Some-mark_at : goal.returns-in-Some-mark_at
-returns-in-Some-mark_at g c =
+pub returns-then-contains : goal.returns-then-contains
+returns-then-contains g c =
     let stops : Stops = record { breaks = c.args.breaks.now; watches = c.args.watches.now } in
     let s : Machine = (c.args.cpu.now, c.args.rig.now) in
     let t : Machine = (record c.loop-left.cpu { pc = c.loop-left.at }, c.loop-left.rig) in
     let u : Machine = (record c.run_instruction-next.new.cpu { pc = c.run_instruction-next.result.0 }, c.run_instruction-next.new.rig) in
+    let ran = c.run_instruction-next.ensures.ran in
+    let fits = c.loop-left.invariant.fits in
+    let within = ran.within in
+    let more : 1 < c.loop-left.left = c.loop-left-test.true in
     let some : 0 < c.run_instruction-next.result.1 = (let none = c.if-cycles-eq0.false in omega arith) in
-    let later : 0 < c.args.n - (c.loop-left.left - c.run_instruction-next.result.1) = (let within = c.run_instruction-next.ensures.ran.within in let fits = c.loop-left.invariant.fits in omega arith) in
-    let at = ap (λ b. mark_of b c.run_instruction-next.result.2) (watched-at c.args.breaks.now (c.args.n - (c.loop-left.left - c.run_instruction-next.result.1)) u later) in
-    left-marks stops c.args.n c.loop-left.left c.run_instruction-next.result.1 s t u c.run_instruction-next.result.2 c.in-Some-mark_at.why c.loop-left.invariant c.run_instruction-next.ensures.ran c.run_instruction-next.ensures.seen c.loop-left-test.true some (at ∙ sym c.mark_at-in-loop-left.ensures ∙ c.in-Some-mark_at.is)
+    let later : 0 < c.args.n - (c.loop-left.left - c.run_instruction-next.result.1) = omega arith in
+    let told : WillChange c.args.watches.now t false = subst (WillChange c.args.watches.now t) c.if-foresees_change.false c.foresees_change.ensures in
+    let seen = told-seen c.args.watches.now c.loop-left.left c.run_instruction-next.result.1 t u false ran (c.loop-left.invariant.free (omega arith)) told in
+    let at = ap (λ b. mark_of b false) (watched-at c.args.breaks.now (c.args.n - (c.loop-left.left - c.run_instruction-next.result.1)) u later) in
+    let listed : is_listed c.args.breaks.now u.0.pc ≡ true = sym c.contains.ensures ∙ c.if-contains.true in
+    left-marks stops c.args.n c.loop-left.left c.run_instruction-next.result.1 s t u false c.mark_at-then-contains.result c.loop-left.invariant ran seen (omega arith) some (at ∙ sym c.mark_at-then-contains.ensures.mark)
+    (λ none. c.run_instruction-next.ensures.owes (listed-owes u.0.owed _ listed c.mark_at-then-contains.ensures.owed (sym c.mark_at-then-contains.ensures.mark ∙ none)))
 
 pub loop-left-preserved : goal.loop-left-preserved
 loop-left-preserved g c =
@@ -57,7 +65,30 @@ loop-left-preserved g c =
     let s : Machine = (c.args.cpu.now, c.args.rig.now) in
     let t : Machine = (record c.loop-left.cpu { pc = c.loop-left.at }, c.loop-left.rig) in
     let u : Machine = (record c.run_instruction-next.new.cpu { pc = c.run_instruction-next.result.0 }, c.run_instruction-next.new.rig) in
+    let ran = c.run_instruction-next.ensures.ran in
+    let more : 1 < c.loop-left.left = c.loop-left-test.true in
     let some : 0 < c.run_instruction-next.result.1 = (let none = c.if-cycles-eq0.false in omega arith) in
-    let later : 0 < c.args.n - (c.loop-left.left - c.run_instruction-next.result.1) = (let within = c.run_instruction-next.ensures.ran.within in let fits = c.loop-left.invariant.fits in omega arith) in
-    let at = ap (λ b. mark_of b c.run_instruction-next.result.2) (watched-at c.args.breaks.now (c.args.n - (c.loop-left.left - c.run_instruction-next.result.1)) u later) in
-    left-goes stops c.args.n c.loop-left.left c.run_instruction-next.result.1 s t u c.run_instruction-next.result.2 c.loop-left.invariant c.run_instruction-next.ensures.ran c.run_instruction-next.ensures.seen c.loop-left-test.true some c.run_instruction-next.ensures.owes (at ∙ sym c.mark_at-in-loop-left.ensures ∙ c.in_default-mark_at.is)
+    let told : WillChange c.args.watches.now t false = subst (WillChange c.args.watches.now t) c.if-foresees_change.false c.foresees_change.ensures in
+    let seen = told-seen c.args.watches.now c.loop-left.left c.run_instruction-next.result.1 t u false ran (c.loop-left.invariant.free (omega arith)) told in
+    let unlisted : is_listed c.args.breaks.now u.0.pc ≡ false = sym c.contains.ensures ∙ c.if-contains.false in
+    left-goes stops c.args.n c.loop-left.left c.run_instruction-next.result.1 s t u false c.loop-left.invariant ran seen (omega arith) some c.run_instruction-next.ensures.owes (unlisted-by c.args.breaks.now _ u unlisted)
+
+pub returns-then-foresees_change : goal.returns-then-foresees_change
+returns-then-foresees_change g c =
+    let stops : Stops = record { breaks = c.args.breaks.now; watches = c.args.watches.now } in
+    let s : Machine = (c.args.cpu.now, c.args.rig.now) in
+    let t : Machine = (record c.loop-left.cpu { pc = c.loop-left.at }, c.loop-left.rig) in
+    let u : Machine = (record c.run_last-cycles.new.cpu { pc = c.run_last-cycles.result.1 }, c.run_last-cycles.new.rig) in
+    let more : 1 < c.loop-left.left = c.loop-left-test.true in
+    let told : WillChange c.args.watches.now t true = subst (WillChange c.args.watches.now t) c.if-foresees_change.true c.foresees_change.ensures in
+    left-last stops c.args.n c.loop-left.left c.run_last-cycles.result.0 s t u true c.run_last-cycles.result.2 c.loop-left.invariant c.run_last-cycles.ensures.ran told (omega arith) c.run_last-cycles.ensures.none c.run_last-cycles.ensures.mark (λ e. absurd (cc))
+
+pub returns : goal.returns
+returns g c =
+    let stops : Stops = record { breaks = c.args.breaks.now; watches = c.args.watches.now } in
+    let s : Machine = (c.args.cpu.now, c.args.rig.now) in
+    let t : Machine = (record c.loop-left.cpu { pc = c.loop-left.at }, c.loop-left.rig) in
+    let u : Machine = (record c.run_last-cycles-2.new.cpu { pc = c.run_last-cycles-2.result.1 }, c.run_last-cycles-2.new.rig) in
+    let some : 0 < c.loop-left.left = (let none = c.if-left-eq0.false in omega arith) in
+    let last = c.loop-left-test.false in
+    left-last stops c.args.n c.loop-left.left c.run_last-cycles-2.result.0 s t u c.foresees_change-changes.result c.run_last-cycles-2.result.2 c.loop-left.invariant c.run_last-cycles-2.ensures.ran c.foresees_change-changes.ensures some c.run_last-cycles-2.ensures.none c.run_last-cycles-2.ensures.mark (λ e. omega arith)

@@ -1,4 +1,4 @@
-use Rattle.std.proofs.Common.{◌≡◌, ◌∙◌, ◌+◌, ◌%◌, ◌*◌, ◌/◌, ◌<◌, false, eqb, nat_lt, inl, refl, sym, ap, slice_index, length, arith}
+use Rattle.std.proofs.Common.{◌≡◌, ◌∙◌, ◌+◌, ◌%◌, ◌*◌, ◌/◌, ◌<◌, false, eqb, nat_lt, inl, inr, refl, sym, ap, slice_index, length, arith}
 use Rattle.std.proofs.lemmas.Bool.{eqb-true}
 use Rattle.mcs_model.specs.declared.regs.Regs.{Regs}
 use Rattle.mcs_model.specs.declared.board.BoardParts.{BoardParts}
@@ -13,7 +13,7 @@ use Rattle.mcs_bench.proofs.running.will_change.Goals as goal
 pub returns-then-rom_byte : goal.returns-then-rom_byte
 unfolding fetch_of
 returns-then-rom_byte c =
-    inl ((only-code (slice_index c.args.rig.now.rom c.args.at) (slice_index c.args.rig.now.rom ((c.args.at + 1) % 4096)) (let fits = c.rom_byte.type_inv in let is = c.rom_byte.ensures in omega arith) (λ e. c.if-rom_byte.true (c.rom_byte.ensures ∙ e))), refl)
+    inl (inr (only-code (slice_index c.args.rig.now.rom c.args.at) (slice_index c.args.rig.now.rom ((c.args.at + 1) % 4096)) (let fits = c.rom_byte.type_inv in let is = c.rom_byte.ensures in omega arith) (λ e. c.if-rom_byte.true (c.rom_byte.ensures ∙ e))), refl)
 
 pub returns-then-eq : goal.returns-then-eq
 unfolding fetch_of
