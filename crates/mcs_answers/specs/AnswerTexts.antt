@@ -7,7 +7,7 @@ use Rattle.mcs_model.specs.declared.stop.Stop.{Stop}
 use Rattle.mcs_model.specs.declared.stop.Stop.TheVariants.{Outside, Breakpoint, Watched, Ended}
 use Rattle.mcs_model.specs.declared.query.Query.{Query}
 use Rattle.mcs_model.specs.BenchState.{BenchState}
-use Rattle.mcs_model.specs.QueryText.{text}
+use Rattle.mcs_model.specs.QueryText.{text_of_query}
 use Rattle.mcs_source.specs.Text.{listing_text}
 use Rattle.mcs_wiring.specs.BoardText.{query_lines, text_of}
 
@@ -47,7 +47,7 @@ no_line_text number line =
 
 -- the answer to a query
 abbrev pub query_answer : Query → BenchState → List ℕ
-query_answer q s = text q s ++ line_feed
+query_answer q s = text_of_query q s ++ line_feed
 
 -- the answer to `list`
 abbrev pub listing_answer : ℕ → ℕ → BenchState → List ℕ

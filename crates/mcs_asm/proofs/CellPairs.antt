@@ -10,7 +10,7 @@ use Rattle.std.proofs.lemmas.Bool.{cases_eq, cases_lt, lt-ltb, le-leb, leb-true,
 use Rattle.std.proofs.lemmas.List.Folds.{list_any_at}
 use Rattle.std.proofs.lemmas.Option.{none-some}
 use Rattle.mcs_model.specs.Images.{from_address, overlaps, IsRising, IsImageOf}
-use Rattle.mcs_asm.specs.ByteMap.{written, raised, IsKept}
+use Rattle.mcs_asm.specs.ByteMap.{cells_after, pairs_from, HoldsPairs}
 
 abbrev pub within : ℕ → ℕ → ℕ × ℕ → Bool
 within at n p = leb at p.0 && ltb p.0 (at + n)
@@ -23,7 +23,7 @@ some_same : (b c : ℕ) → Some b ≡ Some c → b ≡ c
 some_same b c e = ap (λ (o : Option ℕ). elim o [ Some x ↦ x | None ↦ 0 ]) e
 
 -- one more byte
-one_kept : (cells : List (Option ℕ)) (pairs : List (ℕ × ℕ)) (x b : ℕ) → x < 4096 → IsKept cells pairs → IsFree pairs x → IsKept (set cells x (Some b)) (pairs ++ (x, b) ∷ [])
+one_kept : (cells : List (Option ℕ)) (pairs : List (ℕ × ℕ)) (x b : ℕ) → x < 4096 → HoldsPairs cells pairs → IsFree pairs x → HoldsPairs (set cells x (Some b)) (pairs ++ (x, b) ∷ [])
 one_kept cells pairs x b lt kept free =
     let within : x < length cells = omega (arith, kept.0) in (
       length-set cells x (Some b) ∙ kept.0,
@@ -55,17 +55,17 @@ free_more pairs x b y other free c h = elim (Contains-push_cases pairs (x, b) (y
 ]
 
 -- bytes written where no pair was
-pub all_kept : (bytes : List ℕ) (x : ℕ) (cells : List (Option ℕ)) (pairs : List (ℕ × ℕ)) → x + length bytes ≤ 4096 → IsKept cells pairs → ((y : ℕ) → x ≤ y → y < x + length bytes → IsFree pairs y)
-    → IsKept (written x bytes cells) (pairs ++ from_address x bytes)
-all_kept [] x cells pairs le kept free = subst (λ (ps : List (ℕ × ℕ)). IsKept cells ps) (sym (append-nil pairs)) kept
+pub all_kept : (bytes : List ℕ) (x : ℕ) (cells : List (Option ℕ)) (pairs : List (ℕ × ℕ)) → x + length bytes ≤ 4096 → HoldsPairs cells pairs → ((y : ℕ) → x ≤ y → y < x + length bytes → IsFree pairs y)
+    → HoldsPairs (cells_after x bytes cells) (pairs ++ from_address x bytes)
+all_kept [] x cells pairs le kept free = subst (λ (ps : List (ℕ × ℕ)). HoldsPairs cells ps) (sym (append-nil pairs)) kept
 all_kept (b ∷ bytes) x cells pairs le kept free =
     let le' : x + 1 + length bytes ≤ 4096 = omega (arith, le) in
     let here : IsFree pairs x = free x (omega arith) (omega arith) in
-    let one : IsKept (set cells x (Some b)) (pairs ++ (x, b) ∷ []) = one_kept cells pairs x b (omega (arith, le)) kept here in
-    let rest : IsKept (written (x + 1) bytes (set cells x (Some b))) ((pairs ++ (x, b) ∷ []) ++ from_address (x + 1) bytes) =
+    let one : HoldsPairs (set cells x (Some b)) (pairs ++ (x, b) ∷ []) = one_kept cells pairs x b (omega (arith, le)) kept here in
+    let rest : HoldsPairs (cells_after (x + 1) bytes (set cells x (Some b))) ((pairs ++ (x, b) ∷ []) ++ from_address (x + 1) bytes) =
     all_kept bytes (x + 1) (set cells x (Some b)) (pairs ++ (x, b) ∷ []) le' one
     (λ y low high. free_more pairs x b y (λ e. omega (arith, e, low)) (free y (omega (arith, low)) (omega (arith, high)))) in
-    subst (λ (ps : List (ℕ × ℕ)). IsKept (written (x + 1) bytes (set cells x (Some b))) ps) (append_assoc pairs ((x, b) ∷ []) (from_address (x + 1) bytes)) rest
+    subst (λ (ps : List (ℕ × ℕ)). HoldsPairs (cells_after (x + 1) bytes (set cells x (Some b))) ps) (append_assoc pairs ((x, b) ∷ []) (from_address (x + 1) bytes)) rest
 
 -- the test on pairs says where no pair is
 pub free_from : (pairs : List (ℕ × ℕ)) (x n : ℕ) → overlaps pairs x n ≡ false → (y : ℕ) → x ≤ y → y < x + n → IsFree pairs y
@@ -87,13 +87,13 @@ pub Contains-head : (p : ℕ × ℕ) (ps : List (ℕ × ℕ)) → Contains (p �
 Contains-head p ps = (0, omega arith, refl)
 
 -- each raised pair lies at `at` or above, and is what the cell holds
-raised_from : (cells : List (Option ℕ)) (at a b : ℕ) → Contains (raised at cells) (a, b) → (at ≤ a) × (get_or cells (a - at) None ≡ Some b)
+raised_from : (cells : List (Option ℕ)) (at a b : ℕ) → Contains (pairs_from at cells) (a, b) → (at ≤ a) × (get_or cells (a - at) None ≡ Some b)
 raised_from [] at a b has = absurd (omega (arith, has.1))
 raised_from (None ∷ cells) at a b has =
     let r = raised_from cells (at + 1) a b has in
     let e : a - at ≡ suc (a - (at + 1)) = omega (arith, r.0) in
     (omega (arith, r.0), rw e r.1)
-raised_from (Some v ∷ cells) at a b has = elim (Contains-cons_cases (at, v) (raised (at + 1) cells) (a, b) has) [
+raised_from (Some v ∷ cells) at a b has = elim (Contains-cons_cases (at, v) (pairs_from (at + 1) cells) (a, b) has) [
   | inl here ↦
       let same : at ≡ a = ap (λ (p : ℕ × ℕ). p.0) here in
       let e : a - at ≡ 0 = omega (arith, same) in
@@ -104,29 +104,29 @@ raised_from (Some v ∷ cells) at a b has = elim (Contains-cons_cases (at, v) (r
       (omega (arith, r.0), rw e r.1)
 ]
 
-raised_has : (cells : List (Option ℕ)) (at k b : ℕ) → get_or cells k None ≡ Some b → Contains (raised at cells) (at + k, b)
+raised_has : (cells : List (Option ℕ)) (at k b : ℕ) → get_or cells k None ≡ Some b → Contains (pairs_from at cells) (at + k, b)
 raised_has [] at k b e = absurd (none-some b e)
 raised_has (None ∷ cells) at zero b e = absurd (none-some b e)
 raised_has (Some v ∷ cells) at zero b e =
-    subst (λ (p : ℕ × ℕ). Contains ((at, v) ∷ raised (at + 1) cells) p) (rw (some_same v b e) (ap (λ (n : ℕ). (n, b)) (omega arith))) (Contains-head (at, v) (raised (at + 1) cells))
+    subst (λ (p : ℕ × ℕ). Contains ((at, v) ∷ pairs_from (at + 1) cells) p) (rw (some_same v b e) (ap (λ (n : ℕ). (n, b)) (omega arith))) (Contains-head (at, v) (pairs_from (at + 1) cells))
 raised_has (None ∷ cells) at (suc k) b e =
-    subst (λ (n : ℕ). Contains (raised (at + 1) cells) (n, b)) (omega arith) (raised_has cells (at + 1) k b e)
+    subst (λ (n : ℕ). Contains (pairs_from (at + 1) cells) (n, b)) (omega arith) (raised_has cells (at + 1) k b e)
 raised_has (Some v ∷ cells) at (suc k) b e =
-    Contains-append_right ((at, v) ∷ []) (raised (at + 1) cells) (at + suc k, b) (subst (λ (n : ℕ). Contains (raised (at + 1) cells) (n, b)) (omega arith) (raised_has cells (at + 1) k b e))
+    Contains-append_right ((at, v) ∷ []) (pairs_from (at + 1) cells) (at + suc k, b) (subst (λ (n : ℕ). Contains (pairs_from (at + 1) cells) (n, b)) (omega arith) (raised_has cells (at + 1) k b e))
 
-raised_rises : (cells : List (Option ℕ)) (at : ℕ) → IsRising (raised at cells)
+raised_rises : (cells : List (Option ℕ)) (at : ℕ) → IsRising (pairs_from at cells)
 raised_rises [] at = λ i j d lt within. absurd (omega (arith, within))
 raised_rises (None ∷ cells) at = raised_rises cells (at + 1)
-raised_rises (Some v ∷ cells) at = AllPairs-cons (λ (p q : ℕ × ℕ). p.0 < q.0) (at, v) (raised (at + 1) cells)
-    (λ k d lt. omega (arith, (raised_from cells (at + 1) (get_or (raised (at + 1) cells) k d).0 (get_or (raised (at + 1) cells) k d).1 (Contains-get_or (raised (at + 1) cells) k d lt)).0)) (raised_rises cells (at + 1))
+raised_rises (Some v ∷ cells) at = AllPairs-cons (λ (p q : ℕ × ℕ). p.0 < q.0) (at, v) (pairs_from (at + 1) cells)
+    (λ k d lt. omega (arith, (raised_from cells (at + 1) (get_or (pairs_from (at + 1) cells) k d).0 (get_or (pairs_from (at + 1) cells) k d).1 (Contains-get_or (pairs_from (at + 1) cells) k d lt)).0)) (raised_rises cells (at + 1))
 
 -- the cells, raised, are the image of their pairs
-pub image_of_kept : (cells : List (Option ℕ)) (pairs : List (ℕ × ℕ)) → IsKept cells pairs → IsImageOf (raised 0 cells) pairs
+pub image_of_kept : (cells : List (Option ℕ)) (pairs : List (ℕ × ℕ)) → HoldsPairs cells pairs → IsImageOf (pairs_from 0 cells) pairs
 image_of_kept cells pairs kept = (
   raised_rises cells 0,
   λ p. (
     (λ has. (kept.1 p.0 p.1).0 (subst (λ (n : ℕ). get_or cells n None ≡ Some p.1) (omega arith) (raised_from cells 0 p.0 p.1 has).1)),
-    (λ has. subst (λ (n : ℕ). Contains (raised 0 cells) (n, p.1)) (omega arith) (raised_has cells 0 p.0 p.1 ((kept.1 p.0 p.1).1 has))),
+    (λ has. subst (λ (n : ℕ). Contains (pairs_from 0 cells) (n, p.1)) (omega arith) (raised_has cells 0 p.0 p.1 ((kept.1 p.0 p.1).1 has))),
   ),
 )
 
@@ -136,7 +136,7 @@ replicate_none n a b e = elim (cases_lt a n) [
   | inr le ↦ none-some b (sym (get_or_past (replicate n None) a None (omega (arith, le, length-replicate {A = Option ℕ} n None))) ∙ e)
 ]
 
-pub none_kept : IsKept (replicate 4096 None) []
+pub none_kept : HoldsPairs (replicate 4096 None) []
 none_kept = (length-replicate {A = Option ℕ} 4096 None, λ a b. ((λ e. absurd (replicate_none 4096 a b e)), (λ has. absurd (omega (arith, has.1)))))
 
 -- ---- the test on cells is the test on pairs
@@ -171,7 +171,7 @@ same_truth true t f g = sym (f refl)
 same_truth false true f g = g refl
 same_truth false false f g = refl
 
-pub taken_is : (cells : List (Option ℕ)) (pairs : List (ℕ × ℕ)) (at n : ℕ) → IsKept cells pairs → list_any is_some (take n (drop at cells)) ≡ overlaps pairs at n
+pub taken_is : (cells : List (Option ℕ)) (pairs : List (ℕ × ℕ)) (at n : ℕ) → HoldsPairs cells pairs → list_any is_some (take n (drop at cells)) ≡ overlaps pairs at n
 taken_is cells pairs at n kept = same_truth (list_any is_some (take n (drop at cells))) (overlaps pairs at n)
     (λ e.
     let r = has_taken (drop at cells) n e in

@@ -5,4 +5,4 @@ pub mod NameLists
 pub mod LineLists
 pub mod PassLists
 pub mod ValueLists
-pub mod SpeltLists
+pub mod SpelledLists

@@ -13,14 +13,14 @@ use Rattle.mcs_source.specs.Lexical.{tokens}
 use Rattle.mcs_source.specs.Lines.{SourceLine, Code, Define, line_of}
 use Rattle.mcs_model.specs.Images.{from_address, overlaps}
 use Rattle.mcs_model.specs.TextLines.{lines_of}
-use Rattle.mcs_source.specs.Assembly.{assembled, spelt, read, ith_line, Names, definition, address_of, names_before, all_names, pairs_before, unless_fault, first_fault, fault_one, fault_two, class_one_fault, class_two_fault, first_of_class_one, first_of_class_two, next_at, line_bytes, bytes_or_none, defined_name, is_known_name, is_bad_place, passes_end}
-use Rattle.mcs_source.specs.Survey.{Survey, span, spans_before, survey_of, surveyed}
+use Rattle.mcs_source.specs.Assembly.{assembly_of_text, assembly_of, read, ith_line, Names, definition, address_of, names_before, all_names, pairs_before, unless_fault, first_fault, fault_one, fault_two, class_one_fault, class_two_fault, first_of_class_one, first_of_class_two, next_at, line_bytes, bytes_or_none, defined_name, is_known_name, is_bad_place, passes_end}
+use Rattle.mcs_source.specs.Survey.{Survey, span, spans_before, survey_of, survey_of_text}
 use Rattle.mcs_source.specs.declared.survey.Span.{Span}
 use Rattle.mcs_source.proofs.Surveys.{from_length}
 use Rattle.mcs_source.proofs.LineByLine.{all_passed, spans_next, address_next, names_next, pairs_next, NoneBefore, none_before_next, none_first, first_at, none_below}
-use Rattle.mcs_asm.specs.ByteMap.{IsKept}
+use Rattle.mcs_asm.specs.ByteMap.{HoldsPairs}
 use Rattle.mcs_asm.specs.View.{FailsAs}
-use Rattle.mcs_asm.specs.Passes.{Before, nothing_before, before, before_next, before_with_line, with_names, Spelt, spelt_before, spelt_with_bytes, spelt_with_line, Steps, IsFirst, NumbersLine, Adds, HasNoFault, span_at, PassesSecond, PassesBoth}
+use Rattle.mcs_asm.specs.Passes.{Before, nothing_before, before, before_next, before_with_line, with_names, SpelledLines, spelled_before, spelled_with_bytes, spelled_with_line, Steps, IsFirst, NumbersLine, Adds, HasNoFault, span_at, PassesSecond, PassesBoth}
 use Rattle.mcs_asm.proofs.CellPairs.{none_kept}
 
 abbrev pub texts : List (Bor (List ℕ)) → List (List ℕ)
@@ -103,7 +103,7 @@ is_done b ls i le h =
 pub record IsBeforeSecond (ls : List (Bor (List ℕ))) (names : Names) (i at : ℕ) (cells : List (Option ℕ)) (spans : List Span) : Type 0 where
   pub within : i ≤ length ls
   pub here : at ≡ address_of (said ls) i
-  pub kept : IsKept cells (pairs_before (said ls) names i)
+  pub kept : HoldsPairs cells (pairs_before (said ls) names i)
   pub stand : spans ≡ spans_before (said ls) names i
   pub none : NoneBefore (class_two_fault (said ls) names) i
 
@@ -130,20 +130,20 @@ line_passes ls names i at cells spans d lt one h =
     let passes : HasNoFault (address_of (said ls) i) (ith_line (said ls) i) = no_fault (address_of (said ls) i) (names_before (said ls) i) (ith_line (said ls) i) none in
     subst (λ (n : ℕ). HasNoFault n (line_of (tokens (get_or ls i d).now))) (sym h.here) (subst (HasNoFault (address_of (said ls) i)) (said_at ls i d lt) passes)
 
-bytes_passed : (s : Spelt) (next : ℕ) (r : Result (List ℕ) SourceFault) (t : Spelt) → spelt_with_bytes s next r ≡ Ok t → (fault_two s.at s.pairs r ≡ None) × (t ≡ record { at = next; pairs = s.pairs ++ from_address s.at (bytes_or_none r) })
+bytes_passed : (s : SpelledLines) (next : ℕ) (r : Result (List ℕ) SourceFault) (t : SpelledLines) → spelled_with_bytes s next r ≡ Ok t → (fault_two s.at s.pairs r ≡ None) × (t ≡ record { at = next; pairs = s.pairs ++ from_address s.at (bytes_or_none r) })
 bytes_passed s next (Err f) t e = absurd (cc)
 bytes_passed s next (Ok bytes) t e =
-    let new : Spelt = record { at = next; pairs = s.pairs ++ from_address s.at bytes } in
+    let new : SpelledLines = record { at = next; pairs = s.pairs ++ from_address s.at bytes } in
     let Q : Bool → Type 0 = λ o. cond o (Err Overlap) (Ok new) ≡ Ok t → (cond o (Some Overlap) None ≡ None) × (t ≡ new) in
     (elim (overlaps s.pairs s.at (length bytes)) as Q [
       | true ↦ λ h. absurd (cc)
       | false ↦ λ h. (refl, cc)
     ]) e
 
-bytes_refused : (s : Spelt) (next : ℕ) (r : Result (List ℕ) SourceFault) (f : SourceFault) → spelt_with_bytes s next r ≡ Err f → fault_two s.at s.pairs r ≡ Some f
+bytes_refused : (s : SpelledLines) (next : ℕ) (r : Result (List ℕ) SourceFault) (f : SourceFault) → spelled_with_bytes s next r ≡ Err f → fault_two s.at s.pairs r ≡ Some f
 bytes_refused s next (Err g) f e = cc
 bytes_refused s next (Ok bytes) f e =
-    let new : Spelt = record { at = next; pairs = s.pairs ++ from_address s.at bytes } in
+    let new : SpelledLines = record { at = next; pairs = s.pairs ++ from_address s.at bytes } in
     let Q : Bool → Type 0 = λ o. cond o (Err Overlap) (Ok new) ≡ Err f → cond o (Some Overlap) None ≡ Some f in
     (elim (overlaps s.pairs s.at (length bytes)) as Q [
       | true ↦ λ h. cc
@@ -151,19 +151,19 @@ bytes_refused s next (Ok bytes) f e =
     ]) e
 
 spelt_more : (lines : List (Option SourceLine)) (names : Names) (i : ℕ)
-    → record { at = next_at (ith_line lines i) (address_of lines i); pairs = pairs_before lines names i ++ from_address (address_of lines i) (bytes_or_none (line_bytes (address_of lines i) names (ith_line lines i))) } ≡ spelt_before lines names (i + 1)
+    → record { at = next_at (ith_line lines i) (address_of lines i); pairs = pairs_before lines names i ++ from_address (address_of lines i) (bytes_or_none (line_bytes (address_of lines i) names (ith_line lines i))) } ≡ spelled_before lines names (i + 1)
 spelt_more lines names i =
     ap (λ (n : ℕ). record { at = n; pairs = pairs_before lines names i ++ from_address (address_of lines i) (bytes_or_none (line_bytes (address_of lines i) names (ith_line lines i))) }) (sym (address_next lines i))
     ∙ ap (λ (ps : List (ℕ × ℕ)). record { at = address_of lines (i + 1); pairs = ps }) (sym (pairs_next lines names i))
 
-abbrev pub spelt_at : ℕ → List (ℕ × ℕ) → Spelt
+abbrev pub spelt_at : ℕ → List (ℕ × ℕ) → SpelledLines
 spelt_at at pairs = record { at = at; pairs = pairs }
 
-spell_is : (ls : List (Bor (List ℕ))) (names : Names) (i at : ℕ) (d : Bor (List ℕ)) (wanted : Result Spelt SourceFault) → i < length ls → at ≡ address_of (said ls) i
-    → spelt_with_line names (spelt_at at (pairs_before (said ls) names i)) (line_of (tokens (get_or ls i d).now)) ≡ wanted → spelt_with_line names (spelt_before (said ls) names i) (ith_line (said ls) i) ≡ wanted
+spell_is : (ls : List (Bor (List ℕ))) (names : Names) (i at : ℕ) (d : Bor (List ℕ)) (wanted : Result SpelledLines SourceFault) → i < length ls → at ≡ address_of (said ls) i
+    → spelled_with_line names (spelt_at at (pairs_before (said ls) names i)) (line_of (tokens (get_or ls i d).now)) ≡ wanted → spelled_with_line names (spelled_before (said ls) names i) (ith_line (said ls) i) ≡ wanted
 spell_is ls names i at d wanted lt here step =
-    ap (λ (n : ℕ). spelt_with_line names (spelt_at n (pairs_before (said ls) names i)) (ith_line (said ls) i)) (sym here)
-    ∙ (ap (λ (l : Option SourceLine). spelt_with_line names (spelt_at at (pairs_before (said ls) names i)) l) (said_at ls i d lt) ∙ step)
+    ap (λ (n : ℕ). spelled_with_line names (spelt_at n (pairs_before (said ls) names i)) (ith_line (said ls) i)) (sym here)
+    ∙ (ap (λ (l : Option SourceLine). spelled_with_line names (spelt_at at (pairs_before (said ls) names i)) l) (said_at ls i d lt) ∙ step)
 
 span_is : (lines : List (Option SourceLine)) (names : Names) (i : ℕ) → span_at (address_of lines i) (line_bytes (address_of lines i) names (ith_line lines i)) ≡ span lines names i
 span_is lines names i = ap (λ (n : ℕ). record { at = address_of lines i; size = n }) (sym (from_length (address_of lines i) (bytes_or_none (line_bytes (address_of lines i) names (ith_line lines i)))))
@@ -178,30 +178,30 @@ spans_more ls names i at spans d lt here stand =
     ∙ (ap (λ (p : Span). spans_before lines names i ++ p ∷ []) (line ∙ place) ∙ sym (spans_next lines names i))
 
 -- one more line is spelled
-pub next_line : (ls : List (Bor (List ℕ))) (names : Names) (i at now : ℕ) (cells new : List (Option ℕ)) (spans more : List Span) (d : Bor (List ℕ)) → i < length ls → IsBeforeSecond ls names i at cells spans → (t : Spelt)
-    → spelt_with_line names (spelt_at at (pairs_before (said ls) names i)) (line_of (tokens (get_or ls i d).now)) ≡ Ok t → t.at ≡ now → IsKept new t.pairs → more ≡ spans ++ span_at at (line_bytes at names (line_of (tokens (get_or ls i d).now))) ∷ [] → IsBeforeSecond ls names (i + 1) now new more
+pub next_line : (ls : List (Bor (List ℕ))) (names : Names) (i at now : ℕ) (cells new : List (Option ℕ)) (spans more : List Span) (d : Bor (List ℕ)) → i < length ls → IsBeforeSecond ls names i at cells spans → (t : SpelledLines)
+    → spelled_with_line names (spelt_at at (pairs_before (said ls) names i)) (line_of (tokens (get_or ls i d).now)) ≡ Ok t → t.at ≡ now → HoldsPairs new t.pairs → more ≡ spans ++ span_at at (line_bytes at names (line_of (tokens (get_or ls i d).now))) ∷ [] → IsBeforeSecond ls names (i + 1) now new more
 unfolding class_two_fault
 next_line ls names i at now cells new spans more d lt h t step is kept added =
     let lines : List (Option SourceLine) = said ls in
-    let p = bytes_passed (spelt_before lines names i) (next_at (ith_line lines i) (address_of lines i)) (line_bytes (address_of lines i) names (ith_line lines i)) t (spell_is ls names i at d (Ok t) lt h.here step) in
-    let t_is : t ≡ spelt_before lines names (i + 1) = p.1 ∙ spelt_more lines names i in
+    let p = bytes_passed (spelled_before lines names i) (next_at (ith_line lines i) (address_of lines i)) (line_bytes (address_of lines i) names (ith_line lines i)) t (spell_is ls names i at d (Ok t) lt h.here step) in
+    let t_is : t ≡ spelled_before lines names (i + 1) = p.1 ∙ spelt_more lines names i in
     record {
       within = omega (arith, lt);
-      here = sym is ∙ ap (λ (s : Spelt). s.at) t_is;
-      kept = subst (λ (s : Spelt). IsKept new s.pairs) t_is kept;
+      here = sym is ∙ ap (λ (s : SpelledLines). s.at) t_is;
+      kept = subst (λ (s : SpelledLines). HoldsPairs new s.pairs) t_is kept;
       stand = added ∙ spans_more ls names i at spans d lt h.here h.stand;
       none = none_before_next (class_two_fault lines names) i h.none p.0;
     }
 
 -- a line is refused
 pub line_stops : (kind : FaultKind) (line : ℕ) (ls : List (Bor (List ℕ))) (names : Names) (i at now : ℕ) (cells new : List (Option ℕ)) (spans : List Span) (d : Bor (List ℕ)) → i < length ls → IsBeforeSecond ls names i at cells spans
-    → Adds (Err kind) now new (spelt_with_line names (spelt_at at (pairs_before (said ls) names i)) (line_of (tokens (get_or ls i d).now))) → NumbersLine kind i line → IsFirst kind line (first_of_class_two (said ls) names)
+    → Adds (Err kind) now new (spelled_with_line names (spelt_at at (pairs_before (said ls) names i)) (line_of (tokens (get_or ls i d).now))) → NumbersLine kind i line → IsFirst kind line (first_of_class_two (said ls) names)
 unfolding class_two_fault
 line_stops NoMemory line ls names i at now cells new spans d lt h refused is = is
 line_stops (Refused f) line ls names i at now cells new spans d lt h refused is =
     let lines : List (Option SourceLine) = said ls in
     first_of_line (class_two_fault lines names) ls i line f lt h.none
-    (bytes_refused (spelt_before lines names i) (next_at (ith_line lines i) (address_of lines i)) (line_bytes (address_of lines i) names (ith_line lines i)) f (spell_is ls names i at d (Err f) lt h.here refused)) is
+    (bytes_refused (spelled_before lines names i) (next_at (ith_line lines i) (address_of lines i)) (line_bytes (address_of lines i) names (ith_line lines i)) f (spell_is ls names i at d (Err f) lt h.here refused)) is
 
 -- all lines are spelled
 pub all_spelt : (ls : List (Bor (List ℕ))) (names : Names) (i at : ℕ) (cells : List (Option ℕ)) (spans : List Span) (found : Survey) → length ls ≤ i → IsBeforeSecond ls names i at cells spans → found ≡ record { spans = spans; names = names }
@@ -210,39 +210,39 @@ all_spelt ls names i at cells spans found le h is =
     let all : i ≡ length (said ls) = omega (arith, said_length ls, le, h.within) in (
       none_first (class_two_fault (said ls) names) (length (said ls)) (λ j lt. h.none j (omega (arith, lt, all))),
       is ∙ ap (λ (s : List Span). record { spans = s; names = names }) (h.stand ∙ ap (spans_before (said ls) names) all),
-      subst (λ (n : ℕ). IsKept cells (pairs_before (said ls) names n)) all h.kept,
+      subst (λ (n : ℕ). HoldsPairs cells (pairs_before (said ls) names n)) all h.kept,
     )
 
 -- ---- both passes
 
 -- a fault of class one is that of the text
-pub one_fails : (kind : FaultKind) (line : ℕ) (text : List ℕ) (ls : List (List ℕ)) → ls ≡ lines_of text → IsFirst kind line (first_of_class_one (read ls)) → FailsAs kind line (assembled text)
-unfolding spelt
+pub one_fails : (kind : FaultKind) (line : ℕ) (text : List ℕ) (ls : List (List ℕ)) → ls ≡ lines_of text → IsFirst kind line (first_of_class_one (read ls)) → FailsAs kind line (assembly_of_text text)
+unfolding assembly_of
 one_fails NoMemory line text ls is fails = fails
 one_fails (Refused f) line text ls is fails =
-    let whole : spelt (read ls) ≡ Err (line, f) = rw fails refl in
-    ap (λ (l : List (List ℕ)). spelt (read l)) (sym is) ∙ whole
+    let whole : assembly_of (read ls) ≡ Err (line, f) = rw fails refl in
+    ap (λ (l : List (List ℕ)). assembly_of (read l)) (sym is) ∙ whole
 
 -- a fault of class two is that of a text without one of class one
 pub two_fails : (kind : FaultKind) (line : ℕ) (text : List ℕ) (ls : List (List ℕ)) (names : Names) → ls ≡ lines_of text → first_of_class_one (read ls) ≡ None → names ≡ all_names (read ls) → IsFirst kind line (first_of_class_two (read ls) names)
-    → FailsAs kind line (assembled text)
-unfolding spelt
+    → FailsAs kind line (assembly_of_text text)
+unfolding assembly_of
 two_fails NoMemory line text ls names is one same fails = fails
 two_fails (Refused f) line text ls names is one same fails =
     let fails' : first_of_class_two (read ls) (all_names (read ls)) ≡ Some (line, f) = subst (λ (n : Names). first_of_class_two (read ls) n ≡ Some (line, f)) same fails in
-    let whole : spelt (read ls) ≡ Err (line, f) = rw (one, fails') refl in
-    ap (λ (l : List (List ℕ)). spelt (read l)) (sym is) ∙ whole
+    let whole : assembly_of (read ls) ≡ Err (line, f) = rw (one, fails') refl in
+    ap (λ (l : List (List ℕ)). assembly_of (read l)) (sym is) ∙ whole
 
 -- what the second pass finds is what both find
 pub both_pass : (r : Result (Survey × List (Option ℕ)) AsmFault) (text : List ℕ) (ls : List (List ℕ)) (names : Names) → ls ≡ lines_of text → first_of_class_one (read ls) ≡ None → names ≡ all_names (read ls) → PassesSecond r (read ls) names → PassesBoth r text
 both_pass (Err f) text ls names is one same fails = two_fails f.kind f.line text ls names is one same fails
 both_pass (Ok found) text ls names is one same passed =
-    let spelt_is : assembled text ≡ Ok (pairs_before (read ls) names (length (read ls))) = all_passed text ls names is one same passed.0 in
+    let spelt_is : assembly_of_text text ≡ Ok (pairs_before (read ls) names (length (read ls))) = all_passed text ls names is one same passed.0 in
     let lines : survey_of (read (lines_of text)) ≡ survey_of (read ls) = ap (λ (l : List (List ℕ)). survey_of (read l)) (sym is) in
     let found_is : survey_of (read ls) ≡ found.0 = ap (λ (n : Names). record { spans = spans_before (read ls) n (length (read ls)); names = n }) (sym same) ∙ sym passed.1 in
     (ap (result_map_both (λ ps. survey_of (read (lines_of text))) (λ f. f)) spelt_is ∙ ap Ok (lines ∙ found_is), (pairs_before (read ls) names (length (read ls)), spelt_is, passed.2))
 
 -- a text without an image has no survey, for the same fault
-pub survey_fails : (kind : FaultKind) (line : ℕ) (text : List ℕ) → FailsAs kind line (assembled text) → FailsAs kind line (surveyed text)
+pub survey_fails : (kind : FaultKind) (line : ℕ) (text : List ℕ) → FailsAs kind line (assembly_of_text text) → FailsAs kind line (survey_of_text text)
 survey_fails NoMemory line text fails = fails
 survey_fails (Refused f) line text fails = ap (result_map_both (λ ps. survey_of (read (lines_of text))) (λ f. f)) fails

@@ -3,14 +3,14 @@ use Rattle.std.specs.Prelude.{◌≡◌, ℕ, ◌+◌, List, [], ◌∷◌, ◌+
 use Rattle.mcs_source.specs.declared.fault.SourceFault.{SourceFault}
 use Rattle.mcs_source.specs.declared.fault.SourceFault.TheVariants.{Overlap}
 use Rattle.mcs_source.specs.Lines.{SourceLine, Code, Define}
-use Rattle.mcs_source.specs.Assembly.{Names, assembled, bytes_or_none, address_of, names_before, next_at, fault_one, first_of_class_one, first_of_class_two, is_bad_place, passes_end, unless_fault, line_bytes, pairs_before}
+use Rattle.mcs_source.specs.Assembly.{Names, assembly_of_text, bytes_or_none, address_of, names_before, next_at, fault_one, first_of_class_one, first_of_class_two, is_bad_place, passes_end, unless_fault, line_bytes, pairs_before}
 use Rattle.mcs_model.specs.Images.{from_address, overlaps}
 use Rattle.mcs_asm.specs.declared.fault.FaultKind.{FaultKind}
 use Rattle.mcs_asm.specs.declared.fault.FaultKind.TheVariants.{NoMemory, Refused}
 use Rattle.mcs_asm.specs.declared.fault.AsmFault.{AsmFault}
 use Rattle.mcs_source.specs.declared.survey.Span.{Span}
-use Rattle.mcs_source.specs.Survey.{Survey, spans_before, surveyed}
-use Rattle.mcs_asm.specs.ByteMap.{IsKept}
+use Rattle.mcs_source.specs.Survey.{Survey, spans_before, survey_of_text}
+use Rattle.mcs_asm.specs.ByteMap.{HoldsPairs}
 use Rattle.mcs_asm.specs.View.{FailsAs}
 
 -- ---- the first pass
@@ -47,23 +47,23 @@ before_with_line b line = unless_fault (fault_one b.at b.names line) (Ok (before
 -- ---- the second pass
 
 -- what the lines so far spell: where the next statement stands, and their pairs
-pub record Spelt : Type 0 where
+pub record SpelledLines : Type 0 where
   pub at : ℕ
   pub pairs : List (ℕ × ℕ)
 
 -- what the lines before line i spell, where all names are `names`
-abbrev pub spelt_before : List (Option SourceLine) → Names → ℕ → Spelt
-spelt_before lines names i = record { at = address_of lines i; pairs = pairs_before lines names i }
+abbrev pub spelled_before : List (Option SourceLine) → Names → ℕ → SpelledLines
+spelled_before lines names i = record { at = address_of lines i; pairs = pairs_before lines names i }
 
 -- the pairs with those of one more line, or its fault of class two
-abbrev pub spelt_with_bytes : Spelt → ℕ → Result (List ℕ) SourceFault → Result Spelt SourceFault
-spelt_with_bytes s next (Err f) = Err f
-spelt_with_bytes s next (Ok bytes) =
+abbrev pub spelled_with_bytes : SpelledLines → ℕ → Result (List ℕ) SourceFault → Result SpelledLines SourceFault
+spelled_with_bytes s next (Err f) = Err f
+spelled_with_bytes s next (Ok bytes) =
     if overlaps s.pairs s.at (length bytes) then Err Overlap
     else Ok (record { at = next; pairs = s.pairs ++ from_address s.at bytes })
 
-abbrev pub spelt_with_line : Names → Spelt → Option SourceLine → Result Spelt SourceFault
-spelt_with_line names s line = spelt_with_bytes s (next_at line s.at) (line_bytes s.at names line)
+abbrev pub spelled_with_line : Names → SpelledLines → Option SourceLine → Result SpelledLines SourceFault
+spelled_with_line names s line = spelled_with_bytes s (next_at line s.at) (line_bytes s.at names line)
 
 -- a line that has a form, at an address where it has none of the faults of class one that its bytes
 -- could show
@@ -90,8 +90,8 @@ PassesFirst (Err f) lines = IsFirst f.kind f.line (first_of_class_one lines)
 
 -- what one line's bytes leave: the cells keep the pairs, and the next statement's place is known
 abbrev pub Adds : Result (Unit {0}) FaultKind → ℕ → List (Option ℕ)
-    → Result Spelt SourceFault → Type 0
-Adds (Ok u) at cells wanted = (s : Spelt) × (wanted ≡ Ok s) × (s.at ≡ at) × IsKept cells s.pairs
+    → Result SpelledLines SourceFault → Type 0
+Adds (Ok u) at cells wanted = (s : SpelledLines) × (wanted ≡ Ok s) × (s.at ≡ at) × HoldsPairs cells s.pairs
 Adds (Err NoMemory) at cells wanted = Unit {0}
 Adds (Err (Refused f)) at cells wanted = wanted ≡ Err f
 
@@ -106,7 +106,7 @@ abbrev pub PassesSecond : Result (Survey × List (Option ℕ)) AsmFault → List
 PassesSecond (Ok found) lines names =
     (first_of_class_two lines names ≡ None)
     × (found.0 ≡ record { spans = spans_before lines names (length lines); names = names })
-    × IsKept found.1 (pairs_before lines names (length lines))
+    × HoldsPairs found.1 (pairs_before lines names (length lines))
 PassesSecond (Err f) lines names = IsFirst f.kind f.line (first_of_class_two lines names)
 
 -- ---- both passes
@@ -114,9 +114,9 @@ PassesSecond (Err f) lines names = IsFirst f.kind f.line (first_of_class_two lin
 -- the survey of the text, and cells that keep its pairs; or the fault that it has
 abbrev pub PassesBoth : Result (Survey × List (Option ℕ)) AsmFault → List ℕ → Type 0
 PassesBoth (Ok found) text =
-    (surveyed text ≡ Ok found.0)
-    × ((pairs : List (ℕ × ℕ)) × (assembled text ≡ Ok pairs) × IsKept found.1 pairs)
-PassesBoth (Err f) text = FailsAs f.kind f.line (assembled text)
+    (survey_of_text text ≡ Ok found.0)
+    × ((pairs : List (ℕ × ℕ)) × (assembly_of_text text ≡ Ok pairs) × HoldsPairs found.1 pairs)
+PassesBoth (Err f) text = FailsAs f.kind f.line (assembly_of_text text)
 
 -- ---- one line of many
 

@@ -3,7 +3,7 @@ ghost use Rattle.std.specs.Prelude.{◌≡◌, ℕ, ◌<◌, ◌≤◌, ◌+◌,
 ghost use Rattle.std.specs.List.{list_any};
 ghost use lib.ListN.{replicate};
 ghost use Rattle.mcs_model.specs.Images.{IsImageOf};
-ghost use Rattle.mcs_asm.specs.ByteMap.{written, raised};
+ghost use Rattle.mcs_asm.specs.ByteMap.{cells_after, pairs_from};
 
 use mcs_model::image::Image;
 use mcs_nibble::Addr;
@@ -50,7 +50,7 @@ impl ByteMap {
     /// Sets the bytes from an address on.
     pub fn write(&mut self, at: usize, bytes: &[u8])
         requires { at + length bytes.now ≤ 4096 }
-        ensures { self.new ≡ written at bytes.now self.old }
+        ensures { self.new ≡ cells_after at bytes.now self.old }
     {
         for i in 0..bytes.len() {
             self.bytes[at + i] = Some(bytes[i]);
@@ -59,7 +59,7 @@ impl ByteMap {
 
     /// The bytes that are there, rising.
     pub fn image(&self, alloc: Global) -> Result<Image, AllocError>
-        ensures { IfOk result (λ i. i ≡ raised 0 self.now) }
+        ensures { IfOk result (λ i. i ≡ pairs_from 0 self.now) }
     {
         let mut image = Image::new(alloc)?;
         for at in 0..4096u16 {

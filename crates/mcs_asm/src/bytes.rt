@@ -3,7 +3,7 @@ ghost use Rattle.std.specs.Prelude.{◌≡◌, ◌<◌, ◌≤◌, ◌/◌, ◌%
 ghost use Rattle.std.specs.List.{list_all};
 ghost use Rattle.mcs_source.specs.Lines.{Data, Ldm, Bbl, Jun, Jms, Fim, Jcn, Isz};
 ghost use Rattle.mcs_source.specs.Spelling.{spelling};
-ghost use Rattle.mcs_source.specs.Assembly.{value_in, values_in, bytes_at, line_bytes, is_near, if_known, if_in_range, if_on_page};
+ghost use Rattle.mcs_source.specs.Assembly.{value_in, values_in, statement_bytes, line_bytes, is_near, if_known, if_in_range, if_on_page};
 ghost use Rattle.mcs_asm.specs.View.{operand_view, statement_view, line_view, words_view, StepsTo, GivesOp, SaysOp, IsNoData};
 
 use crate::fault::{FaultKind, SourceFault};
@@ -59,7 +59,7 @@ fn data_bytes<'a>(
     operands: &[Operand<'a>],
 ) -> Result<Vec<u8>, FaultKind>
     ensures { StepsTo (λ v. v.items) result
-        (bytes_at 0 names.now.names (Data (map operand_view operands.now))) }
+        (statement_bytes 0 names.now.names (Data (map operand_view operands.now))) }
 {
     let Some(values) = values(alloc, names, operands)? else {
         return Err(FaultKind::Refused(SourceFault::UnknownName));
@@ -133,33 +133,33 @@ fn target_value<'a>(names: &Names<'a>, operand: &Operand<'a>) -> Result<Addr, So
 }
 
 fn ldm<'a>(names: &Names<'a>, v: &Operand<'a>) -> Result<Op, SourceFault>
-    ensures { GivesOp result (bytes_at 0 names.now.names (Ldm (operand_view v.now))) }
+    ensures { GivesOp result (statement_bytes 0 names.now.names (Ldm (operand_view v.now))) }
 {
     Ok(Op::Ldm(nibble_value(names, v)?))
 }
 
 fn bbl<'a>(names: &Names<'a>, v: &Operand<'a>) -> Result<Op, SourceFault>
-    ensures { GivesOp result (bytes_at 0 names.now.names (Bbl (operand_view v.now))) }
+    ensures { GivesOp result (statement_bytes 0 names.now.names (Bbl (operand_view v.now))) }
 {
     Ok(Op::Bbl(nibble_value(names, v)?))
 }
 
 fn jun<'a>(names: &Names<'a>, t: &Operand<'a>) -> Result<Op, SourceFault>
-    ensures { GivesOp result (bytes_at 0 names.now.names (Jun (operand_view t.now))) }
+    ensures { GivesOp result (statement_bytes 0 names.now.names (Jun (operand_view t.now))) }
 {
     let t = target_value(names, t)?;
     Ok(Op::Jun(t.page(), t.low()))
 }
 
 fn jms<'a>(names: &Names<'a>, t: &Operand<'a>) -> Result<Op, SourceFault>
-    ensures { GivesOp result (bytes_at 0 names.now.names (Jms (operand_view t.now))) }
+    ensures { GivesOp result (statement_bytes 0 names.now.names (Jms (operand_view t.now))) }
 {
     let t = target_value(names, t)?;
     Ok(Op::Jms(t.page(), t.low()))
 }
 
 fn fim<'a>(names: &Names<'a>, pair: PairNo, v: &Operand<'a>) -> Result<Op, SourceFault>
-    ensures { GivesOp result (bytes_at 0 names.now.names (Fim pair (operand_view v.now))) }
+    ensures { GivesOp result (statement_bytes 0 names.now.names (Fim pair (operand_view v.now))) }
 {
     Ok(Op::Fim(pair, byte(value(names, v)?)?))
 }
@@ -167,7 +167,7 @@ fn fim<'a>(names: &Names<'a>, pair: PairNo, v: &Operand<'a>) -> Result<Op, Sourc
 fn jcn<'a>(at: u16, names: &Names<'a>, v: &Operand<'a>, t: &Operand<'a>) -> Result<Op, SourceFault>
     requires { at ≤ 4096 }
     ensures { GivesOp result
-        (bytes_at at names.now.names (Jcn (operand_view v.now) (operand_view t.now))) }
+        (statement_bytes at names.now.names (Jcn (operand_view v.now) (operand_view t.now))) }
 {
     // Both values are looked up before one of them can be out of its range.
     let v = value(names, v)?;
@@ -178,7 +178,7 @@ fn jcn<'a>(at: u16, names: &Names<'a>, v: &Operand<'a>, t: &Operand<'a>) -> Resu
 
 fn isz<'a>(at: u16, names: &Names<'a>, register: RegNo, t: &Operand<'a>) -> Result<Op, SourceFault>
     requires { at ≤ 4096 }
-    ensures { GivesOp result (bytes_at at names.now.names (Isz register (operand_view t.now))) }
+    ensures { GivesOp result (statement_bytes at names.now.names (Isz register (operand_view t.now))) }
 {
     Ok(Op::Isz(register, near_byte(at, target_value(names, t)?)?))
 }
@@ -187,7 +187,7 @@ fn isz<'a>(at: u16, names: &Names<'a>, register: RegNo, t: &Operand<'a>) -> Resu
 fn op<'a>(at: u16, names: &Names<'a>, statement: &Statement<'a>) -> Result<Option<Op>, SourceFault>
     requires start { at ≤ 4096 }
     requires statement { IsNoData (statement_view statement.now) }
-    ensures { SaysOp result (bytes_at at names.now.names (statement_view statement.now)) }
+    ensures { SaysOp result (statement_bytes at names.now.names (statement_view statement.now)) }
 {
     match statement {
         Statement::Origin(_) | Statement::Data(_) => Ok(None),
@@ -230,7 +230,7 @@ fn statement_bytes<'a>(
 ) -> Result<Vec<u8>, FaultKind>
     requires { at ≤ 4096 }
     ensures { StepsTo (λ v. v.items) result
-        (bytes_at at names.now.names (statement_view statement.now)) }
+        (statement_bytes at names.now.names (statement_view statement.now)) }
 {
     match statement {
         Statement::Data(operands) => data_bytes(alloc, names, operands),

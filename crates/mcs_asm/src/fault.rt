@@ -1,6 +1,6 @@
 //! Why a text is refused.
 ghost use Rattle.std.specs.Prelude.{◌≡◌};
-ghost use Rattle.mcs_asm.specs.Refusal.{assembler_fault_number};
+ghost use Rattle.mcs_asm.specs.RefusalNumbers.{assembler_fault_number};
 
 use mcs_model::refusal_numbers;
 pub use mcs_source::fault::SourceFault;

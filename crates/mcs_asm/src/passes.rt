@@ -2,11 +2,11 @@
 ghost use Rattle.std.specs.Prelude.{List, ℕ, ◌+◌, length, Ok, ◌≡◌, ◌<◌, ◌≤◌, ◌^◌, ◌++◌, ◌∷◌, [], map, None, OnOk};
 ghost use Rattle.mcs_source.specs.Lexical.{tokens};
 ghost use Rattle.mcs_source.specs.Lines.{line_of};
-ghost use Rattle.mcs_source.specs.Assembly.{read, first_of_class_one, all_names, assembled, line_bytes};
-ghost use Rattle.mcs_source.specs.Survey.{surveyed};
+ghost use Rattle.mcs_source.specs.Assembly.{read, first_of_class_one, all_names, assembly_of_text, line_bytes};
+ghost use Rattle.mcs_source.specs.Survey.{survey_of_text};
 ghost use Rattle.mcs_asm.specs.View.{Assembles, Surveys};
-ghost use Rattle.mcs_asm.specs.Passes.{before_with_line, spelt_with_bytes, spelt_with_line, HasNoFault, Steps, PassesFirst, PassesSecond, PassesBoth, NumbersLine, ComesOf, Adds, span_at};
-ghost use Rattle.mcs_asm.specs.ByteMap.{IsKept};
+ghost use Rattle.mcs_asm.specs.Passes.{before_with_line, spelled_with_bytes, spelled_with_line, HasNoFault, Steps, PassesFirst, PassesSecond, PassesBoth, NumbersLine, ComesOf, Adds, span_at};
+ghost use Rattle.mcs_asm.specs.ByteMap.{HoldsPairs};
 
 use crate::byte_map::ByteMap;
 use crate::bytes::line_bytes;
@@ -80,22 +80,22 @@ fn push_span(spans: &mut Vec<Span>, at: u16, bytes: &[u8]) -> Result<(), AllocEr
 
 /// What the lines so far spell, where they stand, and where the next statement stands.
 #[derive(Drop)]
-struct Spelt {
+struct SpelledLines {
     at: u16,
     spans: Vec<Span>,
     cells: ByteMap,
     ghost in_range: { at ≤ 4096 },
 }
 
-impl Spelt {
+impl SpelledLines {
     /// Adds the bytes of a line; the next statement stands at `next`.
-    #[tactic(auto, using(crate::proofs::SpeltLists::taken_stops, crate::proofs::SpeltLists::free_goes))]
+    #[tactic(auto, using(crate::proofs::SpelledLists::taken_stops, crate::proofs::SpelledLists::free_goes))]
     fn add(&mut self, bytes: &[u8], next: u16) -> Result<(), FaultKind>
         requires room { self.old.at + length bytes.now ≤ 4096 }
         requires next { next ≤ 4096 }
-        ensures bytes { (pairs : List (ℕ × ℕ)) → IsKept self.old.cells pairs
+        ensures bytes { (pairs : List (ℕ × ℕ)) → HoldsPairs self.old.cells pairs
             → Adds result self.new.at self.new.cells
-            (spelt_with_bytes (record { at = self.old.at; pairs = pairs }) next (Ok bytes.now)) }
+            (spelled_with_bytes (record { at = self.old.at; pairs = pairs }) next (Ok bytes.now)) }
         ensures span { OnOk result (self.new.spans.items
             ≡ self.old.spans.items ++ span_at self.old.at (Ok bytes.now) ∷ []) }
     {
@@ -117,8 +117,8 @@ impl Spelt {
         line: &'a [u8],
     ) -> Result<(), FaultKind>
         requires { HasNoFault self.old.at (line_of (tokens line.now)) }
-        ensures bytes { (pairs : List (ℕ × ℕ)) → IsKept self.old.cells pairs
-            → Adds result self.new.at self.new.cells (spelt_with_line names.now.names
+        ensures bytes { (pairs : List (ℕ × ℕ)) → HoldsPairs self.old.cells pairs
+            → Adds result self.new.at self.new.cells (spelled_with_line names.now.names
             (record { at = self.old.at; pairs = pairs }) (line_of (tokens line.now))) }
         ensures span { OnOk result (self.new.spans.items ≡ self.old.spans.items
             ++ span_at self.old.at
@@ -143,15 +143,15 @@ fn second_pass<'a>(
     requires names { names.names ≡ all_names (read (map (λ l. l.now) lines.now)) }
     ensures { PassesSecond result (read (map (λ l. l.now) lines.now)) names.entry.names }
 {
-    let mut spelt = Spelt {
+    let mut spelled = SpelledLines {
         at: 0,
         spans: Vec::with_capacity(alloc, lines.len())?,
         cells: ByteMap::new(alloc)?,
     };
     for i in 0..lines.len() {
-        at_line(i, spelt.spell(alloc, &names, lines[i]))?;
+        at_line(i, spelled.spell(alloc, &names, lines[i]))?;
     }
-    Ok((Survey::new(spelt.spans, names), spelt.cells))
+    Ok((Survey::new(spelled.spans, names), spelled.cells))
 }
 
 /// The survey of a source text and the bytes that it spells, or its first fault.
@@ -168,7 +168,7 @@ fn both_passes<'a>(alloc: Global, source: &'a str) -> Result<(Survey<'a>, ByteMa
 /// A line is an optional label `NAME:`, an optional statement and an optional comment from `;` on,
 /// or `NAME = NUMBER`. It fails with [`FaultKind::NoMemory`] and line 0 where memory is refused.
 pub fn assemble(alloc: Global, source: &str) -> Result<Image, AsmFault>
-    ensures { Assembles result (assembled source.now) }
+    ensures { Assembles result (assembly_of_text source.now) }
 {
     let (_, cells) = both_passes(alloc, source)?;
     let image = cells.image(alloc)?;
@@ -180,7 +180,7 @@ pub fn assemble(alloc: Global, source: &str) -> Result<Image, AsmFault>
 ///
 /// A text that [`assemble`] refuses has the same fault, with the same line, here.
 pub fn survey<'a>(alloc: Global, source: &'a str) -> Result<Survey<'a>, AsmFault>
-    ensures { Surveys result (surveyed source.now) }
+    ensures { Surveys result (survey_of_text source.now) }
 {
     let (survey, _) = both_passes(alloc, source)?;
     Ok(survey)

@@ -1,7 +1,7 @@
 //! The text of a survey, as the shell answers it to `map`.
 ghost use Rattle.std.specs.Prelude.{◌≡◌, ◌≤◌, ◌<◌, ◌++◌, string_bytes, length, map, OnOk, IfOk};
 ghost use Rattle.mcs_model.specs.QueryText.{address_text, as_line, hex_digit};
-ghost use Rattle.mcs_source.specs.MapText.{head_row, line_row, line_rows, name_row, place_text, text_of, survey_text};
+ghost use Rattle.mcs_source.specs.MapText.{head_row, line_row, line_rows, name_row, place_text, rows_text, survey_text};
 
 use crate::surveys::Survey;
 use mcs_source::survey::Span;
@@ -81,7 +81,7 @@ fn push_head(out: &mut String, lines: usize, names: usize) -> Result<(), AllocEr
 /// Writes a row for each line of the source.
 fn push_lines(out: &mut String, spans: &[Span]) -> Result<(), AllocError>
     ensures { OnOk result (string_bytes out.new
-        ≡ string_bytes out.old ++ text_of (line_rows 1 spans.now)) }
+        ≡ string_bytes out.old ++ rows_text (line_rows 1 spans.now)) }
 {
     for i in 0..spans.len() {
         push_line(out, i + 1, spans[i])?;
@@ -92,7 +92,7 @@ fn push_lines(out: &mut String, spans: &[Span]) -> Result<(), AllocError>
 /// Writes a row for each name. It fails where memory is refused.
 fn push_names(alloc: Global, out: &mut Vec<u8>, names: &[(&[u8], u16)]) -> Result<(), AllocError>
     ensures { OnOk result (out.new.items ≡ out.old.items
-        ++ text_of (map name_row (map (λ e. (e.0.now, e.1)) names.now))) }
+        ++ rows_text (map name_row (map (λ e. (e.0.now, e.1)) names.now))) }
 {
     for i in 0..names.len() {
         push_name(alloc, out, names[i].0, names[i].1)?;

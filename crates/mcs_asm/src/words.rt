@@ -1,7 +1,7 @@
 //! The words of a source text.
 ghost use Rattle.std.specs.Prelude.{◌≡◌, ◌<◌, IfSome, ◌↔◌, IsSome, ◌≤◌, ℕ, length};
 ghost use Rattle.std.specs.Str.{str_eq_ignore_ascii_case};
-ghost use Rattle.mcs_source.specs.Mnemonics.{orders, on_registers, on_ports, on_memory, on_accumulator, on_carry, mnemonic_of};
+ghost use Rattle.mcs_source.specs.Mnemonics.{on_addresses, on_registers, on_ports, on_memory, on_accumulator, on_carry, mnemonic_of};
 ghost use Rattle.mcs_source.specs.Lines.{begins_name, up_to_15, register_named, pair_named, is_reserved, is_name};
 
 use mcs_code::instructions;
@@ -41,7 +41,7 @@ macro_rules! answered {
 /// The rows are looked up in six groups, since a proof about one list of 45 names takes far longer
 /// than six proofs about eight names each.
 macro_rules! tried {
-    (addressing addressing $word:ident $name:ident $kind:ident $text:literal) => {
+    (addresses addresses $word:ident $name:ident $kind:ident $text:literal) => {
         answered!($word $name $kind $text)
     };
     (registers registers $word:ident $name:ident $kind:ident $text:literal) => {
@@ -71,9 +71,9 @@ macro_rules! group_rows {
 }
 
 /// `ORG`, `DB` and the instructions that name a condition, a pair or an address.
-#[tactic(auto, unfolding(mcs_source::specs::Mnemonics::orders))]
-fn order(word: &[u8]) -> Option<Mnemonic>
-    ensures { result ≡ orders word.now }
+#[tactic(auto, unfolding(mcs_source::specs::Mnemonics::on_addresses))]
+fn on_address(word: &[u8]) -> Option<Mnemonic>
+    ensures { result ≡ on_addresses word.now }
 {
     if equals_ignoring_case(word, "ORG") {
         return Some(Mnemonic::Org);
@@ -81,7 +81,7 @@ fn order(word: &[u8]) -> Option<Mnemonic>
     if equals_ignoring_case(word, "DB") {
         return Some(Mnemonic::Db);
     }
-    instructions!(group_rows!(addressing, word))
+    instructions!(group_rows!(addresses, word))
 }
 
 /// `NOP` and the instructions that name a register or a value.
@@ -129,7 +129,7 @@ fn on_carry_word(word: &[u8]) -> Option<Mnemonic>
 pub fn mnemonic_in(word: &[u8]) -> Option<Mnemonic>
     ensures { result ≡ mnemonic_of word.now }
 {
-    if let Some(found) = order(word) {
+    if let Some(found) = on_address(word) {
         return Some(found);
     }
     if let Some(found) = on_register(word) {

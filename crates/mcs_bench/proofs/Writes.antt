@@ -8,12 +8,12 @@ use Rattle.mcs_model.specs.declared.op.Op.{Op}
 use Rattle.mcs_model.specs.declared.op.Op.TheVariants.{Nop, Jcn, Fim, Src, Fin, Jin, Jun, Jms, Inc, Isz, Add, Sub, Ld, Xch, Bbl, Ldm, Wrm, Wmp, Wrr, Wr0, Wr1, Wr2, Wr3, Sbm, Rdm, Rdr, Adm, Rd0, Rd1, Rd2, Rd3, Clb, Clc, Iac, Cmc, Cma, Ral, Rar, Tcc, Dac, Tcs, Stc, Daa, Kbp, Dcl}
 use Rattle.mcs_nibble.specs.declared.lines.LineMask.{LineMask}
 use Rattle.std.specs.List.{list_all, range_with_len}
-use Rattle.mcs_model.specs.Table.{decoded, row_of}
+use Rattle.mcs_model.specs.Table.{instruction_of, row_of}
 use Rattle.mcs_model.specs.Boards.{masks_on}
 use Rattle.mcs_model.specs.Bus.{BusState, after_src, after_ram, after_status, src_of, chips_of, has_chip, with_ram, with_status}
 use Rattle.mcs_model.specs.Levels.{after_ram_port, after_rom_port, chains_clocked}
 use Rattle.mcs_model.specs.Effect.{cycle_of, effect, bus_after, instruction_at}
-use Rattle.mcs_model.specs.Running.{Machine, cycled, has_changed}
+use Rattle.mcs_model.specs.Running.{Machine, after_cycles, has_changed}
 use Rattle.mcs_model.specs.Listed.{is_listed}
 
 either-ram : (b : Bool) (x y : BusState) (ram : List ℕ) → x.ram ≡ ram → y.ram ≡ ram → (cond b x y).ram ≡ ram
@@ -93,7 +93,7 @@ op-of None s h = refl
 op-of (Some op) s h = op-keeps op _ s.1 (λ e. h (ap Some e))
 
 -- nor does a cycle that does no WRM
-pub cycle-keeps : (s : Machine) → instruction_at s.0 s.1 ≢ Some Wrm → (cycled 1 s).1.ram ≡ s.1.ram
+pub cycle-keeps : (s : Machine) → instruction_at s.0 s.1 ≢ Some Wrm → (after_cycles 1 s).1.ram ≡ s.1.ram
 unfolding cycle_of
 cycle-keeps s h =
     elim (eqb s.0.owed 1) as (λ v. (unwrap_or (cond v (Some (record s.0 { owed = 0 }, s.1)) (elim (instruction_at s.0 s.1) [ Some op ↦ Some (effect op s.0 s.1) | None ↦ None ])) s).1.ram ≡ s.1.ram) [
@@ -102,12 +102,12 @@ cycle-keeps s h =
     ]
 
 -- nor an idle one
-pub idle-keeps : (s : Machine) → s.0.owed ≡ 1 → (cycled 1 s).1.ram ≡ s.1.ram
+pub idle-keeps : (s : Machine) → s.0.owed ≡ 1 → (after_cycles 1 s).1.ram ≡ s.1.ram
 unfolding cycle_of
 idle-keeps s e = rw e refl
 
 -- a WRM
-pub write-does : (s : Machine) → s.0.owed ≢ 1 → instruction_at s.0 s.1 ≡ Some Wrm → cycled 1 s ≡ effect Wrm s.0 s.1
+pub write-does : (s : Machine) → s.0.owed ≢ 1 → instruction_at s.0 s.1 ≡ Some Wrm → after_cycles 1 s ≡ effect Wrm s.0 s.1
 unfolding cycle_of
 write-does s free at = let e : eqb s.0.owed 1 ≡ false = grind (arith, nat_tests) in rw (e, at) refl
 
@@ -152,8 +152,8 @@ is_wrm (Some Wrm) = true
 is_wrm _ = false
 
 -- code by code
-other-codes : (x : ℕ) → list_all (λ code. eqb code 224 || not (is_wrm (decoded code x))) (range_with_len 0 256) ≡ true
-unfolding decoded row_of is_wrm
+other-codes : (x : ℕ) → list_all (λ code. eqb code 224 || not (is_wrm (instruction_of code x))) (range_with_len 0 256) ≡ true
+unfolding instruction_of row_of is_wrm
 other-codes x = refl
 
 both-true : (a b : Bool) → (a && b) ≡ true → a ≡ true
@@ -172,8 +172,8 @@ all-at p a (suc n) k h l m =
       | inr ne ↦ all-at p (a + 1) n k (rest-true (p a) _ h) (omega arith) (omega arith)
     ]
 
-pub code-writes : (code x : ℕ) → code ≡ 224 → decoded code x ≡ Some Wrm
-unfolding decoded row_of
+pub code-writes : (code x : ℕ) → code ≡ 224 → instruction_of code x ≡ Some Wrm
+unfolding instruction_of row_of
 code-writes code x e = rw e refl
 
 neither-way : (a b : Bool) → a ≡ false → b ≡ true → (a || not b) ≡ true → ⊥
@@ -181,13 +181,13 @@ neither-way true b e f h = cc
 neither-way false true e f h = cc
 neither-way false false e f h = cc
 
-pub only-code : (code x : ℕ) → code < 256 → code ≢ 224 → decoded code x ≢ Some Wrm
+pub only-code : (code x : ℕ) → code < 256 → code ≢ 224 → instruction_of code x ≢ Some Wrm
 unfolding is_wrm
 only-code code x l ne e =
     let off : eqb code 224 ≡ false = grind (arith, nat_tests) in
-    let on = all-at (λ c. eqb c 224 || not (is_wrm (decoded c x))) 0 256 code (other-codes x) (omega arith) l in
-    let at : is_wrm (decoded code x) ≡ true = ap is_wrm e in
-    neither-way (eqb code 224) (is_wrm (decoded code x)) off at on
+    let on = all-at (λ c. eqb c 224 || not (is_wrm (instruction_of c x))) 0 256 code (other-codes x) (omega arith) l in
+    let at : is_wrm (instruction_of code x) ≡ true = ap is_wrm e in
+    neither-way (eqb code 224) (is_wrm (instruction_of code x)) off at on
 
 -- ---- what a write does to the selected character
 

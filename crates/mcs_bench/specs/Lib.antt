@@ -1,4 +1,4 @@
 pub mod Breaks
-pub mod Held
+pub mod ChipLists
 pub mod Runs
 pub mod States

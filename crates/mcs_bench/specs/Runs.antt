@@ -4,16 +4,16 @@ use Rattle.mcs_model.specs.declared.command.Command.TheVariants.{Run}
 use Rattle.mcs_model.specs.declared.op.Op.TheVariants.{Wrm}
 use Rattle.mcs_model.specs.declared.stop.Stop.{Stop}
 use Rattle.mcs_model.specs.declared.stop.Stop.TheVariants.{Breakpoint, Watched}
-use Rattle.mcs_model.specs.Command.{changed}
+use Rattle.mcs_model.specs.Command.{after_change}
 use Rattle.mcs_model.specs.BenchState.{BenchState}
 use Rattle.mcs_model.specs.Listed.{is_listed}
-use Rattle.mcs_model.specs.Bus.{src_of, ram_at, after_ram}
+use Rattle.mcs_model.specs.Bus.{src_of, ram_place, after_ram}
 use Rattle.mcs_model.specs.Effect.{instruction_at}
-use Rattle.mcs_model.specs.Running.{Machine, Stops, is_outside, cycled, at_break, has_changed, stop_after, run_length, after_run, run_stop, step_length, after_step, step_stop}
+use Rattle.mcs_model.specs.Running.{Machine, Stops, is_outside, after_cycles, at_break, has_changed, stop_after, run_length, after_run, run_stop, step_length, after_step, step_stop}
 
 -- why a run stops after a cycle, except for a code outside and its end
 abbrev pub mark_of : Bool → Bool → Option Stop
-mark_of broken changed = if broken then Some Breakpoint else if changed then Some Watched else None
+mark_of broken altered = if broken then Some Breakpoint else if altered then Some Watched else None
 
 -- the same of the machine t after k cycles, the last one from s
 abbrev pub mark_at : Stops → ℕ → Machine → Machine → Option Stop
@@ -22,33 +22,33 @@ mark_at stops k s t = mark_of (at_break stops.breaks k t) (has_changed stops.wat
 -- a run of at most n cycles from s, which did k of them and came to t: no reason to stop was passed, and it stopped at a
 -- breakpoint, after a change of a watched character, at its end, or where no cycle can follow
 pub record RanOn (stops : Stops) (n : ℕ) (s t : Machine) (k : ℕ) (mark : Option Stop) : Type 0 where
-  pub machine : t ≡ cycled k s
+  pub machine : t ≡ after_cycles k s
   pub within : k ≤ n
   pub passed : (j : ℕ) → j < k → stop_after stops n s j ≡ None
-  pub found : mark_at stops k (cycled (k - 1) s) t ≡ mark
+  pub found : mark_at stops k (after_cycles (k - 1) s) t ≡ mark
   pub unmarked : mark ≡ None → is_outside t ≡ false → k ≡ n
 
 -- the place of the selected character
-abbrev pub selected : Machine → ℕ
-selected t = ram_at t.0.dcl (src_of t.1 t.0.dcl)
+abbrev pub selected_place : Machine → ℕ
+selected_place t = ram_place t.0.dcl (src_of t.1 t.0.dcl)
 
 -- whether WRM gives the selected character another value
 abbrev pub alters_selected : Machine → Bool
 alters_selected t =
-    not (slice_index t.1.ram (selected t)
-    == slice_index (after_ram t.1 t.0.dcl t.0.acc).ram (selected t))
+    not (slice_index t.1.ram (selected_place t)
+    == slice_index (after_ram t.1 t.0.dcl t.0.acc).ram (selected_place t))
 
 -- whether the instruction at the counter gives the selected character another value, where that is watched
 abbrev pub WillChange : List ℕ → Machine → Bool → Type 0
 WillChange watches t b =
     (((watches ≡ []) ⊎ (instruction_at t.0 t.1 ≢ Some Wrm)) × (b ≡ false))
     ⊎ ((instruction_at t.0 t.1 ≡ Some Wrm) ×
-    (b ≡ (is_listed watches (selected t) && alters_selected t)))
+    (b ≡ (is_listed watches (selected_place t) && alters_selected t)))
 
 -- whether a watched character changed in the last of the d cycles of an instruction from t on; none did before
-pub record Seen (watches : List ℕ) (t : Machine) (d : ℕ) (changed : Bool) : Type 0 where
-  pub before : (j : ℕ) → 0 < j → j < d → has_changed watches (cycled (j - 1) t) (cycled j t) ≡ false
-  pub last : 0 < d → has_changed watches (cycled (d - 1) t) (cycled d t) ≡ changed
+pub record Seen (watches : List ℕ) (t : Machine) (d : ℕ) (altered : Bool) : Type 0 where
+  pub before : (j : ℕ) → 0 < j → j < d → has_changed watches (after_cycles (j - 1) t) (after_cycles j t) ≡ false
+  pub last : 0 < d → has_changed watches (after_cycles (d - 1) t) (after_cycles d t) ≡ altered
 
 -- a run of at most n cycles from s: what it answers, and where it comes to
 pub record RanTo (stops : Stops) (n : ℕ) (s t : Machine) (k : ℕ) (why : Stop) : Type 0 where
@@ -66,4 +66,4 @@ pub record SteppedTo (s t : Machine) (k : ℕ) (why : Stop) : Type 0 where
 abbrev pub RunsAddUp : Type 0
 RunsAddUp =
     (s : BenchState) (a b : ℕ) → s.breakpoints ≡ [] → s.watches ≡ [] →
-    changed (changed s (Run a)) (Run b) ≡ changed s (Run (a + b))
+    after_change (after_change s (Run a)) (Run b) ≡ after_change s (Run (a + b))

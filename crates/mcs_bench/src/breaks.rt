@@ -3,7 +3,7 @@ ghost use Rattle.std.specs.Prelude.{◌≡◌, ◌<◌, ◌≤◌, ◌||◌, tru
 ghost use Rattle.std.specs.List.{insert};
 ghost use Rattle.std.specs.List.Sorted.{IsStrictlyIncreasing};
 ghost use Rattle.mcs_model.specs.Validity.{AreBreakpoints};
-ghost use Rattle.mcs_model.specs.Listed.{is_listed, inserted, with_listed, without_listed};
+ghost use Rattle.mcs_model.specs.Listed.{is_listed, insert_place, with_listed, without_listed};
 
 use crate::laws::are_addresses;
 use arrayvec::ArrayVec;
@@ -31,7 +31,7 @@ impl Model for Breaks {
 
 /// Where the first address above another one stands; after the last one where there is none.
 fn place_of(list: &[Addr], at: Addr) -> usize
-    ensures place { insert list.now result at ≡ inserted list.now at }
+    ensures place { insert list.now result at ≡ insert_place list.now at }
     ensures within { result ≤ length list.now }
 {
     for i in 0..list.len() {

@@ -3,7 +3,7 @@ ghost use Rattle.std.specs.Prelude.{◌≡◌, ◌&&◌, ◌||◌, ◌<◌, Some
 ghost use Rattle.std.specs.List.{list_any};
 ghost use Rattle.mcs_model.specs.Listed.{is_listed};
 ghost use Rattle.mcs_model.specs.Places.{with_rom_bytes};
-ghost use Rattle.mcs_model.specs.Command.{refusal, own_refusal, place_refusal, lacks_rom, after, changed, reply, with_place};
+ghost use Rattle.mcs_model.specs.Command.{refusal, own_refusal, place_refusal, lacks_rom, after, after_change, reply, with_place};
 
 use crate::bench::Bench;
 use crate::running::{run, step};
@@ -128,7 +128,7 @@ impl Bench {
 
     /// Puts the processor and the rig on another board.
     fn wire(&mut self, board: &Board)
-        ensures { self.new ≡ changed self.old (Command.Wire board.now) }
+        ensures { self.new ≡ after_change self.old (Command.Wire board.now) }
     {
         every_board_fits_the_bench(board);
         self.rig.wire(board);
@@ -162,7 +162,7 @@ impl Bench {
 
     /// Power off and on.
     fn reset(&mut self)
-        ensures { self.new ≡ changed self.old Command.Reset }
+        ensures { self.new ≡ after_change self.old Command.Reset }
     {
         self.cpu = Cpu::new();
         self.rig.reset();
@@ -170,7 +170,7 @@ impl Bench {
 
     /// Runs up to `n` cycles.
     fn run(&mut self, n: u32) -> Reply
-        ensures state { self.new ≡ changed self.old (Command.Run n) }
+        ensures state { self.new ≡ after_change self.old (Command.Run n) }
         ensures reply { result ≡ reply self.old (Command.Run n) }
     {
         let (cycles, stop) = run(&mut self.cpu, &mut self.rig, &self.breaks, &self.watches, n);
@@ -179,7 +179,7 @@ impl Bench {
 
     /// Does one instruction, or the idle cycle of one.
     fn step(&mut self) -> Reply
-        ensures state { self.new ≡ changed self.old Command.Step }
+        ensures state { self.new ≡ after_change self.old Command.Step }
         ensures reply { result ≡ reply self.old Command.Step }
     {
         let (cycles, stop) = step(&mut self.cpu, &mut self.rig);
@@ -189,7 +189,7 @@ impl Bench {
     /// Does what a command does, except for the count of commands.
     fn change(&mut self, command: &Command) -> Reply
         requires { own_refusal self.old command.now ≡ None }
-        ensures state { self.new ≡ changed self.old command.now }
+        ensures state { self.new ≡ after_change self.old command.now }
         ensures reply { result ≡ reply self.old command.now }
     {
         match command {

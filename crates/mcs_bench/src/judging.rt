@@ -4,11 +4,11 @@ ghost use Rattle.std.specs.List.Sorted.{IsStrictlyIncreasing};
 ghost use Rattle.mcs_nibble.specs.Ports.{latch_value};
 ghost use Rattle.mcs_model.specs.Boards.{masks_on, chain_count, chain_bits, key_count};
 ghost use Rattle.mcs_model.specs.Validity.{AreBelow, AreBreakpoints, AreWatches, IsAbsentZero, IsInRange, IsValid, IsValidBus, IsValidRegs};
-ghost use Rattle.mcs_bench.specs.Held.{IsZeroWhereAbsent};
+ghost use Rattle.mcs_bench.specs.ChipLists.{IsZeroWhereAbsent};
 ghost use Rattle.mcs_bench.specs.States.{state_of, rows_of};
 
 use crate::flat::Flat;
-use crate::held::{Held, is_absent_zero};
+use crate::chip_list::{ChipList, is_absent_zero};
 use arrayvec::ArrayVec;
 use mcs_model::board::Board;
 use mcs_model::limits::CHAIN_PLACES;
@@ -173,17 +173,17 @@ impl Flat {
     }
 
     /// Whether the numbers of absent chips in a list are 0.
-    fn is_zero_where_absent(&self, held: Held) -> bool
+    fn is_zero_where_absent(&self, list: ChipList) -> bool
         requires { IsInRange (state_of self.now).bus }
-        ensures { IsTrue result ↔ IsZeroWhereAbsent (state_of self.now).bus held }
+        ensures { IsTrue result ↔ IsZeroWhereAbsent (state_of self.now).bus list }
     {
         let board = &self.board;
-        match held {
-            Held::RomBytes => is_absent_zero(board, held, self.rom.bytes()),
-            Held::Characters => is_absent_zero(board, held, self.ram.bytes()),
-            Held::StatusCharacters => is_absent_zero(board, held, self.status.bytes()),
-            Held::RamPorts => is_absent_zero(board, held, self.ram_ports.bytes()),
-            Held::BankSrcs => is_absent_zero(board, held, &self.ram_src),
+        match list {
+            ChipList::RomBytes => is_absent_zero(board, list, self.rom.bytes()),
+            ChipList::Characters => is_absent_zero(board, list, self.ram.bytes()),
+            ChipList::StatusCharacters => is_absent_zero(board, list, self.status.bytes()),
+            ChipList::RamPorts => is_absent_zero(board, list, self.ram_ports.bytes()),
+            ChipList::BankSrcs => is_absent_zero(board, list, &self.ram_src),
         }
     }
 
@@ -192,19 +192,19 @@ impl Flat {
         requires { IsInRange (state_of self.now).bus }
         ensures { IsTrue result ↔ IsAbsentZero (state_of self.now).bus }
     {
-        if !self.is_zero_where_absent(Held::RomBytes) {
+        if !self.is_zero_where_absent(ChipList::RomBytes) {
             return false;
         }
-        if !self.is_zero_where_absent(Held::Characters) {
+        if !self.is_zero_where_absent(ChipList::Characters) {
             return false;
         }
-        if !self.is_zero_where_absent(Held::StatusCharacters) {
+        if !self.is_zero_where_absent(ChipList::StatusCharacters) {
             return false;
         }
-        if !self.is_zero_where_absent(Held::RamPorts) {
+        if !self.is_zero_where_absent(ChipList::RamPorts) {
             return false;
         }
-        if !self.is_zero_where_absent(Held::BankSrcs) {
+        if !self.is_zero_where_absent(ChipList::BankSrcs) {
             return false;
         }
         can_all_hold(&self.board, self.rom_ports.bytes())

@@ -8,7 +8,7 @@ mod bench;
 mod breaks;
 mod commands;
 mod flat;
-mod held;
+mod chip_list;
 mod judging;
 mod laws;
 mod reading;

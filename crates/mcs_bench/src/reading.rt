@@ -3,7 +3,7 @@ ghost use Rattle.std.specs.Prelude.{◌≡◌, ◌+◌, ◌*◌, ◌<◌, ◌≤
 ghost use Rattle.std.specs.List.Sorted.{IsStrictlyIncreasing};
 ghost use Rattle.mcs_model.specs.Boards.{has_key, key_place};
 ghost use Rattle.mcs_model.specs.Levels.{chain_bit, level, port_at};
-ghost use Rattle.mcs_model.specs.Bus.{status_at};
+ghost use Rattle.mcs_model.specs.Bus.{status_place};
 ghost use Rattle.mcs_model.specs.Validity.{AreWatches};
 
 use crate::bench::Bench;
@@ -76,7 +76,7 @@ impl Bench {
     pub fn status(&self, bank: u8, high: Nibble, k: u8) -> Nibble
         requires bank { bank < 8 }
         requires k { k < 4 }
-        ensures { result ≡ slice_index self.now.bus.status (status_at bank high k) }
+        ensures { result ≡ slice_index self.now.bus.status (status_place bank high k) }
     {
         self.rig.status(bank, high, k)
     }

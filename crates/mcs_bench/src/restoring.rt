@@ -3,13 +3,13 @@ ghost use Rattle.std.specs.Prelude.{◌≡◌, ◌<◌, ◌≤◌, ℕ, All, IfO
 ghost use Rattle.mcs_nibble.specs.Ports.{latch_value};
 ghost use Rattle.mcs_model.specs.Boards.{masks_on, chain_count, chain_bits, key_count};
 ghost use Rattle.mcs_model.specs.Validity.{AreBelow, AreBreakpoints, AreWatches, IsValid, IsValidBus, IsValidRegs};
-ghost use Rattle.mcs_bench.specs.Held.{IsKeyAt};
+ghost use Rattle.mcs_bench.specs.ChipLists.{IsKeyAt};
 ghost use Rattle.mcs_bench.specs.States.{state_of, rows_of};
 
 use crate::bench::Bench;
 use crate::breaks::Breaks;
 use crate::flat::Flat;
-use crate::held::{Held, fill};
+use crate::chip_list::{ChipList, fill};
 use crate::watches::Watches;
 use arrayvec::ArrayVec;
 use mcs_board::{BenchRig, every_board_fits_the_bench};
@@ -156,11 +156,11 @@ fn restore_rig(rig: &mut BenchRig, flat: &Flat)
 {
     every_board_fits_the_bench(&flat.board);
     rig.wire(&flat.board);
-    fill(rig, Held::RomBytes, flat.rom.bytes());
-    fill(rig, Held::Characters, flat.ram.bytes());
-    fill(rig, Held::StatusCharacters, flat.status.bytes());
-    fill(rig, Held::RamPorts, flat.ram_ports.bytes());
-    fill(rig, Held::BankSrcs, &flat.ram_src);
+    fill(rig, ChipList::RomBytes, flat.rom.bytes());
+    fill(rig, ChipList::Characters, flat.ram.bytes());
+    fill(rig, ChipList::StatusCharacters, flat.status.bytes());
+    fill(rig, ChipList::RamPorts, flat.ram_ports.bytes());
+    fill(rig, ChipList::BankSrcs, &flat.ram_src);
     fill_rom_ports(rig, flat.rom_ports.bytes());
     rig.set_rom_src(flat.rom_src);
     fill_chains(rig, flat.chains.as_slice());

@@ -1,7 +1,7 @@
 //! Watched RAM characters.
 ghost use Rattle.std.specs.Prelude.{◌≡◌, ◌<◌, ◌+◌, ◌*◌, ◌||◌, true, [], length, nat_lt};
 ghost use Rattle.mcs_model.specs.Listed.{is_listed, with_listed, without_listed};
-ghost use Rattle.mcs_model.specs.Bus.{ram_at};
+ghost use Rattle.mcs_model.specs.Bus.{ram_place};
 ghost use Rattle.mcs_model.specs.Validity.{AreWatches};
 
 use crate::breaks::Breaks;
@@ -31,7 +31,7 @@ impl Model for Watches {
 #[inline(always)]
 fn place_of(bank: u8, src: u8) -> Addr
     requires { bank < 8 }
-    ensures { result ≡ ram_at bank src }
+    ensures { result ≡ ram_place bank src }
 {
     Addr::ZERO.plus(u16::from(bank) * 256 + u16::from(src))
 }
@@ -65,7 +65,7 @@ impl Watches {
     #[inline(always)]
     pub(crate) fn contains(&self, bank: u8, src: u8) -> bool
         requires { bank < 8 }
-        ensures { result ≡ is_listed self.now (ram_at bank src) }
+        ensures { result ≡ is_listed self.now (ram_place bank src) }
     {
         self.places.contains(place_of(bank, src))
     }
@@ -73,7 +73,7 @@ impl Watches {
     /// Whether a character is watched, or can be.
     pub(crate) fn has_room_for(&self, bank: u8, src: u8) -> bool
         requires { bank < 8 }
-        ensures { result ≡ (is_listed self.now (ram_at bank src)
+        ensures { result ≡ (is_listed self.now (ram_place bank src)
             || nat_lt (length self.now) WATCHES) }
     {
         self.contains(bank, src) || self.places.list().len() < WATCHES
@@ -83,9 +83,9 @@ impl Watches {
     pub(crate) fn set(&mut self, bank: u8, src: u8)
         requires bank { bank < 8 }
         requires src { src < 256 }
-        requires room { (is_listed self.old (ram_at bank src)
+        requires room { (is_listed self.old (ram_place bank src)
             || nat_lt (length self.old) WATCHES) ≡ true }
-        ensures { self.new ≡ with_listed self.old (ram_at bank src) }
+        ensures { self.new ≡ with_listed self.old (ram_place bank src) }
     {
         self.places.set(place_of(bank, src));
     }
@@ -93,7 +93,7 @@ impl Watches {
     /// Watches it no more.
     pub(crate) fn clear(&mut self, bank: u8, src: u8)
         requires { bank < 8 }
-        ensures { self.new ≡ without_listed self.old (ram_at bank src) }
+        ensures { self.new ≡ without_listed self.old (ram_place bank src) }
     {
         self.places.clear(place_of(bank, src));
     }

@@ -1,7 +1,7 @@
 -- The chips of a rig stay those of its board where one of them is replaced by one that is wired as it was.
 use Rattle.std.proofs.Common.{◌≡◌, ℕ, ◌<◌, List, [], Some, None, length, get_or, slice_set, sym, ap, ◌∙◌}
 use Rattle.std.proofs.lemmas.List.{length-set, get_or_default}
-use Rattle.mcs_nibble.specs.Tabled.{grid}
+use Rattle.mcs_nibble.specs.Tables.{grid}
 use Rattle.mcs_nibble.proofs.GridLemmas.{kept-at}
 use Rattle.mcs_ram4002.specs.RamBank.{BankState}
 use Rattle.mcs_rom4001.specs.Roms.{RomState}

@@ -9,7 +9,7 @@ use Rattle.mcs_model.specs.declared.board.BoardParts.{BoardParts}
 use Rattle.mcs_model.specs.declared.board.KeyMatrix.{KeyMatrix}
 use Rattle.mcs_model.specs.Boards.{board_fault_of, masks_on, chain_count, chain_bits}
 use Rattle.mcs_model.specs.Bus.{BusState}
-use Rattle.mcs_model.specs.Levels.{keyed, pulled, bit_when, port_at}
+use Rattle.mcs_model.specs.Levels.{is_pulled, is_pulled_by, bit_when, port_at}
 use Rattle.mcs_board.specs.RigState.{RigParts, rig_of, matrix_on}
 use Rattle.mcs_board.proofs.BoardLemmas.{keys-chain, keys-rows}
 use Rattle.mcs_board.proofs.ClockLemmas.{chain-read}
@@ -36,25 +36,25 @@ rows-fit b chains m v is bits =
           subst (λ (x : KeyMatrix). x.first + x.rows ≤ length (get_or chains x.chain [])) (sym same) there
     ] refl
 
-keyed-some : (s : BusState) (m : KeyMatrix) (chip k : ℕ) → s.board.keys ≡ Some m → pulled (get_or s.chains m.chain []) s.keys m chip k ≡ keyed s chip k
-unfolding keyed
-keyed-some s m chip k is = rw (is, keyed) refl
+keyed-some : (s : BusState) (m : KeyMatrix) (chip k : ℕ) → s.board.keys ≡ Some m → is_pulled_by (get_or s.chains m.chain []) s.keys m chip k ≡ is_pulled s chip k
+unfolding is_pulled
+keyed-some s m chip k is = rw (is, is_pulled) refl
 
-keyed-none : (s : BusState) (chip k : ℕ) → s.board.keys ≡ None → false ≡ keyed s chip k
-unfolding keyed
-keyed-none s chip k is = rw (is, keyed) refl
+keyed-none : (s : BusState) (chip k : ℕ) → s.board.keys ≡ None → false ≡ is_pulled s chip k
+unfolding is_pulled
+keyed-none s chip k is = rw (is, is_pulled) refl
 
 -- what the keys pull is what the flat state says
-pub keyed-by : (p : RigParts) (chip k : ℕ) → board_fault_of p.board ≡ None → p.keys.matrix ≡ matrix_on p.board → pulled (get_or p.chains p.keys.matrix.chain []) p.keys.down p.keys.matrix chip k ≡ keyed (rig_of p) chip k
+pub keyed-by : (p : RigParts) (chip k : ℕ) → board_fault_of p.board ≡ None → p.keys.matrix ≡ matrix_on p.board → is_pulled_by (get_or p.chains p.keys.matrix.chain []) p.keys.down p.keys.matrix chip k ≡ is_pulled (rig_of p) chip k
 keyed-by p chip k v is =
     let down = p.keys.down in
-    elim (p.board.keys) as (λ o. p.board.keys ≡ o → pulled (get_or p.chains p.keys.matrix.chain []) p.keys.down p.keys.matrix chip k ≡ keyed (rig_of p) chip k) [
+    elim (p.board.keys) as (λ o. p.board.keys ≡ o → is_pulled_by (get_or p.chains p.keys.matrix.chain []) p.keys.down p.keys.matrix chip k ≡ is_pulled (rig_of p) chip k) [
       | Some n ↦ λ e.
-          ap (λ (x : KeyMatrix). pulled (get_or p.chains x.chain []) down x chip k) (is ∙ matrix-some p.board n e)
-          ∙ ap (λ row. pulled row down n chip k) (sym (chain-read p.board p.chains n.chain (keys-chain p.board n v e)))
+          ap (λ (x : KeyMatrix). is_pulled_by (get_or p.chains x.chain []) down x chip k) (is ∙ matrix-some p.board n e)
+          ∙ ap (λ row. is_pulled_by row down n chip k) (sym (chain-read p.board p.chains n.chain (keys-chain p.board n v e)))
           ∙ keyed-some (rig_of p) n chip k e
       | None ↦ λ e.
-          ap (λ (x : KeyMatrix). pulled (get_or p.chains x.chain []) down x chip k) (is ∙ matrix-none p.board e)
+          ap (λ (x : KeyMatrix). is_pulled_by (get_or p.chains x.chain []) down x chip k) (is ∙ matrix-none p.board e)
           ∙ keyed-none (rig_of p) chip k e
     ] refl
 
@@ -92,7 +92,7 @@ read-inputs f mask h =
       picked (mask_at mask 3) (bit_of (nibble_of f) 3) (f 3) (bit-nibble f 3 (omega arith) h),
     ) refl
 
-pub port-some : (s : BusState) (chip : ℕ) (mask : List LineMask) → masks_on s.board chip ≡ Some mask → read_lines (λ k. bit_when (keyed s chip k)) mask ≡ port_at s chip
+pub port-some : (s : BusState) (chip : ℕ) (mask : List LineMask) → masks_on s.board chip ≡ Some mask → read_lines (λ k. bit_when (is_pulled s chip k)) mask ≡ port_at s chip
 unfolding port_at
 port-some s chip mask is = rw (is, port_at) refl
 

@@ -3,7 +3,7 @@ use Rattle.std.proofs.Common.{◌≡◌, ℕ, ◌*◌, ◌/◌, ◌%◌, ◌<◌
 use Rattle.std.proofs.lemmas.Bool.{cases_lt}
 use Rattle.std.proofs.lemmas.List.{get_or-replicate, get_or_past, length-replicate, length-map, get_or-map}
 use Rattle.mcs_nibble.specs.declared.lines.LineMask.{LineMask}
-use Rattle.mcs_nibble.specs.Tabled.{tabled, column, grid}
+use Rattle.mcs_nibble.specs.Tables.{table_of, column, grid}
 use Rattle.mcs_nibble.proofs.TabledLemmas.{same_tabled, tabled_from}
 use Rattle.mcs_nibble.proofs.GridLemmas.{length-grid, blank-grid, blank-column}
 use Rattle.mcs_ram4002.specs.RamBank.{BankState, blank_bank}
@@ -16,7 +16,7 @@ use Rattle.mcs_model.specs.Places.{kept_rom, blank_chains, after_reset, after_wi
 use Rattle.mcs_keypad.specs.Keys.{KeyState, no_matrix}
 use Rattle.mcs_board.specs.RigState.{RigParts, matrix_on, no_bank, bytes_of_rom, port_of_rom, masks_of_rom, wired_chains, rig_of, Fitted}
 use Rattle.mcs_board.proofs.RigLemmas.{byte-of}
-use Rattle.mcs_board.specs.Fitting.{FitsCounts, bytes_in, rewired, silenced}
+use Rattle.mcs_board.specs.Fitting.{FitsCounts, bytes_in, rom_after_wire, rom_after_reset}
 use Rattle.mcs_ram4002.proofs.BankLemmas.{slice_index-zeros}
 
 same_grid : {X : Type 0} (n wide : ℕ) (f : X → List ℕ) (d : X) (xs ys : List X) → ((i : ℕ) → f (get_or xs i d) ≡ f (get_or ys i d)) → grid n wide f d xs ≡ grid n wide f d ys
@@ -68,23 +68,23 @@ chains-blank b chains fit rows =
 ports-blank : (roms : List (Option RomState)) → ((k : ℕ) → port_of_rom (get_or roms k None) ≡ 0) → column 16 port_of_rom None roms ≡ replicate 16 0
 ports-blank roms h = blank-column 16 port_of_rom None roms h
 
-silenced-bytes : (rom : Option RomState) → bytes_of_rom (silenced rom) ≡ bytes_of_rom rom
+silenced-bytes : (rom : Option RomState) → bytes_of_rom (rom_after_reset rom) ≡ bytes_of_rom rom
 silenced-bytes (Some r) = refl
 silenced-bytes None = refl
 
-silenced-port : (rom : Option RomState) → port_of_rom (silenced rom) ≡ 0
+silenced-port : (rom : Option RomState) → port_of_rom (rom_after_reset rom) ≡ 0
 silenced-port (Some r) = refl
 silenced-port None = refl
 
-silenced-masks : (rom : Option RomState) → masks_of_rom (silenced rom) ≡ masks_of_rom rom
+silenced-masks : (rom : Option RomState) → masks_of_rom (rom_after_reset rom) ≡ masks_of_rom rom
 silenced-masks (Some r) = refl
 silenced-masks None = refl
 
-rewired-masks : (mask : Option (List LineMask)) (rom : Option RomState) → masks_of_rom (rewired mask rom) ≡ mask
+rewired-masks : (mask : Option (List LineMask)) (rom : Option RomState) → masks_of_rom (rom_after_wire mask rom) ≡ mask
 rewired-masks (Some m) rom = refl
 rewired-masks None rom = refl
 
-rewired-port : (mask : Option (List LineMask)) (rom : Option RomState) → port_of_rom (rewired mask rom) ≡ 0
+rewired-port : (mask : Option (List LineMask)) (rom : Option RomState) → port_of_rom (rom_after_wire mask rom) ≡ 0
 rewired-port (Some m) rom = refl
 rewired-port None rom = refl
 
@@ -92,7 +92,7 @@ bytes-in : (rom : Option RomState) (k : ℕ) → slice_index (bytes_in rom) k �
 bytes-in (Some r) k = refl
 bytes-in None k = slice_index-zeros 256 k
 
-rewired-bytes : (mask : Option (List LineMask)) (rom : Option RomState) (k : ℕ) → slice_index (bytes_of_rom (rewired mask rom)) k ≡ (if is_some mask then slice_index (bytes_of_rom rom) k else 0)
+rewired-bytes : (mask : Option (List LineMask)) (rom : Option RomState) (k : ℕ) → slice_index (bytes_of_rom (rom_after_wire mask rom)) k ≡ (if is_some mask then slice_index (bytes_of_rom rom) k else 0)
 rewired-bytes (Some m) rom k = bytes-in rom k
 rewired-bytes None rom k = refl
 
@@ -101,21 +101,21 @@ pub rom-at : (roms : List (Option RomState)) (at : ℕ) → at < 4096 → slice_
 rom-at roms at h = byte-of roms at (get_or roms (at / 256) None) h refl
 
 -- every place for a ROM, on a new board; beyond the places the board has none
-pub rewired-every : (b : BoardParts) (roms roms' : List (Option RomState)) → length roms' ≡ length roms → ((k : ℕ) → k < length roms → get_or roms' k None ≡ rewired (masks_on b k) (get_or roms k None)) → ((k : ℕ) → length roms ≤ k → masks_on b k ≡ None) → (k : ℕ) → get_or roms' k None ≡ rewired (masks_on b k) (get_or roms k None)
+pub rewired-every : (b : BoardParts) (roms roms' : List (Option RomState)) → length roms' ≡ length roms → ((k : ℕ) → k < length roms → get_or roms' k None ≡ rom_after_wire (masks_on b k) (get_or roms k None)) → ((k : ℕ) → length roms ≤ k → masks_on b k ≡ None) → (k : ℕ) → get_or roms' k None ≡ rom_after_wire (masks_on b k) (get_or roms k None)
 rewired-every b roms roms' l h absent k =
     elim (cases_lt k (length roms)) [
       | inl below ↦ h k below
-      | inr beyond ↦ get_or_past roms' k None (omega arith) ∙ sym (ap (λ m. rewired m (get_or roms k None)) (absent k beyond))
+      | inr beyond ↦ get_or_past roms' k None (omega arith) ∙ sym (ap (λ m. rom_after_wire m (get_or roms k None)) (absent k beyond))
     ]
 
-pub silenced-every : (roms roms' : List (Option RomState)) → length roms' ≡ length roms → ((k : ℕ) → k < length roms → get_or roms' k None ≡ silenced (get_or roms k None)) → (k : ℕ) → get_or roms' k None ≡ silenced (get_or roms k None)
+pub silenced-every : (roms roms' : List (Option RomState)) → length roms' ≡ length roms → ((k : ℕ) → k < length roms → get_or roms' k None ≡ rom_after_reset (get_or roms k None)) → (k : ℕ) → get_or roms' k None ≡ rom_after_reset (get_or roms k None)
 silenced-every roms roms' l h k =
     elim (cases_lt k (length roms)) [
       | inl below ↦ h k below
-      | inr beyond ↦ get_or_past roms' k None (omega arith) ∙ sym (ap silenced (get_or_past roms k None beyond))
+      | inr beyond ↦ get_or_past roms' k None (omega arith) ∙ sym (ap rom_after_reset (get_or_past roms k None beyond))
     ]
 
-kept-bytes : (b : BoardParts) (roms roms' : List (Option RomState)) → ((k : ℕ) → get_or roms' k None ≡ rewired (masks_on b k) (get_or roms k None)) → grid 16 256 bytes_of_rom None roms' ≡ kept_rom b (grid 16 256 bytes_of_rom None roms)
+kept-bytes : (b : BoardParts) (roms roms' : List (Option RomState)) → ((k : ℕ) → get_or roms' k None ≡ rom_after_wire (masks_on b k) (get_or roms k None)) → grid 16 256 bytes_of_rom None roms' ≡ kept_rom b (grid 16 256 bytes_of_rom None roms)
 unfolding kept_rom
 kept-bytes b roms roms' every =
     tabled_from 4096 (λ at. if is_some (masks_on b (at / 256)) then slice_index (grid 16 256 bytes_of_rom None roms) at else 0) (grid 16 256 bytes_of_rom None roms') 0 (length-grid 16 256 bytes_of_rom None roms')
@@ -127,7 +127,7 @@ kept-bytes b roms roms' every =
 
 -- a rig put on a new board: what each place is then
 pub record IsRewired (old new : RigParts) : Type 0 where
-  pub roms : (k : ℕ) → get_or new.roms k None ≡ rewired (masks_on new.board k) (get_or old.roms k None)
+  pub roms : (k : ℕ) → get_or new.roms k None ≡ rom_after_wire (masks_on new.board k) (get_or old.roms k None)
   pub program : new.program ≡ kept_rom new.board old.program
   pub banks : AllBlank new.banks (slice_index new.board.banks)
   pub fit : chain_count new.board ≤ length new.chains
@@ -148,7 +148,7 @@ wire-state old new w =
     rw (bytes, z.ram, z.status, z.ports, ports, z.src, cs, up, w.src, w.test) refl
 
 -- the state of a rig after a reset
-pub reset-state : (p : RigParts) (roms : List (Option RomState)) (banks : List BankState) (chains : List (List ℕ)) (wired : ℕ → ℕ) → ((k : ℕ) → get_or roms k None ≡ silenced (get_or p.roms k None)) → AllBlank banks wired → chain_count p.board ≤ length chains → ((k : ℕ) → k < chain_count p.board → get_or chains k [] ≡ replicate (chain_bits p.board k) 0) → rig_of (record p { roms = roms; banks = banks; chains = chains; rom_src = 0 }) ≡ after_reset (rig_of p)
+pub reset-state : (p : RigParts) (roms : List (Option RomState)) (banks : List BankState) (chains : List (List ℕ)) (wired : ℕ → ℕ) → ((k : ℕ) → get_or roms k None ≡ rom_after_reset (get_or p.roms k None)) → AllBlank banks wired → chain_count p.board ≤ length chains → ((k : ℕ) → k < chain_count p.board → get_or chains k [] ≡ replicate (chain_bits p.board k) 0) → rig_of (record p { roms = roms; banks = banks; chains = chains; rom_src = 0 }) ≡ after_reset (rig_of p)
 unfolding zero_bus
 reset-state p roms banks chains wired every blank fit rows =
     let z = blank-zeros banks wired blank in
@@ -158,7 +158,7 @@ reset-state p roms banks chains wired every blank fit rows =
     rw (bytes, z.ram, z.status, z.ports, ports, z.src, cs) refl
 
 -- the chips of a rig fit its board after a reset
-pub reset-fitted : (p : RigParts) (roms : List (Option RomState)) (banks : List BankState) (chains : List (List ℕ)) (rom_places bank_places chain_places : ℕ) → Fitted p rom_places bank_places chain_places → length roms ≡ length p.roms → length banks ≡ length p.banks → length chains ≡ length p.chains → ((k : ℕ) → get_or roms k None ≡ silenced (get_or p.roms k None)) → AllBlank banks (λ k. (get_or p.banks k no_bank).wired) → ((k : ℕ) → k < chain_count p.board → get_or chains k [] ≡ replicate (chain_bits p.board k) 0) → Fitted (record p { roms = roms; banks = banks; chains = chains; rom_src = 0 }) rom_places bank_places chain_places
+pub reset-fitted : (p : RigParts) (roms : List (Option RomState)) (banks : List BankState) (chains : List (List ℕ)) (rom_places bank_places chain_places : ℕ) → Fitted p rom_places bank_places chain_places → length roms ≡ length p.roms → length banks ≡ length p.banks → length chains ≡ length p.chains → ((k : ℕ) → get_or roms k None ≡ rom_after_reset (get_or p.roms k None)) → AllBlank banks (λ k. (get_or p.banks k no_bank).wired) → ((k : ℕ) → k < chain_count p.board → get_or chains k [] ≡ replicate (chain_bits p.board k) 0) → Fitted (record p { roms = roms; banks = banks; chains = chains; rom_src = 0 }) rom_places bank_places chain_places
 reset-fitted p roms banks chains rom_places bank_places chain_places v rl bl cl every blank rows = record {
   roms_len = rl ∙ v.roms_len;
   banks_len = bl ∙ v.banks_len;
@@ -245,7 +245,7 @@ new-fitted rom_places bank_places chain_places = record {
 
 -- the state of a new rig
 pub new-state : (rom_places bank_places chain_places : ℕ) → rig_of (new_parts rom_places bank_places chain_places) ≡ record zero_bus { test = 1 }
-unfolding zero_bus tabled
+unfolding zero_bus table_of
 new-state rom_places bank_places chain_places =
     let blank : AllBlank (replicate bank_places (blank_bank 0)) (λ _. 0) = record { at = λ k h. let l = length-replicate bank_places (blank_bank 0) in get_or-replicate bank_places k (blank_bank 0) no_bank (omega arith) } in
     let z = blank-zeros (replicate bank_places (blank_bank 0)) (λ _. 0) blank in

@@ -5,7 +5,7 @@ use Rattle.std.proofs.lemmas.Bool.{cases_lt}
 use Rattle.std.proofs.lemmas.List.{get_or_past}
 use Rattle.mcs_nibble.specs.declared.lines.LineMask.{LineMask}
 use Rattle.mcs_nibble.specs.Ports.{latch_value}
-use Rattle.mcs_nibble.specs.Tabled.{column, grid}
+use Rattle.mcs_nibble.specs.Tables.{column, grid}
 use Rattle.mcs_nibble.proofs.TabledLemmas.{length-tabled}
 use Rattle.mcs_nibble.proofs.GridLemmas.{length-grid, length-column}
 use Rattle.mcs_nibble.proofs.PortLemmas.{latch_value-zero}

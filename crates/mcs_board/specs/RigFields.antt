@@ -3,8 +3,8 @@ use Rattle.std.specs.Prelude.{ℕ}
 use Rattle.mcs_board.specs.declared.rig.Rig.TheInside.{Inside}
 use Rattle.mcs_board.specs.RigState.{RigParts}
 
-abbrev pub parts_of : {ROMS BANKS CHAINS MAX : ℕ} → Inside ROMS BANKS CHAINS MAX → RigParts
-parts_of i = record {
+abbrev pub rig_parts : {ROMS BANKS CHAINS MAX : ℕ} → Inside ROMS BANKS CHAINS MAX → RigParts
+rig_parts i = record {
   board = i.board;
   roms = i.roms.items;
   program = i.program.items;

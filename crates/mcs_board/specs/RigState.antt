@@ -1,7 +1,7 @@
 -- The chips of a rig as the bus's part of the flat state.
 -- Source: our own choice. A ROM's page is its number, and a bank's number is the command register's value.
 use Rattle.std.specs.Prelude.{◌≡◌, ℕ, ◌<◌, ◌≤◌, List, [], Option, Some, None, slice_index, slice_index_or, length}
-use Rattle.mcs_nibble.specs.Tabled.{tabled, column, grid}
+use Rattle.mcs_nibble.specs.Tables.{table_of, column, grid}
 use Rattle.mcs_nibble.specs.declared.lines.LineMask.{LineMask}
 use Rattle.mcs_ram4002.specs.declared.BankWrite.{BankWrite}
 use Rattle.mcs_ram4002.specs.declared.BankWrite.TheVariants.{Character, Status, Port, Src}
@@ -32,7 +32,7 @@ masks_of_rom None = None
 
 -- the chains that the board has, of those that a rig keeps
 abbrev pub wired_chains : BoardParts → List (List ℕ) → List (List ℕ)
-wired_chains b chains = tabled (chain_count b) (λ i. slice_index_or chains i [])
+wired_chains b chains = table_of (chain_count b) (λ i. slice_index_or chains i [])
 
 -- the key matrix of a board; one without rows and columns where it has none
 abbrev pub matrix_on : BoardParts → KeyMatrix

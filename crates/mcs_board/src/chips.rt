@@ -5,7 +5,7 @@ ghost use Rattle.mcs_ram4002.specs.RamBank.{blank_bank, IsValidBank};
 ghost use Rattle.mcs_rom4001.specs.Roms.{IsValidRom};
 ghost use Rattle.mcs_model.specs.Boards.{masks_on, chain_bits, key_count};
 ghost use Rattle.mcs_model.specs.Places.{kept_rom};
-ghost use Rattle.mcs_board.specs.Fitting.{rewired, silenced};
+ghost use Rattle.mcs_board.specs.Fitting.{rom_after_wire, rom_after_reset};
 ghost use Rattle.mcs_board.specs.RigState.{no_bank, matrix_on};
 
 use mcs_keypad::KeyPad;
@@ -136,7 +136,7 @@ pub(crate) fn chains_fit(board: &Board, size: usize) -> bool
 
 /// Puts a ROM's place on a new board, of which `mask` has the ROM's masks if it is there.
 fn rewire_rom(rom: &mut Option<Rom>, mask: Option<[LineMask; 4]>)
-    ensures { rom.new ≡ rewired mask rom.old }
+    ensures { rom.new ≡ rom_after_wire mask rom.old }
 {
     match mask {
         None => *rom = None,
@@ -151,7 +151,7 @@ fn rewire_rom(rom: &mut Option<Rom>, mask: Option<[LineMask; 4]>)
 pub(crate) fn rewire_roms(roms: &mut Vec<Option<Rom>>, board: &Board)
     ensures count { length roms.new.items ≡ length roms.old.items }
     ensures roms { (k : ℕ) → k < length roms.old.items → slice_index_or roms.new.items k None
-        ≡ rewired (masks_on board.now k) (slice_index_or roms.old.items k None) }
+        ≡ rom_after_wire (masks_on board.now k) (slice_index_or roms.old.items k None) }
 {
     for i in 0..roms.len() {
         let mask = mask_of(board, i);
@@ -210,7 +210,7 @@ pub(crate) fn keys_of(board: &Board) -> KeyPad
 
 /// Makes the latch of a ROM 0, if it is there.
 fn clear_port(rom: &mut Option<Rom>)
-    ensures { rom.new ≡ silenced rom.old }
+    ensures { rom.new ≡ rom_after_reset rom.old }
 {
     if let Some(rom) = rom {
         rom.clear_port();
@@ -221,7 +221,7 @@ fn clear_port(rom: &mut Option<Rom>)
 pub(crate) fn clear_ports(roms: &mut Vec<Option<Rom>>)
     ensures count { length roms.new.items ≡ length roms.old.items }
     ensures roms { (k : ℕ) → k < length roms.old.items → slice_index_or roms.new.items k None
-        ≡ silenced (slice_index_or roms.old.items k None) }
+        ≡ rom_after_reset (slice_index_or roms.old.items k None) }
 {
     for i in 0..roms.len() {
         clear_port(&mut roms[i]);

@@ -33,11 +33,11 @@ impl<const ROMS: usize, const BANKS: usize, const CHAINS: usize, const MAX: usiz
     ghost Value = { BusState };
 
     ghost use Rattle.mcs_board.specs.RigState.{rig_of, Fitted};
-    ghost use Rattle.mcs_board.specs.RigFields.{parts_of};
+    ghost use Rattle.mcs_board.specs.RigFields.{rig_parts};
 
-    ghost view = { λ r. rig_of (parts_of r) };
+    ghost view = { λ r. rig_of (rig_parts r) };
 
-    ghost invariant = { λ r. Fitted (parts_of r) ROMS BANKS CHAINS };
+    ghost invariant = { λ r. Fitted (rig_parts r) ROMS BANKS CHAINS };
 }
 
 impl<const ROMS: usize, const BANKS: usize, const CHAINS: usize, const MAX: usize> Rig<

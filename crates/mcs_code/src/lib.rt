@@ -7,7 +7,7 @@
 
 ghost use Rattle.std.specs.Prelude.{◌≡◌, ◌↔◌, IsSome, Some, unwrap_or};
 ghost use Rattle.std.specs.Option.{option_map_or};
-ghost use Rattle.mcs_model.specs.Table.{decoded, word_count_of, cycles_of};
+ghost use Rattle.mcs_model.specs.Table.{instruction_of, word_count_of, cycles_of};
 
 pub use mcs_model::op::Op;
 use mcs_nibble::{Nibble, PairNo, RegNo};
@@ -19,26 +19,26 @@ mod spelling;
 
 /// The instruction that two words spell, or none where the first is outside the table.
 #[inline(always)]
-#[tactic(auto, unfolding(mcs_model::specs::Table::decoded, mcs_model::specs::Table::row_of))]
+#[tactic(auto, unfolding(mcs_model::specs::Table::instruction_of, mcs_model::specs::Table::row_of))]
 pub fn decode(first: u8, second: u8) -> Option<Op>
-    ensures { result ≡ decoded first second }
+    ensures { result ≡ instruction_of first second }
 {
     instructions!(decode_rows!(first, second))
 }
 
 /// The words of an instruction.
-#[tactic(auto, unfolding(mcs_model::specs::Table::decoded, mcs_model::specs::Table::row_of))]
+#[tactic(auto, unfolding(mcs_model::specs::Table::instruction_of, mcs_model::specs::Table::row_of))]
 pub fn encode(op: Op) -> Words
-    ensures decodes { decoded result.first (unwrap_or result.second 0) ≡ Some op }
+    ensures decodes { instruction_of result.first (unwrap_or result.second 0) ≡ Some op }
     ensures second { IsSome result.second ↔ (word_count_of op ≡ 2) }
 {
     instructions!(encode_rows!(op))
 }
 
 /// How many words an instruction with that first word has, 1 or 2; 1 for a code outside the table.
-#[tactic(auto, unfolding(mcs_model::specs::Table::decoded, mcs_model::specs::Table::row_of))]
+#[tactic(auto, unfolding(mcs_model::specs::Table::instruction_of, mcs_model::specs::Table::row_of))]
 pub fn words(code: u8) -> u8
-    ensures { result ≡ option_map_or word_count_of (decoded code 0) 1 }
+    ensures { result ≡ option_map_or word_count_of (instruction_of code 0) 1 }
 {
     instructions!(words_rows!(code))
 }

@@ -13,8 +13,8 @@ use Rattle.mcs_model.specs.Boards.{board_fault_of}
 use Rattle.mcs_codec.specs.Reading.{◌>>=◌, Reading, giving, giving_some, refusing, byte_at}
 use Rattle.mcs_model.specs.Validity.{IsValidBoard}
 use Rattle.mcs_nibble.specs.Ports.{mask_character, mask_of}
-use Rattle.mcs_codec.specs.BoardBytes.{rom_bytes, line_bytes, chain_bytes, counted, keys_bytes, board_bytes}
-use Rattle.mcs_codec.specs.BoardReading.{rom_of, rom_at, masks_of, line_of, line_at, chain_at, keys_at, matrix_at, parts_at, board_at}
+use Rattle.mcs_codec.specs.BoardBytes.{rom_bytes, board_line_bytes, chain_bytes, counted_bytes, keys_bytes, board_bytes}
+use Rattle.mcs_codec.specs.BoardReading.{rom_of, rom_at, masks_of, board_line_of, board_line_at, chain_at, keys_at, matrix_at, parts_at, board_at}
 use Rattle.mcs_codec.proofs.BoardLengths.{IsMask, IsKeys, HasLengths, lengths_of, valid_of}
 use Rattle.mcs_codec.proofs.Codecs.{IsCodec, IsBytes, IsBytes-rest, Steps, then_some, any_codec, bytes_codec, many_codec, any_counted_codec, last, next, no_step, block_codec, giving_codec, only_codec, refit_codec, row}
 use Rattle.mcs_nibble.proofs.PortLemmas.{mask_again}
@@ -51,13 +51,13 @@ given_some None bytes x e = absurd cc
 -- ---- lines
 
 -- what the end of a line says, of the line that it gives
-line_is : (l : Line) (x : Four) (rest : List ℕ) (y : Line × List ℕ) → line_bytes l ≡ four_text x → giving l rest ≡ Some y → (line_bytes y.0 ≡ four_text x) × (rest ≡ y.1) × Unit {0}
-line_is l x rest y text e = let g = given l rest y e in (ap line_bytes (sym g.0) ∙ text, g.1, tt)
+line_is : (l : Line) (x : Four) (rest : List ℕ) (y : Line × List ℕ) → board_line_bytes l ≡ four_text x → giving l rest ≡ Some y → (board_line_bytes y.0 ≡ four_text x) × (rest ≡ y.1) × Unit {0}
+line_is l x rest y text e = let g = given l rest y e in (ap board_line_bytes (sym g.0) ∙ text, g.1, tt)
 
 abbrev line_end : Four → Reading Line
-line_end x = line_of x.0 x.1.0 x.1.1.0 x.1.1.1
+line_end x = board_line_of x.0 x.1.0 x.1.1.0 x.1.1.1
 
-line_made : (x : Four) (rest : List ℕ) (y : Line × List ℕ) → AreFour x → line_end x rest ≡ Some y → (line_bytes y.0 ≡ four_text x) × (rest ≡ y.1) × Unit {0}
+line_made : (x : Four) (rest : List ℕ) (y : Line × List ℕ) → AreFour x → line_end x rest ≡ Some y → (board_line_bytes y.0 ≡ four_text x) × (rest ≡ y.1) × Unit {0}
 line_made (kind, (a, (b, c))) rest y h e =
     elim (chosen (eqb kind 0 && eqb c 0) (giving (Rom a b)) _ rest (Some y) e) [
       | inl t ↦
@@ -80,13 +80,13 @@ line_made (kind, (a, (b, c))) rest y h e =
       ]
     ]
 
-line_unmade : (l : Line) → Unit {0} → (x : Four) × (line_bytes l ≡ four_text x) × AreFour x × ((rest : List ℕ) → line_end x rest ≡ Some (l, rest))
+line_unmade : (l : Line) → Unit {0} → (x : Four) × (board_line_bytes l ≡ four_text x) × AreFour x × ((rest : List ℕ) → line_end x rest ≡ Some (l, rest))
 line_unmade (Rom chip k) h = ((0, (chip, (k, 0))), refl, are_four, λ rest. refl)
 line_unmade (Ram bank chip k) h = ((1, (bank, (chip, k))), refl, are_four, λ rest. refl)
 line_unmade (Chain n i) h = ((2, (n, (i, 0))), refl, are_four, λ rest. refl)
 
-pub line_codec : IsCodec line_bytes (λ _. Unit {0}) line_at
-unfolding line_at
+pub line_codec : IsCodec board_line_bytes (λ _. Unit {0}) board_line_at
+unfolding board_line_at
 line_codec = block_codec (four_steps line_end) (record { made = line_made; unmade = line_unmade })
 
 -- ---- ROMs
@@ -178,7 +178,7 @@ chain_codec = giving_codec (λ p. record { clock = p.0; data_in = p.1.0; chips =
 
 -- the spelling of a key matrix, after its flag
 abbrev matrix_text : KeyMatrix → List ℕ
-matrix_text m = m.chain ∷ m.first ∷ m.rows ∷ counted line_bytes m.columns.items
+matrix_text m = m.chain ∷ m.first ∷ m.rows ∷ counted_bytes board_line_bytes m.columns.items
 
 matrix_codec : IsCodec matrix_text (λ m. IsKeys (Some m)) matrix_at
 unfolding matrix_at

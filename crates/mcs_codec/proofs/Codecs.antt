@@ -6,9 +6,9 @@ use Rattle.std.proofs.lemmas.Bool.{leb-true, le-leb, cases_lt, ltb-false, ltb-tr
 use Rattle.std.proofs.lemmas.List.{take_at, drop_at, take-append-drop, append-nil, length-append, length-take, length-take-le, get_or-take, get_or_past}
 use Rattle.std.proofs.lemmas.Nat.{be_bytes_2, be_bytes_4, from_be_bytes-to_be_bytes_2, from_be_bytes-to_be_bytes_4}
 use Rattle.std.proofs.lemmas.Option.{cond_some}
-use Rattle.mcs_codec.specs.BoardBytes.{counted}
-use Rattle.mcs_codec.specs.CommandBytes.{address}
-use Rattle.mcs_codec.specs.Reading.{◌>>=◌, and_then, Read, Reading, giving, byte_at, number_at, address_at, bytes_at, only, many, small_at, whole_value, whole, counted_at}
+use Rattle.mcs_codec.specs.BoardBytes.{counted_bytes}
+use Rattle.mcs_codec.specs.CommandBytes.{address_bytes}
+use Rattle.mcs_codec.specs.Reading.{◌>>=◌, and_then, Read, Reading, giving, byte_at, wide_number_at, address_at, bytes_at, only, many, small_at, whole_value, whole, counted_at}
 
 -- ---- bytes
 
@@ -82,7 +82,7 @@ wide32 = record {
   below = λ bytes fits. omega (arith, fits 0, fits 1, fits 2, fits 3);
 }
 
-number_takes : (w : Width) (limit : ℕ) (wide : IsWide w limit) (bytes : List ℕ) (x : ℕ × List ℕ) → IsBytes bytes → number_at w bytes ≡ Some x → (bytes ≡ to_be_bytes w x.0 ++ x.1) × (x.0 < limit)
+number_takes : (w : Width) (limit : ℕ) (wide : IsWide w limit) (bytes : List ℕ) (x : ℕ × List ℕ) → IsBytes bytes → wide_number_at w bytes ≡ Some x → (bytes ≡ to_be_bytes w x.0 ++ x.1) × (x.0 < limit)
 number_takes w limit wide bytes x fits e =
     let made : ℕ × List ℕ = (from_be_bytes w (take (byte_len w) bytes), drop (byte_len w) bytes) in
     let g = guarded (ltb (length bytes) (byte_len w)) made x e in
@@ -91,16 +91,16 @@ number_takes w limit wide bytes x fits e =
     let front : to_be_bytes w (from_be_bytes w (take (byte_len w) bytes)) ≡ take (byte_len w) bytes = wide.back (take (byte_len w) bytes) (omega (arith, length-take (byte_len w) bytes)) small in
     subst (λ (y : ℕ × List ℕ). (bytes ≡ to_be_bytes w y.0 ++ y.1) × (y.0 < limit)) g.1 (rw front (sym (take-append-drop (byte_len w) bytes)), wide.below (take (byte_len w) bytes) small)
 
-number_again : (w : Width) (limit : ℕ) (wide : IsWide w limit) (n : ℕ) (rest : List ℕ) → n < limit → number_at w (to_be_bytes w n ++ rest) ≡ Some (n, rest)
+number_again : (w : Width) (limit : ℕ) (wide : IsWide w limit) (n : ℕ) (rest : List ℕ) → n < limit → wide_number_at w (to_be_bytes w n ++ rest) ≡ Some (n, rest)
 number_again w limit wide n rest lt =
     let len = wide.len n in
     let long : ltb (length (to_be_bytes w n ++ rest)) (byte_len w) ≡ false = le-ltb _ _ (omega (arith, length-append (to_be_bytes w n) rest)) in
     rw (long, take_at (to_be_bytes w n) rest (byte_len w) len, drop_at (to_be_bytes w n) rest (byte_len w) len, wide.again n lt) refl
 
-pub word_codec : IsCodec (to_be_bytes w16) (λ n. n < 2 ^ 16) (number_at w16)
+pub word_codec : IsCodec (to_be_bytes w16) (λ n. n < 2 ^ 16) (wide_number_at w16)
 word_codec = record { takes = number_takes w16 (2 ^ 16) wide16; again = number_again w16 (2 ^ 16) wide16 }
 
-pub long_codec : IsCodec (to_be_bytes w32) (λ n. n < 2 ^ 32) (number_at w32)
+pub long_codec : IsCodec (to_be_bytes w32) (λ n. n < 2 ^ 32) (wide_number_at w32)
 long_codec = record { takes = number_takes w32 (2 ^ 32) wide32; again = number_again w32 (2 ^ 32) wide32 }
 
 -- that many numbers, each below a limit
@@ -253,13 +253,13 @@ refit_codec fits to from codec = record {
 pub small_codec : (limit : ℕ) → limit ≤ 256 → IsCodec (λ b. b ∷ []) (λ b. b < limit) (small_at limit)
 small_codec limit le = refit_codec (λ b. b < limit) (λ b h. ltb-true _ _ h.1) (λ b h. (omega arith, lt-ltb _ _ h)) (only_codec (λ n. ltb n limit) byte_codec)
 
-pub address_codec : IsCodec address (λ n. n < 4096) address_at
+pub address_codec : IsCodec address_bytes (λ n. n < 4096) address_at
 address_codec = refit_codec (λ n. n < 4096) (λ n h. ltb-true _ _ h.1) (λ n h. (omega arith, lt-ltb _ _ h)) (only_codec (λ n. ltb n 4096) word_codec)
 
 -- a count, and that many values
-pub counted_codec : {A : Type 0} {s : A → List ℕ} {f : A → Type 0} {r : Reading A} (limit : ℕ) → limit < 256 → IsCodec s f r → IsCodec (counted s) (λ l. (length l ≤ limit) × AllByRecursion f l) (counted_at limit r)
+pub counted_codec : {A : Type 0} {s : A → List ℕ} {f : A → Type 0} {r : Reading A} (limit : ℕ) → limit < 256 → IsCodec s f r → IsCodec (counted_bytes s) (λ l. (length l ≤ limit) × AllByRecursion f l) (counted_at limit r)
 unfolding counted_at
-counted_codec {A} {s} {f} {r} limit lt codec = giving_codec (λ (p : ℕ × List A). p.1) (λ l. (length l, l)) (counted s) (λ l. (length l ≤ limit) × AllByRecursion f l)
+counted_codec {A} {s} {f} {r} limit lt codec = giving_codec (λ (p : ℕ × List A). p.1) (λ l. (length l, l)) (counted_bytes s) (λ l. (length l ≤ limit) × AllByRecursion f l)
     (next _ (only_codec (λ n. leb n limit) byte_codec) (λ n h. tail (many_codec n codec)))
     (λ p h. let le : p.0 ≤ limit = leb-true _ _ h.0.1 in (ap (λ n. n ∷ flat_map s p.1) h.1.0, (omega (arith, h.1.0), h.1.1)))
     (λ l h. (refl, ((omega (arith, h.0), le-leb _ _ h.0), (refl, h.1))))
@@ -269,7 +269,7 @@ pub all_units : {A : Type 0} (l : List A) → AllByRecursion (λ _. Unit {0}) l
 all_units [] = tt
 all_units (a ∷ l) = (tt, all_units l)
 
-pub any_counted_codec : {A : Type 0} {s : A → List ℕ} {r : Reading A} (limit : ℕ) → limit < 256 → IsCodec s (λ _. Unit {0}) r → IsCodec (counted s) (λ l. length l ≤ limit) (counted_at limit r)
+pub any_counted_codec : {A : Type 0} {s : A → List ℕ} {r : Reading A} (limit : ℕ) → limit < 256 → IsCodec s (λ _. Unit {0}) r → IsCodec (counted_bytes s) (λ l. length l ≤ limit) (counted_at limit r)
 any_counted_codec limit lt codec = refit_codec (λ l. length l ≤ limit) (λ l h. h.0) (λ l h. (h, all_units l)) (counted_codec limit lt codec)
 
 -- ---- the rows of a tag

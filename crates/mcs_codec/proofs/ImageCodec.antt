@@ -10,7 +10,7 @@ use Rattle.std.proofs.lemmas.Grind.{get_or-set_at}
 use Rattle.std.proofs.lemmas.List.Elements.{All-from_recursion, recursion_from_All}
 use Rattle.std.proofs.lemmas.Bool.Decides.{nat_tests}
 use Rattle.mcs_nibble.specs.Bits.{bit_of}
-use Rattle.mcs_nibble.specs.Tabled.{tabled}
+use Rattle.mcs_nibble.specs.Tables.{table_of}
 use Rattle.mcs_nibble.proofs.TabledLemmas.{tabled_from, get_or-tabled, length-tabled}
 use Rattle.mcs_codec.specs.Reading.{◌>>=◌, giving, byte_at}
 use Rattle.mcs_model.specs.Images.{IsImage}
@@ -160,7 +160,7 @@ map_marks : (image : List (ℕ × ℕ)) → IsMarked (map_bytes image) 0 4096 im
 unfolding map_bytes map_bit_at
 map_marks image x le lt =
     let f = λ (i : ℕ). byte_of (λ k. mark image (8 * i + k)) in
-    let byte : get_or (tabled 512 f) (x / 8) 0 ≡ f (x / 8) = get_or-tabled 512 f (x / 8) 0 (omega arith) in
+    let byte : get_or (table_of 512 f) (x / 8) 0 ≡ f (x / 8) = get_or-tabled 512 f (x / 8) 0 (omega arith) in
     let bit : bit_of (f (x / 8)) (x % 8) ≡ mark image (8 * (x / 8) + x % 8) = bit_of_byte (λ k. mark image (8 * (x / 8) + k)) (x % 8) (λ i. mark_small image (8 * (x / 8) + i)) (omega arith) in
     let whole : 8 * (x / 8) + x % 8 ≡ x = omega arith in
     sym (ap (λ b. bit_of b (x % 8)) byte ∙ bit ∙ ap (mark image) whole)
@@ -171,7 +171,7 @@ map_cells image =
     let f = λ (i : ℕ). byte_of (λ k. mark image (8 * i + k)) in
     record {
       len = length-tabled 512 f;
-      small = recursion_from_All (λ v. v < 256) (tabled 512 f) (λ i d lt.
+      small = recursion_from_All (λ v. v < 256) (table_of 512 f) (λ i d lt.
           let s = λ (k : ℕ). mark_small image (8 * i + k) in
           let in_list : i < 512 = omega (arith, length-tabled 512 f) in
           let byte : f i < 256 = omega (arith, s 0, s 1, s 2, s 3, s 4, s 5, s 6, s 7) in

@@ -92,7 +92,7 @@ FitsWatches false watches = (length watches ≤ 8) × AllByRecursion (λ n. n < 
 no-watches : (bytes : List ℕ) (x : List ℕ × List ℕ) → Some ([], bytes) ≡ Some x → (bytes ≡ [] ++ x.1) × (x.0 ≡ [])
 no-watches bytes x e = let same : ([], bytes) ≡ x = cc in subst (λ (y : List ℕ × List ℕ). (bytes ≡ [] ++ y.1) × (y.0 ≡ [])) same (refl, refl)
 
-pub watches_codec : (first : Bool) → IsCodec (watches_bytes first) (FitsWatches first) (watches_at first)
+pub watches_codec : (version_1 : Bool) → IsCodec (watches_bytes version_1) (FitsWatches version_1) (watches_at version_1)
 unfolding watches_at
 watches_codec true = record { takes = λ bytes x all e. no-watches bytes x e; again = λ a rest h. ap (λ (l : List ℕ). Some (l, rest)) (sym h) }
 watches_codec false = counted_codec 8 (omega arith) word_codec

@@ -19,9 +19,9 @@ use Rattle.mcs_model.specs.Boards.{board_fault_of}
 use Rattle.mcs_model.specs.Bus.{BusState}
 use Rattle.mcs_model.specs.BenchState.{BenchState}
 use Rattle.mcs_model.specs.Validity.{IsValid}
-use Rattle.mcs_codec.specs.BoardBytes.{rom_bytes, line_bytes, chain_bytes, counted, keys_bytes, board_bytes}
-use Rattle.mcs_codec.specs.CommandBytes.{address, place_bytes, command_bytes, IsCommand}
-use Rattle.mcs_codec.specs.StateBytes.{memory_bytes, registers_bytes, sources_bytes, wiring_bytes, after_board, state_bytes}
+use Rattle.mcs_codec.specs.BoardBytes.{rom_bytes, board_line_bytes, chain_bytes, counted_bytes, keys_bytes, board_bytes}
+use Rattle.mcs_codec.specs.CommandBytes.{address_bytes, place_bytes, command_bytes, IsCommand}
+use Rattle.mcs_codec.specs.StateBytes.{memory_bytes, registers_bytes, src_bytes, wiring_bytes, after_board, state_bytes}
 use Rattle.mcs_codec.proofs.BoardLengths.{IsMask, IsKeys, HasLengths, lengths_of, chips_of, keys_of}
 use Rattle.mcs_codec.proofs.ImageCodec.{length-image}
 use Rattle.mcs_codec.proofs.StateCodec.{AreRows, HasMemory, HasRegisters, HasSources, HasWiring, memory_of, registers_of, sources_of, wiring_state, shape_of}
@@ -34,7 +34,7 @@ each_is s f k one (a ∷ l) h =
     let here : length (s a) ≡ k = one a h.0 in
     omega (arith, length-append (s a) (flat_map s l), suc-mul (length l) k)
 
-pub length-line : (l : Line) → length (line_bytes l) ≡ 4
+pub length-line : (l : Line) → length (board_line_bytes l) ≡ 4
 length-line (RomLine a b) = refl
 length-line (RamLine a b c) = refl
 length-line (ChainLine a b) = refl
@@ -47,26 +47,26 @@ length-chain : (c : ChainPart) → length (chain_bytes c) ≡ 9
 length-chain c =
     let a = length-line c.clock in
     let b = length-line c.data_in in
-    omega (arith, length-append (line_bytes c.clock) (line_bytes c.data_in ++ c.chips ∷ []), length-append (line_bytes c.data_in) (c.chips ∷ []))
+    omega (arith, length-append (board_line_bytes c.clock) (board_line_bytes c.data_in ++ c.chips ∷ []), length-append (board_line_bytes c.data_in) (c.chips ∷ []))
 
-length-lines : (l : List Line) → length (counted line_bytes l) ≡ 1 + length l * 4
-length-lines l = let e = each_is line_bytes (λ _. Unit {0}) 4 (λ a h. length-line a) l (all_units l) in omega (arith, e)
+length-lines : (l : List Line) → length (counted_bytes board_line_bytes l) ≡ 1 + length l * 4
+length-lines l = let e = each_is board_line_bytes (λ _. Unit {0}) 4 (λ a h. length-line a) l (all_units l) in omega (arith, e)
 
 length-keys : (k : Option KeyMatrix) → IsKeys k → length (keys_bytes k) ≤ 37
 length-keys None h = omega arith
-length-keys (Some m) h = let e : length (counted line_bytes m.columns.items) ≡ 1 + length m.columns.items * 4 = length-lines m.columns.items in omega (arith, h, e)
+length-keys (Some m) h = let e : length (counted_bytes board_line_bytes m.columns.items) ≡ 1 + length m.columns.items * 4 = length-lines m.columns.items in omega (arith, h, e)
 
 pub length-board : (b : BoardParts) → HasLengths b → length (board_bytes b) ≤ 403
 length-board b h =
     let roms : length (flat_map rom_bytes b.roms) ≡ length b.roms * 4 = each_is rom_bytes IsMask 4 length-rom b.roms h.masks in
     let chains : length (flat_map chain_bytes b.chains.items) ≡ length b.chains.items * 9 = each_is chain_bytes (λ _. Unit {0}) 9 (λ c u. length-chain c) b.chains.items (all_units b.chains.items) in
     let keys = length-keys b.keys h.keys in
-    let lamps : length (counted line_bytes b.lamps.items) ≡ 1 + length b.lamps.items * 4 = length-lines b.lamps.items in
-    let last = counted line_bytes b.lamps.items in
+    let lamps : length (counted_bytes board_line_bytes b.lamps.items) ≡ 1 + length b.lamps.items * 4 = length-lines b.lamps.items in
+    let last = counted_bytes board_line_bytes b.lamps.items in
     let four = keys_bytes b.keys ++ last in
-    let three = counted chain_bytes b.chains.items ++ four in
+    let three = counted_bytes chain_bytes b.chains.items ++ four in
     let two = b.banks ++ three in
-    omega (arith, h.roms, h.banks.0, h.chains, h.lamps, length-append (flat_map rom_bytes b.roms) two, length-append b.banks three, length-append (counted chain_bytes b.chains.items) four, length-append (keys_bytes b.keys) last)
+    omega (arith, h.roms, h.banks.0, h.chains, h.lamps, length-append (flat_map rom_bytes b.roms) two, length-append b.banks three, length-append (counted_bytes chain_bytes b.chains.items) four, length-append (keys_bytes b.keys) last)
 
 -- ---- a state
 
@@ -96,21 +96,21 @@ length-memory b h =
       length-append b.ram_ports b.rom_ports,
     )
 
-addresses : (l : List ℕ) → length (flat_map address l) ≡ length l * 2
-addresses l = each_is address (λ _. Unit {0}) 2 (λ a h. refl) l (all_units l)
+addresses : (l : List ℕ) → length (flat_map address_bytes l) ≡ length l * 2
+addresses l = each_is address_bytes (λ _. Unit {0}) 2 (λ a h. refl) l (all_units l)
 
 length-registers : (p : Regs) → HasRegisters (registers_of p) → length (registers_bytes p) ≡ 26
 length-registers p h =
-    omega (arith, h.r.len, h.ret.0, addresses p.ret, length-append p.r (address p.pc ++ flat_map address p.ret), length-append (address p.pc) (flat_map address p.ret))
+    omega (arith, h.r.len, h.ret.0, addresses p.ret, length-append p.r (address_bytes p.pc ++ flat_map address_bytes p.ret), length-append (address_bytes p.pc) (flat_map address_bytes p.ret))
 
-length-sources : (s : BenchState) → HasSources (sources_of s) → length (sources_bytes s.processor s.bus) ≡ 11
+length-sources : (s : BenchState) → HasSources (sources_of s) → length (src_bytes s.processor s.bus) ≡ 11
 length-sources s h = omega (arith, h.ram_src.len, length-append s.bus.ram_src (s.processor.owed ∷ []))
 
 length-wiring : (s : BenchState) → HasLengths s.bus.board → board_fault_of s.bus.board ≡ None → HasWiring s.bus.board (wiring_state s) → length (wiring_bytes s.bus s.breakpoints) ≤ 466
 length-wiring s b sound h =
     let rows = length-rows s.bus.board.chains.items s.bus.chains h.chains (chips_of s.bus.board sound) in
     let keys = keys_of s.bus.board b.keys sound in
-    let last = s.bus.test ∷ counted address s.breakpoints in
+    let last = s.bus.test ∷ counted_bytes address_bytes s.breakpoints in
     omega (arith, rows, keys, b.chains, h.keys.len, h.breakpoints.0, addresses s.breakpoints, length-append (flat_map (λ row. row) s.bus.chains) (s.bus.keys ++ last), length-append s.bus.keys last)
 
 pub length-state : (s : BenchState) → IsValid s → length (state_bytes s) ≤ 7632
@@ -123,8 +123,8 @@ length-state s valid =
     let w = length-wiring s lengths h.board.valid h.wiring in
     let b = length-board s.bus.board lengths in
     let wiring = wiring_bytes s.bus s.breakpoints in
-    let sources = sources_bytes s.processor s.bus in
-    let watches = counted address s.watches in
+    let sources = src_bytes s.processor s.bus in
+    let watches = counted_bytes address_bytes s.watches in
     let three = sources ++ (wiring ++ watches) in
     let two = registers_bytes s.processor ++ three in
     omega (

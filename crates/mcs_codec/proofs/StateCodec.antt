@@ -10,20 +10,20 @@ use Rattle.mcs_model.specs.Boards.{no_chain}
 use Rattle.mcs_model.specs.Bus.{BusState}
 use Rattle.mcs_model.specs.Validity.{AreBelow, IsValid, IsValidBoard}
 use Rattle.mcs_codec.specs.Reading.{◌>>=◌, giving, bytes_at, whole}
-use Rattle.mcs_codec.specs.BoardBytes.{counted}
-use Rattle.mcs_codec.specs.CommandBytes.{address}
+use Rattle.mcs_codec.specs.BoardBytes.{counted_bytes}
+use Rattle.mcs_codec.specs.CommandBytes.{address_bytes}
 use Rattle.mcs_version1.specs.Boards.{is_small}
 use Rattle.mcs_version1.specs.BenchState.{BenchState1}
 use Rattle.mcs_version1.specs.Lift.{lift}
 use Rattle.mcs_version1.specs.Validity.{IsValid1}
 use Rattle.mcs_version1.proofs.Limits.{small-then, valid-now, valid-then}
 use Rattle.mcs_codec.specs.StateBytes.{bytes_by}
-use Rattle.mcs_codec.specs.StateReading.{WiringState, memory_at, registers_at, sources_at, rows_at, breakpoints_at, wiring_at, state_from, state_at}
+use Rattle.mcs_codec.specs.StateReading.{WiringState, memory_at, registers_at, src_bytes_at, rows_at, breakpoints_at, wiring_at, state_from, state_at}
 use Rattle.mcs_codec.specs.declared.restoring.Memory.{Memory}
 use Rattle.mcs_codec.specs.declared.restoring.Registers.{Registers}
-use Rattle.mcs_codec.specs.declared.restoring.Sources.{Sources}
+use Rattle.mcs_codec.specs.declared.restoring.SrcBytes.{SrcBytes}
 use Rattle.mcs_model.specs.declared.regs.Regs.{Regs}
-use Rattle.mcs_codec.specs.Codec.{SpellsStateBy, version_of, is_first}
+use Rattle.mcs_codec.specs.Codec.{SpellsStateBy, version_of, is_version_1}
 use Rattle.mcs_codec.proofs.Codecs.{AreCells, IsCodec, IsBytes, IsBytes-after, then_some, byte_codec, bytes_codec, word_codec, long_codec, last, next, many_codec, counted_codec, giving_codec, whole_takes, whole_again}
 use Rattle.mcs_codec.proofs.MarkedCodec.{FitsWatches, marked_codec, watches_codec, board-begins}
 
@@ -61,21 +61,21 @@ pub record HasRegisters (p : Registers) : Type 0 where
   pub pc : p.pc < 2 ^ 16
   pub ret : (length p.ret ≡ 3) × AreWords p.ret
 
-registers_codec : IsCodec (λ (p : Registers). p.acc ∷ p.cy ∷ (p.r ++ (address p.pc ++ flat_map address p.ret))) HasRegisters registers_at
+registers_codec : IsCodec (λ (p : Registers). p.acc ∷ p.cy ∷ (p.r ++ (address_bytes p.pc ++ flat_map address_bytes p.ret))) HasRegisters registers_at
 unfolding registers_at
 registers_codec = giving_codec (λ p. record { acc = p.0; cy = p.1.0; r = p.1.1.0; pc = p.1.1.1.0; ret = p.1.1.1.1 }) (λ p. (p.acc, (p.cy, (p.r, (p.pc, p.ret))))) _ HasRegisters
     (next _ byte_codec (λ _ _. next _ byte_codec (λ _ _. next _ (bytes_codec 16) (λ _ _. next _ word_codec (λ _ _. last _ (many_codec 3 word_codec))))))
     (λ p h. (refl, record { acc = h.0; cy = h.1.0; r = h.1.1.0; pc = h.1.1.1.0; ret = h.1.1.1.1 }))
     (λ p h. (refl, (h.acc, (h.cy, (h.r, (h.pc, h.ret))))))
 
-pub record HasSources (x : Sources) : Type 0 where
+pub record HasSources (x : SrcBytes) : Type 0 where
   pub dcl : x.dcl < 256
   pub rom_src : x.rom_src < 256
   pub ram_src : AreCells 8 256 x.ram_src
   pub owed : x.owed < 256
 
-sources_codec : IsCodec (λ (x : Sources). x.dcl ∷ x.rom_src ∷ (x.ram_src ++ x.owed ∷ [])) HasSources sources_at
-unfolding sources_at
+sources_codec : IsCodec (λ (x : SrcBytes). x.dcl ∷ x.rom_src ∷ (x.ram_src ++ x.owed ∷ [])) HasSources src_bytes_at
+unfolding src_bytes_at
 sources_codec = giving_codec (λ p. record { dcl = p.0; rom_src = p.1.0; ram_src = p.1.1.0; owed = p.1.1.1 }) (λ x. (x.dcl, (x.rom_src, (x.ram_src, x.owed)))) _ HasSources
     (next _ byte_codec (λ _ _. next _ byte_codec (λ _ _. next _ (bytes_codec 8) (λ _ _. last _ byte_codec))))
     (λ p h. (refl, record { dcl = h.0; rom_src = h.1.0; ram_src = h.1.1.0; owed = h.1.1.1 }))
@@ -110,7 +110,7 @@ rows_codec chains = record { takes = rows_takes chains; again = rows_again chain
 
 -- ---- the rest
 
-breakpoints_codec : IsCodec (counted address) (λ l. (length l ≤ 32) × AreWords l) breakpoints_at
+breakpoints_codec : IsCodec (counted_bytes address_bytes) (λ l. (length l ≤ 32) × AreWords l) breakpoints_at
 unfolding breakpoints_at
 breakpoints_codec = counted_codec 32 (omega arith) word_codec
 
@@ -120,7 +120,7 @@ pub record HasWiring (board : BoardParts) (w : WiringState) : Type 0 where
   pub test : w.test < 256
   pub breakpoints : (length w.breakpoints ≤ 32) × AreWords w.breakpoints
 
-wiring_codec : (board : BoardParts) → IsCodec (λ (w : WiringState). flat_map (λ row. row) w.chains ++ (w.keys ++ (w.test ∷ counted address w.breakpoints))) (HasWiring board) (wiring_at board)
+wiring_codec : (board : BoardParts) → IsCodec (λ (w : WiringState). flat_map (λ row. row) w.chains ++ (w.keys ++ (w.test ∷ counted_bytes address_bytes w.breakpoints))) (HasWiring board) (wiring_at board)
 unfolding wiring_at
 wiring_codec board = giving_codec (λ p. record { chains = p.0; keys = p.1.0; test = p.1.1.0; breakpoints = p.1.1.1 }) (λ w. (w.chains, (w.keys, (w.test, w.breakpoints)))) _ (HasWiring board)
     (next _ (rows_codec board.chains.items) (λ _ _. next _ (bytes_codec (key_count board)) (λ _ _. next _ byte_codec (λ _ _. last _ breakpoints_codec))))
@@ -135,24 +135,24 @@ memory_of b = record { rom = b.rom; ram = b.ram; status = b.status; ram_ports = 
 abbrev pub registers_of : Regs → Registers
 registers_of p = record { acc = p.acc; cy = p.cy; r = p.r; pc = p.pc; ret = p.ret }
 
-abbrev pub sources_of : BenchState → Sources
+abbrev pub sources_of : BenchState → SrcBytes
 sources_of s = record { dcl = s.processor.dcl; rom_src = s.bus.rom_src; ram_src = s.bus.ram_src; owed = s.processor.owed }
 
 abbrev pub wiring_state : BenchState → WiringState
 wiring_state s = record { chains = s.bus.chains; keys = s.bus.keys; test = s.bus.test; breakpoints = s.breakpoints }
 
-pub record HasShape (first : Bool) (s : BenchState) : Type 0 where
+pub record HasShape (version_1 : Bool) (s : BenchState) : Type 0 where
   pub seq : s.seq < 2 ^ 32
   pub board : IsValidBoard s.bus.board
-  pub small : first ≡ true → is_small s.bus.board ≡ true
+  pub small : version_1 ≡ true → is_small s.bus.board ≡ true
   pub memory : HasMemory (memory_of s.bus)
   pub registers : HasRegisters (registers_of s.processor)
   pub sources : HasSources (sources_of s)
   pub wiring : HasWiring s.bus.board (wiring_state s)
-  pub watches : FitsWatches first s.watches
+  pub watches : FitsWatches version_1 s.watches
 
 abbrev Parts : Type 0
-Parts = ℕ × ((Bool × BoardParts) × (Memory × (Registers × (Sources × (WiringState × List ℕ)))))
+Parts = ℕ × ((Bool × BoardParts) × (Memory × (Registers × (SrcBytes × (WiringState × List ℕ)))))
 
 abbrev parts_of : Bool × BenchState → Parts
 parts_of x = let s = x.1 in (s.seq, ((x.0, s.bus.board), (memory_of s.bus, (registers_of s.processor, (sources_of s, (wiring_state s, s.watches))))))
@@ -193,8 +193,8 @@ rows_of [] (row ∷ rows) l h = absurd cc
 rows_of (c ∷ chains) [] l h = absurd cc
 rows_of (c ∷ chains) (row ∷ rows) l h = (cells_of (10 * c.chips) 2 row (omega arith) (h 0 (omega arith)), rows_of chains rows (omega arith) (λ i lt. h (suc i) (omega arith)))
 
-shape_by : (first : Bool) (s : BenchState) → IsValid s → (first ≡ true → is_small s.bus.board ≡ true) → FitsWatches first s.watches → HasShape first s
-shape_by first s h small watches =
+shape_by : (version_1 : Bool) (s : BenchState) → IsValid s → (version_1 ≡ true → is_small s.bus.board ≡ true) → FitsWatches version_1 s.watches → HasShape version_1 s
+shape_by version_1 s h small watches =
     let r = h.bus.in_range in
     let p = h.processor in
     record {
@@ -251,39 +251,39 @@ shape_of_1 s h = shape_by true (lift s) (lift-valid s h) (λ _. small-then s.bus
 -- ---- what the public calls promise
 
 -- what all of the bytes are read as, where it is valid, is what they spell
-pub state_read : (bytes : List ℕ) (first : Bool) (s : BenchState) → IsBytes bytes → Some (first, s) ≡ whole state_at bytes → IsValid s → SpellsStateBy first bytes s
+pub state_read : (bytes : List ℕ) (version_1 : Bool) (s : BenchState) → IsBytes bytes → Some (version_1, s) ≡ whole state_at bytes → IsValid s → SpellsStateBy version_1 bytes s
 state_read bytes false s all e valid = record { is = (whole_takes state_codec bytes (false, s) all (sym e)).0; valid = valid }
 state_read bytes true s all e valid =
     let t = whole_takes state_codec bytes (true, s) all (sym e) in
     record {
-      first = record { processor = s.processor; bus = s.bus; breakpoints = s.breakpoints; seq = s.seq };
+      version_1 = record { processor = s.processor; bus = s.bus; breakpoints = s.breakpoints; seq = s.seq };
       spells = record { is = t.0; valid = record { processor = valid.processor; bus = record { board = valid-then s.bus.board valid.bus.board (t.1.small refl); in_range = valid.bus.in_range; absent = valid.bus.absent }; breakpoints = valid.breakpoints; seq = valid.seq } };
       lifted = ap (λ (l : List ℕ). record s { watches = l }) t.1.watches;
     }
 
 -- what the bytes spell is what they are read as
-pub state_again : (first : Bool) (bytes : List ℕ) (s : BenchState) → SpellsStateBy first bytes s → whole state_at bytes ≡ Some (first, s)
+pub state_again : (version_1 : Bool) (bytes : List ℕ) (s : BenchState) → SpellsStateBy version_1 bytes s → whole state_at bytes ≡ Some (version_1, s)
 state_again false bytes s h = ap (whole state_at) h.is ∙ whole_again state_codec (false, s) (shape_of s h.valid)
 state_again true bytes s h =
-    ap (whole state_at) h.spells.is ∙ whole_again state_codec (true, lift h.first) (shape_of_1 h.first h.spells.valid) ∙ ap (λ (t : BenchState). Some (true, t)) (sym h.lifted)
+    ap (whole state_at) h.spells.is ∙ whole_again state_codec (true, lift h.version_1) (shape_of_1 h.version_1 h.spells.valid) ∙ ap (λ (t : BenchState). Some (true, t)) (sym h.lifted)
 
-pub spelled_valid : (first : Bool) (bytes : List ℕ) (s : BenchState) → SpellsStateBy first bytes s → IsValid s
+pub spelled_valid : (version_1 : Bool) (bytes : List ℕ) (s : BenchState) → SpellsStateBy version_1 bytes s → IsValid s
 spelled_valid false bytes s h = h.valid
-spelled_valid true bytes s h = subst IsValid (sym h.lifted) (lift-valid h.first h.spells.valid)
+spelled_valid true bytes s h = subst IsValid (sym h.lifted) (lift-valid h.version_1 h.spells.valid)
 
-pub state_none : (bytes : List ℕ) → None ≡ whole state_at bytes → (first : Bool) (s : BenchState) → SpellsStateBy first bytes s → ⊥
-state_none bytes e first s h =
-    let x : Bool × BenchState = (first, s) in
-    let back : Some x ≡ None = sym (state_again first bytes s h) ∙ sym e in
+pub state_none : (bytes : List ℕ) → None ≡ whole state_at bytes → (version_1 : Bool) (s : BenchState) → SpellsStateBy version_1 bytes s → ⊥
+state_none bytes e version_1 s h =
+    let x : Bool × BenchState = (version_1, s) in
+    let back : Some x ≡ None = sym (state_again version_1 bytes s h) ∙ sym e in
     cc
 
-pub state_invalid : (bytes : List ℕ) (v : Bool) (t : BenchState) → Some (v, t) ≡ whole state_at bytes → (IsValid t → ⊥) → (first : Bool) (s : BenchState) → SpellsStateBy first bytes s → ⊥
-state_invalid bytes v t e wrong first s h =
-    let x : Bool × BenchState = (first, s) in
+pub state_invalid : (bytes : List ℕ) (v : Bool) (t : BenchState) → Some (v, t) ≡ whole state_at bytes → (IsValid t → ⊥) → (version_1 : Bool) (s : BenchState) → SpellsStateBy version_1 bytes s → ⊥
+state_invalid bytes v t e wrong version_1 s h =
+    let x : Bool × BenchState = (version_1, s) in
     let y : Bool × BenchState = (v, t) in
-    let same : Some y ≡ Some x = e ∙ state_again first bytes s h in
+    let same : Some y ≡ Some x = e ∙ state_again version_1 bytes s h in
     let pairs : x ≡ y = cc in
-    wrong (subst IsValid (ap (λ (z : Bool × BenchState). z.1) pairs) (spelled_valid first bytes s h))
+    wrong (subst IsValid (ap (λ (z : Bool × BenchState). z.1) pairs) (spelled_valid version_1 bytes s h))
 
 pub same_state : (bytes : List ℕ) (v w : Bool) (s t : BenchState) → SpellsStateBy v bytes s → SpellsStateBy w bytes t → (v ≡ w) × (s ≡ t)
 same_state bytes v w s t h k =
@@ -294,10 +294,10 @@ same_state bytes v w s t h k =
     (ap (λ (z : Bool × BenchState). z.0) pairs, ap (λ (z : Bool × BenchState). z.1) pairs)
 
 -- the version that the fifth byte tells is that of the state which the bytes spell
-pub state_told : (first : Bool) (bytes : List ℕ) (s : BenchState) → SpellsStateBy first bytes s → version_of bytes ≡ Some (cond first 1 2)
+pub state_told : (version_1 : Bool) (bytes : List ℕ) (s : BenchState) → SpellsStateBy version_1 bytes s → version_of bytes ≡ Some (cond version_1 1 2)
 state_told false bytes s h = ap version_of h.is
-state_told true bytes s h = ap version_of h.spells.is ∙ (board-begins h.first.bus.board _ (valid-now h.first.bus.board h.spells.valid.bus.board)).told
+state_told true bytes s h = ap version_of h.spells.is ∙ (board-begins h.version_1.bus.board _ (valid-now h.version_1.bus.board h.spells.valid.bus.board)).told
 
-pub first_told : (first : Bool) (bytes : List ℕ) (s : BenchState) → SpellsStateBy first bytes s → is_first bytes ≡ first
+pub first_told : (version_1 : Bool) (bytes : List ℕ) (s : BenchState) → SpellsStateBy version_1 bytes s → is_version_1 bytes ≡ version_1
 first_told false bytes s h = rw (state_told false bytes s h) refl
 first_told true bytes s h = rw (state_told true bytes s h) refl

@@ -8,9 +8,9 @@ use Rattle.mcs_model.specs.Boards.{chain_count, chain_bits, no_chain}
 use Rattle.mcs_model.specs.Bus.{zero_bus}
 use Rattle.mcs_model.specs.BenchState.{BenchState, new_bench_state}
 use Rattle.mcs_model.specs.Validity.{IsValid}
-use Rattle.mcs_codec.specs.declared.saving.Part.{Part}
-use Rattle.mcs_codec.specs.declared.saving.Part.TheVariants.{RomBytes, RamCharacters, StatusCharacters, RamPorts, RomPorts, IndexRegisters, RamSources, ChainBits, Keys}
-use Rattle.mcs_codec.specs.Parts.{part_list, part_count}
+use Rattle.mcs_codec.specs.declared.saving.StateList.{StateList}
+use Rattle.mcs_codec.specs.declared.saving.StateList.TheVariants.{RomBytes, Characters, StatusCharacters, RamPorts, RomPorts, IndexRegisters, BankSrcs, ChainBits, Keys}
+use Rattle.mcs_codec.specs.StateLists.{list_in_state, state_list_length}
 
 -- the row of a chain that is not there is empty, and has no bits
 no_row : (s : BenchState) (n : ℕ) → IsValid s → chain_count s.bus.board ≤ n → length (get_or s.bus.chains n []) ≡ chain_bits s.bus.board n
@@ -19,14 +19,14 @@ no_row s n h past =
     let chain : get_or s.bus.board.chains.items n no_chain ≡ no_chain = get_or_past s.bus.board.chains.items n no_chain past in
     rw (row, chain) refl
 
-pub is_whole : (p : Part) (s : BenchState) → IsValid s → length (part_list p s) ≡ part_count p s
+pub is_whole : (p : StateList) (s : BenchState) → IsValid s → length (list_in_state p s) ≡ state_list_length p s
 is_whole RomBytes s h = h.bus.in_range.rom.count_is
-is_whole RamCharacters s h = h.bus.in_range.ram.count_is
+is_whole Characters s h = h.bus.in_range.ram.count_is
 is_whole StatusCharacters s h = h.bus.in_range.status.count_is
 is_whole RamPorts s h = h.bus.in_range.ram_ports.count_is
 is_whole RomPorts s h = h.bus.in_range.rom_ports.count_is
 is_whole IndexRegisters s h = h.processor.r.count_is
-is_whole RamSources s h = h.bus.in_range.ram_src.count_is
+is_whole BankSrcs s h = h.bus.in_range.ram_src.count_is
 is_whole (ChainBits n) s h = elim (cases_lt n (chain_count s.bus.board)) [ inl lt ↦ (h.bus.in_range.chain_bits n lt).count_is | inr past ↦ no_row s n h past ]
 is_whole Keys s h = h.bus.in_range.keys.count_is
 

@@ -20,28 +20,28 @@ rom_bytes (Some mask) =
 rom_bytes None = 45 ∷ 45 ∷ 45 ∷ 45 ∷ []
 
 -- four bytes: the kind of line, and its numbers
-abbrev pub line_bytes : Line → List ℕ
-line_bytes (Rom chip k) = 0 ∷ chip ∷ k ∷ 0 ∷ []
-line_bytes (Ram bank chip k) = 1 ∷ bank ∷ chip ∷ k ∷ []
-line_bytes (Chain n i) = 2 ∷ n ∷ i ∷ 0 ∷ []
+abbrev pub board_line_bytes : Line → List ℕ
+board_line_bytes (Rom chip k) = 0 ∷ chip ∷ k ∷ 0 ∷ []
+board_line_bytes (Ram bank chip k) = 1 ∷ bank ∷ chip ∷ k ∷ []
+board_line_bytes (Chain n i) = 2 ∷ n ∷ i ∷ 0 ∷ []
 
 abbrev pub chain_bytes : ChainPart → List ℕ
-chain_bytes c = line_bytes c.clock ++ (line_bytes c.data_in ++ c.chips ∷ [])
+chain_bytes c = board_line_bytes c.clock ++ (board_line_bytes c.data_in ++ c.chips ∷ [])
 
 -- how many there are, and each of them
-abbrev pub counted : {A : Type 0} → (A → List ℕ) → List A → List ℕ
-counted text items = length items ∷ flat_map text items
+abbrev pub counted_bytes : {A : Type 0} → (A → List ℕ) → List A → List ℕ
+counted_bytes text items = length items ∷ flat_map text items
 
 -- 0 without keys, or 1 and the matrix
 abbrev pub keys_bytes : Option KeyMatrix → List ℕ
 keys_bytes None = 0 ∷ []
-keys_bytes (Some m) = 1 ∷ m.chain ∷ m.first ∷ m.rows ∷ counted line_bytes m.columns.items
+keys_bytes (Some m) = 1 ∷ m.chain ∷ m.first ∷ m.rows ∷ counted_bytes board_line_bytes m.columns.items
 
 -- the ROMs, the number of chips of each bank, the chains, the keys, the lamps
 abbrev pub board_bytes : BoardParts → List ℕ
 board_bytes b =
     flat_map rom_bytes b.roms
     ++ (b.banks
-    ++ (counted chain_bytes b.chains.items
+    ++ (counted_bytes chain_bytes b.chains.items
     ++ (keys_bytes b.keys
-    ++ counted line_bytes b.lamps.items)))
+    ++ counted_bytes board_line_bytes b.lamps.items)))

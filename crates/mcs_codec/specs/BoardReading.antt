@@ -35,25 +35,25 @@ rom_at = do
   rom_of a b c d
 
 -- the line of a kind with these numbers
-abbrev pub line_of : ℕ → ℕ → ℕ → ℕ → Reading Line
-line_of kind a b c =
+abbrev pub board_line_of : ℕ → ℕ → ℕ → ℕ → Reading Line
+board_line_of kind a b c =
     if kind == 0 && c == 0 then giving (Rom a b)
     else if kind == 1 then giving (Ram a b c)
     else if kind == 2 && c == 0 then giving (Chain a b)
     else refusing
 
-unfoldable pub line_at : Reading Line
-line_at = do
+unfoldable pub board_line_at : Reading Line
+board_line_at = do
   kind ← byte_at
   a ← byte_at
   b ← byte_at
   c ← byte_at
-  line_of kind a b c
+  board_line_of kind a b c
 
 unfoldable pub chain_at : Reading ChainPart
 chain_at = do
-  clock ← line_at
-  data_in ← line_at
+  clock ← board_line_at
+  data_in ← board_line_at
   chips ← byte_at
   giving (record { clock = clock; data_in = data_in; chips = chips })
 
@@ -62,7 +62,7 @@ matrix_at = do
   chain ← byte_at
   first ← byte_at
   rows ← byte_at
-  columns ← counted_at KEY_COLUMNS line_at
+  columns ← counted_at KEY_COLUMNS board_line_at
   giving (record {
     chain = chain;
     first = first;
@@ -87,7 +87,7 @@ parts_at = do
   banks ← bytes_at BANKS
   chains ← counted_at CHAINS chain_at
   keys ← keys_at
-  lamps ← counted_at LAMPS line_at
+  lamps ← counted_at LAMPS board_line_at
   giving (record {
     roms = roms;
     banks = banks;

@@ -38,9 +38,9 @@ pub record SpellsState1 (bytes : List ℕ) (s : BenchState1) : Type 0 where
 
 -- these bytes spell a state of version 1 that is carried over as this state
 pub record SpellsLifted (bytes : List ℕ) (s : BenchState) : Type 0 where
-  pub first : BenchState1
-  pub spells : SpellsState1 bytes first
-  pub lifted : s ≡ lift first
+  pub version_1 : BenchState1
+  pub spells : SpellsState1 bytes version_1
+  pub lifted : s ≡ lift version_1
 
 -- these bytes spell this state in version 1, carried over, or in version 2
 abbrev pub SpellsStateBy : Bool → List ℕ → BenchState → Type 0
@@ -60,5 +60,5 @@ abbrev pub version_of : List ℕ → Option ℕ
 version_of bytes = version_told (drop 4 bytes)
 
 -- whether that is version 1
-abbrev pub is_first : List ℕ → Bool
-is_first bytes = unwrap_or (version_of bytes) 2 == 1
+abbrev pub is_version_1 : List ℕ → Bool
+is_version_1 bytes = unwrap_or (version_of bytes) 2 == 1

@@ -2,7 +2,7 @@
 use Rattle.std.specs.Prelude.{ℕ, ◌+◌, ◌*◌, ◌^◌, ◌<◌, ◌==◌, List, [], ◌∷◌, ◌++◌, map, if◌then◌else◌}
 use Rattle.std.specs.List.{list_any}
 use Rattle.std.specs.Int.{w16, w32, to_be_bytes}
-use Rattle.mcs_nibble.specs.Tabled.{tabled}
+use Rattle.mcs_nibble.specs.Tables.{table_of}
 use Rattle.mcs_model.specs.Images.{IsImage}
 use Rattle.mcs_model.specs.Validity.{IsValidBoard}
 use Rattle.mcs_model.specs.declared.command.Place.{Place}
@@ -14,17 +14,17 @@ use Rattle.mcs_codec.specs.BoardBytes.{board_bytes}
 -- ---- spelling
 
 -- an address: two bytes, the high one first
-abbrev pub address : ℕ → List ℕ
-address at = to_be_bytes w16 at
+abbrev pub address_bytes : ℕ → List ℕ
+address_bytes at = to_be_bytes w16 at
 
 -- a place, and the value that it is to hold
 abbrev pub place_bytes : Place → List ℕ
 place_bytes (Acc n) = 0 ∷ n ∷ []
 place_bytes (Cy b) = 1 ∷ b ∷ []
-place_bytes (Pc at) = 2 ∷ address at
+place_bytes (Pc at) = 2 ∷ address_bytes at
 place_bytes (Register r n) = 3 ∷ r ∷ n ∷ []
 place_bytes (Dcl bank) = 4 ∷ bank ∷ []
-place_bytes (Rom at byte) = 5 ∷ (address at ++ byte ∷ [])
+place_bytes (Rom at byte) = 5 ∷ (address_bytes at ++ byte ∷ [])
 place_bytes (Ram bank src n) = 6 ∷ bank ∷ src ∷ n ∷ []
 place_bytes (Status bank high k n) = 7 ∷ bank ∷ high ∷ k ∷ n ∷ []
 
@@ -38,7 +38,7 @@ byte_of f = f 0 + 2 * f 1 + 4 * f 2 + 8 * f 3 + 16 * f 4 + 32 * f 5 + 64 * f 6 +
 
 -- the map of an image: bit k of byte i is 1 where the image has a byte at address 8 * i + k
 unfoldable pub map_bytes : List (ℕ × ℕ) → List ℕ
-map_bytes image = tabled 512 (λ i. byte_of (λ k. mark image (8 * i + k)))
+map_bytes image = table_of 512 (λ i. byte_of (λ k. mark image (8 * i + k)))
 
 abbrev pub values : List (ℕ × ℕ) → List ℕ
 values image = map (λ p. p.1) image
@@ -57,8 +57,8 @@ command_bytes Step = 6 ∷ []
 command_bytes (Poke place) = 7 ∷ place_bytes place
 command_bytes (Test bit) = 8 ∷ bit ∷ []
 command_bytes Reset = 9 ∷ []
-command_bytes (Break at) = 10 ∷ address at
-command_bytes (Unbreak at) = 11 ∷ address at
+command_bytes (Break at) = 10 ∷ address_bytes at
+command_bytes (Unbreak at) = 11 ∷ address_bytes at
 command_bytes (Watch bank src) = 12 ∷ bank ∷ src ∷ []
 command_bytes (Unwatch bank src) = 13 ∷ bank ∷ src ∷ []
 

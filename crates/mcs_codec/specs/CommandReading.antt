@@ -6,7 +6,7 @@ use Rattle.mcs_model.specs.declared.command.Place.{Place}
 use Rattle.mcs_model.specs.declared.command.Place.TheVariants.{Acc, Cy, Pc, Register, Dcl, Rom, Ram, Status}
 use Rattle.mcs_model.specs.declared.command.Command.{Command}
 use Rattle.mcs_model.specs.declared.command.Command.TheVariants.{Wire, Load, Press, Release, Run, Step, Poke, Test, Reset, Break, Unbreak, Watch, Unwatch}
-use Rattle.mcs_codec.specs.Reading.{◌>>=◌, Reading, giving, refusing, byte_at, number_at, address_at, bytes_at, small_at}
+use Rattle.mcs_codec.specs.Reading.{◌>>=◌, Reading, giving, refusing, byte_at, wide_number_at, address_at, bytes_at, small_at}
 use Rattle.mcs_codec.specs.BoardReading.{board_at}
 
 -- a RAM character, and its value
@@ -66,7 +66,7 @@ command_without_image tag =
     if tag == 1 then (do board ← board_at; giving (Wire board)) else
     if tag == 3 then (do row ← byte_at; column ← byte_at; giving (Press row column)) else
     if tag == 4 then (do row ← byte_at; column ← byte_at; giving (Release row column)) else
-    if tag == 5 then (do cycles ← number_at w32; giving (Run cycles)) else
+    if tag == 5 then (do cycles ← wide_number_at w32; giving (Run cycles)) else
     if tag == 6 then giving Step else
     if tag == 7 then (do place ← place_at; giving (Poke place)) else
     if tag == 8 then (do bit ← small_at 2; giving (Test bit)) else

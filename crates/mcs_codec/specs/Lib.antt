@@ -7,4 +7,4 @@ pub mod Marked
 pub mod StateBytes
 pub mod StateReading
 pub mod Codec
-pub mod Parts
+pub mod StateLists

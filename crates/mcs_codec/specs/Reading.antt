@@ -46,8 +46,8 @@ byte_at [] = None
 byte_at (b ∷ bytes) = Some (b, bytes)
 
 -- a number of several bytes, the highest first
-abbrev pub number_at : Width → Reading ℕ
-number_at w bytes =
+abbrev pub wide_number_at : Width → Reading ℕ
+wide_number_at w bytes =
     if nat_lt (length bytes) (byte_len w) then None
     else Some (from_be_bytes w (take (byte_len w) bytes), drop (byte_len w) bytes)
 
@@ -70,7 +70,7 @@ small_at limit = only (λ n. nat_lt n limit) byte_at
 
 -- an address, in two bytes
 abbrev pub address_at : Reading ℕ
-address_at = only (λ n. nat_lt n 4096) (number_at w16)
+address_at = only (λ n. nat_lt n 4096) (wide_number_at w16)
 
 -- that many values
 unfoldable pub many : {A : Type 0} → ℕ → Reading A → Reading (List A)

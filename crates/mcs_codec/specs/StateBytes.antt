@@ -6,8 +6,8 @@ use Rattle.std.specs.Int.{w32, to_be_bytes}
 use Rattle.mcs_model.specs.declared.regs.Regs.{Regs}
 use Rattle.mcs_model.specs.Bus.{BusState}
 use Rattle.mcs_model.specs.BenchState.{BenchState}
-use Rattle.mcs_codec.specs.BoardBytes.{board_bytes, counted}
-use Rattle.mcs_codec.specs.CommandBytes.{address}
+use Rattle.mcs_codec.specs.BoardBytes.{board_bytes, counted_bytes}
+use Rattle.mcs_codec.specs.CommandBytes.{address_bytes}
 use Rattle.mcs_codec.specs.Marked.{marked_bytes, watches_bytes}
 use Rattle.mcs_version1.specs.BenchState.{BenchState1}
 
@@ -18,29 +18,29 @@ memory_bytes b = b.rom ++ (b.ram ++ (b.status ++ (b.ram_ports ++ b.rom_ports)))
 
 -- the accumulator, the carry, the index registers, the counter, the return addresses
 abbrev pub registers_bytes : Regs → List ℕ
-registers_bytes p = p.acc ∷ p.cy ∷ (p.r ++ (address p.pc ++ flat_map address p.ret))
+registers_bytes p = p.acc ∷ p.cy ∷ (p.r ++ (address_bytes p.pc ++ flat_map address_bytes p.ret))
 
 -- the command register, the SRC bytes of the ROMs and of the banks, the owed cycles
-abbrev pub sources_bytes : Regs → BusState → List ℕ
-sources_bytes p b = p.dcl ∷ b.rom_src ∷ (b.ram_src ++ p.owed ∷ [])
+abbrev pub src_bytes : Regs → BusState → List ℕ
+src_bytes p b = p.dcl ∷ b.rom_src ∷ (b.ram_src ++ p.owed ∷ [])
 
 -- the bits of the chains, the keys, TEST, the breakpoints
 abbrev pub wiring_bytes : BusState → List ℕ → List ℕ
 wiring_bytes b breakpoints =
-    flat_map (λ row. row) b.chains ++ (b.keys ++ (b.test ∷ counted address breakpoints))
+    flat_map (λ row. row) b.chains ++ (b.keys ++ (b.test ∷ counted_bytes address_bytes breakpoints))
 
 -- the groups after the board, and what comes after the breakpoints
 abbrev pub groups_bytes : Regs → BusState → List ℕ → List ℕ → List ℕ
 groups_bytes p b breakpoints rest =
     memory_bytes b
     ++ (registers_bytes p
-    ++ (sources_bytes p b
+    ++ (src_bytes p b
     ++ (wiring_bytes b breakpoints
     ++ rest)))
 
 -- what comes after the board in version 2: the groups, the watches
 abbrev pub after_board : BenchState → List ℕ
-after_board s = groups_bytes s.processor s.bus s.breakpoints (counted address s.watches)
+after_board s = groups_bytes s.processor s.bus s.breakpoints (counted_bytes address_bytes s.watches)
 
 -- a state in version 2: the count of accepted commands, 02, the board, the groups, the watches
 abbrev pub state_bytes : BenchState → List ℕ
@@ -53,10 +53,10 @@ state_bytes_1 s =
     ++ (board_bytes s.bus.board
     ++ groups_bytes s.processor s.bus s.breakpoints [])
 
--- a state in the one or the other: in version 1 where `first` is true (nothing to believe: for the
+-- a state in the one or the other: in version 1 where `version_1` is true (nothing to believe: for the
 -- proofs)
 abbrev pub bytes_by : Bool × BenchState → List ℕ
-bytes_by (first, s) =
+bytes_by (version_1, s) =
     to_be_bytes w32 s.seq
-    ++ (marked_bytes (first, s.bus.board)
-    ++ groups_bytes s.processor s.bus s.breakpoints (watches_bytes first s.watches))
+    ++ (marked_bytes (version_1, s.bus.board)
+    ++ groups_bytes s.processor s.bus s.breakpoints (watches_bytes version_1 s.watches))

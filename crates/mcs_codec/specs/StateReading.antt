@@ -11,9 +11,9 @@ use Rattle.mcs_model.specs.BenchState.{BenchState}
 use Rattle.mcs_bench.specs.States.{rows_of}
 use Rattle.mcs_codec.specs.declared.restoring.Memory.{Memory}
 use Rattle.mcs_codec.specs.declared.restoring.Registers.{Registers}
-use Rattle.mcs_codec.specs.declared.restoring.Sources.{Sources}
+use Rattle.mcs_codec.specs.declared.restoring.SrcBytes.{SrcBytes}
 use Rattle.mcs_codec.specs.declared.restoring.Wiring.{Wiring}
-use Rattle.mcs_codec.specs.Reading.{◌>>=◌, Reading, giving, byte_at, number_at, bytes_at, many, counted_at}
+use Rattle.mcs_codec.specs.Reading.{◌>>=◌, Reading, giving, byte_at, wide_number_at, bytes_at, many, counted_at}
 use Rattle.mcs_codec.specs.Marked.{marked_at, watches_at}
 
 -- what the ROMs and the RAM chips hold, and their ports
@@ -38,13 +38,13 @@ registers_at = do
   acc ← byte_at
   cy ← byte_at
   r ← bytes_at 16
-  pc ← number_at w16
-  ret ← many 3 (number_at w16)
+  pc ← wide_number_at w16
+  ret ← many 3 (wide_number_at w16)
   giving (record { acc = acc; cy = cy; r = r; pc = pc; ret = ret })
 
 -- the command register, the SRC bytes of the ROMs and of the banks, the owed cycles
-unfoldable pub sources_at : Reading Sources
-sources_at = do
+unfoldable pub src_bytes_at : Reading SrcBytes
+src_bytes_at = do
   dcl ← byte_at
   rom_src ← byte_at
   ram_src ← bytes_at BANKS
@@ -60,7 +60,7 @@ rows_at (c ∷ chains) = do
   giving (row ∷ rows)
 
 unfoldable pub breakpoints_at : Reading (List ℕ)
-breakpoints_at = counted_at BREAKPOINTS (number_at w16)
+breakpoints_at = counted_at BREAKPOINTS (wide_number_at w16)
 
 -- what the chains and the keys of a board hold, TEST, and the breakpoints
 pub record WiringState : Type 0 where
@@ -87,7 +87,7 @@ wiring_at board = do
   giving (record { chains = chains; keys = keys; test = test; breakpoints = breakpoints })
 
 -- the state of these parts
-abbrev pub state_from : ℕ → BoardParts → Memory → Registers → Sources → WiringState → List ℕ
+abbrev pub state_from : ℕ → BoardParts → Memory → Registers → SrcBytes → WiringState → List ℕ
     → BenchState
 state_from seq board memory registers sources wiring watches = record {
   processor = record {
@@ -120,11 +120,11 @@ state_from seq board memory registers sources wiring watches = record {
 -- whether in version 1, and all fields, in their order
 unfoldable pub state_at : Reading (Bool × BenchState)
 state_at = do
-  seq ← number_at w32
-  (first, board) ← marked_at
+  seq ← wide_number_at w32
+  (version_1, board) ← marked_at
   memory ← memory_at
   registers ← registers_at
-  sources ← sources_at
+  sources ← src_bytes_at
   wiring ← wiring_at board
-  watches ← watches_at first
-  giving (first, state_from seq board memory registers sources wiring watches)
+  watches ← watches_at version_1
+  giving (version_1, state_from seq board memory registers sources wiring watches)

@@ -1,7 +1,7 @@
 //! The bytes of a board.
 ghost use Rattle.std.specs.Prelude.{◌≡◌, ℕ, ◌+◌, ◌≤◌, ◌<◌, ◌∷◌, ◌++◌, List, [], length, map, take, option_map, Option, Some, None, if◌then◌else◌};
-ghost use Rattle.mcs_codec.specs.BoardBytes.{rom_bytes, line_bytes, chain_bytes, keys_bytes, board_bytes};
-ghost use Rattle.mcs_codec.specs.BoardReading.{rom_at, line_at, chain_at, keys_at, matrix_at, parts_at, board_at};
+ghost use Rattle.mcs_codec.specs.BoardBytes.{rom_bytes, board_line_bytes, chain_bytes, keys_bytes, board_bytes};
+ghost use Rattle.mcs_codec.specs.BoardReading.{rom_at, board_line_at, chain_at, keys_at, matrix_at, parts_at, board_at};
 
 use crate::encoding::{Decode, Encode, counted, fill, put, put_all, put_counted};
 use crate::reader::Reader;
@@ -53,9 +53,9 @@ impl Decode for Option<[LineMask; 4]> {
 }
 
 impl Encode for Line {
-    ghost use Rattle.mcs_codec.specs.BoardBytes.{line_bytes};
+    ghost use Rattle.mcs_codec.specs.BoardBytes.{board_line_bytes};
 
-    ghost spelling = { line_bytes };
+    ghost spelling = { board_line_bytes };
 
     fn put(&self, out: &mut [u8], at: usize) -> usize {
         let text = match *self {
@@ -68,11 +68,11 @@ impl Encode for Line {
 }
 
 impl Decode for Line {
-    ghost use Rattle.mcs_codec.specs.BoardReading.{line_at};
+    ghost use Rattle.mcs_codec.specs.BoardReading.{board_line_at};
 
-    ghost reading = { line_at };
+    ghost reading = { board_line_at };
 
-    #[tactic(auto, unfolding(crate::specs::BoardReading::line_at))]
+    #[tactic(auto, unfolding(crate::specs::BoardReading::board_line_at))]
     fn read(reader: &mut Reader<'_>) -> Option<Line> {
         let kind = reader.byte()?;
         let first = reader.byte()?;

@@ -2,7 +2,7 @@
 ghost use Rattle.std.specs.Prelude.{◌≡◌, ℕ, ◌+◌, ◌≤◌, ◌<◌, ◌∷◌, ◌++◌, List, [], length, take, option_map, Option, Some, None, if◌then◌else◌};
 ghost use Rattle.std.specs.List.{flat_map};
 ghost use Rattle.mcs_codec.specs.Reading.{small_at, many, counted_at};
-ghost use Rattle.mcs_codec.specs.BoardBytes.{counted as counted_text};
+ghost use Rattle.mcs_codec.specs.BoardBytes.{counted_bytes as counted_text};
 
 use crate::reader::Reader;
 use arrayvec::ArrayVec;
@@ -98,9 +98,9 @@ impl Decode for Bit {
 }
 
 impl Encode for Addr {
-    ghost use Rattle.mcs_codec.specs.CommandBytes.{address};
+    ghost use Rattle.mcs_codec.specs.CommandBytes.{address_bytes};
 
-    ghost spelling = { address };
+    ghost spelling = { address_bytes };
 
     fn put(&self, out: &mut [u8], at: usize) -> usize {
         put(out, at, &self.get().to_be_bytes())

@@ -1,6 +1,6 @@
 //! The bytes of an image: a map of its addresses, and its bytes.
 ghost use Rattle.std.specs.Prelude.{◌≡◌, ℕ, ◌+◌, ◌*◌, ◌≤◌, ◌<◌, ◌∷◌, ◌++◌, List, [], length, take, map, slice_index, option_map, IfOk};
-ghost use Rattle.mcs_nibble.specs.Tabled.{tabled};
+ghost use Rattle.mcs_nibble.specs.Tables.{table_of};
 ghost use Rattle.mcs_codec.specs.CommandBytes.{mark, byte_of, map_bytes, values, image_bytes};
 ghost use Rattle.mcs_codec.specs.CommandReading.{map_bit_at, pairs_at, image_at};
 

@@ -2,7 +2,7 @@
 ghost use Rattle.std.specs.Prelude.{◌≡◌, ◌==◌, List, [], drop, length, option_map, Option, Some, None, IfSome, if◌then◌else◌};
 ghost use Rattle.std.specs.Int.{w16, w32};
 ghost use Rattle.mcs_codec.specs.Marked.{is_marked};
-ghost use Rattle.mcs_codec.specs.Reading.{byte_at, number_at, bytes_at};
+ghost use Rattle.mcs_codec.specs.Reading.{byte_at, wide_number_at, bytes_at};
 
 use std::marker::Model;
 
@@ -63,7 +63,7 @@ impl<'a> Reader<'a> {
 
     /// A number of two bytes, the high one first.
     pub fn number(&mut self) -> Option<u16>
-        ensures { option_map (λ x. (x, self.new)) result ≡ number_at w16 self.old }
+        ensures { option_map (λ x. (x, self.new)) result ≡ wide_number_at w16 self.old }
     {
         if self.rest.len() < 2 {
             return None;
@@ -75,7 +75,7 @@ impl<'a> Reader<'a> {
 
     /// A number of four bytes, the highest first.
     pub fn long_number(&mut self) -> Option<u32>
-        ensures { option_map (λ x. (x, self.new)) result ≡ number_at w32 self.old }
+        ensures { option_map (λ x. (x, self.new)) result ≡ wide_number_at w32 self.old }
     {
         if self.rest.len() < 4 {
             return None;

@@ -5,8 +5,8 @@ ghost use Rattle.mcs_model.specs.BenchState.{BenchState};
 ghost use Rattle.mcs_bench.specs.States.{rows_of, state_of};
 ghost use Rattle.mcs_codec.specs.Reading.{bytes_at, whole};
 ghost use Rattle.mcs_codec.specs.Marked.{marked_at, watches_at};
-ghost use Rattle.mcs_codec.specs.StateReading.{memory_at, registers_at, sources_at, rows_at, breakpoints_at, wiring_of, wiring_at, state_from, state_at};
-ghost use Rattle.mcs_codec.specs.Codec.{SpellsStateBy, is_first};
+ghost use Rattle.mcs_codec.specs.StateReading.{memory_at, registers_at, src_bytes_at, rows_at, breakpoints_at, wiring_of, wiring_at, state_from, state_at};
+ghost use Rattle.mcs_codec.specs.Codec.{SpellsStateBy, is_version_1};
 
 use crate::boards::read_board;
 use crate::encoding::{Decode, counted, fill};
@@ -38,7 +38,7 @@ struct Registers {
 
 /// Where instructions on ports and RAM go, and the owed cycles.
 #[derive(Drop)]
-struct Sources {
+struct SrcBytes {
     /// The command register.
     dcl: u8,
     /// The SRC byte that the ROMs keep.
@@ -64,9 +64,9 @@ struct Wiring {
 
 impl Decode for u16 {
     ghost use Rattle.std.specs.Int.{w16};
-    ghost use Rattle.mcs_codec.specs.Reading.{number_at};
+    ghost use Rattle.mcs_codec.specs.Reading.{wide_number_at};
 
-    ghost reading = { number_at w16 };
+    ghost reading = { wide_number_at w16 };
 
     fn read(reader: &mut Reader<'_>) -> Option<u16> {
         reader.number()
@@ -174,16 +174,16 @@ fn read_registers(reader: &mut Reader<'_>) -> Option<Registers>
 }
 
 /// Reads the command register, the SRC bytes of the ROMs and of the banks, and the owed cycles.
-#[tactic(auto, unfolding(crate::specs::StateReading::sources_at))]
-fn read_sources(reader: &mut Reader<'_>) -> Option<Sources>
-    ensures { option_map (λ x. (x, reader.new)) result ≡ sources_at reader.old }
+#[tactic(auto, unfolding(crate::specs::StateReading::src_bytes_at))]
+fn read_src_bytes(reader: &mut Reader<'_>) -> Option<SrcBytes>
+    ensures { option_map (λ x. (x, reader.new)) result ≡ src_bytes_at reader.old }
 {
     let dcl = reader.byte()?;
     let rom_src = reader.byte()?;
     let mut ram_src = [0; BANKS];
     reader.fill(&mut ram_src)?;
     let owed = reader.byte()?;
-    Some(Sources {
+    Some(SrcBytes {
         dcl,
         rom_src,
         ram_src,
@@ -258,10 +258,10 @@ fn read_marked(reader: &mut Reader<'_>) -> Option<(bool, Board)>
 
 /// Reads the watches; version 1 has none.
 #[tactic(auto, unfolding(crate::specs::Marked::watches_at))]
-fn read_watches(reader: &mut Reader<'_>, first: bool) -> Option<ArrayVec<u16, WATCHES>>
-    ensures { option_map (λ x. (x.items, reader.new)) result ≡ watches_at first reader.old }
+fn read_watches(reader: &mut Reader<'_>, version_1: bool) -> Option<ArrayVec<u16, WATCHES>>
+    ensures { option_map (λ x. (x.items, reader.new)) result ≡ watches_at version_1 reader.old }
 {
-    if first {
+    if version_1 {
         return Some(ArrayVec::new());
     }
     counted(reader)
@@ -273,7 +273,7 @@ fn flat_from(
     board: Board,
     memory: Memory,
     registers: Registers,
-    sources: Sources,
+    sources: SrcBytes,
     wiring: Wiring,
     watches: ArrayVec<u16, WATCHES>,
 ) -> Flat
@@ -319,14 +319,14 @@ fn read_state(reader: &mut Reader<'_>, memory: Memory) -> Option<(bool, Flat)>
     ensures { option_map (λ x. ((x.0, state_of x.1), reader.new)) result ≡ state_at reader.old }
 {
     let seq = reader.long_number()?;
-    let (first, board) = read_marked(reader)?;
+    let (version_1, board) = read_marked(reader)?;
     let memory = memory.read(reader)?;
     let registers = read_registers(reader)?;
-    let sources = read_sources(reader)?;
+    let sources = read_src_bytes(reader)?;
     let wiring = read_wiring(reader, &board)?;
-    let watches = read_watches(reader, first)?;
+    let watches = read_watches(reader, version_1)?;
     let flat = flat_from(seq, board, memory, registers, sources, wiring, watches);
-    Some((first, flat))
+    Some((version_1, flat))
 }
 
 /// What all of these bytes are read as, or none.
@@ -351,12 +351,12 @@ fn read_whole(bytes: &[u8], memory: Memory) -> Option<(bool, Flat)>
 /// Where memory is refused.
 pub fn bench_of(alloc: Global, bytes: &[u8]) -> Result<Option<Bench>, AllocError>
     ensures some { IfOk result (λ found.
-        IfSome found (λ s. SpellsStateBy (is_first bytes.now) bytes.now s)) }
+        IfSome found (λ s. SpellsStateBy (is_version_1 bytes.now) bytes.now s)) }
     ensures none { IfOk result (λ found.
-        IfNone found ((first : Bool) (s : BenchState) → SpellsStateBy first bytes.now s → ⊥)) }
+        IfNone found ((version_1 : Bool) (s : BenchState) → SpellsStateBy version_1 bytes.now s → ⊥)) }
 {
     let memory = Memory::new(alloc)?;
-    let Some((_first, flat)) = read_whole(bytes, memory) else {
+    let Some((_version_1, flat)) = read_whole(bytes, memory) else {
         return Ok(None);
     };
     if !flat.check() {

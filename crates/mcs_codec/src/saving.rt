@@ -3,8 +3,8 @@ ghost use Rattle.std.specs.Prelude.{◌≡◌, ℕ, ◌+◌, ◌*◌, ◌≤◌,
 ghost use Rattle.std.specs.List.{flat_map};
 ghost use Rattle.mcs_model.specs.Boards.{chain_bits, chain_count, key_count};
 ghost use Rattle.mcs_model.specs.Validity.{IsValid};
-ghost use Rattle.mcs_codec.specs.Parts.{part_list, part_count};
-ghost use Rattle.mcs_codec.specs.StateBytes.{memory_bytes, registers_bytes, sources_bytes, wiring_bytes, after_board, state_bytes};
+ghost use Rattle.mcs_codec.specs.StateLists.{list_in_state, state_list_length};
+ghost use Rattle.mcs_codec.specs.StateBytes.{memory_bytes, registers_bytes, src_bytes, wiring_bytes, after_board, state_bytes};
 ghost use Rattle.mcs_codec.specs.Codec.{SpellsState};
 
 use crate::boards::put_board;
@@ -20,11 +20,11 @@ pub const STATE_BYTES: usize = 16_380;
 
 /// The lists of a bench that are written place by place.
 #[derive(Clone, Copy)]
-pub enum Part {
+pub enum StateList {
     /// The bytes of the ROMs, by address.
     RomBytes,
     /// The RAM characters, by bank and SRC byte.
-    RamCharacters,
+    Characters,
     /// The status characters, by bank, upper nibble of the SRC byte, and number.
     StatusCharacters,
     /// The port latches of the RAM chips, by bank and chip.
@@ -34,7 +34,7 @@ pub enum Part {
     /// The index registers of the processor.
     IndexRegisters,
     /// The SRC byte of each bank.
-    RamSources,
+    BankSrcs,
     /// The bits of a chain, bit 0 first.
     ChainBits(u8),
     /// The keys, row by row.
@@ -55,23 +55,23 @@ fn key_at(bench: &Bench, i: usize) -> u8
     }
 }
 
-impl Part {
+impl StateList {
     /// How many places the list has.
     fn count(self, bench: &Bench) -> usize
-        ensures { result ≡ part_count self bench.now }
+        ensures { result ≡ state_list_length self bench.now }
     {
         match self {
-            Part::RomBytes => 4096,
-            Part::RamCharacters => 2048,
-            Part::StatusCharacters => 512,
-            Part::RamPorts => 32,
-            Part::RomPorts | Part::IndexRegisters => 16,
-            Part::RamSources => 8,
-            Part::ChainBits(n) => match bench.board().parts().chains.get(usize::from(n)) {
+            StateList::RomBytes => 4096,
+            StateList::Characters => 2048,
+            StateList::StatusCharacters => 512,
+            StateList::RamPorts => 32,
+            StateList::RomPorts | StateList::IndexRegisters => 16,
+            StateList::BankSrcs => 8,
+            StateList::ChainBits(n) => match bench.board().parts().chains.get(usize::from(n)) {
                 Some(chain) => usize::from(chain.bits()),
                 None => 0,
             },
-            Part::Keys => match &bench.board().parts().keys {
+            StateList::Keys => match &bench.board().parts().keys {
                 Some(matrix) => usize::from(matrix.rows) * matrix.columns.len(),
                 None => 0,
             },
@@ -81,31 +81,31 @@ impl Part {
     /// The byte at a place of the list.
     fn byte(self, bench: &Bench, i: usize) -> u8
         requires valid { IsValid bench.now }
-        requires place { i < part_count self bench.now }
-        ensures { result ≡ slice_index (part_list self bench.now) i }
+        requires place { i < state_list_length self bench.now }
+        ensures { result ≡ slice_index (list_in_state self bench.now) i }
     {
         match self {
-            Part::RomBytes => bench.rom_byte(Addr::ZERO.plus(i as u16)),
-            Part::RamCharacters => bench.ram((i / 256) as u8, (i % 256) as u8).get(),
-            Part::StatusCharacters => {
+            StateList::RomBytes => bench.rom_byte(Addr::ZERO.plus(i as u16)),
+            StateList::Characters => bench.ram((i / 256) as u8, (i % 256) as u8).get(),
+            StateList::StatusCharacters => {
                 let high = Nibble::low_of((i / 4 % 16) as u8);
                 bench.status((i / 64) as u8, high, (i % 4) as u8).get()
             }
-            Part::RamPorts => bench.ram_port((i / 4) as u8, (i % 4) as u8).get(),
-            Part::RomPorts => bench.rom_port(i as u8).get(),
-            Part::IndexRegisters => bench.regs().r[i].get(),
-            Part::RamSources => bench.ram_src(i as u8),
-            Part::ChainBits(n) => bench.chain_bit(n, i as u8).get(),
-            Part::Keys => key_at(bench, i),
+            StateList::RamPorts => bench.ram_port((i / 4) as u8, (i % 4) as u8).get(),
+            StateList::RomPorts => bench.rom_port(i as u8).get(),
+            StateList::IndexRegisters => bench.regs().r[i].get(),
+            StateList::BankSrcs => bench.ram_src(i as u8),
+            StateList::ChainBits(n) => bench.chain_bit(n, i as u8).get(),
+            StateList::Keys => key_at(bench, i),
         }
     }
 
     /// Puts the list at a place of the buffer, and answers the place after it.
     fn put(self, bench: &Bench, out: &mut [u8], at: usize) -> usize
         requires valid { IsValid bench.now }
-        requires room { at + length (part_list self bench.now) ≤ length out.old }
-        ensures end { result ≡ at + length (part_list self bench.now) }
-        ensures front { take result out.new ≡ take at out.old ++ part_list self bench.now }
+        requires room { at + length (list_in_state self bench.now) ≤ length out.old }
+        ensures end { result ≡ at + length (list_in_state self bench.now) }
+        ensures front { take result out.new ≡ take at out.old ++ list_in_state self bench.now }
     {
         let count = self.count(bench);
         for i in 0..count {
@@ -122,11 +122,11 @@ fn put_memory(bench: &Bench, out: &mut [u8], at: usize) -> usize
     ensures end { result ≡ at + length (memory_bytes bench.now.bus) }
     ensures front { take result out.new ≡ take at out.old ++ memory_bytes bench.now.bus }
 {
-    let at = Part::RomBytes.put(bench, out, at);
-    let at = Part::RamCharacters.put(bench, out, at);
-    let at = Part::StatusCharacters.put(bench, out, at);
-    let at = Part::RamPorts.put(bench, out, at);
-    Part::RomPorts.put(bench, out, at)
+    let at = StateList::RomBytes.put(bench, out, at);
+    let at = StateList::Characters.put(bench, out, at);
+    let at = StateList::StatusCharacters.put(bench, out, at);
+    let at = StateList::RamPorts.put(bench, out, at);
+    StateList::RomPorts.put(bench, out, at)
 }
 
 /// Puts the accumulator, the carry, the index registers, the counter and the return addresses.
@@ -138,22 +138,22 @@ fn put_registers(bench: &Bench, out: &mut [u8], at: usize) -> usize
 {
     let registers = bench.regs();
     let at = put(out, at, &[registers.acc.get(), registers.cy.get()]);
-    let at = Part::IndexRegisters.put(bench, out, at);
+    let at = StateList::IndexRegisters.put(bench, out, at);
     let at = registers.pc.put(out, at);
     put_all(&registers.ret, out, at)
 }
 
 /// Puts the command register, the SRC bytes of the ROMs and of the banks, and the owed cycles.
-fn put_sources(bench: &Bench, out: &mut [u8], at: usize) -> usize
+fn put_src_bytes(bench: &Bench, out: &mut [u8], at: usize) -> usize
     requires valid { IsValid bench.now }
-    requires room { at + length (sources_bytes bench.now.processor bench.now.bus) ≤ length out.old }
-    ensures end { result ≡ at + length (sources_bytes bench.now.processor bench.now.bus) }
+    requires room { at + length (src_bytes bench.now.processor bench.now.bus) ≤ length out.old }
+    ensures end { result ≡ at + length (src_bytes bench.now.processor bench.now.bus) }
     ensures front { take result out.new
-        ≡ take at out.old ++ sources_bytes bench.now.processor bench.now.bus }
+        ≡ take at out.old ++ src_bytes bench.now.processor bench.now.bus }
 {
     let registers = bench.regs();
     let at = put(out, at, &[registers.dcl, bench.rom_src()]);
-    let at = Part::RamSources.put(bench, out, at);
+    let at = StateList::BankSrcs.put(bench, out, at);
     put(out, at, &[registers.owed])
 }
 
@@ -167,7 +167,7 @@ fn put_rows(bench: &Bench, out: &mut [u8], at: usize) -> usize
 {
     let mut end = at;
     for n in 0..bench.board().chain_count() {
-        end = Part::ChainBits(n as u8).put(bench, out, end);
+        end = StateList::ChainBits(n as u8).put(bench, out, end);
     }
     end
 }
@@ -182,7 +182,7 @@ fn put_wiring(bench: &Bench, out: &mut [u8], at: usize) -> usize
         ≡ take at out.old ++ wiring_bytes bench.now.bus bench.now.breakpoints }
 {
     let at = put_rows(bench, out, at);
-    let at = Part::Keys.put(bench, out, at);
+    let at = StateList::Keys.put(bench, out, at);
     let at = put(out, at, &[bench.test().get()]);
     put_counted(bench.breaks(), out, at)
 }
@@ -196,7 +196,7 @@ fn put_groups(bench: &Bench, out: &mut [u8], at: usize) -> usize
 {
     let at = put_memory(bench, out, at);
     let at = put_registers(bench, out, at);
-    let at = put_sources(bench, out, at);
+    let at = put_src_bytes(bench, out, at);
     let at = put_wiring(bench, out, at);
     put_counted(bench.watches(), out, at)
 }

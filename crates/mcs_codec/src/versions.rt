@@ -80,6 +80,6 @@ pub fn one_state()
         → SpellsStateBy v bytes s → SpellsStateBy w bytes t → s ≡ t }
     ensures versions { (bytes : List ℕ) (v w : Bool) (s t : BenchState)
         → SpellsStateBy v bytes s → SpellsStateBy w bytes t → v ≡ w }
-    ensures told { (bytes : List ℕ) (first : Bool) (s : BenchState)
-        → SpellsStateBy first bytes s → version_of bytes ≡ Some (if first then 1 else 2) }
+    ensures told { (bytes : List ℕ) (version_1 : Bool) (s : BenchState)
+        → SpellsStateBy version_1 bytes s → version_of bytes ≡ Some (if version_1 then 1 else 2) }
 {}

@@ -5,7 +5,7 @@ use Rattle.std.proofs.lemmas.Bool.{leb-true, le-leb, lt-leb, lt-ltb}
 use Rattle.std.proofs.lemmas.List.{length-drop, length-take}
 use Rattle.std.specs.List.{flat_map}
 use Rattle.mcs_model.specs.declared.op.Op.{Op}
-use Rattle.mcs_model.specs.Table.{decoded, word_count_of}
+use Rattle.mcs_model.specs.Table.{instruction_of, word_count_of}
 use Rattle.mcs_source.specs.Text.{op_at, whole_or_byte, second_word, piece_text, piece_size, second_of, piece_texts, listing_lines, listed_line, origin_text, range, source_text, listing_text}
 use Rattle.mcs_model.specs.QueryText.{as_line}
 use Rattle.mcs_source.proofs.Decoding.{one_or_two}
@@ -26,7 +26,7 @@ whole_fits (Some o) b rest =
 
 pub size_fits : (b : ℕ) (rest : List ℕ) → piece_size (op_at b rest) ≤ 1 + length rest
 unfolding op_at
-size_fits b rest = whole_fits (decoded b (second_word rest)) b rest
+size_fits b rest = whole_fits (instruction_of b (second_word rest)) b rest
 
 -- ---- the instruction in front
 
@@ -47,11 +47,11 @@ both_is (Some o) b c rest =
     let fits : word_count_of o ≤ 1 + length (c ∷ rest) = elim (one_or_two o) [ inl e ↦ omega (arith, e) | inr e ↦ omega (arith, e) ] in
     rw (le-leb (word_count_of o) (1 + length (c ∷ rest)) fits) refl
 
-pub two_front : (bytes : List ℕ) → 2 ≤ length bytes → decoded (get_or bytes 0 0) (get_or bytes 1 0) ≡ op_at (get_or bytes 0 0) (drop 1 bytes)
+pub two_front : (bytes : List ℕ) → 2 ≤ length bytes → instruction_of (get_or bytes 0 0) (get_or bytes 1 0) ≡ op_at (get_or bytes 0 0) (drop 1 bytes)
 unfolding op_at
 two_front [] two = absurd (omega (arith, two))
 two_front (b ∷ []) two = absurd (omega (arith, two))
-two_front (b ∷ c ∷ rest) two = sym (both_is (decoded b c) b c rest)
+two_front (b ∷ c ∷ rest) two = sym (both_is (instruction_of b c) b c rest)
 
 pub one_front : (bytes : List ℕ) → 0 < length bytes → length bytes < 2 → op_at (get_or bytes 0 0) [] ≡ op_at (get_or bytes 0 0) (drop 1 bytes)
 one_front [] some short = absurd (omega (arith, some))

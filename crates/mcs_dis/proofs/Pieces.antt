@@ -4,8 +4,8 @@ use Rattle.std.proofs.lemmas.Bool.{lt-ltb, leb-true}
 use Rattle.mcs_model.specs.declared.op.Op.{Op}
 use Rattle.mcs_source.specs.Lexical.{tokens}
 use Rattle.mcs_source.specs.Lines as asm
-use Rattle.mcs_model.specs.Table.{decoded, word_count_of}
-use Rattle.mcs_source.specs.Assembly.{bytes_at, size, is_bad_statement, next_statement}
+use Rattle.mcs_model.specs.Table.{instruction_of, word_count_of}
+use Rattle.mcs_source.specs.Assembly.{statement_bytes, size, is_bad_statement, next_statement}
 use Rattle.mcs_source.specs.Text.{op_at, whole_or_byte, second_word, piece_text, piece_size}
 use Rattle.mcs_dis.specs.Again.{statement}
 use Rattle.mcs_dis.proofs.ReadBack.{read_back, spells, byte_back, size_is, next_is, fine_is}
@@ -18,7 +18,7 @@ piece_statement at b (Some o) = statement at o
 
 pub record IsPiece (at b : ℕ) (rest : List ℕ) (x : Option Op) : Type 0 where
   pub reads : asm.line_of (tokens (piece_text at b x)) ≡ Some (asm.Code None (Some (piece_statement at b x)))
-  pub bytes : bytes_at at [] (piece_statement at b x) ≡ Ok (take (piece_size x) (b ∷ rest))
+  pub bytes : statement_bytes at [] (piece_statement at b x) ≡ Ok (take (piece_size x) (b ∷ rest))
   pub size_of : size (piece_statement at b x) ≡ piece_size x
   pub next : next_statement (Some (piece_statement at b x)) at ≡ at + piece_size x
   pub fine : is_bad_statement (Some (piece_statement at b x)) ≡ false
@@ -34,7 +34,7 @@ take_words n b rest (inl e) le = rw e refl
 take_words n b [] (inr e) le = absurd (omega (arith, e, le))
 take_words n b (c ∷ rest) (inr e) le = rw e refl
 
-op_piece : (at b : ℕ) (rest : List ℕ) (o : Op) → second_word rest < 256 → decoded b (second_word rest) ≡ Some o → word_count_of o ≤ 1 + length rest → IsPiece at b rest (Some o)
+op_piece : (at b : ℕ) (rest : List ℕ) (o : Op) → second_word rest < 256 → instruction_of b (second_word rest) ≡ Some o → word_count_of o ≤ 1 + length rest → IsPiece at b rest (Some o)
 op_piece at b rest o lt e le =
     let s = decoded_spells b (second_word rest) o lt e in
     record {
@@ -51,8 +51,8 @@ op_piece at b rest o lt e le =
 pub piece_is : (at b : ℕ) (rest : List ℕ) → b < 256 → second_word rest < 256 → IsPiece at b rest (op_at b rest)
 unfolding op_at
 piece_is at b rest lt second =
-    let P : Option Op → Type 0 = λ d. decoded b (second_word rest) ≡ d → IsPiece at b rest (whole_or_byte d b rest) in
-    (elim (decoded b (second_word rest)) as P [
+    let P : Option Op → Type 0 = λ d. instruction_of b (second_word rest) ≡ d → IsPiece at b rest (whole_or_byte d b rest) in
+    (elim (instruction_of b (second_word rest)) as P [
       | None ↦ λ e. byte_piece at b rest lt
       | Some o ↦ λ e.
           let Q : Bool → Type 0 = λ t. leb (word_count_of o) (1 + length rest) ≡ t → IsPiece at b rest (cond t (Some o) None) in

@@ -8,11 +8,11 @@ use Rattle.std.specs.Char.{digit_value}
 use Rattle.mcs_model.specs.declared.op.Op.{Op}
 use Rattle.mcs_model.specs.declared.op.Op.TheVariants.{Nop, Jcn, Fim, Src, Fin, Jin, Jun, Jms, Inc, Isz, Add, Sub, Ld, Xch, Bbl, Ldm, Wrm, Wmp, Wrr, Wr0, Wr1, Wr2, Wr3, Sbm, Rdm, Rdr, Adm, Rd0, Rd1, Rd2, Rd3, Clb, Clc, Iac, Cmc, Cma, Ral, Rar, Tcc, Dac, Tcs, Stc, Daa, Kbp, Dcl}
 use Rattle.mcs_source.specs.Lexical.{Token, Word, Comma, tokens, tokens_after, word_then, is_word_byte}
-use Rattle.mcs_model.specs.Numerals.{capped, number_written}
-use Rattle.mcs_source.specs.Mnemonics.{mnemonic_of, orders, on_registers, on_ports, on_memory, on_accumulator, on_carry}
+use Rattle.mcs_model.specs.Numerals.{capped_number, number_written}
+use Rattle.mcs_source.specs.Mnemonics.{mnemonic_of, on_addresses, on_registers, on_ports, on_memory, on_accumulator, on_carry}
 use Rattle.mcs_source.specs.Lines as asm
 use Rattle.mcs_source.specs.Text.{byte_text, origin_text, address, near_page}
-use Rattle.mcs_source.specs.Assembly.{Names, bytes_at, size, next_statement, is_bad_statement}
+use Rattle.mcs_source.specs.Assembly.{Names, statement_bytes, size, next_statement, is_bad_statement}
 use Rattle.mcs_model.specs.Table.{word_count_of}
 use Rattle.mcs_source.specs.Spelling.{spelling, IsOp}
 use Rattle.mcs_dis.specs.Again.{statement, ReadsAs}
@@ -122,7 +122,7 @@ address_again p b lp lt =
     let same : min (((0 * 16 + p) * 16 + b / 16) * 16 + b % 16) 4294967296 ≡ p * 256 + b = omega arith in
     rw (glyph_value p lp, glyph_value (b / 16) high, glyph_value (b % 16) last, lt-ltb _ _ lp, lt-ltb _ _ high, lt-ltb _ _ last) (rw same refl)
 
-address_number : (p b n : ℕ) → p < 16 → b < 256 → n ≡ p * 256 + b → ◌>>=◌ (number_written (address p b)) (λ k. Some (capped k)) ≡ Some n
+address_number : (p b n : ℕ) → p < 16 → b < 256 → n ≡ p * 256 + b → ◌>>=◌ (number_written (address p b)) (λ k. Some (capped_number k)) ≡ Some n
 address_number p b n lp lt e =
     let high : b / 16 < 16 = omega arith in
     let last : b % 16 < 16 = omega arith in
@@ -147,7 +147,7 @@ hex_end b lt =
     rw (glyph_word (b / 16) high, glyph_word (b % 16) last) refl
 
 pub read_back : (at : ℕ) (o : Op) → IsOp o → ReadsAs at o
-unfolding tokens_after asm.statement_of asm.operands_of mnemonic_of orders on_registers on_ports on_memory on_accumulator on_carry
+unfolding tokens_after asm.statement_of asm.operands_of mnemonic_of on_addresses on_registers on_ports on_memory on_accumulator on_carry
 read_back at Nop h = refl
 read_back at Wrm h = refl
 read_back at Wmp h = refl
@@ -199,7 +199,7 @@ read_back at (Jcn c b) h = rw (decimal_comma c (32 ∷ address (near_page at) b)
 near_is : (at b : ℕ) → b < 256 → eqb ((near_page at * 256 + b) / 256) (near_page at) ≡ true
 near_is at b lt = eq-eqb ((near_page at * 256 + b) / 256) (near_page at) (omega arith)
 
-pub spells : (at : ℕ) (o : Op) (names : Names) → IsOp o → bytes_at at names (statement at o) ≡ Ok (spelling o)
+pub spells : (at : ℕ) (o : Op) (names : Names) → IsOp o → statement_bytes at names (statement at o) ≡ Ok (spelling o)
 spells at (Jcn c b) names h =
     let t : near_page at * 256 + b < 4096 = omega (arith, near_small at, h.1) in
     let low : (near_page at * 256 + b) % 256 ≡ b = omega (arith, h.1) in
@@ -261,7 +261,7 @@ spells at (Fin r) names h = refl
 spells at (Jin r) names h = refl
 
 pub byte_back : (b : ℕ) → b < 256 → asm.line_of (tokens (byte_text b)) ≡ Some (asm.Code None (Some (asm.Data (asm.Number b ∷ []))))
-unfolding tokens_after asm.statement_of asm.operands_of mnemonic_of orders
+unfolding tokens_after asm.statement_of asm.operands_of mnemonic_of on_addresses
 byte_back b lt = rw (hex_end b lt, hex_2_again b lt) refl
 
 pub size_is : (at : ℕ) (o : Op) → size (statement at o) ≡ word_count_of o
@@ -406,7 +406,7 @@ fine_is at (Jms r b) = refl
 fine_is at (Isz r b) = refl
 
 pub origin_back : (from : ℕ) → from < 4096 → asm.line_of (tokens (origin_text from)) ≡ Some (asm.Code None (Some (asm.Origin from)))
-unfolding tokens_after asm.statement_of mnemonic_of orders
+unfolding tokens_after asm.statement_of mnemonic_of on_addresses
 origin_back from lt =
     let p : from / 256 < 16 = omega arith in
     let b : from % 256 < 256 = omega arith in

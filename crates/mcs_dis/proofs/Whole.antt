@@ -9,7 +9,7 @@ use Rattle.mcs_source.specs.Lines as asm
 use Rattle.mcs_model.specs.Images.{from_address, overlaps}
 use Rattle.mcs_source.specs.declared.fault.SourceFault.{SourceFault}
 use Rattle.mcs_model.specs.TextLines.{lines_of}
-use Rattle.mcs_source.specs.Assembly.{assembled, read, ith_line, Names, definition, address_of, names_before, pairs_before, next_at, fault_one, fault_two, line_bytes, bytes_or_none, class_one_fault, class_two_fault}
+use Rattle.mcs_source.specs.Assembly.{assembly_of_text, read, ith_line, Names, definition, address_of, names_before, pairs_before, next_at, fault_one, fault_two, line_bytes, bytes_or_none, class_one_fault, class_two_fault}
 use Rattle.mcs_source.proofs.LineByLine.{NoneBefore, address_next, names_next, pairs_next, none_before_next, none_first, first_of_rest, all_passed}
 use Rattle.mcs_source.specs.Text.{SpellsItself, origin_text, source_of, op_at, second_word, piece_text, piece_size, piece_texts}
 use Rattle.mcs_dis.proofs.Clean.{line_is, address_clean}
@@ -178,7 +178,7 @@ texts_clean (suc fuel) at (b ∷ rest) all =
     (line_is (piece_text at b (op_at b rest)) p.clean, texts_clean fuel (at + piece_size (op_at b rest)) (drop (piece_size (op_at b rest) - 1) rest) (drop_bytes (piece_size (op_at b rest) - 1) rest all.1))
 
 -- the source of some bytes assembles to exactly these bytes
-pub source_again : (from : ℕ) (bytes : List ℕ) → from < 4096 → from + length bytes ≤ 4096 → AreBytes bytes → assembled (source_of from bytes) ≡ Ok (from_address from bytes)
+pub source_again : (from : ℕ) (bytes : List ℕ) → from < 4096 → from + length bytes ≤ 4096 → AreBytes bytes → assembly_of_text (source_of from bytes) ≡ Ok (from_address from bytes)
 unfolding address_of names_before pairs_before
 source_again from bytes lt le all =
     let ts : List (List ℕ) = piece_texts (length bytes) from bytes in

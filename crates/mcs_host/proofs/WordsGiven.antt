@@ -8,7 +8,7 @@ use Rattle.clap.specs.declared.parser.matches.ArgMatches.{ArgMatches}
 use Rattle.clap.specs.declared.parser.matches.ArgMatches.TheViews.{out-ArgMatches, out-SubCommand}
 use Rattle.clap.specs.declared.parser.matches.SubCommand.{SubCommand}
 use Rattle.clap.proofs.WalkLemmas.{first_value-rows}
-use Rattle.mcs_host.specs.CommandLine.{chosen, file_in, program}
+use Rattle.mcs_host.specs.CommandLine.{choice_in, file_in, program}
 
 -- a name and rows that are there belong together
 both_there : (entered : Option (Text × List Row)) (name : Text) (rows : List Row) → option_map (λ p. p.0) entered ≡ Some name → option_map (λ p. p.1) entered ≡ Some rows → entered ≡ Some (name, rows)
@@ -31,14 +31,14 @@ no_rows (Some b) unnamed = absurd (cc)
 pub chosen_from : (words : List Text) (m sub : ArgMatches) (name : Text) → subcommand_rows_of m ≡ subcommand_of program words
     → subcommand_name_of m ≡ Some name
     → option_map (λ p. p.1) (subcommand_rows (out-ArgMatches m).subcommand) ≡ Some (rows_of (found_of sub))
-    → chosen words ≡ file_in (name, rows_of (found_of sub))
-unfolding chosen
+    → choice_in words ≡ file_in (name, rows_of (found_of sub))
+unfolding choice_in
 chosen_from words m sub name parsed named rowed = ap (option_and_then file_in)
     (sym parsed ∙ both_there (subcommand_rows_of m) name (rows_of (found_of sub)) (names_agree (out-ArgMatches m).subcommand ∙ named) rowed)
 
 -- the parse entered none
-pub chosen_none : (words : List Text) (m : ArgMatches) → subcommand_rows_of m ≡ subcommand_of program words → subcommand_name_of m ≡ None → chosen words ≡ None
-unfolding chosen
+pub chosen_none : (words : List Text) (m : ArgMatches) → subcommand_rows_of m ≡ subcommand_of program words → subcommand_name_of m ≡ None → choice_in words ≡ None
+unfolding choice_in
 chosen_none words m parsed unnamed = ap (option_and_then file_in) (sym parsed ∙ no_rows (out-ArgMatches m).subcommand unnamed)
 
 pub file_in_new : (sub : ArgMatches) (file : Text) → first_value (found_of sub) (codes "FILE") ≡ Some file → file_in (codes "new", rows_of (found_of sub)) ≡ Some (codes "new", file)

@@ -31,10 +31,10 @@ file_in entered =
     then option_map (λ file. (entered.0, file)) (first_of (codes "FILE") entered.1) else None
 
 -- the subcommand and the FILE that clap's definition of the matches gives for these words
-unfoldable pub chosen : List Text → Option (Text × Text)
-chosen words = option_and_then file_in (subcommand_of program words)
+unfoldable pub choice_in : List Text → Option (Text × Text)
+choice_in words = option_and_then file_in (subcommand_of program words)
 
 -- a choice as a subcommand and its FILE
-abbrev pub meant : Choice → Text × Text
-meant (New file) = (codes "new", file)
-meant (Open file) = (codes "open", file)
+abbrev pub words_of_choice : Choice → Text × Text
+words_of_choice (New file) = (codes "new", file)
+words_of_choice (Open file) = (codes "open", file)

@@ -1,7 +1,7 @@
 //! The command line: `mcs4 new FILE` and `mcs4 open FILE`, read by clap.
 ghost use Rattle.std.specs.Prelude.{◌≡◌, ◌≢◌, Some, None, true, map, IfOk, IfErr, IsErrOf};
 ghost use Rattle.clap.specs.Words.{kind_of, subcommand_of, subcommand_rows_of};
-ghost use Rattle.mcs_host.specs.CommandLine.{chosen, takes_words, meant, program};
+ghost use Rattle.mcs_host.specs.CommandLine.{choice_in, takes_words, words_of_choice, program};
 
 use crate::words::{Choice, FileName, WordsFault};
 use clap::error::ErrorKind;
@@ -12,7 +12,7 @@ use std::convert::AsStr;
 impl Choice {
     /// The name of its file.
     pub fn file(&self) -> &str
-        ensures { result.now ≡ (meant self.now).1 }
+        ensures { result.now ≡ (words_of_choice self.now).1 }
     {
         match self {
             Choice::New(file) | Choice::Open(file) => file.as_str(),
@@ -42,10 +42,10 @@ fn matches<'a, S: AsStr>(alloc: Global, words: &'a [S]) -> Result<ArgMatches<'a>
 /// take the words, or gives none, as for a request for help. `NoMemory` comes where a growth was
 /// refused.
 pub fn choice<S: AsStr>(alloc: Global, words: &[S]) -> Result<Choice, WordsFault>
-    ensures given { IfOk result (λ c. chosen (map S.text words.entry.now) ≡ Some (meant c)) }
+    ensures given { IfOk result (λ c. choice_in (map S.text words.entry.now) ≡ Some (words_of_choice c)) }
     ensures usage { IsErrOf result WordsFault.Usage
         → (takes_words (map S.text words.entry.now) ≡ true
-        → chosen (map S.text words.entry.now) ≡ None) }
+        → choice_in (map S.text words.entry.now) ≡ None) }
 {
     let found = match matches(alloc, words) {
         Ok(found) => found,

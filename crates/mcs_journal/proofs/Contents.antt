@@ -1,7 +1,7 @@
 -- What a file holds after each of the two steps that add a record.
 use Rattle.std.proofs.Common.{◌≡◌, ◌⊎◌, inl, inr, ◌≤◌, ◌+◌, ◌-◌, List, [], ◌∷◌, ◌++◌, ℕ, length, get_or, refl, sym, ◌∙◌, ap, subst, arith}
 use Rattle.mcs_disk.specs.Disk.{part, Torn}
-use Rattle.mcs_journal.specs.File.{Holds, IsLog, IsRecord, spelled, be16, slot_at, slot_of, slot_named, start_of}
+use Rattle.mcs_journal.specs.File.{Holds, IsLog, IsRecord, frames_of, be16, slot_at, slot_of, slot_named, start_of}
 use Rattle.mcs_journal.specs.Writing.{IsCommitPlace}
 use Rattle.mcs_journal.specs.declared.slot.Slot.{Slot}
 use Rattle.mcs_journal.specs.declared.slot.Slot.TheVariants.{A, B}
@@ -44,13 +44,13 @@ module _ (f snap : List ℕ) (rs : List (List ℕ)) (commit_at : ℕ) (r : List 
   lo = slot_at f + 16384
 
   u : ℕ
-  u = length (spelled rs)
+  u = length (frames_of rs)
 
   fits : lo + 65536 ≤ length f
   fits = omega (arith, slot_bounds f, old.size)
 
-  log_torn : (c : List ℕ) → Torn (commit_at + 1) (length r + 3) f c → Torn (length (spelled rs) + 1) (length r + 3) (part lo 65536 f) (part lo 65536 c)
-  log_torn c torn = part_torn (commit_at + 1) (length r + 3) lo 65536 (length (spelled rs) + 1) f c torn fits (omega (arith, at_commit.at)) (omega (arith, at_commit.room))
+  log_torn : (c : List ℕ) → Torn (commit_at + 1) (length r + 3) f c → Torn (length (frames_of rs) + 1) (length r + 3) (part lo 65536 f) (part lo 65536 c)
+  log_torn c torn = part_torn (commit_at + 1) (length r + 3) lo 65536 (length (frames_of rs) + 1) f c torn fits (omega (arith, at_commit.at)) (omega (arith, at_commit.room))
 
   -- any bytes after the commit byte leave the pair
   pub first_torn : (c : List ℕ) → Torn (commit_at + 1) (length r + 3) f c → Holds c snap rs
@@ -60,10 +60,10 @@ module _ (f snap : List ℕ) (rs : List (List ℕ)) (commit_at : ℕ) (r : List 
 
   pub first_staged : (c : List ℕ) → Torn (commit_at + 1) (length r + 3) f c → part (commit_at + 1) (length r + 3) c ≡ be16 (length r) ++ r ++ 0 ∷ [] → IsStaged rs r (part lo 65536 c)
   first_staged c torn here =
-      let place : lo + (length (spelled rs) + 1) ≡ commit_at + 1 = omega (arith, at_commit.at) in
-      let m = 65536 - (length (spelled rs) + 1) in
+      let place : lo + (length (frames_of rs) + 1) ≡ commit_at + 1 = omega (arith, at_commit.at) in
+      let m = 65536 - (length (frames_of rs) + 1) in
       staged rs r _ _ old.log (log_torn c torn)
-      (part_part lo 65536 (length (spelled rs) + 1) (length r + 3) m c (omega (arith, at_commit.room)) (omega (arith, at_commit.room)) ∙ ap (λ (p : ℕ). part p (length r + 3) c) place ∙ here)
+      (part_part lo 65536 (length (frames_of rs) + 1) (length r + 3) m c (omega (arith, at_commit.room)) (omega (arith, at_commit.room)) ∙ ap (λ (p : ℕ). part p (length r + 3) c) place ∙ here)
 
   -- any byte at the commit byte then leaves the old pair or the new one, and 1 the new one
   module _ (g c : List ℕ) (first : Torn (commit_at + 1) (length r + 3) f g) (here : part (commit_at + 1) (length r + 3) g ≡ be16 (length r) ++ r ++ 0 ∷ []) (torn : Torn commit_at 1 g c) where
@@ -73,8 +73,8 @@ module _ (f snap : List ℕ) (rs : List (List ℕ)) (commit_at : ℕ) (r : List 
     slot_stays : slot_at g ≡ slot_at f
     slot_stays = same_slot f g (first.before 8 (omega (arith, at_commit.at, slot_bounds f)))
 
-    commit_torn_log : Torn (length (spelled rs)) 1 (part lo 65536 g) (part lo 65536 c)
-    commit_torn_log = part_torn commit_at 1 lo 65536 (length (spelled rs)) g c torn (omega (arith, fits, first.size)) at_commit.at (omega (arith, at_commit.room))
+    commit_torn_log : Torn (length (frames_of rs)) 1 (part lo 65536 g) (part lo 65536 c)
+    commit_torn_log = part_torn commit_at 1 lo 65536 (length (frames_of rs)) g c torn (omega (arith, fits, first.size)) at_commit.at (omega (arith, at_commit.room))
 
     lift : (news : List (List ℕ)) → IsLog news (part lo 65536 c) → Holds c snap news
     lift news log =
@@ -86,8 +86,8 @@ module _ (f snap : List ℕ) (rs : List (List ℕ)) (commit_at : ℕ) (r : List 
 
     pub second_done : part commit_at 1 c ≡ 1 ∷ [] → Holds c snap (rs ++ r ∷ [])
     second_done one =
-        let at_log : get_or (part lo 65536 c) (length (spelled rs)) 0 ≡ get_or c (lo + length (spelled rs)) 0 = part_at lo 65536 c (length (spelled rs)) (omega (arith, at_commit.room)) in
+        let at_log : get_or (part lo 65536 c) (length (frames_of rs)) 0 ≡ get_or c (lo + length (frames_of rs)) 0 = part_at lo 65536 c (length (frames_of rs)) (omega (arith, at_commit.room)) in
         let at_file : get_or (part commit_at 1 c) 0 0 ≡ get_or c (commit_at + 0) 0 = part_at commit_at 1 c 0 (omega arith) in
-        let place : lo + length (spelled rs) ≡ commit_at + 0 = omega (arith, at_commit.at) in
-        let is_one : get_or (part lo 65536 c) (length (spelled rs)) 0 ≡ 1 = at_log ∙ ap (λ (i : ℕ). get_or c i 0) place ∙ sym at_file ∙ ap (λ (l : List ℕ). get_or l 0 0) one in
+        let place : lo + length (frames_of rs) ≡ commit_at + 0 = omega (arith, at_commit.at) in
+        let is_one : get_or (part lo 65536 c) (length (frames_of rs)) 0 ≡ 1 = at_log ∙ ap (λ (i : ℕ). get_or c i 0) place ∙ sym at_file ∙ ap (λ (l : List ℕ). get_or l 0 0) one in
         let by = commit_either rs r _ _ (first_staged g first here) good commit_torn_log in lift (rs ++ r ∷ []) (by.0 is_one)

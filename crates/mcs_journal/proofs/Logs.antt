@@ -3,32 +3,32 @@ use Rattle.std.proofs.Common.{◌≡◌, ◌≢◌, ◌⊎◌, inl, inr, ◌≤�
 use Rattle.std.proofs.lemmas.List.{append-nil, drop_at}
 use Rattle.std.proofs.lemmas.Bool.{cases_eq}
 use Rattle.mcs_disk.specs.Disk.{part, Torn}
-use Rattle.mcs_journal.specs.File.{IsLog, spelled, framed, be16, AreRecords, IsRecord}
+use Rattle.mcs_journal.specs.File.{IsLog, frames_of, frame_of, be16, AreRecords, IsRecord}
 use Rattle.mcs_journal.proofs.Parts.{starts_as, but_one}
 
-pub length-framed : (r : List ℕ) → length (framed r) ≡ length r + 3
+pub length-framed : (r : List ℕ) → length (frame_of r) ≡ length r + 3
 length-framed r = omega arith
 
-pub spelled-push : (rs : List (List ℕ)) (r : List ℕ) → spelled (rs ++ r ∷ []) ≡ spelled rs ++ framed r
-spelled-push [] r = append-nil (framed r)
-spelled-push (x ∷ rs) r = ap (λ (l : List ℕ). framed x ++ l) (spelled-push rs r) ∙ sym (append_assoc (framed x) (spelled rs) (framed r))
+pub spelled-push : (rs : List (List ℕ)) (r : List ℕ) → frames_of (rs ++ r ∷ []) ≡ frames_of rs ++ frame_of r
+spelled-push [] r = append-nil (frame_of r)
+spelled-push (x ∷ rs) r = ap (λ (l : List ℕ). frame_of x ++ l) (spelled-push rs r) ∙ sym (append_assoc (frame_of x) (frames_of rs) (frame_of r))
 
 pub AreRecords-push : (rs : List (List ℕ)) (r : List ℕ) → AreRecords rs → IsRecord r → AreRecords (rs ++ r ∷ [])
 AreRecords-push [] r all ok = (ok, tt)
 AreRecords-push (x ∷ rs) r all ok = (all.0, AreRecords-push rs r all.1 ok)
 
 -- what stands after the commit byte doesn't matter
-pub after_commit : (rs : List (List ℕ)) (n : ℕ) (log c : List ℕ) → IsLog rs log → Torn (length (spelled rs) + 1) n log c → IsLog rs c
+pub after_commit : (rs : List (List ℕ)) (n : ℕ) (log c : List ℕ) → IsLog rs log → Torn (length (frames_of rs) + 1) n log c → IsLog rs c
 after_commit rs n log c old torn =
-    let p = spelled rs ++ old.commit_byte ∷ [] in
-    let as_p : log ≡ p ++ old.rest = old.is ∙ sym (append_assoc (spelled rs) (old.commit_byte ∷ []) old.rest) in
-    let long : length p ≡ length (spelled rs) + 1 = omega (arith, length-append (spelled rs) (old.commit_byte ∷ [])) in
+    let p = frames_of rs ++ old.commit_byte ∷ [] in
+    let as_p : log ≡ p ++ old.rest = old.is ∙ sym (append_assoc (frames_of rs) (old.commit_byte ∷ []) old.rest) in
+    let long : length p ≡ length (frames_of rs) + 1 = omega (arith, length-append (frames_of rs) (old.commit_byte ∷ [])) in
     let fits : length p ≤ length c = omega (arith, torn.size, ap length as_p, length-append p old.rest) in
     let is : c ≡ p ++ drop (length p) c = starts_as p old.rest c fits (λ i lt. torn.before i (omega (arith, lt, long)) ∙ ap (λ (l : List ℕ). get_or l i 0) as_p) in
     record {
       commit_byte = old.commit_byte;
       rest = drop (length p) c;
-      is = is ∙ append_assoc (spelled rs) (old.commit_byte ∷ []) (drop (length p) c);
+      is = is ∙ append_assoc (frames_of rs) (old.commit_byte ∷ []) (drop (length p) c);
       closed = old.closed;
       records_ok = old.records_ok;
     }
@@ -37,52 +37,52 @@ after_commit rs n log c old torn =
 pub record IsStaged (rs : List (List ℕ)) (r log : List ℕ) : Type 0 where
   pub commit_byte : ℕ
   pub rest : List ℕ
-  pub is : log ≡ spelled rs ++ commit_byte ∷ ((be16 (length r) ++ r ++ 0 ∷ []) ++ rest)
+  pub is : log ≡ frames_of rs ++ commit_byte ∷ ((be16 (length r) ++ r ++ 0 ∷ []) ++ rest)
   pub records_ok : AreRecords rs
 
-pub staged : (rs : List (List ℕ)) (r log c : List ℕ) → IsLog rs log → Torn (length (spelled rs) + 1) (length r + 3) log c → part (length (spelled rs) + 1) (length r + 3) c ≡ be16 (length r) ++ r ++ 0 ∷ [] → IsStaged rs r c
+pub staged : (rs : List (List ℕ)) (r log c : List ℕ) → IsLog rs log → Torn (length (frames_of rs) + 1) (length r + 3) log c → part (length (frames_of rs) + 1) (length r + 3) c ≡ be16 (length r) ++ r ++ 0 ∷ [] → IsStaged rs r c
 staged rs r log c old torn here =
-    let n = length (spelled rs) + 1 in
+    let n = length (frames_of rs) + 1 in
     let next = after_commit rs (length r + 3) log c old torn in
     let bytes = be16 (length r) ++ r ++ 0 ∷ [] in
-    let p = spelled rs ++ next.commit_byte ∷ [] in
-    let long : length p ≡ n = omega (arith, length-append (spelled rs) (next.commit_byte ∷ [])) in
-    let as_p : c ≡ p ++ next.rest = next.is ∙ sym (append_assoc (spelled rs) (next.commit_byte ∷ []) next.rest) in
+    let p = frames_of rs ++ next.commit_byte ∷ [] in
+    let long : length p ≡ n = omega (arith, length-append (frames_of rs) (next.commit_byte ∷ [])) in
+    let as_p : c ≡ p ++ next.rest = next.is ∙ sym (append_assoc (frames_of rs) (next.commit_byte ∷ []) next.rest) in
     let tail : drop n c ≡ next.rest = ap (λ (l : List ℕ). drop n l) as_p ∙ drop_at p next.rest n long in
     let front : take (length r + 3) next.rest ≡ bytes = ap (λ (l : List ℕ). take (length r + 3) l) (sym tail) ∙ here in
     record {
       commit_byte = next.commit_byte;
       rest = drop (length r + 3) next.rest;
-      is = next.is ∙ ap (λ (l : List ℕ). spelled rs ++ next.commit_byte ∷ l) (sym (take-append-drop (length r + 3) next.rest) ∙ ap (λ (l : List ℕ). l ++ drop (length r + 3) next.rest) front);
+      is = next.is ∙ ap (λ (l : List ℕ). frames_of rs ++ next.commit_byte ∷ l) (sym (take-append-drop (length r + 3) next.rest) ∙ ap (λ (l : List ℕ). l ++ drop (length r + 3) next.rest) front);
       records_ok = next.records_ok;
     }
 
 -- the commit byte decides
-pub commit_set : (rs : List (List ℕ)) (r rest : List ℕ) (commit_byte : ℕ) → AreRecords rs → IsRecord r → commit_byte ≡ 1 → IsLog (rs ++ r ∷ []) (spelled rs ++ commit_byte ∷ ((be16 (length r) ++ r ++ 0 ∷ []) ++ rest))
+pub commit_set : (rs : List (List ℕ)) (r rest : List ℕ) (commit_byte : ℕ) → AreRecords rs → IsRecord r → commit_byte ≡ 1 → IsLog (rs ++ r ∷ []) (frames_of rs ++ commit_byte ∷ ((be16 (length r) ++ r ++ 0 ∷ []) ++ rest))
 commit_set rs r rest commit_byte ok good one = record {
   commit_byte = 0;
   rest = rest;
   is =
-      ap (λ (g : ℕ). spelled rs ++ g ∷ ((be16 (length r) ++ r ++ 0 ∷ []) ++ rest)) one
-      ∙ ap (λ (l : List ℕ). spelled rs ++ l) (append_assoc (framed r) (0 ∷ []) rest)
-      ∙ sym (append_assoc (spelled rs) (framed r) (0 ∷ rest))
+      ap (λ (g : ℕ). frames_of rs ++ g ∷ ((be16 (length r) ++ r ++ 0 ∷ []) ++ rest)) one
+      ∙ ap (λ (l : List ℕ). frames_of rs ++ l) (append_assoc (frame_of r) (0 ∷ []) rest)
+      ∙ sym (append_assoc (frames_of rs) (frame_of r) (0 ∷ rest))
       ∙ ap (λ (l : List ℕ). l ++ 0 ∷ rest) (sym (spelled-push rs r));
   closed = λ no. cc;
   records_ok = AreRecords-push rs r ok good;
 }
 
-pub commit_either : (rs : List (List ℕ)) (r log c : List ℕ) → IsStaged rs r log → IsRecord r → Torn (length (spelled rs)) 1 log c → (get_or c (length (spelled rs)) 0 ≡ 1 → IsLog (rs ++ r ∷ []) c) × (get_or c (length (spelled rs)) 0 ≢ 1 → IsLog rs c)
+pub commit_either : (rs : List (List ℕ)) (r log c : List ℕ) → IsStaged rs r log → IsRecord r → Torn (length (frames_of rs)) 1 log c → (get_or c (length (frames_of rs)) 0 ≡ 1 → IsLog (rs ++ r ∷ []) c) × (get_or c (length (frames_of rs)) 0 ≢ 1 → IsLog rs c)
 commit_either rs r log c old good torn =
     let bytes = (be16 (length r) ++ r ++ 0 ∷ []) ++ old.rest in
-    let g = get_or c (length (spelled rs)) 0 in
-    let is : c ≡ spelled rs ++ g ∷ bytes = but_one (spelled rs) bytes c old.commit_byte (torn.size ∙ ap length old.is)
+    let g = get_or c (length (frames_of rs)) 0 in
+    let is : c ≡ frames_of rs ++ g ∷ bytes = but_one (frames_of rs) bytes c old.commit_byte (torn.size ∙ ap length old.is)
     (λ i lt. torn.before i lt ∙ ap (λ (l : List ℕ). get_or l i 0) old.is)
     (λ i le. torn.after i le ∙ ap (λ (l : List ℕ). get_or l i 0) old.is) in (
       λ one. subst (IsLog (rs ++ r ∷ [])) (sym is) (commit_set rs r old.rest g old.records_ok good one),
       λ shut. record { commit_byte = g; rest = bytes; is = is; closed = shut; records_ok = old.records_ok },
     )
 
-pub commit_torn : (rs : List (List ℕ)) (r log c : List ℕ) → IsStaged rs r log → IsRecord r → Torn (length (spelled rs)) 1 log c → IsLog rs c ⊎ IsLog (rs ++ r ∷ []) c
+pub commit_torn : (rs : List (List ℕ)) (r log c : List ℕ) → IsStaged rs r log → IsRecord r → Torn (length (frames_of rs)) 1 log c → IsLog rs c ⊎ IsLog (rs ++ r ∷ []) c
 commit_torn rs r log c old good torn =
     let by = commit_either rs r log c old good torn in
-    elim (cases_eq (get_or c (length (spelled rs)) 0) 1) [ inl one ↦ inr (by.0 one) | inr shut ↦ inl (by.1 shut) ]
+    elim (cases_eq (get_or c (length (frames_of rs)) 0) 1) [ inl one ↦ inr (by.0 one) | inr shut ↦ inl (by.1 shut) ]

@@ -3,7 +3,7 @@ use Rattle.std.proofs.Common.{◌≡◌, ◌≤◌, ◌<◌, ◌+◌, ◌*◌, �
 use Rattle.std.proofs.lemmas.List.{drop-drop}
 use Rattle.std.proofs.Math.Seq.{take-add}
 use Rattle.mcs_disk.specs.Disk.{part}
-use Rattle.mcs_journal.specs.File.{framed, be16}
+use Rattle.mcs_journal.specs.File.{frame_of, be16}
 use Rattle.mcs_journal.specs.Writing.{IsNext, IsNoRecord}
 use Rattle.mcs_journal.proofs.Parts.{part_at, part_part}
 
@@ -49,7 +49,7 @@ next_is f at n commit_byte prefix r is_commit commit_long opened is_prefix prefi
     shift : at + 1 + 2 ≡ at + 3
     shift = omega arith
 
-    whole : part at (length r + 3) f ≡ framed r
+    whole : part at (length r + 3) f ≡ frame_of r
     whole =
         ap (λ (k : ℕ). part at k f) count
         ∙ part_add at 1 (2 + n) f

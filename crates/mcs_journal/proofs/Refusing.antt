@@ -3,7 +3,7 @@ use Rattle.std.proofs.Common.{◌≡◌, ◌≢◌, inr, ⊎_elim, ◌+◌, ℕ,
 use Rattle.mcs_disk.specs.Disk.{DiskState, IsCall, most_faults, part}
 use Rattle.mcs_disk.specs.Moments.{CountsFault, AddsNoImage}
 use Rattle.mcs_disk.proofs.Composing.{rests_leave}
-use Rattle.mcs_journal.specs.Answers.{RefusesCreate, RefusesOpen, HoldsNone}
+use Rattle.mcs_journal.specs.StoreCalls.{RefusesCreate, RefusesOpen, HoldsNone}
 use Rattle.mcs_journal.specs.File.{IsBlank}
 use Rattle.mcs_journal.specs.declared.format.TheConstants.{FILE_SIZE, NAME}
 use Rattle.mcs_journal.specs.declared.fault.OpenFault.{OpenFault}

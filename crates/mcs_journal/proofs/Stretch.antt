@@ -39,9 +39,9 @@ module _ (old mid : DiskState) (Before After : List ℕ → Type 0) (at : ℕ) (
   pub second_step : {T E : Type 0} (new : DiskState) (place : ℕ) (last : List ℕ) (result : Result T E) → IsLawful new → LeavesOnly old mid (Either Before After) → IsDurable mid → mid.clock ≡ old.clock + 2
       → ((c : List ℕ) → Torn place (length last) mid.bytes c → Either Before After c) → (part place (length last) new.bytes ≡ last → Torn place (length last) mid.bytes new.bytes → After new.bytes)
       → Commits place last mid new result → Changes 4 old new Before After result
-  second_step new place last result law so_far settled tick either_way done step = record {
+  second_step new place last result law so_far intact tick either_way done step = record {
     after = on_ok_weaker result (λ (here : part place (length last) new.bytes ≡ last). done here step.outside) step.written;
     durable = step.durable;
     ticks = on_ok_weaker result (λ (two : new.clock ≡ mid.clock + 2). omega (arith, two, tick)) step.ticks;
-    moments = goes_on old mid new (Either Before After) place last result law so_far step (λ d c was tear. either_way c (subst (λ (f : List ℕ). Torn place (length last) f c) (settled.only d was) tear));
+    moments = goes_on old mid new (Either Before After) place last result law so_far step (λ d c was tear. either_way c (subst (λ (f : List ℕ). Torn place (length last) f c) (intact.only d was) tear));
   }

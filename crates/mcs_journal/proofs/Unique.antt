@@ -2,14 +2,14 @@
 use Rattle.std.proofs.Common.{◌≡◌, ◌≢◌, ◌≤◌, ◌+◌, ◌/◌, ◌%◌, List, [], ◌∷◌, ◌++◌, ℕ, length, take, drop, refl, sym, ◌∙◌, ap, arith, append_assoc}
 use Rattle.std.proofs.lemmas.List.{take_at, drop_at}
 use Rattle.mcs_disk.specs.Disk.{part}
-use Rattle.mcs_journal.specs.File.{Holds, IsLog, spelled, be32, slot_at}
+use Rattle.mcs_journal.specs.File.{Holds, IsLog, frames_of, be32, slot_at}
 
 -- two numbers of the same two bytes
 same_16 : (m n : ℕ) → m / 256 ≡ n / 256 → m % 256 ≡ n % 256 → m ≡ n
 same_16 m n high low = omega (arith, high, low)
 
 -- records of the same bytes, up to a commit byte that is not 1
-pub same_records : (rs ss : List (List ℕ)) (g h : ℕ) (xs ys : List ℕ) → g ≢ 1 → h ≢ 1 → spelled rs ++ g ∷ xs ≡ spelled ss ++ h ∷ ys → rs ≡ ss
+pub same_records : (rs ss : List (List ℕ)) (g h : ℕ) (xs ys : List ℕ) → g ≢ 1 → h ≢ 1 → frames_of rs ++ g ∷ xs ≡ frames_of ss ++ h ∷ ys → rs ≡ ss
 same_records [] [] g h xs ys shut closed same = refl
 same_records [] (s ∷ ss) g h xs ys shut closed same = let one : g ≡ 1 = cc in absurd (shut one)
 same_records (r ∷ rs) [] g h xs ys shut closed same = let one : h ≡ 1 = cc in absurd (closed one)
@@ -17,10 +17,10 @@ same_records (r ∷ rs) (s ∷ ss) g h xs ys shut closed same =
     let high : length r / 256 ≡ length s / 256 = cc in
     let low : length r % 256 ≡ length s % 256 = cc in
     let long = same_16 (length r) (length s) high low in
-    let tails : (r ++ spelled rs) ++ g ∷ xs ≡ (s ++ spelled ss) ++ h ∷ ys = cc in
-    let apart : r ++ (spelled rs ++ g ∷ xs) ≡ s ++ (spelled ss ++ h ∷ ys) = sym (append_assoc r (spelled rs) (g ∷ xs)) ∙ tails ∙ append_assoc s (spelled ss) (h ∷ ys) in
-    let head : r ≡ s = sym (take_at r (spelled rs ++ g ∷ xs) (length r) refl) ∙ ap (λ (l : List ℕ). take (length r) l) apart ∙ take_at s (spelled ss ++ h ∷ ys) (length r) (sym long) in
-    let rest : spelled rs ++ g ∷ xs ≡ spelled ss ++ h ∷ ys = sym (drop_at r (spelled rs ++ g ∷ xs) (length r) refl) ∙ ap (λ (l : List ℕ). drop (length r) l) apart ∙ drop_at s (spelled ss ++ h ∷ ys) (length r) (sym long) in
+    let tails : (r ++ frames_of rs) ++ g ∷ xs ≡ (s ++ frames_of ss) ++ h ∷ ys = cc in
+    let apart : r ++ (frames_of rs ++ g ∷ xs) ≡ s ++ (frames_of ss ++ h ∷ ys) = sym (append_assoc r (frames_of rs) (g ∷ xs)) ∙ tails ∙ append_assoc s (frames_of ss) (h ∷ ys) in
+    let head : r ≡ s = sym (take_at r (frames_of rs ++ g ∷ xs) (length r) refl) ∙ ap (λ (l : List ℕ). take (length r) l) apart ∙ take_at s (frames_of ss ++ h ∷ ys) (length r) (sym long) in
+    let rest : frames_of rs ++ g ∷ xs ≡ frames_of ss ++ h ∷ ys = sym (drop_at r (frames_of rs ++ g ∷ xs) (length r) refl) ∙ ap (λ (l : List ℕ). drop (length r) l) apart ∙ drop_at s (frames_of ss ++ h ∷ ys) (length r) (sym long) in
     let more = same_records rs ss g h xs ys shut closed rest in
     (λ k. head k ∷ more k)
 

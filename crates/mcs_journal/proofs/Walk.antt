@@ -2,15 +2,15 @@
 use Rattle.std.proofs.Common.{◌≡◌, ◌≢◌, ◌≤◌, ◌<◌, ◌+◌, ◌-◌, ◌/◌, ◌%◌, List, [], ◌∷◌, ◌++◌, ℕ, length, take, drop, get_or, refl, sym, ◌∙◌, ap, arith, append_assoc, length-append, length-drop, take-append-drop}
 use Rattle.std.proofs.lemmas.List.{take_at, drop_at, drop-drop, drop_more}
 use Rattle.mcs_disk.specs.Disk.{part}
-use Rattle.mcs_journal.specs.File.{IsLog, AreRecords, spelled, framed}
+use Rattle.mcs_journal.specs.File.{IsLog, AreRecords, frames_of, frame_of}
 use Rattle.mcs_journal.specs.Writing.{IsNext, IsNoRecord}
 use Rattle.mcs_journal.proofs.Parts.{part_at, part_part, length-part}
 use Rattle.mcs_journal.proofs.Logs.{spelled-push, AreRecords-push, length-framed}
 
 -- what was read of a log, whose rest starts at this place
 pub record IsPrefix (records : List (List ℕ)) (used : ℕ) (log : List ℕ) : Type 0 where
-  pub is : log ≡ spelled records ++ drop used log
-  pub count : used ≡ length (spelled records)
+  pub is : log ≡ frames_of records ++ drop used log
+  pub count : used ≡ length (frames_of records)
   pub good : AreRecords records
 
 pub nothing_read : (log : List ℕ) → IsPrefix [] 0 log
@@ -24,14 +24,14 @@ module _ (f : List ℕ) (at : ℕ) (fits : at + 65536 ≤ length f) (rs : List (
   one_more r so_far next room = record {
     is =
         so_far.is
-        ∙ ap (λ (l : List ℕ). spelled rs ++ l) (sym (take-append-drop (length r + 3) (drop used log)) ∙ (λ k. here k ++ behind k))
-        ∙ sym (append_assoc (spelled rs) (framed r) (drop (used + (length r + 3)) log))
+        ∙ ap (λ (l : List ℕ). frames_of rs ++ l) (sym (take-append-drop (length r + 3) (drop used log)) ∙ (λ k. here k ++ behind k))
+        ∙ sym (append_assoc (frames_of rs) (frame_of r) (drop (used + (length r + 3)) log))
         ∙ ap (λ (l : List ℕ). l ++ drop (used + (length r + 3)) log) (sym (spelled-push rs r));
-    count = omega (arith, so_far.count, ap length (spelled-push rs r), length-append (spelled rs) (framed r), length-framed r);
+    count = omega (arith, so_far.count, ap length (spelled-push rs r), length-append (frames_of rs) (frame_of r), length-framed r);
     good = AreRecords-push rs r so_far.good next.good;
   }
     where
-      here : take (length r + 3) (drop used log) ≡ framed r
+      here : take (length r + 3) (drop used log) ≡ frame_of r
       here = part_part at 65536 used (length r + 3) (65536 - used) f (omega (arith, room)) (omega (arith, room)) ∙ next.is
 
       behind : drop (length r + 3) (drop used log) ≡ drop (used + (length r + 3)) log
@@ -41,7 +41,7 @@ module _ (f : List ℕ) (at : ℕ) (fits : at + 65536 ≤ length f) (rs : List (
   ends so_far shut inside = record {
     commit_byte = get_or log used 0;
     rest = drop (used + 1) log;
-    is = so_far.is ∙ ap (λ (l : List ℕ). spelled rs ++ l) (drop_more log used 0 (omega (arith, inside, length-part at 65536 f fits)));
+    is = so_far.is ∙ ap (λ (l : List ℕ). frames_of rs ++ l) (drop_more log used 0 (omega (arith, inside, length-part at 65536 f fits)));
     closed = λ one. shut (sym (part_at at 65536 f used inside) ∙ one);
     records_ok = so_far.good;
   }
@@ -57,21 +57,21 @@ module _ (f : List ℕ) (at : ℕ) (fits : at + 65536 ≤ length f) (rs : List (
       long : length (drop used log) ≡ 65536 - used
       long = omega (arith, length-drop used log, length-part at 65536 f fits)
 
-      walk : (ps qs : List (List ℕ)) → AreRecords qs → spelled qs ++ a.commit_byte ∷ a.rest ≡ spelled ps ++ drop used log → ⊥
+      walk : (ps qs : List (List ℕ)) → AreRecords qs → frames_of qs ++ a.commit_byte ∷ a.rest ≡ frames_of ps ++ drop used log → ⊥
       walk [] [] good same = a.closed (ap (λ (l : List ℕ). get_or l 0 0) same ∙ commit_is)
       walk [] (q ∷ qs) good same =
-          let tail = spelled qs ++ a.commit_byte ∷ a.rest in
-          let apart : framed q ++ tail ≡ drop used log = sym (append_assoc (framed q) (spelled qs) (a.commit_byte ∷ a.rest)) ∙ same in
-          let room : length q + 4 ≤ 65536 - used = omega (arith, long, ap length apart, length-append (framed q) tail, length-append (spelled qs) (a.commit_byte ∷ a.rest), length-framed q) in
-          let here : part (at + used) (length q + 3) f ≡ framed q =
+          let tail = frames_of qs ++ a.commit_byte ∷ a.rest in
+          let apart : frame_of q ++ tail ≡ drop used log = sym (append_assoc (frame_of q) (frames_of qs) (a.commit_byte ∷ a.rest)) ∙ same in
+          let room : length q + 4 ≤ 65536 - used = omega (arith, long, ap length apart, length-append (frame_of q) tail, length-append (frames_of qs) (a.commit_byte ∷ a.rest), length-framed q) in
+          let here : part (at + used) (length q + 3) f ≡ frame_of q =
           sym (part_part at 65536 used (length q + 3) (65536 - used) f (omega (arith, inside)) (omega (arith, room)))
-          ∙ ap (λ (l : List ℕ). take (length q + 3) l) (sym apart) ∙ take_at (framed q) tail (length q + 3) (length-framed q) in
+          ∙ ap (λ (l : List ℕ). take (length q + 3) l) (sym apart) ∙ take_at (frame_of q) tail (length q + 3) (length-framed q) in
           no_record.none q room (record { good = good.0; is = here })
       walk (p ∷ ps) [] good same = let one : a.commit_byte ≡ 1 = cc in a.closed one
       walk (p ∷ ps) (q ∷ qs) good same =
           let high : length q / 256 ≡ length p / 256 = cc in
           let low : length q % 256 ≡ length p % 256 = cc in
           let count : length q ≡ length p = omega (arith, high, low) in
-          let tails : (q ++ spelled qs) ++ a.commit_byte ∷ a.rest ≡ (p ++ spelled ps) ++ drop used log = cc in
-          let apart : q ++ (spelled qs ++ a.commit_byte ∷ a.rest) ≡ p ++ (spelled ps ++ drop used log) = sym (append_assoc q (spelled qs) (a.commit_byte ∷ a.rest)) ∙ tails ∙ append_assoc p (spelled ps) (drop used log) in
-          walk ps qs good.1 (sym (drop_at q (spelled qs ++ a.commit_byte ∷ a.rest) (length q) refl) ∙ ap (λ (l : List ℕ). drop (length q) l) apart ∙ drop_at p (spelled ps ++ drop used log) (length q) (sym count))
+          let tails : (q ++ frames_of qs) ++ a.commit_byte ∷ a.rest ≡ (p ++ frames_of ps) ++ drop used log = cc in
+          let apart : q ++ (frames_of qs ++ a.commit_byte ∷ a.rest) ≡ p ++ (frames_of ps ++ drop used log) = sym (append_assoc q (frames_of qs) (a.commit_byte ∷ a.rest)) ∙ tails ∙ append_assoc p (frames_of ps) (drop used log) in
+          walk ps qs good.1 (sym (drop_at q (frames_of qs ++ a.commit_byte ∷ a.rest) (length q) refl) ∙ ap (λ (l : List ℕ). drop (length q) l) apart ∙ drop_at p (frames_of ps ++ drop used log) (length q) (sym count))

@@ -31,13 +31,13 @@ abbrev pub be32 : ℕ → List ℕ
 be32 n = n / 16777216 ∷ n / 65536 % 256 ∷ n / 256 % 256 ∷ n % 256 ∷ []
 
 -- a record in a log: a commit byte of 1, its length, its bytes
-abbrev pub framed : List ℕ → List ℕ
-framed record_bytes = 1 ∷ (be16 (length record_bytes) ++ record_bytes)
+abbrev pub frame_of : List ℕ → List ℕ
+frame_of payload = 1 ∷ (be16 (length payload) ++ payload)
 
 -- records in a log, one after another
-abbrev pub spelled : List (List ℕ) → List ℕ
-spelled [] = []
-spelled (r ∷ rs) = framed r ++ spelled rs
+abbrev pub frames_of : List (List ℕ) → List ℕ
+frames_of [] = []
+frames_of (r ∷ rs) = frame_of r ++ frames_of rs
 
 abbrev pub IsRecord : List ℕ → Type 0
 IsRecord r = (1 ≤ length r) × (length r ≤ MOST_RECORD)
@@ -50,7 +50,7 @@ AreRecords (r ∷ rs) = IsRecord r × AreRecords rs
 pub record IsLog (records : List (List ℕ)) (log : List ℕ) : Type 0 where
   pub commit_byte : ℕ
   pub rest : List ℕ
-  pub is : log ≡ spelled records ++ commit_byte ∷ rest
+  pub is : log ≡ frames_of records ++ commit_byte ∷ rest
   pub closed : commit_byte ≢ 1
   pub records_ok : AreRecords records
 

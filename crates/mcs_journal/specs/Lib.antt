@@ -1,4 +1,4 @@
-pub mod Answers
+pub mod StoreCalls
 pub mod File
 pub mod Store
 pub mod Writing

@@ -2,8 +2,8 @@
 use Rattle.std.specs.Prelude.{◌≡◌, ℕ, ◌+◌, ◌≤◌, Bool, List, length, IsTrue}
 use Rattle.mcs_disk.specs.Disk.{DiskState}
 use Rattle.mcs_disk.specs.Moments.{IsDurable}
-use Rattle.mcs_journal.specs.File.{Holds, slot_of, spelled}
-use Rattle.mcs_journal.specs.declared.format.TheConstants.{FILE_SIZE, LOG_SIZE, STAGE_SIZE}
+use Rattle.mcs_journal.specs.File.{Holds, slot_of, frames_of}
+use Rattle.mcs_journal.specs.declared.format.TheConstants.{FILE_SIZE, LOG_SIZE, BUFFER_SIZE}
 use Rattle.mcs_journal.specs.declared.slot.Slot.{Slot}
 
 pub record StoreView (D : Type 0) : Type 0 where
@@ -15,18 +15,18 @@ pub record StoreView (D : Type 0) : Type 0 where
 
 -- an open store on an honest disk: the disk holds its contents, and `used` is how many bytes their
 -- frames take in the log
-pub record IsSettledStore (disk : DiskState) (slot : Slot) (used : ℕ) : Type 0 where
+pub record IsIntactStore (disk : DiskState) (slot : Slot) (used : ℕ) : Type 0 where
   pub durable : IsDurable disk
   pub active : slot_of disk.bytes ≡ slot
   pub snap : List ℕ
   pub records : List (List ℕ)
   pub holds : Holds disk.bytes snap records
-  pub count : used ≡ length (spelled records)
+  pub count : used ≡ length (frames_of records)
 
 -- what the fields keep; the buffer has room for a snapshot area and a commit byte
 pub record IsStore (disk : DiskState) (live : Bool) (slot : Slot) (used : ℕ) (buffer : List ℕ)
     : Type 0 where
   pub disk_size : disk.size ≡ FILE_SIZE
   pub within : used + 1 ≤ LOG_SIZE
-  pub room : length buffer ≡ STAGE_SIZE
-  pub settled : IsTrue live → disk.honest → IsSettledStore disk slot used
+  pub room : length buffer ≡ BUFFER_SIZE
+  pub intact : IsTrue live → disk.honest → IsIntactStore disk slot used

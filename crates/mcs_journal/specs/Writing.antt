@@ -2,8 +2,8 @@
 use Rattle.std.specs.Prelude.{◌≡◌, ℕ, ◌+◌, ◌≤◌, List, ◌⊎◌, length, slice_index, Result, OnOk}
 use Rattle.mcs_disk.specs.Disk.{DiskState, part, Torn}
 use Rattle.mcs_disk.specs.Moments.{IsDurable}
-use Rattle.mcs_journal.specs.File.{IsRecord, framed, spelled, slot_at, be32, slot_of}
-use Rattle.mcs_journal.specs.declared.format.TheConstants.{AREA_SIZE, LOG_SIZE, MOST_SNAPSHOT, NAME, STAGE_SIZE, ZEROS}
+use Rattle.mcs_journal.specs.File.{IsRecord, frame_of, frames_of, slot_at, be32, slot_of}
+use Rattle.mcs_journal.specs.declared.format.TheConstants.{AREA_SIZE, LOG_SIZE, MOST_SNAPSHOT, NAME, BUFFER_SIZE, ZEROS}
 use Rattle.mcs_journal.specs.declared.slot.Slot.{Slot}
 use Rattle.mcs_journal.specs.declared.slot.Slot.TheVariants.{A, B}
 
@@ -18,13 +18,13 @@ selector_of B = 1
 
 -- the commit byte after the last record, with room for one more of n bytes
 pub record IsCommitPlace (file : List ℕ) (records : List (List ℕ)) (commit_at n : ℕ) : Type 0 where
-  pub at : commit_at ≡ slot_at file + AREA_SIZE + length (spelled records)
-  pub room : length (spelled records) + n + 4 ≤ LOG_SIZE
+  pub at : commit_at ≡ slot_at file + AREA_SIZE + length (frames_of records)
+  pub room : length (frames_of records) + n + 4 ≤ LOG_SIZE
 
 -- this record stands there after a commit byte of 1
 pub record IsNext (file : List ℕ) (at : ℕ) (r : List ℕ) : Type 0 where
   pub good : IsRecord r
-  pub is : part at (length r + 3) file ≡ framed r
+  pub is : part at (length r + 3) file ≡ frame_of r
 
 -- the commit byte is 1, and no record with room after it follows
 pub record IsNoRecord (file : List ℕ) (at room : ℕ) : Type 0 where
@@ -33,7 +33,7 @@ pub record IsNoRecord (file : List ℕ) (at room : ℕ) : Type 0 where
 
 -- a snapshot area of these bytes, and a commit byte of 0 after it
 pub record IsArea (snap area : List ℕ) : Type 0 where
-  pub long : length area ≡ STAGE_SIZE
+  pub long : length area ≡ BUFFER_SIZE
   pub short : length snap ≤ MOST_SNAPSHOT
   pub snap_length : part 0 4 area ≡ be32 (length snap)
   pub snap_bytes : part 4 (length snap) area ≡ snap

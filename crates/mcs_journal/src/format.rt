@@ -55,4 +55,4 @@ pub const COMMITTED: u8 = 1;
 pub const NOT_COMMITTED: u8 = 0;
 
 /// A snapshot area and the first commit byte of the log after it, which are written as one range.
-pub const STAGE_SIZE: usize = AREA_SIZE + 1;
+pub const BUFFER_SIZE: usize = AREA_SIZE + 1;

@@ -3,7 +3,7 @@
 ghost use Rattle.std.specs.Prelude.{◌⊎◌, ◌≡◌, ◌∷◌, [], ℕ, List, codes};
 ghost use Rattle.mcs_disk.specs.Moments.{Either, IsDurable, LeavesOnly};
 ghost use Rattle.mcs_disk.specs.PowerCut.{IsLeftByCut};
-ghost use Rattle.mcs_journal.specs.declared.format.TheConstants.{AREA_SIZE, COMMITTED, FILE_SIZE, FIRST_SLOT, HEADER_SIZE, LOG_SIZE, MOST_RECORD, MOST_SNAPSHOT, NAME, NOT_COMMITTED, RECORD_PLACE, SECOND_SLOT, SELECTOR_PLACE, SNAPSHOT_PLACE, STAGE_SIZE, ZEROS, ZEROS_PLACE};
+ghost use Rattle.mcs_journal.specs.declared.format.TheConstants.{AREA_SIZE, COMMITTED, FILE_SIZE, FIRST_SLOT, HEADER_SIZE, LOG_SIZE, MOST_RECORD, MOST_SNAPSHOT, NAME, NOT_COMMITTED, RECORD_PLACE, SECOND_SLOT, SELECTOR_PLACE, SNAPSHOT_PLACE, BUFFER_SIZE, ZEROS, ZEROS_PLACE};
 ghost use Rattle.mcs_journal.specs.File.{Holds, ContentsAreUnique};
 
 use mcs_disk::Disk;
@@ -13,7 +13,7 @@ use mcs_disk::Disk;
 /// selector, zeros, both slots, a snapshot and a record's bytes stand; the commit bytes; the name
 /// and the zeros of the header.
 pub fn layout_is()
-    ensures sizes { FILE_SIZE ∷ HEADER_SIZE ∷ AREA_SIZE ∷ LOG_SIZE ∷ STAGE_SIZE ∷ []
+    ensures sizes { FILE_SIZE ∷ HEADER_SIZE ∷ AREA_SIZE ∷ LOG_SIZE ∷ BUFFER_SIZE ∷ []
         ≡ 163_856 ∷ 16 ∷ 16_384 ∷ 65_536 ∷ 16_385 ∷ [] }
     ensures most { MOST_SNAPSHOT ∷ MOST_RECORD ∷ [] ≡ 16_380 ∷ 8_192 ∷ [] }
     ensures places { SELECTOR_PLACE ∷ ZEROS_PLACE ∷ FIRST_SLOT ∷ SECOND_SLOT ∷ SNAPSHOT_PLACE

@@ -3,7 +3,7 @@ ghost use Rattle.std.specs.Prelude.{◌≡◌, ◌≢◌, ◌≤◌, ◌<◌, �
 ghost use Rattle.mcs_disk.specs.Disk.{IsCall, part};
 ghost use Rattle.mcs_disk.specs.Moments.{CountsFault, IsDurable, AddsNoImage, WritesNothing};
 ghost use Rattle.mcs_journal.specs.declared.format.TheConstants.{FILE_SIZE};
-ghost use Rattle.mcs_journal.specs.File.{Holds, IsLog, slot_of, spelled, start_of};
+ghost use Rattle.mcs_journal.specs.File.{Holds, IsLog, slot_of, frames_of, start_of};
 ghost use Rattle.mcs_journal.specs.Writing.{IsHeader, IsNext, IsNoRecord, IsSnapshot};
 
 use crate::bytes::Bytes;
@@ -97,7 +97,7 @@ pub fn read_log<D: Disk>(alloc: Global, disk: &mut D, at: usize) -> Result<Log, 
     ensures within { IfOk result (λ log. log.used + 1 ≤ LOG_SIZE) }
     ensures found { (D.state disk.old).honest
         → IfOk result (λ log. IsLog log.records.items (part at LOG_SIZE (D.state disk.old).bytes)
-        × (log.used ≡ length (spelled log.records.items))) }
+        × (log.used ≡ length (frames_of log.records.items))) }
     ensures damaged { (D.state disk.old).honest → IsErrOf result OpenFault.Damaged
         → (records : List (List ℕ)) → IsLog records (part at LOG_SIZE (D.state disk.old).bytes)
         → ⊥ }
@@ -189,7 +189,7 @@ pub fn read_contents<D: Disk>(alloc: Global, disk: &mut D) -> Result<Found, Open
     ensures active { (D.state disk.old).honest
         → IfOk result (λ found. slot_of (D.state disk.old).bytes ≡ found.slot) }
     ensures count { (D.state disk.old).honest
-        → IfOk result (λ found. found.log.used ≡ length (spelled found.log.records.items)) }
+        → IfOk result (λ found. found.log.used ≡ length (frames_of found.log.records.items)) }
     ensures holds { (D.state disk.old).honest
         → IfOk result (λ found. Holds
         (D.state disk.old).bytes found.snap found.log.records.items) }

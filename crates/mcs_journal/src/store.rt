@@ -1,13 +1,13 @@
 //! A store: a snapshot and records on a disk.
 ghost use Rattle.std.specs.Prelude.{◌≡◌, ◌≢◌, ◌⊎◌, ◌≤◌, ◌+◌, ◌↔◌, List, [], ◌∷◌, ◌++◌, ℕ, length, is_ok, IsTrue, IsErr, IsErrAnd, OnOk, OnErr, IfErr, IfOk};
 ghost use Rattle.mcs_disk.specs.Moments.{Changes, CountsFault, AddsNoImage, WritesNothing};
-ghost use Rattle.mcs_journal.specs.Answers.{Creates, Opens, RefusesCreate, RefusesOpen};
+ghost use Rattle.mcs_journal.specs.StoreCalls.{Creates, Opens, RefusesCreate, RefusesOpen};
 ghost use Rattle.mcs_journal.specs.declared.format.TheConstants.{MOST_RECORD, MOST_SNAPSHOT};
-ghost use Rattle.mcs_journal.specs.File.{HasRoom, Holds, IsRecord, spelled};
+ghost use Rattle.mcs_journal.specs.File.{HasRoom, Holds, IsRecord, frames_of};
 
 use crate::bytes::{Bytes, Records};
 use crate::fault::{CreateFault, OpenFault};
-use crate::format::{AREA_SIZE, FILE_SIZE, LOG_SIZE, RECORD_PLACE, STAGE_SIZE};
+use crate::format::{AREA_SIZE, FILE_SIZE, LOG_SIZE, RECORD_PLACE, BUFFER_SIZE};
 use crate::reading::{Found, Log, read_contents};
 use crate::slot::Slot;
 use crate::writing::{add_record, check_blank, replace_contents, write_first};
@@ -76,7 +76,7 @@ impl<D: Disk + Drop> Store<D> {
         ensures refused { (D.state disk).honest → IfErr result (λ refused.
             RefusesCreate refused.0 (D.state disk) (D.state refused.1)) }
     {
-        let mut buffer = match vec![in alloc; 0u8; STAGE_SIZE] {
+        let mut buffer = match vec![in alloc; 0u8; BUFFER_SIZE] {
             Ok(buffer) => buffer,
             Err(_) => return Err((CreateFault::NoMemory, disk)),
         };
@@ -120,11 +120,11 @@ impl<D: Disk + Drop> Store<D> {
         ensures opened { (D.state disk).honest → IfOk result (λ opened.
             Opens (D.state disk) (D.state opened.store.disk) opened.snap opened.records) }
         ensures used { (D.state disk).honest → IfOk result (λ opened.
-            opened.store.used ≡ length (spelled opened.records)) }
+            opened.store.used ≡ length (frames_of opened.records)) }
         ensures refused { (D.state disk).honest → IfErr result (λ refused.
             RefusesOpen refused.0 (D.state disk) × AddsNoImage (D.state disk) (D.state refused.1)) }
     {
-        let buffer = match vec![in alloc; 0u8; STAGE_SIZE] {
+        let buffer = match vec![in alloc; 0u8; BUFFER_SIZE] {
             Ok(buffer) => buffer,
             Err(_) => return Err((OpenFault::NoMemory, disk)),
         };
@@ -166,7 +166,7 @@ impl<D: Disk + Drop> Store<D> {
         ensures used { IsTrue self.now.live → (D.state self.now.disk).honest
             → (snap : List ℕ) (records : List (List ℕ))
             → Holds (D.state self.now.disk).bytes snap records
-            → self.now.used ≡ length (spelled records) }
+            → self.now.used ≡ length (frames_of records) }
     {
         self.used + RECORD_PLACE + len + 1 <= LOG_SIZE
     }

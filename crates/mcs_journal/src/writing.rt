@@ -4,7 +4,7 @@
 ghost use Rattle.std.specs.Prelude.{◌≡◌, ◌≤◌, ◌+◌, List, [], ◌∷◌, ◌++◌, ℕ, length, take, slice_index, OnOk, IsErrOf};
 ghost use Rattle.mcs_disk.specs.Disk.{IsCall};
 ghost use Rattle.mcs_disk.specs.Moments.{Changes, CountsFault, KeepsEarlierImages, IsDurable, AddsNoImage, WritesNothing};
-ghost use Rattle.mcs_journal.specs.declared.format.TheConstants.{FILE_SIZE, MOST_RECORD, MOST_SNAPSHOT, STAGE_SIZE};
+ghost use Rattle.mcs_journal.specs.declared.format.TheConstants.{FILE_SIZE, MOST_RECORD, MOST_SNAPSHOT, BUFFER_SIZE};
 ghost use Rattle.mcs_journal.specs.File.{Holds, IsBlank, IsRecord, be16, slot_of};
 ghost use Rattle.mcs_journal.specs.Writing.{Commits, IsArea, IsCommitPlace, other_slot};
 
@@ -70,7 +70,7 @@ pub fn add_record<D: Disk>(
 
 /// Encodes a snapshot area and a commit byte of 0 after it.
 pub fn encode_snapshot(buffer: &mut [u8], snap: &[u8])
-    requires room { length buffer.old ≡ STAGE_SIZE }
+    requires room { length buffer.old ≡ BUFFER_SIZE }
     requires short { length snap.now ≤ MOST_SNAPSHOT }
     ensures { IsArea snap.now buffer.new }
 {
@@ -91,7 +91,7 @@ pub fn replace_contents<D: Disk>(
     snap: &[u8],
 ) -> Result<(), DiskFault>
     requires size { (D.state disk.old).size ≡ FILE_SIZE }
-    requires room { length buffer.old ≡ STAGE_SIZE }
+    requires room { length buffer.old ≡ BUFFER_SIZE }
     requires short { length snap.now ≤ MOST_SNAPSHOT }
     ensures call { IsCall (D.state disk.old) (D.state disk.new) result }
     ensures named { (D.state disk.old).honest
@@ -135,10 +135,10 @@ pub fn check_blank<D: Disk>(disk: &mut D) -> Result<(), CreateFault>
 /// that names the slot.
 pub fn write_first<D: Disk>(disk: &mut D, buffer: &mut [u8], snap: &[u8]) -> Result<(), DiskFault>
     requires size { (D.state disk.old).size ≡ FILE_SIZE }
-    requires room { length buffer.old ≡ STAGE_SIZE }
+    requires room { length buffer.old ≡ BUFFER_SIZE }
     requires short { length snap.now ≤ MOST_SNAPSHOT }
     ensures call { IsCall (D.state disk.old) (D.state disk.new) result }
-    ensures room { length buffer.new ≡ STAGE_SIZE }
+    ensures room { length buffer.new ≡ BUFFER_SIZE }
     ensures goes_on { (D.state disk.old).honest
         → KeepsEarlierImages (D.state disk.old) (D.state disk.new) }
     ensures ticks { (D.state disk.old).honest

@@ -9,7 +9,7 @@ ghost use Rattle.std.specs.Prelude.{◌≡◌, ℕ, ◌+◌, ◌*◌, ◌/◌, �
 ghost use Rattle.std.specs.List.{list_any, range_with_len};
 ghost use Rattle.mcs_nibble.specs.Bits.{nibble_of};
 ghost use Rattle.mcs_model.specs.declared.board.Line.TheVariants.{Rom};
-ghost use Rattle.mcs_model.specs.Levels.{is_rom_line, drives, pulled, bit_when};
+ghost use Rattle.mcs_model.specs.Levels.{is_rom_line, drives, is_pulled_by, bit_when};
 ghost use Rattle.mcs_keypad.specs.Keys.{KeyState, no_matrix, IsByteOf, is_down};
 
 use arrayvec::ArrayVec;
@@ -22,7 +22,7 @@ use std::marker::Model;
 // A byte for each row, and one for each line of each ROM.
 const ROW_BYTES: usize = KEY_ROWS as usize;
 
-const LINE_BYTES: usize = 4 * ROMS;
+const ROM_LINE_BYTES: usize = 4 * ROMS;
 
 /// The keys of a matrix. A board without keys has a matrix of no rows and no columns. Contracts see the matrix and its
 /// keys alone.
@@ -34,7 +34,7 @@ pub struct KeyPad {
     // The byte of each row's keys that are down.
     rows: [u8; ROW_BYTES],
     // The byte of the columns at line k of ROM c, at 4 * c + k.
-    lines: [u8; LINE_BYTES],
+    lines: [u8; ROM_LINE_BYTES],
 }
 
 impl Model for KeyPad {
@@ -112,14 +112,14 @@ fn row_bytes(down: &[Bit], rows: u8, columns: usize) -> [u8; ROW_BYTES]
 }
 
 /// The byte of the columns at each line of each ROM, four lines a ROM.
-fn line_bytes(columns: &[Line]) -> [u8; LINE_BYTES]
+fn line_bytes(columns: &[Line]) -> [u8; ROM_LINE_BYTES]
     requires { length columns.now ≤ KEY_COLUMNS }
-    ensures { (i : ℕ) → i < LINE_BYTES →
+    ensures { (i : ℕ) → i < ROM_LINE_BYTES →
         IsByteOf (slice_index result i) (length columns.now)
         (λ j. is_rom_line (i / 4) (i % 4) (slice_index_or columns.now j (Rom 0 0))) }
 {
-    let mut bytes = [0; LINE_BYTES];
-    for i in 0..LINE_BYTES as u8 {
+    let mut bytes = [0; ROM_LINE_BYTES];
+    for i in 0..ROM_LINE_BYTES as u8 {
         bytes[usize::from(i)] = line_byte(columns, i / 4, i % 4);
     }
     bytes
@@ -239,7 +239,7 @@ impl KeyPad {
     pub fn pulls<const MAX: usize>(&self, bits: &Chain<MAX>, chip: Nibble) -> Nibble
         requires { self.now.matrix.first + self.now.matrix.rows ≤ length bits.now }
         ensures { result ≡ nibble_of
-            (λ k. bit_when (pulled bits.now self.now.down self.now.matrix chip k)) }
+            (λ k. bit_when (is_pulled_by bits.now self.now.down self.now.matrix chip k)) }
     {
         let driven = self.driven(bits);
         let at = 4 * usize::from(chip.get());

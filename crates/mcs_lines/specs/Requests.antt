@@ -12,7 +12,7 @@ use Rattle.mcs_lines.specs.declared.requests.Request.{Request}
 use Rattle.mcs_lines.specs.declared.requests.Request.TheVariants.{Nothing, Refused, Ask, Listing, Board, Change, Begin}
 use Rattle.mcs_lines.specs.declared.requests.TextKind.TheVariants.{Wire, Asm, Map}
 use Rattle.mcs_lines.specs.declared.requests.LineFault.TheVariants.{NotACommand, BadNumber, LineTooLong, NotAscii}
-use Rattle.mcs_lines.specs.Words.{is_plain_byte, parts_of, words_of}
+use Rattle.mcs_lines.specs.Words.{is_plain_byte, parts_of_word, words_of}
 
 abbrev pub is_number : List ℕ → Bool
 is_number word = is_some (number_written word)
@@ -30,28 +30,28 @@ or_bad_number (Some r) = r
 -- ---- places, and the values that are put into them
 
 -- a value up to `most` is put into a place
-abbrev pub poked : ℕ → List ℕ → (ℕ → Place) → Request
-poked most value place = with_number most value (λ v. Change (Poke (place v)))
+abbrev pub poke_value : ℕ → List ℕ → (ℕ → Place) → Request
+poke_value most value place = with_number most value (λ v. Change (Poke (place v)))
 
 -- `rK`
 abbrev pub poke_register : List ℕ → List ℕ → Request
-poke_register k value = with_number 15 k (λ k. poked 15 value (λ n. Register k n))
+poke_register k value = with_number 15 k (λ k. poke_value 15 value (λ n. Register k n))
 
 -- `rom.A`
 abbrev pub poke_rom : List ℕ → List ℕ → Request
-poke_rom a value = with_number 4095 a (λ at. poked 255 value (λ byte. Rom at byte))
+poke_rom a value = with_number 4095 a (λ at. poke_value 255 value (λ byte. Rom at byte))
 
 -- `ram.B.S`
 abbrev pub poke_ram : List ℕ → List ℕ → List ℕ → Request
 poke_ram b s value =
-    with_number 7 b (λ bank. with_number 255 s (λ src. poked 15 value (λ n. Ram bank src n)))
+    with_number 7 b (λ bank. with_number 255 s (λ src. poke_value 15 value (λ n. Ram bank src n)))
 
 -- `st.B.H.K`
 abbrev pub poke_status : List ℕ → List ℕ → List ℕ → List ℕ → Request
 poke_status b h k value =
     with_number 7 b (λ bank.
     with_number 15 h (λ high.
-    with_number 3 k (λ k. poked 15 value (λ n. Status bank high k n))))
+    with_number 3 k (λ k. poke_value 15 value (λ n. Status bank high k n))))
 
 -- `rK`; any other name is no place
 abbrev pub poke_numbered : List ℕ → List ℕ → Request
@@ -62,10 +62,10 @@ poke_numbered (b ∷ k) value =
 -- a place without dots
 abbrev pub poke_plain : List ℕ → List ℕ → Request
 poke_plain name value =
-    if bytes_eq name (codes "acc") then poked 15 value (λ n. Acc n)
-    else if bytes_eq name (codes "cy") then poked 1 value (λ bit. Cy bit)
-    else if bytes_eq name (codes "pc") then poked 4095 value (λ at. Pc at)
-    else if bytes_eq name (codes "dcl") then poked 7 value (λ bank. Dcl bank)
+    if bytes_eq name (codes "acc") then poke_value 15 value (λ n. Acc n)
+    else if bytes_eq name (codes "cy") then poke_value 1 value (λ bit. Cy bit)
+    else if bytes_eq name (codes "pc") then poke_value 4095 value (λ at. Pc at)
+    else if bytes_eq name (codes "dcl") then poke_value 7 value (λ bank. Dcl bank)
     else poke_numbered name value
 
 -- by the number of parts between dots: the form of the place (10) is judged before any range (11)
@@ -82,7 +82,7 @@ poke_parts (name ∷ b ∷ h ∷ k ∷ []) value =
 poke_parts parts value = Refused NotACommand
 
 abbrev pub poke_of : List ℕ → List ℕ → Request
-poke_of place value = poke_parts (parts_of place) value
+poke_of place value = poke_parts (parts_of_word place) value
 
 -- ---- lines
 
@@ -119,8 +119,8 @@ abbrev pub listing : ℕ → ℕ → Request
 listing at lines = if nat_lt 0 lines then Listing at lines else Refused BadNumber
 
 -- `list`
-abbrev pub list_of : List ℕ → List ℕ → Request
-list_of a n = with_number 4095 a (λ at. with_number LISTING_LINES n (λ lines. listing at lines))
+abbrev pub list_request : List ℕ → List ℕ → Request
+list_request a n = with_number 4095 a (λ at. with_number LISTING_LINES n (λ lines. listing at lines))
 
 -- a line of three words
 abbrev pub request_with_two : List ℕ → List ℕ → List ℕ → Request
@@ -134,7 +134,7 @@ request_with_two word a b =
     then with_number 7 a (λ bank. with_number 255 b (λ src. Change (Watch bank src)))
     else if bytes_eq word (codes "unwatch")
     then with_number 7 a (λ bank. with_number 255 b (λ src. Change (Unwatch bank src)))
-    else if bytes_eq word (codes "list") then list_of a b
+    else if bytes_eq word (codes "list") then list_request a b
     else Refused NotACommand
 
 -- by the number of words

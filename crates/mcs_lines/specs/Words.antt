@@ -33,8 +33,8 @@ abbrev pub is_dot : ℕ → Bool
 is_dot b = b == 46
 
 -- the parts of a word: what stands before, between and after its dots
-abbrev pub parts_of : List ℕ → List (List ℕ)
-parts_of word = cut_at is_dot word
+abbrev pub parts_of_word : List ℕ → List (List ℕ)
+parts_of_word word = cut_at is_dot word
 
 -- what has no byte, or a dot at its front
 abbrev pub EndsAtDot : List ℕ → Type 0

@@ -2,7 +2,7 @@
 ghost use Rattle.std.specs.Prelude.{◌≡◌};
 ghost use Rattle.std.specs.List.{list_all};
 ghost use Rattle.mcs_lines.specs.RefusalNumbers.{line_fault_number};
-ghost use Rattle.mcs_lines.specs.Requests.{list_of, or_bad_number, request_alone, request_of, request_of_words, request_with_one, request_with_two};
+ghost use Rattle.mcs_lines.specs.Requests.{list_request, or_bad_number, request_alone, request_of, request_of_words, request_with_one, request_with_two};
 ghost use Rattle.mcs_lines.specs.Words.{is_plain_byte, words_of};
 
 use crate::numbers::{address, bank, bit, byte};
@@ -145,7 +145,7 @@ fn read_with_one(word: &[u8], a: &[u8]) -> Option<Request>
 /// What `list` with an address and a number of lines asks for; none where one is no number, or out
 /// of its range.
 fn read_list(a: &[u8], n: &[u8]) -> Option<Request>
-    ensures { or_bad_number result ≡ list_of a.now n.now }
+    ensures { or_bad_number result ≡ list_request a.now n.now }
 {
     let at = address(a)?;
     let lines = number_within(n, LISTING_LINES)?;

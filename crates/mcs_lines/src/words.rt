@@ -1,7 +1,7 @@
 //! The words of a line, and the parts of a word.
 ghost use Rattle.std.specs.Prelude.{◌≡◌, ◌≤◌, ◌∷◌, [], MatchOption, length, take, drop};
 ghost use Rattle.std.specs.Str.{bytes_eq};
-ghost use Rattle.mcs_lines.specs.Words.{BeginsWord, EndsPart, EndsWord, is_plain_byte, parts_of, words_of};
+ghost use Rattle.mcs_lines.specs.Words.{BeginsWord, EndsPart, EndsWord, is_plain_byte, parts_of_word, words_of};
 
 use mcs_model::text_lines::is_blank;
 
@@ -73,8 +73,8 @@ fn part_at_front(word: &[u8]) -> usize
 
 /// The first part of a word, and what follows the dot after it, if there is one.
 pub fn next_part(word: &[u8]) -> (&[u8], Option<&[u8]>)
-    ensures { MatchOption result.1 (parts_of word.now ≡ result.0.now ∷ [])
-        (λ rest. parts_of word.now ≡ result.0.now ∷ parts_of rest.now) }
+    ensures { MatchOption result.1 (parts_of_word word.now ≡ result.0.now ∷ [])
+        (λ rest. parts_of_word word.now ≡ result.0.now ∷ parts_of_word rest.now) }
 {
     let end = part_at_front(word);
     if end < word.len() {

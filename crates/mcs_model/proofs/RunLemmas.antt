@@ -10,7 +10,7 @@ use Rattle.mcs_model.specs.declared.stop.Stop.TheVariants.{Outside, Breakpoint, 
 use Rattle.mcs_model.specs.Bus.{BusState}
 use Rattle.mcs_model.specs.Effect.{cycle_of, effect, instruction_at}
 use Rattle.mcs_model.specs.declared.op.Op.{Op}
-use Rattle.mcs_model.specs.Running.{Machine, is_outside, cycled, InstructionRan, at_break, no_stops, stop_after, after_run}
+use Rattle.mcs_model.specs.Running.{Machine, is_outside, after_cycles, InstructionRan, at_break, no_stops, stop_after, after_run}
 
 -- the machine after one cycle
 abbrev next : Machine → Machine
@@ -21,13 +21,13 @@ stays_for None s _ = refl
 stays_for (Some t) s e = cc
 
 -- a machine that no cycle can follow stays as it is
-cycled-outside : (k : ℕ) (s : Machine) → is_outside s ≡ true → cycled k s ≡ s
+cycled-outside : (k : ℕ) (s : Machine) → is_outside s ≡ true → after_cycles k s ≡ s
 cycled-outside zero s h = refl
 cycled-outside (suc k) s h = ap next (cycled-outside k s h) ∙ stays_for (cycle_of s.0 s.1) s h
 
-pub cycled-add : (a b : ℕ) (s : Machine) → cycled (a + b) s ≡ cycled b (cycled a s)
-cycled-add a zero s = ap (λ n. cycled n s) (omega arith)
-cycled-add a (suc b) s = ap (λ n. cycled n s) (add-suc a b) ∙ ap next (cycled-add a b s)
+pub cycled-add : (a b : ℕ) (s : Machine) → after_cycles (a + b) s ≡ after_cycles b (after_cycles a s)
+cycled-add a zero s = ap (λ n. after_cycles n s) (omega arith)
+cycled-add a (suc b) s = ap (λ n. after_cycles n s) (add-suc a b) ∙ ap next (cycled-add a b s)
 
 -- what holds of each number that passes, and of the default, holds of the first that passes
 found : (p : ℕ → Bool) (Q : ℕ → Type 0) (d : ℕ) → Q d → (a n : ℕ) → ((k : ℕ) → k < a + n → p k ≡ true → Q k) → Q (unwrap_or (find p (range_with_len a n)) d)
@@ -45,22 +45,22 @@ some_stop false false true f e = inr refl
 some_stop false false false f e = cc
 
 -- without breakpoints, a run stops where no cycle can follow or at its end
-stop_cases : (n k : ℕ) (s : Machine) → is_some (stop_after no_stops n s k) ≡ true → (is_outside (cycled k s) ≡ true) ⊎ (eqb k n ≡ true)
-stop_cases n k s e = some_stop (is_outside (cycled k s)) (at_break [] k (cycled k s)) (eqb k n) (and-false _) e
+stop_cases : (n k : ℕ) (s : Machine) → is_some (stop_after no_stops n s k) ≡ true → (is_outside (after_cycles k s) ≡ true) ⊎ (eqb k n ≡ true)
+stop_cases n k s e = some_stop (is_outside (after_cycles k s)) (at_break [] k (after_cycles k s)) (eqb k n) (and-false _) e
 
-pub after_run-nil : (n : ℕ) (s : Machine) → after_run no_stops n s ≡ cycled n s
+pub after_run-nil : (n : ℕ) (s : Machine) → after_run no_stops n s ≡ after_cycles n s
 after_run-nil n s =
-    found (λ k. is_some (stop_after no_stops n s k)) (λ k. cycled k s ≡ cycled n s) n refl 0 (n + 1)
+    found (λ k. is_some (stop_after no_stops n s k)) (λ k. after_cycles k s ≡ after_cycles n s) n refl 0 (n + 1)
     (λ k l e.
     elim (stop_cases n k s e) [
-      | inl outside ↦ sym (ap (λ m. cycled m s) (let same : n ≡ k + (n - k) = omega arith in same) ∙ cycled-add k (n - k) s ∙ cycled-outside (n - k) (cycled k s) outside)
-      | inr ended ↦ ap (λ m. cycled m s) (eqb-true k n ended)
+      | inl outside ↦ sym (ap (λ m. after_cycles m s) (let same : n ≡ k + (n - k) = omega arith in same) ∙ cycled-add k (n - k) s ∙ cycled-outside (n - k) (after_cycles k s) outside)
+      | inr ended ↦ ap (λ m. after_cycles m s) (eqb-true k n ended)
     ])
 
 -- two runs one after the other, without breakpoints, come to where one run of all their cycles does
 pub after_run-after_run : (a b : ℕ) (s : Machine) → after_run no_stops b (after_run no_stops a s) ≡ after_run no_stops (a + b) s
 after_run-after_run a b s =
-    after_run-nil b (after_run no_stops a s) ∙ ap (cycled b) (after_run-nil a s) ∙ sym (cycled-add a b s) ∙ sym (after_run-nil (a + b) s)
+    after_run-nil b (after_run no_stops a s) ∙ ap (after_cycles b) (after_run-nil a s) ∙ sym (cycled-add a b s) ∙ sym (after_run-nil (a + b) s)
 
 -- where one cycle has a value, it can follow, and comes to that value
 pub goes-to : (s t : Machine) → cycle_of s.0 s.1 ≡ Some t → (is_outside s ≡ false) × (t ≡ next s)
@@ -82,7 +82,7 @@ ran-one left s t l e = record {
   within = omega arith;
   machine = (goes-to s t e).1;
   none = λ z. absurd (omega arith);
-  inside = λ j h. subst (λ i. is_outside (cycled i s) ≡ false) (let z : 0 ≡ j = omega arith in z) (goes-to s t e).0;
+  inside = λ j h. subst (λ i. is_outside (after_cycles i s) ≡ false) (let z : 0 ≡ j = omega arith in z) (goes-to s t e).0;
   between = λ j h k. absurd (omega arith);
 }
 
@@ -95,10 +95,10 @@ ran-two left s t u l e owed f =
       machine = (goes-to t u f).1 ∙ ap next new;
       none = λ z. absurd (omega arith);
       inside = λ j h. elim (cases_eq j 0) [
-        | inl z ↦ subst (λ i. is_outside (cycled i s) ≡ false) (sym z) (goes-to s t e).0
-        | inr nz ↦ subst (λ i. is_outside (cycled i s) ≡ false) (let z : 1 ≡ j = omega arith in z) (subst (λ (v : Machine). is_outside v ≡ false) new (goes-to t u f).0)
+        | inl z ↦ subst (λ i. is_outside (after_cycles i s) ≡ false) (sym z) (goes-to s t e).0
+        | inr nz ↦ subst (λ i. is_outside (after_cycles i s) ≡ false) (let z : 1 ≡ j = omega arith in z) (subst (λ (v : Machine). is_outside v ≡ false) new (goes-to t u f).0)
       ];
-      between = λ j h k. subst (λ i. (cycled i s).0.owed ≡ 1) (let z : 1 ≡ j = omega arith in z) (subst (λ (v : Machine). v.0.owed ≡ 1) new owed);
+      between = λ j h k. subst (λ i. (after_cycles i s).0.owed ≡ 1) (let z : 1 ≡ j = omega arith in z) (subst (λ (v : Machine). v.0.owed ≡ 1) new owed);
     }
 
 -- the cycle that does an instruction

@@ -10,9 +10,9 @@ pub record BusState : Type 0 where
   pub board : BoardParts
   -- the bytes of the ROMs, by address: 4,096, those of absent ROMs 0
   pub rom : List ℕ
-  -- the RAM characters, each where `ram_at` says: 2,048, absent ones 0
+  -- the RAM characters, each where `ram_place` says: 2,048, absent ones 0
   pub ram : List ℕ
-  -- the status characters, each where `status_at` says: 512, absent ones 0
+  -- the status characters, each where `status_place` says: 512, absent ones 0
   pub status : List ℕ
   -- the port latches of the RAM chips, at bank * 4 + chip: 32, absent ones 0
   pub ram_ports : List ℕ
@@ -71,18 +71,18 @@ after_src s bank byte =
     else record s { rom_src = byte }
 
 -- where the character of a bank and an SRC byte stands
-abbrev pub ram_at : ℕ → ℕ → ℕ
-ram_at bank src = bank * 256 + src
+abbrev pub ram_place : ℕ → ℕ → ℕ
+ram_place bank src = bank * 256 + src
 
 -- the selected character of a bank (4002 data sheet); an absent one reads 0 (our own choice)
 unfoldable pub ram_of : BusState → ℕ → ℕ
-ram_of s bank = slice_index s.ram (ram_at bank (src_of s bank))
+ram_of s bank = slice_index s.ram (ram_place bank (src_of s bank))
 
 -- a RAM character is written, by its bank and its SRC byte (4002 data sheet); lost where the chip is absent (our own choice)
 unfoldable pub with_ram : BusState → ℕ → ℕ → ℕ → BusState
 with_ram s bank src n =
     if has_chip s bank src
-    then record s { ram = slice_set s.ram (ram_at bank src) n }
+    then record s { ram = slice_set s.ram (ram_place bank src) n }
     else s
 
 -- a write to the selected character of a bank
@@ -90,19 +90,19 @@ unfoldable pub after_ram : BusState → ℕ → ℕ → BusState
 after_ram s bank n = with_ram s bank (src_of s bank) n
 
 -- where status character k of the register with SRC upper nibble `high` of a bank stands
-abbrev pub status_at : ℕ → ℕ → ℕ → ℕ
-status_at bank high k = bank * 64 + (high * 4 + k)
+abbrev pub status_place : ℕ → ℕ → ℕ → ℕ
+status_place bank high k = bank * 64 + (high * 4 + k)
 
 -- status character k of the selected register of a bank (4002 data sheet); an absent one reads 0 (our own choice)
 unfoldable pub status_of : BusState → ℕ → ℕ → ℕ
-status_of s bank k = slice_index s.status (status_at bank (src_of s bank / 16) k)
+status_of s bank k = slice_index s.status (status_place bank (src_of s bank / 16) k)
 
 -- a status character is written, by its bank, the upper nibble of its SRC byte and k (4002 data sheet); lost where the chip
 -- is absent (our own choice)
 unfoldable pub with_status : BusState → ℕ → ℕ → ℕ → ℕ → BusState
 with_status s bank high k n =
     if nat_lt (high / 4) (chips_of s bank)
-    then record s { status = slice_set s.status (status_at bank high k) n }
+    then record s { status = slice_set s.status (status_place bank high k) n }
     else s
 
 -- a write to status character k of the selected register of a bank

@@ -15,7 +15,7 @@ use Rattle.mcs_model.specs.declared.refusals.BenchFault.TheVariants.{NoKey, NoRo
 use Rattle.mcs_model.specs.declared.regs.Regs.{Regs}
 use Rattle.mcs_model.specs.Boards.{has_key, masks_on}
 use Rattle.mcs_model.specs.Listed.{is_listed, with_listed, without_listed}
-use Rattle.mcs_model.specs.Bus.{BusState, has_chip, chips_of, ram_at, with_ram, with_status}
+use Rattle.mcs_model.specs.Bus.{BusState, has_chip, chips_of, ram_place, with_ram, with_status}
 use Rattle.mcs_model.specs.BenchState.{BenchState, new_regs}
 use Rattle.mcs_model.specs.Places.{with_rom_byte, with_rom_bytes, with_key, after_reset, after_wire}
 use Rattle.mcs_model.specs.Running.{Machine, Stops, run_length, after_run, run_stop, step_length, after_step, step_stop}
@@ -51,7 +51,7 @@ own_refusal s (Break at) =
     then None
     else Some BreaksFull
 own_refusal s (Watch bank src) =
-    if is_listed s.watches (ram_at bank src) || nat_lt (length s.watches) WATCHES
+    if is_listed s.watches (ram_place bank src) || nat_lt (length s.watches) WATCHES
     then None
     else Some WatchesFull
 own_refusal s _ = None
@@ -92,25 +92,25 @@ with_place s (Ram bank src n) = with_bus s (with_ram s.bus bank src n)
 with_place s (Status bank high k n) = with_bus s (with_status s.bus bank high k n)
 
 -- what a command does, except for the count of commands
-abbrev pub changed : BenchState → Command → BenchState
-changed s (Wire board) = with_machine s (new_regs, after_wire s.bus board)
-changed s (Load image) = with_bus s (with_rom_bytes s.bus image)
-changed s (Press row column) = with_bus s (with_key s.bus row column 1)
-changed s (Release row column) = with_bus s (with_key s.bus row column 0)
-changed s (Run n) = with_machine s (after_run (stops_of s) n (machine_of s))
-changed s Step = with_machine s (after_step (machine_of s))
-changed s (Poke place) = with_place s place
-changed s (Test bit) = with_bus s (record s.bus { test = bit })
-changed s Reset = with_machine s (new_regs, after_reset s.bus)
-changed s (Break at) = record s { breakpoints = with_listed s.breakpoints at }
-changed s (Unbreak at) = record s { breakpoints = without_listed s.breakpoints at }
-changed s (Watch bank src) = record s { watches = with_listed s.watches (ram_at bank src) }
-changed s (Unwatch bank src) =
-    record s { watches = without_listed s.watches (ram_at bank src) }
+abbrev pub after_change : BenchState → Command → BenchState
+after_change s (Wire board) = with_machine s (new_regs, after_wire s.bus board)
+after_change s (Load image) = with_bus s (with_rom_bytes s.bus image)
+after_change s (Press row column) = with_bus s (with_key s.bus row column 1)
+after_change s (Release row column) = with_bus s (with_key s.bus row column 0)
+after_change s (Run n) = with_machine s (after_run (stops_of s) n (machine_of s))
+after_change s Step = with_machine s (after_step (machine_of s))
+after_change s (Poke place) = with_place s place
+after_change s (Test bit) = with_bus s (record s.bus { test = bit })
+after_change s Reset = with_machine s (new_regs, after_reset s.bus)
+after_change s (Break at) = record s { breakpoints = with_listed s.breakpoints at }
+after_change s (Unbreak at) = record s { breakpoints = without_listed s.breakpoints at }
+after_change s (Watch bank src) = record s { watches = with_listed s.watches (ram_place bank src) }
+after_change s (Unwatch bank src) =
+    record s { watches = without_listed s.watches (ram_place bank src) }
 
 -- the state after an accepted command: each raises the count by one, also where nothing else changes
 abbrev pub after : BenchState → Command → BenchState
-after s c = record (changed s c) { seq = s.seq + 1 }
+after s c = record (after_change s c) { seq = s.seq + 1 }
 
 -- ---- what they answer
 

@@ -11,7 +11,7 @@ use Rattle.mcs_model.specs.Numbers.{page_of, word_on_page}
 use Rattle.mcs_model.specs.Registers.{register_of, pair_of, with_register, with_pair}
 use Rattle.mcs_model.specs.Bus.{BusState, fetch_of, after_src, ram_of, after_ram, status_of, after_status}
 use Rattle.mcs_model.specs.Levels.{after_ram_port, after_rom_port, port_of}
-use Rattle.mcs_model.specs.Table.{decoded, word_count_of, cycles_of}
+use Rattle.mcs_model.specs.Table.{instruction_of, word_count_of, cycles_of}
 
 -- the accumulator set
 abbrev pub with_acc : Regs → ℕ → Regs
@@ -156,7 +156,7 @@ effect op s m = (registers_after op (after_words op s) m, bus_after op s m)
 
 -- the instruction at the counter, if its code is in the table; the word after address 4095 is at 0
 abbrev pub instruction_at : Regs → BusState → Option Op
-instruction_at s m = decoded (fetch_of m s.pc) (fetch_of m ((s.pc + 1) % 4096))
+instruction_at s m = instruction_of (fetch_of m s.pc) (fetch_of m ((s.pc + 1) % 4096))
 
 -- One instruction cycle: an idle one where one is owed, else the instruction at the counter. It has
 -- no value where that code is outside the table.

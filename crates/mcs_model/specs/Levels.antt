@@ -4,8 +4,8 @@ use Rattle.std.specs.Prelude.{ℕ, ◌+◌, ◌*◌, ◌/◌, Bool, false, ◌&&
 use Rattle.std.specs.List.{list_any, range_with_len}
 use Rattle.mcs_nibble.specs.Bits.{bit_of}
 use Rattle.mcs_nibble.specs.Ports.{latch_value, read_lines}
-use Rattle.mcs_nibble.specs.Shifting.{shifted}
-use Rattle.mcs_nibble.specs.Tabled.{tabled}
+use Rattle.mcs_nibble.specs.Shifting.{row_after_shift}
+use Rattle.mcs_nibble.specs.Tables.{table_of}
 use Rattle.mcs_model.specs.declared.board.KeyMatrix.{KeyMatrix}
 use Rattle.mcs_model.specs.declared.board.Line.{Line}
 use Rattle.mcs_model.specs.declared.board.Line.TheVariants.{Rom, Ram, Chain}
@@ -30,19 +30,19 @@ drives bits keys m j r =
     slice_index bits (m.first + r) == 1 && slice_index keys (r * length m.columns.items + j) == 1
 
 -- whether some column names line k of a ROM and some row drives that column
-abbrev pub pulled : List ℕ → List ℕ → KeyMatrix → ℕ → ℕ → Bool
-pulled bits keys m chip k =
+abbrev pub is_pulled_by : List ℕ → List ℕ → KeyMatrix → ℕ → ℕ → Bool
+is_pulled_by bits keys m chip k =
     list_any
     (λ j. is_rom_line chip k (slice_index_or m.columns.items j (Rom 0 0))
     && list_any (drives bits keys m j) (range_with_len 0 m.rows))
     (range_with_len 0 (length m.columns.items))
 
 -- whether a key pulls line k of a ROM to 1 (our own choice: each key has a diode)
-unfoldable pub keyed : BusState → ℕ → ℕ → Bool
-keyed s chip k =
+unfoldable pub is_pulled : BusState → ℕ → ℕ → Bool
+is_pulled s chip k =
     elim s.board.keys [
       | None ↦ false
-      | Some m ↦ pulled (slice_index_or s.chains m.chain []) s.keys m chip k
+      | Some m ↦ is_pulled_by (slice_index_or s.chains m.chain []) s.keys m chip k
     ]
 
 -- the bit that the latch of a port line holds
@@ -54,27 +54,27 @@ latch_of s _ = 0
 -- the level of a line: the latch bit of an output line, the bit of a chain, and at an input line
 -- whether a key pulls it
 unfoldable pub level : BusState → Line → ℕ
-level s (Rom c k) = if input_on s.board c k then bit_when (keyed s c k) else latch_of s (Rom c k)
+level s (Rom c k) = if input_on s.board c k then bit_when (is_pulled s c k) else latch_of s (Rom c k)
 level s (Ram b c k) = latch_of s (Ram b c k)
 level s (Chain n i) = chain_bit s n i
 
 -- the level of each chain's clock line
 unfoldable pub clock_levels : BusState → List ℕ
-clock_levels s = tabled (chain_count s.board) (λ i. level s (chain_part s.board i).clock)
+clock_levels s = table_of (chain_count s.board) (λ i. level s (chain_part s.board i).clock)
 
 -- the bits of chain i after a port write: s is the bus as the write leaves it, `was` the level of the
 -- chain's clock line before it. Where that rose, each bit moves one place up, the data line's level becomes bit 0, and the last bit is lost
 -- (4003 data sheet: a shift register with a serial input; edge, order and data level are our own choice)
-unfoldable pub clocked : BusState → ℕ → ℕ → List ℕ → List ℕ
-clocked s i was row =
+unfoldable pub chain_clocked : BusState → ℕ → ℕ → List ℕ → List ℕ
+chain_clocked s i was row =
     if was == 0 && level s (chain_part s.board i).clock == 1
-    then shifted (level s (chain_part s.board i).data_in) row
+    then row_after_shift (level s (chain_part s.board i).data_in) row
     else row
 
 -- the chains clocked, where their clock lines were at `before`
 unfoldable pub chains_clocked : List ℕ → BusState → BusState
 chains_clocked before s = record s {
-  chains = tabled (chain_count s.board) (λ i. clocked s i (slice_index before i) (slice_index_or s.chains i []));
+  chains = table_of (chain_count s.board) (λ i. chain_clocked s i (slice_index before i) (slice_index_or s.chains i []));
 }
 
 abbrev pub with_rom_ports_at : BusState → ℕ → ℕ → BusState
@@ -103,7 +103,7 @@ after_rom_port s n =
 unfoldable pub port_at : BusState → ℕ → ℕ
 port_at s chip =
     elim (masks_on s.board chip) [
-      | Some mask ↦ read_lines (λ k. bit_when (keyed s chip k)) mask
+      | Some mask ↦ read_lines (λ k. bit_when (is_pulled s chip k)) mask
       | None ↦ 0
     ]
 

@@ -10,7 +10,7 @@ pub mod Listed
 pub mod Places
 pub mod BenchState
 pub mod Validity
-pub mod Refusal
+pub mod RefusalNumbers
 pub mod Table
 pub mod Registers
 pub mod Effect

@@ -7,19 +7,19 @@ abbrev pub is_listed : List ℕ → ℕ → Bool
 is_listed places at = list_any (λ a. a == at) places
 
 -- a place put before the first greater one
-abbrev pub inserted : List ℕ → ℕ → List ℕ
-inserted [] at = at ∷ []
-inserted (a ∷ places) at =
+abbrev pub insert_place : List ℕ → ℕ → List ℕ
+insert_place [] at = at ∷ []
+insert_place (a ∷ places) at =
     if nat_lt at a
     then at ∷ a ∷ places
-    else a ∷ inserted places at
+    else a ∷ insert_place places at
 
 -- one place more; nothing changes where it was listed
 abbrev pub with_listed : List ℕ → ℕ → List ℕ
 with_listed places at =
     if is_listed places at
     then places
-    else inserted places at
+    else insert_place places at
 
 -- one less; nothing changes where it was not listed
 abbrev pub without_listed : List ℕ → ℕ → List ℕ

@@ -30,5 +30,5 @@ abbrev pub number_up_to : ℕ → List ℕ → Option ℕ
 number_up_to most word = option_and_then (up_to most) (number_written word)
 
 -- a number of 2^32 or more counts as 2^32, which is in no range: a word may write numbers of any length
-abbrev pub capped : ℕ → ℕ
-capped n = min n LARGE
+abbrev pub capped_number : ℕ → ℕ
+capped_number n = min n LARGE

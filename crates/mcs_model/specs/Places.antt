@@ -2,7 +2,7 @@
 -- (Our own choice: that writes to absent chips are lost, that latch bits of input lines stay 0, and what a reset and a new
 -- board clear.)
 use Rattle.std.specs.Prelude.{ℕ, ◌+◌, ◌*◌, ◌/◌, List, [], ◌∷◌, Some, None, is_some, map, replicate, slice_index, slice_index_or, slice_set, if◌then◌else◌, nat_lt}
-use Rattle.mcs_nibble.specs.Tabled.{tabled}
+use Rattle.mcs_nibble.specs.Tables.{table_of}
 use Rattle.mcs_nibble.specs.Ports.{latch_value}
 use Rattle.mcs_model.specs.declared.board.BoardParts.{BoardParts}
 use Rattle.mcs_model.specs.declared.board.ChainPart.{ChainPart}
@@ -72,7 +72,7 @@ after_reset s = record zero_bus {
 -- the bytes of the ROMs that a board has, 0 at the others
 unfoldable pub kept_rom : BoardParts → List ℕ → List ℕ
 kept_rom b rom =
-    tabled 4096 (λ at. if is_some (masks_on b (at / 256)) then slice_index rom at else 0)
+    table_of 4096 (λ at. if is_some (masks_on b (at / 256)) then slice_index rom at else 0)
 
 -- another board: all keys are up, all that a reset clears is cleared, the bytes of ROMs that it lacks become 0
 abbrev pub after_wire : BusState → BoardParts → BusState

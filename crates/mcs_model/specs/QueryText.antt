@@ -13,7 +13,7 @@ use Rattle.mcs_model.specs.Levels.{chain_bit, level, port_at}
 
 -- a line, ended by its line feed
 abbrev pub as_line : List ℕ → List ℕ
-as_line text = text ++ 10 ∷ []
+as_line bytes = bytes ++ 10 ∷ []
 
 -- the upper case hexadecimal digit of a nibble
 abbrev pub hex_digit : ℕ → ℕ
@@ -30,7 +30,7 @@ digit_text n = hex_digit n ∷ []
 -- a list of nothing is told as a dash
 abbrev pub or_dash : List ℕ → List ℕ
 or_dash [] = codes "-"
-or_dash text = text
+or_dash bytes = bytes
 
 -- that many numbers from a place on
 abbrev pub stretch : List ℕ → ℕ → ℕ → List ℕ
@@ -107,7 +107,7 @@ watches_text watches = codes "watches " ++ or_dash (join_by watch_text (codes " 
 -- after a word, texts that each begin with a space; a list of nothing is told as a dash
 abbrev pub spaced_or_dash : List ℕ → List ℕ
 spaced_or_dash [] = codes " -"
-spaced_or_dash text = text
+spaced_or_dash bytes = bytes
 
 -- the SRC byte that a bank keeps, where it has chips
 abbrev pub bank_src_text : BusState → ℕ → List ℕ
@@ -251,12 +251,12 @@ state_text s =
     ++ codes " watches " ++ one_word (map watch_text s.watches)
 
 -- the answer to a query
-abbrev pub text : Query → BenchState → List ℕ
-text query.Lamps s = lamps_text s.bus
-text query.Regs s = regs_text s.processor s.bus.test
-text (query.Ram bank) s = join_with_byte 10 (ram_lines s.bus bank)
-text query.Breaks s = breaks_text s.breakpoints
-text query.Watches s = watches_text s.watches
-text query.Ports s = join_with_byte 10 (ports_lines s.bus)
-text query.Seq s = seq_text s.seq
-text query.State s = state_text s
+abbrev pub text_of_query : Query → BenchState → List ℕ
+text_of_query query.Lamps s = lamps_text s.bus
+text_of_query query.Regs s = regs_text s.processor s.bus.test
+text_of_query (query.Ram bank) s = join_with_byte 10 (ram_lines s.bus bank)
+text_of_query query.Breaks s = breaks_text s.breakpoints
+text_of_query query.Watches s = watches_text s.watches
+text_of_query query.Ports s = join_with_byte 10 (ports_lines s.bus)
+text_of_query query.Seq s = seq_text s.seq
+text_of_query query.State s = state_text s

@@ -16,17 +16,17 @@ abbrev pub is_outside : Machine → Bool
 is_outside s = is_none (cycle_of s.0 s.1)
 
 -- a machine after k cycles; where no cycle can follow it stays as it is
-abbrev pub cycled : ℕ → Machine → Machine
-cycled zero s = s
-cycled (suc k) s = unwrap_or (cycle_of (cycled k s).0 (cycled k s).1) (cycled k s)
+abbrev pub after_cycles : ℕ → Machine → Machine
+after_cycles zero s = s
+after_cycles (suc k) s = unwrap_or (cycle_of (after_cycles k s).0 (after_cycles k s).1) (after_cycles k s)
 
 -- the cycles of one instruction, k of them from s to t, of at most that many as are left: none where no cycle can follow
 pub record InstructionRan (left : ℕ) (s t : Machine) (k : ℕ) : Type 0 where
   pub within : k ≤ left
-  pub machine : t ≡ cycled k s
+  pub machine : t ≡ after_cycles k s
   pub none : k ≡ 0 → is_outside s ≡ true
-  pub inside : (j : ℕ) → j < k → is_outside (cycled j s) ≡ false
-  pub between : (j : ℕ) → 0 < j → j < k → (cycled j s).0.owed ≡ 1
+  pub inside : (j : ℕ) → j < k → is_outside (after_cycles j s) ≡ false
+  pub between : (j : ℕ) → 0 < j → j < k → (after_cycles j s).0.owed ≡ 1
 
 -- whether a run is at a breakpoint after k cycles: none at its start counts, and none between the two
 -- cycles of an instruction
@@ -54,7 +54,7 @@ stop_at stops n k s t =
 
 -- whether a run of n cycles from s stops after k of them; at k = 0 no cycle was done, so no character has changed
 abbrev pub stop_after : Stops → ℕ → Machine → ℕ → Option Stop
-stop_after stops n s k = stop_at stops n k (cycled (k - 1) s) (cycled k s)
+stop_after stops n s k = stop_at stops n k (after_cycles (k - 1) s) (after_cycles k s)
 
 -- how many cycles a run of n cycles takes: the least k at which it stops
 abbrev pub run_length : Stops → ℕ → Machine → ℕ
@@ -63,7 +63,7 @@ run_length stops n s =
 
 -- the machine after a run of n cycles
 abbrev pub after_run : Stops → ℕ → Machine → Machine
-after_run stops n s = cycled (run_length stops n s) s
+after_run stops n s = after_cycles (run_length stops n s) s
 
 -- why a run of n cycles stops
 abbrev pub run_stop : Stops → ℕ → Machine → Stop
@@ -81,11 +81,11 @@ step_at (suc k) s = if s.0.owed == 0 then Some Ended else None
 
 -- how many cycles a step takes, at most 2: the least k at which it stops
 abbrev pub step_length : Machine → ℕ
-step_length s = unwrap_or (find (λ k. is_some (step_at k (cycled k s))) (range_with_len 0 3)) 2
+step_length s = unwrap_or (find (λ k. is_some (step_at k (after_cycles k s))) (range_with_len 0 3)) 2
 
 -- the machine after a step
 abbrev pub after_step : Machine → Machine
-after_step s = cycled (step_length s) s
+after_step s = after_cycles (step_length s) s
 
 -- why a step stops
 abbrev pub step_stop : Machine → Stop

@@ -99,8 +99,8 @@ unfoldable pub row_of : ℕ → Option Row
 row_of code = find (covers (code / 16) (code % 16)) rows
 
 -- the instruction of two words, if the first is in the table
-unfoldable pub decoded : ℕ → ℕ → Option Op
-decoded first second = option_map (λ (r : Row). r.op first second) (row_of first)
+unfoldable pub instruction_of : ℕ → ℕ → Option Op
+instruction_of first second = option_map (λ (r : Row). r.op first second) (row_of first)
 
 -- the column "words": how many words an instruction has
 abbrev pub word_count_of : Op → ℕ

@@ -6,7 +6,7 @@ use Rattle.mcs_model.specs.declared.board.BoardParts.{BoardParts}
 use Rattle.mcs_model.specs.declared.limits.TheConstants.{ACCEPTED_COMMANDS, BREAKPOINTS, WATCHES}
 use Rattle.mcs_model.specs.declared.regs.Regs.{Regs}
 use Rattle.mcs_model.specs.Boards.{IsSized, board_fault_of, masks_on, chain_bits, chain_count, key_count}
-use Rattle.mcs_model.specs.Bus.{BusState, ram_at, status_at, chips_of}
+use Rattle.mcs_model.specs.Bus.{BusState, ram_place, status_place, chips_of}
 use Rattle.mcs_model.specs.BenchState.{BenchState}
 
 -- that many numbers, each below a limit
@@ -42,9 +42,9 @@ pub record IsInRange (s : BusState) : Type 0 where
 pub record IsAbsentZero (s : BusState) : Type 0 where
   pub rom : (at : ℕ) → masks_on s.board (at / 256) ≡ None → slice_index s.rom at ≡ 0
   pub ram : (bank src : ℕ) → src < 256 → chips_of s bank ≤ src / 64 →
-      slice_index s.ram (ram_at bank src) ≡ 0
+      slice_index s.ram (ram_place bank src) ≡ 0
   pub status : (bank high k : ℕ) → high < 16 → k < 4 → chips_of s bank ≤ high / 4 →
-      slice_index s.status (status_at bank high k) ≡ 0
+      slice_index s.status (status_place bank high k) ≡ 0
   pub ram_ports : (bank chip : ℕ) → chip < 4 → chips_of s bank ≤ chip →
       slice_index s.ram_ports (bank * 4 + chip) ≡ 0
   pub rom_ports : (chip : ℕ) → MatchOption (masks_on s.board chip) (slice_index s.rom_ports chip ≡ 0)

@@ -4,7 +4,7 @@ ghost use Rattle.std.specs.Prelude.{◌≤◌, ◌≡◌, ◌<◌, ◌*◌, ◌|
 ghost use Rattle.std.specs.List.{list_any};
 ghost use Rattle.mcs_nibble.specs.declared.lines.LineMask.{LineMask};
 ghost use Rattle.mcs_model.specs.Boards.{board_fault_of, in_range, exists_on, masks_on, is_input_line, is_output_line, is_chain_size, is_matrix_size, has_bad_matrix, has_bad_value, lacks_rows, lacks_line, has_wrong_direction, any_chain_line, any_column, any_lamp, any_line, input_on, chain_bits, chain_count, chain_part, has_key, key_count, empty_parts, IsSized};
-ghost use Rattle.mcs_model.specs.Refusal.{board_fault_number};
+ghost use Rattle.mcs_model.specs.RefusalNumbers.{board_fault_number};
 
 use crate::limits::{
     BANK_CHIPS, BANKS, CHAIN_BITS, CHAIN_CHIPS, CHAINS, KEY_COLUMNS, KEY_ROWS, KEYS, LAMPS, ROMS,

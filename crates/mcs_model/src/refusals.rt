@@ -1,6 +1,6 @@
 //! The refusals of a bench, and their numbers.
 ghost use Rattle.std.specs.Prelude.{◌≡◌};
-ghost use Rattle.mcs_model.specs.Refusal.{bench_fault_number};
+ghost use Rattle.mcs_model.specs.RefusalNumbers.{bench_fault_number};
 
 use crate::refusal_numbers;
 use thiserror::Error;

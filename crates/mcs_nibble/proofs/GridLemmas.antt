@@ -5,7 +5,7 @@ use Rattle.std.proofs.lemmas.Nat.{div-mul-add, mod-mul-add}
 use Rattle.std.proofs.lemmas.Grind.{get_or-set_at}
 use Rattle.std.proofs.lemmas.Bool.{cases_eq}
 use Rattle.std.proofs.lemmas.List.{get_or-replicate, length-replicate}
-use Rattle.mcs_nibble.specs.Tabled.{column, grid}
+use Rattle.mcs_nibble.specs.Tables.{column, grid}
 use Rattle.mcs_nibble.proofs.TabledLemmas.{set-tabled, same_tabled, get_or-tabled, tabled_from, length-tabled}
 
 -- what f gives of each element, where one element was replaced by one of which f gives the same

@@ -4,30 +4,30 @@ use Rattle.std.proofs.lemmas.List.FromFn.{get_or-map-range_with_len, length-map-
 use Rattle.std.proofs.lemmas.Grind.{get_or-set_at}
 use Rattle.std.proofs.lemmas.Bool.{cases_eq}
 use Rattle.std.proofs.lemmas.List.{length-set}
-use Rattle.mcs_nibble.specs.Tabled.{tabled}
+use Rattle.mcs_nibble.specs.Tables.{table_of}
 
-pub length-tabled : {A : Type 0} (n : ℕ) (f : ℕ → A) → length (tabled n f) ≡ n
-unfolding tabled
+pub length-tabled : {A : Type 0} (n : ℕ) (f : ℕ → A) → length (table_of n f) ≡ n
+unfolding table_of
 length-tabled n f = length-map-range_with_len f 0 n
 
-pub get_or-tabled : {A : Type 0} (n : ℕ) (f : ℕ → A) (k : ℕ) (d : A) → k < n → get_or (tabled n f) k d ≡ f k
-unfolding tabled
+pub get_or-tabled : {A : Type 0} (n : ℕ) (f : ℕ → A) (k : ℕ) (d : A) → k < n → get_or (table_of n f) k d ≡ f k
+unfolding table_of
 get_or-tabled n f k d h = get_or-map-range_with_len f 0 n k k d h (omega arith)
 
 -- a list of n elements that agrees with f at each index
-pub tabled_from : {A : Type 0} (n : ℕ) (f : ℕ → A) (xs : List A) (d : A) → length xs ≡ n → ((k : ℕ) → k < n → get_or xs k d ≡ f k) → xs ≡ tabled n f
-unfolding tabled
+pub tabled_from : {A : Type 0} (n : ℕ) (f : ℕ → A) (xs : List A) (d : A) → length xs ≡ n → ((k : ℕ) → k < n → get_or xs k d ≡ f k) → xs ≡ table_of n f
+unfolding table_of
 tabled_from n f xs d l h = fill_by_all f xs n d l h
 
-pub same_tabled : {A : Type 0} (n : ℕ) (f g : ℕ → A) → ((k : ℕ) → k < n → f k ≡ g k) → tabled n f ≡ tabled n g
-same_tabled n f g h = tabled_from n g (tabled n f) (f 0) (length-tabled n f) (λ k l. get_or-tabled n f k (f 0) l ∙ h k l)
+pub same_tabled : {A : Type 0} (n : ℕ) (f g : ℕ → A) → ((k : ℕ) → k < n → f k ≡ g k) → table_of n f ≡ table_of n g
+same_tabled n f g h = tabled_from n g (table_of n f) (f 0) (length-tabled n f) (λ k l. get_or-tabled n f k (f 0) l ∙ h k l)
 
 -- a write at i, where g is f except for v at i
-pub set-tabled : {A : Type 0} (n : ℕ) (f g : ℕ → A) (i : ℕ) (v : A) → i < n → g i ≡ v → ((k : ℕ) → k < n → k ≢ i → g k ≡ f k) → slice_set (tabled n f) i v ≡ tabled n g
+pub set-tabled : {A : Type 0} (n : ℕ) (f g : ℕ → A) (i : ℕ) (v : A) → i < n → g i ≡ v → ((k : ℕ) → k < n → k ≢ i → g k ≡ f k) → slice_set (table_of n f) i v ≡ table_of n g
 set-tabled n f g i v h at others =
-    tabled_from n g (slice_set (tabled n f) i v) v (length-set (tabled n f) i v ∙ length-tabled n f)
+    tabled_from n g (slice_set (table_of n f) i v) v (length-set (table_of n f) i v ∙ length-tabled n f)
     (λ k l.
     elim (cases_eq k i) [
-      | inl e ↦ get_or-set_at (tabled n f) i k v v e (let len = length-tabled n f in omega arith) ∙ sym at ∙ ap g (sym e)
-      | inr ne ↦ get_or-set_other (tabled n f) i k v v ne ∙ get_or-tabled n f k v l ∙ sym (others k l ne)
+      | inl e ↦ get_or-set_at (table_of n f) i k v v e (let len = length-tabled n f in omega arith) ∙ sym at ∙ ap g (sym e)
+      | inr ne ↦ get_or-set_other (table_of n f) i k v v ne ∙ get_or-tabled n f k v l ∙ sym (others k l ne)
     ])

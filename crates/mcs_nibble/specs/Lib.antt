@@ -1,4 +1,4 @@
 pub mod Bits
 pub mod Ports
-pub mod Tabled
+pub mod Tables
 pub mod Shifting

@@ -2,7 +2,7 @@
 use Rattle.std.proofs.Common.{◌≡◌, ◌∙◌, ℕ, List, Option, length, ap}
 use Rattle.mcs_disk.specs.States.{mem_disk_state}
 use Rattle.mcs_disk.specs.declared.memory.MemDisk.{MemDisk}
-use Rattle.mcs_page.specs.Page.{IsWhole, Resumes}
+use Rattle.mcs_page.specs.Page.{IsServedWhole, Resumes}
 use Rattle.mcs_session.specs.Kept.{Carries, IsOpenOnHonestDisk}
 use Rattle.mcs_session.specs.Standing.{SessionView, Standing}
 use Rattle.mcs_shell.proofs.Steps.{carries_unhalted}
@@ -13,7 +13,7 @@ use Rattle.mcs_shell.specs.declared.ends.ShellEnd.{ShellEnd}
 use Rattle.mcs_shell.specs.declared.ends.ShellEnd.TheVariants.{End, ReadFault, WriteFault, DeviceFault, InputLimit, NoMemory}
 
 -- where all of its input was served, no step halted it
-carries : (end : ShellEnd) (reader reader' : Option (List ℕ)) (a b : Stage) → IsWhole end → (ran : Ran end reader reader' a b) → Carries IsOpenOnHonestDisk a.session b.session (in_turn commands a.session.standing.state ran.served.met)
+carries : (end : ShellEnd) (reader reader' : Option (List ℕ)) (a b : Stage) → IsServedWhole end → (ran : Ran end reader reader' a b) → Carries IsOpenOnHonestDisk a.session b.session (in_turn commands a.session.standing.state ran.served.met)
 carries End reader reader' a b whole ran = carries_unhalted IsOpenOnHonestDisk a.session b.session a.session.standing.state ran.served.met (ran.served.halts ∙ ran.ends.2) ran.served.serves.leaves
 carries InputLimit reader reader' a b whole ran = carries_unhalted IsOpenOnHonestDisk a.session b.session a.session.standing.state ran.served.met (ran.served.halts ∙ ran.ends.2) ran.served.serves.leaves
 carries ReadFault reader reader' a b whole ran = absurd whole
@@ -21,10 +21,10 @@ carries WriteFault reader reader' a b whole ran = absurd whole
 carries DeviceFault reader reader' a b whole ran = absurd whole
 carries NoMemory reader reader' a b whole ran = absurd whole
 
-pub keeps_size : (end : ShellEnd) (reader reader' : Option (List ℕ)) (a b : Stage) → IsWhole end → Ran end reader reader' a b → b.session.disk.size ≡ a.session.disk.size
+pub keeps_size : (end : ShellEnd) (reader reader' : Option (List ℕ)) (a b : Stage) → IsServedWhole end → Ran end reader reader' a b → b.session.disk.size ≡ a.session.disk.size
 keeps_size end reader reader' a b whole ran = (carries end reader reader' a b whole ran).size
 
-pub keeps_open : (end : ShellEnd) (reader reader' : Option (List ℕ)) (a b : Stage) → IsWhole end → Ran end reader reader' a b → b.session.standing.live ≡ a.session.standing.live
+pub keeps_open : (end : ShellEnd) (reader reader' : Option (List ℕ)) (a b : Stage) → IsServedWhole end → Ran end reader reader' a b → b.session.standing.live ≡ a.session.standing.live
 keeps_open end reader reader' a b whole ran = ap (λ (s : Standing). s.live) (carries end reader reader' a b whole ran).standing
 
 -- the disk of a session has the size of its file

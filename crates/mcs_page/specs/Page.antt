@@ -9,12 +9,12 @@ use Rattle.mcs_disk.specs.States.{mem_disk_state}
 use Rattle.mcs_disk.specs.declared.memory.MemDisk.{MemDisk}
 use Rattle.mcs_page.specs.declared.fault.NotServed.{NotServed}
 use Rattle.mcs_page.specs.declared.fault.NotServed.TheVariants.{Refused, NoRoom}
-use Rattle.mcs_session.specs.Answers.{RefusesSession}
+use Rattle.mcs_session.specs.SessionCalls.{RefusesSession}
 use Rattle.mcs_session.specs.Standing.{SessionView}
 use Rattle.mcs_session.specs.Stands.{HoldsState, StandsByEither, StandsFor}
 use Rattle.mcs_shell.specs.Program.{GoesOnWith}
 use Rattle.mcs_shell.specs.Shell.{Ran}
-use Rattle.mcs_shell.specs.Stage.{staged}
+use Rattle.mcs_shell.specs.Stage.{stage_of}
 use Rattle.mcs_shell.specs.declared.ends.ShellEnd.{ShellEnd}
 use Rattle.mcs_shell.specs.declared.ends.ShellEnd.TheVariants.{End, InputLimit}
 
@@ -41,8 +41,8 @@ pub record WentOn (file input : List ℕ) (end : ShellEnd) (answers : List ℕ)
   pub session : SessionView MemDisk
   pub resumes : Resumes file session
   pub rest : Option (List ℕ)
-  pub ran : Ran end (Some input) rest (staged mem_disk_state session (Some []))
-      (staged mem_disk_state left (Some answers))
+  pub ran : Ran end (Some input) rest (stage_of mem_disk_state session (Some []))
+      (stage_of mem_disk_state left (Some answers))
 
 -- the same, and these are the bytes that the session's disk has then
 pub record ServedOn (file input : List ℕ) (end : ShellEnd) (answers after : List ℕ) : Type 0 where
@@ -51,15 +51,15 @@ pub record ServedOn (file input : List ℕ) (end : ShellEnd) (answers after : Li
   pub kept : HasBytes after (mem_disk_state left.disk)
 
 -- all of the input was served, or as much of it as a shell reads
-abbrev pub IsWhole : ShellEnd → Type 0
-IsWhole End = Unit {0}
-IsWhole InputLimit = Unit {0}
-IsWhole end = ⊥
+abbrev pub IsServedWhole : ShellEnd → Type 0
+IsServedWhole End = Unit {0}
+IsServedWhole InputLimit = Unit {0}
+IsServedWhole end = ⊥
 
 -- all of the input was served, with these answers, and left the session so: it is open
 pub record HasServed (file input : List ℕ) (end : ShellEnd) (answers : List ℕ)
     (left : SessionView MemDisk) : Type 0 where
-  pub whole : IsWhole end
+  pub whole : IsServedWhole end
   pub went : WentOn file input end answers left
   pub is_open : IsTrue left.live
   pub size : (mem_disk_state left.disk).size ≡ length file
@@ -67,7 +67,7 @@ pub record HasServed (file input : List ℕ) (end : ShellEnd) (answers : List �
 -- the input was served, and the answers are that many bytes at the front of the buffer
 pub record Answers (file input : List ℕ) (end : ShellEnd) (count : ℕ)
     (buffer buffer' after : List ℕ) : Type 0 where
-  pub whole : IsWhole end
+  pub whole : IsServedWhole end
   pub within : count ≤ length buffer
   pub served : ServedOn file input end (take count buffer') after
   pub rest : drop count buffer' ≡ drop count buffer
@@ -83,7 +83,7 @@ IsRefused fault file = (disk : MemDisk) × IsFresh file (mem_disk_state disk)
 -- this input was served whole: its answers are that many bytes, more than the buffer has room for
 pub record LacksRoom (file input : List ℕ) (count room : ℕ) : Type 0 where
   pub end : ShellEnd
-  pub whole : IsWhole end
+  pub whole : IsServedWhole end
   pub answers : List ℕ
   pub after : List ℕ
   pub served : ServedOn file input end answers after

@@ -1,7 +1,7 @@
 //! What a page calls.
 ghost use Rattle.std.specs.Prelude.{◌≡◌, ◌≤◌, ◌↔◌, drop, length, take, IfErr, IfOk, IsTrue, OnErr, OnOk};
 ghost use Rattle.mcs_page.specs.Page.{Answers, AnswersAndSettles, HasServed, IsNewFile, IsRefused};
-ghost use Rattle.mcs_page.specs.Page.{IsWhole, IsWhyNot, StandsForTheSame, WouldAnswer};
+ghost use Rattle.mcs_page.specs.Page.{IsServedWhole, IsWhyNot, StandsForTheSame, WouldAnswer};
 ghost use Rattle.mcs_journal.specs.declared.format.TheConstants.{FILE_SIZE};
 
 use crate::disks::{resume, settle_into, write_back};
@@ -46,7 +46,7 @@ pub fn begin(alloc: Global, file: &mut [u8]) -> Result<(), AllocError>
 
 /// The shell served all of its input, or as much as it reads.
 fn is_whole(end: ShellEnd) -> bool
-    ensures { IsTrue result ↔ IsWhole end }
+    ensures { IsTrue result ↔ IsServedWhole end }
 {
     match end {
         ShellEnd::End | ShellEnd::InputLimit => true,

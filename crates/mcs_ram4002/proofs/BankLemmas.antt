@@ -6,12 +6,12 @@ use Rattle.std.proofs.lemmas.Bool.{cases_lt}
 use Rattle.std.specs.Prelude.{All}
 use Rattle.std.proofs.lemmas.List.{get_or_default, get_or_past, get_or-replicate, get_or-take}
 use Rattle.std.proofs.lemmas.List.Elements.{All-get_or, All-take}
-use Rattle.mcs_nibble.specs.Tabled.{grid, column}
+use Rattle.mcs_nibble.specs.Tables.{grid, column}
 use Rattle.mcs_nibble.proofs.GridLemmas.{get-grid, set-grid, kept-grid, length-grid, blank-grid, get-column, set-column, kept-column, length-column, blank-column}
 use Rattle.mcs_ram4002.specs.declared.BankWrite.{BankWrite}
 use Rattle.mcs_ram4002.specs.declared.BankWrite.TheVariants.{Character, Status, Port, Src}
 use Rattle.mcs_ram4002.specs.declared.Chip.{Chip}
-use Rattle.mcs_ram4002.specs.RamBank.{BankState, ChipState, unpacked, cells_of, no_chip, bank_of, blank_bank, main_cells_of, status_cells_of, status_place, chip_written, chip_after, src_after, with_write, IsInBank, IsSizedChip, IsValidChip, IsWhole, IsValidBank}
+use Rattle.mcs_ram4002.specs.RamBank.{BankState, ChipState, characters_of, cells_of, no_chip, bank_of, blank_bank, main_cells_of, status_cells_of, status_cell, chip_written, chip_after, src_after, with_write, IsInBank, IsSizedChip, IsValidChip, IsWhole, IsValidBank}
 use Rattle.mcs_ram4002.proofs.Below.{below-at, grid-below, column-below}
 use Rattle.mcs_ram4002.proofs.Packed.{unpacked-small, unpacked-zeros, unpacked-none}
 
@@ -74,7 +74,7 @@ pub stored : (chips : List Chip) (wired src i : ℕ) (x d : Chip) (write : BankW
 stored chips wired src i x d (Character at n) place is h there fits sized new =
     rw (written 64 main_cells_of chips wired i (at % 64) at n x d h (omega arith) (omega arith) there fits sized.main (ap (λ (c : ChipState). c.main) new), kept 16 status_cells_of chips wired i x d there fits (ap (λ (c : ChipState). c.status) new), kept-ports chips wired i x d there fits (ap (λ (c : ChipState). c.port) new)) refl
 stored chips wired src i x d (Status high k n) place is h there fits sized new =
-    rw (kept 64 main_cells_of chips wired i x d there fits (ap (λ (c : ChipState). c.main) new), written 16 status_cells_of chips wired i (high % 4 * 4 + k) (status_place high k) n x d h (omega arith) (omega arith) there fits sized.status (ap (λ (c : ChipState). c.status) new), kept-ports chips wired i x d there fits (ap (λ (c : ChipState). c.port) new)) refl
+    rw (kept 64 main_cells_of chips wired i x d there fits (ap (λ (c : ChipState). c.main) new), written 16 status_cells_of chips wired i (high % 4 * 4 + k) (status_cell high k) n x d h (omega arith) (omega arith) there fits sized.status (ap (λ (c : ChipState). c.status) new), kept-ports chips wired i x d there fits (ap (λ (c : ChipState). c.port) new)) refl
 stored chips wired src i x d (Port chip n) place is h there fits sized new =
     let ports =
     ap (column 4 (λ (c : Chip). c.port) no_chip) (take-set-lt wired chips i d there)
@@ -109,7 +109,7 @@ valid_of b chips wired src is small unwired valid =
       ports = column-below 4 16 (λ (c : Chip). c.port) no_chip (take wired chips) (λ i. (chip_valid chips wired i valid).port);
       src = small;
       absent_main = λ at l gone. sym (absent-grid 64 main_cells_of chips wired (at / 64) (at % 64) at (unpacked-none (at % 64)) (omega arith) (omega arith) (omega arith) gone);
-      absent_status = λ high k h l gone. sym (absent-grid 16 status_cells_of chips wired (high / 4) (high % 4 * 4 + k) (status_place high k) (unpacked-none (high % 4 * 4 + k)) (omega arith) (omega arith) (omega arith) gone);
+      absent_status = λ high k h l gone. sym (absent-grid 16 status_cells_of chips wired (high / 4) (high % 4 * 4 + k) (status_cell high k) (unpacked-none (high % 4 * 4 + k)) (omega arith) (omega arith) (omega arith) gone);
       absent_port = λ chip l gone. sym (port-absent chips wired src chip l gone);
       absent_src = unwired;
     } in
@@ -127,7 +127,7 @@ equal f x n wired i b l here none =
 pub slice_index-zeros : (n k : ℕ) → slice_index (replicate n 0) k ≡ 0
 slice_index-zeros n k = grind (arith, common_steps)
 
-zero-cell : (n k : ℕ) → slice_index (unpacked (replicate n 0)) k ≡ 0
+zero-cell : (n k : ℕ) → slice_index (characters_of (replicate n 0)) k ≡ 0
 zero-cell n k = ap (λ cells. slice_index cells k) (unpacked-zeros n) ∙ slice_index-zeros (2 * n) k
 
 pub blank : (n wired src : ℕ) → wired ≤ n → bank_of (replicate n (record { main = replicate 32 0; status = replicate 8 0; port = 0 })) wired src ≡ record (blank_bank wired) { src = src }

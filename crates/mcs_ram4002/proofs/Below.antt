@@ -4,7 +4,7 @@ use Rattle.std.specs.Prelude.{All}
 use Rattle.std.proofs.lemmas.Bool.{cases_lt}
 use Rattle.std.proofs.lemmas.List.{get_or_past}
 use Rattle.std.proofs.lemmas.List.Elements.{All-get_or, All-from_get_or}
-use Rattle.mcs_nibble.specs.Tabled.{tabled, column, grid}
+use Rattle.mcs_nibble.specs.Tables.{table_of, column, grid}
 use Rattle.mcs_nibble.proofs.TabledLemmas.{get_or-tabled, length-tabled}
 
 -- a number at an index, or 0 beyond the end
@@ -15,9 +15,9 @@ below-at m xs k some below =
       | inr beyond ↦ subst (λ n. n < m) (sym (get_or_past xs k 0 beyond)) some
     ]
 
-tabled-below : (n m : ℕ) (f : ℕ → ℕ) → ((i : ℕ) → f i < m) → All (λ v. v < m) (tabled n f)
+tabled-below : (n m : ℕ) (f : ℕ → ℕ) → ((i : ℕ) → f i < m) → All (λ v. v < m) (table_of n f)
 tabled-below n m f h =
-    All-from_get_or (λ v. v < m) (tabled n f) 0 (λ i l. subst (λ v. v < m) (sym (get_or-tabled n f i 0 (let e = length-tabled n f in omega arith))) (h i))
+    All-from_get_or (λ v. v < m) (table_of n f) 0 (λ i l. subst (λ v. v < m) (sym (get_or-tabled n f i 0 (let e = length-tabled n f in omega arith))) (h i))
 
 pub grid-below : {X : Type 0} (n wide m : ℕ) (f : X → List ℕ) (d : X) (xs : List X) → ((i k : ℕ) → slice_index (f (get_or xs i d)) k < m) → All (λ v. v < m) (grid n wide f d xs)
 unfolding grid

@@ -5,31 +5,31 @@ use Rattle.std.proofs.lemmas.Grind.{get_or-set_at}
 use Rattle.std.proofs.lemmas.Bool.{cases_eq}
 use Rattle.std.proofs.lemmas.List.{get_or-replicate, length-replicate, length-set}
 use Rattle.std.proofs.lemmas.List.Elements.{All-from_get_or}
-use Rattle.mcs_nibble.specs.Tabled.{tabled}
+use Rattle.mcs_nibble.specs.Tables.{table_of}
 use Rattle.mcs_nibble.proofs.TabledLemmas.{get_or-tabled, set-tabled, length-tabled, tabled_from}
 use Rattle.mcs_ram4002.specs.declared.Chip.{Chip}
-use Rattle.mcs_ram4002.specs.RamBank.{half_of, unpacked, IsSizedChip, IsValidChip}
+use Rattle.mcs_ram4002.specs.RamBank.{half_of, characters_of, IsSizedChip, IsValidChip}
 
-pub length-unpacked : (bytes : List ℕ) → length (unpacked bytes) ≡ 2 * length bytes
-unfolding unpacked
+pub length-unpacked : (bytes : List ℕ) → length (characters_of bytes) ≡ 2 * length bytes
+unfolding characters_of
 length-unpacked bytes = length-tabled (2 * length bytes) _
 
-pub unpacked-at : (bytes : List ℕ) (k d : ℕ) → k < 2 * length bytes → get_or (unpacked bytes) k d ≡ half_of (slice_index bytes (k / 2)) (k % 2)
-unfolding unpacked
+pub unpacked-at : (bytes : List ℕ) (k d : ℕ) → k < 2 * length bytes → get_or (characters_of bytes) k d ≡ half_of (slice_index bytes (k / 2)) (k % 2)
+unfolding characters_of
 unpacked-at bytes k d h = get_or-tabled (2 * length bytes) _ k d h
 
-pub unpacked-small : (bytes : List ℕ) → All (λ n. n < 16) (unpacked bytes)
+pub unpacked-small : (bytes : List ℕ) → All (λ n. n < 16) (characters_of bytes)
 unpacked-small bytes =
-    All-from_get_or (λ n. n < 16) (unpacked bytes) 0 (λ k l.
+    All-from_get_or (λ n. n < 16) (characters_of bytes) 0 (λ k l.
     subst (λ n. n < 16) (sym (unpacked-at bytes k 0 (let e = length-unpacked bytes in omega arith))) (omega arith))
 
 -- one character replaced
-pub unpacked-set : (bytes : List ℕ) (at n new : ℕ) → at < 2 * length bytes → half_of new (at % 2) ≡ n → half_of new (1 - at % 2) ≡ half_of (slice_index bytes (at / 2)) (1 - at % 2) → unpacked (slice_set bytes (at / 2) new) ≡ slice_set (unpacked bytes) at n
-unfolding unpacked
+pub unpacked-set : (bytes : List ℕ) (at n new : ℕ) → at < 2 * length bytes → half_of new (at % 2) ≡ n → half_of new (1 - at % 2) ≡ half_of (slice_index bytes (at / 2)) (1 - at % 2) → characters_of (slice_set bytes (at / 2) new) ≡ slice_set (characters_of bytes) at n
+unfolding characters_of
 unpacked-set bytes at n new h is kept =
     let here = get_or-set_at bytes (at / 2) (at / 2) new 0 refl (omega arith) in
     let cell = λ (bs : List ℕ) (k : ℕ). half_of (slice_index bs (k / 2)) (k % 2) in
-    ap (λ m. tabled (2 * m) (cell (slice_set bytes (at / 2) new))) (length-set bytes (at / 2) new)
+    ap (λ m. table_of (2 * m) (cell (slice_set bytes (at / 2) new))) (length-set bytes (at / 2) new)
     ∙ sym (set-tabled (2 * length bytes) _ (cell (slice_set bytes (at / 2) new)) at n h
     (ap (λ b. half_of b (at % 2)) here ∙ is)
     (λ k l ne.
@@ -49,15 +49,15 @@ half-zero k h =
       | inr nz ↦ ap (half_of 0) (let e : k ≡ 1 = omega arith in e)
     ]
 
-pub unpacked-zeros : (n : ℕ) → unpacked (replicate n 0) ≡ replicate (2 * n) 0
-unfolding unpacked
+pub unpacked-zeros : (n : ℕ) → characters_of (replicate n 0) ≡ replicate (2 * n) 0
+unfolding characters_of
 unpacked-zeros n =
     let len = length-replicate {A = ℕ} n 0 in
     sym (tabled_from (2 * length (replicate n 0)) _ (replicate (2 * n) 0) 0 (length-replicate {A = ℕ} (2 * n) 0 ∙ ap (λ m. 2 * m) (sym len))
     (λ k l. get_or-replicate (2 * n) k 0 0 (omega arith) ∙ sym (ap (λ b. half_of b (k % 2)) (get_or-replicate n (k / 2) 0 0 (omega arith)) ∙ half-zero (k % 2) (omega arith))))
 
-pub unpacked-none : (k : ℕ) → slice_index (unpacked []) k ≡ 0
-unfolding unpacked tabled
+pub unpacked-none : (k : ℕ) → slice_index (characters_of []) k ≡ 0
+unfolding characters_of table_of
 unpacked-none k = refl
 
 pub sized : (c : Chip) → length c.main ≡ 32 → length c.status ≡ 8 → IsSizedChip c

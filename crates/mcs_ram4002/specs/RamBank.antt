@@ -2,7 +2,7 @@
 -- Source: MCS-4 Users Manual, 4002: four registers of 16 main and 4 status characters and an output port a chip; SRC
 -- selects chip, register and character. That an absent chip reads 0 is our own choice.
 use Rattle.std.specs.Prelude.{◌≡◌, ℕ, ◌+◌, ◌*◌, ◌/◌, ◌%◌, ◌^◌, ◌<◌, ◌≤◌, List, [], All, replicate, slice_index, slice_set, length, take, if◌then◌else◌, nat_lt}
-use Rattle.mcs_nibble.specs.Tabled.{tabled, grid, column}
+use Rattle.mcs_nibble.specs.Tables.{table_of, grid, column}
 use Rattle.mcs_ram4002.specs.declared.BankWrite.{BankWrite}
 use Rattle.mcs_ram4002.specs.declared.BankWrite.TheVariants.{Character, Status, Port, Src}
 use Rattle.mcs_ram4002.specs.declared.Chip.{Chip}
@@ -20,8 +20,8 @@ pub record BankState : Type 0 where
   pub ports : List ℕ
 
 -- where status character k of the register with SRC high nibble `high` stands
-abbrev pub status_place : ℕ → ℕ → ℕ
-status_place high k = high * 4 + k
+abbrev pub status_cell : ℕ → ℕ → ℕ
+status_cell high k = high * 4 + k
 
 -- the chip that an SRC byte selects
 abbrev pub chip_of : ℕ → ℕ
@@ -51,7 +51,7 @@ chip_written (Src byte) = 0
 -- a bank that has this chip, after the write
 abbrev pub with_write : BankState → BankWrite → BankState
 with_write b (Character src n) = record b { main = slice_set b.main src n }
-with_write b (Status high k n) = record b { status = slice_set b.status (status_place high k) n }
+with_write b (Status high k n) = record b { status = slice_set b.status (status_cell high k) n }
 with_write b (Port chip n) = record b { ports = slice_set b.ports chip n }
 with_write b (Src byte) = record b { src = byte }
 
@@ -75,7 +75,7 @@ pub record IsValidBank (b : BankState) : Type 0 where
   pub src : b.src < 256
   pub absent_main : (src : ℕ) → src < 256 → b.wired ≤ chip_of src → slice_index b.main src ≡ 0
   pub absent_status : (high k : ℕ) → high < 16 → k < 4 → b.wired ≤ high / 4 →
-      slice_index b.status (status_place high k) ≡ 0
+      slice_index b.status (status_cell high k) ≡ 0
   pub absent_port : (chip : ℕ) → chip < 4 → b.wired ≤ chip → slice_index b.ports chip ≡ 0
   pub absent_src : b.wired ≡ 0 → b.src ≡ 0
 
@@ -86,15 +86,15 @@ abbrev pub half_of : ℕ → ℕ → ℕ
 half_of byte k = byte / 16 ^ k % 16
 
 -- the characters of bytes that hold two each
-unfoldable pub unpacked : List ℕ → List ℕ
-unpacked bytes = tabled (2 * length bytes) (λ k. half_of (slice_index bytes (k / 2)) (k % 2))
+unfoldable pub characters_of : List ℕ → List ℕ
+characters_of bytes = table_of (2 * length bytes) (λ k. half_of (slice_index bytes (k / 2)) (k % 2))
 
 -- the cells of a chip, each list by index: how a chip stores them is said here alone
 abbrev pub main_cells_of : Chip → List ℕ
-main_cells_of c = unpacked c.main
+main_cells_of c = characters_of c.main
 
 abbrev pub status_cells_of : Chip → List ℕ
-status_cells_of c = unpacked c.status
+status_cells_of c = characters_of c.status
 
 -- the cells of a chip and its port, each list by index
 pub record ChipState : Type 0 where

@@ -2,7 +2,7 @@
 #![tactic(auto)]
 
 ghost use Rattle.std.specs.Prelude.{◌≡◌, ℕ, ◌+◌, ◌-◌, ◌*◌, ◌/◌, ◌%◌, ◌<◌, ◌≤◌, All, slice_index};
-ghost use Rattle.mcs_ram4002.specs.RamBank.{BankState, half_of, cells_of, main_cells_of, status_cells_of, status_place, chip_of, chip_written, src_after, chip_after, after_write, blank_bank, IsInBank, IsSizedChip, IsValidChip, IsWhole, IsValidBank};
+ghost use Rattle.mcs_ram4002.specs.RamBank.{BankState, half_of, cells_of, main_cells_of, status_cells_of, status_cell, chip_of, chip_written, src_after, chip_after, after_write, blank_bank, IsInBank, IsSizedChip, IsValidChip, IsWhole, IsValidBank};
 
 use mcs_nibble::Nibble;
 use std::marker::Model;
@@ -235,7 +235,7 @@ impl<const CHIPS: usize> Bank<CHIPS> {
     /// Status character `k`, 0 to 3, of the register that the high nibble of an SRC byte selects.
     pub fn status_at(&self, high: Nibble, k: u8) -> Nibble
         requires { k < 4 }
-        ensures { result ≡ slice_index self.now.status (status_place high k) }
+        ensures { result ≡ slice_index self.now.status (status_cell high k) }
     {
         let register = high.get();
         let chip = usize::from(register / 4);
@@ -285,7 +285,7 @@ impl<const CHIPS: usize> Bank<CHIPS> {
     /// Status character `k`, 0 to 3, of the register that the last SRC selected.
     pub fn read_status(&self, k: u8) -> Nibble
         requires { k < 4 }
-        ensures { result ≡ slice_index self.now.status (status_place (self.now.src / 16) k) }
+        ensures { result ≡ slice_index self.now.status (status_cell (self.now.src / 16) k) }
     {
         self.status_at(Nibble::high_of(self.last_src()), k)
     }

@@ -2,7 +2,7 @@
 use Rattle.std.proofs.Common.{◌≡◌, inl, inr, ⊎_elim, Bool, true, false, None, ap, List, [], ◌∷◌, ℕ, sym, ◌∙◌, subst, refl, arith}
 use Rattle.mcs_disk.specs.Disk.{DiskState, IsLawful}
 use Rattle.mcs_disk.specs.Moments.{IsDurable, AddsNoImage, WritesNothing}
-use Rattle.mcs_journal.specs.Answers.{Creates, IsNoSession, Opens, RefusesOpen}
+use Rattle.mcs_journal.specs.StoreCalls.{Creates, IsNoSession, Opens, RefusesOpen}
 use Rattle.mcs_journal.specs.File.{Holds}
 use Rattle.mcs_journal.specs.declared.fault.OpenFault.{OpenFault}
 use Rattle.mcs_journal.specs.declared.fault.OpenFault.TheVariants.{NotASession, Damaged, Device, NoMemory}
@@ -22,15 +22,15 @@ use Rattle.mcs_version1.specs.Lift.{lift}
 use Rattle.mcs_version1.proofs.Lifting.{command-lifts}
 use Rattle.mcs_session.specs.Version1.{Replays1, RecordsStandFor1, StandsForLifted}
 use Rattle.mcs_session.specs.Stands.{Replays, RecordsStandFor, StandsFor, StandsByEither, StandsSince, HoldsState, IsAt, IsAtLifted}
-use Rattle.mcs_session.specs.Answers.{CreatesSession, FailsMigrating, LeftRefused, MayMigrate, OpensSession, RefusesSession}
+use Rattle.mcs_session.specs.SessionCalls.{CreatesSession, FailsMigrating, LeftRefused, MayMigrate, OpensSession, RefusesSession}
 use Rattle.mcs_session.specs.LogUse.{UsesLog, empty_log}
 use Rattle.mcs_session.specs.Invariant.{IsRecorded, IsReplayed, MayReplace, Replaced}
 use Rattle.mcs_session.proofs.Records.{same_pair_state}
 
 -- no bytes spell states of both versions
-not_both : (snap : List ℕ) (s : BenchState) (first : BenchState1) → SpellsState snap s → SpellsState1 snap first → ⊥
-not_both snap s first a b =
-    let versions : false ≡ true = (same_state snap false true s (lift first) a (record { first = first; spells = b; lifted = refl })).0 in
+not_both : (snap : List ℕ) (s : BenchState) (version_1 : BenchState1) → SpellsState snap s → SpellsState1 snap version_1 → ⊥
+not_both snap s version_1 a b =
+    let versions : false ≡ true = (same_state snap false true s (lift version_1) a (record { version_1 = version_1; spells = b; lifted = refl })).0 in
     absurd (cc)
 
 pub stands_by : (snap : List ℕ) (records : List (List ℕ)) (s : BenchState) → RecordsStandFor false snap records s → (c : List ℕ) → Holds c snap records → StandsFor c s
@@ -85,29 +85,29 @@ opened_session old new snap records cycles s unwritten opened replayed = record 
   moments = rests_may old new s opened.rests;
   rests = λ _. opened.rests;
   unwritten = λ _. unwritten;
-  migrated = λ first. absurd (not_both snap replayed.stand.start first.stand.start replayed.stand.snapshot (subst (λ (x : List ℕ). SpellsState1 x first.stand.start) (same_snap _ _ _ _ _ first.holds opened.holds) first.stand.snapshot));
+  migrated = λ version_1. absurd (not_both snap replayed.stand.start version_1.stand.start replayed.stand.snapshot (subst (λ (x : List ℕ). SpellsState1 x version_1.stand.start) (same_snap _ _ _ _ _ version_1.holds opened.holds) version_1.stand.snapshot));
   at = at_of new s opened.durable (stands_by snap records s replayed.stand new.bytes (held_on old new snap records opened));
 }
 
 -- ---- version 1
 
 -- what version 1 does is what the last version does at the lifted state
-replays_first : (s : BenchState) (first : BenchState1) (rs : List (List ℕ)) (cs : List Command) → s ≡ lift first → Replays true s rs cs → Replays1 first rs cs × (fold s cs ≡ lift (fold_1 first cs))
-replays_first s first [] [] e h = (tt, e)
-replays_first s first [] (c ∷ cs) e h = absurd h
-replays_first s first (r ∷ rs) [] e h = absurd h
-replays_first s first (r ∷ rs) (c ∷ cs) e h =
-    let lifts = command-lifts first c h.0.1 in
-    let rest = replays_first (after s c) (after_1 first c) rs cs (ap (λ (x : BenchState). after x c) e ∙ sym lifts.after) (h.2) in
+replays_first : (s : BenchState) (version_1 : BenchState1) (rs : List (List ℕ)) (cs : List Command) → s ≡ lift version_1 → Replays true s rs cs → Replays1 version_1 rs cs × (fold s cs ≡ lift (fold_1 version_1 cs))
+replays_first s version_1 [] [] e h = (tt, e)
+replays_first s version_1 [] (c ∷ cs) e h = absurd h
+replays_first s version_1 (r ∷ rs) [] e h = absurd h
+replays_first s version_1 (r ∷ rs) (c ∷ cs) e h =
+    let lifts = command-lifts version_1 c h.0.1 in
+    let rest = replays_first (after s c) (after_1 version_1 c) rs cs (ap (λ (x : BenchState). after x c) e ∙ sym lifts.after) (h.2) in
     ((h.0, sym lifts.refusal ∙ subst (λ (x : BenchState). refusal x c ≡ None) e h.1, rest.0), rest.1)
 
-first_replays : (first : BenchState1) (rs : List (List ℕ)) (cs : List Command) → Replays1 first rs cs → Replays true (lift first) rs cs × (fold (lift first) cs ≡ lift (fold_1 first cs))
-first_replays first [] [] h = (tt, refl)
-first_replays first [] (c ∷ cs) h = absurd h
-first_replays first (r ∷ rs) [] h = absurd h
-first_replays first (r ∷ rs) (c ∷ cs) h =
-    let lifts = command-lifts first c h.0.1 in
-    let rest = first_replays (after_1 first c) rs cs (h.2) in (
+first_replays : (version_1 : BenchState1) (rs : List (List ℕ)) (cs : List Command) → Replays1 version_1 rs cs → Replays true (lift version_1) rs cs × (fold (lift version_1) cs ≡ lift (fold_1 version_1 cs))
+first_replays version_1 [] [] h = (tt, refl)
+first_replays version_1 [] (c ∷ cs) h = absurd h
+first_replays version_1 (r ∷ rs) [] h = absurd h
+first_replays version_1 (r ∷ rs) (c ∷ cs) h =
+    let lifts = command-lifts version_1 c h.0.1 in
+    let rest = first_replays (after_1 version_1 c) rs cs (h.2) in (
       (h.0, lifts.refusal ∙ h.1, subst (λ (x : BenchState). Replays true x rs cs) lifts.after rest.0),
       ap (λ (x : BenchState). fold x cs) (sym lifts.after) ∙ rest.1,
     )
@@ -115,23 +115,23 @@ first_replays first (r ∷ rs) (c ∷ cs) h =
 -- records that stand for a state by version 1 as the last version does it stand for it by version 1
 pub by_first : (file snap : List ℕ) (records : List (List ℕ)) (s : BenchState) → Holds file snap records → RecordsStandFor true snap records s → StandsForLifted file s
 by_first file snap records s holds stand =
-    let both = replays_first stand.start stand.snapshot.first records stand.commands stand.snapshot.lifted stand.replays in
+    let both = replays_first stand.start stand.snapshot.version_1 records stand.commands stand.snapshot.lifted stand.replays in
     record {
       snap = snap;
       records = records;
       holds = holds;
-      first = fold_1 stand.snapshot.first stand.commands;
-      stand = record { start = stand.snapshot.first; snapshot = stand.snapshot.spells; commands = stand.commands; replays = both.0; bounded = stand.bounded; state = refl };
+      version_1 = fold_1 stand.snapshot.version_1 stand.commands;
+      stand = record { start = stand.snapshot.version_1; snapshot = stand.snapshot.spells; commands = stand.commands; replays = both.0; bounded = stand.bounded; state = refl };
       lifted = stand.state ∙ both.1;
     }
 
 -- and the other way round
-pub first_by : (snap : List ℕ) (records : List (List ℕ)) (first : BenchState1) → RecordsStandFor1 snap records first → RecordsStandFor true snap records (lift first)
-first_by snap records first stand =
+pub first_by : (snap : List ℕ) (records : List (List ℕ)) (version_1 : BenchState1) → RecordsStandFor1 snap records version_1 → RecordsStandFor true snap records (lift version_1)
+first_by snap records version_1 stand =
     let both = first_replays stand.start records stand.commands stand.replays in
     record {
       start = lift stand.start;
-      snapshot = record { first = stand.start; spells = stand.snapshot; lifted = refl };
+      snapshot = record { version_1 = stand.start; spells = stand.snapshot; lifted = refl };
       commands = stand.commands;
       replays = both.0;
       bounded = stand.bounded;
@@ -162,7 +162,7 @@ migrated_session old mid new snap records cycles s lawful opened replayed moment
 }
   where
     of_last : StandsFor old.bytes s → ⊥
-    of_last last = not_both last.snap last.stand.start replayed.stand.snapshot.first last.stand.snapshot (subst (λ (x : List ℕ). SpellsState1 x replayed.stand.snapshot.first) (sym (same_snap _ _ _ _ _ last.holds opened.holds)) replayed.stand.snapshot.spells)
+    of_last last = not_both last.snap last.stand.start replayed.stand.snapshot.version_1 last.stand.snapshot (subst (λ (x : List ℕ). SpellsState1 x replayed.stand.snapshot.version_1) (sym (same_snap _ _ _ _ _ last.holds opened.holds)) replayed.stand.snapshot.spells)
 
 pub fails_migrating : (old mid new : DiskState) (snap : List ℕ) (records : List (List ℕ)) (cycles : ℕ) (s : BenchState) → IsLawful new → Opens old mid snap records → IsReplayed true snap records cycles s
     → LeavesOnly mid new (Either (λ c. Holds c snap records) (λ c. HoldsState c s)) → FailsMigrating old new
@@ -181,10 +181,10 @@ pair_of file snap records s held stands =
     (subst (λ (x : List ℕ). RecordsStandFor false x stands.records s) (same_snap _ _ _ _ _ stands.holds held) stands.stand)
 
 first_of : (file snap : List ℕ) (records : List (List ℕ)) (s : BenchState) → Holds file snap records → StandsForLifted file s → RecordsStandFor true snap records s
-first_of file snap records s held first =
-    subst (λ (x : BenchState). RecordsStandFor true snap records x) (sym first.lifted)
-    (subst (λ (x : List (List ℕ)). RecordsStandFor true snap x (lift first.first)) (same_pair _ _ _ _ _ first.holds held)
-    (subst (λ (x : List ℕ). RecordsStandFor true x first.records (lift first.first)) (same_snap _ _ _ _ _ first.holds held) (first_by first.snap first.records first.first first.stand)))
+first_of file snap records s held version_1 =
+    subst (λ (x : BenchState). RecordsStandFor true snap records x) (sym version_1.lifted)
+    (subst (λ (x : List (List ℕ)). RecordsStandFor true snap x (lift version_1.version_1)) (same_pair _ _ _ _ _ version_1.holds held)
+    (subst (λ (x : List ℕ). RecordsStandFor true x version_1.records (lift version_1.version_1)) (same_snap _ _ _ _ _ version_1.holds held) (first_by version_1.snap version_1.records version_1.version_1 version_1.stand)))
 
 -- a file that stands for a state by version 2 stands for no other
 pub one_state : (file : List ℕ) (s t : BenchState) → StandsFor file s → StandsByEither file t → s ≡ t
@@ -203,14 +203,14 @@ pub refuses_pair : (old new : DiskState) (snap : List ℕ) (records : List (List
 refuses_pair old new snap records lawful opened none = (
   (
     is_session old snap records lawful opened.holds,
-    λ s. ⊎_elim (λ stands. none false s (pair_of old.bytes snap records s opened.holds stands)) (λ first. none true s (first_of old.bytes snap records s opened.holds first)),
+    λ s. ⊎_elim (λ stands. none false s (pair_of old.bytes snap records s opened.holds stands)) (λ version_1. none true s (first_of old.bytes snap records s opened.holds version_1)),
   ),
   opened.rests,
 )
 
 pub refuses_store : (fault : OpenFault) (disk : DiskState) → RefusesOpen fault disk → RefusesSession fault disk
 refuses_store NotASession disk h = h
-refuses_store Damaged disk h = (h.0, λ s. ⊎_elim (λ stands. h.1 stands.snap stands.records stands.holds) (λ first. h.1 first.snap first.records first.holds))
+refuses_store Damaged disk h = (h.0, λ s. ⊎_elim (λ stands. h.1 stands.snap stands.records stands.holds) (λ version_1. h.1 version_1.snap version_1.records version_1.holds))
 refuses_store Device disk h = tt
 refuses_store NoMemory disk h = tt
 

@@ -9,10 +9,10 @@ use Rattle.mcs_model.specs.BenchState.{BenchState}
 use Rattle.mcs_model.specs.Command.{after}
 use Rattle.mcs_model.specs.Fold.{fold}
 use Rattle.mcs_session.specs.Stands.{StandsFor, IsAt}
-use Rattle.mcs_session.specs.Answers.{Acknowledges, MayLeave, Ticks}
+use Rattle.mcs_session.specs.SessionCalls.{Acknowledges, MayLeave, Ticks}
 use Rattle.mcs_session.specs.Standing.{SessionState, Standing}
 use Rattle.mcs_session.specs.LogUse.{UsesLog, use_after_all}
-use Rattle.mcs_session.specs.Kept.{Carries, IsSettled, IsSettledAt, IsSpaced, Kept, KeptWhole, StandsForPrefix, acknowledged_by, last_moment}
+use Rattle.mcs_session.specs.Kept.{Carries, IsIntact, IsIntactAt, IsSpaced, Kept, KeptWhole, StandsForPrefix, acknowledged_by, last_moment}
 use Rattle.mcs_session.proofs.Folds.{standing_after-further}
 use Rattle.mcs_session.proofs.Using.{ticked_by, timed_more, use_append}
 use Rattle.mcs_session.proofs.Prefixes.{acknowledged-append, acknowledged_all, acknowledged_before, acknowledged_few, acknowledged_none, last_append, prefix_all, prefix_more, prefix_none, prefix_one, prefix_past, spaced_append, spaced_le}
@@ -63,7 +63,7 @@ whole_more d e f s t cs ds a same b = record {
 }
 
 -- after a run in which no call failed
-pub settled_after : (d e : DiskState) (s t : BenchState) (cs : List Command) → t ≡ fold s cs → KeptWhole d e s cs → IsSettledAt e t
+pub settled_after : (d e : DiskState) (s t : BenchState) (cs : List Command) → t ≡ fold s cs → KeptWhole d e s cs → IsIntactAt e t
 settled_after d e s t cs same a = record {
   at = λ image now.
       let behind = spaced_le d.clock a.kept.moments a.kept.spaced in
@@ -74,7 +74,7 @@ settled_after d e s t cs same a = record {
   lawful = a.kept.lawful;
 }
 
-pub settle : (d : DiskState) (s : BenchState) → IsLawful d → IsAt d s → IsSettledAt d s
+pub settle : (d : DiskState) (s : BenchState) → IsLawful d → IsAt d s → IsIntactAt d s
 settle d s lawful at = record { at = at; lawful = lawful }
 
 -- ---- no command
@@ -90,7 +90,7 @@ goes_nowhere d e a = record {
 stays : (d : DiskState) → IsUntouched d d
 stays d = record { unwritten = refl; bytes = refl; clock = refl; images = λ image. (λ now. now, λ now. now); since = λ u image. (λ now. now, λ now. now) }
 
-pub stays_keeps : (d e : DiskState) (s : BenchState) → IsUntouched d e → IsSettledAt d s → IsLawful e → KeptWhole d e s []
+pub stays_keeps : (d e : DiskState) (s : BenchState) → IsUntouched d e → IsIntactAt d s → IsLawful e → KeptWhole d e s []
 stays_keeps d e s a h lawful = record {
   kept = record {
     moments = [];
@@ -106,22 +106,22 @@ stays_keeps d e s a h lawful = record {
   log = λ log uses. subst (λ (file : List ℕ). UsesLog file log) (sym a.bytes) uses;
 }
 
-pub whole_nothing : (d : DiskState) (s : BenchState) → IsSettledAt d s → KeptWhole d d s []
+pub whole_nothing : (d : DiskState) (s : BenchState) → IsIntactAt d s → KeptWhole d d s []
 whole_nothing d s h = stays_keeps d d s (stays d) h h.lawful
 
 -- ---- sessions
 
 -- the premise of the next stretch
-pub settled_on : (a b : SessionState) (cs : List Command) → Carries IsSettled a b cs → IsSettled a → IsSettled b
+pub settled_on : (a b : SessionState) (cs : List Command) → Carries IsIntact a b cs → IsIntact a → IsIntact b
 settled_on a b cs x given = record {
   honest = (subst (λ (m : Standing). IsTrue m.live) (sym x.standing) given.honest.0, x.honest.1 given.honest.1);
-  settled = settled_after a.disk b.disk a.standing.state b.standing.state cs (ap (λ (m : Standing). m.state) x.standing) (x.kept given);
+  intact = settled_after a.disk b.disk a.standing.state b.standing.state cs (ap (λ (m : Standing). m.state) x.standing) (x.kept given);
 }
 
-pub carries_nothing : (a : SessionState) → Carries IsSettled a a []
-carries_nothing a = record { standing = refl; same_faults = refl; size = refl; honest = (λ h. h, λ h. h); kept = λ given. whole_nothing a.disk a.standing.state given.settled }
+pub carries_nothing : (a : SessionState) → Carries IsIntact a a []
+carries_nothing a = record { standing = refl; same_faults = refl; size = refl; honest = (λ h. h, λ h. h); kept = λ given. whole_nothing a.disk a.standing.state given.intact }
 
-pub carries_more : (a b c : SessionState) (cs ds : List Command) → Carries IsSettled a b cs → Carries IsSettled b c ds → Carries IsSettled a c (cs ++ ds)
+pub carries_more : (a b c : SessionState) (cs ds : List Command) → Carries IsIntact a b cs → Carries IsIntact b c ds → Carries IsIntact a c (cs ++ ds)
 carries_more a b c cs ds x y = record {
   standing = y.standing ∙ standing_after-further a.standing b.standing cs ds x.standing;
   same_faults = y.same_faults ∙ x.same_faults;

@@ -7,7 +7,7 @@ use Rattle.mcs_model.specs.declared.command.Command.{Command}
 use Rattle.mcs_model.specs.BenchState.{BenchState}
 use Rattle.mcs_model.specs.Command.{refusal, after}
 use Rattle.mcs_model.specs.Fold.{fold}
-use Rattle.mcs_codec.specs.Codec.{Spells, SpellsBy, SpellsStateBy, is_first}
+use Rattle.mcs_codec.specs.Codec.{Spells, SpellsBy, SpellsStateBy, is_version_1}
 use Rattle.mcs_codec.proofs.CommandCodec.{same_command}
 use Rattle.mcs_codec.proofs.StateCodec.{first_told, same_state}
 use Rattle.mcs_model.specs.declared.limits.TheConstants.{REPLAY_CYCLES}
@@ -162,5 +162,5 @@ spells_has false r c h = refl
 spells_has true r c h = h.1
 
 -- records of a version are those of the version that their snapshot tells
-pub at_version : (v first : Bool) (snap : List ℕ) (records : List (List ℕ)) (s : BenchState) → first ≡ is_first snap → RecordsStandFor v snap records s → RecordsStandFor first snap records s
-at_version v first snap records s e pair = subst (λ w. RecordsStandFor w snap records s) (sym (first_told v snap pair.start pair.snapshot) ∙ sym e) pair
+pub at_version : (v version_1 : Bool) (snap : List ℕ) (records : List (List ℕ)) (s : BenchState) → version_1 ≡ is_version_1 snap → RecordsStandFor v snap records s → RecordsStandFor version_1 snap records s
+at_version v version_1 snap records s e pair = subst (λ w. RecordsStandFor w snap records s) (sym (first_told v snap pair.start pair.snapshot) ∙ sym e) pair

@@ -7,7 +7,7 @@ use Rattle.mcs_journal.specs.declared.fault.OpenFault.TheVariants.{NotASession, 
 use Rattle.mcs_model.specs.declared.command.Command.{Command}
 use Rattle.mcs_model.specs.BenchState.{BenchState}
 use Rattle.mcs_model.specs.Fold.{fold}
-use Rattle.mcs_session.specs.Answers.{RefusesSession}
+use Rattle.mcs_session.specs.SessionCalls.{RefusesSession}
 use Rattle.mcs_session.specs.Kept.{IsAfterPrefix, IsReopened, Kept, StandsForPrefix, acknowledged_by}
 use Rattle.mcs_session.specs.Stands.{StandsFor}
 use Rattle.mcs_session.proofs.Prefixes.{acknowledged_all, acknowledged_at, prefix_all, prefix_fewer, spaced_le}

@@ -4,14 +4,14 @@ use Rattle.std.proofs.lemmas.Grind.{common_steps}
 use Rattle.mcs_disk.specs.Disk.{DiskState, IsLawful}
 use Rattle.mcs_disk.specs.Moments.{Changes, Either, IsDurable, LeavesOnly}
 use Rattle.mcs_disk.proofs.Composing.{leaves_map, leaves_then}
-use Rattle.mcs_journal.specs.File.{HasRoom, Holds, spelled}
+use Rattle.mcs_journal.specs.File.{HasRoom, Holds, frames_of}
 use Rattle.mcs_journal.proofs.Unique.{same_snap, same_pair}
 use Rattle.mcs_model.specs.declared.command.Command.{Command}
 use Rattle.mcs_model.specs.declared.command.Command.TheVariants.{Wire, Load, Press, Release, Run, Step, Poke, Test, Reset, Break, Unbreak, Watch, Unwatch}
 use Rattle.mcs_model.specs.declared.limits.TheConstants.{REPLAY_CYCLES}
 use Rattle.mcs_model.specs.BenchState.{BenchState}
 use Rattle.mcs_model.specs.Command.{refusal, after}
-use Rattle.mcs_session.specs.Answers.{Acknowledges, MayLeave, Settles, Ticks}
+use Rattle.mcs_session.specs.SessionCalls.{Acknowledges, MayLeave, Settles, Ticks}
 use Rattle.mcs_codec.specs.Codec.{Spells}
 use Rattle.mcs_codec.specs.CommandBytes.{command_bytes}
 use Rattle.mcs_session.specs.Invariant.{HasMadeRoom, IsRecorded, IsReplayed}
@@ -50,7 +50,7 @@ leaves_same disk cycles s was = record {
   keeps = λ t c le left. left;
 }
 
-pub room_there : (disk : DiskState) (used bytes more cycles : ℕ) (s : BenchState) (was : IsRecorded disk cycles s) → used ≡ length (spelled was.stands.records)
+pub room_there : (disk : DiskState) (used bytes more cycles : ℕ) (s : BenchState) (was : IsRecorded disk cycles s) → used ≡ length (frames_of was.stands.records)
     → HasRoom used bytes → cycles + more ≤ REPLAY_CYCLES → HasMadeRoom disk disk bytes more cycles s
 room_there disk used bytes more cycles s was is room few =
     let count = was.count in
@@ -65,13 +65,13 @@ room_there disk used bytes more cycles s was is room few =
 -- ---- where there is none
 
 -- what is kept of the log is what the disk holds
-pub no_space : (disk : DiskState) (used bytes more cycles : ℕ) (s : BenchState) (was : IsRecorded disk cycles s) → used ≡ length (spelled was.stands.records)
+pub no_space : (disk : DiskState) (used bytes more cycles : ℕ) (s : BenchState) (was : IsRecorded disk cycles s) → used ≡ length (frames_of was.stands.records)
     → (HasRoom used bytes → cycles + more ≤ REPLAY_CYCLES → ⊥) → HasSpace disk.bytes bytes more → ⊥
 no_space disk used bytes more cycles s was is none there =
     let snap = same_snap _ _ _ _ _ there.stands.holds was.stands.holds in
     let records = same_pair _ _ _ _ _ there.stands.holds was.stands.holds in
     let commands = same_list false there.stands.snap was.stands.snap there.stands.records was.stands.records there.state s snap records there.stands.stand was.stands.stand in
-    let log : length (spelled there.stands.records) ≡ length (spelled was.stands.records) = ap (λ (rs : List (List ℕ)). length (spelled rs)) records in
+    let log : length (frames_of there.stands.records) ≡ length (frames_of was.stands.records) = ap (λ (rs : List (List ℕ)). length (frames_of rs)) records in
     let replay : log_cycles there.stands.stand.commands ≡ log_cycles was.stands.stand.commands = ap log_cycles commands.1 in
     let count = was.count in
     let room = there.log in
@@ -86,7 +86,7 @@ recorded_there (Ok x) old new used' cycles cycles' s was ok changes empty =
 recorded_there (Err e) old new used' cycles cycles' s was ok changes empty = absurd (cc ok)
 
 -- a snapshot took the place of the records, or the disk failed
-pub room_made : {T E : Type 0} (result : Result T E) (old new : DiskState) (used used' bytes more cycles cycles' : ℕ) (s : BenchState) (was : IsRecorded old cycles s) → used ≡ length (spelled was.stands.records)
+pub room_made : {T E : Type 0} (result : Result T E) (old new : DiskState) (used used' bytes more cycles cycles' : ℕ) (s : BenchState) (was : IsRecorded old cycles s) → used ≡ length (frames_of was.stands.records)
     → (HasRoom used bytes → cycles + more ≤ REPLAY_CYCLES → ⊥) → Changes 4 old new (λ c. Holds c was.stands.snap was.stands.records) (λ c. HoldsState c s) result
     → OnOk result ((used' ≡ 0) × (cycles' ≡ 0)) → OnOk result (HasMadeRoom old new bytes more cycles' s)
 room_made (Ok x) old new used used' bytes more cycles cycles' s was is none changes empty = record {

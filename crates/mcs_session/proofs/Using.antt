@@ -4,7 +4,7 @@ use Rattle.std.proofs.lemmas.Bool.{cases_lt, le-leb, lt-leb}
 use Rattle.mcs_codec.specs.Codec.{Spells}
 use Rattle.mcs_codec.specs.CommandBytes.{command_bytes}
 use Rattle.mcs_disk.specs.Disk.{DiskState}
-use Rattle.mcs_journal.specs.File.{Holds, framed, spelled}
+use Rattle.mcs_journal.specs.File.{Holds, frame_of, frames_of}
 use Rattle.mcs_journal.specs.declared.format.TheConstants.{LOG_SIZE}
 use Rattle.mcs_journal.proofs.Logs.{length-framed, spelled-push}
 use Rattle.mcs_journal.proofs.Unique.{same_snap, same_pair}
@@ -12,7 +12,7 @@ use Rattle.mcs_model.specs.declared.command.Command.{Command}
 use Rattle.mcs_model.specs.declared.limits.TheConstants.{REPLAY_CYCLES}
 use Rattle.mcs_model.specs.BenchState.{BenchState}
 use Rattle.mcs_model.specs.Command.{refusal, after}
-use Rattle.mcs_session.specs.Answers.{Ticks}
+use Rattle.mcs_session.specs.SessionCalls.{Ticks}
 use Rattle.mcs_session.specs.Cycles.{log_cycles, replay_cycles}
 use Rattle.mcs_session.specs.Invariant.{HasMadeRoom, IsRecorded, IsReplayed}
 use Rattle.mcs_session.specs.Kept.{last_moment}
@@ -29,7 +29,7 @@ same_use file a b x y =
     let snap = same_snap _ _ _ _ _ x.stands.holds y.stands.holds in
     let records = same_pair _ _ _ _ _ x.stands.holds y.stands.holds in
     let commands = same_list false x.stands.snap y.stands.snap x.stands.records y.stands.records x.state y.state snap records x.stands.stand y.stands.stand in
-    (x.bytes ∙ ap (λ (rs : List (List ℕ)). length (spelled rs)) records ∙ sym y.bytes, x.cycles ∙ ap log_cycles commands.1 ∙ sym y.cycles)
+    (x.bytes ∙ ap (λ (rs : List (List ℕ)). length (frames_of rs)) records ∙ sym y.bytes, x.cycles ∙ ap log_cycles commands.1 ∙ sym y.cycles)
 
 abbrev Room : LogUse → Command → Type 0
 Room log c = (log.bytes + 3 + length (command_bytes c) + 1 ≤ LOG_SIZE) × (log.cycles + replay_cycles c ≤ REPLAY_CYCLES)
@@ -50,8 +50,8 @@ decide log c =
 
 space_room : (file : List ℕ) (log : LogUse) (c : Command) → UsesLog file log → HasRoomFor file c → Room log c
 space_room file log c uses space =
-    let same = same_use file log (record { bytes = length (spelled space.stands.records); cycles = log_cycles space.stands.stand.commands }) uses (record { state = space.state; stands = space.stands; bytes = refl; cycles = refl }) in
-    let bytes : log.bytes ≡ length (spelled space.stands.records) = same.0 in
+    let same = same_use file log (record { bytes = length (frames_of space.stands.records); cycles = log_cycles space.stands.stand.commands }) uses (record { state = space.state; stands = space.stands; bytes = refl; cycles = refl }) in
+    let bytes : log.bytes ≡ length (frames_of space.stands.records) = same.0 in
     let cycles : log.cycles ≡ log_cycles space.stands.stand.commands = same.1 in
     let fits = space.log in
     let few = space.replay in
@@ -95,13 +95,13 @@ record_uses : (mid new : DiskState) (more cycles : ℕ) (s : BenchState) (c : Co
 record_uses mid new more cycles s c r was is_more spells accepted few held log uses =
     let so_far : IsReplayed false was.stands.snap was.stands.records cycles s = record { stand = was.stands.stand; count = was.count } in
     let replayed = replayed_more false was.stands.snap r was.stands.records cycles more s c so_far spells accepted is_more few in
-    let same = same_use mid.bytes log (record { bytes = length (spelled was.stands.records); cycles = cycles }) uses (record { state = s; stands = was.stands; bytes = refl; cycles = was.count }) in
-    let bytes : log.bytes ≡ length (spelled was.stands.records) = same.0 in
+    let same = same_use mid.bytes log (record { bytes = length (frames_of was.stands.records); cycles = cycles }) uses (record { state = s; stands = was.stands; bytes = refl; cycles = was.count }) in
+    let bytes : log.bytes ≡ length (frames_of was.stands.records) = same.0 in
     let spent : log.cycles ≡ cycles = same.1 in
     let count = replayed.count in
     let long : length r ≡ length (command_bytes c) = ap length spells.is in
-    let pushed : length (spelled (was.stands.records ++ r ∷ [])) ≡ length (spelled was.stands.records ++ framed r) = ap length (spelled-push was.stands.records r) in
-    let both = length-append (spelled was.stands.records) (framed r) in
+    let pushed : length (frames_of (was.stands.records ++ r ∷ [])) ≡ length (frames_of was.stands.records ++ frame_of r) = ap length (spelled-push was.stands.records r) in
+    let both = length-append (frames_of was.stands.records) (frame_of r) in
     let frame = length-framed r in
     record {
       state = after s c;

@@ -18,24 +18,24 @@ pub record IsRecorded (disk : DiskState) (cycles : ℕ) (s : BenchState) : Type 
 
 -- there is room for the bytes of a command and for a snapshot, and the cycles of the log are within
 -- their limit
-pub record IsReady (cycles : ℕ) (text snapshot : List ℕ) : Type 0 where
-  pub text_lent : length text ≡ MOST_RECORD
+pub record IsReady (cycles : ℕ) (payload snapshot : List ℕ) : Type 0 where
+  pub payload_lent : length payload ≡ MOST_RECORD
   pub snapshot_lent : length snapshot ≡ MOST_SNAPSHOT
   pub within : cycles ≤ REPLAY_CYCLES
 
 -- what an open session did is recorded on an honest disk
 pub record IsSession
     (disk : DiskState) (live : Bool) (cycles : ℕ) (s : BenchState)
-    (text snapshot : List ℕ) : Type 0 where
-  pub ready : IsReady cycles text snapshot
+    (payload snapshot : List ℕ) : Type 0 where
+  pub ready : IsReady cycles payload snapshot
   pub recorded : IsTrue live → disk.honest → IsRecorded disk cycles s
 
--- a snapshot and records, of version 1 where `first` is true, stand for this state, by commands of
+-- a snapshot and records, of version 1 where `version_1` is true, stand for this state, by commands of
 -- that many cycles
 pub record IsReplayed
-    (first : Bool) (snap : List ℕ) (records : List (List ℕ)) (cycles : ℕ)
+    (version_1 : Bool) (snap : List ℕ) (records : List (List ℕ)) (cycles : ℕ)
     (s : BenchState) : Type 0 where
-  pub stand : RecordsStandFor first snap records s
+  pub stand : RecordsStandFor version_1 snap records s
   pub count : cycles ≡ log_cycles stand.commands
 
 -- Room was made for a record of that many bytes and that many cycles: in no step where there was
@@ -49,7 +49,7 @@ pub record HasMadeRoom (old new : DiskState) (bytes more cycles : ℕ) (s : Benc
   pub recorded : IsRecorded new cycles s
 
 -- a pair stands on an honest disk, and it is all that is there
-pub record IsHeld (disk : DiskState) : Type 0 where
+pub record HasContents (disk : DiskState) : Type 0 where
   pub snap : List ℕ
   pub records : List (List ℕ)
   pub holds : Holds disk.bytes snap records

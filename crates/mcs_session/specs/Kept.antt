@@ -6,7 +6,7 @@ use Rattle.mcs_disk.specs.PowerCut.{IsLeftByCut}
 use Rattle.mcs_model.specs.declared.command.Command.{Command}
 use Rattle.mcs_model.specs.BenchState.{BenchState}
 use Rattle.mcs_model.specs.Fold.{fold}
-use Rattle.mcs_session.specs.Answers.{OpensSession}
+use Rattle.mcs_session.specs.SessionCalls.{OpensSession}
 use Rattle.mcs_session.specs.LogUse.{LogUse, UsesLog, moments_of, use_after_all}
 use Rattle.mcs_session.specs.Standing.{Premise, SessionState, standing_after}
 use Rattle.mcs_session.specs.Stands.{StandsFor, IsAt}
@@ -73,14 +73,14 @@ abbrev pub IsOpenOnHonestDisk : Premise
 IsOpenOnHonestDisk a = IsTrue a.standing.live × a.disk.honest
 
 -- whatever a power cut now leaves stands for this state
-pub record IsSettledAt (disk : DiskState) (s : BenchState) : Type 0 where
+pub record IsIntactAt (disk : DiskState) (s : BenchState) : Type 0 where
   pub at : IsAt disk s
   pub lawful : IsLawful disk
 
 -- the premise as the steps of a run hand it on
-pub record IsSettled (a : SessionState) : Type 0 where
+pub record IsIntact (a : SessionState) : Type 0 where
   pub honest : IsOpenOnHonestDisk a
-  pub settled : IsSettledAt a.disk a.standing.state
+  pub intact : IsIntactAt a.disk a.standing.state
 
 -- The session went on by these commands. `Given` is the premise of what the disk keeps.
 pub record Carries (Given : Premise) (a b : SessionState) (cs : List Command) : Type 0 where

@@ -3,6 +3,6 @@ pub mod Version1
 pub mod Stands
 pub mod LogUse
 pub mod Standing
-pub mod Answers
+pub mod SessionCalls
 pub mod Invariant
 pub mod Kept

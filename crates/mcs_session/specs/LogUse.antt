@@ -1,7 +1,7 @@
 -- How much of a log is in use, and when the commands of a run are acknowledged for it.
 use Rattle.std.specs.Prelude.{◌≡◌, ◌+◌, ◌&&◌, Bool, ℕ, List, [], ◌∷◌, length, nat_le, if◌then◌else◌}
 use Rattle.mcs_codec.specs.CommandBytes.{command_bytes}
-use Rattle.mcs_journal.specs.File.{spelled}
+use Rattle.mcs_journal.specs.File.{frames_of}
 use Rattle.mcs_journal.specs.declared.format.TheConstants.{LOG_SIZE}
 use Rattle.mcs_model.specs.declared.command.Command.{Command}
 use Rattle.mcs_model.specs.declared.limits.TheConstants.{REPLAY_CYCLES}
@@ -18,7 +18,7 @@ pub record LogUse : Type 0 where
 pub record UsesLog (file : List ℕ) (log : LogUse) : Type 0 where
   pub state : BenchState
   pub stands : StandsFor file state
-  pub bytes : log.bytes ≡ length (spelled stands.records)
+  pub bytes : log.bytes ≡ length (frames_of stands.records)
   pub cycles : log.cycles ≡ log_cycles stands.stand.commands
 
 -- there is room for the record of a command: for its bytes with one more commit byte, and for its

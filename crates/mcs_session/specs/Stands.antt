@@ -6,7 +6,7 @@ use Rattle.std.specs.Prelude.{◌≡◌, ◌⊎◌, ◌+◌, ◌≤◌, ℕ, Boo
 use Rattle.mcs_codec.specs.Codec.{SpellsBy, SpellsState, SpellsStateBy}
 use Rattle.mcs_codec.specs.CommandBytes.{command_bytes}
 use Rattle.mcs_disk.specs.Disk.{DiskState}
-use Rattle.mcs_journal.specs.File.{HasRoom, Holds, spelled}
+use Rattle.mcs_journal.specs.File.{HasRoom, Holds, frames_of}
 use Rattle.mcs_model.specs.declared.command.Command.{Command}
 use Rattle.mcs_session.specs.Cycles.{log_cycles, replay_cycles}
 use Rattle.mcs_session.specs.Version1.{StandsForLifted}
@@ -17,19 +17,19 @@ use Rattle.mcs_model.specs.Fold.{fold}
 
 -- these records spell these commands, accepted in turn from this state
 abbrev pub Replays : Bool → BenchState → List (List ℕ) → List Command → Type 0
-Replays first s [] [] = Unit {0}
-Replays first s [] (c ∷ cs) = ⊥
-Replays first s (r ∷ rs) [] = ⊥
-Replays first s (r ∷ rs) (c ∷ cs) =
-    SpellsBy first r c × (refusal s c ≡ None) × Replays first (after s c) rs cs
+Replays version_1 s [] [] = Unit {0}
+Replays version_1 s [] (c ∷ cs) = ⊥
+Replays version_1 s (r ∷ rs) [] = ⊥
+Replays version_1 s (r ∷ rs) (c ∷ cs) =
+    SpellsBy version_1 r c × (refusal s c ≡ None) × Replays version_1 (after s c) rs cs
 
 -- a snapshot and the records after it stand for this state
 pub record RecordsStandFor
-    (first : Bool) (snap : List ℕ) (records : List (List ℕ)) (s : BenchState) : Type 0 where
+    (version_1 : Bool) (snap : List ℕ) (records : List (List ℕ)) (s : BenchState) : Type 0 where
   pub start : BenchState
-  pub snapshot : SpellsStateBy first snap start
+  pub snapshot : SpellsStateBy version_1 snap start
   pub commands : List Command
-  pub replays : Replays first start records commands
+  pub replays : Replays version_1 start records commands
   pub bounded : log_cycles commands ≤ REPLAY_CYCLES
   pub state : s ≡ fold start commands
 
@@ -67,7 +67,7 @@ StandsSince t disk s = (image : List ℕ) → disk.since t image → StandsByEit
 pub record HasSpace (file : List ℕ) (bytes cycles : ℕ) : Type 0 where
   pub state : BenchState
   pub stands : StandsFor file state
-  pub log : HasRoom (length (spelled stands.records)) bytes
+  pub log : HasRoom (length (frames_of stands.records)) bytes
   pub replay : log_cycles stands.stand.commands + cycles ≤ REPLAY_CYCLES
 
 -- a file has room for the record of a command

@@ -34,6 +34,6 @@ pub record StandsForLifted (file : List ℕ) (s : BenchState) : Type 0 where
   pub snap : List ℕ
   pub records : List (List ℕ)
   pub holds : Holds file snap records
-  pub first : BenchState1
-  pub stand : RecordsStandFor1 snap records first
-  pub lifted : s ≡ lift first
+  pub version_1 : BenchState1
+  pub stand : RecordsStandFor1 snap records version_1
+  pub lifted : s ≡ lift version_1

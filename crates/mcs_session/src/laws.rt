@@ -6,7 +6,7 @@ ghost use Rattle.mcs_journal.specs.declared.fault.OpenFault.{OpenFault};
 ghost use Rattle.mcs_model.specs.declared.command.Command.{Command};
 ghost use Rattle.mcs_model.specs.BenchState.{BenchState};
 ghost use Rattle.mcs_model.specs.Fold.{fold};
-ghost use Rattle.mcs_session.specs.Answers.{LeftRefused, OpensSession, RefusesSession};
+ghost use Rattle.mcs_session.specs.SessionCalls.{LeftRefused, OpensSession, RefusesSession};
 ghost use Rattle.mcs_session.specs.Kept.{IsAfterPrefix, IsReopened, Kept, StandsForPrefix, acknowledged_by};
 ghost use Rattle.mcs_session.specs.Stands.{HoldsState, IsAtLifted, StandsByEither, StandsFor, StandsSince};
 

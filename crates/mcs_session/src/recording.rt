@@ -6,7 +6,7 @@ ghost use Rattle.mcs_codec.specs.CommandBytes.{command_bytes};
 ghost use Rattle.mcs_disk.specs.Moments.{CountsFault, LeavesOnly};
 ghost use Rattle.mcs_journal.specs.File.{HasRoom};
 ghost use Rattle.mcs_model.specs.Command.{after, refusal};
-ghost use Rattle.mcs_session.specs.Answers.{Acknowledges, MayLeave};
+ghost use Rattle.mcs_session.specs.SessionCalls.{Acknowledges, MayLeave};
 ghost use Rattle.mcs_session.specs.Invariant.{HasMadeRoom, IsReady, IsRecorded, ReplacesAll};
 ghost use Rattle.mcs_session.specs.Stands.{StandsFor};
 

@@ -3,7 +3,7 @@ ghost use Rattle.std.specs.Prelude.{◌≡◌, ◌||◌, not, Bool, IfOk, IfSome
 ghost use Rattle.mcs_model.specs.BenchState.{BenchState};
 ghost use Rattle.mcs_session.specs.Invariant.{IsReplayed};
 ghost use Rattle.mcs_session.specs.Cycles.{replay_cycles};
-ghost use Rattle.mcs_codec.specs.Codec.{is_first};
+ghost use Rattle.mcs_codec.specs.Codec.{is_version_1};
 ghost use Rattle.mcs_version1.specs.Command.{in_version_1};
 ghost use Rattle.mcs_session.specs.Stands.{RecordsStandFor};
 
@@ -20,7 +20,7 @@ pub struct Replayed {
     pub bench: Bench,
     pub cycles: u32,
     /// Whether the snapshot was of version 1.
-    pub first: bool,
+    pub version_1: bool,
 }
 
 /// The instruction cycles that a command counts for in the log.
@@ -35,17 +35,17 @@ pub(crate) fn replay_cycles(command: &Command) -> u32
 }
 
 /// Whether a snapshot tells that it is of version 1.
-fn is_first(snap: &[u8]) -> bool
-    ensures { result ≡ is_first snap.now }
+fn is_version_1(snap: &[u8]) -> bool
+    ensures { result ≡ is_version_1 snap.now }
 {
     version_of(snap).unwrap_or(2) == 1
 }
 
-/// Whether a command may stand in a log, of version 1 where `first` is true.
-fn may_stand(first: bool, command: &Command) -> bool
-    ensures { result ≡ (not first || in_version_1 command.now) }
+/// Whether a command may stand in a log, of version 1 where `version_1` is true.
+fn may_stand(version_1: bool, command: &Command) -> bool
+    ensures { result ≡ (not version_1 || in_version_1 command.now) }
 {
-    !first || in_version_1(command)
+    !version_1 || in_version_1(command)
 }
 
 /// The bench that a snapshot and the records after it stand for, or none. All are of the version
@@ -56,7 +56,7 @@ pub(crate) fn replay(
     records: &Records,
 ) -> Result<Option<Replayed>, AllocError>
     ensures some { IfOk result (λ found.
-        IfSome found (λ r. IsReplayed r.first snap.now records.now r.cycles r.bench)) }
+        IfSome found (λ r. IsReplayed r.version_1 snap.now records.now r.cycles r.bench)) }
     ensures none { IfOk result (λ found.
         IfNone found ((v : Bool) (s : BenchState) → RecordsStandFor v snap.now records.now s → ⊥)) }
 {
@@ -65,7 +65,7 @@ pub(crate) fn replay(
         Ok(None) => return Ok(None),
         Err(refused) => return Err(refused),
     };
-    let first = is_first(snap);
+    let version_1 = is_version_1(snap);
     let mut cycles = 0;
     let mut at = 0;
     while at < records.len() {
@@ -74,7 +74,7 @@ pub(crate) fn replay(
             Ok(None) => return Ok(None),
             Err(refused) => return Err(refused),
         };
-        if !may_stand(first, &command) {
+        if !may_stand(version_1, &command) {
             return Ok(None);
         }
         if bench.check(&command).is_err() {
@@ -91,6 +91,6 @@ pub(crate) fn replay(
     Ok(Some(Replayed {
         bench,
         cycles,
-        first,
+        version_1,
     }))
 }

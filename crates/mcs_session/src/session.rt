@@ -1,11 +1,11 @@
 //! A bench whose commands are recorded on a disk.
 ghost use Rattle.std.specs.Prelude.{◌≡◌, ◌≢◌, ◌⊎◌, ◌↔◌, IsTrue, true, false, IsErrAnd, IfOk, IfErr};
 ghost use Rattle.mcs_disk.specs.Moments.{CountsFault, WritesNothing};
-ghost use Rattle.mcs_journal.specs.Answers.{RefusesCreate};
+ghost use Rattle.mcs_journal.specs.StoreCalls.{RefusesCreate};
 ghost use Rattle.mcs_model.specs.BenchState.{new_bench_state};
 ghost use Rattle.mcs_session.specs.Stands.{StandsFor, IsAt};
-ghost use Rattle.mcs_session.specs.Answers.{Applied, Closes, CreatesSession, LeftRefused, MaySettle, OpensSession, Recorded, RefusesSession, Settled};
-ghost use Rattle.mcs_session.specs.Invariant.{IsHeld, IsReady, IsRecorded, MayReplaceAll, ReplacedAll};
+ghost use Rattle.mcs_session.specs.SessionCalls.{Applied, Closes, CreatesSession, LeftRefused, MaySettle, OpensSession, Recorded, RefusesSession, Settled};
+ghost use Rattle.mcs_session.specs.Invariant.{HasContents, IsReady, IsRecorded, MayReplaceAll, ReplacedAll};
 
 use crate::fault::SessionFault;
 use crate::recording::{CommandLog, encode_state, log_buffers};
@@ -238,28 +238,28 @@ fn begin<D: Disk + Drop>(
 ) -> Result<Session<D>, (OpenFault, D)>
     requires live { IsTrue store.live }
     requires ready { IsReady replayed.cycles buffers.0.items buffers.1.items }
-    requires recorded { replayed.first ≡ false → (D.state store.disk).honest
+    requires recorded { replayed.version_1 ≡ false → (D.state store.disk).honest
         → IsRecorded (D.state store.disk) replayed.cycles replayed.bench }
-    requires held { (D.state store.disk).honest → IsHeld (D.state store.disk) }
+    requires held { (D.state store.disk).honest → HasContents (D.state store.disk) }
     ensures open { IfOk result (λ s. IsTrue s.live × (s.state ≡ replayed.bench)) }
     ensures counts { IfOk result (λ s. CountsFault (D.state store.disk) (D.state s.disk) ⊥) }
-    ensures same { replayed.first ≡ false → IfOk result (λ s. s.disk ≡ store.disk) }
-    ensures first { replayed.first ≡ true → (D.state store.disk).honest
+    ensures same { replayed.version_1 ≡ false → IfOk result (λ s. s.disk ≡ store.disk) }
+    ensures version_1 { replayed.version_1 ≡ true → (D.state store.disk).honest
         → IfOk result (λ s. ReplacedAll (D.state store.disk) (D.state s.disk) replayed.bench) }
-    ensures refused { IfErr result (λ r. (r.0 ≡ OpenFault.Device) × ((replayed.first ≡ true)
+    ensures refused { IfErr result (λ r. (r.0 ≡ OpenFault.Device) × ((replayed.version_1 ≡ true)
         × CountsFault (D.state store.disk) (D.state r.1) (Unit {0}))) }
     ensures failed { (D.state store.disk).honest
         → IfErr result (λ r. MayReplaceAll (D.state store.disk) (D.state r.1) replayed.bench) }
 {
     let (payload, snapshot) = buffers;
-    let (bench, first) = (replayed.bench, replayed.first);
+    let (bench, version_1) = (replayed.bench, replayed.version_1);
     let mut log = CommandLog {
         store,
         cycles: replayed.cycles,
         payload,
         snapshot,
     };
-    if !first {
+    if !version_1 {
         return Ok(Session { log, bench });
     }
     match log.checkpoint(&bench) {

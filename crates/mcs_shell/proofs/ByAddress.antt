@@ -10,7 +10,7 @@ use Rattle.mcs_model.specs.declared.command.Command.{Command}
 use Rattle.mcs_model.specs.declared.command.Command.TheVariants as command
 use Rattle.mcs_source.specs.declared.fault.SourceFault.{SourceFault}
 use Rattle.mcs_shell.specs.declared.spelling.TextRefusal.{TextRefusal}
-use Rattle.mcs_shell.specs.Spelling.{by_address, load_command, placed}
+use Rattle.mcs_shell.specs.Spelling.{by_address, load_command, insert_pair}
 use Rattle.mcs_asm.proofs.CellPairs.{Contains-head, Contains-cons_cases}
 
 -- ---- elements
@@ -76,13 +76,13 @@ same_rising (x ∷ xs) (y ∷ ys) h k to from =
 
 -- ---- one pair more
 
-placed_below : (p q : ℕ × ℕ) (qs : List (ℕ × ℕ)) → p.0 < q.0 → placed p (q ∷ qs) ≡ p ∷ q ∷ qs
+placed_below : (p q : ℕ × ℕ) (qs : List (ℕ × ℕ)) → p.0 < q.0 → insert_pair p (q ∷ qs) ≡ p ∷ q ∷ qs
 placed_below p q qs h = let e : nat_lt p.0 q.0 ≡ true = search rules in rw e refl
 
-placed_above : (p q : ℕ × ℕ) (qs : List (ℕ × ℕ)) → q.0 < p.0 → placed p (q ∷ qs) ≡ q ∷ placed p qs
+placed_above : (p q : ℕ × ℕ) (qs : List (ℕ × ℕ)) → q.0 < p.0 → insert_pair p (q ∷ qs) ≡ q ∷ insert_pair p qs
 placed_above p q qs h = let e : nat_lt p.0 q.0 ≡ false = search rules in let f : nat_lt q.0 p.0 ≡ true = search rules in rw (e, f) refl
 
-placed_same : (p q : ℕ × ℕ) (qs : List (ℕ × ℕ)) → p.0 ≡ q.0 → placed p (q ∷ qs) ≡ q ∷ qs
+placed_same : (p q : ℕ × ℕ) (qs : List (ℕ × ℕ)) → p.0 ≡ q.0 → insert_pair p (q ∷ qs) ≡ q ∷ qs
 placed_same p q qs h = let e : nat_lt p.0 q.0 ≡ false = search rules in let f : nat_lt q.0 p.0 ≡ false = search rules in rw (e, f) refl
 
 tri : (m n : ℕ) → (m < n) ⊎ ((n < m) ⊎ (m ≡ n))
@@ -91,38 +91,38 @@ tri m n = elim (cases_lt m n) [
   | inr le ↦ elim (cases_lt n m) [ inl lt ↦ inr (inl lt) | inr ge ↦ inr (inr (omega (arith, le, ge))) ]
 ]
 
-placed_has : (p : ℕ × ℕ) (qs : List (ℕ × ℕ)) (r : ℕ × ℕ) → Contains (placed p qs) r → (p ≡ r) ⊎ Contains qs r
+placed_has : (p : ℕ × ℕ) (qs : List (ℕ × ℕ)) (r : ℕ × ℕ) → Contains (insert_pair p qs) r → (p ≡ r) ⊎ Contains qs r
 placed_has p [] r h = Contains-cons_cases p [] r h
 placed_has p (q ∷ qs) r h = elim (tri p.0 q.0) [
   | inl lt ↦ Contains-cons_cases p (q ∷ qs) r (subst (λ (v : List (ℕ × ℕ)). Contains v r) (placed_below p q qs lt) h)
-  | inr (inl gt) ↦ elim (Contains-cons_cases q (placed p qs) r (subst (λ (v : List (ℕ × ℕ)). Contains v r) (placed_above p q qs gt) h)) [
+  | inr (inl gt) ↦ elim (Contains-cons_cases q (insert_pair p qs) r (subst (λ (v : List (ℕ × ℕ)). Contains v r) (placed_above p q qs gt) h)) [
     | inl e ↦ inr (subst (λ (v : ℕ × ℕ). Contains (q ∷ qs) v) e (Contains-head q qs))
     | inr more ↦ elim (placed_has p qs r more) [ inl e ↦ inl e | inr old ↦ inr (in_rest q qs r old) ]
   ]
   | inr (inr e) ↦ inr (subst (λ (v : List (ℕ × ℕ)). Contains v r) (placed_same p q qs e) h)
 ]
 
-placed_keeps : (p : ℕ × ℕ) (qs : List (ℕ × ℕ)) (r : ℕ × ℕ) → Contains qs r → Contains (placed p qs) r
+placed_keeps : (p : ℕ × ℕ) (qs : List (ℕ × ℕ)) (r : ℕ × ℕ) → Contains qs r → Contains (insert_pair p qs) r
 placed_keeps p [] r h = absurd (in_none r h)
 placed_keeps p (q ∷ qs) r h = elim (tri p.0 q.0) [
   | inl lt ↦ subst (λ (v : List (ℕ × ℕ)). Contains v r) (sym (placed_below p q qs lt)) (in_rest p (q ∷ qs) r h)
   | inr (inl gt) ↦ subst (λ (v : List (ℕ × ℕ)). Contains v r) (sym (placed_above p q qs gt)) (elim (Contains-cons_cases q qs r h) [
-    | inl e ↦ subst (λ (v : ℕ × ℕ). Contains (q ∷ placed p qs) v) e (Contains-head q (placed p qs))
-    | inr old ↦ in_rest q (placed p qs) r (placed_keeps p qs r old)
+    | inl e ↦ subst (λ (v : ℕ × ℕ). Contains (q ∷ insert_pair p qs) v) e (Contains-head q (insert_pair p qs))
+    | inr old ↦ in_rest q (insert_pair p qs) r (placed_keeps p qs r old)
   ])
   | inr (inr e) ↦ subst (λ (v : List (ℕ × ℕ)). Contains v r) (sym (placed_same p q qs e)) h
 ]
 
 -- the pair itself, where no other has its address
-placed_in : (p : ℕ × ℕ) (qs : List (ℕ × ℕ)) → ((q : ℕ × ℕ) → Contains qs q → p.0 ≡ q.0 → p ≡ q) → Contains (placed p qs) p
+placed_in : (p : ℕ × ℕ) (qs : List (ℕ × ℕ)) → ((q : ℕ × ℕ) → Contains qs q → p.0 ≡ q.0 → p ≡ q) → Contains (insert_pair p qs) p
 placed_in p [] one = Contains-head p []
 placed_in p (q ∷ qs) one = elim (tri p.0 q.0) [
   | inl lt ↦ subst (λ (v : List (ℕ × ℕ)). Contains v p) (sym (placed_below p q qs lt)) (Contains-head p (q ∷ qs))
-  | inr (inl gt) ↦ subst (λ (v : List (ℕ × ℕ)). Contains v p) (sym (placed_above p q qs gt)) (in_rest q (placed p qs) p (placed_in p qs (λ r h. one r (in_rest q qs r h))))
+  | inr (inl gt) ↦ subst (λ (v : List (ℕ × ℕ)). Contains v p) (sym (placed_above p q qs gt)) (in_rest q (insert_pair p qs) p (placed_in p qs (λ r h. one r (in_rest q qs r h))))
   | inr (inr e) ↦ subst (λ (v : List (ℕ × ℕ)). Contains v p) (sym (placed_same p q qs e)) (subst (λ (v : ℕ × ℕ). Contains (q ∷ qs) v) (sym (one q (Contains-head q qs) e)) (Contains-head q qs))
 ]
 
-placed_rises : (p : ℕ × ℕ) (qs : List (ℕ × ℕ)) → Rises qs → Rises (placed p qs)
+placed_rises : (p : ℕ × ℕ) (qs : List (ℕ × ℕ)) → Rises qs → Rises (insert_pair p qs)
 placed_rises p [] h = ((λ q a. absurd (in_none q a)), tt)
 placed_rises p (q ∷ qs) h = elim (tri p.0 q.0) [
   | inl lt ↦ subst Rises (sym (placed_below p q qs lt)) (
@@ -158,7 +158,7 @@ by_has (p ∷ ps) r h = elim (placed_has p (by_address ps) r h) [
 by_all : (ps : List (ℕ × ℕ)) (r : ℕ × ℕ) → ((p q : ℕ × ℕ) → Contains ps p → Contains ps q → p.0 ≡ q.0 → p ≡ q) → Contains ps r → Contains (by_address ps) r
 by_all [] r one h = h
 by_all (p ∷ ps) r one h = elim (Contains-cons_cases p ps r h) [
-  | inl e ↦ subst (λ (v : ℕ × ℕ). Contains (placed p (by_address ps)) v) e (placed_in p (by_address ps) (λ q a same. one p q (Contains-head p ps) (in_rest p ps q (by_has ps q a)) same))
+  | inl e ↦ subst (λ (v : ℕ × ℕ). Contains (insert_pair p (by_address ps)) v) e (placed_in p (by_address ps) (λ q a same. one p q (Contains-head p ps) (in_rest p ps q (by_has ps q a)) same))
   | inr more ↦ placed_keeps p (by_address ps) r (by_all ps r (λ a b x y same. one a b (in_rest p ps a x) (in_rest p ps b y) same) more)
 ]
 

@@ -14,7 +14,7 @@ use Rattle.mcs_shell.specs.Headline.{SurvivesPowerCuts}
 use Rattle.mcs_shell.specs.InFile.{IsFoundAgain, SurvivesInFile}
 use Rattle.mcs_shell.specs.RefusalNumbers.{open_fault_number}
 use Rattle.mcs_shell.specs.Shell.{Run}
-use Rattle.mcs_shell.specs.Stage.{staged}
+use Rattle.mcs_shell.specs.Stage.{stage_of}
 use Rattle.mcs_shell.proofs.Surviving.{honest_after, survives}
 use Rattle.mcs_shell.proofs.InTurn.{answers_of_run}
 
@@ -35,8 +35,8 @@ number_of fault number told (inr is) = inr (told ∙ ap open_fault_number is)
 
 pub survives_in_file : (run : Run as_disk) → IsOpenOnHonestDisk (session_state as_disk run.before) → SurvivesInFile run
 survives_in_file run given =
-    let a = staged as_disk run.before run.out in
-    let b = staged as_disk run.after run.out' in
+    let a = stage_of as_disk run.before run.out in
+    let b = stage_of as_disk run.after run.out' in
     let honest : (as_disk run.after.disk).honest = honest_after run.end run.reader run.reader' a b run.ran given.1 in
     let kept : SurvivesPowerCuts as_disk (session_state as_disk run.before) (as_disk run.after.disk) run.ran.served.met =
     survives as_disk (λ (e : FileDisk) is. lawful _ e.faults e.bytes.items e.history.start e.history.calls e.kept) run.end run.reader run.reader' a b run.ran given in

@@ -10,7 +10,7 @@ use Rattle.mcs_lines.specs.declared.requests.TextKind.{TextKind}
 use Rattle.mcs_model.specs.declared.command.Command.{Command}
 use Rattle.mcs_model.specs.BenchState.{BenchState}
 use Rattle.mcs_model.specs.declared.limits.TheConstants.{INPUT_BYTES}
-use Rattle.mcs_session.specs.Kept.{IsOpenOnHonestDisk, IsSettled}
+use Rattle.mcs_session.specs.Kept.{IsOpenOnHonestDisk, IsIntact}
 use Rattle.mcs_session.specs.Standing.{Premise, SessionState}
 use Rattle.mcs_shell.specs.declared.ends.ShellEnd.{ShellEnd}
 use Rattle.mcs_shell.specs.declared.ends.ShellEnd.TheVariants.{End, ReadFault, WriteFault, DeviceFault, InputLimit, NoMemory}
@@ -24,7 +24,7 @@ use Rattle.mcs_shell.specs.Inputs.{Input, BadText, Commands, InText, Pending, fr
 use Rattle.mcs_shell.specs.Serving.{Feeds, GotSome, Leaves, Meets, Wrote}
 use Rattle.mcs_shell.specs.Shell.{EndsBy, IsNear, RanGiven, ReadSome}
 use Rattle.mcs_shell.specs.Stage.{KnownBytes, Stage, with_out}
-use Rattle.mcs_shell.specs.Transcript.{Step, commands, halt_after, halt_of, in_turn, inputs_in, reached}
+use Rattle.mcs_shell.specs.Transcript.{Step, commands, halt_after, halt_of, in_turn, inputs_in, reached_commands}
 use Rattle.mcs_shell.proofs.LineFeeds.{after-commands, after-cut, after-no_end, after-whole}
 use Rattle.mcs_shell.proofs.Served.{halt-append, has_failed, some_apart}
 use Rattle.mcs_shell.proofs.Steps.{feeds_more, feeds_nothing, meets_nothing, serves_more}
@@ -35,8 +35,8 @@ abbrev pub meets_as : (Given : Premise) (xs ys : List Input) (a b : Stage) (halt
 meets_as Given xs ys a b halted e m = record { met = m.met; serves = m.serves; halts = m.halts; not_met = m.not_met; spelled = e ∙ m.spelled; all_met = m.all_met }
 
 -- these bytes, and then what is unfinished
-abbrev pub meets_then : (whole : Bool) (a b c : Stage) (l k : Pending) (bytes : List ℕ) (halted : Option ShellEnd) → Feeds a b l k bytes None → Meets IsSettled (inputs_after k [] whole) b c halted
-    → Meets IsSettled (inputs_after l (bytes ++ []) whole) a c halted
+abbrev pub meets_then : (whole : Bool) (a b c : Stage) (l k : Pending) (bytes : List ℕ) (halted : Option ShellEnd) → Feeds a b l k bytes None → Meets IsIntact (inputs_after k [] whole) b c halted
+    → Meets IsIntact (inputs_after l (bytes ++ []) whole) a c halted
 meets_then whole a b c l k bytes halted x y = record {
   met = x.met ++ y.met;
   serves = serves_more a b c x.met y.met x.halts x.serves y.serves;
@@ -49,23 +49,23 @@ meets_then whole a b c l k bytes halted x y = record {
   all_met = y.all_met;
 }
 
-abbrev pub meets_halted : (whole : Bool) (a b : Stage) (p q : Pending) (bytes : List ℕ) (cause : ShellEnd) → Feeds a b p q bytes (Some cause) → Meets IsSettled (inputs_after p (bytes ++ []) whole) a b (Some cause)
+abbrev pub meets_halted : (whole : Bool) (a b : Stage) (p q : Pending) (bytes : List ℕ) (cause : ShellEnd) → Feeds a b p q bytes (Some cause) → Meets IsIntact (inputs_after p (bytes ++ []) whole) a b (Some cause)
 meets_halted whole a b p q bytes cause x = record { met = x.met; serves = x.serves; halts = x.halts; not_met = x.not_met [] whole; spelled = x.spelled [] whole; all_met = λ none. absurd (some_apart cause none) }
 
 -- ---- where input ended
 
-pub finished_empty : (a : Stage) (p : Pending) → length p.line ≡ 0 → p.mode ≡ Commands → Meets IsSettled (inputs_after p [] true) a a None
-finished_empty a p none is = meets_as IsSettled (inputs_after p [] true) [] a a None (after-commands p none is) (meets_nothing a)
+pub finished_empty : (a : Stage) (p : Pending) → length p.line ≡ 0 → p.mode ≡ Commands → Meets IsIntact (inputs_after p [] true) a a None
+finished_empty a p none is = meets_as IsIntact (inputs_after p [] true) [] a a None (after-commands p none is) (meets_nothing a)
 
-pub finished_text : (a b : Stage) (p : Pending) (kind : TextKind) (text : List ℕ) (halted : Option ShellEnd) → length p.line ≡ 0 → p.mode ≡ InText kind text → Meets IsSettled (BadText NoEnd ∷ []) a b halted → Meets IsSettled (inputs_after p [] true) a b halted
-finished_text a b p kind text halted none is m = meets_as IsSettled (inputs_after p [] true) (BadText NoEnd ∷ []) a b halted (after-no_end p kind text none is) m
+pub finished_text : (a b : Stage) (p : Pending) (kind : TextKind) (text : List ℕ) (halted : Option ShellEnd) → length p.line ≡ 0 → p.mode ≡ InText kind text → Meets IsIntact (BadText NoEnd ∷ []) a b halted → Meets IsIntact (inputs_after p [] true) a b halted
+finished_text a b p kind text halted none is m = meets_as IsIntact (inputs_after p [] true) (BadText NoEnd ∷ []) a b halted (after-no_end p kind text none is) m
 
 -- as if a line feed had come
-pub finished_line : (a b c : Stage) (p q : Pending) (halted : Option ShellEnd) → HasNoFeed p.line → 0 < length p.line → Feeds a b p q (10 ∷ []) None → Meets IsSettled (inputs_after q [] true) b c halted → Meets IsSettled (inputs_after p [] true) a c halted
-finished_line a b c p q halted f some x y = meets_as IsSettled (inputs_after p [] true) (inputs_after p (10 ∷ []) true) a c halted (after-whole p f some) (meets_then true a b c p q (10 ∷ []) halted x y)
+pub finished_line : (a b c : Stage) (p q : Pending) (halted : Option ShellEnd) → HasNoFeed p.line → 0 < length p.line → Feeds a b p q (10 ∷ []) None → Meets IsIntact (inputs_after q [] true) b c halted → Meets IsIntact (inputs_after p [] true) a c halted
+finished_line a b c p q halted f some x y = meets_as IsIntact (inputs_after p [] true) (inputs_after p (10 ∷ []) true) a c halted (after-whole p f some) (meets_then true a b c p q (10 ∷ []) halted x y)
 
-pub finished_halt : (a b : Stage) (p q : Pending) (cause : ShellEnd) → HasNoFeed p.line → 0 < length p.line → Feeds a b p q (10 ∷ []) (Some cause) → Meets IsSettled (inputs_after p [] true) a b (Some cause)
-finished_halt a b p q cause f some x = meets_as IsSettled (inputs_after p [] true) (inputs_after p (10 ∷ []) true) a b (Some cause) (after-whole p f some) (meets_halted true a b p q (10 ∷ []) cause x)
+pub finished_halt : (a b : Stage) (p q : Pending) (cause : ShellEnd) → HasNoFeed p.line → 0 < length p.line → Feeds a b p q (10 ∷ []) (Some cause) → Meets IsIntact (inputs_after p [] true) a b (Some cause)
+finished_halt a b p q cause f some x = meets_as IsIntact (inputs_after p [] true) (inputs_after p (10 ∷ []) true) a b (Some cause) (after-whole p f some) (meets_halted true a b p q (10 ∷ []) cause x)
 
 -- ---- the loop
 
@@ -115,7 +115,7 @@ begun_has_memory end bytes whole met halted ends is = let P : ShellEnd → Type 
 
 -- the loop has nothing to write first
 ran_loop : (end : ShellEnd) (whole : Bool) (r r' : KnownBytes) (a c : Stage) (bytes : List ℕ) (halted : Option ShellEnd) → Consumes r r' bytes → length bytes ≤ INPUT_BYTES → (whole ≡ true → (length bytes < INPUT_BYTES) × IsAtEnd r')
-    → (m : Meets IsSettled (inputs bytes whole) a c halted) → IsNear bytes (inputs_in m.met) → EndsBy end true bytes whole m.met halted → RanGiven IsSettled [] end r r' a c
+    → (m : Meets IsIntact (inputs bytes whole) a c halted) → IsNear bytes (inputs_in m.met) → EndsBy end true bytes whole m.met halted → RanGiven IsIntact [] end r r' a c
 ran_loop end whole r r' a c bytes halted consumed within ended m near ends = record {
   bytes = bytes;
   consumed = consumed;
@@ -133,18 +133,18 @@ ran_loop end whole r r' a c bytes halted consumed within ended m near ends = rec
 }
 
 -- these bytes, and what was unfinished then
-abbrev met_all : (whole : Bool) (a b c : Stage) (line : Pending) (bytes : List ℕ) (halted : Option ShellEnd) → Feeds a b fresh line bytes None → Meets IsSettled (inputs_after line [] whole) b c halted → Meets IsSettled (inputs bytes whole) a c halted
-met_all whole a b c line bytes halted x y = meets_as IsSettled (inputs bytes whole) (inputs_after fresh (bytes ++ []) whole) a c halted (from_fresh bytes whole) (meets_then whole a b c fresh line bytes halted x y)
+abbrev met_all : (whole : Bool) (a b c : Stage) (line : Pending) (bytes : List ℕ) (halted : Option ShellEnd) → Feeds a b fresh line bytes None → Meets IsIntact (inputs_after line [] whole) b c halted → Meets IsIntact (inputs bytes whole) a c halted
+met_all whole a b c line bytes halted x y = meets_as IsIntact (inputs bytes whole) (inputs_after fresh (bytes ++ []) whole) a c halted (from_fresh bytes whole) (meets_then whole a b c fresh line bytes halted x y)
 
-abbrev met_cut : (a b : Stage) (line : Pending) (bytes : List ℕ) → Feeds a b fresh line bytes None → Meets IsSettled (inputs bytes false) a b None
-met_cut a b line bytes x = met_all false a b b line bytes None x (meets_as IsSettled (inputs_after line [] false) [] b b None (after-cut line (x.no_feed refl)) (meets_nothing b))
+abbrev met_cut : (a b : Stage) (line : Pending) (bytes : List ℕ) → Feeds a b fresh line bytes None → Meets IsIntact (inputs bytes false) a b None
+met_cut a b line bytes x = met_all false a b b line bytes None x (meets_as IsIntact (inputs_after line [] false) [] b b None (after-cut line (x.no_feed refl)) (meets_nothing b))
 
-pub ran_read_fault : (r r' r'' : KnownBytes) (a b : Stage) (line : Pending) (total : ℕ) → SoFar r r' a b line total → total < INPUT_BYTES → Keeps r' r'' → RanGiven IsSettled [] ReadFault r r'' a b
+pub ran_read_fault : (r r' r'' : KnownBytes) (a b : Stage) (line : Pending) (total : ℕ) → SoFar r r' a b line total → total < INPUT_BYTES → Keeps r' r'' → RanGiven IsIntact [] ReadFault r r'' a b
 ran_read_fault r r' r'' a b line total x small keeps =
     let below : length x.bytes < INPUT_BYTES = omega (arith, x.count, small) in
     ran_loop ReadFault false r r'' a b x.bytes None (Consumes-kept r r' r'' x.bytes x.consumed keeps) (omega (arith, below)) (λ e. absurd (cc e)) (met_cut a b line x.bytes x.fed) (near_whole a b line x.bytes x.fed []) (refl, refl, refl, below)
 
-pub ran_limit : (r r' : KnownBytes) (a b : Stage) (line : Pending) (total : ℕ) → SoFar r r' a b line total → total ≡ INPUT_BYTES → RanGiven IsSettled [] InputLimit r r' a b
+pub ran_limit : (r r' : KnownBytes) (a b : Stage) (line : Pending) (total : ℕ) → SoFar r r' a b line total → total ≡ INPUT_BYTES → RanGiven IsIntact [] InputLimit r r' a b
 ran_limit r r' a b line total x e =
     let all : length x.bytes ≡ INPUT_BYTES = x.count ∙ e in
     ran_loop InputLimit false r r' a b x.bytes None x.consumed (omega (arith, all)) (λ e. absurd (cc e)) (met_cut a b line x.bytes x.fed) (near_whole a b line x.bytes x.fed []) (refl, refl, refl, all)
@@ -156,14 +156,14 @@ last_read r r' r'' most bytes chunk a b = let P : List ℕ → Type 0 = λ y. Co
     subst P (ap (λ y. bytes ++ y) (nil_from_length chunk b.count) ∙ append-nil bytes) (Consumes-trans r r' r'' bytes chunk a b.consumed)
 
 ran_whole : (end : ShellEnd) (r r' r'' : KnownBytes) (a b c : Stage) (line : Pending) (chunk : List ℕ) (total most : ℕ) (halted : Option ShellEnd) (x : SoFar r r' a b line total) → total < INPUT_BYTES → ReadSome 0 most r' r'' chunk
-    → (m : Meets IsSettled (inputs_after line [] true) b c halted) → EndsBy end true x.bytes true (x.fed.met ++ m.met) halted → RanGiven IsSettled [] end r r'' a c
+    → (m : Meets IsIntact (inputs_after line [] true) b c halted) → EndsBy end true x.bytes true (x.fed.met ++ m.met) halted → RanGiven IsIntact [] end r r'' a c
 ran_whole end r r' r'' a b c line chunk total most halted x small y m ends =
     let below : length x.bytes < INPUT_BYTES = omega (arith, x.count, small) in
     ran_loop end true r r'' a c x.bytes halted (last_read r r' r'' most x.bytes chunk x.consumed y) (omega (arith, below)) (λ e. (below, y.at_end refl))
     (met_all true a b c line x.bytes halted x.fed m) (near_whole a b line x.bytes x.fed m.met) ends
 
 pub ran_end : (r r' r'' : KnownBytes) (a b c : Stage) (line : Pending) (chunk : List ℕ) (total most : ℕ) → SoFar r r' a b line total → total < INPUT_BYTES → ReadSome 0 most r' r'' chunk
-    → Meets IsSettled (inputs_after line [] true) b c None → RanGiven IsSettled [] End r r'' a c
+    → Meets IsIntact (inputs_after line [] true) b c None → RanGiven IsIntact [] End r r'' a c
 ran_end r r' r'' a b c line chunk total most x small y m = ran_whole End r r' r'' a b c line chunk total most None x small y m (refl, refl, refl)
 
 some_end : (x y : ShellEnd) → Some x ≡ Some y → x ≡ y
@@ -189,32 +189,32 @@ ends_halted (x ∷ xs) end bytes whole met e = elim (either_end (halt_of x.whole
 ]
 
 pub ran_finish : (end : ShellEnd) (r r' r'' : KnownBytes) (a b c : Stage) (line : Pending) (chunk : List ℕ) (total most : ℕ) → SoFar r r' a b line total → total < INPUT_BYTES → ReadSome 0 most r' r'' chunk
-    → Meets IsSettled (inputs_after line [] true) b c (Some end) → RanGiven IsSettled [] end r r'' a c
+    → Meets IsIntact (inputs_after line [] true) b c (Some end) → RanGiven IsIntact [] end r r'' a c
 ran_finish end r r' r'' a b c line chunk total most x small y m = ran_whole end r r' r'' a b c line chunk total most (Some end) x small y m (ends_halted m.met end x.bytes true (x.fed.met ++ m.met) m.halts)
 
 -- the bytes before the chunk were served, and the shell was halted within it
 pub ran_halt : (end : ShellEnd) (r r' r'' : KnownBytes) (a b c : Stage) (line new_line : Pending) (chunk : List ℕ) (total n most : ℕ)
-    → SoFar r r' a b line total → total + most ≤ INPUT_BYTES → most ≤ CHUNK_BYTES → ReadSome n most r' r'' chunk → Feeds b c line new_line chunk (Some end) → RanGiven IsSettled [] end r r'' a c
+    → SoFar r r' a b line total → total + most ≤ INPUT_BYTES → most ≤ CHUNK_BYTES → ReadSome n most r' r'' chunk → Feeds b c line new_line chunk (Some end) → RanGiven IsIntact [] end r r'' a c
 ran_halt end r r' r'' a b c line new_line chunk total n most x small little y z =
     let bytes = x.bytes ++ chunk in
     let all = feeds_more a b c fresh line new_line x.bytes chunk (Some end) x.fed z in
     let within : length bytes ≤ INPUT_BYTES = rw (length-append x.bytes chunk) (omega (arith, x.count, y.count, y.within, small)) in
     ran_loop end false r r'' a c bytes (Some end) (Consumes-trans r r' r'' x.bytes chunk x.consumed y.consumed) within (λ e. absurd (cc e))
-    (meets_as IsSettled (inputs bytes false) (inputs_after fresh (bytes ++ []) false) a c (Some end) (from_fresh bytes false) (meets_halted false a c fresh new_line bytes end all))
+    (meets_as IsIntact (inputs bytes false) (inputs_after fresh (bytes ++ []) false) a c (Some end) (from_fresh bytes false) (meets_halted false a c fresh new_line bytes end all))
     (near_behind a b line x.bytes chunk x.fed z.met (omega (arith, y.count, y.within, little))) (ends_halted z.met end bytes false (x.fed.met ++ z.met) z.halts)
 
 -- ---- the premise that callers see
 
-leaves_under : (failed : Bool) (a b : SessionState) (cs rs : List Command) → (IsOpenOnHonestDisk a → IsSettled a) → Leaves IsSettled failed a b cs rs → Leaves IsOpenOnHonestDisk failed a b cs rs
+leaves_under : (failed : Bool) (a b : SessionState) (cs rs : List Command) → (IsOpenOnHonestDisk a → IsIntact a) → Leaves IsIntact failed a b cs rs → Leaves IsOpenOnHonestDisk failed a b cs rs
 leaves_under false a b cs rs settle x = record { standing = x.standing; same_faults = x.same_faults; size = x.size; honest = x.honest; kept = λ given. x.kept (settle given) }
 leaves_under true a b cs rs settle x = record { closed = x.closed; state = x.state; faults = x.faults; size = x.size; honest = x.honest; kept = λ given. x.kept (settle given) }
 
-abbrev meets_under : (given : List Input) (a b : Stage) (halted : Option ShellEnd) → (IsOpenOnHonestDisk a.session → IsSettled a.session) → Meets IsSettled given a b halted → Meets IsOpenOnHonestDisk given a b halted
+abbrev meets_under : (given : List Input) (a b : Stage) (halted : Option ShellEnd) → (IsOpenOnHonestDisk a.session → IsIntact a.session) → Meets IsIntact given a b halted → Meets IsOpenOnHonestDisk given a b halted
 meets_under given a b halted settle m =
     let s = a.session.standing.state in
     record {
       met = m.met;
-      serves = record { may = m.serves.may; wrote = m.serves.wrote; leaves = leaves_under (has_failed m.met) a.session b.session (in_turn commands s m.met) (in_turn reached s m.met) settle m.serves.leaves };
+      serves = record { may = m.serves.may; wrote = m.serves.wrote; leaves = leaves_under (has_failed m.met) a.session b.session (in_turn commands s m.met) (in_turn reached_commands s m.met) settle m.serves.leaves };
       halts = m.halts;
       not_met = m.not_met;
       spelled = m.spelled;
@@ -228,8 +228,8 @@ whole_first true old new h = refl
 whole_first false old new h = absurd (omega (arith, h.fewer))
 
 -- its first line was written, and then the loop ran
-pub ran_after : (end : ShellEnd) (r r' : KnownBytes) (a b : Stage) (started : KnownBytes) (first_line : List ℕ) → (IsOpenOnHonestDisk a.session → IsSettled a.session) → Appends a.out started first_line
-    → RanGiven IsSettled [] end r r' (with_out a started) b → RanGiven IsOpenOnHonestDisk first_line end r r' a b
+pub ran_after : (end : ShellEnd) (r r' : KnownBytes) (a b : Stage) (started : KnownBytes) (first_line : List ℕ) → (IsOpenOnHonestDisk a.session → IsIntact a.session) → Appends a.out started first_line
+    → RanGiven IsIntact [] end r r' (with_out a started) b → RanGiven IsOpenOnHonestDisk first_line end r r' a b
 ran_after end r r' a b started first_line settle wrote x =
     let begun : x.begun ≡ true = whole_first x.begun started x.started x.first in
     let nothing : Appends started x.started [] = subst (λ (v : Bool). Wrote v started x.started []) begun x.first in
@@ -255,7 +255,7 @@ nothing_cut : inputs [] false ≡ []
 nothing_cut = from_fresh [] false ∙ after-cut fresh tt
 
 -- nothing was read or done
-pub not_begun : (end : ShellEnd) (r : KnownBytes) (a : Stage) (out : KnownBytes) (first_line : List ℕ) → (IsOpenOnHonestDisk a.session → IsSettled a.session) → GotSome a.out out first_line
+pub not_begun : (end : ShellEnd) (r : KnownBytes) (a : Stage) (out : KnownBytes) (first_line : List ℕ) → (IsOpenOnHonestDisk a.session → IsIntact a.session) → GotSome a.out out first_line
     → (end ≡ NoMemory → out ≡ a.out) → EndsBy end false [] false [] None → RanGiven IsOpenOnHonestDisk first_line end r r a (with_out a out)
 not_begun end r a out first_line settle some untold ends = record {
   bytes = [];

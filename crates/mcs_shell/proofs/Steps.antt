@@ -9,17 +9,17 @@ use Rattle.mcs_lines.specs.Requests.{request_of}
 use Rattle.mcs_model.specs.declared.command.Command.{Command}
 use Rattle.mcs_model.specs.BenchState.{BenchState}
 use Rattle.mcs_model.specs.Fold.{fold}
-use Rattle.mcs_session.specs.Kept.{Carries, IsSettled}
+use Rattle.mcs_session.specs.Kept.{Carries, IsIntact}
 use Rattle.mcs_session.specs.Standing.{Premise, SessionState, Standing}
 use Rattle.mcs_session.proofs.Folds.{fold-append}
 use Rattle.mcs_session.proofs.Keeping.{carries_more, carries_nothing, kept_more, settled_on}
 use Rattle.mcs_shell.specs.declared.ends.ShellEnd.{ShellEnd}
 use Rattle.mcs_shell.specs.LineFeeds.{HasNoFeed, is_line_feed}
-use Rattle.mcs_shell.specs.Inputs.{Input, Line, Pending, Commands, InText, begun, fresh, inputs_after, is_dot_line, judged_text}
+use Rattle.mcs_shell.specs.Inputs.{Input, Line, Pending, Commands, InText, text_begun, fresh, inputs_after, is_dot_line, judged_text}
 use Rattle.mcs_shell.specs.Reading.{Gathers}
 use Rattle.mcs_shell.specs.Serving.{Feeds, Leaves, Meets, Serves, WroteAll}
 use Rattle.mcs_shell.specs.Stage.{Stage}
-use Rattle.mcs_shell.specs.Transcript.{MayMeet, Step, commands, halt_after, in_turn, inputs_in, reached}
+use Rattle.mcs_shell.specs.Transcript.{MayMeet, Step, commands, halt_after, in_turn, inputs_in, reached_commands}
 use Rattle.mcs_shell.proofs.Cutting.{HasNone-append, HasNone-take}
 use Rattle.mcs_shell.proofs.Doing.{leaves_as}
 use Rattle.mcs_shell.proofs.LineFeeds.{after-kept, feed-command, feed-dot, feed-line, feed-begun}
@@ -27,7 +27,7 @@ use Rattle.mcs_shell.proofs.Served.{failed-append, halt-append, has_failed, in_t
 
 -- ---- inputs in turn
 
-leaves_more : (failed : Bool) (a b c : SessionState) (cs ds rs : List Command) → Carries IsSettled a b cs → Leaves IsSettled failed b c ds rs → Leaves IsSettled failed a c (cs ++ ds) (cs ++ rs)
+leaves_more : (failed : Bool) (a b c : SessionState) (cs ds rs : List Command) → Carries IsIntact a b cs → Leaves IsIntact failed b c ds rs → Leaves IsIntact failed a c (cs ++ ds) (cs ++ rs)
 leaves_more false a b c cs ds rs x y = carries_more a b c cs ds x y
 leaves_more true a b c cs ds rs x y = record {
   closed = y.closed;
@@ -38,40 +38,40 @@ leaves_more true a b c cs ds rs x y = record {
   kept = λ given. kept_more a.disk b.disk c.disk a.standing.state b.standing.state cs ds rs (x.kept given) (ap (λ (v : Standing). v.state) x.standing) (y.kept (settled_on a b cs x given));
 }
 
-pub serves_nothing : (a : Stage) → Serves IsSettled a [] a
+pub serves_nothing : (a : Stage) → Serves IsIntact a [] a
 serves_nothing a = record { may = tt; wrote = refl; leaves = carries_nothing a.session }
 
 -- where nothing halted the shell
-pub carries_unhalted : (Given : Premise) (a b : SessionState) (s : BenchState) (met : List Step) → halt_after met ≡ None → Leaves Given (has_failed met) a b (in_turn commands s met) (in_turn reached s met) → Carries Given a b (in_turn commands s met)
-carries_unhalted Given a b s met none h = subst (λ (v : Bool). Leaves Given v a b (in_turn commands s met) (in_turn reached s met)) (not_failed met none) h
+pub carries_unhalted : (Given : Premise) (a b : SessionState) (s : BenchState) (met : List Step) → halt_after met ≡ None → Leaves Given (has_failed met) a b (in_turn commands s met) (in_turn reached_commands s met) → Carries Given a b (in_turn commands s met)
+carries_unhalted Given a b s met none h = subst (λ (v : Bool). Leaves Given v a b (in_turn commands s met) (in_turn reached_commands s met)) (not_failed met none) h
 
 -- the shell went on, and so one list follows the other
-pub serves_more : (a b c : Stage) (xs ys : List Step) → halt_after xs ≡ None → Serves IsSettled a xs b → Serves IsSettled b ys c → Serves IsSettled a (xs ++ ys) c
+pub serves_more : (a b c : Stage) (xs ys : List Step) → halt_after xs ≡ None → Serves IsIntact a xs b → Serves IsIntact b ys c → Serves IsIntact a (xs ++ ys) c
 serves_more a b c xs ys none x y =
     let s = a.session.standing.state in
     let t = b.session.standing.state in
-    let carries = carries_unhalted IsSettled a.session b.session s xs none x.leaves in
+    let carries = carries_unhalted IsIntact a.session b.session s xs none x.leaves in
     let state : t ≡ state_after s xs = ap (λ (v : Standing). v.state) carries.standing in
     record {
       may = may-append a.session.standing xs ys none x.may (subst (λ (v : Standing). MayMeet v ys) carries.standing y.may);
       wrote = wrote-append s xs ys a.out b.out c.out x.wrote (subst (λ (u : BenchState). WroteAll u ys b.out c.out) state y.wrote);
-      leaves = leaves_as IsSettled (has_failed (xs ++ ys)) (has_failed ys) a.session c.session
+      leaves = leaves_as IsIntact (has_failed (xs ++ ys)) (has_failed ys) a.session c.session
           (in_turn commands s (xs ++ ys)) (in_turn commands s xs ++ in_turn commands t ys)
-          (in_turn reached s (xs ++ ys)) (in_turn commands s xs ++ in_turn reached t ys)
+          (in_turn reached_commands s (xs ++ ys)) (in_turn commands s xs ++ in_turn reached_commands t ys)
           (failed-append xs ys none) (in_turn-further commands s t xs ys state)
-          (in_turn-further reached s t xs ys state ∙ ap (λ rs. rs ++ in_turn reached t ys) (reached_all s xs (not_failed xs none)))
-          (leaves_more (has_failed ys) a.session b.session c.session (in_turn commands s xs) (in_turn commands t ys) (in_turn reached t ys) carries y.leaves);
+          (in_turn-further reached_commands s t xs ys state ∙ ap (λ rs. rs ++ in_turn reached_commands t ys) (reached_all s xs (not_failed xs none)))
+          (leaves_more (has_failed ys) a.session b.session c.session (in_turn commands s xs) (in_turn commands t ys) (in_turn reached_commands t ys) carries y.leaves);
     }
 
 -- ---- bytes
 
-abbrev pub meets_nothing : (a : Stage) → Meets IsSettled [] a a None
+abbrev pub meets_nothing : (a : Stage) → Meets IsIntact [] a a None
 meets_nothing a = record { met = []; serves = serves_nothing a; halts = refl; not_met = []; spelled = refl; all_met = λ none. refl }
 
 -- these bytes spell the inputs that were given
 pub feeds : (a b : Stage) (p q k : Pending) (bytes : List ℕ) (given : List Input) (halted : Option ShellEnd) → HasNoFeed k.line → (halted ≡ None → q ≡ k)
     → ((more : List ℕ) (whole : Bool) → inputs_after p (bytes ++ more) whole ≡ given ++ inputs_after k more whole)
-    → Meets IsSettled given a b halted → Feeds a b p q bytes halted
+    → Meets IsIntact given a b halted → Feeds a b p q bytes halted
 feeds a b p q k bytes given halted f same e m = record {
   met = m.met;
   serves = m.serves;
@@ -124,10 +124,10 @@ pub feeds_kept : (a : Stage) (p q : Pending) (bytes : List ℕ) → HasNoFeed p.
 feeds_kept a p q bytes f g e = let P : Pending → Type 0 = λ x. Feeds a a p x bytes None in subst P (sym e)
     (feeds_none a p (record { mode = p.mode; line = take 16386 (p.line ++ bytes) }) bytes (HasNone-take is_line_feed 16386 (p.line ++ bytes) (HasNone-append is_line_feed p.line bytes f g)) (λ more whole. after-kept p bytes more whole f g))
 
-pub feeds_command : (a b : Stage) (p q : Pending) (line : List ℕ) (halted : Option ShellEnd) → HasNoFeed p.line → p.mode ≡ Commands → line ≡ strip_carriage_return p.line → begun (request_of line) ≡ None
-    → (halted ≡ None → q ≡ fresh) → Meets IsSettled (Line (request_of line) ∷ []) a b halted → Feeds a b p q (10 ∷ []) halted
+pub feeds_command : (a b : Stage) (p q : Pending) (line : List ℕ) (halted : Option ShellEnd) → HasNoFeed p.line → p.mode ≡ Commands → line ≡ strip_carriage_return p.line → text_begun (request_of line) ≡ None
+    → (halted ≡ None → q ≡ fresh) → Meets IsIntact (Line (request_of line) ∷ []) a b halted → Feeds a b p q (10 ∷ []) halted
 feeds_command a b p q line halted f is e none new h =
-    let none2 : begun (request_of (strip_carriage_return p.line)) ≡ None = ap (λ l. begun (request_of l)) (sym e) ∙ none in
+    let none2 : text_begun (request_of (strip_carriage_return p.line)) ≡ None = ap (λ l. text_begun (request_of l)) (sym e) ∙ none in
     feeds a b p q fresh (10 ∷ []) (Line (request_of line) ∷ []) halted tt new
     (λ more whole. feed-command p fresh more whole f is none2 refl ∙ ap (λ l. Line (request_of l) ∷ inputs_after fresh more whole) (sym e)) h
 
@@ -138,7 +138,7 @@ feeds_begun a p q line kind f is e some new =
     feeds_none a p q (10 ∷ []) (subst (λ (x : Pending). HasNoFeed x.line) (sym new) tt) (λ more whole. feed-begun p q more whole kind f is some2 new)
 
 pub feeds_text : (a b : Stage) (p q : Pending) (line : List ℕ) (kind : TextKind) (text : List ℕ) (halted : Option ShellEnd) → HasNoFeed p.line → p.mode ≡ InText kind text → line ≡ strip_carriage_return p.line
-    → is_dot_line line ≡ true → (halted ≡ None → q ≡ fresh) → Meets IsSettled (judged_text kind text ∷ []) a b halted → Feeds a b p q (10 ∷ []) halted
+    → is_dot_line line ≡ true → (halted ≡ None → q ≡ fresh) → Meets IsIntact (judged_text kind text ∷ []) a b halted → Feeds a b p q (10 ∷ []) halted
 feeds_text a b p q line kind text halted f is e dot new h =
     let dot2 : is_dot_line (strip_carriage_return p.line) ≡ true = ap is_dot_line (sym e) ∙ dot in
     feeds a b p q fresh (10 ∷ []) (judged_text kind text ∷ []) halted tt new (λ more whole. feed-dot p fresh more whole kind text f is dot2 refl) h

@@ -10,7 +10,7 @@ use Rattle.mcs_shell.specs.Headline.{SurvivesPowerCuts}
 use Rattle.mcs_shell.specs.Serving.{Leaves}
 use Rattle.mcs_shell.specs.Shell.{Ran}
 use Rattle.mcs_shell.specs.Stage.{KnownBytes, Stage}
-use Rattle.mcs_shell.specs.Transcript.{commands, in_turn, reached}
+use Rattle.mcs_shell.specs.Transcript.{commands, in_turn, reached_commands}
 use Rattle.mcs_shell.proofs.Served.{has_failed, reached_all}
 
 kept_by : (failed : Bool) (a b : SessionState) (cs rs : List Command) → (failed ≡ false → rs ≡ cs) → IsOpenOnHonestDisk a → Leaves IsOpenOnHonestDisk failed a b cs rs → Kept a.disk b.disk a.standing.state cs rs
@@ -23,7 +23,7 @@ survives state_of lawful end r r' a b ran given =
     let s = a.session.standing.state in
     let met = ran.served.met in
     let done : List Command = in_turn commands s met in
-    let may : List Command = in_turn reached s met in
+    let may : List Command = in_turn reached_commands s met in
     let kept : Kept a.session.disk b.session.disk s done may = kept_by (has_failed met) a.session b.session done may (reached_all s met) given ran.served.serves.leaves in
     record {
       moments = kept.moments;
@@ -43,4 +43,4 @@ honest_by true a b cs rs x = x.honest.1
 
 pub honest_after : (end : ShellEnd) (r r' : KnownBytes) (a b : Stage) → Ran end r r' a b → a.session.disk.honest → b.session.disk.honest
 honest_after end r r' a b ran = let s = a.session.standing.state in
-    honest_by (has_failed ran.served.met) a.session b.session (in_turn commands s ran.served.met) (in_turn reached s ran.served.met) ran.served.serves.leaves
+    honest_by (has_failed ran.served.met) a.session b.session (in_turn commands s ran.served.met) (in_turn reached_commands s ran.served.met) ran.served.serves.leaves

@@ -8,15 +8,15 @@ use Rattle.mcs_journal.specs.declared.fault.OpenFault.{OpenFault}
 use Rattle.mcs_journal.specs.declared.fault.OpenFault.TheVariants as open_fault
 use Rattle.mcs_model.specs.BenchState.{BenchState}
 use Rattle.mcs_session.specs.LogUse.{LogUse, UsesLog, moments_of}
-use Rattle.mcs_session.specs.Answers.{RefusesSession}
+use Rattle.mcs_session.specs.SessionCalls.{RefusesSession}
 use Rattle.mcs_session.specs.Kept.{IsAfterPrefix, IsReopened, IsSpaced, acknowledged_by, last_moment}
 use Rattle.mcs_session.specs.Standing.{SessionState, session_state}
 use Rattle.mcs_shell.specs.Inputs.{Input, inputs}
 use Rattle.mcs_shell.specs.declared.ends.ShellEnd.{ShellEnd}
 use Rattle.mcs_shell.specs.declared.ends.ShellEnd.TheVariants.{WriteFault, DeviceFault, NoMemory}
 use Rattle.mcs_shell.specs.Shell.{Run}
-use Rattle.mcs_shell.specs.Stage.{KnownBytes, Stage, staged}
-use Rattle.mcs_shell.specs.Transcript.{MayMeet, Step, answer, commands, in_turn, inputs_in, reached}
+use Rattle.mcs_shell.specs.Stage.{KnownBytes, Stage, stage_of}
+use Rattle.mcs_shell.specs.Transcript.{MayMeet, Step, answer, commands, in_turn, inputs_in, reached_commands}
 
 -- A run met these inputs, from one session to the disk that it left. Each command that it answered
 -- `ok` was acknowledged at its moment. A power cut at any time of the run left a disk (`state_of`
@@ -35,7 +35,7 @@ pub record SurvivesPowerCuts
   pub within : last_moment a.disk.clock moments ≤ ran.clock
   pub reopened : (t : ℕ) (found opened : E) (u : BenchState) → a.disk.clock ≤ t
       → IsReopened t ran (state_of found) (state_of opened) u
-      → IsAfterPrefix a.standing.state (in_turn reached a.standing.state met)
+      → IsAfterPrefix a.standing.state (in_turn reached_commands a.standing.state met)
       (acknowledged_by t moments) u
   pub not_refused : (t : ℕ) (found : E) (fault : OpenFault) → a.disk.clock ≤ t
       → IsLeftByCut t ran (state_of found) → RefusesSession fault (state_of found)
@@ -69,7 +69,7 @@ pub record AnswersInTurn
 pub record AnswersAndSurvives
     {D E : Type 0} (state_of : D → DiskState) (found_of : E → DiskState)
     (run : Run state_of) : Type 0 where
-  pub answers : AnswersInTurn run.end run.reader run.reader' (staged state_of run.before run.out)
-      (staged state_of run.after run.out') run.ran.served.met
+  pub answers : AnswersInTurn run.end run.reader run.reader' (stage_of state_of run.before run.out)
+      (stage_of state_of run.after run.out') run.ran.served.met
   pub survives : SurvivesPowerCuts found_of (session_state state_of run.before)
       (state_of run.after.disk) run.ran.served.met

@@ -9,8 +9,8 @@ use Rattle.mcs_session.specs.Standing.{SessionView}
 use Rattle.mcs_shell.specs.Headline.{AnswersInTurn}
 use Rattle.mcs_shell.specs.Program.{IsBegunOn, IsRefusedWith}
 use Rattle.mcs_shell.specs.Shell.{Run}
-use Rattle.mcs_shell.specs.Stage.{staged}
-use Rattle.mcs_shell.specs.Transcript.{commands, in_turn, reached}
+use Rattle.mcs_shell.specs.Stage.{stage_of}
+use Rattle.mcs_shell.specs.Transcript.{commands, in_turn, reached_commands}
 
 -- A file was left at a clock of t or later, by a close, a kill or a power cut. Then it was opened
 -- with what is found in it, and is honest from then on.
@@ -26,8 +26,8 @@ pub record IsFoundAgain (t : ℕ) (file again : FileDisk) : Type 0 where
 -- and the prefix holds each one acknowledged by that time. The program refuses it by 53 and by 90
 -- alone.
 pub record SurvivesInFile (run : Run as_disk) : Type 0 where
-  pub answers : AnswersInTurn run.end run.reader run.reader' (staged as_disk run.before run.out)
-      (staged as_disk run.after run.out') run.ran.served.met
+  pub answers : AnswersInTurn run.end run.reader run.reader' (stage_of as_disk run.before run.out)
+      (stage_of as_disk run.after run.out') run.ran.served.met
   pub moments : List ℕ
   pub count : length moments
       ≡ length (in_turn commands run.before.state run.ran.served.met)
@@ -37,7 +37,7 @@ pub record SurvivesInFile (run : Run as_disk) : Type 0 where
   pub reopened : (t : ℕ) (again : FileDisk) (name : List ℕ) (session : SessionView FileDisk)
       → (as_disk run.before.disk).clock ≤ t → IsFoundAgain t run.after.disk again
       → IsBegunOn as_disk (choice.Open name) again session
-      → IsAfterPrefix run.before.state (in_turn reached run.before.state run.ran.served.met)
+      → IsAfterPrefix run.before.state (in_turn reached_commands run.before.state run.ran.served.met)
       (acknowledged_by t moments) session.state
   pub not_refused : (t : ℕ) (again : FileDisk) (name : List ℕ) (number : ℕ)
       → (as_disk run.before.disk).clock ≤ t → IsFoundAgain t run.after.disk again

@@ -56,9 +56,9 @@ pub data Mode : Type 0 where
   InText : TextKind → List ℕ → Mode
 
 -- the kind of the text that begins after a line, if one does
-abbrev pub begun : Request → Option TextKind
-begun (Begin kind) = Some kind
-begun request = None
+abbrev pub text_begun : Request → Option TextKind
+text_begun (Begin kind) = Some kind
+text_begun request = None
 
 -- A text is the lines after the one that began it, up to one that is a dot, each followed by a line
 -- feed. It has no end where input ended before that.
@@ -66,7 +66,7 @@ unfoldable pub group : Bool → Mode → List (List ℕ) → List Input
 group whole Commands [] = []
 group whole (InText kind text) [] = if whole then BadText NoEnd ∷ [] else []
 group whole Commands (l ∷ ls) =
-    elim (begun (request_of l)) [
+    elim (text_begun (request_of l)) [
       | None ↦ Line (request_of l) ∷ group whole Commands ls
       | Some kind ↦ group whole (InText kind []) ls
     ]

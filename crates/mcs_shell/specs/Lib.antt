@@ -1,4 +1,4 @@
-pub mod Told
+pub mod AnswerPieces
 pub mod LineFeeds
 pub mod Inputs
 pub mod Reading

@@ -6,7 +6,7 @@ use Rattle.mcs_journal.specs.declared.fault.CreateFault.{CreateFault}
 use Rattle.mcs_journal.specs.declared.fault.CreateFault.TheVariants as create_fault
 use Rattle.mcs_journal.specs.declared.fault.OpenFault.{OpenFault}
 use Rattle.mcs_journal.specs.declared.fault.OpenFault.TheVariants as open_fault
-use Rattle.mcs_model.specs.Refusal.{bench_fault_number}
+use Rattle.mcs_model.specs.RefusalNumbers.{bench_fault_number}
 use Rattle.mcs_model.specs.declared.refusal_numbers.TheConstants.{CLOSED, DAMAGED, DEVICE, LINE_TOO_LONG, NOT_ASCII, NOT_A_SESSION, NOT_BLANK, NO_END, NO_MEMORY, TEXT_TOO_LONG}
 use Rattle.mcs_session.specs.declared.fault.SessionFault.{SessionFault}
 use Rattle.mcs_session.specs.declared.fault.SessionFault.TheVariants as session_fault

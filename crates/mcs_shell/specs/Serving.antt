@@ -15,8 +15,8 @@ use Rattle.mcs_shell.specs.LineFeeds.{HasNoFeed}
 use Rattle.mcs_shell.specs.Inputs.{Input, Pending, inputs_after}
 use Rattle.mcs_session.specs.Standing.{Premise, SessionState}
 use Rattle.mcs_shell.specs.Stage.{KnownBytes, Stage}
-use Rattle.mcs_shell.specs.Transcript.{MayEnd, MayMeet, Step, answer, commands, halt_after, in_turn, inputs_in, is_device, reached}
-use Rattle.mcs_session.specs.Kept.{Carries, IsSettled, Kept}
+use Rattle.mcs_shell.specs.Transcript.{MayEnd, MayMeet, Step, answer, commands, halt_after, in_turn, inputs_in, is_device, reached_commands}
+use Rattle.mcs_session.specs.Kept.{Carries, IsIntact, Kept}
 
 -- ---- an answer
 
@@ -48,7 +48,7 @@ outcome_of session_fault.Closed = Closed
 
 -- The device failed, which closed the session. The commands `done` were answered `ok`, and all of
 -- `reached_too` may have reached the disk.
-pub record Breaks
+pub record BreaksOff
     (Given : Premise) (a b : SessionState) (done reached_too : List Command) : Type 0 where
   pub closed : b.standing.live ≡ false
   pub state : b.standing.state ≡ fold a.standing.state done
@@ -61,7 +61,7 @@ pub record Breaks
 abbrev pub Leaves : Premise → Bool → SessionState → SessionState → List Command → List Command
     → Type 0
 Leaves Given false a b done reached_too = Carries Given a b done
-Leaves Given true a b done reached_too = Breaks Given a b done reached_too
+Leaves Given true a b done reached_too = BreaksOff Given a b done reached_too
 
 -- an input was judged and done: its answer is this
 pub record Answered
@@ -69,8 +69,8 @@ pub record Answered
     (b : SessionState) : Type 0 where
   pub may : MayEnd a.standing i o
   pub told_is : told ≡ answer a.standing.state i o
-  pub leaves : Leaves IsSettled (is_device o) a b (commands a.standing.state i o)
-      (reached a.standing.state i o)
+  pub leaves : Leaves IsIntact (is_device o) a b (commands a.standing.state i o)
+      (reached_commands a.standing.state i o)
 
 -- ---- inputs in turn
 
@@ -82,7 +82,7 @@ pub record Serves (Given : Premise) (a : Stage) (met : List Step) (b : Stage) : 
   pub leaves : Leaves Given (list_any (λ (x : Step). is_device x.outcome) met)
       a.session b.session
       (in_turn commands a.session.standing.state met)
-      (in_turn reached a.session.standing.state met)
+      (in_turn reached_commands a.session.standing.state met)
 
 -- the first of these inputs were met: all, where nothing halted the shell
 pub record Meets
@@ -99,7 +99,7 @@ pub record Meets
 pub record Feeds
     (a b : Stage) (p q : Pending) (bytes : List ℕ) (halted : Option ShellEnd) : Type 0 where
   pub met : List Step
-  pub serves : Serves IsSettled a met b
+  pub serves : Serves IsIntact a met b
   pub halts : halt_after met ≡ halted
   -- however the bytes go on
   pub not_met : List ℕ → Bool → List Input

@@ -7,7 +7,7 @@ use Rattle.mcs_model.specs.declared.limits.TheConstants.{INPUT_BYTES}
 use Rattle.mcs_shell.specs.Inputs.{Input, inputs}
 use Rattle.mcs_disk.specs.Disk.{DiskState}
 use Rattle.mcs_session.specs.Standing.{Premise, SessionView}
-use Rattle.mcs_shell.specs.Stage.{KnownBytes, Stage, staged, with_out}
+use Rattle.mcs_shell.specs.Stage.{KnownBytes, Stage, stage_of, with_out}
 use Rattle.mcs_shell.specs.Transcript.{Step, inputs_in}
 use Rattle.mcs_answers.specs.AnswerTexts.{session_text}
 use Rattle.mcs_session.specs.Kept.{IsOpenOnHonestDisk}
@@ -73,7 +73,7 @@ pub record Run {D : Type 0} (state_of : D → DiskState) : Type 0 where
   pub after : SessionView D
   pub out : KnownBytes
   pub out' : KnownBytes
-  pub ran : Ran end reader reader' (staged state_of before out) (staged state_of after out')
+  pub ran : Ran end reader reader' (stage_of state_of before out) (stage_of state_of after out')
 
 -- a read gave these n bytes, none only at the end
 pub record ReadSome (n most : ℕ) (old new : KnownBytes) (bytes : List ℕ) : Type 0 where

@@ -4,12 +4,12 @@ use Rattle.std.specs.Result.{result_map_both}
 use Rattle.mcs_model.specs.declared.board.BoardParts.{BoardParts}
 use Rattle.mcs_model.specs.declared.command.Command.{Command}
 use Rattle.mcs_model.specs.declared.command.Command.TheVariants as command
-use Rattle.mcs_source.specs.Assembly.{assembled}
+use Rattle.mcs_source.specs.Assembly.{assembly_of_text}
 use Rattle.mcs_source.specs.MapText.{survey_text}
-use Rattle.mcs_source.specs.Refusal.{source_fault_number}
-use Rattle.mcs_source.specs.Survey.{Survey, surveyed}
+use Rattle.mcs_source.specs.RefusalNumbers.{source_fault_number}
+use Rattle.mcs_source.specs.Survey.{Survey, survey_of_text}
 use Rattle.mcs_source.specs.declared.fault.SourceFault.{SourceFault}
-use Rattle.mcs_wiring.specs.Refusals.{wiring_fault_number}
+use Rattle.mcs_wiring.specs.RefusalNumbers.{wiring_fault_number}
 use Rattle.mcs_wiring.specs.Wiring.{board_of_text}
 use Rattle.mcs_wiring.specs.declared.fault.WiringFault.{WiringFault}
 use Rattle.mcs_shell.specs.declared.spelling.Spelled as code
@@ -26,16 +26,16 @@ wire_command (Ok board) = Ok (command.Wire board)
 wire_command (Err fault) = Err (Wiring fault)
 
 -- a pair among pairs that rise by address
-abbrev pub placed : ℕ × ℕ → List (ℕ × ℕ) → List (ℕ × ℕ)
-placed p [] = p ∷ []
-placed p (q ∷ qs) =
+abbrev pub insert_pair : ℕ × ℕ → List (ℕ × ℕ) → List (ℕ × ℕ)
+insert_pair p [] = p ∷ []
+insert_pair p (q ∷ qs) =
     if nat_lt p.0 q.0 then p ∷ q ∷ qs
-    else (if nat_lt q.0 p.0 then q ∷ placed p qs else q ∷ qs)
+    else (if nat_lt q.0 p.0 then q ∷ insert_pair p qs else q ∷ qs)
 
 -- these pairs by rising address
 abbrev pub by_address : List (ℕ × ℕ) → List (ℕ × ℕ)
 by_address [] = []
-by_address (p ∷ ps) = placed p (by_address ps)
+by_address (p ∷ ps) = insert_pair p (by_address ps)
 
 -- the command to load the bytes of a program
 abbrev pub load_command : Result (List (ℕ × ℕ)) (ℕ × SourceFault) → Result Command TextRefusal
@@ -48,15 +48,15 @@ pub data Spelled : Type 0 where
   Tells : List ℕ → Spelled
 
 -- the map of a program, or why the text is none
-abbrev pub mapped : Result Survey (ℕ × SourceFault) → Result Spelled TextRefusal
-mapped (Ok survey) = Ok (Tells (survey_text survey))
-mapped (Err at) = Err (Program (at.0) (at.1))
+abbrev pub program_map : Result Survey (ℕ × SourceFault) → Result Spelled TextRefusal
+program_map (Ok survey) = Ok (Tells (survey_text survey))
+program_map (Err at) = Err (Program (at.0) (at.1))
 
 -- what a text comes to, or why it spells nothing
 unfoldable pub spelled_by : TextKind → List ℕ → Result Spelled TextRefusal
 spelled_by Wire text = result_map_both Does (λ why. why) (wire_command (board_of_text text))
-spelled_by Asm text = result_map_both Does (λ why. why) (load_command (assembled text))
-spelled_by Map text = mapped (surveyed text)
+spelled_by Asm text = result_map_both Does (λ why. why) (load_command (assembly_of_text text))
+spelled_by Map text = program_map (survey_of_text text)
 
 -- the code's value for it
 abbrev pub spelled_view : code.Spelled → Spelled

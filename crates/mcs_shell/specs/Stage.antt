@@ -13,8 +13,8 @@ pub record Stage : Type 1 where
   pub out : KnownBytes
 
 -- the same with what its shell has written, where the writer tells it
-abbrev pub staged : {D : Type 0} → (D → DiskState) → SessionView D → KnownBytes → Stage
-staged state_of s out = record { session = session_state state_of s; out = out }
+abbrev pub stage_of : {D : Type 0} → (D → DiskState) → SessionView D → KnownBytes → Stage
+stage_of state_of s out = record { session = session_state state_of s; out = out }
 
 -- the same session, once this is what its shell has written
 abbrev pub with_out : Stage → KnownBytes → Stage

@@ -5,7 +5,7 @@ use Rattle.mcs_model.specs.declared.command.Command.{Command}
 use Rattle.mcs_model.specs.BenchState.{BenchState}
 use Rattle.mcs_model.specs.Command.{refusal, after, reply}
 use Rattle.mcs_model.specs.Fold.{fold}
-use Rattle.mcs_model.specs.Refusal.{bench_fault_number}
+use Rattle.mcs_model.specs.RefusalNumbers.{bench_fault_number}
 use Rattle.mcs_model.specs.declared.refusal_numbers.TheConstants.{CLOSED, DEVICE, NO_MEMORY}
 use Rattle.mcs_lines.specs.RefusalNumbers.{line_fault_number}
 use Rattle.mcs_lines.specs.declared.requests.Request.TheVariants.{Nothing, Refused, Ask, Listing, Board, Change, Begin}
@@ -23,20 +23,20 @@ use Rattle.mcs_shell.specs.Spelling.{Spelled, Does, Tells, spelled_by, text_refu
 -- ---- one input
 
 -- the command that a text asks for, if any
-abbrev pub asked_by : Result Spelled TextRefusal → Option Command
-asked_by (Ok (Does c)) = Some c
-asked_by r = None
+abbrev pub text_command : Result Spelled TextRefusal → Option Command
+text_command (Ok (Does c)) = Some c
+text_command r = None
 
 -- the command that an input asks for, if any
-abbrev pub asked : Input → Option Command
-asked (Line (Change c)) = Some c
-asked (Text kind text) = asked_by (spelled_by kind text)
-asked i = None
+abbrev pub asked_command : Input → Option Command
+asked_command (Line (Change c)) = Some c
+asked_command (Text kind text) = text_command (spelled_by kind text)
+asked_command i = None
 
 -- that command as a list: empty where there is none or the state refuses it
-abbrev pub accepted : BenchState → Option Command → List Command
-accepted s (Some c) = elim (refusal s c) [ None ↦ c ∷ [] | Some fault ↦ [] ]
-accepted s None = []
+abbrev pub accepted_commands : BenchState → Option Command → List Command
+accepted_commands s (Some c) = elim (refusal s c) [ None ↦ c ∷ [] | Some fault ↦ [] ]
+accepted_commands s None = []
 
 -- whether an input takes memory, which may be refused: a text, `list` and `board`
 abbrev pub takes_memory : Input → Bool
@@ -48,21 +48,21 @@ takes_memory i = false
 -- What may come of an input: the state gave the answer; or its command was accepted, and the device
 -- failed as it was recorded; or its command met a closed session; or memory for it was refused.
 unfoldable pub MayEnd : Standing → Input → Outcome → Type 0
-MayEnd m i Plain = (asked i ≡ None) ⊎ (m.live ≡ true)
-MayEnd m i Device = (accepted m.state (asked i) ≢ []) × (m.live ≡ true)
-MayEnd m i Closed = (asked i ≢ None) × (m.live ≡ false)
+MayEnd m i Plain = (asked_command i ≡ None) ⊎ (m.live ≡ true)
+MayEnd m i Device = (accepted_commands m.state (asked_command i) ≢ []) × (m.live ≡ true)
+MayEnd m i Closed = (asked_command i ≢ None) × (m.live ≡ false)
 MayEnd m i NoMemory = takes_memory i ≡ true
 
 -- the command that was answered `ok`, if any
 unfoldable pub commands : BenchState → Input → Outcome → List Command
-commands s i Plain = accepted s (asked i)
+commands s i Plain = accepted_commands s (asked_command i)
 commands s i o = []
 
 -- the command that may have reached the disk, if any: it was answered `ok` or `no 53`
-unfoldable pub reached : BenchState → Input → Outcome → List Command
-reached s i Plain = accepted s (asked i)
-reached s i Device = accepted s (asked i)
-reached s i o = []
+unfoldable pub reached_commands : BenchState → Input → Outcome → List Command
+reached_commands s i Plain = accepted_commands s (asked_command i)
+reached_commands s i Device = accepted_commands s (asked_command i)
+reached_commands s i o = []
 
 -- the answer that the state gives to a command
 abbrev pub change_answer : BenchState → Command → List ℕ
@@ -111,7 +111,7 @@ abbrev pub inputs_in : List Step → List Input
 inputs_in met = map (λ (x : Step). x.input) met
 
 -- What each input gives by the state that it meets, in turn: `in_turn answer` are the answers,
--- `in_turn commands` the commands answered `ok`, and `in_turn reached` those that may have reached
+-- `in_turn commands` the commands answered `ok`, and `in_turn reached_commands` those that may have reached
 -- the disk.
 abbrev pub in_turn : {A : Type 0} → (BenchState → Input → Outcome → List A) → BenchState
     → List Step → List A

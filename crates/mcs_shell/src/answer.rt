@@ -29,11 +29,11 @@ pub struct Answer {
 
 impl Model for Answer {
     ghost use Rattle.std.specs.Prelude.{ℕ, List, option_map};
-    ghost use Rattle.mcs_shell.specs.Told.{told};
+    ghost use Rattle.mcs_shell.specs.AnswerPieces.{answer_bytes};
 
     ghost Value = { List ℕ };
 
-    ghost view = { λ a. told a.short.items (option_map (λ v. v.items) a.long) };
+    ghost view = { λ a. answer_bytes a.short.items (option_map (λ v. v.items) a.long) };
 }
 
 impl Answer {

@@ -9,7 +9,7 @@ ghost use Rattle.mcs_shell.specs.declared.spelling.TextRefusal.{TextRefusal};
 ghost use Rattle.mcs_shell.specs.declared.texts.TextFault.TheVariants.{NoEnd};
 ghost use Rattle.mcs_shell.specs.Inputs.{BadText, Commands, Text, group, is_dot_line, judged_text};
 ghost use Rattle.mcs_shell.specs.Spelling.{spelled_by};
-ghost use Rattle.mcs_shell.specs.Transcript.{asked};
+ghost use Rattle.mcs_shell.specs.Transcript.{asked_command};
 
 /// A line that begins a text, lines of which none is a dot, and a dot: they are one input, whose text
 /// is those lines, each followed by a line feed, and the lines after it are judged as if nothing had
@@ -26,7 +26,7 @@ pub fn a_text_ends_at_a_dot()
 
 /// A map asks for no command, and it is refused where the program would be, for the same reason.
 pub fn a_map_only_tells()
-    ensures asks { (text : List ℕ) → asked (Text Map text) ≡ None }
+    ensures asks { (text : List ℕ) → asked_command (Text Map text) ≡ None }
     ensures refused { (text : List ℕ) (why : TextRefusal)
         → (spelled_by Map text ≡ Err why) ↔ (spelled_by Asm text ≡ Err why) }
 {}

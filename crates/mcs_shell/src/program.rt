@@ -1,7 +1,7 @@
 //! The program: its words, its file, its session, its shell, its exit status.
 ghost use Rattle.std.specs.Prelude.{◌≡◌, ◌⊎◌, IfOk, IfErr, IfSome, IfNone, IsSomeAnd, OnErr, None, true, map};
 ghost use Rattle.std.specs.Process.{exit_status};
-ghost use Rattle.mcs_host.specs.CommandLine.{chosen, takes_words};
+ghost use Rattle.mcs_host.specs.CommandLine.{choice_in, takes_words};
 ghost use Rattle.mcs_host.specs.Ending.{as_disk};
 ghost use Rattle.mcs_host.specs.FileDisk.{IsOpened};
 ghost use Rattle.mcs_host.specs.declared.file_disk.FileDisk.{FileDisk};
@@ -9,7 +9,7 @@ ghost use Rattle.mcs_host.specs.declared.file_fault.FileFault.{FileFault};
 ghost use Rattle.mcs_shell.specs.Program.{IsBegunOn, IsRefusedWith, RanToStatus, ServedAsChosen, ServedBySomeWords, ServedTo};
 ghost use Rattle.mcs_shell.specs.Shell.{Ran};
 ghost use Rattle.mcs_shell.specs.RefusalNumbers.{refusal_number};
-ghost use Rattle.mcs_shell.specs.Stage.{staged};
+ghost use Rattle.mcs_shell.specs.Stage.{stage_of};
 
 use crate::ends::{ShellEnd, status};
 use crate::refusal::Refusal;
@@ -125,12 +125,12 @@ pub fn serve<R: Read, W: Write, D: Disk + Drop>(
 ) -> io::Result<ExitCode>
     ensures ran { IfOk result (λ code. RanToStatus (exit_status code)
         (R.remaining reader.old) (R.remaining reader.new)
-        (staged D.state session.old (W.contents writer.old))
-        (staged D.state session.new (W.contents writer.new))) }
+        (stage_of D.state session.old (W.contents writer.old))
+        (stage_of D.state session.new (W.contents writer.new))) }
     ensures untold { OnErr result (Ran ShellEnd.NoMemory
         (R.remaining reader.old) (R.remaining reader.new)
-        (staged D.state session.old (W.contents writer.old))
-        (staged D.state session.new (W.contents writer.new))) }
+        (stage_of D.state session.old (W.contents writer.old))
+        (stage_of D.state session.new (W.contents writer.new))) }
 {
     let end = run_shell(rt.alloc(), reader, writer, session);
     let left = match end {
@@ -196,9 +196,9 @@ pub fn run_words<S: AsStr, R: Read, W: Write>(
 ) -> Ended<FileDisk>
     ensures usage { IfOk result.status (λ code. exit_status code ≡ 2
         → takes_words (map S.text words.entry.now) ≡ true
-        → chosen (map S.text words.entry.now) ≡ None) }
+        → choice_in (map S.text words.entry.now) ≡ None) }
     ensures served { IfSome result.session (λ after. ServedAsChosen as_disk
-        (chosen (map S.text words.entry.now)) result.status
+        (choice_in (map S.text words.entry.now)) result.status
         (R.remaining reader.old) (R.remaining reader.new)
         (W.contents writer.old) (W.contents writer.new) after) }
     ensures unserved { IfNone result.session (IfOk result.status (λ code.

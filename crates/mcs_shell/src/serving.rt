@@ -4,10 +4,10 @@ ghost use Rattle.std.specs.Result.{result_err};
 ghost use Rattle.mcs_shell.specs.declared.texts.TextFault.TheVariants.{NoEnd};
 ghost use Rattle.mcs_shell.specs.LineFeeds.{HasNoFeed};
 ghost use Rattle.mcs_shell.specs.Inputs.{BadText, Line, judged_text};
-ghost use Rattle.mcs_shell.specs.Stage.{staged};
+ghost use Rattle.mcs_shell.specs.Stage.{stage_of};
 ghost use Rattle.mcs_shell.specs.Serving.{Feeds, Meets, Wrote};
 ghost use Rattle.mcs_shell.specs.Transcript.{halt_of};
-ghost use Rattle.mcs_session.specs.Kept.{IsSettled};
+ghost use Rattle.mcs_session.specs.Kept.{IsIntact};
 
 use crate::answer::Answer;
 use crate::answering::{answer_request, answer_text};
@@ -44,9 +44,9 @@ fn serve_request<W: Write, D: Disk + Drop>(
     writer: &mut W,
     session: &mut Session<D>,
 ) -> Result<(), ShellEnd>
-    ensures { Meets IsSettled (Line request ∷ [])
-        (staged D.state session.old (W.contents writer.old))
-        (staged D.state session.new (W.contents writer.new)) (result_err result) }
+    ensures { Meets IsIntact (Line request ∷ [])
+        (stage_of D.state session.old (W.contents writer.old))
+        (stage_of D.state session.new (W.contents writer.new)) (result_err result) }
 {
     let mut answer = Answer::new();
     let outcome = answer_request(alloc, &request, session, &mut answer);
@@ -61,9 +61,9 @@ fn serve_text<W: Write, D: Disk + Drop>(
     writer: &mut W,
     session: &mut Session<D>,
 ) -> Result<(), ShellEnd>
-    ensures { Meets IsSettled (judged_text kind text.now ∷ [])
-        (staged D.state session.old (W.contents writer.old))
-        (staged D.state session.new (W.contents writer.new)) (result_err result) }
+    ensures { Meets IsIntact (judged_text kind text.now ∷ [])
+        (stage_of D.state session.old (W.contents writer.old))
+        (stage_of D.state session.new (W.contents writer.new)) (result_err result) }
 {
     let mut answer = Answer::new();
     let outcome = answer_text(alloc, kind, text, session, &mut answer);
@@ -75,9 +75,9 @@ pub(crate) fn serve_no_end<W: Write, D: Disk + Drop>(
     writer: &mut W,
     session: &mut Session<D>,
 ) -> Result<(), ShellEnd>
-    ensures { Meets IsSettled (BadText NoEnd ∷ [])
-        (staged D.state session.old (W.contents writer.old))
-        (staged D.state session.new (W.contents writer.new)) (result_err result) }
+    ensures { Meets IsIntact (BadText NoEnd ∷ [])
+        (stage_of D.state session.old (W.contents writer.old))
+        (stage_of D.state session.new (W.contents writer.new)) (result_err result) }
 {
     let mut answer = Answer::new();
     answer.tell_refusal(TextFault::NoEnd.number());
@@ -92,8 +92,8 @@ pub(crate) fn end_line<W: Write, D: Disk + Drop>(
     session: &mut Session<D>,
 ) -> Result<(), ShellEnd>
     requires { HasNoFeed unfinished.old.line }
-    ensures fed { Feeds (staged D.state session.old (W.contents writer.old))
-        (staged D.state session.new (W.contents writer.new))
+    ensures fed { Feeds (stage_of D.state session.old (W.contents writer.old))
+        (stage_of D.state session.new (W.contents writer.new))
         unfinished.old unfinished.new (10 ∷ []) (result_err result) }
     ensures empty { OnOk result (length unfinished.new.line ≡ 0) }
 {
@@ -151,8 +151,8 @@ pub(crate) fn serve_chunk<W: Write, D: Disk + Drop>(
     session: &mut Session<D>,
 ) -> Result<(), ShellEnd>
     requires { HasNoFeed unfinished.old.line }
-    ensures { Feeds (staged D.state session.old (W.contents writer.old))
-        (staged D.state session.new (W.contents writer.new))
+    ensures { Feeds (stage_of D.state session.old (W.contents writer.old))
+        (stage_of D.state session.new (W.contents writer.new))
         unfinished.old unfinished.new chunk.now (result_err result) }
 {
     let mut rest = chunk;

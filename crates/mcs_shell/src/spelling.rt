@@ -1,10 +1,10 @@
 //! What a text comes to.
 ghost use Rattle.std.specs.Prelude.{◌≡◌, IfOk};
 ghost use Rattle.std.specs.Result.{result_map_both};
-ghost use Rattle.mcs_source.specs.Assembly.{assembled};
+ghost use Rattle.mcs_source.specs.Assembly.{assembly_of_text};
 ghost use Rattle.mcs_wiring.specs.Wiring.{board_of_text};
-ghost use Rattle.mcs_source.specs.Survey.{surveyed};
-ghost use Rattle.mcs_shell.specs.Spelling.{Tells, load_command, mapped, spelled_by, spelled_view, wire_command};
+ghost use Rattle.mcs_source.specs.Survey.{survey_of_text};
+ghost use Rattle.mcs_shell.specs.Spelling.{Tells, load_command, program_map, spelled_by, spelled_view, wire_command};
 
 use mcs_asm::{FaultKind, SourceFault, assemble, survey, survey_text};
 use mcs_lines::requests::TextKind;
@@ -49,7 +49,7 @@ fn read_board(alloc: Global, text: &str) -> Result<Result<Command, TextRefusal>,
 /// The command to load the bytes of a program, or why the text is none. It fails where memory is
 /// refused.
 fn read_program(alloc: Global, text: &str) -> Result<Result<Command, TextRefusal>, AllocError>
-    ensures { IfOk result (λ spelled. spelled ≡ load_command (assembled text.now)) }
+    ensures { IfOk result (λ spelled. spelled ≡ load_command (assembly_of_text text.now)) }
 {
     match assemble(alloc, text) {
         Ok(image) => Ok(Ok(Command::Load(image))),
@@ -63,7 +63,7 @@ fn read_program(alloc: Global, text: &str) -> Result<Result<Command, TextRefusal
 /// The map of a program, or why the text is none. It fails where memory is refused.
 fn read_map(alloc: Global, text: &str) -> Result<Result<Vec<u8>, TextRefusal>, AllocError>
     ensures { IfOk result (λ told.
-        result_map_both (λ lines. Tells lines.items) (λ why. why) told ≡ mapped (surveyed text.now)) }
+        result_map_both (λ lines. Tells lines.items) (λ why. why) told ≡ program_map (survey_of_text text.now)) }
 {
     match survey(alloc, text) {
         Ok(survey) => Ok(Ok(survey_text(alloc, &survey)?)),

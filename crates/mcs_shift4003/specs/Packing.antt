@@ -1,7 +1,7 @@
 -- How words of ten bits hold a row of bits. (Our own choice.)
 use Rattle.std.specs.Prelude.{◌≡◌, ℕ, zero, suc, ◌+◌, ◌/◌, ◌%◌, ◌<◌, ◌≤◌, List, length, slice_index}
 use Rattle.mcs_nibble.specs.Bits.{bit_of}
-use Rattle.mcs_nibble.specs.Tabled.{tabled}
+use Rattle.mcs_nibble.specs.Tables.{table_of}
 
 -- bit i of the words
 abbrev pub packed_bit : List ℕ → ℕ → ℕ
@@ -14,7 +14,7 @@ bit_before level words (suc i) = packed_bit words i
 
 -- the first `bits` bits
 unfoldable pub chain_bits_of : ℕ → List ℕ → List ℕ
-chain_bits_of bits words = tabled bits (packed_bit words)
+chain_bits_of bits words = table_of bits (packed_bit words)
 
 -- words that hold that many bits and nothing else
 pub record IsPacked (bits : ℕ) (words : List ℕ) : Type 0 where

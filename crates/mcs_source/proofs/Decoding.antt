@@ -6,7 +6,7 @@ use Rattle.std.specs.List.{AllByRecursion}
 use Rattle.std.proofs.lemmas.Bool.{eqb-true, and_parts, true≢false}
 use Rattle.mcs_model.specs.declared.op.Op.{Op}
 use Rattle.mcs_model.specs.declared.op.Op.TheVariants.{Jcn, Fim, Jun, Jms, Isz}
-use Rattle.mcs_model.specs.Table.{word_count_of, Row, rows, covers, row_of, decoded}
+use Rattle.mcs_model.specs.Table.{word_count_of, Row, rows, covers, row_of, instruction_of}
 use Rattle.mcs_source.specs.Spelling.{IsOp, spelling, IsSpelledBy}
 
 -- the words of an instruction are these two, or the first; where the second is a byte, its operands
@@ -189,8 +189,8 @@ each_row first second = (
   ),
 )
 
-decoded_words : (first second : ℕ) (o : Op) → decoded first second ≡ Some o → Spells first second o
-unfolding decoded row_of
+decoded_words : (first second : ℕ) (o : Op) → instruction_of first second ≡ Some o → Spells first second o
+unfolding instruction_of row_of
 decoded_words first second o e =
     let Q : Option Row → Type 0 = λ x. find (covers (first / 16) (first % 16)) rows ≡ x → option_map (λ (r : Row). r.op first second) x ≡ Some o → Spells first second o in
     (elim (find (covers (first / 16) (first % 16)) rows) as Q [
@@ -198,7 +198,7 @@ decoded_words first second o e =
       | Some r ↦ λ found h. subst (Spells first second) (some_op (r.op first second) o h) (find_by (λ r. Spells first second (r.op first second)) (covers (first / 16) (first % 16)) rows (each_row first second) r found)
     ]) refl e
 
-pub decoded_spells : (first second : ℕ) (o : Op) → second < 256 → decoded first second ≡ Some o → IsSpelledBy first second o
+pub decoded_spells : (first second : ℕ) (o : Op) → second < 256 → instruction_of first second ≡ Some o → IsSpelledBy first second o
 decoded_spells first second o lt e = let s = decoded_words first second o e in (s.0 lt, s.1)
 
 pub one_or_two : (o : Op) → (word_count_of o ≡ 1) ⊎ (word_count_of o ≡ 2)
@@ -210,7 +210,7 @@ one_or_two (Isz _ _) = inr refl
 one_or_two _ = inl refl
 
 -- words that are read as an instruction, and are as many as it has, spell it
-pub words_spell : (first : ℕ) (second : Option ℕ) (o : Op) → decoded first (unwrap_or second 0) ≡ Some o → IsSome second ↔ (word_count_of o ≡ 2) → first ∷ option_to_list second ≡ spelling o
+pub words_spell : (first : ℕ) (second : Option ℕ) (o : Op) → instruction_of first (unwrap_or second 0) ≡ Some o → IsSome second ↔ (word_count_of o ≡ 2) → first ∷ option_to_list second ≡ spelling o
 words_spell first None o e both = elim (one_or_two o) [
   | inl one ↦ sym ((decoded_words first 0 o e).1 ∙ rw one refl)
   | inr two ↦ absurd (true≢false (sym (both.1 two)))

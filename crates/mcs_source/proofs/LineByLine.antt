@@ -8,7 +8,7 @@ use Rattle.std.proofs.lemmas.List.Elements.{filter_map-append}
 use Rattle.mcs_source.specs.declared.fault.SourceFault.{SourceFault}
 use Rattle.mcs_source.specs.Lines.{SourceLine}
 use Rattle.mcs_model.specs.TextLines.{lines_of}
-use Rattle.mcs_source.specs.Assembly.{Names, read, ith_line, next_at, address_of, definition, names_before, all_names, line_pairs, pairs_before, first_fault, first_of_class_one, first_of_class_two, spelt, assembled}
+use Rattle.mcs_source.specs.Assembly.{Names, read, ith_line, next_at, address_of, definition, names_before, all_names, line_pairs, pairs_before, first_fault, first_of_class_one, first_of_class_two, assembly_of, assembly_of_text}
 use Rattle.mcs_source.specs.Survey.{span, spans_before}
 use Rattle.mcs_model.proofs.ListLemmas.{range_more, find_at}
 use Rattle.mcs_model.specs.Options.{◌>>=◌}
@@ -102,9 +102,9 @@ first_of_rest lines i line more e =
 
 -- a text without faults
 pub all_passed : (text : List ℕ) (ls : List (List ℕ)) (names : Names) → ls ≡ lines_of text → first_of_class_one (read ls) ≡ None → names ≡ all_names (read ls) → first_of_class_two (read ls) names ≡ None
-    → assembled text ≡ Ok (pairs_before (read ls) names (length (read ls)))
-unfolding spelt
+    → assembly_of_text text ≡ Ok (pairs_before (read ls) names (length (read ls)))
+unfolding assembly_of
 all_passed text ls names is one same two =
     let two' : first_of_class_two (read ls) (all_names (read ls)) ≡ None = subst (λ (n : Names). first_of_class_two (read ls) n ≡ None) same two in
-    let whole : spelt (read ls) ≡ Ok (pairs_before (read ls) (all_names (read ls)) (length (read ls))) = rw (one, two') refl in
-    ap (λ (l : List (List ℕ)). spelt (read l)) (sym is) ∙ (whole ∙ ap (λ (n : Names). Ok (pairs_before (read ls) n (length (read ls)))) (sym same))
+    let whole : assembly_of (read ls) ≡ Ok (pairs_before (read ls) (all_names (read ls)) (length (read ls))) = rw (one, two') refl in
+    ap (λ (l : List (List ℕ)). assembly_of (read l)) (sym is) ∙ (whole ∙ ap (λ (n : Names). Ok (pairs_before (read ls) n (length (read ls)))) (sym same))

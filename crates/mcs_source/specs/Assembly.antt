@@ -164,35 +164,35 @@ is_near at t = t / 256 == page_of (at + 2)
 
 -- the bytes that a statement at an address spells, or the first of the faults 32, 33 and 34 that it
 -- has
-abbrev pub bytes_at : ℕ → Names → Statement → Result (List ℕ) SourceFault
-bytes_at at names (Origin n) = Ok []
-bytes_at at names (Data vs) =
+abbrev pub statement_bytes : ℕ → Names → Statement → Result (List ℕ) SourceFault
+statement_bytes at names (Origin n) = Ok []
+statement_bytes at names (Data vs) =
     if_known (values_in names vs) (λ ns. if_in_range (list_all (λ n. nat_lt n 256) ns) (Ok ns))
-bytes_at at names (Whole o) = Ok (spelling o)
-bytes_at at names (Ldm v) =
+statement_bytes at names (Whole o) = Ok (spelling o)
+statement_bytes at names (Ldm v) =
     if_known (value_in names v) (λ n. if_in_range (nat_lt n 16) (Ok (spelling (op.Ldm n))))
-bytes_at at names (Bbl v) =
+statement_bytes at names (Bbl v) =
     if_known (value_in names v) (λ n. if_in_range (nat_lt n 16) (Ok (spelling (op.Bbl n))))
-bytes_at at names (Jun v) =
+statement_bytes at names (Jun v) =
     if_known (value_in names v) (λ t.
     if_in_range (nat_lt t 4096) (Ok (spelling (op.Jun (t / 256) (t % 256)))))
-bytes_at at names (Jms v) =
+statement_bytes at names (Jms v) =
     if_known (value_in names v) (λ t.
     if_in_range (nat_lt t 4096) (Ok (spelling (op.Jms (t / 256) (t % 256)))))
-bytes_at at names (Fim p v) =
+statement_bytes at names (Fim p v) =
     if_known (value_in names v) (λ n. if_in_range (nat_lt n 256) (Ok (spelling (op.Fim p n))))
-bytes_at at names (Jcn v w) =
+statement_bytes at names (Jcn v w) =
     if_known (value_in names v) (λ n.
     if_known (value_in names w) (λ t.
     if_in_range (nat_lt n 16 && nat_lt t 4096)
     (if_on_page (is_near at t) (Ok (spelling (op.Jcn n (t % 256)))))))
-bytes_at at names (Isz r w) =
+statement_bytes at names (Isz r w) =
     if_known (value_in names w) (λ t.
     if_in_range (nat_lt t 4096) (if_on_page (is_near at t) (Ok (spelling (op.Isz r (t % 256))))))
 
 -- the bytes of a line whose statement stands at an address
 abbrev pub line_bytes : ℕ → Names → Option SourceLine → Result (List ℕ) SourceFault
-line_bytes at names (Some (Code label (Some s))) = bytes_at at names s
+line_bytes at names (Some (Code label (Some s))) = statement_bytes at names s
 line_bytes at names line = Ok []
 
 abbrev pub bytes_or_none : Result (List ℕ) SourceFault → List ℕ
@@ -244,13 +244,13 @@ unless_fault None answer = answer
 
 -- the first fault of class one if there is one, else the first one of class two, else the pairs of
 -- all lines
-unfoldable pub spelt : List (Option SourceLine) → Result (List (ℕ × ℕ)) (ℕ × SourceFault)
-spelt lines =
+unfoldable pub assembly_of : List (Option SourceLine) → Result (List (ℕ × ℕ)) (ℕ × SourceFault)
+assembly_of lines =
     unless_fault (first_of_class_one lines)
     (unless_fault (first_of_class_two lines (all_names lines))
     (Ok (pairs_before lines (all_names lines) (length lines))))
 
 -- the pairs that a text spells, in the order of its lines, or its first fault with the number of
 -- its line
-abbrev pub assembled : List ℕ → Result (List (ℕ × ℕ)) (ℕ × SourceFault)
-assembled text = spelt (read (lines_of text))
+abbrev pub assembly_of_text : List ℕ → Result (List (ℕ × ℕ)) (ℕ × SourceFault)
+assembly_of_text text = assembly_of (read (lines_of text))

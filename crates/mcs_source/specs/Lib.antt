@@ -1,7 +1,7 @@
-pub mod Refusal
+pub mod RefusalNumbers
 pub mod Spelling
 pub mod Lexical
-pub mod Names
+pub mod InstructionNames
 pub mod Mnemonics
 pub mod Lines
 pub mod Assembly

@@ -6,7 +6,7 @@ use Rattle.std.specs.Str.{str_eq_ignore_ascii_case}
 use Rattle.std.specs.Char.{is_ascii_digit, is_ascii_uppercase, is_ascii_lowercase}
 use Rattle.std.specs.Int.{is_in_range}
 use Rattle.mcs_source.specs.Lexical.{Token, Word, Comma, Colon, Equals}
-use Rattle.mcs_model.specs.Numerals.{number_written, capped}
+use Rattle.mcs_model.specs.Numerals.{number_written, capped_number}
 use Rattle.mcs_source.specs.Mnemonics.{mnemonic_of}
 use Rattle.mcs_model.specs.declared.limits.TheConstants.{NAME_BYTES}
 use Rattle.mcs_model.specs.declared.op.Op.{Op}
@@ -68,7 +68,7 @@ name_of w = if is_name w then Some (Name w) else None
 
 -- no word is both a number and a name
 abbrev pub number_or : Option ℕ → Option Operand → Option Operand
-number_or (Some n) name = Some (Number (capped n))
+number_or (Some n) name = Some (Number (capped_number n))
 number_or None name = name
 
 abbrev pub operand_of : List ℕ → Option Operand
@@ -89,7 +89,7 @@ abbrev pub one_operand : List Token → Option Operand
 one_operand ts = word_only ts >>= operand_of
 
 abbrev pub one_number : List Token → Option ℕ
-one_number ts = word_only ts >>= λ w. number_written w >>= λ n. Some (capped n)
+one_number ts = word_only ts >>= λ w. number_written w >>= λ n. Some (capped_number n)
 
 abbrev pub one_register : List Token → Option ℕ
 one_register ts = word_only ts >>= register_named

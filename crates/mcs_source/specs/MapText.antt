@@ -30,12 +30,12 @@ abbrev pub name_row : List ℕ × ℕ → List ℕ
 name_row name = codes "name " ++ name.0 ++ codes " " ++ place_text name.1
 
 -- each row ends with LF
-abbrev pub text_of : List (List ℕ) → List ℕ
-text_of rows = flat_map as_line rows
+abbrev pub rows_text : List (List ℕ) → List ℕ
+rows_text rows = flat_map as_line rows
 
 -- the whole; lines count from 1
 unfoldable pub survey_text : Survey → List ℕ
 survey_text s =
     as_line (head_row (length s.spans) (length s.names))
-    ++ text_of (line_rows 1 s.spans)
-    ++ text_of (map name_row s.names)
+    ++ rows_text (line_rows 1 s.spans)
+    ++ rows_text (map name_row s.names)

@@ -6,7 +6,7 @@ use Rattle.std.specs.List.{range_with_len}
 use Rattle.mcs_source.specs.declared.fault.SourceFault.{SourceFault}
 use Rattle.mcs_source.specs.declared.survey.Span.{Span}
 use Rattle.mcs_source.specs.Lines.{SourceLine}
-use Rattle.mcs_source.specs.Assembly.{Names, read, address_of, all_names, line_pairs, assembled}
+use Rattle.mcs_source.specs.Assembly.{Names, read, address_of, all_names, line_pairs, assembly_of_text}
 use Rattle.mcs_model.specs.TextLines.{lines_of}
 
 -- where the statement of line i stands, and how many bytes the line spells
@@ -34,7 +34,7 @@ survey_of lines = record {
   names = all_names lines;
 }
 
--- the survey of a text that assembles; of any other its first fault, as `assembled` has it
-abbrev pub surveyed : List ℕ → Result Survey (ℕ × SourceFault)
-surveyed text =
-    result_map_both (λ pairs. survey_of (read (lines_of text))) (λ f. f) (assembled text)
+-- the survey of a text that assembles; of any other its first fault, as `assembly_of_text` has it
+abbrev pub survey_of_text : List ℕ → Result Survey (ℕ × SourceFault)
+survey_of_text text =
+    result_map_both (λ pairs. survey_of (read (lines_of text))) (λ f. f) (assembly_of_text text)

@@ -8,10 +8,10 @@ use Rattle.mcs_model.specs.declared.op.Op.{Op}
 use Rattle.mcs_model.specs.declared.op.Op.TheVariants.{Jcn, Fim, Src, Fin, Jin, Jun, Jms, Inc, Isz, Add, Sub, Ld, Xch, Bbl, Ldm}
 use Rattle.mcs_model.specs.Numbers.{page_of}
 use Rattle.mcs_model.specs.QueryText.{as_line, hex_2, hex_digit}
-use Rattle.mcs_model.specs.Table.{decoded, word_count_of}
+use Rattle.mcs_model.specs.Table.{instruction_of, word_count_of}
 use Rattle.mcs_model.specs.Images.{from_address}
-use Rattle.mcs_source.specs.Assembly.{assembled}
-use Rattle.mcs_source.specs.Names.{name}
+use Rattle.mcs_source.specs.Assembly.{assembly_of_text}
+use Rattle.mcs_source.specs.InstructionNames.{name}
 
 -- the three digits of an address, by its page and its word
 abbrev pub address_digits : ℕ → ℕ → List ℕ
@@ -64,7 +64,7 @@ second_word (c ∷ rest) = c
 
 -- the instruction whose first word is `b`, before the rest of the bytes
 unfoldable pub op_at : ℕ → List ℕ → Option Op
-op_at b rest = whole_or_byte (decoded b (second_word rest)) b rest
+op_at b rest = whole_or_byte (instruction_of b (second_word rest)) b rest
 
 -- a piece is an instruction, or a byte that is not one
 abbrev pub piece_text : ℕ → ℕ → Option Op → List ℕ
@@ -107,7 +107,7 @@ source_text rom from to = source_of from (range rom from to)
 -- its address
 abbrev pub SpellsItself : List ℕ → ℕ → ℕ → Type 0
 SpellsItself rom from to =
-    assembled (source_text rom from to) ≡ Ok (from_address from (range rom from to))
+    assembly_of_text (source_text rom from to) ≡ Ok (from_address from (range rom from to))
 
 -- ---- the listing
 

@@ -1,6 +1,6 @@
 //! What can be wrong with a line of a source text.
 ghost use Rattle.std.specs.Prelude.{◌≡◌};
-ghost use Rattle.mcs_source.specs.Refusal.{source_fault_number};
+ghost use Rattle.mcs_source.specs.RefusalNumbers.{source_fault_number};
 
 use mcs_model::refusal_numbers;
 use thiserror::Error;

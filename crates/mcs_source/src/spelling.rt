@@ -2,11 +2,11 @@
 ghost use Rattle.std.specs.Prelude.{◌≡◌, ◌<◌, ℕ, Some};
 ghost use Rattle.mcs_model.specs.declared.op.Op.{Op};
 ghost use Rattle.mcs_source.specs.Spelling.{IsSpelledBy};
-ghost use Rattle.mcs_model.specs.Table.{decoded};
+ghost use Rattle.mcs_model.specs.Table.{instruction_of};
 
 /// The law on the code table: what it reads from two words is spelled by those words. It holds for
 /// each code; the function does nothing.
 pub fn spelling_law()
     ensures { (first second : ℕ) (o : Op) → second < 256
-        → decoded first second ≡ Some o → IsSpelledBy first second o }
+        → instruction_of first second ≡ Some o → IsSpelledBy first second o }
 {}

@@ -1,8 +1,8 @@
 //! Where the lines of a source text stand.
 ghost use Rattle.std.specs.Prelude.{◌≡◌, ℕ, List, Ok, map};
 ghost use Rattle.std.specs.List.{flat_map};
-ghost use Rattle.mcs_source.specs.Assembly.{assembled};
-ghost use Rattle.mcs_source.specs.Survey.{Survey, addresses, surveyed};
+ghost use Rattle.mcs_source.specs.Assembly.{assembly_of_text};
+ghost use Rattle.mcs_source.specs.Survey.{Survey, addresses, survey_of_text};
 
 /// Where the statement of a line stands, or would stand, and how many bytes the line spells.
 #[derive(Clone, Copy, Debug, PartialEq, Eq)]
@@ -16,6 +16,6 @@ pub struct Span {
 /// The law of surveys: the addresses that a text spells, in the order of its lines, are those of its
 /// spans, one after the other. It holds for each text; the function does nothing.
 pub fn spans_law()
-    ensures { (text : List ℕ) (pairs : List (ℕ × ℕ)) (survey : Survey) → assembled text ≡ Ok pairs
-        → surveyed text ≡ Ok survey → map (λ p. p.0) pairs ≡ flat_map addresses survey.spans }
+    ensures { (text : List ℕ) (pairs : List (ℕ × ℕ)) (survey : Survey) → assembly_of_text text ≡ Ok pairs
+        → survey_of_text text ≡ Ok survey → map (λ p. p.0) pairs ≡ flat_map addresses survey.spans }
 {}

@@ -8,8 +8,8 @@ use Rattle.mcs_version1.specs.Command.{in_version_1, after_1}
 use Rattle.mcs_version1.specs.BenchState.{BenchState1}
 use Rattle.mcs_version1.specs.Fold.{fold_1, AreAccepted1}
 use Rattle.mcs_version1.specs.Lift.{lift, IsLifted, lift_query}
-use Rattle.mcs_version1.specs.QueryText.{Query1, text_1, Lamps, Regs, Ram, Breaks, Seq}
-use Rattle.mcs_model.specs.QueryText.{text}
+use Rattle.mcs_version1.specs.QueryText.{Query1, text_of_query_1, Lamps, Regs, Ram, Breaks, Seq}
+use Rattle.mcs_model.specs.QueryText.{text_of_query}
 
 pub command-lifts : (s : BenchState1) (c : Command) → IsTrue (in_version_1 c) → IsLifted s c
 command-lifts s (Wire board) h = record { refusal = refl; after = refl; reply = refl }
@@ -33,7 +33,7 @@ command-lifts s (Unbreak at) h = record { refusal = refl; after = refl; reply = 
 command-lifts s (Watch bank src) h = absurd (cc)
 command-lifts s (Unwatch bank src) h = absurd (cc)
 
-pub query-lifts : (s : BenchState1) (q : Query1) → text (lift_query q) (lift s) ≡ text_1 q s
+pub query-lifts : (s : BenchState1) (q : Query1) → text_of_query (lift_query q) (lift s) ≡ text_of_query_1 q s
 query-lifts s Lamps = refl
 query-lifts s Regs = refl
 query-lifts s (Ram bank) = refl

@@ -78,23 +78,23 @@ with_place_1 s (Ram bank src n) = with_bus_1 s (with_ram s.bus bank src n)
 with_place_1 s (Status bank high k n) = with_bus_1 s (with_status s.bus bank high k n)
 
 -- what a command does, except for the count of commands
-abbrev pub changed_1 : BenchState1 → Command → BenchState1
-changed_1 s (Wire board) = with_machine_1 s (new_regs, after_wire s.bus board)
-changed_1 s (Load image) = with_bus_1 s (with_rom_bytes s.bus image)
-changed_1 s (Press row column) = with_bus_1 s (with_key s.bus row column 1)
-changed_1 s (Release row column) = with_bus_1 s (with_key s.bus row column 0)
-changed_1 s (Run n) = with_machine_1 s (after_run_1 s.breakpoints n (machine_of_1 s))
-changed_1 s Step = with_machine_1 s (after_step (machine_of_1 s))
-changed_1 s (Poke place) = with_place_1 s place
-changed_1 s (Test bit) = with_bus_1 s (record s.bus { test = bit })
-changed_1 s Reset = with_machine_1 s (new_regs, after_reset s.bus)
-changed_1 s (Break at) = record s { breakpoints = with_listed s.breakpoints at }
-changed_1 s (Unbreak at) = record s { breakpoints = without_listed s.breakpoints at }
-changed_1 s _ = s
+abbrev pub after_change_1 : BenchState1 → Command → BenchState1
+after_change_1 s (Wire board) = with_machine_1 s (new_regs, after_wire s.bus board)
+after_change_1 s (Load image) = with_bus_1 s (with_rom_bytes s.bus image)
+after_change_1 s (Press row column) = with_bus_1 s (with_key s.bus row column 1)
+after_change_1 s (Release row column) = with_bus_1 s (with_key s.bus row column 0)
+after_change_1 s (Run n) = with_machine_1 s (after_run_1 s.breakpoints n (machine_of_1 s))
+after_change_1 s Step = with_machine_1 s (after_step (machine_of_1 s))
+after_change_1 s (Poke place) = with_place_1 s place
+after_change_1 s (Test bit) = with_bus_1 s (record s.bus { test = bit })
+after_change_1 s Reset = with_machine_1 s (new_regs, after_reset s.bus)
+after_change_1 s (Break at) = record s { breakpoints = with_listed s.breakpoints at }
+after_change_1 s (Unbreak at) = record s { breakpoints = without_listed s.breakpoints at }
+after_change_1 s _ = s
 
 -- the state after an accepted command: each raises the count by one, also where nothing else changes
 abbrev pub after_1 : BenchState1 → Command → BenchState1
-after_1 s c = record (changed_1 s c) { seq = s.seq + 1 }
+after_1 s c = record (after_change_1 s c) { seq = s.seq + 1 }
 
 -- ---- what they answer
 

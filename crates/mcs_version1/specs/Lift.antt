@@ -6,11 +6,11 @@ use Rattle.mcs_model.specs.declared.query.Query.TheVariants as asked
 use Rattle.mcs_model.specs.Command.{refusal, after, reply}
 use Rattle.mcs_model.specs.BenchState.{BenchState}
 use Rattle.mcs_model.specs.Fold.{fold}
-use Rattle.mcs_model.specs.QueryText.{text}
+use Rattle.mcs_model.specs.QueryText.{text_of_query}
 use Rattle.mcs_version1.specs.Command.{in_version_1, refusal_1, after_1, reply_1}
 use Rattle.mcs_version1.specs.BenchState.{BenchState1}
 use Rattle.mcs_version1.specs.Fold.{fold_1, AreAccepted1}
-use Rattle.mcs_version1.specs.QueryText.{Query1, text_1, Lamps, Regs, Ram, Breaks, Seq}
+use Rattle.mcs_version1.specs.QueryText.{Query1, text_of_query_1, Lamps, Regs, Ram, Breaks, Seq}
 
 -- the same fields, and nothing is watched; the board and what its chips hold are the same
 abbrev pub lift : BenchState1 → BenchState
@@ -34,7 +34,7 @@ abbrev pub CommandsLift : Type 0
 CommandsLift = (s : BenchState1) (c : Command) → IsTrue (in_version_1 c) → IsLifted s c
 
 abbrev pub QueriesLift : Type 0
-QueriesLift = (s : BenchState1) (q : Query1) → text (lift_query q) (lift s) ≡ text_1 q s
+QueriesLift = (s : BenchState1) (q : Query1) → text_of_query (lift_query q) (lift s) ≡ text_of_query_1 q s
 
 abbrev pub FoldsLift : Type 0
 FoldsLift =

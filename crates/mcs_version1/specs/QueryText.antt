@@ -13,9 +13,9 @@ pub data Query1 : Type 0 where
   Seq : Query1
 
 -- the answer to a query
-abbrev pub text_1 : Query1 → BenchState1 → List ℕ
-text_1 Lamps s = lamps_text s.bus
-text_1 Regs s = regs_text s.processor s.bus.test
-text_1 (Ram bank) s = join_with_byte 10 (ram_lines s.bus bank)
-text_1 Breaks s = breaks_text s.breakpoints
-text_1 Seq s = seq_text s.seq
+abbrev pub text_of_query_1 : Query1 → BenchState1 → List ℕ
+text_of_query_1 Lamps s = lamps_text s.bus
+text_of_query_1 Regs s = regs_text s.processor s.bus.test
+text_of_query_1 (Ram bank) s = join_with_byte 10 (ram_lines s.bus bank)
+text_of_query_1 Breaks s = breaks_text s.breakpoints
+text_of_query_1 Seq s = seq_text s.seq

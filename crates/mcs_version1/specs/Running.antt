@@ -3,7 +3,7 @@ use Rattle.std.specs.Prelude.{ℕ, ◌+◌, List, Option, Some, None, is_some, i
 use Rattle.std.specs.List.{range_with_len}
 use Rattle.mcs_model.specs.declared.stop.Stop.{Stop}
 use Rattle.mcs_model.specs.declared.stop.Stop.TheVariants.{Outside, Breakpoint, Ended}
-use Rattle.mcs_model.specs.Running.{Machine, is_outside, cycled, at_break}
+use Rattle.mcs_model.specs.Running.{Machine, is_outside, after_cycles, at_break}
 
 -- whether a run of n cycles stops after k of them, at the machine s, and why
 abbrev pub stop_at_1 : List ℕ → ℕ → ℕ → Machine → Option Stop
@@ -16,11 +16,11 @@ stop_at_1 breaks n k s =
 -- how many cycles a run of n cycles takes: the least k at which it stops
 abbrev pub run_length_1 : List ℕ → ℕ → Machine → ℕ
 run_length_1 breaks n s =
-    unwrap_or (find (λ k. is_some (stop_at_1 breaks n k (cycled k s))) (range_with_len 0 (n + 1))) n
+    unwrap_or (find (λ k. is_some (stop_at_1 breaks n k (after_cycles k s))) (range_with_len 0 (n + 1))) n
 
 -- the machine after a run of n cycles
 abbrev pub after_run_1 : List ℕ → ℕ → Machine → Machine
-after_run_1 breaks n s = cycled (run_length_1 breaks n s) s
+after_run_1 breaks n s = after_cycles (run_length_1 breaks n s) s
 
 -- why a run of n cycles stops
 abbrev pub run_stop_1 : List ℕ → ℕ → Machine → Stop

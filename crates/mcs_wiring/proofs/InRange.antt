@@ -6,7 +6,7 @@ use Rattle.std.specs.List.{list_any, filter_map, cons_option, range_with_len}
 use Rattle.std.specs.Option.{option_to_list, option_map_or}
 use Rattle.std.specs.Char.{is_ascii_digit}
 use Rattle.toml.specs.Data.{Data, Members, get_member, as_integer, as_str, as_table}
-use Rattle.mcs_nibble.specs.Tabled.{tabled}
+use Rattle.mcs_nibble.specs.Tables.{table_of}
 use Rattle.mcs_model.specs.declared.board.BoardParts.{BoardParts}
 use Rattle.mcs_model.specs.declared.board.ChainPart.{ChainPart}
 use Rattle.mcs_model.specs.declared.board.KeyMatrix.{KeyMatrix}
@@ -20,8 +20,8 @@ use Rattle.mcs_wiring.specs.Flaws.{judgement_of, board_of_parts}
 use Rattle.mcs_wiring.specs.declared.sections.Numbered.{Numbered}
 use Rattle.mcs_wiring.specs.declared.sections.Section.{Section}
 use Rattle.mcs_wiring.specs.declared.sections.Section.TheVariants.{Rom, Ram, Chain, Keys, Lamp}
-use Rattle.mcs_wiring.specs.Names.{below_or_none, number_below, rest_after, rom_line_named, ram_line_named, chain_line_named, line_named, parts_around_dot}
-use Rattle.mcs_wiring.specs.Wiring.{within_or_none, number_at, line_of, line_at, part_of, ram_in, chain_in, matrix_in, lamp_in, values_at, is_no_line, are_bad_columns, has_bad_columns, is_malformed, has_bad_value, section_values, any_section, lacks_array, keys_table, part_at, rams_of, parts_of}
+use Rattle.mcs_wiring.specs.LineNames.{below_or_none, number_below, rest_after, rom_line_named, ram_line_named, chain_line_named, line_named, parts_around_dot}
+use Rattle.mcs_wiring.specs.Wiring.{within_or_none, number_at, line_in, line_at, part_of, ram_in, chain_in, matrix_in, lamp_in, values_at, is_no_line, are_bad_columns, has_bad_columns, is_malformed, has_malformed_value, section_values, any_section, lacks_array, keys_table, part_at, rams_of, parts_in}
 use Rattle.mcs_wiring.specs.Format.{sections}
 
 -- ---- what a step of a reading had
@@ -104,11 +104,11 @@ line_in_range text l e = named_in_range (rest_after (codes "rom") text) (rest_af
 abbrev is_out : Line → Bool
 is_out l = not (boards.in_range l)
 
-of_in_range : (d : Data) (l : Line) → line_of d ≡ Some l → is_out l ≡ false
+of_in_range : (d : Data) (l : Line) → line_in d ≡ Some l → is_out l ≡ false
 of_in_range d l e = let (text, _, read) = bound (as_str d) line_named l e in ap not (line_in_range text l read)
 
 at_in_range : (key : List ℕ) (ms : Members) (l : Line) → line_at key ms ≡ Some l → is_out l ≡ false
-at_in_range key ms l e = let (d, _, read) = bound (get_member key ms) line_of l e in of_in_range d l read
+at_in_range key ms l e = let (d, _, read) = bound (get_member key ms) line_in l e in of_in_range d l read
 
 -- ---- lists of parts
 
@@ -124,8 +124,8 @@ any-map : {X Y : Type 0} (q : Y → Bool) (f : X → Y) → ((x : X) → q (f x)
 any-map q f h [] = refl
 any-map q f h (x ∷ xs) = rw (h x) (any-map q f h xs)
 
-any-tabled : {Y : Type 0} (q : Y → Bool) (f : ℕ → Y) → ((k : ℕ) → q (f k) ≡ false) → (n : ℕ) → list_any q (tabled n f) ≡ false
-unfolding tabled
+any-tabled : {Y : Type 0} (q : Y → Bool) (f : ℕ → Y) → ((k : ℕ) → q (f k) ≡ false) → (n : ℕ) → list_any q (table_of n f) ≡ false
+unfolding table_of
 any-tabled q f h n = any-map q f h (range_with_len 0 n)
 
 abbrev above : ℕ → Bool
@@ -153,7 +153,7 @@ part_within (p ∷ ps) n h =
     let (here, later) = or_parts (above p.part) (list_any (λ (q : Numbered ℕ). above q.part) ps) h in
     chosen (eqb p.number n) p.part (part_at 0 ps n) here (part_within ps n later)
 
-banks_within : (ms : Members) → list_any above (parts_of ms).banks ≡ false
+banks_within : (ms : Members) → list_any above (parts_in ms).banks ≡ false
 banks_within ms =
     let rams = none_of (λ (p : Numbered ℕ). above p.part) (part_of ram_in) ram_within (values_at (codes "ram") ms) in
     any-tabled above (part_at 0 (rams_of ms)) (λ k. part_within (rams_of ms) k rams) BANKS
@@ -181,11 +181,11 @@ some_first : (o : Option Line) (ls : List Line) → is_none o ≡ false → 0 < 
 some_first None ls h = absurd (true≢false h)
 some_first (Some l) ls h = omega arith
 
-some_columns : (ds : List Data) → are_bad_columns ds ≡ false → 0 < length (filter_map line_of ds)
+some_columns : (ds : List Data) → are_bad_columns ds ≡ false → 0 < length (filter_map line_in ds)
 some_columns [] h = absurd (true≢false h)
 some_columns (d ∷ ds) h =
     let (here, later) = or_parts (is_no_line d) (list_any is_no_line ds) h in
-    some_first (line_of d) (filter_map line_of ds) here
+    some_first (line_in d) (filter_map line_in ds) here
 
 abbrev IsRightMatrix : KeyMatrix → Type 0
 IsRightMatrix m = (not (boards.is_matrix_size m) ≡ false) × (list_any is_out m.columns.items ≡ false)
@@ -196,7 +196,7 @@ matrix_right t m e good =
     let (first, first_is, e2) = bound (number_at (codes "first") 0 (CHAIN_BITS - 1) t) _ m e1 in
     let (rows, rows_is, e3) = bound (number_at (codes "rows") 1 KEY_ROWS t) _ m e2 in
     let values = values_at (codes "columns") t in
-    let made : KeyMatrix = record { chain = chain; first = first; rows = rows; columns = record { items = filter_map line_of values } } in
+    let made : KeyMatrix = record { chain = chain; first = first; rows = rows; columns = record { items = filter_map line_in values } } in
     let same : made ≡ m = same_Some made m e3 in
     let (_, chain_high) = number_bounds (codes "chain") 0 (CHAINS - 1) t chain chain_is in
     let (_, first_high) = number_bounds (codes "first") 0 (CHAIN_BITS - 1) t first first_is in
@@ -205,9 +205,9 @@ matrix_right t m e good =
     let b : ltb first CHAIN_BITS ≡ true = lt-ltb first CHAIN_BITS (omega arith) in
     let c : ltb 0 rows ≡ true = lt-ltb 0 rows rows_low in
     let d : leb rows KEY_ROWS ≡ true = le-leb rows KEY_ROWS rows_high in
-    let f : ltb 0 (length (filter_map line_of values)) ≡ true = lt-ltb 0 _ (some_columns values good) in
+    let f : ltb 0 (length (filter_map line_in values)) ≡ true = lt-ltb 0 _ (some_columns values good) in
     let sized : not (boards.is_matrix_size made) ≡ false = rw (a, b, c, d, f) refl in
-    let lines : list_any is_out made.columns.items ≡ false = none_of is_out line_of of_in_range values in
+    let lines : list_any is_out made.columns.items ≡ false = none_of is_out line_in of_in_range values in
     (ap (λ (x : KeyMatrix). not (boards.is_matrix_size x)) (sym same) ∙ sized, ap (λ (x : KeyMatrix). list_any is_out x.columns.items) (sym same) ∙ lines)
 
 abbrev IsRight : Option KeyMatrix → Type 0
@@ -226,7 +226,7 @@ good_columns (Some d) t h e =
     let (_, columns) = or_parts (is_none (part_of matrix_in d)) (option_map_or has_bad_columns (as_table d) true) bad in
     ap (λ o. option_map_or has_bad_columns o true) (sym e) ∙ columns
 
-keys_right : (ms : Members) → has_bad_value ms ≡ false → IsRight (parts_of ms).keys
+keys_right : (ms : Members) → has_malformed_value ms ≡ false → IsRight (parts_in ms).keys
 keys_right ms h =
     let any = λ (s : Section). list_any (is_malformed s) (section_values s ms) in
     let (_, h1) = or_parts (list_any (lacks_array ms) sections) (any_section is_malformed ms) h in
@@ -246,9 +246,9 @@ lamp_right d l e = let (ms, _, read) = bound (as_table d) lamp_in l e in at_in_r
 all_false : (a b c d e f : Bool) → a ≡ false → b ≡ false → c ≡ false → d ≡ false → e ≡ false → f ≡ false → (((a || b) || c) || ((d || e) || f)) ≡ false
 all_false a b c d e f ha hb hc hd he hf = rw (ha, hb, hc, hd, he, hf) refl
 
-pub in_range : (ms : Members) → has_bad_value ms ≡ false → boards.has_bad_value (parts_of ms) ≡ false
+pub in_range : (ms : Members) → has_malformed_value ms ≡ false → boards.has_bad_value (parts_in ms) ≡ false
 in_range ms h =
-    let b = parts_of ms in
+    let b = parts_in ms in
     let chains = values_at (codes "chain") ms in
     let keys = keys_right ms h in
     all_false (list_any above b.banks) (list_any (λ c. not (boards.is_chain_size c)) b.chains.items) (boards.has_bad_matrix b)
@@ -266,7 +266,7 @@ judged_tests b false false true h = refl
 judged_tests b false false false h = refl
 
 -- nothing but 25 and 26 can be wrong with the parts
-pub judged_parts : (ms : Members) → has_bad_value ms ≡ false → judgement_of (parts_of ms) (boards.board_fault_of (parts_of ms)) ≡ board_of_parts (parts_of ms)
+pub judged_parts : (ms : Members) → has_malformed_value ms ≡ false → judgement_of (parts_in ms) (boards.board_fault_of (parts_in ms)) ≡ board_of_parts (parts_in ms)
 judged_parts ms h =
-    let b = parts_of ms in
+    let b = parts_in ms in
     judged_tests b (boards.has_bad_value b) (boards.lacks_line b) (boards.has_wrong_direction b) (in_range ms h)

@@ -8,7 +8,7 @@ use Rattle.mcs_model.specs.declared.board.Line.{Line}
 use Rattle.mcs_model.specs.declared.board.Line.TheVariants.{Rom, Ram, Chain}
 use Rattle.mcs_model.specs.declared.limits.TheConstants.{ROMS, BANKS, BANK_CHIPS, CHAINS, CHAIN_BITS}
 use Rattle.mcs_model.specs.Boards.{in_range}
-use Rattle.mcs_wiring.specs.Names.{line_name, line_named, masks_named, port_name}
+use Rattle.mcs_wiring.specs.LineNames.{line_name, line_named, masks_named, port_name}
 use Rattle.mcs_nibble.proofs.PortLemmas.{mask_again}
 
 -- ---- ports

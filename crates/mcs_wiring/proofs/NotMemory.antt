@@ -5,7 +5,7 @@ use Rattle.mcs_model.specs.declared.board.BoardParts.{BoardParts}
 use Rattle.mcs_model.specs.Boards.{lacks_line, has_wrong_direction}
 use Rattle.mcs_wiring.specs.declared.fault.WiringFault.{WiringFault}
 use Rattle.mcs_wiring.specs.declared.fault.WiringFault.TheVariants.{UnknownKey, MissingKey, BadValue, TooManyParts, DoubleChip, NoSuchLine, WrongDirection, NoMemory}
-use Rattle.mcs_wiring.specs.Wiring.{has_unknown_key, has_missing_key, has_bad_value, has_too_many, has_double_chip, parts_of, board_of_table}
+use Rattle.mcs_wiring.specs.Wiring.{has_unknown_key, has_missing_key, has_malformed_value, has_too_many, has_double_chip, parts_in, board_of_table}
 
 abbrev Answer : Type 0
 Answer = Result BoardParts WiringFault
@@ -19,8 +19,8 @@ unfolding board_of_table
 not_memory ms =
     not_first (has_unknown_key ms) UnknownKey _ (λ e. cc) (
     not_first (has_missing_key ms) MissingKey _ (λ e. cc) (
-    not_first (has_bad_value ms) BadValue _ (λ e. cc) (
+    not_first (has_malformed_value ms) BadValue _ (λ e. cc) (
     not_first (has_too_many ms) TooManyParts _ (λ e. cc) (
     not_first (has_double_chip ms) DoubleChip _ (λ e. cc) (
-    not_first (lacks_line (parts_of ms)) NoSuchLine _ (λ e. cc) (
-    not_first (has_wrong_direction (parts_of ms)) WrongDirection _ (λ e. cc) (λ e. cc)))))))
+    not_first (lacks_line (parts_in ms)) NoSuchLine _ (λ e. cc) (
+    not_first (has_wrong_direction (parts_in ms)) WrongDirection _ (λ e. cc) (λ e. cc)))))))

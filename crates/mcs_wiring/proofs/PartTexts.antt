@@ -7,7 +7,7 @@ use Rattle.mcs_nibble.specs.Ports.{mask_at, mask_character}
 use Rattle.mcs_model.specs.declared.board.ChainPart.{ChainPart}
 use Rattle.mcs_model.specs.declared.board.KeyMatrix.{KeyMatrix}
 use Rattle.mcs_model.specs.declared.board.Line.{Line}
-use Rattle.mcs_wiring.specs.Names.{port_name}
+use Rattle.mcs_wiring.specs.LineNames.{port_name}
 use Rattle.std.specs.Option.{option_map_or}
 use Rattle.std.proofs.lemmas.List.{flat_map_more, take_more}
 use Rattle.std.proofs.lemmas.List.Concat.{flat_map-append}

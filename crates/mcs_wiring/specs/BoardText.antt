@@ -11,7 +11,7 @@ use Rattle.mcs_model.specs.declared.board.Line.{Line}
 use Rattle.mcs_model.specs.declared.limits.TheConstants.{ROMS, BANKS}
 use Rattle.mcs_model.specs.Boards.{masks_on}
 use Rattle.mcs_model.specs.QueryText.{as_line}
-use Rattle.mcs_wiring.specs.Names.{line_name, port_name}
+use Rattle.mcs_wiring.specs.LineNames.{line_name, port_name}
 
 -- `key = value`
 abbrev pub entry : List ℕ → List ℕ → List ℕ

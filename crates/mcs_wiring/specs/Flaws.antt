@@ -11,9 +11,9 @@ use Rattle.mcs_wiring.specs.declared.fault.WiringFault.TheVariants.{DoubleChip, 
 use Rattle.mcs_wiring.specs.declared.sections.Flaw.{Flaw}
 use Rattle.mcs_wiring.specs.declared.sections.Flaw.TheVariants.{UnknownKey, MissingKey, BadValue}
 use Rattle.mcs_wiring.specs.declared.sections.Section.{Section}
-use Rattle.mcs_wiring.specs.Refusals.{refusal_of}
+use Rattle.mcs_wiring.specs.RefusalNumbers.{refusal_of}
 use Rattle.mcs_wiring.specs.BoardText.{rom_lines, bank_lines, text_of}
-use Rattle.mcs_wiring.specs.Wiring.{has_other_key, lacks_key, is_malformed, values_at, column_values, has_double_chip, parts_of}
+use Rattle.mcs_wiring.specs.Wiring.{has_other_key, lacks_key, is_malformed, values_at, column_values, has_double_chip, parts_in}
 
 -- whether a value in the place of a section's table has a flaw
 abbrev pub has_flaw : Flaw → Section → Data → Bool
@@ -56,4 +56,4 @@ board_of_parts parts =
     else Ok parts
 
 abbrev pub board_within_limits : Members → Result BoardParts WiringFault
-board_within_limits ms = if has_double_chip ms then Err DoubleChip else board_of_parts (parts_of ms)
+board_within_limits ms = if has_double_chip ms then Err DoubleChip else board_of_parts (parts_in ms)

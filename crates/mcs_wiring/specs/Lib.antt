@@ -1,6 +1,6 @@
-pub mod Refusals
+pub mod RefusalNumbers
 pub mod Format
-pub mod Names
+pub mod LineNames
 pub mod Wiring
 pub mod Flaws
 pub mod BoardText

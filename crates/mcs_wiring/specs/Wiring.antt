@@ -5,7 +5,7 @@ use Rattle.std.specs.Option.{option_to_list, option_map_or}
 use Rattle.toml.specs.Data.{Data, array, table, Items, no_items, item, Members, no_members, member, get_member, as_str, as_integer, as_array, as_table}
 use Rattle.toml.specs.Parse.{parse_document}
 use Rattle.mcs_nibble.specs.declared.lines.LineMask.{LineMask}
-use Rattle.mcs_nibble.specs.Tabled.{tabled}
+use Rattle.mcs_nibble.specs.Tables.{table_of}
 use Rattle.mcs_model.specs.declared.board.BoardParts.{BoardParts}
 use Rattle.mcs_model.specs.declared.board.ChainPart.{ChainPart}
 use Rattle.mcs_model.specs.declared.board.KeyMatrix.{KeyMatrix}
@@ -18,7 +18,7 @@ use Rattle.mcs_wiring.specs.declared.sections.Numbered.{Numbered}
 use Rattle.mcs_wiring.specs.declared.sections.Section.{Section}
 use Rattle.mcs_wiring.specs.declared.sections.Section.TheVariants.{Rom, Ram, Chain, Keys, Lamp}
 use Rattle.mcs_wiring.specs.Format.{sections, section_key, table_keys, is_board_key, is_section_key}
-use Rattle.mcs_wiring.specs.Names.{line_named, masks_named}
+use Rattle.mcs_wiring.specs.LineNames.{line_named, masks_named}
 use Rattle.mcs_model.specs.Options.{◌>>=◌}
 
 -- ---- what stands in a table
@@ -83,11 +83,11 @@ within_or_none least most (negsuc n) = None
 abbrev pub number_at : List ℕ → ℕ → ℕ → Members → Option ℕ
 number_at key least most ms = get_member key ms >>= as_integer >>= within_or_none least most
 
-abbrev pub line_of : Data → Option Line
-line_of d = as_str d >>= line_named
+abbrev pub line_in : Data → Option Line
+line_in d = as_str d >>= line_named
 
 abbrev pub line_at : List ℕ → Members → Option Line
-line_at key ms = get_member key ms >>= line_of
+line_at key ms = get_member key ms >>= line_in
 
 -- a ROM: its chip and its masks
 abbrev pub rom_in : Members → Option (Numbered (Option (List LineMask)))
@@ -120,12 +120,12 @@ matrix_in ms =
       chain = chain;
       first = first;
       rows = rows;
-      columns = record { items = filter_map line_of (values_at (codes "columns") ms) };
+      columns = record { items = filter_map line_in (values_at (codes "columns") ms) };
     }))))
 
 -- no array, an empty one, or one with something that is no line
 abbrev pub is_no_line : Data → Bool
-is_no_line d = is_none (line_of d)
+is_no_line d = is_none (line_in d)
 
 abbrev pub are_bad_columns : List Data → Bool
 are_bad_columns [] = true
@@ -159,8 +159,8 @@ abbrev pub lacks_array : Members → Section → Bool
 lacks_array ms Keys = false
 lacks_array ms s = is_no_array (get_member (section_key s) ms)
 
-abbrev pub has_bad_value : Members → Bool
-has_bad_value ms = list_any (lacks_array ms) sections || any_section is_malformed ms
+abbrev pub has_malformed_value : Members → Bool
+has_malformed_value ms = list_any (lacks_array ms) sections || any_section is_malformed ms
 
 -- ---- 27: more parts of one kind than a board can have
 
@@ -206,10 +206,10 @@ part_at none [] n = none
 part_at none (p ∷ ps) n = if p.number == n then p.part else part_at none ps n
 
 -- the parts that a table tells
-abbrev pub parts_of : Members → BoardParts
-parts_of ms = record {
-  roms = tabled ROMS (part_at None (roms_of ms));
-  banks = tabled BANKS (part_at 0 (rams_of ms));
+abbrev pub parts_in : Members → BoardParts
+parts_in ms = record {
+  roms = table_of ROMS (part_at None (roms_of ms));
+  banks = table_of BANKS (part_at 0 (rams_of ms));
   chains = record { items = filter_map (part_of chain_in) (values_at (codes "chain") ms) };
   keys = keys_table ms >>= matrix_in;
   lamps = record { items = filter_map (part_of lamp_in) (values_at (codes "lamp") ms) };
@@ -221,12 +221,12 @@ unfoldable pub board_of_table : Members → Result BoardParts WiringFault
 board_of_table ms =
     if has_unknown_key ms then Err UnknownKey
     else if has_missing_key ms then Err MissingKey
-    else if has_bad_value ms then Err BadValue
+    else if has_malformed_value ms then Err BadValue
     else if has_too_many ms then Err TooManyParts
     else if has_double_chip ms then Err DoubleChip
-    else if lacks_line (parts_of ms) then Err NoSuchLine
-    else if has_wrong_direction (parts_of ms) then Err WrongDirection
-    else Ok (parts_of ms)
+    else if lacks_line (parts_in ms) then Err NoSuchLine
+    else if has_wrong_direction (parts_in ms) then Err WrongDirection
+    else Ok (parts_in ms)
 
 -- the board of a text: 20 where it is not TOML, else that of its table
 abbrev pub board_of_text : List ℕ → Result BoardParts WiringFault
@@ -234,7 +234,7 @@ board_of_text text =
     elim (parse_document text) [ None ↦ Err BadToml | Some ms ↦ board_of_table ms ]
 
 -- an answer is what is wanted, or memory was refused
-abbrev pub Answers : Result BoardParts WiringFault → Result BoardParts WiringFault → Type 0
-Answers (Err NoMemory) wanted = Unit {0}
-Answers (Err fault) wanted = wanted ≡ Err fault
-Answers (Ok board) wanted = wanted ≡ Ok board
+abbrev pub ReadsBoard : Result BoardParts WiringFault → Result BoardParts WiringFault → Type 0
+ReadsBoard (Err NoMemory) wanted = Unit {0}
+ReadsBoard (Err fault) wanted = wanted ≡ Err fault
+ReadsBoard (Ok board) wanted = wanted ≡ Ok board

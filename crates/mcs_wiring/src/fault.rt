@@ -1,6 +1,6 @@
 //! Why a text has no board.
 ghost use Rattle.std.specs.Prelude.{◌≡◌};
-ghost use Rattle.mcs_wiring.specs.Refusals.{wiring_fault_number};
+ghost use Rattle.mcs_wiring.specs.RefusalNumbers.{wiring_fault_number};
 
 use mcs_model::board::BoardFault;
 use mcs_model::refusal_numbers;
@@ -61,7 +61,7 @@ impl WiringFault {
 
 impl From<BoardFault> for WiringFault {
     ghost use Rattle.std.specs.Prelude.{◌≡◌};
-    ghost use Rattle.mcs_wiring.specs.Refusals.{refusal_of};
+    ghost use Rattle.mcs_wiring.specs.RefusalNumbers.{refusal_of};
 
     ghost from_gives = { λ fault e. e ≡ refusal_of fault };
 

@@ -6,7 +6,7 @@ ghost use Rattle.mcs_model.specs.declared.board.BoardParts.{BoardParts};
 ghost use Rattle.mcs_model.specs.declared.board.Line.{Line};
 ghost use Rattle.mcs_nibble.specs.declared.lines.LineMask.{LineMask};
 ghost use Rattle.mcs_wiring.specs.BoardText.{board_text, query_text};
-ghost use Rattle.mcs_wiring.specs.Names.{line_name, line_named, port_name, masks_named};
+ghost use Rattle.mcs_wiring.specs.LineNames.{line_name, line_named, port_name, masks_named};
 
 /// The name of each line is read back as that line, and the name of each port as its masks. So no
 /// two lines, and no two ports, have one name.

@@ -1,6 +1,6 @@
 //! The names of lines and ports in a board text.
 ghost use Rattle.std.specs.Prelude.{◌≡◌, string_bytes};
-ghost use Rattle.mcs_wiring.specs.Names.{number_below, rom_line_named, ram_line_named, chain_line_named, line_named, masks_named};
+ghost use Rattle.mcs_wiring.specs.LineNames.{number_below, rom_line_named, ram_line_named, chain_line_named, line_named, masks_named};
 
 use mcs_model::board::Line;
 use mcs_model::limits::{BANK_CHIPS, BANKS, CHAIN_BITS, CHAINS, ROMS};

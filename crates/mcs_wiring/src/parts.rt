@@ -2,11 +2,11 @@
 ghost use Rattle.std.specs.Prelude.{◌≡◌, ◌≤◌, ◌||◌, ◌==◌, codes, map, is_none, length};
 ghost use Rattle.std.specs.List.{filter_map, list_any};
 ghost use Rattle.toml.specs.View.{view, table_view};
-ghost use Rattle.mcs_wiring.specs.Wiring.{part_of, values_at, column_values, rom_in, ram_in, chain_in, matrix_in, lamp_in, line_of, is_no_line, has_bad_columns};
+ghost use Rattle.mcs_wiring.specs.Wiring.{part_of, values_at, column_values, rom_in, ram_in, chain_in, matrix_in, lamp_in, line_in, is_no_line, has_bad_columns};
 
 use crate::names::masks_named;
 use crate::sections::Numbered;
-use crate::values::{line_at, line_of, member, number_at, values_at};
+use crate::values::{line_at, line_in, member, number_at, values_at};
 use arrayvec::ArrayVec;
 use mcs_model::board::{ChainPart, KeyMatrix, Line};
 use mcs_model::limits::{
@@ -67,7 +67,7 @@ pub(crate) fn lamp(value: &Value) -> Option<Line>
 pub(crate) fn is_no_line(value: &Value) -> bool
     ensures { result ≡ is_no_line (view value.now) }
 {
-    line_of(value).is_none()
+    line_in(value).is_none()
 }
 
 /// Whether some value is no line.
@@ -117,11 +117,11 @@ pub(crate) fn matrix(table: &Table) -> Option<KeyMatrix>
 /// The lines that values name.
 fn columns(values: &[Value]) -> ArrayVec<Line, KEY_COLUMNS>
     requires { length values.now ≤ KEY_COLUMNS }
-    ensures { result.items ≡ filter_map line_of (map view values.now) }
+    ensures { result.items ≡ filter_map line_in (map view values.now) }
 {
     let mut columns = ArrayVec::new();
     for value in values {
-        if let Some(line) = line_of(value) {
+        if let Some(line) = line_in(value) {
             columns.push(line);
         }
     }

@@ -4,10 +4,10 @@ ghost use Rattle.std.specs.List.{list_any};
 ghost use Rattle.std.specs.BTreeMap.{keys};
 ghost use Rattle.toml.specs.Errors.{IsBlank};
 ghost use Rattle.toml.specs.View.{view, table_view};
-ghost use Rattle.mcs_nibble.specs.Tabled.{tabled};
+ghost use Rattle.mcs_nibble.specs.Tables.{table_of};
 ghost use Rattle.mcs_model.specs.Boards.{board_fault_of};
 ghost use Rattle.mcs_wiring.specs.Format.{sections, section_key, table_keys, is_board_key, is_section_key};
-ghost use Rattle.mcs_wiring.specs.Wiring.{has_unknown_key, has_missing_key, has_bad_value, has_too_many, has_double, has_double_chip, has_other_key, lacks_one_of, lacks_key, is_malformed, lacks_array, values_at, section_values, any_section, column_values, keys_table, matrix_in, roms_of, rams_of, parts_of, part_at, board_of_table, board_of_text, Answers};
+ghost use Rattle.mcs_wiring.specs.Wiring.{has_unknown_key, has_missing_key, has_malformed_value, has_too_many, has_double, has_double_chip, has_other_key, lacks_one_of, lacks_key, is_malformed, lacks_array, values_at, section_values, any_section, column_values, keys_table, matrix_in, roms_of, rams_of, parts_in, part_at, board_of_table, board_of_text, ReadsBoard};
 ghost use Rattle.mcs_wiring.specs.Flaws.{has_flaw, judgement_of, board_within_limits, IsWithinLimits};
 
 use crate::fault::WiringFault;
@@ -184,8 +184,8 @@ fn lacks_an_array(table: &Table) -> bool
 }
 
 /// Whether a value is of another type or form, or a number out of its range.
-fn has_bad_value(table: &Table) -> bool
-    ensures { result ≡ has_bad_value (table_view table.now) }
+fn has_malformed_value(table: &Table) -> bool
+    ensures { result ≡ has_malformed_value (table_view table.now) }
 {
     lacks_an_array(table) || has_flaw_anywhere(Flaw::BadValue, table)
 }
@@ -262,7 +262,7 @@ fn part_at<T: Copy>(parts: &[Numbered<T>], none: T, number: u8) -> T
 /// The parts by their numbers.
 fn placed<T: Copy, const N: usize>(parts: &[Numbered<T>], none: T) -> [T; N]
     requires { N ≤ 256 }
-    ensures { result ≡ tabled N (part_at none parts.now) }
+    ensures { result ≡ table_of N (part_at none parts.now) }
 {
     let mut placed = [none; N];
     for i in 0..N {
@@ -281,7 +281,7 @@ fn matrix_of(table: &Table) -> Option<KeyMatrix>
 
 /// The parts that a table tells.
 #[tactic(auto, using(crate::proofs::Seen::length_seen))]
-fn parts_of(
+fn parts_in(
     table: &Table,
     roms: &[Numbered<Option<[LineMask; 4]>>],
     rams: &[Numbered<u8>],
@@ -289,7 +289,7 @@ fn parts_of(
     requires within { IsWithinLimits (table_view table.now) }
     requires roms { roms.now ≡ roms_of (table_view table.now) }
     requires rams { rams.now ≡ rams_of (table_view table.now) }
-    ensures { result ≡ parts_of (table_view table.now) }
+    ensures { result ≡ parts_in (table_view table.now) }
 {
     BoardParts {
         roms: placed(roms, None),
@@ -310,7 +310,7 @@ fn board_of_parts(parts: BoardParts) -> Result<Board, WiringFault>
 /// The board of a table without too many parts.
 #[tactic(auto, using(crate::proofs::Seen::length_seen))]
 fn board_within_limits(table: &Table) -> Result<Board, WiringFault>
-    requires no_bad_value { has_bad_value (table_view table.now) ≡ false }
+    requires no_bad_value { has_malformed_value (table_view table.now) ≡ false }
     requires within { IsWithinLimits (table_view table.now) }
     ensures { result ≡ board_within_limits (table_view table.now) }
 {
@@ -319,7 +319,7 @@ fn board_within_limits(table: &Table) -> Result<Board, WiringFault>
     if has_double(&roms) || has_double(&rams) {
         return Err(WiringFault::DoubleChip);
     }
-    board_of_parts(parts_of(table, &roms, &rams))
+    board_of_parts(parts_in(table, &roms, &rams))
 }
 
 /// The board that a table describes, or the first refusal that holds of it.
@@ -333,7 +333,7 @@ fn board_of_table(table: &Table) -> Result<Board, WiringFault>
     if has_missing_key(table) {
         return Err(WiringFault::MissingKey);
     }
-    if has_bad_value(table) {
+    if has_malformed_value(table) {
         return Err(WiringFault::BadValue);
     }
     if has_too_many(table) {
@@ -344,7 +344,7 @@ fn board_of_table(table: &Table) -> Result<Board, WiringFault>
 
 /// The board of a text in TOML, or the first refusal that holds of it.
 pub fn board_of(alloc: Global, text: &str) -> Result<Board, WiringFault>
-    ensures answers { Answers result (board_of_text text.now) }
+    ensures answers { ReadsBoard result (board_of_text text.now) }
 
     // A text of blanks and comments alone has a board, whatever the memory.
     ensures memory { result ≡ Err WiringFault.NoMemory → ¬ IsBlank text.now }

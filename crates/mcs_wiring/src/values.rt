@@ -2,7 +2,7 @@
 ghost use Rattle.std.specs.Prelude.{◌≡◌, option_map, map, is_none, length};
 ghost use Rattle.toml.specs.Data.{get_member};
 ghost use Rattle.toml.specs.View.{view, table_view};
-ghost use Rattle.mcs_wiring.specs.Wiring.{values_at, number_at, line_of, line_at, is_no_array};
+ghost use Rattle.mcs_wiring.specs.Wiring.{values_at, number_at, line_in, line_at, is_no_array};
 
 use crate::names::line_named;
 use mcs_model::board::Line;
@@ -44,8 +44,8 @@ pub(crate) fn number_at(table: &Table, key: &str, least: u8, most: u8) -> Option
 }
 
 /// The line that a value names, if it names one.
-pub(crate) fn line_of(value: &Value) -> Option<Line>
-    ensures { result ≡ line_of (view value.now) }
+pub(crate) fn line_in(value: &Value) -> Option<Line>
+    ensures { result ≡ line_in (view value.now) }
 {
     line_named(value.as_str()?)
 }
@@ -54,7 +54,7 @@ pub(crate) fn line_of(value: &Value) -> Option<Line>
 pub(crate) fn line_at(table: &Table, key: &str) -> Option<Line>
     ensures { result ≡ line_at key.now (table_view table.now) }
 {
-    line_of(member(table, key)?)
+    line_in(member(table, key)?)
 }
 
 /// Whether something else than an array stands at a key.

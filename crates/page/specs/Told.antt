@@ -30,17 +30,17 @@ pub record TellsWhatWouldBe (file input : List ℕ) (number count : ℕ) (buffer
   pub answers : WouldAnswer file input end count buffer buffer'
 
 -- the number that tells why input was not served, and the count beside it
-abbrev pub number_of : NotServed → ℕ
-number_of (Refused fault) = open_fault_number fault
-number_of (NoRoom count) = 0
+abbrev pub number_told : NotServed → ℕ
+number_told (Refused fault) = open_fault_number fault
+number_told (NoRoom count) = 0
 
-abbrev pub count_of : NotServed → ℕ
-count_of (Refused fault) = 0
-count_of (NoRoom count) = count
+abbrev pub count_told : NotServed → ℕ
+count_told (Refused fault) = 0
+count_told (NoRoom count) = count
 
 -- the input was not served, and the number and the count tell why
 pub record TellsWhyNot (file input : List ℕ) (number count room : ℕ) : Type 0 where
   pub why : NotServed
-  pub told : number ≡ number_of why
-  pub counted : count ≡ count_of why
+  pub told : number ≡ number_told why
+  pub counted : count ≡ count_told why
   pub is : IsWhyNot why file input room

@@ -4,7 +4,7 @@
 ghost use Rattle.std.specs.Prelude.{◌≡◌, length, true, false};
 ghost use Rattle.mcs_journal.specs.declared.format.TheConstants.{FILE_SIZE};
 ghost use Rattle.mcs_page.specs.Page.{IsNewFile, StandsForTheSame};
-ghost use Rattle.page.specs.Told.{TellsAndSettles, TellsOf, TellsWhatWouldBe, TellsWhyNot, count_of, number_of};
+ghost use Rattle.page.specs.Told.{TellsAndSettles, TellsOf, TellsWhatWouldBe, TellsWhyNot, count_told, number_told};
 ghost use Rattle.mcs_shell.specs.Shell.{exit_status_of};
 
 use mcs_page::fault::NotServed;
@@ -40,8 +40,8 @@ fn tell_served(served: Served, told: &mut Told) -> bool
 /// Tells why input was not served.
 fn tell_why(why: NotServed, told: &mut Told) -> bool
     ensures is { result ≡ false }
-    ensures number { told.new.number ≡ number_of why }
-    ensures count { told.new.count ≡ count_of why }
+    ensures number { told.new.number ≡ number_told why }
+    ensures count { told.new.count ≡ count_told why }
 {
     *told = match why {
         NotServed::Refused(fault) => Told {

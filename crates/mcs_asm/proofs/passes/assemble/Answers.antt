@@ -2,7 +2,7 @@ use Rattle.std.proofs.Common.{◌≡◌, sym, subst, ℕ, List, Result, Ok, Err}
 use Rattle.std.specs.Prelude.{IsErrAnd}
 use Rattle.mcs_model.specs.Images.{IsImageOf}
 use Rattle.mcs_source.specs.declared.fault.SourceFault.{SourceFault}
-use Rattle.mcs_source.specs.Assembly.{assembled}
+use Rattle.mcs_source.specs.Assembly.{assembly_of_text}
 use Rattle.mcs_asm.specs.declared.fault.AsmFault.{AsmFault}
 use Rattle.mcs_asm.specs.View.{Assembles, FailsAs}
 use Rattle.mcs_asm.proofs.CellPairs.{image_of_kept}
@@ -14,7 +14,7 @@ handed_on (Ok image) f wanted is fails = absurd is
 handed_on (Err e) f wanted is fails = subst (λ (x : AsmFault). FailsAs x.kind x.line wanted) (sym is) fails
 
 pub returns-in_err-cells : goal.returns-in_err-cells
-returns-in_err-cells c = handed_on c.from_residual.result c.in_err-cells.field-0.0 (assembled c.args.source.now) c.from_residual.ensures.1 c.in_err-cells.ensures
+returns-in_err-cells c = handed_on c.from_residual.result c.in_err-cells.field-0.0 (assembly_of_text c.args.source.now) c.from_residual.ensures.1 c.in_err-cells.ensures
 
 pub returns : goal.returns
 returns c =

@@ -1,7 +1,7 @@
 use Rattle.std.proofs.Common.{◌≡◌, ◌∙◌, sym, subst, ap, ℕ, List, Option, Bor, Result, Ok, Err, None}
 use Rattle.std.specs.Prelude.{IsErrAnd}
 use Rattle.mcs_model.specs.TextLines.{lines_of}
-use Rattle.mcs_source.specs.Assembly.{all_names, first_of_class_one, assembled}
+use Rattle.mcs_source.specs.Assembly.{all_names, first_of_class_one, assembly_of_text}
 use Rattle.mcs_source.specs.Survey.{Survey}
 use Rattle.mcs_asm.specs.declared.fault.AsmFault.{AsmFault}
 use Rattle.mcs_asm.specs.View.{FailsAs}
@@ -10,9 +10,9 @@ use Rattle.mcs_asm.proofs.PassLists.{texts, said, one_fails, both_pass}
 use Rattle.mcs_asm.proofs.passes.both_passes.Goals as goal
 
 -- a fault that is handed on
-handed_on : (r : Result (Survey × List (Option ℕ)) AsmFault) (f : AsmFault) (text : List ℕ) → IsErrAnd r (λ e. e ≡ f) → FailsAs f.kind f.line (assembled text) → PassesBoth r text
+handed_on : (r : Result (Survey × List (Option ℕ)) AsmFault) (f : AsmFault) (text : List ℕ) → IsErrAnd r (λ e. e ≡ f) → FailsAs f.kind f.line (assembly_of_text text) → PassesBoth r text
 handed_on (Ok found) f text is fails = absurd is
-handed_on (Err e) f text is fails = subst (λ (x : AsmFault). FailsAs x.kind x.line (assembled text)) (sym is) fails
+handed_on (Err e) f text is fails = subst (λ (x : AsmFault). FailsAs x.kind x.line (assembly_of_text text)) (sym is) fails
 
 pub returns-in_err-names : goal.returns-in_err-names
 returns-in_err-names c =

@@ -2,7 +2,7 @@ use Rattle.std.proofs.Common.{inl, inr, get_or, arith, refl}
 use Rattle.std.proofs.lemmas.Bool.{cases_lt}
 use Rattle.std.proofs.lemmas.List.{get_or_past}
 use Rattle.mcs_model.specs.Boards.{masks_on}
-use Rattle.mcs_bench.proofs.HeldLemmas.{no-mask}
+use Rattle.mcs_bench.proofs.ChipListLemmas.{no-mask}
 use Rattle.mcs_bench.proofs.judging.can_all_hold.Goals as goal
 
 pub returns : goal.returns

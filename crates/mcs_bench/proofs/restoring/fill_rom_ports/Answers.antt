@@ -1,7 +1,7 @@
 use Rattle.std.proofs.Common.{◌≡◌, ◌∙◌, ◌<◌, List, ℕ, sym, ap, refl, arith, get_or}
 use Rattle.std.proofs.lemmas.List.Elements.{All-get_or}
 use Rattle.mcs_bench.proofs.Filling.{filled-none, filled-all}
-use Rattle.mcs_bench.proofs.HeldLemmas.{ports-next}
+use Rattle.mcs_bench.proofs.ChipListLemmas.{ports-next}
 use Rattle.mcs_bench.proofs.restoring.fill_rom_ports.Goals as goal
 
 pub loop-chip-init : goal.loop-chip-init

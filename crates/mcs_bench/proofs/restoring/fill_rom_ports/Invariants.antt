@@ -1,4 +1,4 @@
-use Rattle.mcs_bench.proofs.HeldLemmas.{FillsPorts}
+use Rattle.mcs_bench.proofs.ChipListLemmas.{FillsPorts}
 use Rattle.mcs_bench.proofs.restoring.fill_rom_ports.Given as goal
 
 abbrev pub invariant-loop-chip : goal.invariant-loop-chip

@@ -1,10 +1,10 @@
 use Rattle.std.proofs.Common.{◌≡◌, ◌∙◌, List, ℕ, true, ap, subst, slice_index}
 use Rattle.mcs_model.specs.declared.board.BoardParts.{BoardParts}
 use Rattle.mcs_model.specs.Bus.{BusState}
-use Rattle.mcs_bench.specs.declared.held.Held.TheVariants.{Characters, StatusCharacters, RamPorts}
-use Rattle.mcs_bench.specs.Held.{is_absent}
+use Rattle.mcs_bench.specs.declared.chip_list.ChipList.TheVariants.{Characters, StatusCharacters, RamPorts}
+use Rattle.mcs_bench.specs.ChipLists.{is_absent}
 use Rattle.mcs_bench.specs.States.{state_of}
-use Rattle.mcs_bench.proofs.HeldLemmas.{absent-of}
+use Rattle.mcs_bench.proofs.ChipListLemmas.{absent-of}
 use Rattle.mcs_bench.proofs.restoring.restore_rig.Goals as goal
 
 pub fill-requires-2-clause-absent : goal.fill-requires-2-clause-absent

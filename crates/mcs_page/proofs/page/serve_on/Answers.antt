@@ -1,6 +1,6 @@
 use Rattle.std.proofs.Common.{◌∙◌, IsTrue, Some, refl, rules, subst, sym}
 use Rattle.mcs_page.proofs.Carried.{keeps_open, keeps_size, size_resumed}
-use Rattle.mcs_page.specs.Page.{IsWhole}
+use Rattle.mcs_page.specs.Page.{IsServedWhole}
 use Rattle.mcs_page.proofs.page.serve_on.Goals as goal
 
 pub returns-then-room-len-clause-refused : goal.returns-then-room-len-clause-refused
@@ -25,7 +25,7 @@ returns-then-room-len-clause-refused c = record {
 
 pub returns-clause-served : goal.returns-clause-served
 returns-clause-served c =
-    let whole : IsWhole c.run_shell-end.result = search rules in
+    let whole : IsServedWhole c.run_shell-end.result = search rules in
     let resumed = c.in-Ok.ensures.resumed in
     let size = keeps_size _ _ _ _ _ whole c.run_shell-end.ensures in
     let stays_open = keeps_open _ _ _ _ _ whole c.run_shell-end.ensures in

@@ -4,7 +4,7 @@ use Rattle.mcs_session.proofs.Files.{recorded_new}
 use Rattle.mcs_session.proofs.session.begin.Goals as goal
 
 pub invariant_of-result : goal.invariant_of-result
-invariant_of-result g c = record { ready = c.requires.ready; recorded = λ alive honest. c.requires.recorded c.if-not-first.true honest }
+invariant_of-result g c = record { ready = c.requires.ready; recorded = λ alive honest. c.requires.recorded c.if-not-version_1.true honest }
 
 pub invariant_of-result-in-Ok : goal.invariant_of-result-in-Ok
 invariant_of-result-in-Ok g c = record {
@@ -16,8 +16,8 @@ invariant_of-result-in-Ok g c = record {
       subst (λ n. IsRecorded (g.D.Disk.state c.checkpoint.new.self.store.disk) n c.args.replayed.bench) (sym c.in-Ok.ensures.used.1) (recorded_new (g.D.Disk.state c.checkpoint.new.self.store.disk) changes.after.snap c.args.replayed.bench changes.after.spells changes.after.holds changes.durable);
 }
 
-pub returns-in-Ok-clause-first : goal.returns-in-Ok-clause-first
-returns-in-Ok-clause-first g c = λ e honest snap records held.
+pub returns-in-Ok-clause-version_1 : goal.returns-in-Ok-clause-version_1
+returns-in-Ok-clause-version_1 g c = λ e honest snap records held.
     let changes = c.in-Ok.ensures.replaces honest snap records held in
     record { moments = changes.moments; held = changes.after; durable = changes.durable }
 

@@ -1,7 +1,7 @@
 use Rattle.std.proofs.Common.{◌≡◌, ◌⊎◌, ℕ, List, Option, Some, None, Result, Ok, Err, IfOk, IfSome, IfNone, IsSomeAnd, OnErr, inr, sym, ◌∙◌}
 use Rattle.std.specs.Process.{exit_status}
 use Rattle.std.specs.declared.process.ExitCode.{ExitCode}
-use Rattle.mcs_host.specs.CommandLine.{meant}
+use Rattle.mcs_host.specs.CommandLine.{words_of_choice}
 use Rattle.mcs_host.specs.Ending.{as_disk}
 use Rattle.mcs_host.specs.FileDisk.{IsOpened}
 use Rattle.mcs_host.specs.declared.file_disk.FileDisk.{FileDisk}
@@ -42,7 +42,7 @@ usage_of (Err refusal) session (Ok code) reader reader' out out' P served refuse
 
 served_as_chosen : {E : Type 0} (entered : Option (List ℕ × List ℕ)) (choice : Choice) (begun : Result (SessionView FileDisk) Refusal)
     (session : Option (SessionView FileDisk)) (status : Result ExitCode E) (reader reader' out out' : KnownBytes)
-    → entered ≡ Some (meant choice)
+    → entered ≡ Some (words_of_choice choice)
     → IfOk begun (λ before. (disk : FileDisk) × IsOpened (as_disk disk) × IsBegunOn as_disk choice disk before)
     → Serves begun session status reader reader' out out' → OnErr begun (session ≡ None)
     → IfSome session (λ after. ServedAsChosen as_disk entered status reader reader' out out' after)

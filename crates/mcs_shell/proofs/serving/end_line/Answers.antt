@@ -2,7 +2,7 @@ use Rattle.std.proofs.Common.{rules, sym, ◌∙◌, ap, ◌≡◌, None, true, 
 use Rattle.std.specs.Str.Lines.{strip_carriage_return}
 use Rattle.mcs_lines.specs.declared.requests.Request.TheVariants.{Begin}
 use Rattle.mcs_lines.specs.Requests.{request_of}
-use Rattle.mcs_shell.specs.Inputs.{InText, begun, is_dot_line}
+use Rattle.mcs_shell.specs.Inputs.{InText, text_begun, is_dot_line}
 use Rattle.mcs_shell.proofs.LineFeeds.{not_begun}
 use Rattle.mcs_shell.proofs.Steps.{feeds_begun, feeds_command, feeds_line, feeds_text}
 use Rattle.mcs_shell.proofs.serving.end_line.Goals as goal
@@ -16,13 +16,13 @@ returns-in-Begin-clause-fed g c =
 pub returns-in-Ok-clause-fed : goal.returns-in-Ok-clause-fed
 returns-in-Ok-clause-fed g c =
     let line : c.without_return-line.result.now ≡ strip_carriage_return c.args.unfinished.now.line = search rules in
-    let none : begun (request_of c.without_return-line.result.now) ≡ None = ap begun (sym c.read_request.ensures) ∙ not_begun _ c.in_default.not-Begin in
+    let none : text_begun (request_of c.without_return-line.result.now) ≡ None = ap text_begun (sym c.read_request.ensures) ∙ not_begun _ c.in_default.not-Begin in
     feeds_command _ _ _ _ _ _ c.requires c.in-None.ensures line none (λ go. c.clear.ensures) (rw c.read_request.ensures at c.in-Ok.ensures)
 
 pub returns-in-Err-clause-fed : goal.returns-in-Err-clause-fed
 returns-in-Err-clause-fed g c =
     let line : c.without_return-line.result.now ≡ strip_carriage_return c.args.unfinished.now.line = search rules in
-    let none : begun (request_of c.without_return-line.result.now) ≡ None = ap begun (sym c.read_request.ensures) ∙ not_begun _ c.in_default.not-Begin in
+    let none : text_begun (request_of c.without_return-line.result.now) ≡ None = ap text_begun (sym c.read_request.ensures) ∙ not_begun _ c.in_default.not-Begin in
     feeds_command _ _ _ _ _ _ c.requires c.in-None.ensures line none (λ go. absurd (cc go)) (rw c.read_request.ensures at c.in-Err.ensures)
 
 pub returns-in-Ok-serve_text-clause-fed : goal.returns-in-Ok-serve_text-clause-fed

@@ -1,8 +1,8 @@
 use Rattle.std.proofs.Common.{ℕ, List, sym, subst, slice_index}
 use Rattle.mcs_model.specs.Boards.{masks_on}
-use Rattle.mcs_bench.specs.declared.held.Held.TheVariants.{RomBytes, Characters, StatusCharacters, RamPorts, BankSrcs}
+use Rattle.mcs_bench.specs.declared.chip_list.ChipList.TheVariants.{RomBytes, Characters, StatusCharacters, RamPorts, BankSrcs}
 use Rattle.mcs_bench.specs.States.{state_of}
-use Rattle.mcs_bench.proofs.HeldLemmas.{absent-of, absent-from, each-held, can_hold}
+use Rattle.mcs_bench.proofs.ChipListLemmas.{absent-of, absent-from, each-held, can_hold}
 use Rattle.mcs_bench.proofs.Judged.{refused, judged}
 use Rattle.mcs_bench.proofs.flat.Flat.is_absent_zero.Goals as goal
 

@@ -3,7 +3,7 @@ use Rattle.mcs_nibble.specs.Bits.{bit_of}
 use Rattle.mcs_nibble.specs.Ports.{read_lines}
 use Rattle.mcs_model.specs.Boards.{masks_on}
 use Rattle.mcs_model.specs.Bus.{BusState}
-use Rattle.mcs_model.specs.Levels.{keyed, bit_when}
+use Rattle.mcs_model.specs.Levels.{is_pulled, bit_when}
 use Rattle.mcs_board.proofs.KeyLemmas.{read-inputs, port-some, port-none, bit-small}
 use Rattle.mcs_board.proofs.rig.Rig.read_port.Goals as goal
 
@@ -15,7 +15,7 @@ returns-in-Some g c =
     let is = sym (ap (λ (t : BusState). masks_on t.board chip) c.self.view_is) ∙ ap (masks_on c.self.inside.board) (sym c.get.ensures.value) ∙ sym c.mask.ensures ∙ c.in-Some.is in
     c.read_port_of.ensures
     ∙ ap (λ n. read_lines (bit_of n) mask) c.pulled_lines.ensures
-    ∙ read-inputs (λ k. bit_when (keyed s chip k)) mask (λ j. bit-small (keyed s chip j))
+    ∙ read-inputs (λ k. bit_when (is_pulled s chip k)) mask (λ j. bit-small (is_pulled s chip j))
     ∙ port-some s chip mask is
 
 pub returns-in-None : goal.returns-in-None

@@ -4,7 +4,7 @@ use Rattle.mcs_model.specs.declared.board.ChainPart.{ChainPart}
 use Rattle.mcs_model.specs.Boards.{chain_count, chain_bits}
 use Rattle.mcs_model.specs.Bus.{BusState}
 use Rattle.mcs_model.specs.Places.{with_chain_bit}
-use Rattle.mcs_board.specs.RigFields.{parts_of}
+use Rattle.mcs_board.specs.RigFields.{rig_parts}
 use Rattle.mcs_board.proofs.ClockLemmas.{chain-read, chain-write}
 use Rattle.mcs_board.proofs.FittedLemmas.{fitted-chain}
 use Rattle.mcs_board.proofs.PlaceLemmas.{chains-length, bit-no_chain, bit-beyond, one-small}
@@ -42,7 +42,7 @@ returns g c =
     let there : n < length i.chains.items = omega (arith, c.self.invariant.chains_len, c.self.invariant.chains_fit) in
     let row : c.index_mut.result.now ≡ get_or s.chains n [] = c.index_mut.ensures.value ∙ get_or_default i.chains.items n c.index_mut.result.now [] there ∙ sym (chain-read i.board i.chains.items n within) ∙ ap (λ (t : BusState). get_or t.chains n []) c.self.view_is in
     let new : c.set_bit.new.self ≡ slice_set (get_or s.chains n []) c.from-place.result c.args.bit = c.set_bit.ensures ∙ ap (λ xs. slice_set xs c.from-place.result c.args.bit) row in
-    chain-write (parts_of i) n c.set_bit.new.self within there
+    chain-write (rig_parts i) n c.set_bit.new.self within there
     ∙ ap (λ (t : BusState). record t { chains = slice_set t.chains n c.set_bit.new.self }) c.self.view_is
     ∙ ap (λ d. record s { chains = slice_set s.chains n d }) new
     ∙ ap (λ k. with_chain_bit s k c.from-place.result c.args.bit) c.from-n.ensures

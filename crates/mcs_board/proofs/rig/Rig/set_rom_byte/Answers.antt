@@ -1,12 +1,12 @@
 use Rattle.std.proofs.Common.{arith, sym, ap, refl, ◌∙◌, ◌≡◌, ◌/◌, None, length, slice_index_or, slice_set}
 use Rattle.std.proofs.lemmas.List.{set-get_or}
-use Rattle.mcs_nibble.specs.Tabled.{grid}
+use Rattle.mcs_nibble.specs.Tables.{grid}
 use Rattle.mcs_nibble.proofs.GridLemmas.{length-grid}
 use Rattle.mcs_rom4001.specs.Roms.{RomState}
 use Rattle.mcs_model.specs.Bus.{BusState}
 use Rattle.mcs_model.specs.Boards.{masks_on}
 use Rattle.mcs_model.specs.Places.{with_rom_byte}
-use Rattle.mcs_board.specs.RigFields.{parts_of}
+use Rattle.mcs_board.specs.RigFields.{rig_parts}
 use Rattle.mcs_board.specs.RigState.{masks_of_rom, bytes_of_rom, rig_of}
 use Rattle.mcs_board.proofs.FittedLemmas.{fitted-rom}
 use Rattle.mcs_board.proofs.PlaceLemmas.{rom_byte-grid, rom_byte-write, rom_byte-lost}
@@ -18,7 +18,7 @@ returns-in-Some g c =
     let i = c.self.inside in
     let here = rom_here i.roms.items (c.args.at / 256) c.from-page.result c.index_mut.result.now (omega arith) (omega arith) c.index_mut.ensures.value in
     let mask = sym (c.self.invariant.masks (c.args.at / 256)) ∙ ap masks_of_rom (here ∙ c.in-Some.is) in
-    rom_byte-write (parts_of i) (slice_set i.program.items c.from.result c.args.byte) c.args.at c.low.result c.args.byte c.from-page.result c.in-Some.rom c.set_byte.new.self (omega arith) c.low.ensures (omega arith) (omega arith) (here ∙ c.in-Some.is) mask c.set_byte.ensures.whole c.set_byte.ensures.byte
+    rom_byte-write (rig_parts i) (slice_set i.program.items c.from.result c.args.byte) c.args.at c.low.result c.args.byte c.from-page.result c.in-Some.rom c.set_byte.new.self (omega arith) c.low.ensures (omega arith) (omega arith) (here ∙ c.in-Some.is) mask c.set_byte.ensures.whole c.set_byte.ensures.byte
     ∙ ap (λ t. with_rom_byte t c.args.at c.args.byte) c.self.view_is
 
 pub returns-in-None : goal.returns-in-None
@@ -28,7 +28,7 @@ returns-in-None g c =
     let here = rom_here i.roms.items (c.args.at / 256) c.from-page.result e (omega arith) (omega arith) c.index_mut.ensures.value in
     let mask = ap (λ (t : BusState). masks_on t.board (c.args.at / 256)) (sym c.self.view_is) ∙ sym (c.self.invariant.masks (c.args.at / 256)) ∙ ap masks_of_rom (here ∙ c.in-None.is) in
     let same = ap (slice_set i.roms.items c.from-page.result) c.index_mut.ensures.value ∙ set-get_or i.roms.items c.from-page.result e in
-    ap (λ roms. rig_of (record (parts_of i) { roms = roms })) same
+    ap (λ roms. rig_of (record (rig_parts i) { roms = roms })) same
     ∙ c.self.view_is
     ∙ rom_byte-lost c.args.self.now c.args.at c.args.byte mask
 

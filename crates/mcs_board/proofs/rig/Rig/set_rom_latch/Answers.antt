@@ -7,7 +7,7 @@ use Rattle.mcs_model.specs.Bus.{BusState}
 use Rattle.mcs_model.specs.Boards.{masks_on}
 use Rattle.mcs_model.specs.Levels.{with_rom_ports_at}
 use Rattle.mcs_model.specs.Places.{with_rom_latch}
-use Rattle.mcs_board.specs.RigFields.{parts_of}
+use Rattle.mcs_board.specs.RigFields.{rig_parts}
 use Rattle.mcs_board.specs.RigState.{masks_of_rom, rig_of}
 use Rattle.mcs_board.proofs.FittedLemmas.{fitted-rom}
 use Rattle.mcs_board.proofs.RigLemmas.{rom_here, rom_absent, rom_latch-grid, rom_latch-write}
@@ -27,7 +27,7 @@ returns-in-Some g c =
     let s = c.args.self.now in
     let here = rom_here i.roms.items c.args.chip c.from-at.result c.index_mut.result.now c.from-at.ensures (omega arith) c.index_mut.ensures.value in
     let mask = ap (λ (t : BusState). masks_on t.board c.args.chip) (sym c.self.view_is) ∙ sym (c.self.invariant.masks c.args.chip) ∙ ap masks_of_rom (here ∙ c.in-Some.is) in
-    rom_latch-write (parts_of i) c.args.chip c.from-at.result (latch_value c.in-Some.rom.mask c.args.n) c.in-Some.rom c.set_port.new.self c.requires c.from-at.ensures (omega arith) (here ∙ c.in-Some.is) c.set_port.ensures
+    rom_latch-write (rig_parts i) c.args.chip c.from-at.result (latch_value c.in-Some.rom.mask c.args.n) c.in-Some.rom c.set_port.new.self c.requires c.from-at.ensures (omega arith) (here ∙ c.in-Some.is) c.set_port.ensures
     ∙ ap (λ t. with_rom_ports_at t c.args.chip (latch_value c.in-Some.rom.mask c.args.n)) c.self.view_is
     ∙ written s c.args.chip c.args.n c.in-Some.rom.mask mask
 
@@ -38,7 +38,7 @@ returns-in-None g c =
     let mask = ap (λ (t : BusState). masks_on t.board c.args.chip) (sym c.self.view_is) ∙ sym (c.self.invariant.masks c.args.chip) ∙ ap masks_of_rom (here ∙ c.in-None.is) in
     let e = c.index_mut.result.now in
     let same = ap (slice_set i.roms.items c.from-at.result) c.index_mut.ensures.value ∙ set-get_or i.roms.items c.from-at.result e in
-    ap (λ roms. rig_of (record (parts_of i) { roms = roms })) same
+    ap (λ roms. rig_of (record (rig_parts i) { roms = roms })) same
     ∙ c.self.view_is
     ∙ lost c.args.self.now c.args.chip c.args.n mask
 

@@ -4,7 +4,7 @@ use Rattle.mcs_nibble.proofs.GridLemmas.{length-grid}
 use Rattle.mcs_model.specs.declared.board.BoardParts.{BoardParts}
 use Rattle.mcs_model.specs.Places.{after_wire}
 use Rattle.mcs_board.specs.RigState.{RigParts, rig_of}
-use Rattle.mcs_board.specs.RigFields.{parts_of}
+use Rattle.mcs_board.specs.RigFields.{rig_parts}
 use Rattle.mcs_board.proofs.MakingLemmas.{IsRewired, rewired-every, wire-state, wire-fitted}
 use Rattle.mcs_board.proofs.rig.Rig.wire.Goals as goal
 
@@ -15,8 +15,8 @@ returns-then-is_empty g c =
     let b = c.args.board.now in
     let fits = c.requires in
     let none : length i.chains.items ≡ 0 = ap length (sym c.as_slice.ensures.value) ∙ eqb-true (length c.as_slice.result.now) 0 (sym c.is_empty.ensures ∙ c.if-is_empty.true) in
-    let new : RigParts = record (parts_of i) { board = b; roms = c.rewire_roms.new.roms.items; program = c.clear_absent.new.program.items; banks = c.rewire_banks.new.banks.items; keys = c.keys_of-self-inside.result; rom_src = 0 } in
-    let is : IsRewired (parts_of i) new = record {
+    let new : RigParts = record (rig_parts i) { board = b; roms = c.rewire_roms.new.roms.items; program = c.clear_absent.new.program.items; banks = c.rewire_banks.new.banks.items; keys = c.keys_of-self-inside.result; rom_src = 0 } in
+    let is : IsRewired (rig_parts i) new = record {
       roms = rewired-every b i.roms.items c.rewire_roms.new.roms.items c.rewire_roms.ensures.count c.rewire_roms.ensures.roms (λ k h. fits.roms k (let l = v.roms_len in omega arith));
       program = c.clear_absent.ensures;
       banks = record { at = λ k h. c.rewire_banks.ensures.banks k (let n = c.rewire_banks.ensures.count in omega arith) };
@@ -27,7 +27,7 @@ returns-then-is_empty g c =
       test = refl;
     } in
     ap (λ (x : BoardParts). rig_of (record new { board = x })) c.copy-self-inside.ensures
-    ∙ wire-state (parts_of i) new is
+    ∙ wire-state (rig_parts i) new is
     ∙ ap (λ s. after_wire s b) c.self.view_is
 
 pub invariant_of-self : goal.invariant_of-self
@@ -37,8 +37,8 @@ invariant_of-self g c =
     let b = c.args.board.now in
     let fits = c.requires in
     let none : length i.chains.items ≡ 0 = ap length (sym c.as_slice.ensures.value) ∙ eqb-true (length c.as_slice.result.now) 0 (sym c.is_empty.ensures ∙ c.if-is_empty.true) in
-    let new : RigParts = record (parts_of i) { board = b; roms = c.rewire_roms.new.roms.items; program = c.clear_absent.new.program.items; banks = c.rewire_banks.new.banks.items; keys = c.keys_of-self-inside.result; rom_src = 0 } in
-    let is : IsRewired (parts_of i) new = record {
+    let new : RigParts = record (rig_parts i) { board = b; roms = c.rewire_roms.new.roms.items; program = c.clear_absent.new.program.items; banks = c.rewire_banks.new.banks.items; keys = c.keys_of-self-inside.result; rom_src = 0 } in
+    let is : IsRewired (rig_parts i) new = record {
       roms = rewired-every b i.roms.items c.rewire_roms.new.roms.items c.rewire_roms.ensures.count c.rewire_roms.ensures.roms (λ k h. fits.roms k (let l = v.roms_len in omega arith));
       program = c.clear_absent.ensures;
       banks = record { at = λ k h. c.rewire_banks.ensures.banks k (let n = c.rewire_banks.ensures.count in omega arith) };
@@ -49,7 +49,7 @@ invariant_of-self g c =
       test = refl;
     } in
     rw c.copy-self-inside.ensures
-    (wire-fitted (parts_of i) new g.row.ROMS g.row.BANKS g.row.CHAINS g.row.MAX fits (c.rewire_roms.ensures.count ∙ v.roms_len) (c.rewire_banks.ensures.count ∙ v.banks_len) v.chains_len v.program is)
+    (wire-fitted (rig_parts i) new g.row.ROMS g.row.BANKS g.row.CHAINS g.row.MAX fits (c.rewire_roms.ensures.count ∙ v.roms_len) (c.rewire_banks.ensures.count ∙ v.banks_len) v.chains_len v.program is)
 
 pub invariant_of-self-2 : goal.invariant_of-self-2
 invariant_of-self-2 g c =
@@ -58,7 +58,7 @@ invariant_of-self-2 g c =
     let b = c.args.board.now in
     let fits = c.requires in
     let new : RigParts = record { board = b; roms = c.rewire_roms.new.roms.items; program = c.clear_absent.new.program.items; banks = c.rewire_banks.new.banks.items; chains = c.rewire_chains.new.chains.items; keys = c.keys_of-self-inside.result; rom_src = 0; test = i.test } in
-    let is : IsRewired (parts_of i) new = record {
+    let is : IsRewired (rig_parts i) new = record {
       roms = rewired-every b i.roms.items c.rewire_roms.new.roms.items c.rewire_roms.ensures.count c.rewire_roms.ensures.roms (λ k h. fits.roms k (let l = v.roms_len in omega arith));
       program = c.clear_absent.ensures;
       banks = record { at = λ k h. c.rewire_banks.ensures.banks k (let n = c.rewire_banks.ensures.count in omega arith) };
@@ -69,7 +69,7 @@ invariant_of-self-2 g c =
       test = refl;
     } in
     rw c.copy-self-inside.ensures
-    (wire-fitted (parts_of i) new g.row.ROMS g.row.BANKS g.row.CHAINS g.row.MAX fits (c.rewire_roms.ensures.count ∙ v.roms_len) (c.rewire_banks.ensures.count ∙ v.banks_len) (c.rewire_chains.ensures.count ∙ v.chains_len) v.program is)
+    (wire-fitted (rig_parts i) new g.row.ROMS g.row.BANKS g.row.CHAINS g.row.MAX fits (c.rewire_roms.ensures.count ∙ v.roms_len) (c.rewire_banks.ensures.count ∙ v.banks_len) (c.rewire_chains.ensures.count ∙ v.chains_len) v.program is)
 
 pub returns : goal.returns
 returns g c =
@@ -78,7 +78,7 @@ returns g c =
     let b = c.args.board.now in
     let fits = c.requires in
     let new : RigParts = record { board = b; roms = c.rewire_roms.new.roms.items; program = c.clear_absent.new.program.items; banks = c.rewire_banks.new.banks.items; chains = c.rewire_chains.new.chains.items; keys = c.keys_of-self-inside.result; rom_src = 0; test = i.test } in
-    let is : IsRewired (parts_of i) new = record {
+    let is : IsRewired (rig_parts i) new = record {
       roms = rewired-every b i.roms.items c.rewire_roms.new.roms.items c.rewire_roms.ensures.count c.rewire_roms.ensures.roms (λ k h. fits.roms k (let l = v.roms_len in omega arith));
       program = c.clear_absent.ensures;
       banks = record { at = λ k h. c.rewire_banks.ensures.banks k (let n = c.rewire_banks.ensures.count in omega arith) };
@@ -89,7 +89,7 @@ returns g c =
       test = refl;
     } in
     ap (λ (x : BoardParts). rig_of (record new { board = x })) c.copy-self-inside.ensures
-    ∙ wire-state (parts_of i) new is
+    ∙ wire-state (rig_parts i) new is
     ∙ ap (λ s. after_wire s b) c.self.view_is
 
 pub clear_absent-requires : goal.clear_absent-requires

@@ -44,7 +44,7 @@ invariant_of-result g c = record {
   disk_size = c.write_first.ensures.call.size ∙ c.check_blank.ensures.tells.size ∙ sym c.size.ensures ∙ c.if-size-ne-FILE_SIZE.false;
   within = omega arith;
   room = simp (length-take, length-append, length-drop) (omega (arith, c.as_mut_slice.ensures.len, ap length c.as_mut_slice.ensures.value, c.write_first.ensures.room, c.in-Ok.ensures.len, c.write_first.auto.buffer));
-  settled = λ alive h.
+  intact = λ alive h.
       let mid = c.write_first.ensures.call.honest.0 h in
       record {
         durable = c.in-Ok-write_first.ensures.durable mid;

@@ -31,7 +31,7 @@ invariant_of-store g c = record {
   disk_size = c.read_contents.ensures.tells.size ∙ sym c.size.ensures ∙ c.if-size-ne-FILE_SIZE.false;
   within = c.in-Ok-read_contents.ensures.within;
   room = search rules;
-  settled = λ live h.
+  intact = λ live h.
       let was = c.read_contents.ensures.tells.honest.0 h in
       let same = (c.read_contents.ensures.rests was).bytes in
       record {

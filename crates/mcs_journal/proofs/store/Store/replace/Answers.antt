@@ -6,15 +6,15 @@ use Rattle.mcs_journal.proofs.store.Store.replace.Goals as goal
 pub returns-in-Ok-clause-replaces : goal.returns-in-Ok-clause-replaces
 returns-in-Ok-clause-replaces g c = rw (← c.self.view_is) (λ h snap records held.
     let live : IsTrue c.self.inside.live = subst (λ (v : StoreView g.row.D.Denot). IsTrue v.live) (sym c.self.view_is) c.requires.live in
-    let settled = c.self.invariant.settled live h in
-    let changes = c.in-Ok.ensures.changes h settled.durable snap records held (c.other-other.ensures ∙ sym (ap other_slot settled.active)) in
+    let intact = c.self.invariant.intact live h in
+    let changes = c.in-Ok.ensures.changes h intact.durable snap records held (c.other-other.ensures ∙ sym (ap other_slot intact.active)) in
     record { after = changes.after; durable = changes.durable; ticks = changes.ticks; moments = changes.moments })
 
 pub returns-in-Err-clause-replaces : goal.returns-in-Err-clause-replaces
 returns-in-Err-clause-replaces g c = rw (← c.self.view_is) (λ h snap records held.
     let live : IsTrue c.self.inside.live = subst (λ (v : StoreView g.row.D.Denot). IsTrue v.live) (sym c.self.view_is) c.requires.live in
-    let settled = c.self.invariant.settled live h in
-    let changes = c.replace_contents.ensures.changes h settled.durable snap records held (c.other-other.ensures ∙ sym (ap other_slot settled.active)) in
+    let intact = c.self.invariant.intact live h in
+    let changes = c.replace_contents.ensures.changes h intact.durable snap records held (c.other-other.ensures ∙ sym (ap other_slot intact.active)) in
     record { after = tt; durable = tt; ticks = tt; moments = changes.moments })
 
 pub invariant_of-self : goal.invariant_of-self
@@ -22,11 +22,11 @@ invariant_of-self g c = record {
   disk_size = c.replace_contents.ensures.call.size ∙ c.self.invariant.disk_size;
   within = omega arith;
   room = simp (length-take, length-append, length-drop) (omega (arith, c.deref_mut.ensures.len, ap length c.deref_mut.ensures.value, c.replace_contents.auto.buffer, c.self.invariant.room));
-  settled = λ alive h.
+  intact = λ alive h.
       let live : IsTrue c.self.inside.live = subst (λ (v : StoreView g.row.D.Denot). IsTrue v.live) (sym c.self.view_is) c.requires.live in
       let was = c.replace_contents.ensures.call.honest.0 h in
-      let settled = c.self.invariant.settled live was in
-      let changes = c.in-Ok.ensures.changes was settled.durable settled.snap settled.records settled.holds (c.other-other.ensures ∙ sym (ap other_slot settled.active)) in
+      let intact = c.self.invariant.intact live was in
+      let changes = c.in-Ok.ensures.changes was intact.durable intact.snap intact.records intact.holds (c.other-other.ensures ∙ sym (ap other_slot intact.active)) in
       record {
         durable = changes.durable;
         active = c.in-Ok.ensures.named was;

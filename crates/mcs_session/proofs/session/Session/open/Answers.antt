@@ -23,7 +23,7 @@ returns-in-Ok-begin-clause-opened g c = λ honest.
     rw c.in-Ok-begin.ensures.open.1 (
     opened_by _ _ _ _ _ _ _ _ (g.met.D.Disk.lawful c.in-Ok-begin.session.disk (c.in-Ok-begin.ensures.counts.honest.1 now)) c.in-Ok-open.ensures.unwritten opened replayed
     (λ last o. rw (c.in-Ok-begin.ensures.same last) o)
-    (λ first. c.in-Ok-begin.ensures.first first now _ _ (held_on _ _ _ _ opened)))
+    (λ version_1. c.in-Ok-begin.ensures.version_1 version_1 now _ _ (held_on _ _ _ _ opened)))
 
 pub returns-in-Ok-Some-clause-refused : goal.returns-in-Ok-Some-clause-refused
 returns-in-Ok-Some-clause-refused g c = λ honest.

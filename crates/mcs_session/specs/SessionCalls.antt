@@ -2,7 +2,7 @@
 use Rattle.std.specs.Prelude.{◌≡◌, ◌⊎◌, ◌+◌, min, Bool, true, false, ℕ, None, Some, Result, Ok, Err}
 use Rattle.mcs_disk.specs.Disk.{DiskState, most_faults}
 use Rattle.mcs_disk.specs.Moments.{Either, KeepsEarlierImages, LeavesOnly, AddsNoImage, IsUntouched, WritesNothing}
-use Rattle.mcs_journal.specs.Answers.{IsNoSession}
+use Rattle.mcs_journal.specs.StoreCalls.{IsNoSession}
 use Rattle.mcs_journal.specs.File.{IsBlank}
 use Rattle.mcs_journal.specs.declared.fault.OpenFault.{OpenFault}
 use Rattle.mcs_journal.specs.declared.fault.OpenFault.TheVariants as open_fault

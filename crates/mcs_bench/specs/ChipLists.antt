@@ -3,11 +3,11 @@ use Rattle.std.specs.Prelude.{◌≡◌, ℕ, ◌<◌, ◌/◌, ◌%◌, Bool, t
 use Rattle.mcs_model.specs.declared.board.BoardParts.{BoardParts}
 use Rattle.mcs_model.specs.Boards.{masks_on, has_key, key_place}
 use Rattle.mcs_model.specs.Bus.{BusState}
-use Rattle.mcs_bench.specs.declared.held.Held.{Held}
-use Rattle.mcs_bench.specs.declared.held.Held.TheVariants.{RomBytes, Characters, StatusCharacters, RamPorts, BankSrcs}
+use Rattle.mcs_bench.specs.declared.chip_list.ChipList.{ChipList}
+use Rattle.mcs_bench.specs.declared.chip_list.ChipList.TheVariants.{RomBytes, Characters, StatusCharacters, RamPorts, BankSrcs}
 
 -- the list
-abbrev pub list_of : BusState → Held → List ℕ
+abbrev pub list_of : BusState → ChipList → List ℕ
 list_of s RomBytes = s.rom
 list_of s Characters = s.ram
 list_of s StatusCharacters = s.status
@@ -15,7 +15,7 @@ list_of s RamPorts = s.ram_ports
 list_of s BankSrcs = s.ram_src
 
 -- the state with another list
-abbrev pub with_list : BusState → Held → List ℕ → BusState
+abbrev pub with_list : BusState → ChipList → List ℕ → BusState
 with_list s RomBytes xs = record s { rom = xs }
 with_list s Characters xs = record s { ram = xs }
 with_list s StatusCharacters xs = record s { status = xs }
@@ -23,20 +23,20 @@ with_list s RamPorts xs = record s { ram_ports = xs }
 with_list s BankSrcs xs = record s { ram_src = xs }
 
 -- how many numbers it has, and what each of them is below
-abbrev pub count_of : Held → ℕ
+abbrev pub count_of : ChipList → ℕ
 count_of RomBytes = 4096
 count_of Characters = 2048
 count_of StatusCharacters = 512
 count_of RamPorts = 32
 count_of BankSrcs = 8
 
-abbrev pub limit_of : Held → ℕ
+abbrev pub limit_of : ChipList → ℕ
 limit_of RomBytes = 256
 limit_of BankSrcs = 256
 limit_of _ = 16
 
 -- whether the chip is absent that would hold number i of the list
-abbrev pub is_absent : BoardParts → Held → ℕ → Bool
+abbrev pub is_absent : BoardParts → ChipList → ℕ → Bool
 is_absent b RomBytes i = is_none (masks_on b (i / 256))
 is_absent b Characters i = nat_le (slice_index b.banks (i / 256)) (i % 256 / 64)
 is_absent b StatusCharacters i = nat_le (slice_index b.banks (i / 64)) (i % 64 / 16)
@@ -44,13 +44,13 @@ is_absent b RamPorts i = nat_le (slice_index b.banks (i / 4)) (i % 4)
 is_absent b BankSrcs i = nat_le (slice_index b.banks i) 0
 
 -- the numbers of absent chips are 0
-abbrev pub IsZeroWhereAbsent : BusState → Held → Type 0
+abbrev pub IsZeroWhereAbsent : BusState → ChipList → Type 0
 IsZeroWhereAbsent s h =
     (i : ℕ) → i < count_of h → is_absent s.board h i ≡ true → slice_index (list_of s h) i ≡ 0
 
 -- number i of the list set; lost where its chip is absent
-abbrev pub with_number : BusState → Held → ℕ → ℕ → BusState
-with_number s h i n =
+abbrev pub with_cell : BusState → ChipList → ℕ → ℕ → BusState
+with_cell s h i n =
     if is_absent s.board h i
     then s
     else with_list s h (slice_set (list_of s h) i n)

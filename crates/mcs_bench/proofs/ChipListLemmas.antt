@@ -13,9 +13,9 @@ use Rattle.mcs_nibble.proofs.PortLemmas.{latch_value-zero}
 use Rattle.std.proofs.lemmas.List.{get_or_past}
 use Rattle.mcs_model.specs.Places.{with_rom_latch, with_rom_byte, with_ram_latch, with_ram_src}
 use Rattle.mcs_model.specs.Validity.{IsInRange, IsAbsentZero}
-use Rattle.mcs_bench.specs.declared.held.Held.{Held}
-use Rattle.mcs_bench.specs.declared.held.Held.TheVariants.{RomBytes, Characters, StatusCharacters, RamPorts, BankSrcs}
-use Rattle.mcs_bench.specs.Held.{list_of, with_list, count_of, is_absent, with_number, IsZeroWhereAbsent}
+use Rattle.mcs_bench.specs.declared.chip_list.ChipList.{ChipList}
+use Rattle.mcs_bench.specs.declared.chip_list.ChipList.TheVariants.{RomBytes, Characters, StatusCharacters, RamPorts, BankSrcs}
+use Rattle.mcs_bench.specs.ChipLists.{list_of, with_list, count_of, is_absent, with_cell, IsZeroWhereAbsent}
 use Rattle.mcs_bench.proofs.Filling.{IsFilled, filled-none, filled-set, filled-kept, filled-all}
 
 -- ---- a number set
@@ -31,57 +31,57 @@ missing : {X A : Type 0} (o : Option X) (x y : A) → cond (is_some o) x y ≡ c
 missing (Some _) x y = refl
 missing None x y = refl
 
-pub set-rom : (s : BusState) (i at n : ℕ) → at ≡ i → with_rom_byte s at n ≡ with_number s RomBytes i n
+pub set-rom : (s : BusState) (i at n : ℕ) → at ≡ i → with_rom_byte s at n ≡ with_cell s RomBytes i n
 unfolding with_rom_byte
 set-rom s i at n e = rw e (missing (masks_on s.board (i / 256)) (record s { rom = slice_set s.rom i n }) s)
 
-pub set-ram : (s : BusState) (i bank src m n : ℕ) → bank ≡ i / 256 → src ≡ i % 256 → m ≡ n → with_ram s bank src m ≡ with_number s Characters i n
+pub set-ram : (s : BusState) (i bank src m n : ℕ) → bank ≡ i / 256 → src ≡ i % 256 → m ≡ n → with_ram s bank src m ≡ with_cell s Characters i n
 unfolding with_ram
 set-ram s i bank src m n b c e =
     let place : i / 256 * 256 + i % 256 ≡ i = omega arith in
     rw (b, c, e, place) (ran (i % 256 / 64) (slice_index s.board.banks (i / 256)) (record s { ram = slice_set s.ram i n }) s)
 
-pub set-status : (s : BusState) (i bank high k m n : ℕ) → bank ≡ i / 64 → high ≡ i % 64 / 4 → k ≡ i % 4 → m ≡ n → with_status s bank high k m ≡ with_number s StatusCharacters i n
+pub set-status : (s : BusState) (i bank high k m n : ℕ) → bank ≡ i / 64 → high ≡ i % 64 / 4 → k ≡ i % 4 → m ≡ n → with_status s bank high k m ≡ with_cell s StatusCharacters i n
 unfolding with_status
 set-status s i bank high k m n b h c e =
     let place : i / 64 * 64 + (i % 64 / 4 * 4 + i % 4) ≡ i = omega arith in
     let chip : i % 64 / 4 / 4 ≡ i % 64 / 16 = omega arith in
     rw (b, h, c, e, place, chip) (ran (i % 64 / 16) (slice_index s.board.banks (i / 64)) (record s { status = slice_set s.status i n }) s)
 
-pub set-port : (s : BusState) (i bank chip m n : ℕ) → bank ≡ i / 4 → chip ≡ i % 4 → m ≡ n → with_ram_latch s bank chip m ≡ with_number s RamPorts i n
+pub set-port : (s : BusState) (i bank chip m n : ℕ) → bank ≡ i / 4 → chip ≡ i % 4 → m ≡ n → with_ram_latch s bank chip m ≡ with_cell s RamPorts i n
 unfolding with_ram_latch
 set-port s i bank chip m n b c e =
     let place : i / 4 * 4 + i % 4 ≡ i = omega arith in
     rw (b, c, e, place) (ran (i % 4) (slice_index s.board.banks (i / 4)) (record s { ram_ports = slice_set s.ram_ports i n }) s)
 
-pub set-src : (s : BusState) (i bank n : ℕ) → bank ≡ i → with_ram_src s bank n ≡ with_number s BankSrcs i n
+pub set-src : (s : BusState) (i bank n : ℕ) → bank ≡ i → with_ram_src s bank n ≡ with_cell s BankSrcs i n
 unfolding with_ram_src
 set-src s i bank n b = rw b (ran 0 (slice_index s.board.banks i) (record s { ram_src = slice_set s.ram_src i n }) s)
 
 -- ---- lists in the place of others
 
-pub list-of : (s : BusState) (h : Held) (xs : List ℕ) → list_of (with_list s h xs) h ≡ xs
+pub list-of : (s : BusState) (h : ChipList) (xs : List ℕ) → list_of (with_list s h xs) h ≡ xs
 list-of s RomBytes xs = refl
 list-of s Characters xs = refl
 list-of s StatusCharacters xs = refl
 list-of s RamPorts xs = refl
 list-of s BankSrcs xs = refl
 
-pub list-again : (s : BusState) (h : Held) (xs ys : List ℕ) → with_list (with_list s h xs) h ys ≡ with_list s h ys
+pub list-again : (s : BusState) (h : ChipList) (xs ys : List ℕ) → with_list (with_list s h xs) h ys ≡ with_list s h ys
 list-again s RomBytes xs ys = refl
 list-again s Characters xs ys = refl
 list-again s StatusCharacters xs ys = refl
 list-again s RamPorts xs ys = refl
 list-again s BankSrcs xs ys = refl
 
-pub list-same : (s : BusState) (h : Held) → with_list s h (list_of s h) ≡ s
+pub list-same : (s : BusState) (h : ChipList) → with_list s h (list_of s h) ≡ s
 list-same s RomBytes = refl
 list-same s Characters = refl
 list-same s StatusCharacters = refl
 list-same s RamPorts = refl
 list-same s BankSrcs = refl
 
-pub list-board : (s : BusState) (h : Held) (xs : List ℕ) → (with_list s h xs).board ≡ s.board
+pub list-board : (s : BusState) (h : ChipList) (xs : List ℕ) → (with_list s h xs).board ≡ s.board
 list-board s RomBytes xs = refl
 list-board s Characters xs = refl
 list-board s StatusCharacters xs = refl
@@ -90,7 +90,7 @@ list-board s BankSrcs xs = refl
 
 -- ---- what is valid
 
-pub count-of : (s : BusState) → IsInRange s → (h : Held) → length (list_of s h) ≡ count_of h
+pub count-of : (s : BusState) → IsInRange s → (h : ChipList) → length (list_of s h) ≡ count_of h
 count-of s v RomBytes = v.rom.count_is
 count-of s v Characters = v.ram.count_is
 count-of s v StatusCharacters = v.status.count_is
@@ -102,7 +102,7 @@ none-from (Some _) e = absurd (cc)
 none-from None e = refl
 
 -- the numbers of absent chips are 0
-pub absent-of : (s : BusState) → IsAbsentZero s → (h : Held) → IsZeroWhereAbsent s h
+pub absent-of : (s : BusState) → IsAbsentZero s → (h : ChipList) → IsZeroWhereAbsent s h
 absent-of s v RomBytes i l e = v.rom i (none-from (masks_on s.board (i / 256)) e)
 absent-of s v Characters i l e =
     let place : i / 256 * 256 + i % 256 ≡ i = omega arith in
@@ -119,7 +119,7 @@ absent-of s v BankSrcs i below e = v.ram_src i (let l = leb-true _ _ e in omega 
 past : (xs : List ℕ) (i : ℕ) → length xs ≤ i → slice_index xs i ≡ 0
 past xs i l = get_or_past xs i 0 l
 
-pub absent-from : (s : BusState) → IsInRange s → ((h : Held) → IsZeroWhereAbsent s h) → ((chip : ℕ) → MatchOption (masks_on s.board chip) (slice_index s.rom_ports chip ≡ 0) (λ mask. latch_value mask (slice_index s.rom_ports chip) ≡ slice_index s.rom_ports chip)) → IsAbsentZero s
+pub absent-from : (s : BusState) → IsInRange s → ((h : ChipList) → IsZeroWhereAbsent s h) → ((chip : ℕ) → MatchOption (masks_on s.board chip) (slice_index s.rom_ports chip ≡ 0) (λ mask. latch_value mask (slice_index s.rom_ports chip) ≡ slice_index s.rom_ports chip)) → IsAbsentZero s
 absent-from s v zero ports = record {
   rom = λ at none.
       elim (cases_lt at 4096) [
@@ -150,7 +150,7 @@ absent-from s v zero ports = record {
 }
 
 -- all five lists
-pub each-held : (s : BusState) → IsZeroWhereAbsent s RomBytes → IsZeroWhereAbsent s Characters → IsZeroWhereAbsent s StatusCharacters → IsZeroWhereAbsent s RamPorts → IsZeroWhereAbsent s BankSrcs → (h : Held) → IsZeroWhereAbsent s h
+pub each-held : (s : BusState) → IsZeroWhereAbsent s RomBytes → IsZeroWhereAbsent s Characters → IsZeroWhereAbsent s StatusCharacters → IsZeroWhereAbsent s RamPorts → IsZeroWhereAbsent s BankSrcs → (h : ChipList) → IsZeroWhereAbsent s h
 each-held s a b c d e RomBytes = a
 each-held s a b c d e Characters = b
 each-held s a b c d e StatusCharacters = c
@@ -160,14 +160,14 @@ each-held s a b c d e BankSrcs = e
 -- ---- a list filled
 
 -- of `start`, all is as it was except for one list, whose first i numbers are those of `goal`
-pub record Fills (start s : BusState) (h : Held) (goal : List ℕ) (i : ℕ) : Type 0 where
+pub record Fills (start s : BusState) (h : ChipList) (goal : List ℕ) (i : ℕ) : Type 0 where
   pub others : s ≡ with_list start h (list_of s h)
   pub filled : IsFilled (list_of start h) goal i (list_of s h)
 
-pub fills-none : (start : BusState) (h : Held) (goal : List ℕ) → length (list_of start h) ≡ length goal → Fills start start h goal 0
+pub fills-none : (start : BusState) (h : ChipList) (goal : List ℕ) → length (list_of start h) ≡ length goal → Fills start start h goal 0
 fills-none start h goal l = record { others = sym (list-same start h); filled = filled-none (list_of start h) goal l }
 
-set-next : (start s t : BusState) (h : Held) (goal : List ℕ) (i n : ℕ) → i < length goal → n ≡ get_or goal i 0 → Fills start s h goal i → t ≡ with_list s h (slice_set (list_of s h) i n) → Fills start t h goal (i + 1)
+set-next : (start s t : BusState) (h : ChipList) (goal : List ℕ) (i n : ℕ) → i < length goal → n ≡ get_or goal i 0 → Fills start s h goal i → t ≡ with_list s h (slice_set (list_of s h) i n) → Fills start t h goal (i + 1)
 set-next start s t h goal i n l is f to =
     let ys = slice_set (list_of s h) i n in
     let now : list_of t h ≡ ys = ap (λ (u : BusState). list_of u h) to ∙ list-of s h ys in
@@ -176,10 +176,10 @@ set-next start s t h goal i n l is f to =
       filled = subst (IsFilled (list_of start h) goal (i + 1)) (sym now) (filled-set (list_of start h) goal (list_of s h) i i n l refl is f.filled);
     }
 
-kept-next : (start s t : BusState) (h : Held) (goal : List ℕ) (i : ℕ) → get_or (list_of start h) i 0 ≡ get_or goal i 0 → Fills start s h goal i → t ≡ s → Fills start t h goal (i + 1)
+kept-next : (start s t : BusState) (h : ChipList) (goal : List ℕ) (i : ℕ) → get_or (list_of start h) i 0 ≡ get_or goal i 0 → Fills start s h goal i → t ≡ s → Fills start t h goal (i + 1)
 kept-next start s t h goal i same f to = subst (λ (u : BusState). Fills start u h goal (i + 1)) (sym to) (record { others = f.others; filled = filled-kept (list_of start h) goal (list_of s h) i same f.filled })
 
-pub fills-next : (start s t : BusState) (h : Held) (goal : List ℕ) (i n : ℕ) → i < length goal → n ≡ get_or goal i 0 → (is_absent start.board h i ≡ true → get_or (list_of start h) i 0 ≡ get_or goal i 0) → Fills start s h goal i → t ≡ with_number s h i n → Fills start t h goal (i + 1)
+pub fills-next : (start s t : BusState) (h : ChipList) (goal : List ℕ) (i n : ℕ) → i < length goal → n ≡ get_or goal i 0 → (is_absent start.board h i ≡ true → get_or (list_of start h) i 0 ≡ get_or goal i 0) → Fills start s h goal i → t ≡ with_cell s h i n → Fills start t h goal (i + 1)
 fills-next start s t h goal i n l is gone f to =
     let board : s.board ≡ start.board = ap (λ (u : BusState). u.board) f.others ∙ list-board start h (list_of s h) in
     elim (is_absent s.board h i) as (λ v. is_absent s.board h i ≡ v → t ≡ cond v s (with_list s h (slice_set (list_of s h) i n)) → Fills start t h goal (i + 1)) [
@@ -187,7 +187,7 @@ fills-next start s t h goal i n l is gone f to =
       | false ↦ λ e to. set-next start s t h goal i n l is f to
     ] refl to
 
-pub fills-all : (start s : BusState) (h : Held) (goal : List ℕ) (i : ℕ) → length goal ≤ i → Fills start s h goal i → s ≡ with_list start h goal
+pub fills-all : (start s : BusState) (h : ChipList) (goal : List ℕ) (i : ℕ) → length goal ≤ i → Fills start s h goal i → s ≡ with_list start h goal
 fills-all start s h goal i l f = f.others ∙ ap (with_list start h) (filled-all (list_of start h) goal (list_of s h) i l f.filled)
 
 -- ---- the latches of the ROMs filled

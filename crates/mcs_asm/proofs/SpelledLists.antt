@@ -9,34 +9,34 @@ use Rattle.mcs_model.specs.declared.op.Op.TheVariants as op
 use Rattle.mcs_source.specs.Lines as asm
 use Rattle.mcs_model.specs.Table.{word_count_of}
 use Rattle.mcs_source.specs.Spelling.{spelling}
-use Rattle.mcs_source.specs.Assembly.{Names, value_in, values_in, bytes_at, size, if_known, if_in_range, if_on_page, is_near, line_bytes, passes_end}
+use Rattle.mcs_source.specs.Assembly.{Names, value_in, values_in, statement_bytes, size, if_known, if_in_range, if_on_page, is_near, line_bytes, passes_end}
 use Rattle.std.specs.Prelude.{is_some}
 use Rattle.std.specs.List.{list_any}
 use Rattle.mcs_source.specs.declared.fault.SourceFault.TheVariants.{Overlap}
 use Rattle.mcs_model.specs.Images.{from_address, overlaps}
 use Rattle.mcs_source.specs.Assembly.{next_at}
-use Rattle.mcs_asm.specs.Passes.{Spelt, spelt_with_bytes, spelt_with_line}
-use Rattle.mcs_asm.specs.ByteMap.{written, IsKept}
+use Rattle.mcs_asm.specs.Passes.{SpelledLines, spelled_with_bytes, spelled_with_line}
+use Rattle.mcs_asm.specs.ByteMap.{cells_after, HoldsPairs}
 use Rattle.mcs_asm.proofs.CellPairs.{taken_is, all_kept, free_from}
 use Rattle.mcs_model.specs.Options.{◌>>=◌}
 
-pub taken_stops : (cells : List (Option ℕ)) (pairs : List (ℕ × ℕ)) (at next : ℕ) (bytes : List ℕ) → list_any is_some (take (length bytes) (drop at cells)) ≡ true → IsKept cells pairs
-    → spelt_with_bytes (record { at = at; pairs = pairs }) next (Ok bytes) ≡ Err Overlap
+pub taken_stops : (cells : List (Option ℕ)) (pairs : List (ℕ × ℕ)) (at next : ℕ) (bytes : List ℕ) → list_any is_some (take (length bytes) (drop at cells)) ≡ true → HoldsPairs cells pairs
+    → spelled_with_bytes (record { at = at; pairs = pairs }) next (Ok bytes) ≡ Err Overlap
 taken_stops cells pairs at next bytes taken kept =
     let over : overlaps pairs at (length bytes) ≡ true = sym (taken_is cells pairs at (length bytes) kept) ∙ taken in
     rw over refl
 
-pub free_goes : (cells : List (Option ℕ)) (pairs : List (ℕ × ℕ)) (at next : ℕ) (bytes : List ℕ) → at + length bytes ≤ 4096 → list_any is_some (take (length bytes) (drop at cells)) ≡ false → IsKept cells pairs
-    → (s : Spelt) × (spelt_with_bytes (record { at = at; pairs = pairs }) next (Ok bytes) ≡ Ok s) × (s.at ≡ next) × IsKept (written at bytes cells) s.pairs
+pub free_goes : (cells : List (Option ℕ)) (pairs : List (ℕ × ℕ)) (at next : ℕ) (bytes : List ℕ) → at + length bytes ≤ 4096 → list_any is_some (take (length bytes) (drop at cells)) ≡ false → HoldsPairs cells pairs
+    → (s : SpelledLines) × (spelled_with_bytes (record { at = at; pairs = pairs }) next (Ok bytes) ≡ Ok s) × (s.at ≡ next) × HoldsPairs (cells_after at bytes cells) s.pairs
 free_goes cells pairs at next bytes within free kept =
     let over : overlaps pairs at (length bytes) ≡ false = sym (taken_is cells pairs at (length bytes) kept) ∙ free in
     (record { at = next; pairs = pairs ++ from_address at bytes }, rw over refl, refl, all_kept bytes at cells pairs within kept (free_from pairs at (length bytes) over))
 
 -- what a line that has a form adds
-pub second_is : (names : Names) (s : Spelt) (l : Option asm.SourceLine) (line : asm.SourceLine) (bytes : List ℕ) (next : ℕ) → Some line ≡ l → line_bytes s.at names (Some line) ≡ Ok bytes → next ≡ next_at (Some line) s.at
-    → spelt_with_bytes s next (Ok bytes) ≡ spelt_with_line names s l
+pub second_is : (names : Names) (s : SpelledLines) (l : Option asm.SourceLine) (line : asm.SourceLine) (bytes : List ℕ) (next : ℕ) → Some line ≡ l → line_bytes s.at names (Some line) ≡ Ok bytes → next ≡ next_at (Some line) s.at
+    → spelled_with_bytes s next (Ok bytes) ≡ spelled_with_line names s l
 second_is names s l line bytes next form is at =
-    ap (λ (n : ℕ). spelt_with_bytes s n (Ok bytes)) at ∙ (ap (λ (r : Result (List ℕ) SourceFault). spelt_with_bytes s (next_at (Some line) s.at) r) (sym is) ∙ ap (λ (o : Option asm.SourceLine). spelt_with_line names s o) form)
+    ap (λ (n : ℕ). spelled_with_bytes s n (Ok bytes)) at ∙ (ap (λ (r : Result (List ℕ) SourceFault). spelled_with_bytes s (next_at (Some line) s.at) r) (sym is) ∙ ap (λ (o : Option asm.SourceLine). spelled_with_line names s o) form)
 
 -- ---- the bytes of a line fit, where class one found no fault
 
@@ -77,7 +77,7 @@ values_has : (names : Names) (vs : List asm.Operand) (f : List ℕ → Bool) (o 
 values_has names vs f None e = tt
 values_has names vs f (Some ns) e = within_has (length vs) (f ns) (Ok ns) (values_length names vs ns e)
 
-pub bytes_size : (at : ℕ) (names : Names) (s : asm.Statement) → HasLength (size s) (bytes_at at names s)
+pub bytes_size : (at : ℕ) (names : Names) (s : asm.Statement) → HasLength (size s) (statement_bytes at names s)
 bytes_size at names (asm.Origin n) = refl
 bytes_size at names (asm.Data vs) = values_has names vs (λ ns. list_all (λ n. ltb n 256) ns) (values_in names vs) refl
 bytes_size at names (asm.Whole o) = spelling_size o

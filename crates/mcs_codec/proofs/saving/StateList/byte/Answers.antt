@@ -1,6 +1,6 @@
 use Rattle.std.proofs.Common.{arith}
 use Rattle.mcs_codec.proofs.BoardLengths.{few_bits}
-use Rattle.mcs_codec.proofs.saving.Part.byte.Goals as goal
+use Rattle.mcs_codec.proofs.saving.StateList.byte.Goals as goal
 
 pub overflow_cast-i-in-ChainBits : goal.overflow_cast-i-in-ChainBits
 overflow_cast-i-in-ChainBits c =

@@ -5,9 +5,9 @@ use Rattle.mcs_source.specs.Lines.{line_of}
 use Rattle.mcs_source.specs.Assembly.{line_bytes}
 use Rattle.mcs_source.specs.declared.fault.SourceFault.{SourceFault}
 use Rattle.mcs_asm.specs.View.{line_view}
-use Rattle.mcs_asm.specs.Passes.{HasNoFault, Spelt, Adds, span_at}
-use Rattle.mcs_asm.proofs.SpeltLists.{fits, second_is}
-use Rattle.mcs_asm.proofs.passes.Spelt.spell.Goals as goal
+use Rattle.mcs_asm.specs.Passes.{HasNoFault, SpelledLines, Adds, span_at}
+use Rattle.mcs_asm.proofs.SpelledLists.{fits, second_is}
+use Rattle.mcs_asm.proofs.passes.SpelledLines.spell.Goals as goal
 
 pub add-requires-clause-room : goal.add-requires-clause-room
 add-requires-clause-room c =
@@ -20,7 +20,7 @@ pub returns-clause-bytes : goal.returns-clause-bytes
 returns-clause-bytes c = λ pairs kept.
     let form : Some (line_view c.in-Some.line) ≡ line_of (tokens c.args.line.now) = ap (option_map line_view) (sym c.in-Some.is) ∙ c.in_ok-line.ensures in
     let bytes = c.in_ok-bytes.ensures ∙ ap Ok (sym c.deref.ensures.value) in
-    let before : Spelt = record { at = c.args.self.now.at; pairs = pairs } in
+    let before : SpelledLines = record { at = c.args.self.now.at; pairs = pairs } in
     subst (Adds c.add.result c.add.new.self.at c.add.new.self.cells) (second_is c.args.names.now.names before (line_of (tokens c.args.line.now)) (line_view c.in-Some.line) c.deref.result.now c.next_at-next.result form bytes c.next_at-next.ensures.at)
     (c.add.ensures.bytes pairs kept)
 

@@ -1,11 +1,11 @@
 use Rattle.std.proofs.Common.{◌≡◌, ◌∙◌, sym}
-use Rattle.mcs_asm.specs.ByteMap.{written}
-use Rattle.mcs_asm.proofs.SpeltLists.{free_goes}
-use Rattle.mcs_asm.proofs.passes.Spelt.add.Goals as goal
+use Rattle.mcs_asm.specs.ByteMap.{cells_after}
+use Rattle.mcs_asm.proofs.SpelledLists.{free_goes}
+use Rattle.mcs_asm.proofs.passes.SpelledLines.add.Goals as goal
 
 pub returns-clause-bytes : goal.returns-clause-bytes
 returns-clause-bytes c = λ pairs kept.
     let free = rw (c.from-at.ensures) at (sym c.is_taken.ensures ∙ c.if-is_taken.false) in
     let r = free_goes c.args.self.now.cells pairs c.args.self.now.at c.args.next c.args.bytes.now c.requires.room free kept in
-    let same : c.write.new.self ≡ written c.args.self.now.at c.args.bytes.now c.args.self.now.cells = rw (← c.from-at.ensures) c.write.ensures in
+    let same : c.write.new.self ≡ cells_after c.args.self.now.at c.args.bytes.now c.args.self.now.cells = rw (← c.from-at.ensures) c.write.ensures in
     (r.0, r.1, r.2, rw same r.3)

@@ -3,14 +3,14 @@ use Rattle.std.specs.Prelude.{ℕ, ◌*◌, ◌/◌, ◌%◌, List, map, slice_i
 use Rattle.std.specs.List.{range_with_len}
 
 -- f 0, f 1, .. f (n - 1)
-unfoldable pub tabled : {A : Type 0} → ℕ → (ℕ → A) → List A
-tabled n f = map f (range_with_len 0 n)
+unfoldable pub table_of : {A : Type 0} → ℕ → (ℕ → A) → List A
+table_of n f = map f (range_with_len 0 n)
 
 -- one number of each of n things: f of the thing, and of d where a thing is absent
 unfoldable pub column : {X : Type 0} → ℕ → (X → ℕ) → X → List X → List ℕ
-column n f d xs = tabled n (λ i. f (slice_index_or xs i d))
+column n f d xs = table_of n (λ i. f (slice_index_or xs i d))
 
 -- `wide` numbers of each of n things, one thing after another
 unfoldable pub grid : {X : Type 0} → ℕ → ℕ → (X → List ℕ) → X → List X → List ℕ
 grid n wide f d xs =
-    tabled (n * wide) (λ i. slice_index (f (slice_index_or xs (i / wide) d)) (i % wide))
+    table_of (n * wide) (λ i. slice_index (f (slice_index_or xs (i / wide) d)) (i % wide))

@@ -1,7 +1,7 @@
 -- The numbers that the assembler's faults are reported as. (Our own choice.)
 use Rattle.std.specs.Prelude.{ℕ}
 use Rattle.mcs_model.specs.declared.refusal_numbers.TheConstants.{NO_MEMORY}
-use Rattle.mcs_source.specs.Refusal.{source_fault_number}
+use Rattle.mcs_source.specs.RefusalNumbers.{source_fault_number}
 use Rattle.mcs_asm.specs.declared.fault.FaultKind.{FaultKind}
 use Rattle.mcs_asm.specs.declared.fault.FaultKind.TheVariants.{NoMemory, Refused}
 

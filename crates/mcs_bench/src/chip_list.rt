@@ -1,0 +1,100 @@
+//! The lists of numbers that the chips of a board hold: each place is told and set by its index.
+ghost use Rattle.std.specs.Prelude.{◌≡◌, ℕ, ◌<◌, ◌↔◌, true, IsTrue, length, slice_index};
+ghost use Rattle.mcs_model.specs.Validity.{AreBelow};
+ghost use Rattle.mcs_bench.specs.ChipLists.{count_of, limit_of, is_absent, with_list, with_cell};
+
+use mcs_board::BenchRig;
+use mcs_model::board::Board;
+use mcs_nibble::{Addr, Nibble};
+
+/// A list of numbers.
+#[derive(Clone, Copy)]
+pub(crate) enum ChipList {
+    /// The bytes of the ROMs, by address.
+    RomBytes,
+    /// The RAM characters, at bank * 256 + SRC byte.
+    Characters,
+    /// The status characters, at (bank * 16 + upper nibble of SRC) * 4 + k.
+    StatusCharacters,
+    /// The port latches of the RAM chips, at bank * 4 + chip.
+    RamPorts,
+    /// The SRC byte that each bank keeps.
+    BankSrcs,
+}
+
+/// How many numbers a list has.
+fn count_of(list: ChipList) -> usize
+    ensures { result ≡ count_of list }
+{
+    match list {
+        ChipList::RomBytes => 4096,
+        ChipList::Characters => 2048,
+        ChipList::StatusCharacters => 512,
+        ChipList::RamPorts => 32,
+        ChipList::BankSrcs => 8,
+    }
+}
+
+/// Whether the chip is absent that would hold number `i` of a list.
+fn is_absent(board: &Board, list: ChipList, i: usize) -> bool
+    requires { i < count_of list }
+    ensures { result ≡ is_absent board.now list i }
+{
+    match list {
+        ChipList::RomBytes => board.mask((i / 256) as u8).is_none(),
+        ChipList::Characters => usize::from(board.bank_chips((i / 256) as u8)) <= i % 256 / 64,
+        ChipList::StatusCharacters => usize::from(board.bank_chips((i / 64) as u8)) <= i % 64 / 16,
+        ChipList::RamPorts => usize::from(board.bank_chips((i / 4) as u8)) <= i % 4,
+        ChipList::BankSrcs => board.bank_chips(i as u8) == 0,
+    }
+}
+
+/// Whether all numbers of absent chips are 0.
+pub(crate) fn is_absent_zero(board: &Board, list: ChipList, numbers: &[u8]) -> bool
+    requires { length numbers.now ≡ count_of list }
+    ensures { IsTrue result
+        ↔ ((i : ℕ) → i < count_of list → is_absent board.now list i ≡ true →
+        slice_index numbers.now i ≡ 0) }
+{
+    for i in 0..numbers.len() {
+        if numbers[i] != 0 && is_absent(board, list, i) {
+            return false;
+        }
+    }
+    true
+}
+
+/// Sets number `i` of a list; lost where its chip is absent.
+fn set(rig: &mut BenchRig, list: ChipList, i: usize, n: u8)
+    requires place { i < count_of list }
+    requires fits { n < limit_of list }
+    ensures { rig.new ≡ with_cell rig.old list i n }
+{
+    match list {
+        ChipList::RomBytes => rig.set_rom_byte(Addr::ZERO.plus(i as u16), n),
+        ChipList::Characters => {
+            rig.set_ram((i / 256) as u8, (i % 256) as u8, Nibble::low_of(n));
+        }
+        ChipList::StatusCharacters => {
+            let high = Nibble::low_of((i % 64 / 4) as u8);
+            rig.set_status((i / 64) as u8, high, (i % 4) as u8, Nibble::low_of(n));
+        }
+        ChipList::RamPorts => {
+            rig.set_ram_latch((i / 4) as u8, (i % 4) as u8, Nibble::low_of(n));
+        }
+        ChipList::BankSrcs => rig.set_ram_src(i as u8, n),
+    }
+}
+
+/// Sets all numbers of a list.
+pub(crate) fn fill(rig: &mut BenchRig, list: ChipList, numbers: &[u8])
+    requires fit { AreBelow (count_of list) (limit_of list) numbers.now }
+    requires absent { (i : ℕ) → i < count_of list → is_absent rig.old.board list i ≡ true →
+        slice_index numbers.now i ≡ 0 }
+    ensures { rig.new ≡ with_list rig.old list numbers.now }
+{
+    rig.show_state_is_valid();
+    for i in 0..numbers.len() {
+        set(rig, list, i, numbers[i]);
+    }
+}
