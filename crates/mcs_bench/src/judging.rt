@@ -7,8 +7,8 @@ ghost use Rattle.mcs_model.specs.Validity.{AreBelow, AreBreakpoints, AreWatches,
 ghost use Rattle.mcs_bench.specs.ChipLists.{IsZeroWhereAbsent};
 ghost use Rattle.mcs_bench.specs.States.{state_of, rows_of};
 
-use crate::flat::Flat;
 use crate::chip_list::{ChipList, is_absent_zero};
+use crate::flat::Flat;
 use arrayvec::ArrayVec;
 use mcs_model::board::Board;
 use mcs_model::limits::CHAIN_PLACES;

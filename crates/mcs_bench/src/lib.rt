@@ -6,9 +6,9 @@
 
 mod bench;
 mod breaks;
+mod chip_list;
 mod commands;
 mod flat;
-mod chip_list;
 mod judging;
 mod laws;
 mod reading;

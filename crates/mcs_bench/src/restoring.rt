@@ -8,8 +8,8 @@ ghost use Rattle.mcs_bench.specs.States.{state_of, rows_of};
 
 use crate::bench::Bench;
 use crate::breaks::Breaks;
-use crate::flat::Flat;
 use crate::chip_list::{ChipList, fill};
+use crate::flat::Flat;
 use crate::watches::Watches;
 use arrayvec::ArrayVec;
 use mcs_board::{BenchRig, every_board_fits_the_bench};

@@ -6,7 +6,8 @@ use Rattle.std.specs.Fmt.{decimal, digits}
 use Rattle.mcs_model.specs.QueryText.{hex_2, hex_digit}
 use Rattle.mcs_model.specs.declared.op.Op.{Op}
 use Rattle.mcs_model.specs.declared.op.Op.TheVariants.{Nop, Jcn, Fim, Src, Fin, Jin, Jun, Jms, Inc, Isz, Add, Sub, Ld, Xch, Bbl, Ldm, Wrm, Wmp, Wrr, Wr0, Wr1, Wr2, Wr3, Sbm, Rdm, Rdr, Adm, Rd0, Rd1, Rd2, Rd3, Clb, Clc, Iac, Cmc, Cma, Ral, Rar, Tcc, Dac, Tcs, Stc, Daa, Kbp, Dcl}
-use Rattle.mcs_source.specs.Text.{instruction_text, address, near_page, byte_text}
+use Rattle.mcs_source.specs.Assembly.{near_page}
+use Rattle.mcs_source.specs.Text.{instruction_text, address, byte_text}
 use Rattle.mcs_source.specs.Spelling.{IsOp}
 use Rattle.mcs_dis.proofs.ReadBack.{one_below, near_small}
 use Rattle.mcs_model.specs.TextLines.{no_lf}

@@ -11,8 +11,8 @@ use Rattle.mcs_source.specs.Lexical.{Token, Word, Comma, tokens, tokens_after, w
 use Rattle.mcs_model.specs.Numerals.{capped_number, number_written}
 use Rattle.mcs_source.specs.Mnemonics.{mnemonic_of, on_addresses, on_registers, on_ports, on_memory, on_accumulator, on_carry}
 use Rattle.mcs_source.specs.Lines as asm
-use Rattle.mcs_source.specs.Text.{byte_text, origin_text, address, near_page}
-use Rattle.mcs_source.specs.Assembly.{Names, statement_bytes, size, next_statement, is_bad_statement}
+use Rattle.mcs_source.specs.Text.{byte_text, origin_text, address}
+use Rattle.mcs_source.specs.Assembly.{Names, statement_bytes, size, next_statement, is_bad_statement, near_page}
 use Rattle.mcs_model.specs.Table.{word_count_of}
 use Rattle.mcs_source.specs.Spelling.{spelling, IsOp}
 use Rattle.mcs_dis.specs.Again.{statement, ReadsAs}

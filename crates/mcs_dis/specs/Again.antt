@@ -6,7 +6,8 @@ use Rattle.mcs_model.specs.declared.op.Op.{Op}
 use Rattle.mcs_model.specs.declared.op.Op.TheVariants.{Jcn, Fim, Jun, Jms, Isz, Bbl, Ldm}
 use Rattle.mcs_source.specs.Lexical.{tokens}
 use Rattle.mcs_source.specs.Lines as asm
-use Rattle.mcs_source.specs.Text.{instruction_text, near_page, range}
+use Rattle.mcs_source.specs.Assembly.{near_page}
+use Rattle.mcs_source.specs.Text.{instruction_text, range}
 
 -- the address that JCN and ISZ at an address reach
 abbrev pub near : ℕ → ℕ → asm.Operand

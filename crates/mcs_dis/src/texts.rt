@@ -2,7 +2,8 @@
 ghost use Rattle.std.specs.Prelude.{◌≡◌, ◌++◌, ◌/◌, ◌%◌, codes, string_bytes, OnOk};
 ghost use Rattle.std.specs.Fmt.{decimal};
 ghost use Rattle.mcs_source.specs.InstructionNames.{name};
-ghost use Rattle.mcs_source.specs.Text.{address, near_page, operands, instruction_text, piece_text, origin_text, address_digits, word_columns, columns};
+ghost use Rattle.mcs_source.specs.Assembly.{near_page};
+ghost use Rattle.mcs_source.specs.Text.{address, operands, instruction_text, piece_text, origin_text, address_digits, word_columns, columns};
 ghost use Rattle.mcs_model.specs.QueryText.{as_line, hex_2};
 
 use mcs_code::{Op, instructions, taken};

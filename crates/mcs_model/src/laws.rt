@@ -12,8 +12,8 @@ pub fn codes_are_in_one_row()
     ensures at_most_one { is_unambiguous rows ≡ true }
 {}
 
-/// Where no breakpoint is set, two runs one after the other come to the state that one run of all
-/// their instruction cycles comes to.
+/// Where no breakpoint and no watch is set, two runs one after the other come to the state that one
+/// run of all their instruction cycles comes to.
 pub fn runs_compose()
     ensures { RunsCompose }
 {}

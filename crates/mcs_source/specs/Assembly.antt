@@ -158,9 +158,13 @@ abbrev pub if_on_page : {B : Type 0} → Bool → Result B SourceFault → Resul
 if_on_page false next = Err WrongPage
 if_on_page true next = next
 
--- JCN and ISZ reach the page of the address after their two words (MCS-4 Users Manual, JCN and ISZ)
+-- the page that JCN and ISZ at an address reach: that of the address after their two words (MCS-4
+-- Users Manual, JCN and ISZ)
+abbrev pub near_page : ℕ → ℕ
+near_page at = page_of (at + 2)
+
 abbrev pub is_near : ℕ → ℕ → Bool
-is_near at t = t / 256 == page_of (at + 2)
+is_near at t = t / 256 == near_page at
 
 -- the bytes that a statement at an address spells, or the first of the faults 32, 33 and 34 that it
 -- has

@@ -6,11 +6,10 @@ use Rattle.std.specs.List.{flat_map}
 use Rattle.std.specs.Fmt.{decimal}
 use Rattle.mcs_model.specs.declared.op.Op.{Op}
 use Rattle.mcs_model.specs.declared.op.Op.TheVariants.{Jcn, Fim, Src, Fin, Jin, Jun, Jms, Inc, Isz, Add, Sub, Ld, Xch, Bbl, Ldm}
-use Rattle.mcs_model.specs.Numbers.{page_of}
 use Rattle.mcs_model.specs.QueryText.{as_line, hex_2, hex_digit}
 use Rattle.mcs_model.specs.Table.{instruction_of, word_count_of}
 use Rattle.mcs_model.specs.Images.{from_address}
-use Rattle.mcs_source.specs.Assembly.{assembly_of_text}
+use Rattle.mcs_source.specs.Assembly.{assembly_of_text, near_page}
 use Rattle.mcs_source.specs.InstructionNames.{name}
 
 -- the three digits of an address, by its page and its word
@@ -20,10 +19,6 @@ address_digits page word = hex_digit page ∷ hex_2 word
 -- an address as `0xHHH`
 abbrev pub address : ℕ → ℕ → List ℕ
 address page word = codes "0x" ++ address_digits page word
-
--- the page that JCN and ISZ at an address reach
-abbrev pub near_page : ℕ → ℕ
-near_page at = page_of (at + 2)
 
 abbrev pub byte_text : ℕ → List ℕ
 byte_text b = codes "DB 0x" ++ hex_2 b
