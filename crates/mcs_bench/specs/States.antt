@@ -5,8 +5,8 @@ use Rattle.mcs_model.specs.BenchState.{BenchState}
 use Rattle.mcs_bench.specs.declared.flat.Flat.{Flat}
 
 -- the bits of each chain
-abbrev pub rows_of : List (ArrayVec ℕ) → List (List ℕ)
-rows_of rows = map (λ row. row.items) rows
+abbrev pub bits_of_chains : List (ArrayVec ℕ) → List (List ℕ)
+bits_of_chains chains = map (λ chain. chain.items) chains
 
 abbrev pub state_of : Flat → BenchState
 state_of f = record {
@@ -20,7 +20,7 @@ state_of f = record {
     rom_ports = f.rom_ports;
     rom_src = f.rom_src;
     ram_src = f.ram_src;
-    chains = rows_of f.chains.items;
+    chains = bits_of_chains f.chains.items;
     keys = f.keys.items;
     test = f.test;
   };

@@ -5,7 +5,7 @@ ghost use Rattle.mcs_nibble.specs.Ports.{latch_value};
 ghost use Rattle.mcs_model.specs.Boards.{masks_on, chain_count, chain_bits, key_count};
 ghost use Rattle.mcs_model.specs.Validity.{AreBelow, AreBreakpoints, AreWatches, IsAbsentZero, IsInRange, IsValid, IsValidBus, IsValidRegs};
 ghost use Rattle.mcs_bench.specs.ChipLists.{IsZeroWhereAbsent};
-ghost use Rattle.mcs_bench.specs.States.{state_of, rows_of};
+ghost use Rattle.mcs_bench.specs.States.{state_of, bits_of_chains};
 
 use crate::chip_list::{ChipList, is_absent_zero};
 use crate::flat::Flat;
@@ -70,17 +70,17 @@ fn is_rising(numbers: &[u16]) -> bool
 }
 
 /// Whether there are that many bits for each chain of a board.
-fn are_chains(board: &Board, rows: &[ArrayVec<u8, CHAIN_PLACES>]) -> bool
+fn are_chains(board: &Board, chains: &[ArrayVec<u8, CHAIN_PLACES>]) -> bool
     ensures { IsTrue result
-        ↔ ((length rows.now ≡ chain_count board.now) ×
+        ↔ ((length chains.now ≡ chain_count board.now) ×
         ((i : ℕ) → i < chain_count board.now →
-        AreBelow (chain_bits board.now i) 2 (slice_index_or (rows_of rows.now) i []))) }
+        AreBelow (chain_bits board.now i) 2 (slice_index_or (bits_of_chains chains.now) i []))) }
 {
-    if rows.len() != board.chain_count() {
+    if chains.len() != board.chain_count() {
         return false;
     }
-    for i in 0..rows.len() {
-        if !are_below(rows[i].as_slice(), usize::from(board.chain(i).bits()), 2) {
+    for i in 0..chains.len() {
+        if !are_below(chains[i].as_slice(), usize::from(board.chain(i).bits()), 2) {
             return false;
         }
     }

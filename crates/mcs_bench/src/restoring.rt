@@ -4,7 +4,7 @@ ghost use Rattle.mcs_nibble.specs.Ports.{latch_value};
 ghost use Rattle.mcs_model.specs.Boards.{masks_on, chain_count, chain_bits, key_count};
 ghost use Rattle.mcs_model.specs.Validity.{AreBelow, AreBreakpoints, AreWatches, IsValid, IsValidBus, IsValidRegs};
 ghost use Rattle.mcs_bench.specs.ChipLists.{IsKeyAt};
-ghost use Rattle.mcs_bench.specs.States.{state_of, rows_of};
+ghost use Rattle.mcs_bench.specs.States.{state_of, bits_of_chains};
 
 use crate::bench::Bench;
 use crate::breaks::Breaks;
@@ -86,15 +86,15 @@ fn fill_chain(rig: &mut BenchRig, chain: u8, bits: &[u8])
 }
 
 /// Sets all bits of all chains.
-fn fill_chains(rig: &mut BenchRig, rows: &[ArrayVec<u8, CHAIN_PLACES>])
-    requires count { length rows.now ≡ chain_count rig.old.board }
+fn fill_chains(rig: &mut BenchRig, chains: &[ArrayVec<u8, CHAIN_PLACES>])
+    requires count { length chains.now ≡ chain_count rig.old.board }
     requires fit { (i : ℕ) → i < chain_count rig.old.board →
-        AreBelow (chain_bits rig.old.board i) 2 (slice_index_or (rows_of rows.now) i []) }
-    ensures { rig.new ≡ record rig.old { chains = rows_of rows.now } }
+        AreBelow (chain_bits rig.old.board i) 2 (slice_index_or (bits_of_chains chains.now) i []) }
+    ensures { rig.new ≡ record rig.old { chains = bits_of_chains chains.now } }
 {
     rig.show_state_is_valid();
-    for i in 0..rows.len() {
-        fill_chain(rig, i as u8, rows[i].as_slice());
+    for i in 0..chains.len() {
+        fill_chain(rig, i as u8, chains[i].as_slice());
     }
 }
 

@@ -57,7 +57,7 @@ impl<const ROMS: usize, const BANKS: usize, const CHAINS: usize, const MAX: usiz
     }
 
     /// Bit `i` of chain `n`; 0 beyond its end.
-    pub(crate) fn row_bit(&self, n: usize, i: usize) -> Bit
+    pub(crate) fn bit_of_chain(&self, n: usize, i: usize) -> Bit
         requires { n < chain_count self.now.board }
         ensures { result ≡ chain_bit self.now n i }
     {

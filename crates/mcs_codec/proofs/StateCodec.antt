@@ -187,11 +187,11 @@ cells_of count limit items le h = record { len = h.count_is; small = recursion_f
 words_of : (items : List ℕ) → All (λ n. n < 4096) items → AreWords items
 words_of items h = recursion_from_All (λ n. n < 2 ^ 16) items (λ i d lt. let x = h i d lt in omega arith)
 
-rows_of : (chains : List ChainPart) (rows : List (List ℕ)) → length rows ≡ length chains → ((i : ℕ) → i < length chains → AreBelow (10 * (get_or chains i no_chain).chips) 2 (get_or rows i [])) → AreRows chains rows
-rows_of [] [] l h = tt
-rows_of [] (row ∷ rows) l h = absurd cc
-rows_of (c ∷ chains) [] l h = absurd cc
-rows_of (c ∷ chains) (row ∷ rows) l h = (cells_of (10 * c.chips) 2 row (omega arith) (h 0 (omega arith)), rows_of chains rows (omega arith) (λ i lt. h (suc i) (omega arith)))
+bits_of_chains : (chains : List ChainPart) (rows : List (List ℕ)) → length rows ≡ length chains → ((i : ℕ) → i < length chains → AreBelow (10 * (get_or chains i no_chain).chips) 2 (get_or rows i [])) → AreRows chains rows
+bits_of_chains [] [] l h = tt
+bits_of_chains [] (row ∷ rows) l h = absurd cc
+bits_of_chains (c ∷ chains) [] l h = absurd cc
+bits_of_chains (c ∷ chains) (row ∷ rows) l h = (cells_of (10 * c.chips) 2 row (omega arith) (h 0 (omega arith)), bits_of_chains chains rows (omega arith) (λ i lt. h (suc i) (omega arith)))
 
 shape_by : (version_1 : Bool) (s : BenchState) → IsValid s → (version_1 ≡ true → is_small s.bus.board ≡ true) → FitsWatches version_1 s.watches → HasShape version_1 s
 shape_by version_1 s h small watches =
@@ -222,7 +222,7 @@ shape_by version_1 s h small watches =
         owed = omega (arith, p.owed);
       };
       wiring = record {
-        chains = rows_of s.bus.board.chains.items s.bus.chains r.chains r.chain_bits;
+        chains = bits_of_chains s.bus.board.chains.items s.bus.chains r.chains r.chain_bits;
         keys = cells_of (key_count s.bus.board) 2 s.bus.keys (omega arith) r.keys;
         test = omega (arith, r.test);
         breakpoints = (h.breakpoints.few, words_of s.breakpoints h.breakpoints.addresses);

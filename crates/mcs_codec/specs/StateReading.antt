@@ -8,7 +8,7 @@ use Rattle.mcs_model.specs.declared.board.ChainPart.{ChainPart}
 use Rattle.mcs_model.specs.declared.limits.TheConstants.{BANKS, BREAKPOINTS}
 use Rattle.mcs_model.specs.Boards.{key_count}
 use Rattle.mcs_model.specs.BenchState.{BenchState}
-use Rattle.mcs_bench.specs.States.{rows_of}
+use Rattle.mcs_bench.specs.States.{bits_of_chains}
 use Rattle.mcs_codec.specs.declared.restoring.Memory.{Memory}
 use Rattle.mcs_codec.specs.declared.restoring.Registers.{Registers}
 use Rattle.mcs_codec.specs.declared.restoring.SrcBytes.{SrcBytes}
@@ -72,7 +72,7 @@ pub record WiringState : Type 0 where
 -- the same, of a `Wiring` of the code
 abbrev pub wiring_of : Wiring → WiringState
 wiring_of w = record {
-  chains = rows_of w.chains.items;
+  chains = bits_of_chains w.chains.items;
   keys = w.keys.items;
   test = w.test;
   breakpoints = w.breakpoints.items;

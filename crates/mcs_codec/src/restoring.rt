@@ -2,7 +2,7 @@
 ghost use Rattle.std.specs.Prelude.{◌≡◌, ℕ, ◌*◌, ◌≤◌, List, Bool, All, length, option_map, IfOk, IfSome, IfNone};
 ghost use Rattle.mcs_model.specs.Boards.{key_count};
 ghost use Rattle.mcs_model.specs.BenchState.{BenchState};
-ghost use Rattle.mcs_bench.specs.States.{rows_of, state_of};
+ghost use Rattle.mcs_bench.specs.States.{bits_of_chains, state_of};
 ghost use Rattle.mcs_codec.specs.Reading.{bytes_at, whole};
 ghost use Rattle.mcs_codec.specs.Marked.{marked_at, watches_at};
 ghost use Rattle.mcs_codec.specs.StateReading.{memory_at, registers_at, src_bytes_at, rows_at, breakpoints_at, wiring_of, wiring_at, state_from, state_at};
@@ -195,7 +195,7 @@ fn read_src_bytes(reader: &mut Reader<'_>) -> Option<SrcBytes>
 fn read_rows(reader: &mut Reader<'_>, chains: &[ChainPart]) -> Option<ArrayVec<Row, CHAINS>>
     requires few { length chains.now ≤ CHAINS }
     requires short { All (λ c. c.chips ≤ CHAIN_CHIPS) chains.now }
-    ensures { option_map (λ x. (rows_of x.items, reader.new)) result
+    ensures { option_map (λ x. (bits_of_chains x.items, reader.new)) result
         ≡ rows_at chains.now reader.old }
 {
     let mut rows = ArrayVec::new();

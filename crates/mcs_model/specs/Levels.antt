@@ -4,7 +4,7 @@ use Rattle.std.specs.Prelude.{ℕ, ◌+◌, ◌*◌, ◌/◌, Bool, false, ◌&&
 use Rattle.std.specs.List.{list_any, range_with_len}
 use Rattle.mcs_nibble.specs.Bits.{bit_of}
 use Rattle.mcs_nibble.specs.Ports.{latch_value, read_lines}
-use Rattle.mcs_nibble.specs.Shifting.{row_after_shift}
+use Rattle.mcs_nibble.specs.Shifting.{bits_after_shift}
 use Rattle.mcs_nibble.specs.Tables.{table_of}
 use Rattle.mcs_model.specs.declared.board.KeyMatrix.{KeyMatrix}
 use Rattle.mcs_model.specs.declared.board.Line.{Line}
@@ -66,10 +66,10 @@ clock_levels s = table_of (chain_count s.board) (λ i. level s (chain_part s.boa
 -- chain's clock line before it. Where that rose, each bit moves one place up, the data line's level becomes bit 0, and the last bit is lost
 -- (4003 data sheet: a shift register with a serial input; edge, order and data level are our own choice)
 unfoldable pub chain_clocked : BusState → ℕ → ℕ → List ℕ → List ℕ
-chain_clocked s i was row =
+chain_clocked s i was bits =
     if was == 0 && level s (chain_part s.board i).clock == 1
-    then row_after_shift (level s (chain_part s.board i).data_in) row
-    else row
+    then bits_after_shift (level s (chain_part s.board i).data_in) bits
+    else bits
 
 -- the chains clocked, where their clock lines were at `before`
 unfoldable pub chains_clocked : List ℕ → BusState → BusState

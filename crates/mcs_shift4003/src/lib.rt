@@ -6,7 +6,7 @@
 ghost use Rattle.std.specs.Prelude.{◌≡◌, ◌≢◌, ℕ, ◌+◌, ◌*◌, ◌/◌, ◌%◌, ◌<◌, ◌≤◌, All, length, replicate, slice_index, slice_get, slice_set};
 ghost use Rattle.mcs_nibble.specs.Bits.{bit_of};
 ghost use Rattle.mcs_shift4003.specs.Packing.{packed_bit, bit_before, IsPacked};
-ghost use Rattle.mcs_nibble.specs.Shifting.{row_after_shift};
+ghost use Rattle.mcs_nibble.specs.Shifting.{bits_after_shift};
 
 use arrayvec::ArrayVec;
 use mcs_nibble::Bit;
@@ -170,7 +170,7 @@ impl<const MAX: usize> Chain<MAX> {
     /// Takes in the level of the data line: each bit moves one place up, the level becomes bit 0, and the
     /// last bit is lost.
     pub fn shift(&mut self, level: Bit)
-        ensures { self.new ≡ row_after_shift level self.old }
+        ensures { self.new ≡ bits_after_shift level self.old }
     {
         shift_bits(&mut self.words, self.bits, level);
     }

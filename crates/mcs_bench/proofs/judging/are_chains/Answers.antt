@@ -2,17 +2,17 @@ use Rattle.std.proofs.Common.{◌∙◌, ◌*◌, List, ℕ, [], sym, ap, subst,
 use Rattle.mcs_model.specs.declared.board.ChainPart.{ChainPart}
 use Rattle.mcs_model.specs.Boards.{chain_bits}
 use Rattle.mcs_model.specs.Validity.{AreBelow}
-use Rattle.mcs_bench.specs.States.{rows_of}
-use Rattle.mcs_bench.proofs.Rows.{rows-at}
+use Rattle.mcs_bench.specs.States.{bits_of_chains}
+use Rattle.mcs_bench.proofs.ChainBits.{chain-at}
 use Rattle.mcs_bench.proofs.judging.are_chains.Goals as goal
 
 pub loop-i-preserved : goal.loop-i-preserved
 loop-i-preserved c =
     let b = c.args.board.now in
-    let rows = c.args.rows.now in
+    let chains = c.args.chains.now in
     let i = c.loop-i.i in
     let count = c.from.ensures ∙ c.bits.ensures ∙ ap (λ (p : ChainPart). 10 * p.chips) c.chain.ensures in
-    let row = c.as_slice.ensures.value ∙ sym (rows-at rows i c.index-rows-i.result c.loop-i-test.true c.index-rows-i.is) in
+    let row = c.as_slice.ensures.value ∙ sym (chain-at chains i c.index-chains-i.result c.loop-i-test.true c.index-chains-i.is) in
     let here = c.are_below.ensures.0 c.if-not-are_below.false in
-    below_more (λ k. AreBelow (chain_bits b k) 2 (get_or (rows_of rows) k [])) i c.loop-i.invariant
+    below_more (λ k. AreBelow (chain_bits b k) 2 (get_or (bits_of_chains chains) k [])) i c.loop-i.invariant
     (subst (λ (xs : List ℕ). AreBelow (chain_bits b i) 2 xs) row (subst (λ n. AreBelow n 2 c.as_slice.result.now) count here))

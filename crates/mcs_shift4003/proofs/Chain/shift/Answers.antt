@@ -1,6 +1,6 @@
 use Rattle.std.proofs.Common.{◌≡◌, ap, ◌∙◌, List, ℕ, length}
 use Rattle.mcs_shift4003.specs.Packing.{bit_before, chain_bits_of}
-use Rattle.mcs_nibble.specs.Shifting.{row_after_shift}
+use Rattle.mcs_nibble.specs.Shifting.{bits_after_shift}
 use Rattle.mcs_shift4003.proofs.WordLemmas.{shifted-row, back}
 use Rattle.mcs_shift4003.proofs.Chain.shift.Goals as goal
 
@@ -12,4 +12,4 @@ returns g c =
     let len : length c.shift_bits.new.words ≡ length i.words.items = moved.len ∙ ap length words in
     ap (chain_bits_of i.bits) (back i.words.items c.shift_bits.new.words len)
     ∙ shifted-row i.bits c.args.level i.words.items c.shift_bits.new.words (λ k l. moved.bits k l ∙ ap (λ (ws : List ℕ). bit_before c.args.level ws k) words)
-    ∙ ap (row_after_shift c.args.level) c.self.view_is
+    ∙ ap (bits_after_shift c.args.level) c.self.view_is
