@@ -1,6 +1,7 @@
 // Starts the page.
 
 import { Bench } from "./bench/bench.js";
+import { startWorker } from "./bench/early_replies.js";
 import { block, button, byId, element, field, isDialogOpen, onClick } from "./dom.js";
 import { Guide } from "./help/guide.js";
 import { Locks } from "./session/locks.js";
@@ -64,7 +65,7 @@ function textOf(id) {
 async function startBench(examples) {
   const address = URL.createObjectURL(new Blob([textOf("worker")], { type: "text/javascript" }));
   const module = Uint8Array.from(atob(textOf("module")), (letter) => letter.charCodeAt(0)).buffer;
-  const bench = new Bench(() => new Worker(address), module, examples);
+  const bench = new Bench(() => startWorker(address), module, examples);
   await bench.start();
   return bench;
 }

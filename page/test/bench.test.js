@@ -47,6 +47,22 @@ test("a worker is started with the module, and answers requests by their numbers
   await assert.rejects(first, /no 90/);
 });
 
+test("a reply that is told early is taken once, and only where none before it is waited for", async () => {
+  const { bench, worker } = await started();
+  const first = bench.call("advance", [100]);
+  const second = bench.call("advance", [100, "0 0"]);
+  const done = [];
+  first.then((frame) => done.push(frame));
+  second.then((frame) => done.push(frame));
+  const [one, two] = worker.sent.slice(-2);
+  worker.tell({ kind: "early", number: two.number, result: "too early" });
+  worker.tell({ kind: "reply", number: one.number, result: "first" });
+  worker.tell({ kind: "early", number: two.number, result: "second" });
+  worker.tell({ kind: "reply", number: two.number, result: "late" });
+  await Promise.all([first, second]);
+  assert.deepEqual(done, ["first", "second"]);
+});
+
 test("long work tells its progress, and can be cancelled", async () => {
   const { bench, worker } = await started();
   const controller = new AbortController();

@@ -94,6 +94,11 @@ export class Bench {
     });
   }
 
+  /** The request that has waited longest, by its number. */
+  get oldest() {
+    return this.waiting.keys().next().value;
+  }
+
   /**
    * @param {ToWorker} message
    * @param {Transferable[]} [transfer]
@@ -107,15 +112,17 @@ export class Bench {
     this.silent = 0;
     if (message.kind === "frame") this.listener.frame(message.frame);
     if (message.kind === "failed") this.listener.failed(unpackFault(message.fault));
-    if (message.kind !== "reply" && message.kind !== "progress") return;
+    if (message.kind !== "reply" && message.kind !== "early" && message.kind !== "progress") return;
     const waiting = this.waiting.get(message.number);
     if (!waiting) return;
     if (message.kind === "progress") {
       waiting.progress(message.done, message.total);
       return;
     }
+    // What is told early may overtake the replies before it: then it waits for its own.
+    if (message.kind === "early" && message.number !== this.oldest) return;
     this.waiting.delete(message.number);
-    if (message.fault) waiting.fail(unpackFault(message.fault));
+    if (message.kind === "reply" && message.fault) waiting.fail(unpackFault(message.fault));
     else waiting.done(message.result);
   }
 

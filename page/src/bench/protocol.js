@@ -28,11 +28,12 @@
  *
  * To the page.
  * @typedef {{ kind: "reply", number: number, result?: any, fault?: PackedFault }} Reply
+ * @typedef {{ kind: "early", number: number, result: any }} Early a copy of a reply, which comes before it or not at all
  * @typedef {{ kind: "progress", number: number, done: number, total: number }} Progress how far the lines of a request are served
  * @typedef {{ kind: "frame", frame: Frame }} FrameMessage at full speed
  * @typedef {{ kind: "failed", fault: PackedFault }} Failed time at full speed has stopped by a fault
  * @typedef {{ kind: "pong" }} Pong
- * @typedef {Reply | Progress | FrameMessage | Failed | Pong} ToPage
+ * @typedef {Reply | Early | Progress | FrameMessage | Failed | Pong} ToPage
  */
 
 export {};

@@ -1,6 +1,7 @@
 // The worker: it does one request after the other, and between them it lets time run at full speed.
 
 import { BenchCalls } from "./bench_calls.js";
+import { earlyTeller } from "../bench/early_replies.js";
 import { packFault } from "../bench/faults.js";
 
 /**
@@ -8,7 +9,7 @@ import { packFault } from "../bench/faults.js";
  * @typedef {import("../bench/protocol.js").Request} Request
  * @typedef {import("../bench/protocol.js").ToPage} ToPage
  * @typedef {import("../bench/protocol.js").ToWorker} ToWorker
- * @typedef {{ postMessage: (message: ToPage, transfer: Transferable[]) => void,
+ * @typedef {{ name: string, postMessage: (message: ToPage, transfer: Transferable[]) => void,
  *   addEventListener: (kind: "message", listen: (event: { data: ToWorker }) => void) => void }} Scope
  */
 
@@ -18,10 +19,20 @@ const PROGRESS_TIME = 100;
 /** @type {Record<string, true>} calls that change the session beside the time that runs */
 const CHANGES = { serve: true, goOn: true, goBack: true, goForward: true };
 
+/**
+ * Whether a call lets time pass from a key on, whose lamps are waited for.
+ * @param {string} call
+ * @param {any[]} words
+ */
+function pressesKey(call, words) {
+  return call === "advance" && words.length > 1 && words[1] !== "";
+}
+
 class BenchWorker {
   /** @param {Scope} scope */
   constructor(scope) {
     this.scope = scope;
+    this.tellEarly = earlyTeller(scope.name);
     this.calls = new BenchCalls((done, total) => this.goesOn(done, total));
     /** @type {Request[]} */
     this.requests = [];
@@ -90,6 +101,7 @@ class BenchWorker {
     if (CHANGES[call] && this.calls.fullSpeed.isOn) this.tellFrame(this.calls.untold());
     try {
       const result = await (/** @type {any} */ (this.calls))[call](...words);
+      if (pressesKey(call, words)) this.tellEarly({ kind: "early", number, result });
       this.tell({ kind: "reply", number, result }, result && result.file instanceof ArrayBuffer ? [result.file] : []);
     } catch (fault) {
       this.tell({ kind: "reply", number, fault: packFault(fault) });
