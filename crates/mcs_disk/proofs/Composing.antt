@@ -1,22 +1,30 @@
 -- Stretches of calls, one after another. `new` is a state of an honest disk wherever its laws are
 -- asked for.
 use Rattle.std.proofs.Common.{◌≡◌, inl, inr, ⊎_elim, ◌+◌, ℕ, List, refl, arith, ◌∙◌, Result, Ok, Err}
-use Rattle.mcs_disk.specs.Disk.{DiskState, IsLawful}
+use Rattle.mcs_disk.specs.Disk.{DiskState, IsLater, IsLawful}
 use Rattle.mcs_disk.specs.Moments.{Changes, Either, KeepsEarlierImages, LeavesOnly, AddsNoImage}
+
+pub no_later : (disk : DiskState) → IsLater disk disk
+no_later disk = record { clock = omega arith; keeps = λ t c le left. left }
+
+pub later_then : (old mid new : DiskState) → IsLater old mid → IsLater mid new → IsLater old new
+later_then old mid new first second = record {
+  clock = omega (arith, first.clock, second.clock);
+  keeps = λ t c le left. second.keeps t c (omega (arith, le, first.clock)) (first.keeps t c le left);
+}
 
 -- calls that rest, one after another
 pub rests_then : (old mid new : DiskState) → AddsNoImage old mid → AddsNoImage mid new → AddsNoImage old new
 rests_then old mid new first second = record {
   bytes = second.bytes ∙ first.bytes;
   images = λ c now. first.images c (second.images c now);
-  later = omega (arith, first.later, second.later);
-  nothing_else = λ t c le left. first.nothing_else t c le (second.nothing_else t c (omega (arith, le, first.later)) left);
-  keeps = λ t c le left. second.keeps t c (omega (arith, le, first.later)) (first.keeps t c le left);
+  later = later_then old mid new first.later second.later;
+  nothing_else = λ t c le left. first.nothing_else t c le (second.nothing_else t c (omega (arith, le, first.later.clock)) left);
 }
 
 -- calls that never were
 pub rests_still : (disk : DiskState) → AddsNoImage disk disk
-rests_still disk = record { bytes = refl; images = λ c left. left; later = omega arith; nothing_else = λ t c le left. left; keeps = λ t c le left. left }
+rests_still disk = record { bytes = refl; images = λ c left. left; later = no_later disk; nothing_else = λ t c le left. left }
 
 -- calls that rest are a stretch
 pub rests_leave : (old new : DiskState) → AddsNoImage old new → KeepsEarlierImages old new
@@ -24,7 +32,6 @@ rests_leave old new rests = record {
   later = rests.later;
   each = λ c left. tt;
   before = λ t c le left. inl (rests.nothing_else t c le left);
-  keeps = rests.keeps;
 }
 
 -- what a stretch leaves, seen as less
@@ -33,20 +40,18 @@ leaves_map old new P Q weaker stretch = record {
   later = stretch.later;
   each = λ c left. weaker c (stretch.each c left);
   before = stretch.before;
-  keeps = stretch.keeps;
 }
 
 -- two stretches that leave nothing else, one after another
 pub leaves_then : (old mid new : DiskState) (P : List ℕ → Type 0) → IsLawful new → LeavesOnly old mid P → LeavesOnly mid new P → LeavesOnly old new P
 leaves_then old mid new P lawful first second = record {
-  later = omega (arith, first.later, second.later);
-  each = λ c left. ⊎_elim (λ past. first.each c past) (λ now. second.each c now) (second.before old.clock c first.later left);
+  later = later_then old mid new first.later second.later;
+  each = λ c left. ⊎_elim (λ past. first.each c past) (λ now. second.each c now) (second.before old.clock c first.later.clock left);
   before = λ t c le left.
       ⊎_elim
-      (λ past. ⊎_elim (λ there. inl there) (λ here. inr (second.keeps old.clock c first.later here)) (first.before t c le past))
-      (λ now. inr (lawful.longer old.clock mid.clock c first.later now))
-      (second.before t c (omega (arith, le, first.later)) left);
-  keeps = λ t c le past. second.keeps t c (omega (arith, le, first.later)) (first.keeps t c le past);
+      (λ past. ⊎_elim (λ there. inl there) (λ here. inr (second.later.keeps old.clock c first.later.clock here)) (first.before t c le past))
+      (λ now. inr (lawful.longer old.clock mid.clock c first.later.clock now))
+      (second.before t c (omega (arith, le, first.later.clock)) left);
 }
 
 -- a change, seen as one of less

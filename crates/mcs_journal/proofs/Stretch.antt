@@ -3,29 +3,28 @@ use Rattle.std.proofs.Common.{◌≡◌, inl, inr, ⊎_elim, ◌+◌, ℕ, List,
 use Rattle.std.proofs.lemmas.Result.{on_ok_weaker}
 use Rattle.mcs_disk.specs.Disk.{DiskState, Torn, IsLawful, part}
 use Rattle.mcs_disk.specs.Moments.{LeavesOnly, Changes, Either, IsDurable}
+use Rattle.mcs_disk.proofs.Composing.{no_later, later_then}
 use Rattle.mcs_journal.specs.Writing.{Commits}
 
 -- before the first call
 pub started : (old : DiskState) (P : List ℕ → Type 0) → IsDurable old → P old.bytes → LeavesOnly old old P
 started old P durable here = record {
-  later = omega arith;
+  later = no_later old;
   each = λ c left. subst P (sym (durable.fresh c left)) here;
   before = λ t c le left. inl left;
-  keeps = λ t c le left. left;
 }
 
 -- one commit more, each torn write of which has P
 pub goes_on : {T E : Type 0} (old mid new : DiskState) (P : List ℕ → Type 0) (at : ℕ) (from : List ℕ) (result : Result T E)
     → IsLawful new → LeavesOnly old mid P → Commits at from mid new result → ((d c : List ℕ) → mid.images d → Torn at (length from) d c → P c) → LeavesOnly old new P
 goes_on old mid new P at from result lawful so_far step torn = record {
-  later = omega (arith, so_far.later, step.later);
-  each = λ c left. ⊎_elim (so_far.each c) (λ now. torn (now.1.0) c (now.1.1) (now.1.2)) (step.moments old.clock c so_far.later left);
+  later = later_then old mid new so_far.later step.later;
+  each = λ c left. ⊎_elim (so_far.each c) (λ now. torn (now.1.0) c (now.1.1) (now.1.2)) (step.moments old.clock c so_far.later.clock left);
   before = λ t c le left.
       ⊎_elim
-      (λ there. ⊎_elim (λ past. inl past) (λ here. inr (step.keeps old.clock c so_far.later here)) (so_far.before t c le there))
-      (λ now. inr (lawful.longer old.clock mid.clock c so_far.later now.0))
-      (step.moments t c (omega (arith, le, so_far.later)) left);
-  keeps = λ t c le past. step.keeps t c (omega (arith, le, so_far.later)) (so_far.keeps t c le past);
+      (λ there. ⊎_elim (λ past. inl past) (λ here. inr (step.later.keeps old.clock c so_far.later.clock here)) (so_far.before t c le there))
+      (λ now. inr (lawful.longer old.clock mid.clock c so_far.later.clock now.0))
+      (step.moments t c (omega (arith, le, so_far.later.clock)) left);
 }
 
 -- A change in two commits, the first of which leaves the old and the second the old or the new.

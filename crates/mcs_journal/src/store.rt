@@ -7,7 +7,7 @@ ghost use Rattle.mcs_journal.specs.File.{HasRoom, Holds, IsRecord, frames_of};
 
 use crate::bytes::{Bytes, Records};
 use crate::fault::{CreateFault, OpenFault};
-use crate::format::{AREA_SIZE, FILE_SIZE, LOG_SIZE, RECORD_PLACE, BUFFER_SIZE};
+use crate::format::{AREA_SIZE, BUFFER_SIZE, FILE_SIZE, LOG_SIZE, RECORD_PLACE};
 use crate::reading::{Found, Log, read_contents};
 use crate::slot::Slot;
 use crate::writing::{add_record, check_blank, replace_contents, write_first};

@@ -6,6 +6,9 @@ use Rattle.mcs_disk.proofs.Composing.{rests_then}
 use Rattle.mcs_journal.proofs.Walk.{IsPrefix, one_more, ends, no_log}
 use Rattle.mcs_journal.proofs.reading.read_log.Goals as goal
 
+pub returns-in_err-record-clause-rests : goal.returns-in_err-record-clause-rests
+returns-in_err-record-clause-rests g c = λ h. rests_then _ _ _ (c.loop-records.invariant.rests h) (c.read_record.ensures.rests (c.loop-records.invariant.honest.1 h))
+
 pub returns-in_err-push-clause-rests : goal.returns-in_err-push-clause-rests
 returns-in_err-push-clause-rests g c = λ h. rests_then _ _ _ (c.loop-records.invariant.rests h) (c.read_record.ensures.rests (c.loop-records.invariant.honest.1 h))
 
