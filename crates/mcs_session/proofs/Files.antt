@@ -75,7 +75,6 @@ rests_may old new s rests = record {
   later = rests.later;
   each = λ c left. inl (rests.nothing_else old.clock c (omega arith) left);
   before = λ t c le left. inl (rests.nothing_else t c le left);
-  keeps = rests.keeps;
 }
 
 -- a file of the last version

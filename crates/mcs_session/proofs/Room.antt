@@ -3,7 +3,7 @@ use Rattle.std.proofs.Common.{◌≡◌, ◌+◌, ◌≤◌, inl, inr, ⊎_elim,
 use Rattle.std.proofs.lemmas.Grind.{common_steps}
 use Rattle.mcs_disk.specs.Disk.{DiskState, IsLawful}
 use Rattle.mcs_disk.specs.Moments.{Changes, Either, IsDurable, LeavesOnly}
-use Rattle.mcs_disk.proofs.Composing.{leaves_map, leaves_then}
+use Rattle.mcs_disk.proofs.Composing.{leaves_map, leaves_then, no_later}
 use Rattle.mcs_journal.specs.File.{HasRoom, Holds, frames_of}
 use Rattle.mcs_journal.proofs.Unique.{same_snap, same_pair}
 use Rattle.mcs_model.specs.declared.command.Command.{Command}
@@ -44,10 +44,9 @@ few_cycles s (Unwatch bank src) h = omega arith
 -- no call on the disk
 pub leaves_same : (disk : DiskState) (cycles : ℕ) (s : BenchState) → IsRecorded disk cycles s → LeavesOnly disk disk (λ file. StandsFor file s)
 leaves_same disk cycles s was = record {
-  later = omega arith;
+  later = no_later disk;
   each = at_of disk s was.durable was.stands;
   before = λ t c le left. inl left;
-  keeps = λ t c le left. left;
 }
 
 pub room_there : (disk : DiskState) (used bytes more cycles : ℕ) (s : BenchState) (was : IsRecorded disk cycles s) → used ≡ length (frames_of was.stands.records)
