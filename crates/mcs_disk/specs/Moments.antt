@@ -61,6 +61,14 @@ pub record AddsNoImage (old new : DiskState) : Type 0 where
   pub later : IsLater old new
   pub nothing_else : (t : ℕ) (c : List ℕ) → t ≤ old.clock → new.since t c → old.since t c
 
+-- calls that ask for no write: one that fails is counted, an honest disk rests, and if none failed,
+-- what was durable is so still
+pub record ReadsOnly (old new : DiskState) (failed : Type 0) : Type 0 where
+  pub tells : CountsFault old new failed
+  pub unwritten : WritesNothing old new
+  pub rests : old.honest → AddsNoImage old new
+  pub durable : old.honest → ¬ failed → IsDurable old → IsDurable new
+
 -- An image at a moment since the start has P. Since an earlier time there are what there was since
 -- then, and what there is since the start.
 pub record LeavesOnly (old new : DiskState) (P : List ℕ → Type 0) : Type 0 where

@@ -17,8 +17,8 @@ use std::marker::Model;
 
 /// A snapshot and the records after it, on a disk.
 ///
-/// Once a call on it has answered a device fault, it is closed: what the disk then holds is the
-/// pair of before that call or of after it, and opening it again tells which.
+/// Once a call on it has answered a device fault, it is closed: what the disk then holds are
+/// the contents of before that call or of after it, and opening it again tells which.
 #[derive(Drop)]
 pub struct Store<D: Disk + Drop> {
     disk: D,
