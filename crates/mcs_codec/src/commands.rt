@@ -15,7 +15,8 @@ use mcs_model::command::{Command, Place};
 use mcs_nibble::{Addr, BankNo, Bit};
 use std::alloc::{AllocError, Global};
 
-/// Bytes that are lent to write a command into. No command takes more.
+/// Bytes that are lent to write a command into. No command takes more. This is a bound of the
+/// encoding: how many bytes a record may have is the journal's own limit.
 pub const COMMAND_BYTES: usize = 8_192;
 
 /// A law: each part of a command is in its range.

@@ -15,7 +15,8 @@ use mcs_nibble::{Addr, Nibble};
 /// The version in which states are written.
 const VERSION: u8 = 2;
 
-/// Bytes that are lent to write a state into. No state takes more.
+/// Bytes that are lent to write a state into. No state takes more. This is a bound of the encoding:
+/// how many bytes a snapshot may have is the journal's own limit.
 pub const STATE_BYTES: usize = 16_380;
 
 /// The lists of a bench that are written place by place.

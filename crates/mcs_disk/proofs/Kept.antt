@@ -24,106 +24,72 @@ put_is (suc at) k [] [] fits is = absurd (omega arith)
 put_is (suc at) k (x ∷ xs) [] fits is = absurd (omega arith)
 put_is (suc at) k from (y ∷ ys) fits is = ap (λ (l : List ℕ). y ∷ l) (put_is at k from ys (omega arith) is)
 
--- the disk before and after a call; what is said of its premise, its faults and its bytes does not
--- matter to the times
-module _ (p q : Type 0) (f g : ℕ) (b d start start' : List ℕ) (cs ds : List DiskCall) (call : DiskCall) (same : start' ≡ start) (noted : ds ≡ call ∷ cs) where
-  images_are : (c : List ℕ) → images_after start' ds c ≡ images_after start (call ∷ cs) c
-  images_are c = λ k. images_after (same k) (noted k) c
+-- the times of a disk before and after a call; what is said of its premise, its faults and its bytes does not matter to them
+module _ (p q : Type 0) (f g : ℕ) (b d start : List ℕ) (cs : List DiskCall) (call : DiskCall) where
+  nothing_else : (t : ℕ) (c : List ℕ) → since_after start (call ∷ cs) t c → since_after start cs t c ⊎ images_after start (call ∷ cs) c
+  nothing_else t c left = ⊎_elim (λ now. inr now) (λ past. inl past.1) left
 
-  since_are : (t : ℕ) (c : List ℕ) → since_after start' ds t c ≡ since_after start (call ∷ cs) t c
-  since_are t c = λ k. since_after (same k) (noted k) t c
-
-  to_images : (c : List ℕ) → images_after start (call ∷ cs) c → images_after start' ds c
-  to_images c now = subst (λ (X : Type 0). X) (sym (images_are c)) now
-
-  from_images : (c : List ℕ) → images_after start' ds c → images_after start (call ∷ cs) c
-  from_images c now = subst (λ (X : Type 0). X) (images_are c) now
-
-  from_since : (t : ℕ) (c : List ℕ) → since_after start' ds t c → since_after start (call ∷ cs) t c
-  from_since t c left = subst (λ (X : Type 0). X) (since_are t c) left
-
-  clock_is : clock_of ds ≡ clock_of (call ∷ cs)
-  clock_is = ap clock_of noted
-
-  nothing_else : (t : ℕ) (c : List ℕ) → since_after start' ds t c → since_after start cs t c ⊎ images_after start' ds c
-  nothing_else t c left = ⊎_elim (λ now. inr (to_images c now)) (λ past. inl past.1) (from_since t c left)
-
-  keeps : (t : ℕ) (c : List ℕ) → t ≤ clock_of cs → since_after start cs t c → since_after start' ds t c
-  keeps t c le left = subst (λ (X : Type 0). X) (sym (since_are t c)) (inr (le, left))
-
-  answered : {T E : Type 0} (x : T) → clock_of (call ∷ cs) ≡ clock_of cs + 1 → Elapses {T = T} {E = E} (called_disk p f b start cs) (called_disk q g d start' ds) (Ok x)
+  answered : {T E : Type 0} (x : T) → clock_of (call ∷ cs) ≡ clock_of cs + 1 → Elapses {T = T} {E = E} (called_disk p f b start cs) (called_disk q g d start (call ∷ cs)) (Ok x)
   answered x ticks = record {
-    ticks = clock_is ∙ ticks;
+    ticks = ticks;
     stands = tt;
+    later = record { clock = omega (arith, ticks); keeps = λ t c le left. inr (le, left) };
     nothing_else = λ t c le left. nothing_else t c left;
-    keeps = keeps;
-    fresh = λ c left. ⊎_elim (λ now. to_images c now) (λ past. absurd (omega (arith, past.0, clock_is, ticks))) (from_since (clock_of ds) c left);
-  }
-
-  failed : {T E : Type 0} (e : E) → clock_of (call ∷ cs) ≡ clock_of cs → Elapses {T = T} {E = E} (called_disk p f b start cs) (called_disk q g d start' ds) (Err e)
-  failed e stands = record {
-    ticks = tt;
-    stands = clock_is ∙ stands;
-    nothing_else = λ t c le left. nothing_else t c left;
-    keeps = keeps;
-    fresh = tt;
+    fresh = λ c left. ⊎_elim (λ now. now) (λ past. absurd (omega (arith, past.0, ticks))) left;
   }
 
 -- the record after a call
 abbrev Notes : DiskCall → CallRecord → CallRecord → Type 0
 Notes call h h' = h' ≡ record h { calls = call ∷ h.calls }
 
-start_of : (call : DiskCall) (h h' : CallRecord) → Notes call h h' → h'.start ≡ h.start
-start_of call h h' noted = ap (λ (r : CallRecord). r.start) noted
-
-calls_of : (call : DiskCall) (h h' : CallRecord) → Notes call h h' → h'.calls ≡ call ∷ h.calls
-calls_of call h h' noted = ap (λ (r : CallRecord). r.calls) noted
-
 module _ (p q : Type 0) (f g : ℕ) (b : List ℕ) (h h' : CallRecord) where
   pub was_read : {T E : Type 0} (at : ℕ) (old into : List ℕ) (x : T) → Notes WasRead h h' → into ≡ part at (length old) b
       → Reads {T = T} {E = E} at old into (called_disk p f b h.start h.calls) (called_disk q g b h'.start h'.calls) (Ok x)
-  was_read at old into x noted given = record {
+  was_read at old into x noted given = rw noted (record {
     given = given;
     bytes = refl;
-    images = λ c left. from_images p q f g b b h.start h'.start h.calls h'.calls WasRead (start_of WasRead h h' noted) (calls_of WasRead h h' noted) c left;
-    kept = λ c left. to_images p q f g b b h.start h'.start h.calls h'.calls WasRead (start_of WasRead h h' noted) (calls_of WasRead h h' noted) c left;
-    time = answered p q f g b b h.start h'.start h.calls h'.calls WasRead (start_of WasRead h h' noted) (calls_of WasRead h h' noted) x refl;
-  }
+    images = λ c left. left;
+    kept = λ c left. left;
+    time = answered p q f g b b h.start h.calls WasRead x refl;
+  })
 
   pub was_synced : {T E : Type 0} (x : T) → Notes Synced h h' → b ≡ bytes_after h.start h.calls
       → Syncs {T = T} {E = E} (called_disk p f b h.start h.calls) (called_disk q g b h'.start h'.calls) (Ok x)
-  was_synced x noted kept = record {
-    durable = λ c left. at_sync c left;
+  was_synced x noted kept = rw noted (record {
+    durable = λ c left. left ∙ sym kept;
     bytes = refl;
-    images = λ c left. subst (images_after h.start h.calls) (sym (at_sync c left)) (subst (images_after h.start h.calls) (sym kept) (current h.start h.calls));
+    images = λ c left. subst (images_after h.start h.calls) (sym left) (current h.start h.calls);
     kept = tt;
-    time = answered p q f g b b h.start h'.start h.calls h'.calls Synced (start_of Synced h h' noted) (calls_of Synced h h' noted) x refl;
-  }
-    where
-      at_sync : (c : List ℕ) → images_after h'.start h'.calls c → c ≡ b
-      at_sync c left = from_images p q f g b b h.start h'.start h.calls h'.calls Synced (start_of Synced h h' noted) (calls_of Synced h h' noted) c left ∙ sym kept
+    time = answered p q f g b b h.start h.calls Synced x refl;
+  })
 
   pub was_written : {T E : Type 0} (d : List ℕ) (at : ℕ) (from : List ℕ) (x : T) → Notes (Wrote at from) h h' → d ≡ put at from b → at + length from ≤ length b
       → Writes {T = T} {E = E} at from (called_disk p f b h.start h.calls) (called_disk q g d h'.start h'.calls) (Ok x)
-  was_written d at from x noted is fits = record {
+  was_written d at from x noted is fits = rw noted (record {
     written = ap (part at (length from)) is ∙ part_put at from b fits;
     outside = subst (Torn at (length from) b) (sym is) (put_torn at from b);
-    images = λ c left. from_images p q f g b d h.start h'.start h.calls h'.calls (Wrote at from) (start_of (Wrote at from) h h' noted) (calls_of (Wrote at from) h h' noted) c left;
-    any = λ e c left torn. to_images p q f g b d h.start h'.start h.calls h'.calls (Wrote at from) (start_of (Wrote at from) h h' noted) (calls_of (Wrote at from) h h' noted) c (e, left, torn);
-    kept = λ c left. to_images p q f g b d h.start h'.start h.calls h'.calls (Wrote at from) (start_of (Wrote at from) h h' noted) (calls_of (Wrote at from) h h' noted) c (c, left, untorn at (length from) c);
-    time = answered p q f g b d h.start h'.start h.calls h'.calls (Wrote at from) (start_of (Wrote at from) h h' noted) (calls_of (Wrote at from) h h' noted) x refl;
-  }
+    images = λ c left. left;
+    any = λ e c left torn. (e, left, torn);
+    kept = λ c left. (c, left, untorn at (length from) c);
+    time = answered p q f g b d h.start h.calls (Wrote at from) x refl;
+  })
 
   pub was_failed : {T E : Type 0} (at : ℕ) (from : List ℕ) (e : E) → Notes (Failed at from) h h'
       → Writes {T = T} {E = E} at from (called_disk p f b h.start h.calls) (called_disk q g b h'.start h'.calls) (Err e)
-  was_failed at from e noted = record {
+  was_failed at from e noted = rw noted (record {
     written = tt;
     outside = untorn at (length from) b;
-    images = λ c left. from_images p q f g b b h.start h'.start h.calls h'.calls (Failed at from) (start_of (Failed at from) h h' noted) (calls_of (Failed at from) h h' noted) c left;
+    images = λ c left. left;
     any = tt;
-    kept = λ c left. to_images p q f g b b h.start h'.start h.calls h'.calls (Failed at from) (start_of (Failed at from) h h' noted) (calls_of (Failed at from) h h' noted) c (c, left, untorn at (length from) c);
-    time = failed p q f g b b h.start h'.start h.calls h'.calls (Failed at from) (start_of (Failed at from) h h' noted) (calls_of (Failed at from) h h' noted) e refl;
-  }
+    kept = λ c left. (c, left, untorn at (length from) c);
+    time = record {
+      ticks = tt;
+      stands = refl;
+      later = record { clock = omega arith; keeps = λ t c le left. inr (le, left) };
+      nothing_else = λ t c le left. nothing_else p q f g b b h.start h.calls (Failed at from) t c left;
+      fresh = tt;
+    };
+  })
 
 -- the bytes that are kept stay those after the calls
 pub still_kept : (b d : List ℕ) (h h' : CallRecord) (at : ℕ) (from : List ℕ) → Notes (Wrote at from) h h' → d ≡ put at from b → b ≡ bytes_after h.start h.calls → d ≡ bytes_after h'.start h'.calls

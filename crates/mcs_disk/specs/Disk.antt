@@ -56,14 +56,20 @@ pub record IsCall {T E : Type 0} (old new : DiskState) (result : Result T E) : T
   pub fault : OnErr result (new.faults ≡ min (old.faults + 1) most_faults)
   pub honest : new.honest ↔ old.honest
 
+-- a later moment of a disk: its clock shows no less, and what a power cut may have left since an
+-- earlier time, it still may have
+pub record IsLater (old new : DiskState) : Type 0 where
+  pub clock : old.clock ≤ new.clock
+  pub keeps : (t : ℕ) (c : List ℕ) → t ≤ old.clock → old.since t c → new.since t c
+
 -- What each call does on an honest disk to its times: an Ok is one step of the clock, and since an
 -- earlier time a power cut may have left what it might have by then, and what it may leave now.
 pub record Elapses {T E : Type 0} (old new : DiskState) (result : Result T E) : Type 0 where
   pub ticks : OnOk result (new.clock ≡ old.clock + 1)
   pub stands : OnErr result (new.clock ≡ old.clock)
+  pub later : IsLater old new
   pub nothing_else : (t : ℕ) (c : List ℕ) → t ≤ old.clock → new.since t c
       → old.since t c ⊎ new.images c
-  pub keeps : (t : ℕ) (c : List ℕ) → t ≤ old.clock → old.since t c → new.since t c
   pub fresh : OnOk result ((c : List ℕ) → new.since new.clock c → new.images c)
 
 -- a read on an honest disk: it gives the current bytes and makes no new image

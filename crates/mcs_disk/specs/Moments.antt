@@ -1,7 +1,7 @@
 -- Stretches of calls on a disk, from one of its states to a later one: what stays, what a power cut
 -- at any moment may leave, and what is safe after them. (Our own choice.)
 use Rattle.std.specs.Prelude.{◌≡◌, ◌⊎◌, ◌↔◌, ℕ, ◌+◌, ◌≤◌, min, List, replicate, Result, OnOk}
-use Rattle.mcs_disk.specs.Disk.{DiskState, Only, most_faults}
+use Rattle.mcs_disk.specs.Disk.{DiskState, IsLater, Only, most_faults}
 
 -- all that is there is on the disk: a power cut now leaves the current bytes, and since this moment
 -- there is no other image
@@ -58,18 +58,24 @@ pub record IsFresh (file : List ℕ) (disk : DiskState) : Type 0 where
 pub record AddsNoImage (old new : DiskState) : Type 0 where
   pub bytes : new.bytes ≡ old.bytes
   pub images : (c : List ℕ) → new.images c → old.images c
-  pub later : old.clock ≤ new.clock
+  pub later : IsLater old new
   pub nothing_else : (t : ℕ) (c : List ℕ) → t ≤ old.clock → new.since t c → old.since t c
-  pub keeps : (t : ℕ) (c : List ℕ) → t ≤ old.clock → old.since t c → new.since t c
+
+-- calls that ask for no write: one that fails is counted, an honest disk rests, and if none failed,
+-- what was durable is so still
+pub record ReadsOnly (old new : DiskState) (failed : Type 0) : Type 0 where
+  pub tells : CountsFault old new failed
+  pub unwritten : WritesNothing old new
+  pub rests : old.honest → AddsNoImage old new
+  pub durable : old.honest → ¬ failed → IsDurable old → IsDurable new
 
 -- An image at a moment since the start has P. Since an earlier time there are what there was since
 -- then, and what there is since the start.
 pub record LeavesOnly (old new : DiskState) (P : List ℕ → Type 0) : Type 0 where
-  pub later : old.clock ≤ new.clock
+  pub later : IsLater old new
   pub each : (c : List ℕ) → new.since old.clock c → P c
   pub before : (t : ℕ) (c : List ℕ) → t ≤ old.clock → new.since t c
       → old.since t c ⊎ new.since old.clock c
-  pub keeps : (t : ℕ) (c : List ℕ) → t ≤ old.clock → old.since t c → new.since t c
 
 -- nothing is said of what the stretch left after
 abbrev pub KeepsEarlierImages : DiskState → DiskState → Type 0

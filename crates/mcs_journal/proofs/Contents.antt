@@ -1,16 +1,14 @@
--- What a file holds after each of the two steps that add a record.
-use Rattle.std.proofs.Common.{◌≡◌, ◌⊎◌, inl, inr, ◌≤◌, ◌+◌, ◌-◌, List, [], ◌∷◌, ◌++◌, ℕ, length, get_or, refl, sym, ◌∙◌, ap, subst, arith}
+-- What a file holds by the parts of it, and after each of the two steps that add a record.
+use Rattle.std.proofs.Common.{◌≡◌, ◌⊎◌, inl, inr, ◌≤◌, ◌+◌, ◌-◌, List, [], ◌∷◌, ◌++◌, ℕ, length, get_or, drop, sym, ◌∙◌, ap, subst, arith, length-append}
+use Rattle.std.proofs.lemmas.List.{drop_more}
 use Rattle.mcs_disk.specs.Disk.{part, Torn}
 use Rattle.mcs_journal.specs.File.{Holds, IsLog, IsRecord, frames_of, be16, slot_at, slot_of, slot_named, start_of}
-use Rattle.mcs_journal.specs.Writing.{IsCommitPlace}
+use Rattle.mcs_journal.specs.Writing.{IsArea, IsCommitPlace}
+use Rattle.mcs_journal.specs.declared.format.TheConstants.{NAME, ZEROS}
 use Rattle.mcs_journal.specs.declared.slot.Slot.{Slot}
 use Rattle.mcs_journal.specs.declared.slot.Slot.TheVariants.{A, B}
-use Rattle.mcs_journal.proofs.Parts.{part_same, part_torn, part_part, part_at}
+use Rattle.mcs_journal.proofs.Parts.{length-part, part_same, part_torn, part_part, part_at}
 use Rattle.mcs_journal.proofs.Logs.{after_commit, IsStaged, staged, commit_torn, commit_either}
-
-pub start_places : (slot : Slot) → (start_of slot ≡ 16) ⊎ (start_of slot ≡ 81936)
-start_places A = inl refl
-start_places B = inr refl
 
 pub start_bounds : (slot : Slot) → (16 ≤ start_of slot) × (start_of slot ≤ 81936)
 start_bounds A = (omega arith, omega arith)
@@ -23,53 +21,86 @@ slot_bounds file = start_bounds (slot_of file)
 pub same_slot : (f c : List ℕ) → get_or c 8 0 ≡ get_or f 8 0 → slot_at c ≡ slot_at f
 same_slot f c selector = ap (λ (t : ℕ). start_of (slot_named t)) selector
 
--- a write inside the active log leaves the rest of the pair
-pub kept_outside : (f c snap : List ℕ) (rs news : List (List ℕ)) (at n : ℕ) → Holds f snap rs → Torn at n f c → slot_at f + 16384 ≤ at → at + n ≤ slot_at f + 81920 → IsLog news (part (slot_at f + 16384) 65536 c) → Holds c snap news
-kept_outside f c snap rs news at n old torn after before log =
-    let bounds = slot_bounds f in
-    let slot : slot_at c ≡ slot_at f = same_slot f c (torn.before 8 (omega (arith, after, bounds.0))) in
-    let same : (lo k : ℕ) → lo + k ≤ at → part lo k c ≡ part lo k f = λ lo k le. part_same at n lo k f c torn (inl le) in
-    record {
-      size = torn.size ∙ old.size;
-      name = same 0 8 (omega (arith, after)) ∙ old.name;
-      zeros = same 9 7 (omega (arith, after)) ∙ old.zeros;
-      short = old.short;
-      snap_length = ap (λ (s : ℕ). part s 4 c) slot ∙ same (slot_at f) 4 (omega (arith, after)) ∙ old.snap_length;
-      snap_bytes = ap (λ (s : ℕ). part (s + 4) (length snap) c) slot ∙ same (slot_at f + 4) (length snap) (omega (arith, after, old.short)) ∙ old.snap_bytes;
-      log = subst (λ (s : ℕ). IsLog news (part (s + 16384) 65536 c)) (sym slot) log;
-    }
+-- a file whose header and active snapshot are those of another
+pub holds_on : (f c snap : List ℕ) (rs news : List (List ℕ)) → Holds f snap rs → length c ≡ length f → slot_at c ≡ slot_at f → part 0 8 c ≡ part 0 8 f → part 9 7 c ≡ part 9 7 f
+    → ((lo k : ℕ) → slot_at f ≤ lo → lo + k ≤ slot_at f + 16384 → part lo k c ≡ part lo k f) → IsLog news (part (slot_at f + 16384) 65536 c) → Holds c snap news
+holds_on f c snap rs news old sized slot name zeros same log = record {
+  size = sized ∙ old.size;
+  name = name ∙ old.name;
+  zeros = zeros ∙ old.zeros;
+  short = old.short;
+  snap_length = ap (λ (s : ℕ). part s 4 c) slot ∙ same (slot_at f) 4 (omega arith) (omega arith) ∙ old.snap_length;
+  snap_bytes = ap (λ (s : ℕ). part (s + 4) (length snap) c) slot ∙ same (slot_at f + 4) (length snap) (omega arith) (omega (arith, old.short)) ∙ old.snap_bytes;
+  log = subst (λ (s : ℕ). IsLog news (part (s + 16384) 65536 c)) (sym slot) log;
+}
 
-module _ (f snap : List ℕ) (rs : List (List ℕ)) (commit_at : ℕ) (r : List ℕ) (old : Holds f snap rs) (at_commit : IsCommitPlace f rs commit_at (length r)) (good : IsRecord r) where
+-- a file whose active slot starts with an area holds its snapshot and no records
+pub area_holds : (c snap area : List ℕ) → length c ≡ 163856 → part 0 8 c ≡ NAME → part 9 7 c ≡ ZEROS → IsArea snap area → part (slot_at c) 16385 c ≡ area → Holds c snap []
+area_holds c snap area long name zeros is_area there =
+    let log = part (slot_at c + 16384) 65536 c in
+    record {
+      size = long;
+      name = name;
+      zeros = zeros;
+      short = is_area.short;
+      snap_length = ap (λ (p : ℕ). part p 4 c) flat ∙ inner 0 4 16385 (omega arith) (omega arith) ∙ is_area.snap_length;
+      snap_bytes = inner 4 (length snap) 16381 (omega arith) (omega (arith, is_area.short)) ∙ is_area.snap_bytes;
+      log = record { commit_byte = 0; rest = drop 1 log; is = drop_more log 0 0 (omega (arith, sized)) ∙ ap (λ (q : ℕ). q ∷ drop 1 log) closed; closed = λ no. cc; records_ok = tt };
+    }
+  where
+    flat : slot_at c ≡ slot_at c + 0
+    flat = omega arith
+
+    flat_log : slot_at c + 16384 + 0 ≡ slot_at c + 16384
+    flat_log = omega arith
+
+    inner : (j n m : ℕ) → 16385 ≡ j + m → n ≤ m → part (slot_at c + j) n c ≡ part j n area
+    inner j n m is le = sym (part_part (slot_at c) 16385 j n m c is le) ∙ ap (part j n) there
+
+    sized : length (part (slot_at c + 16384) 65536 c) ≡ 65536
+    sized = length-part (slot_at c + 16384) 65536 c (omega (arith, slot_bounds c, long))
+
+    closed : get_or (part (slot_at c + 16384) 65536 c) 0 0 ≡ 0
+    closed =
+        part_at (slot_at c + 16384) 65536 c 0 (omega arith)
+        ∙ ap (λ (i : ℕ). get_or c i 0) flat_log
+        ∙ sym (part_at (slot_at c) 16385 c 16384 (omega arith)) ∙ ap (λ (l : List ℕ). get_or l 16384 0) there ∙ is_area.closed
+
+-- a write inside the active log leaves the rest of the contents
+kept_outside : (f c snap : List ℕ) (rs news : List (List ℕ)) (at n : ℕ) → Holds f snap rs → Torn at n f c → slot_at f + 16384 ≤ at → IsLog news (part (slot_at f + 16384) 65536 c) → Holds c snap news
+kept_outside f c snap rs news at n old torn after log =
+    let bounds = slot_bounds f in
+    let same : (lo k : ℕ) → lo + k ≤ at → part lo k c ≡ part lo k f = λ lo k le. part_same at n lo k f c torn (inl le) in
+    holds_on f c snap rs news old torn.size (same_slot f c (torn.before 8 (omega (arith, after, bounds.0)))) (same 0 8 (omega (arith, after))) (same 9 7 (omega (arith, after)))
+    (λ lo k from to. same lo k (omega (arith, after, to))) log
+
+-- A record is put after the commit byte, as what is written spells it.
+module _ (f snap r from : List ℕ) (rs : List (List ℕ)) (commit_at : ℕ) (spells : from ≡ be16 (length r) ++ r ++ 0 ∷ []) (old : Holds f snap rs) (at_commit : IsCommitPlace f rs commit_at (length r)) (good : IsRecord r) where
   abbrev lo : ℕ
   lo = slot_at f + 16384
 
-  u : ℕ
-  u = length (frames_of rs)
+  long : length from ≡ length r + 3
+  long = ap length spells ∙ omega (arith, length-append (be16 (length r) ++ r) (0 ∷ []))
 
   fits : lo + 65536 ≤ length f
   fits = omega (arith, slot_bounds f, old.size)
 
-  log_torn : (c : List ℕ) → Torn (commit_at + 1) (length r + 3) f c → Torn (length (frames_of rs) + 1) (length r + 3) (part lo 65536 f) (part lo 65536 c)
-  log_torn c torn = part_torn (commit_at + 1) (length r + 3) lo 65536 (length (frames_of rs) + 1) f c torn fits (omega (arith, at_commit.at)) (omega (arith, at_commit.room))
+  log_torn : (c : List ℕ) → Torn (commit_at + 1) (length from) f c → Torn (length (frames_of rs) + 1) (length from) (part lo 65536 f) (part lo 65536 c)
+  log_torn c torn = part_torn (commit_at + 1) (length from) lo 65536 (length (frames_of rs) + 1) f c torn fits (omega (arith, at_commit.at)) (omega (arith, at_commit.room, long))
 
-  -- any bytes after the commit byte leave the pair
-  pub first_torn : (c : List ℕ) → Torn (commit_at + 1) (length r + 3) f c → Holds c snap rs
-  first_torn c torn =
-      kept_outside f c snap rs rs (commit_at + 1) (length r + 3) old torn (omega (arith, at_commit.at)) (omega (arith, at_commit.at, at_commit.room))
-      (after_commit rs (length r + 3) _ _ old.log (log_torn c torn))
+  -- any bytes after the commit byte leave the contents
+  pub first_torn : (c : List ℕ) → Torn (commit_at + 1) (length from) f c → Holds c snap rs
+  first_torn c torn = kept_outside f c snap rs rs (commit_at + 1) (length from) old torn (omega (arith, at_commit.at)) (after_commit rs (length from) _ _ old.log (log_torn c torn))
 
-  pub first_staged : (c : List ℕ) → Torn (commit_at + 1) (length r + 3) f c → part (commit_at + 1) (length r + 3) c ≡ be16 (length r) ++ r ++ 0 ∷ [] → IsStaged rs r (part lo 65536 c)
+  first_staged : (c : List ℕ) → Torn (commit_at + 1) (length from) f c → part (commit_at + 1) (length from) c ≡ from → IsStaged rs r (part lo 65536 c)
   first_staged c torn here =
       let place : lo + (length (frames_of rs) + 1) ≡ commit_at + 1 = omega (arith, at_commit.at) in
       let m = 65536 - (length (frames_of rs) + 1) in
-      staged rs r _ _ old.log (log_torn c torn)
-      (part_part lo 65536 (length (frames_of rs) + 1) (length r + 3) m c (omega (arith, at_commit.room)) (omega (arith, at_commit.room)) ∙ ap (λ (p : ℕ). part p (length r + 3) c) place ∙ here)
+      staged rs r from _ _ spells old.log (log_torn c torn)
+      (part_part lo 65536 (length (frames_of rs) + 1) (length from) m c (omega (arith, at_commit.room)) (omega (arith, at_commit.room, long)) ∙ ap (λ (p : ℕ). part p (length from) c) place ∙ here)
 
-  -- any byte at the commit byte then leaves the old pair or the new one, and 1 the new one
-  module _ (g c : List ℕ) (first : Torn (commit_at + 1) (length r + 3) f g) (here : part (commit_at + 1) (length r + 3) g ≡ be16 (length r) ++ r ++ 0 ∷ []) (torn : Torn commit_at 1 g c) where
-    held : Holds g snap rs
-    held = first_torn g first
-
+  -- any byte at the commit byte then leaves the old contents or the new ones, and 1 the new ones
+  module _ (g c : List ℕ) (first : Torn (commit_at + 1) (length from) f g) (here : part (commit_at + 1) (length from) g ≡ from) (torn : Torn commit_at 1 g c) where
     slot_stays : slot_at g ≡ slot_at f
     slot_stays = same_slot f g (first.before 8 (omega (arith, at_commit.at, slot_bounds f)))
 
@@ -77,9 +108,7 @@ module _ (f snap : List ℕ) (rs : List (List ℕ)) (commit_at : ℕ) (r : List 
     commit_torn_log = part_torn commit_at 1 lo 65536 (length (frames_of rs)) g c torn (omega (arith, fits, first.size)) at_commit.at (omega (arith, at_commit.room))
 
     lift : (news : List (List ℕ)) → IsLog news (part lo 65536 c) → Holds c snap news
-    lift news log =
-        kept_outside g c snap rs news commit_at 1 held torn (omega (arith, at_commit.at, slot_stays)) (omega (arith, at_commit.at, at_commit.room, slot_stays))
-        (subst (λ (s : ℕ). IsLog news (part (s + 16384) 65536 c)) (sym slot_stays) log)
+    lift news log = kept_outside g c snap rs news commit_at 1 (first_torn g first) torn (omega (arith, at_commit.at, slot_stays)) (subst (λ (s : ℕ). IsLog news (part (s + 16384) 65536 c)) (sym slot_stays) log)
 
     pub second_torn : Holds c snap rs ⊎ Holds c snap (rs ++ r ∷ [])
     second_torn = elim (commit_torn rs r _ _ (first_staged g first here) good commit_torn_log) [ inl a ↦ inl (lift rs a) | inr b ↦ inr (lift (rs ++ r ∷ []) b) ]

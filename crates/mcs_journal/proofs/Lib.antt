@@ -1,5 +1,3 @@
-pub mod Adding
-pub mod Creating
 pub mod Headers
 pub mod Logs
 pub mod NextRecord

@@ -40,20 +40,19 @@ pub record IsStaged (rs : List (List ℕ)) (r log : List ℕ) : Type 0 where
   pub is : log ≡ frames_of rs ++ commit_byte ∷ ((be16 (length r) ++ r ++ 0 ∷ []) ++ rest)
   pub records_ok : AreRecords rs
 
-pub staged : (rs : List (List ℕ)) (r log c : List ℕ) → IsLog rs log → Torn (length (frames_of rs) + 1) (length r + 3) log c → part (length (frames_of rs) + 1) (length r + 3) c ≡ be16 (length r) ++ r ++ 0 ∷ [] → IsStaged rs r c
-staged rs r log c old torn here =
+pub staged : (rs : List (List ℕ)) (r from log c : List ℕ) → from ≡ be16 (length r) ++ r ++ 0 ∷ [] → IsLog rs log → Torn (length (frames_of rs) + 1) (length from) log c → part (length (frames_of rs) + 1) (length from) c ≡ from → IsStaged rs r c
+staged rs r from log c spells old torn here =
     let n = length (frames_of rs) + 1 in
-    let next = after_commit rs (length r + 3) log c old torn in
-    let bytes = be16 (length r) ++ r ++ 0 ∷ [] in
+    let next = after_commit rs (length from) log c old torn in
     let p = frames_of rs ++ next.commit_byte ∷ [] in
     let long : length p ≡ n = omega (arith, length-append (frames_of rs) (next.commit_byte ∷ [])) in
     let as_p : c ≡ p ++ next.rest = next.is ∙ sym (append_assoc (frames_of rs) (next.commit_byte ∷ []) next.rest) in
     let tail : drop n c ≡ next.rest = ap (λ (l : List ℕ). drop n l) as_p ∙ drop_at p next.rest n long in
-    let front : take (length r + 3) next.rest ≡ bytes = ap (λ (l : List ℕ). take (length r + 3) l) (sym tail) ∙ here in
+    let front : take (length from) next.rest ≡ be16 (length r) ++ r ++ 0 ∷ [] = ap (λ (l : List ℕ). take (length from) l) (sym tail) ∙ here ∙ spells in
     record {
       commit_byte = next.commit_byte;
-      rest = drop (length r + 3) next.rest;
-      is = next.is ∙ ap (λ (l : List ℕ). frames_of rs ++ next.commit_byte ∷ l) (sym (take-append-drop (length r + 3) next.rest) ∙ ap (λ (l : List ℕ). l ++ drop (length r + 3) next.rest) front);
+      rest = drop (length from) next.rest;
+      is = next.is ∙ ap (λ (l : List ℕ). frames_of rs ++ next.commit_byte ∷ l) (sym (take-append-drop (length from) next.rest) ∙ ap (λ (l : List ℕ). l ++ drop (length from) next.rest) front);
       records_ok = next.records_ok;
     }
 

@@ -1,8 +1,8 @@
 -- What `create` and `open` answer follows from what their parts answered.
-use Rattle.std.proofs.Common.{◌≡◌, ◌≢◌, inr, ⊎_elim, ◌+◌, ℕ, refl, ◌∙◌, ap, Result, Ok, Err, IsErrOf, min}
-use Rattle.mcs_disk.specs.Disk.{DiskState, IsCall, most_faults, part}
+use Rattle.std.proofs.Common.{◌≡◌, ◌≢◌, inr, ⊎_elim, refl, ◌∙◌, ap, Result, Ok, Err, IsErrOf}
+use Rattle.mcs_disk.specs.Disk.{DiskState, IsCall, part}
 use Rattle.mcs_disk.specs.Moments.{CountsFault, AddsNoImage}
-use Rattle.mcs_disk.proofs.Composing.{rests_leave}
+use Rattle.mcs_disk.proofs.Composing.{counts_as, rests_leave}
 use Rattle.mcs_journal.specs.StoreCalls.{RefusesCreate, RefusesOpen, HoldsNone}
 use Rattle.mcs_journal.specs.File.{IsBlank}
 use Rattle.mcs_journal.specs.declared.format.TheConstants.{FILE_SIZE, NAME}
@@ -10,15 +10,6 @@ use Rattle.mcs_journal.specs.declared.fault.OpenFault.{OpenFault}
 use Rattle.mcs_journal.specs.declared.fault.OpenFault.TheVariants as open_fault
 use Rattle.mcs_journal.specs.declared.fault.CreateFault.{CreateFault}
 use Rattle.mcs_journal.specs.declared.fault.CreateFault.TheVariants as create_fault
-
--- a count of faults, by another name of the failure
-counts_as : (old new : DiskState) (F G : Type 0) → (F → G) → (G → F) → CountsFault old new F → CountsFault old new G
-counts_as old new F G to from counts = record {
-  size = counts.size;
-  honest = counts.honest;
-  fault = λ failed. counts.fault (from failed);
-  no_fault = λ none. counts.no_fault (λ failed. none (to failed));
-}
 
 pub counts_ok : {T E : Type 0} (old new : DiskState) (result : Result T E) (device : E) (x : T) → result ≡ Ok x → CountsFault old new (IsErrOf result device) → CountsFault old new ⊥
 counts_ok old new result device x is counts = counts_as old new (IsErrOf result device) ⊥ (λ failed. cc) (λ none. absurd none) counts
@@ -31,15 +22,6 @@ call_counts_ok old new x call = record { size = call.size; honest = call.honest;
 
 pub call_counts_err : {T E : Type 0} (old new : DiskState) (e : E) (failed : Type 0) → failed → IsCall {T = T} {E = E} old new (Err e) → CountsFault old new failed
 call_counts_err old new e failed here call = record { size = call.size; honest = call.honest; fault = λ it. call.fault; no_fault = λ none. absurd (none here) }
-
--- calls of which none failed, and then some
-pub counts_then : (old mid new : DiskState) (failed : Type 0) → CountsFault old mid ⊥ → CountsFault mid new failed → CountsFault old new failed
-counts_then old mid new failed first second = record {
-  size = second.size ∙ first.size;
-  honest = (λ h. first.honest.0 (second.honest.0 h), λ h. second.honest.1 (first.honest.1 h));
-  fault = λ it. second.fault it ∙ ap (λ (n : ℕ). min (n + 1) most_faults) (first.no_fault (λ none. none));
-  no_fault = λ none. second.no_fault none ∙ first.no_fault (λ no. no);
-}
 
 pub refuses_create : (fault : CreateFault) (old new : DiskState) → AddsNoImage old new → (fault ≡ create_fault.NotBlank → IsBlank old.size old.bytes → ⊥) → RefusesCreate fault old new
 refuses_create create_fault.NotBlank old new rests not_blank = (not_blank refl, rests)

@@ -1,47 +1,37 @@
--- What every moment of a stretch of device calls has left goes on with the next commit.
-use Rattle.std.proofs.Common.{◌≡◌, inl, inr, ⊎_elim, ◌+◌, ℕ, List, length, arith, Result, subst, sym}
+-- A change of a durable disk in two commits.
+use Rattle.std.proofs.Common.{◌≡◌, inl, inr, ⊎_elim, ◌+◌, ℕ, List, length, arith, Result, Ok, Err, subst, sym}
 use Rattle.std.proofs.lemmas.Result.{on_ok_weaker}
 use Rattle.mcs_disk.specs.Disk.{DiskState, Torn, IsLawful, part}
+use Rattle.mcs_disk.specs.CallLaws.{untorn}
 use Rattle.mcs_disk.specs.Moments.{LeavesOnly, Changes, Either, IsDurable}
+use Rattle.mcs_disk.proofs.Composing.{leaves_then}
 use Rattle.mcs_journal.specs.Writing.{Commits}
 
--- before the first call
-pub started : (old : DiskState) (P : List ℕ → Type 0) → IsDurable old → P old.bytes → LeavesOnly old old P
-started old P durable here = record {
-  later = omega arith;
-  each = λ c left. subst P (sym (durable.fresh c left)) here;
-  before = λ t c le left. inl left;
-  keeps = λ t c le left. left;
-}
-
--- one commit more, each torn write of which has P
-pub goes_on : {T E : Type 0} (old mid new : DiskState) (P : List ℕ → Type 0) (at : ℕ) (from : List ℕ) (result : Result T E)
-    → IsLawful new → LeavesOnly old mid P → Commits at from mid new result → ((d c : List ℕ) → mid.images d → Torn at (length from) d c → P c) → LeavesOnly old new P
-goes_on old mid new P at from result lawful so_far step torn = record {
-  later = omega (arith, so_far.later, step.later);
-  each = λ c left. ⊎_elim (so_far.each c) (λ now. torn (now.1.0) c (now.1.1) (now.1.2)) (step.moments old.clock c so_far.later left);
-  before = λ t c le left.
+-- a commit on a durable disk, each torn write of which has P
+commit_leaves : {T E : Type 0} (old new : DiskState) (P : List ℕ → Type 0) (at : ℕ) (from : List ℕ) (result : Result T E)
+    → IsDurable old → ((c : List ℕ) → Torn at (length from) old.bytes c → P c) → Commits at from old new result → LeavesOnly old new P
+commit_leaves old new P at from result durable torn step = record {
+  later = step.later;
+  each = λ c left.
       ⊎_elim
-      (λ there. ⊎_elim (λ past. inl past) (λ here. inr (step.keeps old.clock c so_far.later here)) (so_far.before t c le there))
-      (λ now. inr (lawful.longer old.clock mid.clock c so_far.later now.0))
-      (step.moments t c (omega (arith, le, so_far.later)) left);
-  keeps = λ t c le past. step.keeps t c (omega (arith, le, so_far.later)) (so_far.keeps t c le past);
+      (λ past. torn c (subst (Torn at (length from) old.bytes) (sym (durable.fresh c past)) (untorn at (length from) old.bytes)))
+      (λ now. torn c (subst (λ (f : List ℕ). Torn at (length from) f c) (durable.only (now.1.0) (now.1.1)) (now.1.2)))
+      (step.moments old.clock c (omega arith) left);
+  before = λ t c le left. ⊎_elim (λ past. inl past) (λ now. inr now.0) (step.moments t c le left);
 }
 
--- A change in two commits, the first of which leaves the old and the second the old or the new.
-module _ (old mid : DiskState) (Before After : List ℕ → Type 0) (at : ℕ) (from : List ℕ) (durable : IsDurable old) (held : Before old.bytes) (lawful : IsLawful mid)
+-- The first commit leaves the old and the second the old or the new.
+module _ (old mid : DiskState) (Before After : List ℕ → Type 0) (at : ℕ) (from : List ℕ) (durable : IsDurable old)
     (torn : (c : List ℕ) → Torn at (length from) old.bytes c → Before c) where
   pub first_step : {T E : Type 0} (result : Result T E) → Commits at from old mid result → LeavesOnly old mid (Either Before After)
-  first_step result step =
-      goes_on old old mid (Either Before After) at from result lawful (started old (Either Before After) durable (inl held)) step
-      (λ d c was tear. inl (torn c (subst (λ (f : List ℕ). Torn at (length from) f c) (durable.only d was) tear)))
+  first_step result step = commit_leaves old mid (Either Before After) at from result durable (λ c tear. inl (torn c tear)) step
 
-  pub second_step : {T E : Type 0} (new : DiskState) (place : ℕ) (last : List ℕ) (result : Result T E) → IsLawful new → LeavesOnly old mid (Either Before After) → IsDurable mid → mid.clock ≡ old.clock + 2
+  pub both_steps : {T E U V : Type 0} (x : U) (new : DiskState) (place : ℕ) (last : List ℕ) (result : Result T E) → IsLawful new
       → ((c : List ℕ) → Torn place (length last) mid.bytes c → Either Before After c) → (part place (length last) new.bytes ≡ last → Torn place (length last) mid.bytes new.bytes → After new.bytes)
-      → Commits place last mid new result → Changes 4 old new Before After result
-  second_step new place last result law so_far intact tick either_way done step = record {
-    after = on_ok_weaker result (λ (here : part place (length last) new.bytes ≡ last). done here step.outside) step.written;
-    durable = step.durable;
-    ticks = on_ok_weaker result (λ (two : new.clock ≡ mid.clock + 2). omega (arith, two, tick)) step.ticks;
-    moments = goes_on old mid new (Either Before After) place last result law so_far step (λ d c was tear. either_way c (subst (λ (f : List ℕ). Torn place (length last) f c) (intact.only d was) tear));
+      → Commits {T = U} {E = V} at from old mid (Ok x) → Commits place last mid new result → Changes 4 old new Before After result
+  both_steps x new place last result law either_way done first second = record {
+    after = on_ok_weaker result (λ (here : part place (length last) new.bytes ≡ last). done here second.outside) second.written;
+    durable = second.durable;
+    ticks = on_ok_weaker result (λ (two : new.clock ≡ mid.clock + 2). omega (arith, two, first.ticks)) second.ticks;
+    moments = leaves_then old mid new (Either Before After) law (first_step (Ok x) first) (commit_leaves mid new (Either Before After) place last result first.durable either_way second);
   }

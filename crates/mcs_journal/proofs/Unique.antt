@@ -1,4 +1,4 @@
--- A file holds one pair at most.
+-- A file holds one snapshot and list of records at most.
 use Rattle.std.proofs.Common.{◌≡◌, ◌≢◌, ◌≤◌, ◌+◌, ◌/◌, ◌%◌, List, [], ◌∷◌, ◌++◌, ℕ, length, take, drop, refl, sym, ◌∙◌, ap, arith, append_assoc}
 use Rattle.std.proofs.lemmas.List.{take_at, drop_at}
 use Rattle.mcs_disk.specs.Disk.{part}
@@ -9,11 +9,11 @@ same_16 : (m n : ℕ) → m / 256 ≡ n / 256 → m % 256 ≡ n % 256 → m ≡ 
 same_16 m n high low = omega (arith, high, low)
 
 -- records of the same bytes, up to a commit byte that is not 1
-pub same_records : (rs ss : List (List ℕ)) (g h : ℕ) (xs ys : List ℕ) → g ≢ 1 → h ≢ 1 → frames_of rs ++ g ∷ xs ≡ frames_of ss ++ h ∷ ys → rs ≡ ss
-same_records [] [] g h xs ys shut closed same = refl
-same_records [] (s ∷ ss) g h xs ys shut closed same = let one : g ≡ 1 = cc in absurd (shut one)
-same_records (r ∷ rs) [] g h xs ys shut closed same = let one : h ≡ 1 = cc in absurd (closed one)
-same_records (r ∷ rs) (s ∷ ss) g h xs ys shut closed same =
+pub same_frames : (rs ss : List (List ℕ)) (g h : ℕ) (xs ys : List ℕ) → g ≢ 1 → h ≢ 1 → frames_of rs ++ g ∷ xs ≡ frames_of ss ++ h ∷ ys → rs ≡ ss
+same_frames [] [] g h xs ys shut closed same = refl
+same_frames [] (s ∷ ss) g h xs ys shut closed same = let one : g ≡ 1 = cc in absurd (shut one)
+same_frames (r ∷ rs) [] g h xs ys shut closed same = let one : h ≡ 1 = cc in absurd (closed one)
+same_frames (r ∷ rs) (s ∷ ss) g h xs ys shut closed same =
     let high : length r / 256 ≡ length s / 256 = cc in
     let low : length r % 256 ≡ length s % 256 = cc in
     let long = same_16 (length r) (length s) high low in
@@ -21,11 +21,11 @@ same_records (r ∷ rs) (s ∷ ss) g h xs ys shut closed same =
     let apart : r ++ (frames_of rs ++ g ∷ xs) ≡ s ++ (frames_of ss ++ h ∷ ys) = sym (append_assoc r (frames_of rs) (g ∷ xs)) ∙ tails ∙ append_assoc s (frames_of ss) (h ∷ ys) in
     let head : r ≡ s = sym (take_at r (frames_of rs ++ g ∷ xs) (length r) refl) ∙ ap (λ (l : List ℕ). take (length r) l) apart ∙ take_at s (frames_of ss ++ h ∷ ys) (length r) (sym long) in
     let rest : frames_of rs ++ g ∷ xs ≡ frames_of ss ++ h ∷ ys = sym (drop_at r (frames_of rs ++ g ∷ xs) (length r) refl) ∙ ap (λ (l : List ℕ). drop (length r) l) apart ∙ drop_at s (frames_of ss ++ h ∷ ys) (length r) (sym long) in
-    let more = same_records rs ss g h xs ys shut closed rest in
+    let more = same_frames rs ss g h xs ys shut closed rest in
     (λ k. head k ∷ more k)
 
 pub same_log : (rs ss : List (List ℕ)) (log : List ℕ) → IsLog rs log → IsLog ss log → rs ≡ ss
-same_log rs ss log a b = same_records rs ss a.commit_byte b.commit_byte a.rest b.rest a.closed b.closed (sym a.is ∙ b.is)
+same_log rs ss log a b = same_frames rs ss a.commit_byte b.commit_byte a.rest b.rest a.closed b.closed (sym a.is ∙ b.is)
 
 -- two numbers of the same four bytes
 same_32 : (m n : ℕ) → m ≤ 16380 → n ≤ 16380 → be32 m ≡ be32 n → m ≡ n
@@ -39,5 +39,5 @@ same_snap file snap other rs ss a b =
     let long = same_32 (length snap) (length other) a.short b.short (sym a.snap_length ∙ b.snap_length) in
     sym a.snap_bytes ∙ ap (λ (n : ℕ). part (slot_at file + 4) n file) long ∙ b.snap_bytes
 
-pub same_pair : (file snap other : List ℕ) (rs ss : List (List ℕ)) → Holds file snap rs → Holds file other ss → rs ≡ ss
-same_pair file snap other rs ss a b = same_log rs ss _ a.log b.log
+pub same_records : (file snap other : List ℕ) (rs ss : List (List ℕ)) → Holds file snap rs → Holds file other ss → rs ≡ ss
+same_records file snap other rs ss a b = same_log rs ss _ a.log b.log

@@ -23,7 +23,9 @@ pub record IsIntactStore (disk : DiskState) (slot : Slot) (used : ℕ) : Type 0 
   pub holds : Holds disk.bytes snap records
   pub count : used ≡ length (frames_of records)
 
--- what the fields keep; the buffer has room for a snapshot area and a commit byte
+-- the invariant of a store: its disk has the size of a session file, the log has room for one more
+-- commit byte, the buffer takes a snapshot area and a commit byte, and an open store on an honest
+-- disk is intact
 pub record IsStore (disk : DiskState) (live : Bool) (slot : Slot) (used : ℕ) (buffer : List ℕ)
     : Type 0 where
   pub disk_size : disk.size ≡ FILE_SIZE

@@ -1,6 +1,6 @@
 -- The parts of a file that the steps of reading and writing speak of.
 use Rattle.std.specs.Prelude.{◌≡◌, ℕ, ◌+◌, ◌≤◌, List, ◌⊎◌, length, slice_index, Result, OnOk}
-use Rattle.mcs_disk.specs.Disk.{DiskState, part, Torn}
+use Rattle.mcs_disk.specs.Disk.{DiskState, IsLater, part, Torn}
 use Rattle.mcs_disk.specs.Moments.{IsDurable}
 use Rattle.mcs_journal.specs.File.{IsRecord, frame_of, frames_of, slot_at, be32, slot_of}
 use Rattle.mcs_journal.specs.declared.format.TheConstants.{AREA_SIZE, LOG_SIZE, MOST_SNAPSHOT, NAME, BUFFER_SIZE, ZEROS}
@@ -59,8 +59,7 @@ pub record Commits {T E : Type 0} (at : ℕ) (from : List ℕ) (old new : DiskSt
   pub outside : Torn at (length from) old.bytes new.bytes
   pub durable : OnOk result (IsDurable new)
   pub ticks : OnOk result (new.clock ≡ old.clock + 2)
-  pub later : old.clock ≤ new.clock
+  pub later : IsLater old new
   pub moments : (t : ℕ) (c : List ℕ) → t ≤ old.clock → new.since t c
       → old.since t c
       ⊎ (new.since old.clock c × ((d : List ℕ) × old.images d × Torn at (length from) d c))
-  pub keeps : (t : ℕ) (c : List ℕ) → t ≤ old.clock → old.since t c → new.since t c

@@ -3,10 +3,12 @@
 /// The size of a session file.
 pub const FILE_SIZE: usize = 163_856;
 
-/// The most bytes of a snapshot.
+/// The most bytes of a snapshot: a limit of the file, whatever the bytes mean. How many a state
+/// takes at most is the codec's own bound, which has to be no greater.
 pub const MOST_SNAPSHOT: usize = 16_380;
 
-/// The most bytes of a record.
+/// The most bytes of a record: a limit of the file, whatever the bytes mean. How many a command
+/// takes at most is the codec's own bound, which has to be no greater.
 pub const MOST_RECORD: usize = 8_192;
 
 /// The header: the name, the selector, and zeros.

@@ -30,7 +30,7 @@ pub fn contents_are_unique()
     ensures { ContentsAreUnique }
 {}
 
-/// Where each image of a stretch holds one pair or another, as [`append`](crate::Store::append) and
+/// Where each image of a stretch holds one of two contents, as [`append`](crate::Store::append) and
 /// [`replace`](crate::Store::replace) promise, the disk that a power cut since its start leaves
 /// holds one of them.
 pub fn cut_leaves_old_or_new_contents<D: Disk, E: Disk>()
@@ -41,8 +41,8 @@ pub fn cut_leaves_old_or_new_contents<D: Disk, E: Disk>()
         → Holds (E.state found).bytes snap records ⊎ Holds (E.state found).bytes other more }
 {}
 
-/// The pair of a durable disk, as [`append`](crate::Store::append) and
-/// [`replace`](crate::Store::replace) leave it with Ok, is held by the disk that a power cut leaves
+/// The contents of a durable disk, as [`append`](crate::Store::append) and
+/// [`replace`](crate::Store::replace) leave it with Ok, are held by the disk that a power cut leaves
 /// from then on.
 pub fn cut_leaves_durable_contents<D: Disk, E: Disk>()
     ensures { (snap : List ℕ) (records : List (List ℕ)) (disk : D) (found : E)

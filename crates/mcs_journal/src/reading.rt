@@ -1,7 +1,7 @@
 //! Reads the contents of a disk: its snapshot and records. Nothing here writes.
-ghost use Rattle.std.specs.Prelude.{◌≡◌, ◌≢◌, ◌≤◌, ◌<◌, ◌+◌, ◌^◌, List, ℕ, length, slice_index, IfOk, IfSome, IfNone, OnOk, IsErrOf};
-ghost use Rattle.mcs_disk.specs.Disk.{IsCall, part};
-ghost use Rattle.mcs_disk.specs.Moments.{CountsFault, IsDurable, AddsNoImage, WritesNothing};
+ghost use Rattle.std.specs.Prelude.{◌≡◌, ◌≢◌, ◌≤◌, ◌<◌, ◌+◌, ◌^◌, List, ℕ, length, slice_index, IfOk, IfSome, IfNone, OnOk, IsErr, IsErrOf};
+ghost use Rattle.mcs_disk.specs.Disk.{part};
+ghost use Rattle.mcs_disk.specs.Moments.{IsDurable, ReadsOnly};
 ghost use Rattle.mcs_journal.specs.declared.format.TheConstants.{FILE_SIZE};
 ghost use Rattle.mcs_journal.specs.File.{Holds, IsLog, slot_of, frames_of, start_of};
 ghost use Rattle.mcs_journal.specs.Writing.{IsHeader, IsNext, IsNoRecord, IsSnapshot};
@@ -19,11 +19,7 @@ use std::alloc::Global;
 /// Reads the bytes from `at` on; a disk at rest stays so.
 pub fn read_at<D: Disk>(disk: &mut D, at: usize, into: &mut [u8]) -> Result<(), DiskFault>
     requires { at + length into.old ≤ (D.state disk.old).size }
-    ensures call { IsCall (D.state disk.old) (D.state disk.new) result }
-    ensures unwritten { WritesNothing (D.state disk.old) (D.state disk.new) }
-    ensures rests { (D.state disk.old).honest → AddsNoImage (D.state disk.old) (D.state disk.new) }
-    ensures durable { (D.state disk.old).honest → IsDurable (D.state disk.old)
-        → OnOk result (IsDurable (D.state disk.new)) }
+    ensures reads { ReadsOnly (D.state disk.old) (D.state disk.new) (IsErr result) }
     ensures ticks { (D.state disk.old).honest
         → OnOk result ((D.state disk.new).clock ≡ (D.state disk.old).clock + 1) }
     ensures given { (D.state disk.old).honest
@@ -43,12 +39,8 @@ pub fn read_record<D: Disk>(
     requires inside { at + room ≤ (D.state disk.old).size }
     requires fits { (D.state disk.old).size < 2 ^ 64 }
     requires some { 1 ≤ room }
-    ensures tells { CountsFault (D.state disk.old) (D.state disk.new)
+    ensures reads { ReadsOnly (D.state disk.old) (D.state disk.new)
         (IsErrOf result OpenFault.Device) }
-    ensures unwritten { WritesNothing (D.state disk.old) (D.state disk.new) }
-    ensures rests { (D.state disk.old).honest → AddsNoImage (D.state disk.old) (D.state disk.new) }
-    ensures durable { (D.state disk.old).honest → IsDurable (D.state disk.old)
-        → OnOk result (IsDurable (D.state disk.new)) }
     ensures fits_in { IfOk result (λ o. IfSome o (λ r. length r + 4 ≤ room)) }
     ensures closed { (D.state disk.old).honest
         → IfOk result (λ o. IfNone o (slice_index (D.state disk.old).bytes at ≢ 1)) }
@@ -88,12 +80,8 @@ pub struct Log {
 pub fn read_log<D: Disk>(alloc: Global, disk: &mut D, at: usize) -> Result<Log, OpenFault>
     requires inside { at + LOG_SIZE ≤ (D.state disk.old).size }
     requires fits { (D.state disk.old).size < 2 ^ 64 }
-    ensures tells { CountsFault (D.state disk.old) (D.state disk.new)
+    ensures reads { ReadsOnly (D.state disk.old) (D.state disk.new)
         (IsErrOf result OpenFault.Device) }
-    ensures unwritten { WritesNothing (D.state disk.old) (D.state disk.new) }
-    ensures rests { (D.state disk.old).honest → AddsNoImage (D.state disk.old) (D.state disk.new) }
-    ensures durable { (D.state disk.old).honest → IsDurable (D.state disk.old)
-        → OnOk result (IsDurable (D.state disk.new)) }
     ensures within { IfOk result (λ log. log.used + 1 ≤ LOG_SIZE) }
     ensures found { (D.state disk.old).honest
         → IfOk result (λ log. IsLog log.records.items (part at LOG_SIZE (D.state disk.old).bytes)
@@ -115,12 +103,8 @@ pub fn read_log<D: Disk>(alloc: Global, disk: &mut D, at: usize) -> Result<Log, 
 /// Reads the header: the slot that its selector names.
 pub fn read_header<D: Disk>(disk: &mut D) -> Result<Slot, OpenFault>
     requires size { (D.state disk.old).size ≡ FILE_SIZE }
-    ensures tells { CountsFault (D.state disk.old) (D.state disk.new)
+    ensures reads { ReadsOnly (D.state disk.old) (D.state disk.new)
         (IsErrOf result OpenFault.Device) }
-    ensures unwritten { WritesNothing (D.state disk.old) (D.state disk.new) }
-    ensures rests { (D.state disk.old).honest → AddsNoImage (D.state disk.old) (D.state disk.new) }
-    ensures durable { (D.state disk.old).honest → IsDurable (D.state disk.old)
-        → OnOk result (IsDurable (D.state disk.new)) }
     ensures header { (D.state disk.old).honest
         → IfOk result (λ slot. IsHeader (D.state disk.old).bytes slot) }
     ensures no_session { (D.state disk.old).honest → IsErrOf result OpenFault.NotASession
@@ -144,12 +128,8 @@ pub fn read_header<D: Disk>(disk: &mut D) -> Result<Slot, OpenFault>
 pub fn read_snapshot<D: Disk>(alloc: Global, disk: &mut D, start: usize) -> Result<Bytes, OpenFault>
     requires inside { start + AREA_SIZE ≤ (D.state disk.old).size }
     requires fits { (D.state disk.old).size < 2 ^ 64 }
-    ensures tells { CountsFault (D.state disk.old) (D.state disk.new)
+    ensures reads { ReadsOnly (D.state disk.old) (D.state disk.new)
         (IsErrOf result OpenFault.Device) }
-    ensures unwritten { WritesNothing (D.state disk.old) (D.state disk.new) }
-    ensures rests { (D.state disk.old).honest → AddsNoImage (D.state disk.old) (D.state disk.new) }
-    ensures durable { (D.state disk.old).honest → IsDurable (D.state disk.old)
-        → OnOk result (IsDurable (D.state disk.new)) }
     ensures snap { (D.state disk.old).honest
         → IfOk result (λ snap. IsSnapshot (D.state disk.old).bytes start snap) }
     ensures damaged { (D.state disk.old).honest → IsErrOf result OpenFault.Damaged
@@ -180,10 +160,8 @@ pub struct Found {
 /// Without the sync, what is read may be lost by a power cut that comes after the answer.
 pub fn read_contents<D: Disk>(alloc: Global, disk: &mut D) -> Result<Found, OpenFault>
     requires size { (D.state disk.old).size ≡ FILE_SIZE }
-    ensures tells { CountsFault (D.state disk.old) (D.state disk.new)
+    ensures reads { ReadsOnly (D.state disk.old) (D.state disk.new)
         (IsErrOf result OpenFault.Device) }
-    ensures unwritten { WritesNothing (D.state disk.old) (D.state disk.new) }
-    ensures rests { (D.state disk.old).honest → AddsNoImage (D.state disk.old) (D.state disk.new) }
     ensures within { IfOk result (λ found. found.log.used + 1 ≤ LOG_SIZE) }
     ensures durable { (D.state disk.old).honest → OnOk result (IsDurable (D.state disk.new)) }
     ensures active { (D.state disk.old).honest

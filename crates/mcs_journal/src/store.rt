@@ -7,7 +7,7 @@ ghost use Rattle.mcs_journal.specs.File.{HasRoom, Holds, IsRecord, frames_of};
 
 use crate::bytes::{Bytes, Records};
 use crate::fault::{CreateFault, OpenFault};
-use crate::format::{AREA_SIZE, FILE_SIZE, LOG_SIZE, RECORD_PLACE, BUFFER_SIZE};
+use crate::format::{AREA_SIZE, BUFFER_SIZE, FILE_SIZE, LOG_SIZE, RECORD_PLACE};
 use crate::reading::{Found, Log, read_contents};
 use crate::slot::Slot;
 use crate::writing::{add_record, check_blank, replace_contents, write_first};
@@ -17,8 +17,8 @@ use std::marker::Model;
 
 /// A snapshot and the records after it, on a disk.
 ///
-/// Once a call on it has answered a device fault, it is closed: what the disk then holds is the
-/// pair of before that call or of after it, and opening it again tells which.
+/// Once a call on it has answered a device fault, it is closed: what the disk then holds are
+/// the contents of before that call or of after it, and opening it again tells which.
 #[derive(Drop)]
 pub struct Store<D: Disk + Drop> {
     disk: D,

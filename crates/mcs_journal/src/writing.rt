@@ -3,7 +3,7 @@
 //! disk before the bytes that it speaks of.
 ghost use Rattle.std.specs.Prelude.{◌≡◌, ◌≤◌, ◌+◌, List, [], ◌∷◌, ◌++◌, ℕ, length, take, slice_index, OnOk, IsErrOf};
 ghost use Rattle.mcs_disk.specs.Disk.{IsCall};
-ghost use Rattle.mcs_disk.specs.Moments.{Changes, CountsFault, KeepsEarlierImages, IsDurable, AddsNoImage, WritesNothing};
+ghost use Rattle.mcs_disk.specs.Moments.{Changes, IsDurable, KeepsEarlierImages, ReadsOnly};
 ghost use Rattle.mcs_journal.specs.declared.format.TheConstants.{FILE_SIZE, MOST_RECORD, MOST_SNAPSHOT, BUFFER_SIZE};
 ghost use Rattle.mcs_journal.specs.File.{Holds, IsBlank, IsRecord, be16, slot_of};
 ghost use Rattle.mcs_journal.specs.Writing.{Commits, IsArea, IsCommitPlace, other_slot};
@@ -111,10 +111,8 @@ pub fn replace_contents<D: Disk>(
 /// The disk has the size of a session file, and its first 16 bytes are 0.
 pub fn check_blank<D: Disk>(disk: &mut D) -> Result<(), CreateFault>
     requires size { (D.state disk.old).size ≡ FILE_SIZE }
-    ensures tells { CountsFault (D.state disk.old) (D.state disk.new)
+    ensures reads { ReadsOnly (D.state disk.old) (D.state disk.new)
         (IsErrOf result CreateFault.Device) }
-    ensures unwritten { WritesNothing (D.state disk.old) (D.state disk.new) }
-    ensures rests { (D.state disk.old).honest → AddsNoImage (D.state disk.old) (D.state disk.new) }
     ensures ticks { (D.state disk.old).honest
         → OnOk result ((D.state disk.new).clock ≡ (D.state disk.old).clock + 1) }
     ensures blank { (D.state disk.old).honest
@@ -131,8 +129,8 @@ pub fn check_blank<D: Disk>(disk: &mut D) -> Result<(), CreateFault>
     Ok(())
 }
 
-/// Writes a first pair into the first slot: the snapshot and no records. Then it writes the header
-/// that names the slot.
+/// Writes the first contents into the first slot: the snapshot and no records. Then it writes the
+/// header that names the slot.
 pub fn write_first<D: Disk>(disk: &mut D, buffer: &mut [u8], snap: &[u8]) -> Result<(), DiskFault>
     requires size { (D.state disk.old).size ≡ FILE_SIZE }
     requires room { length buffer.old ≡ BUFFER_SIZE }

@@ -6,7 +6,7 @@ use Rattle.mcs_journal.specs.StoreCalls.{Creates, IsNoSession, Opens, RefusesOpe
 use Rattle.mcs_journal.specs.File.{Holds}
 use Rattle.mcs_journal.specs.declared.fault.OpenFault.{OpenFault}
 use Rattle.mcs_journal.specs.declared.fault.OpenFault.TheVariants.{NotASession, Damaged, Device, NoMemory}
-use Rattle.mcs_journal.proofs.Unique.{same_snap, same_pair}
+use Rattle.mcs_journal.proofs.Unique.{same_snap, same_records}
 use Rattle.mcs_model.specs.BenchState.{BenchState, new_bench_state}
 use Rattle.mcs_codec.specs.Codec.{SpellsState, SpellsState1}
 use Rattle.mcs_codec.proofs.StateCodec.{same_state}
@@ -75,7 +75,6 @@ rests_may old new s rests = record {
   later = rests.later;
   each = λ c left. inl (rests.nothing_else old.clock c (omega arith) left);
   before = λ t c le left. inl (rests.nothing_else t c le left);
-  keeps = rests.keeps;
 }
 
 -- a file of the last version
@@ -177,18 +176,18 @@ fails_migrating old mid new snap records cycles s lawful opened replayed moments
 -- a file stands for what its one pair stands for
 pub pair_of : (file snap : List ℕ) (records : List (List ℕ)) (s : BenchState) → Holds file snap records → StandsFor file s → RecordsStandFor false snap records s
 pair_of file snap records s held stands =
-    subst (λ (x : List (List ℕ)). RecordsStandFor false snap x s) (same_pair _ _ _ _ _ stands.holds held)
+    subst (λ (x : List (List ℕ)). RecordsStandFor false snap x s) (same_records _ _ _ _ _ stands.holds held)
     (subst (λ (x : List ℕ). RecordsStandFor false x stands.records s) (same_snap _ _ _ _ _ stands.holds held) stands.stand)
 
 first_of : (file snap : List ℕ) (records : List (List ℕ)) (s : BenchState) → Holds file snap records → StandsForLifted file s → RecordsStandFor true snap records s
 first_of file snap records s held version_1 =
     subst (λ (x : BenchState). RecordsStandFor true snap records x) (sym version_1.lifted)
-    (subst (λ (x : List (List ℕ)). RecordsStandFor true snap x (lift version_1.version_1)) (same_pair _ _ _ _ _ version_1.holds held)
+    (subst (λ (x : List (List ℕ)). RecordsStandFor true snap x (lift version_1.version_1)) (same_records _ _ _ _ _ version_1.holds held)
     (subst (λ (x : List ℕ). RecordsStandFor true x version_1.records (lift version_1.version_1)) (same_snap _ _ _ _ _ version_1.holds held) (first_by version_1.snap version_1.records version_1.version_1 version_1.stand)))
 
 -- a file that stands for a state by version 2 stands for no other
 pub one_state : (file : List ℕ) (s t : BenchState) → StandsFor file s → StandsByEither file t → s ≡ t
-one_state file s t a (inl b) = same_pair_state false a.snap b.snap a.records b.records s t (same_snap _ _ _ _ _ a.holds b.holds) (same_pair _ _ _ _ _ a.holds b.holds) a.stand b.stand
+one_state file s t a (inl b) = same_pair_state false a.snap b.snap a.records b.records s t (same_snap _ _ _ _ _ a.holds b.holds) (same_records _ _ _ _ _ a.holds b.holds) a.stand b.stand
 one_state file s t a (inr b) = absurd (not_both a.snap a.stand.start b.stand.start a.stand.snapshot (subst (λ (x : List ℕ). SpellsState1 x b.stand.start) (same_snap _ _ _ _ _ b.holds a.holds) b.stand.snapshot))
 
 -- a disk that holds a pair has the size and the name of a session file
@@ -241,7 +240,7 @@ recorded_by true old new snap records cycles s e opened replayed = absurd (cc)
 
 -- by version 1 a file stands for at most one state
 pub one_first : (file : List ℕ) (s t : BenchState) → StandsForLifted file s → StandsForLifted file t → s ≡ t
-one_first file s t a b = same_pair_state true a.snap b.snap a.records b.records s t (same_snap _ _ _ _ _ a.holds b.holds) (same_pair _ _ _ _ _ a.holds b.holds) (first_of file a.snap a.records s a.holds a) (first_of file b.snap b.records t b.holds b)
+one_first file s t a b = same_pair_state true a.snap b.snap a.records b.records s t (same_snap _ _ _ _ _ a.holds b.holds) (same_records _ _ _ _ _ a.holds b.holds) (first_of file a.snap a.records s a.holds a) (first_of file b.snap b.records t b.holds b)
 
 -- by either version a file stands for at most one state
 pub one_either : (file : List ℕ) (s t : BenchState) → StandsByEither file s → StandsByEither file t → s ≡ t

@@ -81,10 +81,9 @@ settle d s lawful at = record { at = at; lawful = lawful }
 
 goes_nowhere : (d e : DiskState) → IsUntouched d e → KeepsEarlierImages d e
 goes_nowhere d e a = record {
-  later = omega (arith, a.clock);
+  later = record { clock = omega (arith, a.clock); keeps = λ u image early now. (a.since u image).1 now };
   each = λ image now. tt;
   before = λ u image early now. inl ((a.since u image).0 now);
-  keeps = λ u image early now. (a.since u image).1 now;
 }
 
 stays : (d : DiskState) → IsUntouched d d
@@ -134,7 +133,7 @@ carries_more a b c cs ds x y = record {
 
 -- a stretch, whatever it leaves
 goes_on : (d e : DiskState) (P : List ℕ → Type 0) → LeavesOnly d e P → KeepsEarlierImages d e
-goes_on d e P a = record { later = a.later; each = λ image now. tt; before = a.before; keeps = a.keeps }
+goes_on d e P a = record { later = a.later; each = λ image now. tt; before = a.before }
 
 -- four or eight steps
 spaced_by : (d e : DiskState) (c : Command) → Ticks d e c → (e.clock ≡ d.clock + 4) ⊎ (e.clock ≡ d.clock + 8)
@@ -170,7 +169,7 @@ failed_keeps d e s c a lawful = record {
   count = refl;
   spaced = tt;
   timed = λ log uses. refl;
-  within = a.later;
+  within = a.later.clock;
   each = λ u image le now.
       ⊎_elim
       (λ (old : StandsFor image s). prefix_none s (c ∷ []) image old)

@@ -3,9 +3,9 @@ use Rattle.std.proofs.Common.{◌≡◌, ◌+◌, ◌≤◌, inl, inr, ⊎_elim,
 use Rattle.std.proofs.lemmas.Grind.{common_steps}
 use Rattle.mcs_disk.specs.Disk.{DiskState, IsLawful}
 use Rattle.mcs_disk.specs.Moments.{Changes, Either, IsDurable, LeavesOnly}
-use Rattle.mcs_disk.proofs.Composing.{leaves_map, leaves_then}
+use Rattle.mcs_disk.proofs.Composing.{leaves_map, leaves_then, no_later}
 use Rattle.mcs_journal.specs.File.{HasRoom, Holds, frames_of}
-use Rattle.mcs_journal.proofs.Unique.{same_snap, same_pair}
+use Rattle.mcs_journal.proofs.Unique.{same_snap, same_records}
 use Rattle.mcs_model.specs.declared.command.Command.{Command}
 use Rattle.mcs_model.specs.declared.command.Command.TheVariants.{Wire, Load, Press, Release, Run, Step, Poke, Test, Reset, Break, Unbreak, Watch, Unwatch}
 use Rattle.mcs_model.specs.declared.limits.TheConstants.{REPLAY_CYCLES}
@@ -44,10 +44,9 @@ few_cycles s (Unwatch bank src) h = omega arith
 -- no call on the disk
 pub leaves_same : (disk : DiskState) (cycles : ℕ) (s : BenchState) → IsRecorded disk cycles s → LeavesOnly disk disk (λ file. StandsFor file s)
 leaves_same disk cycles s was = record {
-  later = omega arith;
+  later = no_later disk;
   each = at_of disk s was.durable was.stands;
   before = λ t c le left. inl left;
-  keeps = λ t c le left. left;
 }
 
 pub room_there : (disk : DiskState) (used bytes more cycles : ℕ) (s : BenchState) (was : IsRecorded disk cycles s) → used ≡ length (frames_of was.stands.records)
@@ -69,7 +68,7 @@ pub no_space : (disk : DiskState) (used bytes more cycles : ℕ) (s : BenchState
     → (HasRoom used bytes → cycles + more ≤ REPLAY_CYCLES → ⊥) → HasSpace disk.bytes bytes more → ⊥
 no_space disk used bytes more cycles s was is none there =
     let snap = same_snap _ _ _ _ _ there.stands.holds was.stands.holds in
-    let records = same_pair _ _ _ _ _ there.stands.holds was.stands.holds in
+    let records = same_records _ _ _ _ _ there.stands.holds was.stands.holds in
     let commands = same_list false there.stands.snap was.stands.snap there.stands.records was.stands.records there.state s snap records there.stands.stand was.stands.stand in
     let log : length (frames_of there.stands.records) ≡ length (frames_of was.stands.records) = ap (λ (rs : List (List ℕ)). length (frames_of rs)) records in
     let replay : log_cycles there.stands.stand.commands ≡ log_cycles was.stands.stand.commands = ap log_cycles commands.1 in

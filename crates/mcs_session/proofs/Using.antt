@@ -7,7 +7,7 @@ use Rattle.mcs_disk.specs.Disk.{DiskState}
 use Rattle.mcs_journal.specs.File.{Holds, frame_of, frames_of}
 use Rattle.mcs_journal.specs.declared.format.TheConstants.{LOG_SIZE}
 use Rattle.mcs_journal.proofs.Logs.{length-framed, spelled-push}
-use Rattle.mcs_journal.proofs.Unique.{same_snap, same_pair}
+use Rattle.mcs_journal.proofs.Unique.{same_snap, same_records}
 use Rattle.mcs_model.specs.declared.command.Command.{Command}
 use Rattle.mcs_model.specs.declared.limits.TheConstants.{REPLAY_CYCLES}
 use Rattle.mcs_model.specs.BenchState.{BenchState}
@@ -27,7 +27,7 @@ use Rattle.mcs_session.proofs.Records.{replayed_more, same_list}
 same_use : (file : List ℕ) (a b : LogUse) → UsesLog file a → UsesLog file b → (a.bytes ≡ b.bytes) × (a.cycles ≡ b.cycles)
 same_use file a b x y =
     let snap = same_snap _ _ _ _ _ x.stands.holds y.stands.holds in
-    let records = same_pair _ _ _ _ _ x.stands.holds y.stands.holds in
+    let records = same_records _ _ _ _ _ x.stands.holds y.stands.holds in
     let commands = same_list false x.stands.snap y.stands.snap x.stands.records y.stands.records x.state y.state snap records x.stands.stand y.stands.stand in
     (x.bytes ∙ ap (λ (rs : List (List ℕ)). length (frames_of rs)) records ∙ sym y.bytes, x.cycles ∙ ap log_cycles commands.1 ∙ sym y.cycles)
 

@@ -6,9 +6,9 @@ use Rattle.mcs_journal.specs.declared.slot.Slot.{Slot}
 use Rattle.mcs_journal.specs.declared.fault.OpenFault.TheVariants.{Damaged}
 use Rattle.mcs_journal.proofs.reading.read_contents.Goals as goal
 
--- a header, the snapshot and the log of its slot make the pair
-pair : (f snap : List ℕ) (slot : Slot) (records : List (List ℕ)) → length f ≡ 163856 → IsHeader f slot → IsSnapshot f (start_of slot) snap → IsLog records (part (start_of slot + 16384) 65536 f) → Holds f snap records
-pair f snap slot records long header is_snap log = record {
+-- a header, the snapshot and the log of its slot make the contents
+contents : (f snap : List ℕ) (slot : Slot) (records : List (List ℕ)) → length f ≡ 163856 → IsHeader f slot → IsSnapshot f (start_of slot) snap → IsLog records (part (start_of slot + 16384) 65536 f) → Holds f snap records
+contents f snap slot records long header is_snap log = record {
   size = long;
   name = header.name;
   zeros = header.zeros;
@@ -22,14 +22,14 @@ pub returns-clause-holds : goal.returns-clause-holds
 returns-clause-holds g c = λ h.
     let law = g.met.D.Disk.lawful c.args.disk.now h in
     let h1 = c.sync.ensures.call.honest.1 h in
-    let h2 = c.read_header.ensures.tells.honest.1 h1 in
-    let h3 = c.read_snapshot.ensures.tells.honest.1 h2 in
+    let h2 = c.read_header.ensures.reads.tells.honest.1 h1 in
+    let h3 = c.read_snapshot.ensures.reads.tells.honest.1 h2 in
     let same1 = (c.sync.ensures.honest h).bytes in
-    let same2 = (c.read_header.ensures.rests h1).bytes ∙ same1 in
-    let same3 = (c.read_snapshot.ensures.rests h2).bytes ∙ same2 in
+    let same2 = (c.read_header.ensures.reads.rests h1).bytes ∙ same1 in
+    let same3 = (c.read_snapshot.ensures.reads.rests h2).bytes ∙ same2 in
     let found = c.in_ok-log.ensures.found h3 in
     let size : (g.D.Disk.state c.args.disk.now).size ≡ 163856 = search rules in
-    pair _ _ c.in_ok-slot.slot _ (law.sized _ law.current ∙ size)
+    contents _ _ c.in_ok-slot.slot _ (law.sized _ law.current ∙ size)
     (subst (λ (f : List ℕ). IsHeader f c.in_ok-slot.slot) same1 (c.in_ok-slot.ensures.header h1))
     (subst (λ (s : ℕ). IsSnapshot (g.D.Disk.state c.args.disk.now).bytes s c.in_ok-snap.snap) c.start-start.ensures (subst (λ (f : List ℕ). IsSnapshot f c.start-start.result c.in_ok-snap.snap) same2 (c.in_ok-snap.ensures.snap h2)))
     (subst (λ (s : ℕ). IsLog c.in_ok-log.log.records.items (part (s + 16384) 65536 (g.D.Disk.state c.args.disk.now).bytes)) c.start-start.ensures (subst (λ (f : List ℕ). IsLog c.in_ok-log.log.records.items (part (c.start-start.result + 16384) 65536 f)) same3 found.0))
@@ -37,11 +37,11 @@ returns-clause-holds g c = λ h.
 pub returns-in_err-log-clause-damaged : goal.returns-in_err-log-clause-damaged
 returns-in_err-log-clause-damaged g c = λ h told snap records held.
     let h1 = c.sync.ensures.call.honest.1 h in
-    let h2 = c.read_header.ensures.tells.honest.1 h1 in
-    let h3 = c.read_snapshot.ensures.tells.honest.1 h2 in
+    let h2 = c.read_header.ensures.reads.tells.honest.1 h1 in
+    let h3 = c.read_snapshot.ensures.reads.tells.honest.1 h2 in
     let same1 = (c.sync.ensures.honest h).bytes in
-    let same2 = (c.read_header.ensures.rests h1).bytes ∙ same1 in
-    let same3 = (c.read_snapshot.ensures.rests h2).bytes ∙ same2 in
+    let same2 = (c.read_header.ensures.reads.rests h1).bytes ∙ same1 in
+    let same3 = (c.read_snapshot.ensures.reads.rests h2).bytes ∙ same2 in
     let header = subst (λ (f : List ℕ). IsHeader f c.in_ok-slot.slot) same1 (c.in_ok-slot.ensures.header h1) in
     let damaged : IsErrOf c.read_log.result Damaged = search rules in
     let log = subst (λ (s : ℕ). IsLog records (part (s + 16384) 65536 (g.D.Disk.state c.args.disk.now).bytes)) (ap start_of header.active ∙ sym c.start-start.ensures) held.log in

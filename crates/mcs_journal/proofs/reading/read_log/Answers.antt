@@ -2,22 +2,25 @@ use Rattle.std.proofs.Common.{rules, ◌≡◌, ◌≢◌, ◌≤◌, ◌+◌, �
 use Rattle.mcs_journal.specs.declared.fault.OpenFault.TheVariants.{Damaged}
 use Rattle.mcs_disk.specs.Disk.{part}
 use Rattle.mcs_journal.specs.Writing.{IsNext, IsNoRecord}
-use Rattle.mcs_disk.proofs.Composing.{rests_then}
+use Rattle.mcs_disk.proofs.Composing.{reads_as, reads_then}
 use Rattle.mcs_journal.proofs.Walk.{IsPrefix, one_more, ends, no_log}
 use Rattle.mcs_journal.proofs.reading.read_log.Goals as goal
 
-pub returns-in_err-push-clause-rests : goal.returns-in_err-push-clause-rests
-returns-in_err-push-clause-rests g c = λ h. rests_then _ _ _ (c.loop-records.invariant.rests h) (c.read_record.ensures.rests (c.loop-records.invariant.honest.1 h))
+pub returns-in_err-record-clause-reads : goal.returns-in_err-record-clause-reads
+returns-in_err-record-clause-reads g c = reads_then _ (g.D.Disk.state c.loop-records.disk) _ ⊥ _ (λ no. no) c.loop-records.invariant.reads (search rules)
 
-pub returns-clause-rests : goal.returns-clause-rests
-returns-clause-rests g c = λ h. rests_then _ _ _ (c.loop-records.invariant.rests h) (c.read_record.ensures.rests (c.loop-records.invariant.honest.1 h))
+pub returns-in_err-push-clause-reads : goal.returns-in_err-push-clause-reads
+returns-in_err-push-clause-reads g c = reads_then _ (g.D.Disk.state c.loop-records.disk) _ ⊥ _ (λ no. no) c.loop-records.invariant.reads (search rules)
+
+pub returns-clause-reads : goal.returns-clause-reads
+returns-clause-reads g c = reads_then _ _ _ ⊥ _ (λ no. no) c.loop-records.invariant.reads (reads_as _ _ _ _ (λ failed. cc) (λ failed. cc) c.in_ok-record.ensures.reads)
 
 pub returns-clause-found : goal.returns-clause-found
 returns-clause-found g c = λ h.
     let law = g.met.D.Disk.lawful c.args.disk.now h in
     let so_far = c.loop-records.invariant.walked h in
-    let same = (c.loop-records.invariant.rests h).bytes in
-    let shut = c.in_ok-record.ensures.closed (c.loop-records.invariant.honest.1 h) in
+    let same = (c.loop-records.invariant.reads.rests h).bytes in
+    let shut = c.in_ok-record.ensures.closed (c.loop-records.invariant.reads.tells.honest.1 h) in
     let not_one : get_or (g.D.Disk.state c.loop-records.disk).bytes (c.args.at + c.loop-records.used) 0 ≢ 1 = search rules in
     (ends (g.D.Disk.state c.args.disk.now).bytes c.args.at (omega (arith, law.sized _ law.current, c.requires.inside)) _ _ so_far (λ one. not_one (ap (λ (b : List ℕ). get_or b (c.args.at + c.loop-records.used) 0) same ∙ one)) (omega arith), so_far.count)
 
@@ -25,24 +28,19 @@ pub returns-in_err-record-clause-damaged : goal.returns-in_err-record-clause-dam
 returns-in_err-record-clause-damaged g c = λ h damaged records is_log.
     let law = g.met.D.Disk.lawful c.args.disk.now h in
     let so_far = c.loop-records.invariant.walked h in
-    let same = (c.loop-records.invariant.rests h).bytes in
+    let same = (c.loop-records.invariant.reads.rests h).bytes in
     let told : IsErrOf c.read_record.result Damaged = search rules in
-    let said = c.read_record.ensures.damaged (c.loop-records.invariant.honest.1 h) told in
+    let said = c.read_record.ensures.damaged (c.loop-records.invariant.reads.tells.honest.1 h) told in
     no_log (g.D.Disk.state c.args.disk.now).bytes c.args.at (omega (arith, law.sized _ law.current, c.requires.inside)) _ _ so_far (omega arith) (subst (λ (b : List ℕ). IsNoRecord b (c.args.at + c.loop-records.used) (65536 - c.loop-records.used)) same said) records is_log
 
 pub loop-records-preserved : goal.loop-records-preserved
 loop-records-preserved g c = record {
-  size = c.in_ok-record.ensures.tells.size ∙ c.loop-records.invariant.size;
-  honest = (λ h. c.loop-records.invariant.honest.0 (c.read_record.ensures.tells.honest.0 h), λ h. c.read_record.ensures.tells.honest.1 (c.loop-records.invariant.honest.1 h));
-  faults = c.in_ok-record.ensures.tells.no_fault (λ no. cc) ∙ c.loop-records.invariant.faults;
-  unwritten = c.read_record.ensures.unwritten ∙ c.loop-records.invariant.unwritten;
-  rests = λ h. rests_then _ _ _ (c.loop-records.invariant.rests h) (c.read_record.ensures.rests (c.loop-records.invariant.honest.1 h));
-  durable = λ h d. c.in_ok-record.ensures.durable (c.loop-records.invariant.honest.1 h) (c.loop-records.invariant.durable h d);
+  reads = reads_then _ _ _ ⊥ _ (λ no. no) c.loop-records.invariant.reads (reads_as _ _ _ _ (λ failed. cc) (λ no. absurd no) c.in_ok-record.ensures.reads);
   within = omega (arith, room, long, c.loop-records.invariant.within);
   walked = λ h.
       let law = g.met.D.Disk.lawful c.args.disk.now h in
-      let same = (c.loop-records.invariant.rests h).bytes in
-      let next = rw c.in-Some.is at c.in_ok-record.ensures.next (c.loop-records.invariant.honest.1 h) in
+      let same = (c.loop-records.invariant.reads.rests h).bytes in
+      let next = rw c.in-Some.is at c.in_ok-record.ensures.next (c.loop-records.invariant.reads.tells.honest.1 h) in
       let more = one_more (g.D.Disk.state c.args.disk.now).bytes c.args.at (omega (arith, law.sized _ law.current, c.requires.inside)) c.loop-records.records.items c.loop-records.used c.in-Some.record (c.loop-records.invariant.walked h)
       (subst (λ (b : List ℕ). IsNext b (c.args.at + c.loop-records.used) c.in-Some.record) same next) room in
       let log = part c.args.at 65536 (g.D.Disk.state c.args.disk.now).bytes in

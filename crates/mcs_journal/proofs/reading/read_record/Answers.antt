@@ -9,8 +9,8 @@ pub returns-then-len-eq0-clause-damaged : goal.returns-then-len-eq0-clause-damag
 returns-then-len-eq0-clause-damaged g c = λ h told.
     let f = (g.D.Disk.state c.args.disk.now).bytes in
     let commit_byte = c.in_ok-read_at.ensures.given h in
-    let first = c.read_at.ensures.rests h in
-    let prefix = c.in_ok-read_at-2.ensures.given (c.read_at.ensures.call.honest.1 h) ∙ ap (part (c.args.at + 1) 2) first.bytes in
+    let first = c.read_at.ensures.reads.rests h in
+    let prefix = c.in_ok-read_at-2.ensures.given (c.read_at.ensures.reads.tells.honest.1 h) ∙ ap (part (c.args.at + 1) 2) first.bytes in
     no_record f c.args.at c.args.room _ _ _ commit_byte (search rules) prefix refl (λ some few fits. elim c.then-len-eq0.branch [
       | then-len-eq0-via-then-len-eq0 w ↦ omega arith
       | then-len-eq0-via-else-len-eq0+then-len-gt-MOST_RECORD w ↦ omega arith
@@ -21,10 +21,10 @@ pub returns-clause-next : goal.returns-clause-next
 returns-clause-next g c = λ h.
     let f = (g.D.Disk.state c.args.disk.now).bytes in
     let commit_byte = c.in_ok-read_at.ensures.given h in
-    let first = c.read_at.ensures.rests h in
-    let h1 = c.read_at.ensures.call.honest.1 h in
-    let second = c.read_at-2.ensures.rests h1 in
-    let h2 = c.read_at-2.ensures.call.honest.1 h1 in
+    let first = c.read_at.ensures.reads.rests h in
+    let h1 = c.read_at.ensures.reads.tells.honest.1 h in
+    let second = c.read_at-2.ensures.reads.rests h1 in
+    let h2 = c.read_at-2.ensures.reads.tells.honest.1 h1 in
     let prefix = c.in_ok-read_at-2.ensures.given h1 ∙ ap (part (c.args.at + 1) 2) first.bytes in
     let payload = c.in_ok-read_at-3.ensures.given h2 in
     let n : ℕ = get_or c.read_at-2.new.into 0 0 * 256 + get_or c.read_at-2.new.into 1 0 in

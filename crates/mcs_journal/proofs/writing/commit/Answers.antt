@@ -1,7 +1,8 @@
 use Rattle.std.proofs.Common.{◌≡◌, inl, inr, ⊎_elim, ◌≤◌, ◌+◌, List, ℕ, length, sym, ◌∙◌, ap, subst, arith}
 use Rattle.std.proofs.lemmas.Result.{on_ok_weaker}
 use Rattle.mcs_disk.specs.Disk.{part, Torn, Only}
-use Rattle.mcs_journal.proofs.OnOk.{ok_both, either}
+use Rattle.mcs_disk.proofs.Composing.{later_then}
+use Rattle.mcs_journal.proofs.OnOk.{ok_both}
 use Rattle.mcs_journal.proofs.writing.commit.Goals as goal
 
 pub returns-clause-commits : goal.returns-clause-commits
@@ -19,9 +20,9 @@ returns-clause-commits g c = λ h.
     let wrote_ok = c.in_ok-write.ensures.honest h in
     let synced = c.sync.ensures.honest h_mid in
     let tick : mid.clock ≡ old.clock + 1 = wrote_ok.time.ticks in
-    let later : old.clock ≤ new.clock = either r _ _ (λ (two : new.clock ≡ mid.clock + 1). omega (arith, two, tick)) (λ (two : new.clock ≡ mid.clock). omega (arith, two, tick)) synced.time.ticks synced.time.stands in
-    let here : (x : List ℕ) → new.images x → new.since old.clock x = λ x now. new_law.counts_now old.clock x later now in
-    let here_first : (x : List ℕ) → mid.images x → new.since old.clock x = λ x now. synced.time.keeps old.clock x (omega (arith, tick)) (mid_law.counts_now old.clock x (omega (arith, tick)) now) in
+    let later = later_then old mid new wrote.time.later synced.time.later in
+    let here : (x : List ℕ) → new.images x → new.since old.clock x = λ x now. new_law.counts_now old.clock x later.clock now in
+    let here_first : (x : List ℕ) → mid.images x → new.since old.clock x = λ x now. synced.time.later.keeps old.clock x wrote.time.later.clock (mid_law.counts_now old.clock x wrote.time.later.clock now) in
     record {
       written = on_ok_weaker r (λ (_ : new.clock ≡ mid.clock + 1). ap (part at n) synced.bytes ∙ wrote_ok.written) synced.time.ticks;
       outside = subst (Torn at n old.bytes) (sym synced.bytes) wrote.outside;
@@ -33,5 +34,4 @@ returns-clause-commits g c = λ h.
           (λ s1. ⊎_elim (λ past. inl past) (λ now. inr (here_first x now, wrote.images x now)) (wrote.time.nothing_else t x le s1))
           (λ now. inr (here x now, wrote.images x (synced.images x now)))
           (synced.time.nothing_else t x (omega (arith, tick, le)) s);
-      keeps = λ t x le s. synced.time.keeps t x (omega (arith, tick, le)) (wrote.time.keeps t x le s);
     }

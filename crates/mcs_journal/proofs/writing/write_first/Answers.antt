@@ -1,35 +1,35 @@
-use Rattle.std.proofs.Common.{◌≡◌, List, ℕ, length, sym, ◌∙◌, subst}
+use Rattle.std.proofs.Common.{◌≡◌, inr, List, [], ℕ, length, get_or, sym, ◌∙◌, ap, arith}
 use Rattle.std.proofs.lemmas.Result.{on_ok_weaker}
 use Rattle.mcs_disk.specs.Disk.{Torn, part}
+use Rattle.mcs_journal.specs.File.{Holds, slot_of, slot_named, start_of}
+use Rattle.mcs_journal.specs.Writing.{IsArea}
 use Rattle.mcs_journal.specs.declared.format.TheConstants.{FIRST_HEADER}
-use Rattle.mcs_journal.proofs.Creating.{made, named}
+use Rattle.mcs_journal.specs.declared.slot.Slot.TheVariants.{A}
+use Rattle.mcs_journal.proofs.Contents.{area_holds}
+use Rattle.mcs_journal.proofs.Parts.{part_at, part_part, part_same}
 use Rattle.mcs_journal.proofs.writing.write_first.Goals as goal
 
-resize : (at place m n : ℕ) (f c : List ℕ) → at ≡ place → m ≡ n → Torn at m f c → Torn place n f c
-resize at place m n f c there same torn = subst (λ (p : ℕ). Torn p n f c) there (subst (λ (k : ℕ). Torn at k f c) same torn)
+named : (c : List ℕ) → part 0 16 c ≡ FIRST_HEADER → slot_of c ≡ A
+named c header = ap slot_named (sym (part_at 0 16 c 8 (omega arith)) ∙ ap (λ (l : List ℕ). get_or l 8 0) header)
+
+-- a header that names the first slot, written where the area stands
+made : (g c snap area : List ℕ) → length c ≡ 163856 → IsArea snap area → part 16 16385 g ≡ area → Torn 0 16 g c → part 0 16 c ≡ FIRST_HEADER → Holds c snap []
+made g c snap area long is_area there torn header =
+    area_holds c snap area long
+    (sym (part_part 0 16 0 8 16 c (omega arith) (omega arith)) ∙ ap (part 0 8) header)
+    (sym (part_part 0 16 9 7 7 c (omega arith) (omega arith)) ∙ ap (part 9 7) header)
+    is_area (ap (λ (s : ℕ). part s 16385 c) (ap start_of (named c header)) ∙ part_same 0 16 16 16385 g c torn (inr (omega arith)) ∙ there)
 
 pub returns-clause-made : goal.returns-clause-made
 returns-clause-made g c = λ h.
-    let old = g.D.Disk.state c.args.disk.now in
-    let mid = g.D.Disk.state c.commit.new.disk in
-    let new = g.D.Disk.state c.commit-2.new.disk in
-    let law = g.met.D.Disk.lawful c.args.disk.now h in
+    let mid = c.commit.ensures.call.honest.1 h in
+    let law = g.met.D.Disk.lawful c.commit-2.new.disk (c.commit-2.ensures.call.honest.1 mid) in
     let area = c.encode_snapshot.ensures in
     let step = c.in_ok-commit.ensures.commits h in
-    let last = c.commit-2.ensures.commits (c.commit.ensures.call.honest.1 h) in
-    let sized : length old.bytes ≡ 163856 = law.sized old.bytes law.current ∙ c.requires.size in
-    let there : part 16 16385 mid.bytes ≡ c.encode_snapshot.new.buffer = (λ k. part (sym c.start.ensures k) (sym area.long k) mid.bytes) ∙ step.written in
-    on_ok_weaker _ (λ (here : part 0 16 new.bytes ≡ FIRST_HEADER). made old.bytes mid.bytes new.bytes c.args.snap.now c.encode_snapshot.new.buffer sized area (resize _ _ _ _ _ _ c.start.ensures area.long step.outside) there last.outside here) last.written
+    let last = c.commit-2.ensures.commits mid in
+    let there : part 16 16385 (g.D.Disk.state c.commit.new.disk).bytes ≡ c.encode_snapshot.new.buffer = (λ k. part (sym c.start.ensures k) (sym area.long k) (g.D.Disk.state c.commit.new.disk).bytes) ∙ step.written in
+    on_ok_weaker _ (λ (here : part 0 16 (g.D.Disk.state c.commit-2.new.disk).bytes ≡ FIRST_HEADER).
+    made _ _ _ _ (law.sized _ law.current ∙ c.commit-2.ensures.call.size ∙ c.commit.ensures.call.size ∙ c.requires.size) area there last.outside here) last.written
 
 pub returns-clause-named : goal.returns-clause-named
-returns-clause-named g c = λ h.
-    let old = g.D.Disk.state c.args.disk.now in
-    let mid = g.D.Disk.state c.commit.new.disk in
-    let new = g.D.Disk.state c.commit-2.new.disk in
-    let law = g.met.D.Disk.lawful c.args.disk.now h in
-    let area = c.encode_snapshot.ensures in
-    let step = c.in_ok-commit.ensures.commits h in
-    let last = c.commit-2.ensures.commits (c.commit.ensures.call.honest.1 h) in
-    let sized : length old.bytes ≡ 163856 = law.sized old.bytes law.current ∙ c.requires.size in
-    let there : part 16 16385 mid.bytes ≡ c.encode_snapshot.new.buffer = (λ k. part (sym c.start.ensures k) (sym area.long k) mid.bytes) ∙ step.written in
-    on_ok_weaker _ (λ (here : part 0 16 new.bytes ≡ FIRST_HEADER). named old.bytes mid.bytes new.bytes c.args.snap.now c.encode_snapshot.new.buffer sized area (resize _ _ _ _ _ _ c.start.ensures area.long step.outside) there last.outside here) last.written
+returns-clause-named g c = λ h. on_ok_weaker _ (λ (here : part 0 16 (g.D.Disk.state c.commit-2.new.disk).bytes ≡ FIRST_HEADER). named _ here) (c.commit-2.ensures.commits (c.commit.ensures.call.honest.1 h)).written

@@ -1,9 +1,9 @@
 use Rattle.std.proofs.Common.{List, ℕ, length, ◌∙◌, ap}
 use Rattle.mcs_journal.specs.File.{frames_of}
-use Rattle.mcs_journal.proofs.Unique.{same_pair}
+use Rattle.mcs_journal.proofs.Unique.{same_records}
 use Rattle.mcs_journal.proofs.store.Store.has_room.Goals as goal
 
 pub returns-clause-used : goal.returns-clause-used
 returns-clause-used g c = rw (← c.self.view_is) (λ live h snap records held.
     let intact = c.self.invariant.intact live h in
-    intact.count ∙ ap (λ (l : List (List ℕ)). length (frames_of l)) (same_pair _ _ _ _ _ intact.holds held))
+    intact.count ∙ ap (λ (l : List (List ℕ)). length (frames_of l)) (same_records _ _ _ _ _ intact.holds held))

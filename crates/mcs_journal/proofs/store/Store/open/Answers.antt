@@ -9,7 +9,7 @@ pub returns-then-size-ne-FILE_SIZE-clause-refused : goal.returns-then-size-ne-FI
 returns-then-size-ne-FILE_SIZE-clause-refused g c = λ h. (inl (λ same. c.if-size-ne-FILE_SIZE.true (c.size.ensures ∙ same)), rests_still _)
 
 pub returns-in-Err-read_contents-clause-refusal_counts : goal.returns-in-Err-read_contents-clause-refusal_counts
-returns-in-Err-read_contents-clause-refusal_counts g c = counts_err _ _ _ Device _ c.in-Err-read_contents.is c.read_contents.ensures.tells
+returns-in-Err-read_contents-clause-refusal_counts g c = counts_err _ _ _ Device _ c.in-Err-read_contents.is c.read_contents.ensures.reads.tells
 
 pub returns-in-Err-read_contents-clause-refused : goal.returns-in-Err-read_contents-clause-refused
 returns-in-Err-read_contents-clause-refused g c = λ h. (
@@ -17,23 +17,23 @@ returns-in-Err-read_contents-clause-refused g c = λ h. (
       (λ fault. c.read_contents.ensures.no_session h (c.in-Err-read_contents.is ∙ ap Err fault))
       (λ fault. c.read_contents.ensures.session h (c.in-Err-read_contents.is ∙ ap Err fault))
       (λ fault. c.read_contents.ensures.damaged h (c.in-Err-read_contents.is ∙ ap Err fault)),
-  c.read_contents.ensures.rests h,
+  c.read_contents.ensures.reads.rests h,
 )
 
 pub returns-in-Ok-read_contents-clause-counts : goal.returns-in-Ok-read_contents-clause-counts
-returns-in-Ok-read_contents-clause-counts g c = counts_ok _ _ _ Device _ c.in-Ok-read_contents.is c.read_contents.ensures.tells
+returns-in-Ok-read_contents-clause-counts g c = counts_ok _ _ _ Device _ c.in-Ok-read_contents.is c.read_contents.ensures.reads.tells
 
 pub returns-in-Ok-read_contents-clause-opened : goal.returns-in-Ok-read_contents-clause-opened
-returns-in-Ok-read_contents-clause-opened g c = λ h. record { holds = c.in-Ok-read_contents.ensures.holds h; rests = c.read_contents.ensures.rests h; durable = c.in-Ok-read_contents.ensures.durable h }
+returns-in-Ok-read_contents-clause-opened g c = λ h. record { holds = c.in-Ok-read_contents.ensures.holds h; rests = c.read_contents.ensures.reads.rests h; durable = c.in-Ok-read_contents.ensures.durable h }
 
 pub invariant_of-store : goal.invariant_of-store
 invariant_of-store g c = record {
-  disk_size = c.read_contents.ensures.tells.size ∙ sym c.size.ensures ∙ c.if-size-ne-FILE_SIZE.false;
+  disk_size = c.read_contents.ensures.reads.tells.size ∙ sym c.size.ensures ∙ c.if-size-ne-FILE_SIZE.false;
   within = c.in-Ok-read_contents.ensures.within;
   room = search rules;
   intact = λ live h.
-      let was = c.read_contents.ensures.tells.honest.0 h in
-      let same = (c.read_contents.ensures.rests was).bytes in
+      let was = c.read_contents.ensures.reads.tells.honest.0 h in
+      let same = (c.read_contents.ensures.reads.rests was).bytes in
       record {
         durable = c.in-Ok-read_contents.ensures.durable was;
         active = ap slot_of same ∙ c.in-Ok-read_contents.ensures.active was;

@@ -1,4 +1,4 @@
-use Rattle.mcs_journal.proofs.Refusing.{counts_then}
+use Rattle.mcs_disk.proofs.Composing.{counts_then}
 use Rattle.mcs_session.proofs.Files.{failed_by, held_on, left_store, opened_by, recorded_by, refused_by, refuses_pair, refuses_store}
 use Rattle.mcs_session.proofs.session.Session.open.Goals as goal
 
@@ -13,7 +13,7 @@ begin-requires-clause-held g c = λ honest.
     record { snap = _; records = _; holds = held_on _ _ _ _ (c.in-Ok-open.ensures.opened was) }
 
 pub returns-in-Ok-begin-clause-counts : goal.returns-in-Ok-begin-clause-counts
-returns-in-Ok-begin-clause-counts g c = counts_then _ _ _ ⊥ c.in-Ok-open.ensures.counts c.in-Ok-begin.ensures.counts
+returns-in-Ok-begin-clause-counts g c = counts_then _ _ _ ⊥ ⊥ (λ no. no) c.in-Ok-open.ensures.counts c.in-Ok-begin.ensures.counts
 
 pub returns-in-Ok-begin-clause-opened : goal.returns-in-Ok-begin-clause-opened
 returns-in-Ok-begin-clause-opened g c = λ honest.
