@@ -173,8 +173,8 @@ rom_codec = block_codec (four_steps rom_end) (record { made = rom_made; unmade =
 
 pub chain_codec : IsCodec chain_bytes (λ _. Unit {0}) chain_at
 unfolding chain_at
-chain_codec = giving_codec (λ p. record { clock = p.0; data_in = p.1.0; chips = p.1.1 }) (λ c. (c.clock, (c.data_in, c.chips))) chain_bytes (λ _. Unit {0})
-    (next _ line_codec (λ _ _. next _ line_codec (λ _ _. last _ any_codec))) (λ p h. (refl, tt)) (λ c h. (refl, (tt, (tt, tt))))
+chain_codec = giving_codec (λ p. record { clock = p.0; data_in = p.1.0; chips = p.1.1 }) chain_bytes (λ _. Unit {0})
+    (next _ line_codec (λ _ _. next _ line_codec (λ _ _. last _ any_codec))) (λ p h. (refl, tt)) (λ c h. ((c.clock, (c.data_in, c.chips)), refl, (tt, (tt, tt))))
 
 -- the spelling of a key matrix, after its flag
 abbrev matrix_text : KeyMatrix → List ℕ
@@ -182,8 +182,8 @@ matrix_text m = m.chain ∷ m.first ∷ m.rows ∷ counted_bytes board_line_byte
 
 matrix_codec : IsCodec matrix_text (λ m. IsKeys (Some m)) matrix_at
 unfolding matrix_at
-matrix_codec = giving_codec (λ p. record { chain = p.0; first = p.1.0; rows = p.1.1.0; columns = record { items = p.1.1.1 } }) (λ m. (m.chain, (m.first, (m.rows, m.columns.items)))) matrix_text (λ m. IsKeys (Some m))
-    (next _ any_codec (λ _ _. next _ any_codec (λ _ _. next _ any_codec (λ _ _. last _ (any_counted_codec 8 (omega arith) line_codec))))) (λ p h. (refl, h.1.1.1)) (λ m h. (refl, (tt, (tt, (tt, h)))))
+matrix_codec = giving_codec (λ p. record { chain = p.0; first = p.1.0; rows = p.1.1.0; columns = record { items = p.1.1.1 } }) matrix_text (λ m. IsKeys (Some m))
+    (next _ any_codec (λ _ _. next _ any_codec (λ _ _. next _ any_codec (λ _ _. last _ (any_counted_codec 8 (omega arith) line_codec))))) (λ p h. (refl, h.1.1.1)) (λ m h. ((m.chain, (m.first, (m.rows, m.columns.items))), refl, (tt, (tt, (tt, h)))))
 
 keys_takes : (bytes : List ℕ) (x : Option KeyMatrix × List ℕ) → IsBytes bytes → keys_at bytes ≡ Some x → (bytes ≡ keys_bytes x.0 ++ x.1) × IsKeys x.0
 unfolding keys_at
@@ -204,11 +204,10 @@ keys_codec = record { takes = keys_takes; again = keys_again }
 
 pub parts_codec : IsCodec board_bytes HasLengths parts_at
 unfolding parts_at
-parts_codec = giving_codec (λ p. record { roms = p.0; banks = p.1.0; chains = record { items = p.1.1.0 }; keys = p.1.1.1.0; lamps = record { items = p.1.1.1.1 } })
-    (λ b. (b.roms, (b.banks, (b.chains.items, (b.keys, b.lamps.items))))) board_bytes HasLengths
+parts_codec = giving_codec (λ p. record { roms = p.0; banks = p.1.0; chains = record { items = p.1.1.0 }; keys = p.1.1.1.0; lamps = record { items = p.1.1.1.1 } }) board_bytes HasLengths
     (next _ (many_codec 16 rom_codec) (λ _ _. next _ (bytes_codec 8) (λ _ _. next _ (any_counted_codec CHAINS (omega arith) chain_codec) (λ _ _. next _ keys_codec (λ _ _. last _ (any_counted_codec 64 (omega arith) line_codec))))))
-    (λ p h. (refl, record { roms = h.0.0; masks = h.0.1; banks = (h.1.0.len, h.1.0.small); chains = h.1.1.0; keys = h.1.1.1.0; lamps = h.1.1.1.1 }))
-    (λ b h. (refl, ((h.roms, h.masks), (record { len = h.banks.0; small = h.banks.1 }, (h.chains, (h.keys, h.lamps))))))
+    (λ p h. (refl, record { roms = h.0.0; masks = h.0.1; banks = h.1.0; chains = h.1.1.0; keys = h.1.1.1.0; lamps = h.1.1.1.1 }))
+    (λ b h. ((b.roms, (b.banks, (b.chains.items, (b.keys, b.lamps.items)))), refl, ((h.roms, h.masks), (h.banks, (h.chains, (h.keys, h.lamps))))))
 
 no_fault : (o : Option BoardFault) → is_none o ≡ true → o ≡ None
 no_fault None e = refl

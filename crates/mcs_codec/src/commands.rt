@@ -90,7 +90,7 @@ fn put_command(command: &Command, out: &mut [u8], at: usize) -> usize
     }
 }
 
-/// Spells a command at the front of these bytes, and answers how many it took: 1 to 4,609. Nothing
+/// Puts a command at the front of these bytes, and answers how many it took: 1 to 4,609. Nothing
 /// is said of those after.
 pub fn command_bytes(command: &Command, into: &mut [u8]) -> usize
     requires lent { COMMAND_BYTES ≤ length into.old }
