@@ -1,5 +1,5 @@
 -- The law of an image: a map of its addresses, and its bytes.
-use Rattle.std.proofs.Common.{◌≡◌, ℕ, zero, suc, ◌+◌, ◌*◌, ◌/◌, ◌%◌, ◌^◌, ◌<◌, ◌≤◌, Bool, true, false, cond, eqb, List, [], ◌∷◌, ◌++◌, length, get_or, slice_set, take, get_or-set_other, map, Some, refl, sym, ap, subst, ◌∙◌, arith, inl, inr, ◌⊎◌}
+use Rattle.std.proofs.Common.{◌≡◌, ℕ, zero, suc, ◌+◌, ◌*◌, ◌/◌, ◌%◌, ◌^◌, ◌<◌, ◌≤◌, Bool, true, false, cond, eqb, List, [], ◌∷◌, ◌++◌, length, get_or, slice_set, take, get_or-set_other, map, refl, sym, ap, ◌∙◌, arith, inl, inr, ◌⊎◌}
 use Rattle.std.specs.Prelude.{◌||◌, ◌≢◌}
 use Rattle.std.specs.List.{list_any, All}
 use Rattle.std.proofs.lemmas.List.{length-append, length-map, take_more}
@@ -12,11 +12,10 @@ use Rattle.std.proofs.lemmas.Bool.Decides.{nat_tests}
 use Rattle.mcs_nibble.specs.Bits.{bit_of}
 use Rattle.mcs_nibble.specs.Tables.{table_of}
 use Rattle.mcs_nibble.proofs.TabledLemmas.{tabled_from, get_or-tabled, length-tabled}
-use Rattle.mcs_codec.specs.Reading.{◌>>=◌, giving, byte_at}
 use Rattle.mcs_model.specs.Images.{IsImage}
 use Rattle.mcs_codec.specs.CommandBytes.{mark, byte_of, map_bytes, image_bytes, values}
 use Rattle.mcs_codec.specs.CommandReading.{map_bit_at, addressed_at, image_at}
-use Rattle.mcs_codec.proofs.Codecs.{AreCells, IsCodec, IsBytes, IsBytes-rest, then_some, byte_codec, cells_codec, next, tail, giving_codec, refit_codec}
+use Rattle.mcs_codec.proofs.Codecs.{AreCells, IsCodec, byte_codec, cells_codec, last, next, no_step, tail, giving_codec, refit_codec}
 
 -- by rising address from one on, below a limit
 abbrev pub AreFrom : ℕ → ℕ → List (ℕ × ℕ) → Type 0
@@ -43,6 +42,9 @@ own_mark p image x is = let e : eqb p.0 x ≡ true = grind (arith, nat_tests) in
 later_mark : (p : ℕ × ℕ) (image : List (ℕ × ℕ)) (x : ℕ) → p.0 < x → mark (p ∷ image) x ≡ mark image x
 later_mark p image x lt = rw (unequal p.0 x lt) refl
 
+zero_one : (n : ℕ) → n ≡ 0 → n ≡ 1 → ⊥
+zero_one n h k = omega arith
+
 from_lower : (image : List (ℕ × ℕ)) (low limit : ℕ) → AreFrom (low + 1) limit image → AreFrom low limit image
 from_lower [] low limit h = tt
 from_lower (p ∷ image) low limit h = (omega (arith, h.0), h.1, h.2, h.3)
@@ -57,66 +59,57 @@ bit_cases marks at =
 above : (at v : ℕ) → at ≤ v → (at < v) ⊎ (v ≡ at)
 above at v le = elim (cases_lt at v) [ inl lt ↦ inl lt | inr ge ↦ inr (omega arith) ]
 
-addressed_takes : (marks : List ℕ) (n at limit : ℕ) (bytes : List ℕ) (x : List (ℕ × ℕ) × List ℕ) → at + n ≡ limit → IsBytes bytes → addressed_at marks n at bytes ≡ Some x
-    → (bytes ≡ values x.0 ++ x.1) × (AreFrom at limit x.0 × IsMarked marks at limit x.0)
+-- what is read of the addresses from one on, below a limit
+abbrev IsRead : List ℕ → ℕ → ℕ → List (ℕ × ℕ) → Type 0
+IsRead marks at limit image = AreFrom at limit image × IsMarked marks at limit image
+
+none_read : (marks : List ℕ) (at limit : ℕ) (image : List (ℕ × ℕ)) → limit ≤ at → IsRead marks at limit image → (u : Unit {0}) × ([] ≡ image) × Unit {0}
+none_read marks at limit [] le h = (tt, refl, tt)
+none_read marks at limit (p ∷ image) le h = absurd (omega (arith, h.0.0, h.0.1))
+
+-- an address that has a mark
+some_read : (marks : List ℕ) (at limit : ℕ) (p : ℕ × List (ℕ × ℕ)) → at < limit → map_bit_at marks at ≡ 1 → (p.0 < 256) × IsRead marks (at + 1) limit p.1 → IsRead marks at limit ((at, p.0) ∷ p.1)
+some_read marks at limit p lt one h = (
+  (omega arith, lt, h.0, h.1.0),
+  λ v le below. elim (above at v le) [
+    | inl more ↦ later_mark (at, p.0) p.1 v more ∙ h.1.1 v (omega arith) below
+    | inr is ↦ own_mark (at, p.0) p.1 v (sym is) ∙ sym one ∙ ap (map_bit_at marks) (sym is)
+  ],
+)
+
+read_some : (marks : List ℕ) (at limit : ℕ) (image : List (ℕ × ℕ)) → at < limit → map_bit_at marks at ≡ 1 → IsRead marks at limit image → (p : ℕ × List (ℕ × ℕ)) × ((at, p.0) ∷ p.1 ≡ image) × ((p.0 < 256) × IsRead marks (at + 1) limit p.1)
+read_some marks at limit [] lt one h = absurd (zero_one (map_bit_at marks at) (sym (h.1 at (omega arith) lt)) one)
+read_some marks at limit (p ∷ image) lt one h = elim (above at p.0 h.0.0) [
+  | inl more ↦ absurd (zero_one (map_bit_at marks at) (sym (h.1 at (omega arith) lt) ∙ no_mark (p ∷ image) p.0 limit at (omega arith, h.0.1, h.0.2, h.0.3) more) one)
+  | inr is ↦ ((p.1, image), ap (λ n. (n, p.1) ∷ image) (sym is), (h.0.2, (rw is at h.0.3, λ v le below. sym (later_mark p image v (omega arith)) ∙ h.1 v (omega arith) below)))
+]
+
+-- an address that has none
+one_passed : (marks : List ℕ) (at limit : ℕ) (image : List (ℕ × ℕ)) → map_bit_at marks at ≡ 0 → IsRead marks (at + 1) limit image → IsRead marks at limit image
+one_passed marks at limit image none h = (
+  from_lower image at limit h.0,
+  λ v le below. elim (above at v le) [
+    | inl more ↦ h.1 v (omega arith) below
+    | inr is ↦ rw is (no_mark image (at + 1) limit at h.0 (omega arith) ∙ sym none)
+  ],
+)
+
+pass_one : (marks : List ℕ) (at limit : ℕ) (image : List (ℕ × ℕ)) → at < limit → map_bit_at marks at ≡ 0 → IsRead marks at limit image → IsRead marks (at + 1) limit image
+pass_one marks at limit [] lt none h = (tt, λ v le below. h.1 v (omega arith) below)
+pass_one marks at limit (p ∷ image) lt none h = elim (above at p.0 h.0.0) [
+  | inl more ↦ ((omega arith, h.0.1, h.0.2, h.0.3), λ v le below. h.1 v (omega arith) below)
+  | inr is ↦ absurd (zero_one (mark (p ∷ image) at) (h.1 at (omega arith) lt ∙ none) (own_mark p image at is))
+]
+
+addressed_codec : (marks : List ℕ) (n at limit : ℕ) → at + n ≡ limit → IsCodec values (IsRead marks at limit) (addressed_at marks n at)
 unfolding addressed_at
-addressed_takes marks zero at limit bytes x k all e =
-    let same : ([], bytes) ≡ x = cc in
-    subst (λ (y : List (ℕ × ℕ) × List ℕ). (bytes ≡ values y.0 ++ y.1) × (AreFrom at limit y.0 × IsMarked marks at limit y.0)) same (refl, (tt, λ v le lt. absurd (omega arith)))
-addressed_takes marks (suc n) at limit bytes x k all e =
+addressed_codec marks zero at limit k = giving_codec (λ (_ : Unit {0}). []) values (IsRead marks at limit) (no_step _) (λ u h. (refl, (tt, λ v le below. absurd (omega arith)))) (λ image h. none_read marks at limit image (omega arith) h)
+addressed_codec marks (suc n) at limit k =
+    let others = addressed_codec marks n (at + 1) limit (omega arith) in
     elim (bit_cases marks at) [
-      | inl h ↦
-          let e' = rw h at e in
-          let a = then_some (byte_at bytes) (λ byte. addressed_at marks n (at + 1) >>= λ others. giving ((at, byte) ∷ others)) x e' in
-          let b = then_some (addressed_at marks n (at + 1) a.0.1) (λ others. giving ((at, a.0.0) ∷ others)) x a.2 in
-          let made : ((at, a.0.0) ∷ b.0.0, b.0.1) ≡ x = let i = b.2 in cc in
-          let one = byte_codec.takes bytes a.0 all a.1 in
-          let two = addressed_takes marks n (at + 1) limit a.0.1 b.0 (omega arith) (IsBytes-rest a.0.0 a.0.1 (subst IsBytes one.0 all)) b.1 in
-          let marked : IsMarked marks at limit ((at, a.0.0) ∷ b.0.0) = λ v le lt. elim (above at v le) [
-            | inl more ↦ later_mark (at, a.0.0) b.0.0 v more ∙ two.1.1 v (omega arith) lt
-            | inr is ↦ own_mark (at, a.0.0) b.0.0 v (sym is) ∙ sym h ∙ ap (map_bit_at marks) (sym is)
-          ] in
-          subst (λ (y : List (ℕ × ℕ) × List ℕ). (bytes ≡ values y.0 ++ y.1) × (AreFrom at limit y.0 × IsMarked marks at limit y.0)) made
-          (one.0 ∙ ap (λ (l : List ℕ). a.0.0 ∷ l) two.0, ((omega arith, omega arith, one.1, two.1.0), marked))
-      | inr h ↦
-          let e' = rw h at e in
-          let two = addressed_takes marks n (at + 1) limit bytes x (omega arith) all e' in
-          let marked : IsMarked marks at limit x.0 = λ v le lt. elim (above at v le) [
-            | inl more ↦ two.1.1 v (omega arith) lt
-            | inr is ↦ rw is (no_mark x.0 (at + 1) limit at two.1.0 (omega arith) ∙ sym h)
-          ] in
-          (two.0, (from_lower x.0 at limit two.1.0, marked))
+      | inl one ↦ rw one (giving_codec (λ p. (at, p.0) ∷ p.1) values (IsRead marks at limit) (next _ byte_codec (λ _ _. last _ others)) (λ p h. (refl, some_read marks at limit p (omega arith) one h)) (λ image h. read_some marks at limit image (omega arith) one h))
+      | inr none ↦ rw none (refit_codec (IsRead marks at limit) (λ image h. one_passed marks at limit image none h) (λ image h. pass_one marks at limit image (omega arith) none h) others)
     ]
-
-zero_one : (n : ℕ) → n ≡ 0 → n ≡ 1 → ⊥
-zero_one n h k = omega arith
-
-addressed_again : (marks : List ℕ) (n at limit : ℕ) (image : List (ℕ × ℕ)) (rest : List ℕ) → at + n ≡ limit → AreFrom at limit image → IsMarked marks at limit image → addressed_at marks n at (values image ++ rest) ≡ Some (image, rest)
-unfolding addressed_at
-addressed_again marks zero at limit [] rest k h m = refl
-addressed_again marks zero at limit (p ∷ image) rest k h m = absurd (omega (arith, h.0, h.1))
-addressed_again marks (suc n) at limit [] rest k h m =
-    let none : map_bit_at marks at ≡ 0 = sym (m at (omega arith) (omega arith)) in
-    rw none (addressed_again marks n (at + 1) limit [] rest (omega arith) tt (λ v le lt. m v (omega arith) lt))
-addressed_again marks (suc n) at limit (p ∷ image) rest k h m =
-    elim (above at p.0 h.0) [
-      | inl more ↦
-          let same : mark (p ∷ image) at ≡ 0 = no_mark (p ∷ image) p.0 limit at (omega arith, h.1, h.2, h.3) more in
-          let none : map_bit_at marks at ≡ 0 = sym (m at (omega arith) (omega arith)) ∙ same in
-          rw none (addressed_again marks n (at + 1) limit (p ∷ image) rest (omega arith) (omega arith, h.1, h.2, h.3) (λ v le lt. m v (omega arith) lt))
-      | inr is ↦
-          let same : mark (p ∷ image) at ≡ 1 = own_mark p image at is in
-          let some : map_bit_at marks at ≡ 1 = sym (m at (omega arith) (omega arith)) ∙ same in
-          let later : AreFrom (at + 1) limit image = rw is at h.3 in
-          let back = addressed_again marks n (at + 1) limit image rest (omega arith) later (λ v le lt. sym (later_mark p image v (omega arith)) ∙ m v (omega arith) lt) in
-          rw (some, back) (rw (← is) refl)
-    ]
-
-addressed_codec : (marks : List ℕ) → IsCodec values (λ image. AreFrom 0 4096 image × IsMarked marks 0 4096 image) (addressed_at marks 4096 0)
-addressed_codec marks = record {
-  takes = λ bytes x all e. addressed_takes marks 4096 0 4096 bytes x refl all e;
-  again = λ image rest h. addressed_again marks 4096 0 4096 image rest refl h.0 h.1;
-}
 
 -- ---- bits of bytes
 
@@ -181,7 +174,7 @@ map_cells image =
 rising_codec : IsCodec image_bytes (AreFrom 0 4096) image_at
 unfolding image_at
 rising_codec = giving_codec (λ (p : List ℕ × List (ℕ × ℕ)). p.1) image_bytes (AreFrom 0 4096)
-    (next _ (cells_codec 512) (λ marks _. tail (addressed_codec marks)))
+    (next _ (cells_codec 512) (λ marks _. tail (addressed_codec marks 4096 0 4096 refl)))
     (λ p h. (ap (λ (l : List ℕ). l ++ values p.1) (same_map p.0 p.1 h.0 h.1.1), h.1.0))
     (λ image h. ((map_bytes image, image), refl, (map_cells image, (h, map_marks image))))
 

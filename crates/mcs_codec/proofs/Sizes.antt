@@ -14,14 +14,11 @@ use Rattle.mcs_model.specs.declared.command.Command.TheVariants.{Wire, Load, Pre
 use Rattle.mcs_model.specs.declared.command.Place.{Place}
 use Rattle.mcs_model.specs.declared.command.Place.TheVariants.{Acc, Cy, Pc, Register, Dcl, Rom, Ram, Status}
 use Rattle.mcs_model.specs.declared.limits.TheConstants.{CHAIN_CHIPS, CHAIN_BITS}
-use Rattle.mcs_model.specs.declared.regs.Regs.{Regs}
-use Rattle.mcs_model.specs.Boards.{board_fault_of}
-use Rattle.mcs_model.specs.Bus.{BusState}
 use Rattle.mcs_model.specs.BenchState.{BenchState}
 use Rattle.mcs_model.specs.Validity.{IsValid}
 use Rattle.mcs_codec.specs.BoardBytes.{rom_bytes, board_line_bytes, chain_bytes, counted_bytes, keys_bytes, board_bytes}
 use Rattle.mcs_codec.specs.CommandBytes.{address_bytes, place_bytes, command_bytes, IsCommand}
-use Rattle.mcs_codec.specs.StateBytes.{memory_bytes, registers_bytes, src_bytes, wiring_bytes, after_board, state_bytes}
+use Rattle.mcs_codec.specs.StateBytes.{state_bytes}
 use Rattle.mcs_codec.proofs.BoardLengths.{IsMask, IsKeys, HasLengths, lengths_of, chips_of, keys_of}
 use Rattle.mcs_codec.proofs.ImageCodec.{length-image}
 use Rattle.mcs_codec.proofs.StateCodec.{AreChains, chains_of}
@@ -124,19 +121,3 @@ length-command (Break at) h = omega arith
 length-command (Unbreak at) h = omega arith
 length-command (Watch bank src) h = omega arith
 length-command (Unwatch bank src) h = omega arith
-
--- each command takes a tag
-pub some-command : (c : Command) → 1 ≤ length (command_bytes c)
-some-command (Wire board) = omega arith
-some-command (Load image) = omega arith
-some-command (Press row column) = omega arith
-some-command (Release row column) = omega arith
-some-command (Run cycles) = omega arith
-some-command Step = omega arith
-some-command (Poke place) = omega arith
-some-command (Test bit) = omega arith
-some-command Reset = omega arith
-some-command (Break at) = omega arith
-some-command (Unbreak at) = omega arith
-some-command (Watch bank src) = omega arith
-some-command (Unwatch bank src) = omega arith

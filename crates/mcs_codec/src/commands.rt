@@ -18,9 +18,10 @@ use std::alloc::{AllocError, Global};
 /// Bytes that are lent to write a command into. No command takes more.
 pub const COMMAND_BYTES: usize = 8_192;
 
-/// A law: each part of a command is in its range.
+/// A law: each part of a command is in its range, and its tag takes a byte.
 fn command_is_in_range(command: &Command)
-    ensures { IsCommand command.now }
+    ensures range { IsCommand command.now }
+    ensures tag { 1 ≤ length (command_bytes command.now) }
 {
     match command {
         Command::Wire(board) => {
