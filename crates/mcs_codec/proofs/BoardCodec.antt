@@ -1,7 +1,7 @@
 -- The laws of a board and its parts.
-use Rattle.std.proofs.Common.{◌≡◌, ℕ, Bool, true, false, cond, eqb, inl, inr, ◌⊎◌, List, [], ◌∷◌, ◌++◌, Option, Some, None, refl, sym, ap, subst, ◌∙◌, arith}
+use Rattle.std.proofs.Common.{◌≡◌, ℕ, true, false, cond, eqb, List, [], ◌∷◌, ◌++◌, Option, Some, None, refl, ap, subst, arith}
 use Rattle.std.specs.Prelude.{is_none, ◌&&◌}
-use Rattle.std.proofs.lemmas.Bool.{eqb-true, and_parts}
+use Rattle.std.proofs.lemmas.Bool.Decides.{nat_tests}
 use Rattle.mcs_nibble.specs.declared.lines.LineMask.{LineMask}
 use Rattle.mcs_nibble.specs.declared.lines.LineMask.TheVariants.{Input, Zero, One}
 use Rattle.mcs_model.specs.declared.board.KeyMatrix.{KeyMatrix}
@@ -10,7 +10,7 @@ use Rattle.mcs_model.specs.declared.board.Line.TheVariants.{Rom, Ram, Chain}
 use Rattle.mcs_model.specs.declared.board.BoardFault.{BoardFault}
 use Rattle.mcs_model.specs.declared.limits.TheConstants.{CHAINS}
 use Rattle.mcs_model.specs.Boards.{board_fault_of}
-use Rattle.mcs_codec.specs.Reading.{◌>>=◌, Reading, giving, giving_some, refusing, byte_at}
+use Rattle.mcs_codec.specs.Reading.{◌>>=◌, Reading, giving, giving_some, byte_at}
 use Rattle.mcs_model.specs.Validity.{IsValidBoard}
 use Rattle.mcs_nibble.specs.Ports.{mask_character, mask_of}
 use Rattle.mcs_codec.specs.BoardBytes.{rom_bytes, board_line_bytes, chain_bytes, counted_bytes, keys_bytes, board_bytes}
@@ -35,50 +35,13 @@ are_four = (tt, (tt, (tt, tt)))
 four_steps : {B : Type 0} (end : Four → Reading B) → Steps four_text AreFour end (do a ← byte_at; b ← byte_at; c ← byte_at; d ← byte_at; end (a, (b, (c, d))))
 four_steps end = next end any_codec (λ a _. next _ any_codec (λ b _. next _ any_codec (λ c _. last _ any_codec)))
 
--- a test taken, or not
-chosen : {A : Type 0} (t : Bool) (x y : Reading A) (bytes : List ℕ) (z : Option (A × List ℕ)) → cond t x y bytes ≡ z → ((t ≡ true) × (x bytes ≡ z)) ⊎ ((t ≡ false) × (y bytes ≡ z))
-chosen true x y bytes z e = inl (refl, e)
-chosen false x y bytes z e = inr (refl, e)
-
--- the value that is given
-given : {A : Type 0} (a : A) (bytes : List ℕ) (x : A × List ℕ) → giving a bytes ≡ Some x → (a ≡ x.0) × (bytes ≡ x.1)
-given {A} a bytes x e = let same : (a, bytes) ≡ x = cc in (ap (λ (y : A × List ℕ). y.0) same, ap (λ (y : A × List ℕ). y.1) same)
-
-given_some : {A : Type 0} (o : Option A) (bytes : List ℕ) (x : A × List ℕ) → giving_some o bytes ≡ Some x → (o ≡ Some x.0) × (bytes ≡ x.1)
-given_some (Some a) bytes x e = let g = given a bytes x e in (ap (λ v. Some v) g.0, g.1)
-given_some None bytes x e = absurd cc
-
 -- ---- lines
-
--- what the end of a line says, of the line that it gives
-line_is : (l : Line) (x : Four) (rest : List ℕ) (y : Line × List ℕ) → board_line_bytes l ≡ four_text x → giving l rest ≡ Some y → (board_line_bytes y.0 ≡ four_text x) × (rest ≡ y.1) × Unit {0}
-line_is l x rest y text e = let g = given l rest y e in (ap board_line_bytes (sym g.0) ∙ text, g.1, tt)
 
 abbrev line_end : Four → Reading Line
 line_end x = board_line_of x.0 x.1.0 x.1.1.0 x.1.1.1
 
 line_made : (x : Four) (rest : List ℕ) (y : Line × List ℕ) → AreFour x → line_end x rest ≡ Some y → (board_line_bytes y.0 ≡ four_text x) × (rest ≡ y.1) × Unit {0}
-line_made (kind, (a, (b, c))) rest y h e =
-    elim (chosen (eqb kind 0 && eqb c 0) (giving (Rom a b)) _ rest (Some y) e) [
-      | inl t ↦
-          let both = and_parts (eqb kind 0) (eqb c 0) t.0 in
-          let k : kind ≡ 0 = eqb-true _ _ both.0 in
-          let z : c ≡ 0 = eqb-true _ _ both.1 in
-          line_is (Rom a b) (kind, (a, (b, c))) rest y (rw (k, z) refl) t.1
-      | inr t ↦ elim (chosen (eqb kind 1) (giving (Ram a b c)) _ rest (Some y) t.1) [
-        | inl u ↦
-            let k : kind ≡ 1 = eqb-true _ _ u.0 in
-            line_is (Ram a b c) (kind, (a, (b, c))) rest y (rw k refl) u.1
-        | inr u ↦ elim (chosen (eqb kind 2 && eqb c 0) (giving (Chain a b)) refusing rest (Some y) u.1) [
-          | inl v ↦
-              let both = and_parts (eqb kind 2) (eqb c 0) v.0 in
-              let k : kind ≡ 2 = eqb-true _ _ both.0 in
-              let z : c ≡ 0 = eqb-true _ _ both.1 in
-              line_is (Chain a b) (kind, (a, (b, c))) rest y (rw (k, z) refl) v.1
-          | inr v ↦ absurd (let i = v.1 in cc)
-        ]
-      ]
-    ]
+line_made (kind, (a, (b, c))) rest (l, after) h e = (grind (arith, nat_tests), grind (arith, nat_tests), tt)
 
 line_unmade : (l : Line) → Unit {0} → (x : Four) × (board_line_bytes l ≡ four_text x) × AreFour x × ((rest : List ℕ) → line_end x rest ≡ Some (l, rest))
 line_unmade (Rom chip k) h = ((0, (chip, (k, 0))), refl, are_four, λ rest. refl)
@@ -91,22 +54,8 @@ line_codec = block_codec (four_steps line_end) (record { made = line_made; unmad
 
 -- ---- ROMs
 
-either : {A : Type 0} (b : Bool) (x y z : A) → cond b x y ≡ z → ((b ≡ true) × (x ≡ z)) ⊎ ((b ≡ false) × (y ≡ z))
-either true x y z e = inl (refl, e)
-either false x y z e = inr (refl, e)
-
 mask_is : (b : ℕ) (m : LineMask) → mask_of b ≡ Some m → mask_character m ≡ b
-mask_is b m e =
-    elim (either (eqb b 105) (Some Input) _ (Some m) e) [
-      | inl t ↦ let k : b ≡ 105 = eqb-true _ _ t.0 in let same : Input ≡ m = let i = t.1 in cc in subst (λ (v : LineMask). mask_character v ≡ b) same (sym k)
-      | inr t ↦ elim (either (eqb b 48) (Some Zero) _ (Some m) t.1) [
-        | inl u ↦ let k : b ≡ 48 = eqb-true _ _ u.0 in let same : Zero ≡ m = let i = u.1 in cc in subst (λ (v : LineMask). mask_character v ≡ b) same (sym k)
-        | inr u ↦ elim (either (eqb b 49) (Some One) None (Some m) u.1) [
-          | inl v ↦ let k : b ≡ 49 = eqb-true _ _ v.0 in let same : One ≡ m = let i = v.1 in cc in subst (λ (v : LineMask). mask_character v ≡ b) same (sym k)
-          | inr v ↦ absurd (let i = v.1 in cc)
-        ]
-      ]
-    ]
+mask_is b m e = grind (arith, nat_tests)
 
 no_dash : (m : LineMask) → eqb (mask_character m) 45 ≡ false
 no_dash Input = refl
@@ -116,44 +65,33 @@ no_dash One = refl
 abbrev rom_end : Four → Reading (Option (List LineMask))
 rom_end x = rom_of x.0 x.1.0 x.1.1.0 x.1.1.1
 
--- what the end of a ROM says, of what it gives
-rom_is : (r : Option (List LineMask)) (x : Four) (rest : List ℕ) (y : Option (List LineMask) × List ℕ) → rom_bytes r ≡ four_text x → IsMask r → giving r rest ≡ Some y → (rom_bytes y.0 ≡ four_text x) × (rest ≡ y.1) × IsMask y.0
-rom_is r x rest y text mask e = let g = given r rest y e in (ap rom_bytes (sym g.0) ∙ text, g.1, subst IsMask g.0 mask)
-
 -- a port line that is read
-step_some : {B : Type 0} (b : ℕ) (next : LineMask → Reading B) (rest : List ℕ) (y : B × List ℕ) → (giving_some (mask_of b) >>= next) rest ≡ Some y → (m : LineMask) × (mask_character m ≡ b) × (next m rest ≡ Some y)
-step_some {B} b next rest y e =
-    let m = then_some (giving_some (mask_of b) rest) next y e in
-    let g = given_some (mask_of b) rest m.0 m.1 in
-    (m.0.0, mask_is b m.0.0 g.0, subst (λ l. next m.0.0 l ≡ Some y) (sym g.1) m.2)
+line_read : {B : Type 0} (b : ℕ) (next : LineMask → Reading B) (rest : List ℕ) (y : B × List ℕ) → (giving_some (mask_of b) >>= next) rest ≡ Some y → (m : LineMask) × (mask_character m ≡ b) × (next m rest ≡ Some y)
+line_read {B} b next rest y =
+    elim (mask_of b) as (λ o. ((m : LineMask) → o ≡ Some m → mask_character m ≡ b) → (giving_some o >>= next) rest ≡ Some y → (m : LineMask) × (mask_character m ≡ b) × (next m rest ≡ Some y)) [
+      | Some m ↦ λ is e. (m, is m refl, e)
+      | None ↦ λ is e. absurd cc
+    ] (mask_is b)
+
+both_given : (lines : List LineMask) (rest : List ℕ) (x : List LineMask × List ℕ) (y : Option (List LineMask) × List ℕ) → Some (lines, rest) ≡ Some x → Some (Some x.0, x.1) ≡ Some y → (Some lines, rest) ≡ y
+both_given lines rest x y e f = cc
 
 lines_made : (a b c d : ℕ) (rest : List ℕ) (y : Option (List LineMask) × List ℕ) → (masks_of a b c d >>= λ lines. giving (Some lines)) rest ≡ Some y
     → (rom_bytes y.0 ≡ a ∷ b ∷ c ∷ d ∷ []) × (rest ≡ y.1) × IsMask y.0
 lines_made a b c d rest y e =
     let all = then_some (masks_of a b c d rest) (λ lines. giving (Some lines)) y e in
-    let l3 = step_some a (λ line_3. giving_some (mask_of b) >>= λ line_2. giving_some (mask_of c) >>= λ line_1. giving_some (mask_of d) >>= λ line_0. giving (line_0 ∷ line_1 ∷ line_2 ∷ line_3 ∷ [])) rest all.0 all.1 in
-    let l2 = step_some b (λ line_2. giving_some (mask_of c) >>= λ line_1. giving_some (mask_of d) >>= λ line_0. giving (line_0 ∷ line_1 ∷ line_2 ∷ l3.0 ∷ [])) rest all.0 l3.2 in
-    let l1 = step_some c (λ line_1. giving_some (mask_of d) >>= λ line_0. giving (line_0 ∷ line_1 ∷ l2.0 ∷ l3.0 ∷ [])) rest all.0 l2.2 in
-    let l0 = step_some d (λ line_0. giving (line_0 ∷ l1.0 ∷ l2.0 ∷ l3.0 ∷ [])) rest all.0 l1.2 in
-    let lines = l0.0 ∷ l1.0 ∷ l2.0 ∷ l3.0 ∷ [] in
-    let g = given lines rest all.0 l0.2 in
-    let again : giving (Some lines) rest ≡ Some y = subst (λ v. giving (Some v) rest ≡ Some y) (sym g.0) (subst (λ l. giving (Some all.0.0) l ≡ Some y) (sym g.1) all.2) in
-    rom_is (Some lines) (a, (b, (c, d))) rest y (rw (l3.1, l2.1, l1.1, l0.1) refl) refl again
+    let l3 = line_read a _ rest all.0 all.1 in
+    let l2 = line_read b _ rest all.0 l3.2 in
+    let l1 = line_read c _ rest all.0 l2.2 in
+    let l0 = line_read d _ rest all.0 l1.2 in
+    subst (λ (z : Option (List LineMask) × List ℕ). (rom_bytes z.0 ≡ a ∷ b ∷ c ∷ d ∷ []) × (rest ≡ z.1) × IsMask z.0) (both_given (l0.0 ∷ l1.0 ∷ l2.0 ∷ l3.0 ∷ []) rest all.0 y l0.2 all.2) (rw (l3.1, l2.1, l1.1, l0.1) refl, refl, refl)
 
 rom_made : (x : Four) (rest : List ℕ) (y : Option (List LineMask) × List ℕ) → AreFour x → rom_end x rest ≡ Some y → (rom_bytes y.0 ≡ four_text x) × (rest ≡ y.1) × IsMask y.0
 rom_made (a, (b, (c, d))) rest y h e =
-    elim (chosen (eqb a 45 && eqb b 45 && eqb c 45 && eqb d 45) (giving None) _ rest (Some y) e) [
-      | inl t ↦
-          let y3 = and_parts (eqb a 45 && eqb b 45 && eqb c 45) (eqb d 45) t.0 in
-          let y2 = and_parts (eqb a 45 && eqb b 45) (eqb c 45) y3.0 in
-          let y1 = and_parts (eqb a 45) (eqb b 45) y2.0 in
-          let ka : a ≡ 45 = eqb-true _ _ y1.0 in
-          let kb : b ≡ 45 = eqb-true _ _ y1.1 in
-          let kc : c ≡ 45 = eqb-true _ _ y2.1 in
-          let kd : d ≡ 45 = eqb-true _ _ y3.1 in
-          rom_is None (a, (b, (c, d))) rest y (rw (ka, kb, kc, kd) refl) tt t.1
-      | inr t ↦ lines_made a b c d rest y t.1
-    ]
+    elim (eqb a 45 && eqb b 45 && eqb c 45 && eqb d 45) as (λ t. ((eqb a 45 && eqb b 45 && eqb c 45 && eqb d 45) ≡ t) → cond t (giving None) (masks_of a b c d >>= λ lines. giving (Some lines)) rest ≡ Some y → (rom_bytes y.0 ≡ a ∷ b ∷ c ∷ d ∷ []) × (rest ≡ y.1) × IsMask y.0) [
+      | true ↦ λ dashes g. let same : (None, rest) ≡ y = cc in subst (λ (z : Option (List LineMask) × List ℕ). (rom_bytes z.0 ≡ a ∷ b ∷ c ∷ d ∷ []) × (rest ≡ z.1) × IsMask z.0) same (grind (arith, nat_tests), refl, tt)
+      | false ↦ λ _ g. lines_made a b c d rest y g
+    ] refl e
 
 rom_unmade : (r : Option (List LineMask)) → IsMask r → (x : Four) × (rom_bytes r ≡ four_text x) × AreFour x × ((rest : List ℕ) → rom_end x rest ≡ Some (r, rest))
 rom_unmade None h = ((45, (45, (45, 45))), refl, are_four, λ rest. refl)
@@ -173,8 +111,8 @@ rom_codec = block_codec (four_steps rom_end) (record { made = rom_made; unmade =
 
 pub chain_codec : IsCodec chain_bytes (λ _. Unit {0}) chain_at
 unfolding chain_at
-chain_codec = giving_codec (λ p. record { clock = p.0; data_in = p.1.0; chips = p.1.1 }) (λ c. (c.clock, (c.data_in, c.chips))) chain_bytes (λ _. Unit {0})
-    (next _ line_codec (λ _ _. next _ line_codec (λ _ _. last _ any_codec))) (λ p h. (refl, tt)) (λ c h. (refl, (tt, (tt, tt))))
+chain_codec = giving_codec (λ p. record { clock = p.0; data_in = p.1.0; chips = p.1.1 }) chain_bytes (λ _. Unit {0})
+    (next _ line_codec (λ _ _. next _ line_codec (λ _ _. last _ any_codec))) (λ p h. (refl, tt)) (λ c h. ((c.clock, (c.data_in, c.chips)), refl, (tt, (tt, tt))))
 
 -- the spelling of a key matrix, after its flag
 abbrev matrix_text : KeyMatrix → List ℕ
@@ -182,8 +120,8 @@ matrix_text m = m.chain ∷ m.first ∷ m.rows ∷ counted_bytes board_line_byte
 
 matrix_codec : IsCodec matrix_text (λ m. IsKeys (Some m)) matrix_at
 unfolding matrix_at
-matrix_codec = giving_codec (λ p. record { chain = p.0; first = p.1.0; rows = p.1.1.0; columns = record { items = p.1.1.1 } }) (λ m. (m.chain, (m.first, (m.rows, m.columns.items)))) matrix_text (λ m. IsKeys (Some m))
-    (next _ any_codec (λ _ _. next _ any_codec (λ _ _. next _ any_codec (λ _ _. last _ (any_counted_codec 8 (omega arith) line_codec))))) (λ p h. (refl, h.1.1.1)) (λ m h. (refl, (tt, (tt, (tt, h)))))
+matrix_codec = giving_codec (λ p. record { chain = p.0; first = p.1.0; rows = p.1.1.0; columns = record { items = p.1.1.1 } }) matrix_text (λ m. IsKeys (Some m))
+    (next _ any_codec (λ _ _. next _ any_codec (λ _ _. next _ any_codec (λ _ _. last _ (any_counted_codec 8 (omega arith) line_codec))))) (λ p h. (refl, h.1.1.1)) (λ m h. ((m.chain, (m.first, (m.rows, m.columns.items))), refl, (tt, (tt, (tt, h)))))
 
 keys_takes : (bytes : List ℕ) (x : Option KeyMatrix × List ℕ) → IsBytes bytes → keys_at bytes ≡ Some x → (bytes ≡ keys_bytes x.0 ++ x.1) × IsKeys x.0
 unfolding keys_at
@@ -204,11 +142,10 @@ keys_codec = record { takes = keys_takes; again = keys_again }
 
 pub parts_codec : IsCodec board_bytes HasLengths parts_at
 unfolding parts_at
-parts_codec = giving_codec (λ p. record { roms = p.0; banks = p.1.0; chains = record { items = p.1.1.0 }; keys = p.1.1.1.0; lamps = record { items = p.1.1.1.1 } })
-    (λ b. (b.roms, (b.banks, (b.chains.items, (b.keys, b.lamps.items))))) board_bytes HasLengths
+parts_codec = giving_codec (λ p. record { roms = p.0; banks = p.1.0; chains = record { items = p.1.1.0 }; keys = p.1.1.1.0; lamps = record { items = p.1.1.1.1 } }) board_bytes HasLengths
     (next _ (many_codec 16 rom_codec) (λ _ _. next _ (bytes_codec 8) (λ _ _. next _ (any_counted_codec CHAINS (omega arith) chain_codec) (λ _ _. next _ keys_codec (λ _ _. last _ (any_counted_codec 64 (omega arith) line_codec))))))
-    (λ p h. (refl, record { roms = h.0.0; masks = h.0.1; banks = (h.1.0.len, h.1.0.small); chains = h.1.1.0; keys = h.1.1.1.0; lamps = h.1.1.1.1 }))
-    (λ b h. (refl, ((h.roms, h.masks), (record { len = h.banks.0; small = h.banks.1 }, (h.chains, (h.keys, h.lamps))))))
+    (λ p h. (refl, record { roms = h.0.0; masks = h.0.1; banks = h.1.0; chains = h.1.1.0; keys = h.1.1.1.0; lamps = h.1.1.1.1 }))
+    (λ b h. ((b.roms, (b.banks, (b.chains.items, (b.keys, b.lamps.items)))), refl, ((h.roms, h.masks), (h.banks, (h.chains, (h.keys, h.lamps))))))
 
 no_fault : (o : Option BoardFault) → is_none o ≡ true → o ≡ None
 no_fault None e = refl

@@ -1,9 +1,9 @@
 -- What the lengths and the soundness of a board bound, in forms for lists read one by one.
-use Rattle.std.proofs.Common.{◌≡◌, ℕ, zero, suc, ◌*◌, ◌<◌, ◌≤◌, false, List, [], ◌∷◌, length, get_or, Option, Some, None, refl, subst, arith}
+use Rattle.std.proofs.Common.{◌≡◌, ℕ, zero, suc, ◌*◌, ◌≤◌, false, List, [], ◌∷◌, length, get_or, Option, Some, None, refl, subst, arith}
 use Rattle.std.specs.Prelude.{◌&&◌, not, nat_lt, nat_le}
 use Rattle.std.specs.List.{list_any, AllByRecursion}
 use Rattle.std.proofs.lemmas.Nat.{mul-le}
-use Rattle.std.proofs.lemmas.Bool.{leb-true, ltb-false, or_parts, and_parts, not-false}
+use Rattle.std.proofs.lemmas.Bool.{leb-true, or_parts, and_parts, not-false}
 use Rattle.mcs_nibble.specs.declared.lines.LineMask.{LineMask}
 use Rattle.mcs_model.specs.declared.board.BoardParts.{BoardParts}
 use Rattle.mcs_model.specs.declared.board.ChainPart.{ChainPart}
@@ -25,19 +25,12 @@ IsKeys None = Unit {0}
 pub record HasLengths (b : BoardParts) : Type 0 where
   pub roms : length b.roms ≡ 16
   pub masks : AllByRecursion IsMask b.roms
-  pub banks : (length b.banks ≡ 8) × AllByRecursion (λ n. n < 256) b.banks
+  pub banks : length b.banks ≡ 8
   pub chains : length b.chains.items ≤ CHAINS
   pub keys : IsKeys b.keys
   pub lamps : length b.lamps.items ≤ 64
 
 -- ---- what a sound board bounds
-
-few_banks : (banks : List ℕ) → list_any (λ n. nat_lt 4 n) banks ≡ false → AllByRecursion (λ n. n < 256) banks
-few_banks [] h = tt
-few_banks (n ∷ banks) h =
-    let first = or_parts (nat_lt 4 n) (list_any (λ n. nat_lt 4 n) banks) h in
-    let few : n ≤ 4 = ltb-false _ _ first.0 in
-    (omega arith, few_banks banks first.1)
 
 few_chips : (chains : List ChainPart) → list_any (λ c. not (is_chain_size c)) chains ≡ false → AllByRecursion (λ c. c.chips ≤ CHAIN_CHIPS) chains
 few_chips [] h = tt
@@ -88,7 +81,7 @@ pub lengths_of : (b : BoardParts) → IsValidBoard b → HasLengths b
 lengths_of b h = record {
   roms = h.sized.roms;
   masks = masks_all b.roms h.sized.masks;
-  banks = (h.sized.banks, few_banks b.banks (sound b h.valid).values.banks);
+  banks = h.sized.banks;
   chains = h.sized.chains;
   keys = keys_all b.keys h.sized.columns;
   lamps = h.sized.lamps;
@@ -99,7 +92,7 @@ valid_of b h sound = record {
   sized = record {
     roms = h.roms;
     masks = mask_each b.roms h.masks;
-    banks = h.banks.0;
+    banks = h.banks;
     chains = h.chains;
     columns = λ m e. subst IsKeys e h.keys;
     lamps = h.lamps;

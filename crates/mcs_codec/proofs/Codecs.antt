@@ -103,27 +103,32 @@ word_codec = record { takes = number_takes w16 (2 ^ 16) wide16; again = number_a
 pub long_codec : IsCodec (to_be_bytes w32) (λ n. n < 2 ^ 32) (wide_number_at w32)
 long_codec = record { takes = number_takes w32 (2 ^ 32) wide32; again = number_again w32 (2 ^ 32) wide32 }
 
+-- that many bytes
+pub bytes_codec : (count : ℕ) → IsCodec (λ (l : List ℕ). l) (λ l. length l ≡ count) (bytes_at count)
+unfolding bytes_at
+bytes_codec count = record {
+  takes = λ bytes x all e.
+      let g = guarded (ltb (length bytes) count) (take count bytes, drop count bytes) x e in
+      subst (λ (y : List ℕ × List ℕ). (bytes ≡ y.0 ++ y.1) × (length y.0 ≡ count)) g.1 (sym (take-append-drop count bytes), length-take-le count bytes (ltb-false _ _ g.0));
+  again = λ l rest h.
+      let long : ltb (length (l ++ rest)) count ≡ false = le-ltb _ _ (omega (arith, length-append l rest, h)) in
+      rw (long, take_at l rest count h, drop_at l rest count h) refl;
+}
+
 -- that many numbers, each below a limit
 pub record AreCells (count limit : ℕ) (items : List ℕ) : Type 0 where
   pub len : length items ≡ count
   pub small : AllByRecursion (λ n. n < limit) items
 
--- that many bytes
 bytes_below : (front rest : List ℕ) → IsBytes (front ++ rest) → AllByRecursion (λ n. n < 256) front
 bytes_below [] rest h = tt
 bytes_below (b ∷ front) rest h = (h 0, bytes_below front rest (IsBytes-rest b (front ++ rest) h))
 
-pub bytes_codec : (count : ℕ) → IsCodec (λ (l : List ℕ). l) (AreCells count 256) (bytes_at count)
-unfolding bytes_at
-bytes_codec count = record {
-  takes = λ bytes x all e.
-      let g = guarded (ltb (length bytes) count) (take count bytes, drop count bytes) x e in
-      let long : count ≤ length bytes = ltb-false _ _ g.0 in
-      let parts : bytes ≡ take count bytes ++ drop count bytes = sym (take-append-drop count bytes) in
-      subst (λ (y : List ℕ × List ℕ). (bytes ≡ y.0 ++ y.1) × AreCells count 256 y.0) g.1 (parts, record { len = length-take-le count bytes long; small = bytes_below (take count bytes) (drop count bytes) (subst IsBytes parts all) });
-  again = λ l rest h.
-      let long : ltb (length (l ++ rest)) count ≡ false = le-ltb _ _ (omega (arith, length-append l rest, h.len)) in
-      rw (long, take_at l rest count h.len, drop_at l rest count h.len) refl;
+-- that many bytes, where their range is of matter
+pub cells_codec : (count : ℕ) → IsCodec (λ (l : List ℕ). l) (AreCells count 256) (bytes_at count)
+cells_codec count = record {
+  takes = λ bytes x all e. let t = (bytes_codec count).takes bytes x all e in (t.0, record { len = t.1; small = bytes_below x.0 x.1 (subst IsBytes t.0 all) });
+  again = λ l rest h. (bytes_codec count).again l rest h.len;
 }
 
 -- ---- combinators
@@ -182,34 +187,6 @@ next {A} {C} {B} {s} {f} {r} {t} {g} {q} end first second = record {
       ap (r >>= q) (append_assoc (s p.0) (t p.0 p.1) rest) ∙ rw (first.again p.0 (t p.0 p.1 ++ rest) h.0) ((second p.0 h.0).again p.1 rest h.1);
 }
 
--- that many values
-many_takes : {A : Type 0} {s : A → List ℕ} {f : A → Type 0} {r : Reading A} → IsCodec s f r → (n : ℕ) (bytes : List ℕ) (x : List A × List ℕ) → IsBytes bytes → many n r bytes ≡ Some x
-    → (bytes ≡ flat_map s x.0 ++ x.1) × ((length x.0 ≡ n) × AllByRecursion f x.0)
-unfolding many
-many_takes {A} {s} {f} {r} codec zero bytes x all e =
-    let same : ([], bytes) ≡ x = cc in
-    subst (λ (y : List A × List ℕ). (bytes ≡ flat_map s y.0 ++ y.1) × ((length y.0 ≡ 0) × AllByRecursion f y.0)) same (refl, (refl, tt))
-many_takes {A} {s} {f} {r} codec (suc n) bytes x all e =
-    let a = then_some (r bytes) (λ first. many n r >>= λ others. giving (first ∷ others)) x e in
-    let b = then_some (many n r a.0.1) (λ others. giving (a.0.0 ∷ others)) x a.2 in
-    let made : (a.0.0 ∷ b.0.0, b.0.1) ≡ x = let i = b.2 in cc in
-    let one = codec.takes bytes a.0 all a.1 in
-    let two = many_takes codec n a.0.1 b.0 (IsBytes-after (s a.0.0) a.0.1 (subst IsBytes one.0 all)) b.1 in
-    let parts : bytes ≡ (s a.0.0 ++ flat_map s b.0.0) ++ b.0.1 = one.0 ∙ ap (λ (l : List ℕ). s a.0.0 ++ l) two.0 ∙ sym (append_assoc (s a.0.0) (flat_map s b.0.0) b.0.1) in
-    subst (λ (y : List A × List ℕ). (bytes ≡ flat_map s y.0 ++ y.1) × ((length y.0 ≡ suc n) × AllByRecursion f y.0)) made (parts, (ap suc two.1.0, (one.1, two.1.1)))
-
-many_again : {A : Type 0} {s : A → List ℕ} {f : A → Type 0} {r : Reading A} → IsCodec s f r → (n : ℕ) (l : List A) (rest : List ℕ) → length l ≡ n → AllByRecursion f l → many n r (flat_map s l ++ rest) ≡ Some (l, rest)
-unfolding many
-many_again codec zero [] rest len h = refl
-many_again codec zero (a ∷ l) rest len h = absurd cc
-many_again codec (suc n) [] rest len h = absurd cc
-many_again {A} {s} {f} {r} codec (suc n) (a ∷ l) rest len h =
-    let short : length l ≡ n = cc in
-    ap (many (suc n) r) (append_assoc (s a) (flat_map s l) rest) ∙ rw (codec.again a (flat_map s l ++ rest) h.0) (rw (many_again codec n l rest short h.1) refl)
-
-pub many_codec : {A : Type 0} {s : A → List ℕ} {f : A → Type 0} {r : Reading A} (n : ℕ) → IsCodec s f r → IsCodec (flat_map s) (λ l. (length l ≡ n) × AllByRecursion f l) (many n r)
-many_codec n codec = record { takes = many_takes codec n; again = λ l rest h. many_again codec n l rest h.0 h.1 }
-
 -- ---- blocks
 
 -- what the end of a block says of a value b that is read and of the steps c
@@ -229,17 +206,31 @@ block_codec {B} {C} {s} {f} {spell} {fits} {end} {q} steps ends = record {
 }
 
 -- a block that ends by giving a value made of its steps
-pub giving_codec : {C B : Type 0} {s : C → List ℕ} {f : C → Type 0} {q : Reading B} (make : C → B) (parts : B → C) (spell : B → List ℕ) (fits : B → Type 0) → Steps s f (λ c. giving (make c)) q
-    → ((c : C) → f c → (spell (make c) ≡ s c) × fits (make c)) → ((b : B) → fits b → (make (parts b) ≡ b) × f (parts b)) → IsCodec spell fits q
-giving_codec {C} {B} {s} {f} {q} make parts spell fits steps made unmade = block_codec steps (record {
+pub giving_codec : {C B : Type 0} {s : C → List ℕ} {f : C → Type 0} {q : Reading B} (make : C → B) (spell : B → List ℕ) (fits : B → Type 0) → Steps s f (λ c. giving (make c)) q
+    → ((c : C) → f c → (spell (make c) ≡ s c) × fits (make c)) → ((b : B) → fits b → (c : C) × (make c ≡ b) × f c) → IsCodec spell fits q
+giving_codec {C} {B} {s} {f} {q} make spell fits steps made unmade = block_codec steps (record {
   made = λ c rest x h e.
       let same : (make c, rest) ≡ x = cc in
       let m = made c h in
       subst (λ (y : B × List ℕ). (spell y.0 ≡ s c) × (rest ≡ y.1) × fits y.0) same (m.0, refl, m.1);
   unmade = λ b h.
       let u = unmade b h in
-      (parts b, sym (ap spell u.0) ∙ (made (parts b) u.1).0, u.1, λ rest. ap (λ (v : B). Some (v, rest)) u.0);
+      (u.0, sym (ap spell u.1) ∙ (made u.0 u.2).0, u.2, λ rest. ap (λ (v : B). Some (v, rest)) u.1);
 })
+
+-- that many values
+many_none : {A : Type 0} (f : A → Type 0) (l : List A) → (length l ≡ 0) × AllByRecursion f l → (u : Unit {0}) × ([] ≡ l) × Unit {0}
+many_none f [] h = (tt, refl, tt)
+many_none f (a ∷ l) h = absurd cc
+
+many_some : {A : Type 0} (f : A → Type 0) (n : ℕ) (l : List A) → (length l ≡ suc n) × AllByRecursion f l → (p : A × List A) × (p.0 ∷ p.1 ≡ l) × (f p.0 × ((length p.1 ≡ n) × AllByRecursion f p.1))
+many_some f n [] h = absurd cc
+many_some f n (a ∷ l) h = ((a, l), refl, (h.1.0, (omega (arith, h.0), h.1.1)))
+
+pub many_codec : {A : Type 0} {s : A → List ℕ} {f : A → Type 0} {r : Reading A} (n : ℕ) → IsCodec s f r → IsCodec (flat_map s) (λ l. (length l ≡ n) × AllByRecursion f l) (many n r)
+unfolding many
+many_codec {A} {s} {f} {r} zero codec = giving_codec (λ (_ : Unit {0}). []) (flat_map s) (λ l. (length l ≡ 0) × AllByRecursion f l) (no_step _) (λ u h. (refl, (refl, tt))) (many_none f)
+many_codec {A} {s} {f} {r} (suc n) codec = giving_codec (λ p. p.0 ∷ p.1) (flat_map s) (λ l. (length l ≡ suc n) × AllByRecursion f l) (next _ codec (λ _ _. last _ (many_codec n codec))) (λ p h. (refl, (ap suc h.1.0, (h.0, h.1.1)))) (many_some f n)
 
 -- another way to say the range
 pub refit_codec : {A : Type 0} {s : A → List ℕ} {f : A → Type 0} {r : Reading A} (fits : A → Type 0) → ((a : A) → f a → fits a) → ((a : A) → fits a → f a) → IsCodec s f r → IsCodec s fits r
@@ -259,10 +250,10 @@ address_codec = refit_codec (λ n. n < 4096) (λ n h. ltb-true _ _ h.1) (λ n h.
 -- a count, and that many values
 pub counted_codec : {A : Type 0} {s : A → List ℕ} {f : A → Type 0} {r : Reading A} (limit : ℕ) → limit < 256 → IsCodec s f r → IsCodec (counted_bytes s) (λ l. (length l ≤ limit) × AllByRecursion f l) (counted_at limit r)
 unfolding counted_at
-counted_codec {A} {s} {f} {r} limit lt codec = giving_codec (λ (p : ℕ × List A). p.1) (λ l. (length l, l)) (counted_bytes s) (λ l. (length l ≤ limit) × AllByRecursion f l)
+counted_codec {A} {s} {f} {r} limit lt codec = giving_codec (λ (p : ℕ × List A). p.1) (counted_bytes s) (λ l. (length l ≤ limit) × AllByRecursion f l)
     (next _ (only_codec (λ n. leb n limit) byte_codec) (λ n h. tail (many_codec n codec)))
     (λ p h. let le : p.0 ≤ limit = leb-true _ _ h.0.1 in (ap (λ n. n ∷ flat_map s p.1) h.1.0, (omega (arith, h.1.0), h.1.1)))
-    (λ l h. (refl, ((omega (arith, h.0), le-leb _ _ h.0), (refl, h.1))))
+    (λ l h. ((length l, l), refl, ((omega (arith, h.0), le-leb _ _ h.0), (refl, h.1))))
 
 -- what each element of a list has
 pub all_units : {A : Type 0} (l : List A) → AllByRecursion (λ _. Unit {0}) l

@@ -120,21 +120,15 @@ command_codec = record { takes = command_takes; again = command_again }
 
 -- ---- what the public calls promise
 
-pub command_found : (bytes : List ℕ) (r : Option Command) → IsBytes bytes → r ≡ whole command_at bytes → IfSome r (λ c. Spells bytes c)
-command_found bytes (Some c) all e = let t = whole_takes command_codec bytes c all (sym e) in record { is = t.0; in_range = t.1 }
-command_found bytes None all e = tt
-
-pub command_none : (bytes : List ℕ) (r : Option Command) → r ≡ whole command_at bytes → IfNone r ((c : Command) → Spells bytes c → ⊥)
-command_none bytes (Some c) e = tt
-command_none bytes None e = λ c h. let back : Some c ≡ None = sym (whole_again command_codec c h.in_range) ∙ ap (whole command_at) (sym h.is) ∙ sym e in cc
-
-pub same_command : (bytes : List ℕ) (c d : Command) → Spells bytes c → Spells bytes d → c ≡ d
-same_command bytes c d h k = same_value command_codec c d h.in_range k.in_range (sym h.is ∙ k.is)
-
 pub read_found : {E : Type 0} (bytes : List ℕ) (r : Result (Option Command) E) → IsBytes bytes → IfOk r (λ found. found ≡ whole command_at bytes) → IfOk r (λ found. IfSome found (λ c. Spells bytes c))
-read_found bytes (Ok found) all e = command_found bytes found all e
+read_found bytes (Ok (Some c)) all e = let t = whole_takes command_codec bytes c all (sym e) in record { is = t.0; in_range = t.1 }
+read_found bytes (Ok None) all e = tt
 read_found bytes (Err x) all e = tt
 
 pub read_none : {E : Type 0} (bytes : List ℕ) (r : Result (Option Command) E) → IfOk r (λ found. found ≡ whole command_at bytes) → IfOk r (λ found. IfNone found ((c : Command) → Spells bytes c → ⊥))
-read_none bytes (Ok found) e = command_none bytes found e
+read_none bytes (Ok (Some c)) e = tt
+read_none bytes (Ok None) e = λ c h. let back : Some c ≡ None = sym (whole_again command_codec c h.in_range) ∙ ap (whole command_at) (sym h.is) ∙ sym e in cc
 read_none bytes (Err x) e = tt
+
+pub same_command : (bytes : List ℕ) (c d : Command) → Spells bytes c → Spells bytes d → c ≡ d
+same_command bytes c d h k = same_value command_codec c d h.in_range k.in_range (sym h.is ∙ k.is)

@@ -1,5 +1,5 @@
 -- The law of an image: a map of its addresses, and its bytes.
-use Rattle.std.proofs.Common.{◌≡◌, ℕ, zero, suc, ◌+◌, ◌*◌, ◌/◌, ◌%◌, ◌^◌, ◌<◌, ◌≤◌, Bool, true, false, cond, eqb, List, [], ◌∷◌, ◌++◌, length, get_or, slice_set, take, get_or-set_other, map, Some, refl, sym, ap, subst, ◌∙◌, arith, inl, inr, ◌⊎◌}
+use Rattle.std.proofs.Common.{◌≡◌, ℕ, zero, suc, ◌+◌, ◌*◌, ◌/◌, ◌%◌, ◌^◌, ◌<◌, ◌≤◌, Bool, true, false, cond, eqb, List, [], ◌∷◌, ◌++◌, length, get_or, slice_set, take, get_or-set_other, map, refl, sym, ap, ◌∙◌, arith, inl, inr, ◌⊎◌}
 use Rattle.std.specs.Prelude.{◌||◌, ◌≢◌}
 use Rattle.std.specs.List.{list_any, All}
 use Rattle.std.proofs.lemmas.List.{length-append, length-map, take_more}
@@ -12,11 +12,10 @@ use Rattle.std.proofs.lemmas.Bool.Decides.{nat_tests}
 use Rattle.mcs_nibble.specs.Bits.{bit_of}
 use Rattle.mcs_nibble.specs.Tables.{table_of}
 use Rattle.mcs_nibble.proofs.TabledLemmas.{tabled_from, get_or-tabled, length-tabled}
-use Rattle.mcs_codec.specs.Reading.{◌>>=◌, giving, byte_at}
 use Rattle.mcs_model.specs.Images.{IsImage}
 use Rattle.mcs_codec.specs.CommandBytes.{mark, byte_of, map_bytes, image_bytes, values}
-use Rattle.mcs_codec.specs.CommandReading.{map_bit_at, pairs_at, image_at}
-use Rattle.mcs_codec.proofs.Codecs.{AreCells, IsCodec, IsBytes, IsBytes-rest, then_some, byte_codec, bytes_codec, next, tail, giving_codec, refit_codec}
+use Rattle.mcs_codec.specs.CommandReading.{map_bit_at, addressed_at, image_at}
+use Rattle.mcs_codec.proofs.Codecs.{AreCells, IsCodec, byte_codec, cells_codec, last, next, no_step, tail, giving_codec, refit_codec}
 
 -- by rising address from one on, below a limit
 abbrev pub AreFrom : ℕ → ℕ → List (ℕ × ℕ) → Type 0
@@ -43,6 +42,9 @@ own_mark p image x is = let e : eqb p.0 x ≡ true = grind (arith, nat_tests) in
 later_mark : (p : ℕ × ℕ) (image : List (ℕ × ℕ)) (x : ℕ) → p.0 < x → mark (p ∷ image) x ≡ mark image x
 later_mark p image x lt = rw (unequal p.0 x lt) refl
 
+zero_one : (n : ℕ) → n ≡ 0 → n ≡ 1 → ⊥
+zero_one n h k = omega arith
+
 from_lower : (image : List (ℕ × ℕ)) (low limit : ℕ) → AreFrom (low + 1) limit image → AreFrom low limit image
 from_lower [] low limit h = tt
 from_lower (p ∷ image) low limit h = (omega (arith, h.0), h.1, h.2, h.3)
@@ -57,66 +59,57 @@ bit_cases marks at =
 above : (at v : ℕ) → at ≤ v → (at < v) ⊎ (v ≡ at)
 above at v le = elim (cases_lt at v) [ inl lt ↦ inl lt | inr ge ↦ inr (omega arith) ]
 
-pairs_takes : (marks : List ℕ) (n at limit : ℕ) (bytes : List ℕ) (x : List (ℕ × ℕ) × List ℕ) → at + n ≡ limit → IsBytes bytes → pairs_at marks n at bytes ≡ Some x
-    → (bytes ≡ values x.0 ++ x.1) × (AreFrom at limit x.0 × IsMarked marks at limit x.0)
-unfolding pairs_at
-pairs_takes marks zero at limit bytes x k all e =
-    let same : ([], bytes) ≡ x = cc in
-    subst (λ (y : List (ℕ × ℕ) × List ℕ). (bytes ≡ values y.0 ++ y.1) × (AreFrom at limit y.0 × IsMarked marks at limit y.0)) same (refl, (tt, λ v le lt. absurd (omega arith)))
-pairs_takes marks (suc n) at limit bytes x k all e =
+-- what is read of the addresses from one on, below a limit
+abbrev IsRead : List ℕ → ℕ → ℕ → List (ℕ × ℕ) → Type 0
+IsRead marks at limit image = AreFrom at limit image × IsMarked marks at limit image
+
+none_read : (marks : List ℕ) (at limit : ℕ) (image : List (ℕ × ℕ)) → limit ≤ at → IsRead marks at limit image → (u : Unit {0}) × ([] ≡ image) × Unit {0}
+none_read marks at limit [] le h = (tt, refl, tt)
+none_read marks at limit (p ∷ image) le h = absurd (omega (arith, h.0.0, h.0.1))
+
+-- an address that has a mark
+some_read : (marks : List ℕ) (at limit : ℕ) (p : ℕ × List (ℕ × ℕ)) → at < limit → map_bit_at marks at ≡ 1 → (p.0 < 256) × IsRead marks (at + 1) limit p.1 → IsRead marks at limit ((at, p.0) ∷ p.1)
+some_read marks at limit p lt one h = (
+  (omega arith, lt, h.0, h.1.0),
+  λ v le below. elim (above at v le) [
+    | inl more ↦ later_mark (at, p.0) p.1 v more ∙ h.1.1 v (omega arith) below
+    | inr is ↦ own_mark (at, p.0) p.1 v (sym is) ∙ sym one ∙ ap (map_bit_at marks) (sym is)
+  ],
+)
+
+read_some : (marks : List ℕ) (at limit : ℕ) (image : List (ℕ × ℕ)) → at < limit → map_bit_at marks at ≡ 1 → IsRead marks at limit image → (p : ℕ × List (ℕ × ℕ)) × ((at, p.0) ∷ p.1 ≡ image) × ((p.0 < 256) × IsRead marks (at + 1) limit p.1)
+read_some marks at limit [] lt one h = absurd (zero_one (map_bit_at marks at) (sym (h.1 at (omega arith) lt)) one)
+read_some marks at limit (p ∷ image) lt one h = elim (above at p.0 h.0.0) [
+  | inl more ↦ absurd (zero_one (map_bit_at marks at) (sym (h.1 at (omega arith) lt) ∙ no_mark (p ∷ image) p.0 limit at (omega arith, h.0.1, h.0.2, h.0.3) more) one)
+  | inr is ↦ ((p.1, image), ap (λ n. (n, p.1) ∷ image) (sym is), (h.0.2, (rw is at h.0.3, λ v le below. sym (later_mark p image v (omega arith)) ∙ h.1 v (omega arith) below)))
+]
+
+-- an address that has none
+one_passed : (marks : List ℕ) (at limit : ℕ) (image : List (ℕ × ℕ)) → map_bit_at marks at ≡ 0 → IsRead marks (at + 1) limit image → IsRead marks at limit image
+one_passed marks at limit image none h = (
+  from_lower image at limit h.0,
+  λ v le below. elim (above at v le) [
+    | inl more ↦ h.1 v (omega arith) below
+    | inr is ↦ rw is (no_mark image (at + 1) limit at h.0 (omega arith) ∙ sym none)
+  ],
+)
+
+pass_one : (marks : List ℕ) (at limit : ℕ) (image : List (ℕ × ℕ)) → at < limit → map_bit_at marks at ≡ 0 → IsRead marks at limit image → IsRead marks (at + 1) limit image
+pass_one marks at limit [] lt none h = (tt, λ v le below. h.1 v (omega arith) below)
+pass_one marks at limit (p ∷ image) lt none h = elim (above at p.0 h.0.0) [
+  | inl more ↦ ((omega arith, h.0.1, h.0.2, h.0.3), λ v le below. h.1 v (omega arith) below)
+  | inr is ↦ absurd (zero_one (mark (p ∷ image) at) (h.1 at (omega arith) lt ∙ none) (own_mark p image at is))
+]
+
+addressed_codec : (marks : List ℕ) (n at limit : ℕ) → at + n ≡ limit → IsCodec values (IsRead marks at limit) (addressed_at marks n at)
+unfolding addressed_at
+addressed_codec marks zero at limit k = giving_codec (λ (_ : Unit {0}). []) values (IsRead marks at limit) (no_step _) (λ u h. (refl, (tt, λ v le below. absurd (omega arith)))) (λ image h. none_read marks at limit image (omega arith) h)
+addressed_codec marks (suc n) at limit k =
+    let others = addressed_codec marks n (at + 1) limit (omega arith) in
     elim (bit_cases marks at) [
-      | inl h ↦
-          let e' = rw h at e in
-          let a = then_some (byte_at bytes) (λ byte. pairs_at marks n (at + 1) >>= λ others. giving ((at, byte) ∷ others)) x e' in
-          let b = then_some (pairs_at marks n (at + 1) a.0.1) (λ others. giving ((at, a.0.0) ∷ others)) x a.2 in
-          let made : ((at, a.0.0) ∷ b.0.0, b.0.1) ≡ x = let i = b.2 in cc in
-          let one = byte_codec.takes bytes a.0 all a.1 in
-          let two = pairs_takes marks n (at + 1) limit a.0.1 b.0 (omega arith) (IsBytes-rest a.0.0 a.0.1 (subst IsBytes one.0 all)) b.1 in
-          let marked : IsMarked marks at limit ((at, a.0.0) ∷ b.0.0) = λ v le lt. elim (above at v le) [
-            | inl more ↦ later_mark (at, a.0.0) b.0.0 v more ∙ two.1.1 v (omega arith) lt
-            | inr is ↦ own_mark (at, a.0.0) b.0.0 v (sym is) ∙ sym h ∙ ap (map_bit_at marks) (sym is)
-          ] in
-          subst (λ (y : List (ℕ × ℕ) × List ℕ). (bytes ≡ values y.0 ++ y.1) × (AreFrom at limit y.0 × IsMarked marks at limit y.0)) made
-          (one.0 ∙ ap (λ (l : List ℕ). a.0.0 ∷ l) two.0, ((omega arith, omega arith, one.1, two.1.0), marked))
-      | inr h ↦
-          let e' = rw h at e in
-          let two = pairs_takes marks n (at + 1) limit bytes x (omega arith) all e' in
-          let marked : IsMarked marks at limit x.0 = λ v le lt. elim (above at v le) [
-            | inl more ↦ two.1.1 v (omega arith) lt
-            | inr is ↦ rw is (no_mark x.0 (at + 1) limit at two.1.0 (omega arith) ∙ sym h)
-          ] in
-          (two.0, (from_lower x.0 at limit two.1.0, marked))
+      | inl one ↦ rw one (giving_codec (λ p. (at, p.0) ∷ p.1) values (IsRead marks at limit) (next _ byte_codec (λ _ _. last _ others)) (λ p h. (refl, some_read marks at limit p (omega arith) one h)) (λ image h. read_some marks at limit image (omega arith) one h))
+      | inr none ↦ rw none (refit_codec (IsRead marks at limit) (λ image h. one_passed marks at limit image none h) (λ image h. pass_one marks at limit image (omega arith) none h) others)
     ]
-
-zero_one : (n : ℕ) → n ≡ 0 → n ≡ 1 → ⊥
-zero_one n h k = omega arith
-
-pairs_again : (marks : List ℕ) (n at limit : ℕ) (image : List (ℕ × ℕ)) (rest : List ℕ) → at + n ≡ limit → AreFrom at limit image → IsMarked marks at limit image → pairs_at marks n at (values image ++ rest) ≡ Some (image, rest)
-unfolding pairs_at
-pairs_again marks zero at limit [] rest k h m = refl
-pairs_again marks zero at limit (p ∷ image) rest k h m = absurd (omega (arith, h.0, h.1))
-pairs_again marks (suc n) at limit [] rest k h m =
-    let none : map_bit_at marks at ≡ 0 = sym (m at (omega arith) (omega arith)) in
-    rw none (pairs_again marks n (at + 1) limit [] rest (omega arith) tt (λ v le lt. m v (omega arith) lt))
-pairs_again marks (suc n) at limit (p ∷ image) rest k h m =
-    elim (above at p.0 h.0) [
-      | inl more ↦
-          let same : mark (p ∷ image) at ≡ 0 = no_mark (p ∷ image) p.0 limit at (omega arith, h.1, h.2, h.3) more in
-          let none : map_bit_at marks at ≡ 0 = sym (m at (omega arith) (omega arith)) ∙ same in
-          rw none (pairs_again marks n (at + 1) limit (p ∷ image) rest (omega arith) (omega arith, h.1, h.2, h.3) (λ v le lt. m v (omega arith) lt))
-      | inr is ↦
-          let same : mark (p ∷ image) at ≡ 1 = own_mark p image at is in
-          let some : map_bit_at marks at ≡ 1 = sym (m at (omega arith) (omega arith)) ∙ same in
-          let later : AreFrom (at + 1) limit image = rw is at h.3 in
-          let back = pairs_again marks n (at + 1) limit image rest (omega arith) later (λ v le lt. sym (later_mark p image v (omega arith)) ∙ m v (omega arith) lt) in
-          rw (some, back) (rw (← is) refl)
-    ]
-
-pairs_codec : (marks : List ℕ) → IsCodec values (λ image. AreFrom 0 4096 image × IsMarked marks 0 4096 image) (pairs_at marks 4096 0)
-pairs_codec marks = record {
-  takes = λ bytes x all e. pairs_takes marks 4096 0 4096 bytes x refl all e;
-  again = λ image rest h. pairs_again marks 4096 0 4096 image rest refl h.0 h.1;
-}
 
 -- ---- bits of bytes
 
@@ -180,12 +173,12 @@ map_cells image =
 
 rising_codec : IsCodec image_bytes (AreFrom 0 4096) image_at
 unfolding image_at
-rising_codec = giving_codec (λ (p : List ℕ × List (ℕ × ℕ)). p.1) (λ image. (map_bytes image, image)) image_bytes (AreFrom 0 4096)
-    (next _ (bytes_codec 512) (λ marks _. tail (pairs_codec marks)))
+rising_codec = giving_codec (λ (p : List ℕ × List (ℕ × ℕ)). p.1) image_bytes (AreFrom 0 4096)
+    (next _ (cells_codec 512) (λ marks _. tail (addressed_codec marks 4096 0 4096 refl)))
     (λ p h. (ap (λ (l : List ℕ). l ++ values p.1) (same_map p.0 p.1 h.0 h.1.1), h.1.0))
-    (λ image h. (refl, (map_cells image, (h, map_marks image))))
+    (λ image h. ((map_bytes image, image), refl, (map_cells image, (h, map_marks image))))
 
--- ---- by element, and by pairs of elements
+-- ---- by element, and by two elements
 
 from_image : (image : List (ℕ × ℕ)) (low : ℕ) → IsImage image → All (λ p. low ≤ p.0) image → AreFrom low 4096 image
 from_image [] low h above = tt
@@ -215,18 +208,18 @@ image_codec = refit_codec IsImage (λ image h. (image_from image 0 h).0) (λ ima
 -- ---- how many bytes
 
 -- each address leaves one place less
-few_pairs : (image : List (ℕ × ℕ)) (low limit : ℕ) → low ≤ limit → AreFrom low limit image → length image + low ≤ limit
-few_pairs [] low limit le h = omega arith
-few_pairs (p ∷ image) low limit le h =
-    let rest = few_pairs image (p.0 + 1) limit (omega (arith, h.1)) h.3 in
+few_addresses : (image : List (ℕ × ℕ)) (low limit : ℕ) → low ≤ limit → AreFrom low limit image → length image + low ≤ limit
+few_addresses [] low limit le h = omega arith
+few_addresses (p ∷ image) low limit le h =
+    let rest = few_addresses image (p.0 + 1) limit (omega (arith, h.1)) h.3 in
     omega (arith, h.0, rest)
 
 pub length-image : (image : List (ℕ × ℕ)) → IsImage image → length (image_bytes image) ≤ 4608
 length-image image h =
-    let few = few_pairs image 0 4096 (omega arith) (from_image image 0 h (λ i d lt. omega arith)) in
+    let few = few_addresses image 0 4096 (omega arith) (from_image image 0 h (λ i d lt. omega arith)) in
     omega (arith, few, (map_cells image).len, length-append (map_bytes image) (values image), length-map image (λ p. p.1))
 
--- ---- one pair more
+-- ---- one byte more
 
 mark_both : (a b : Bool) → cond {A = ℕ} (a || (b || false)) 1 0 ≡ cond {A = ℕ} b 1 (cond {A = ℕ} a 1 0)
 mark_both true true = refl
@@ -234,15 +227,15 @@ mark_both true false = refl
 mark_both false true = refl
 mark_both false false = refl
 
--- the marks of one pair more: its own address has one
+-- the marks of one byte more: its own address has one
 pub mark_more : (image : List (ℕ × ℕ)) (p : ℕ × ℕ) (at : ℕ) → mark (image ++ p ∷ []) at ≡ cond (eqb p.0 at) 1 (mark image at)
 mark_more image p at = rw (list_any-append (λ q. eqb q.0 at) image (p ∷ [])) (mark_both (list_any (λ q. eqb q.0 at) image) (eqb p.0 at))
 
-pub marks_go_on : (pairs : List (ℕ × ℕ)) (marks : List ℕ) (i : ℕ) (p : ℕ × ℕ) (a : ℕ) → i < length pairs → p ≡ get_or pairs i p → a ≡ p.0 → a < length marks → ((at : ℕ) → at < 4096 → get_or marks at 0 ≡ mark (take i pairs) at)
-    → (at : ℕ) → at < 4096 → get_or (slice_set marks a 1) at 0 ≡ mark (take (i + 1) pairs) at
-marks_go_on pairs marks i p a lt is same inside so_far at fits =
-    let more : take (i + 1) pairs ≡ take i pairs ++ p ∷ [] = take_more pairs i p lt ∙ ap (λ (q : ℕ × ℕ). take i pairs ++ q ∷ []) (sym is) in
-    let one : mark (take (i + 1) pairs) at ≡ cond (eqb p.0 at) 1 (mark (take i pairs) at) = ap (λ l. mark l at) more ∙ mark_more (take i pairs) p at in
+pub marks_go_on : (image : List (ℕ × ℕ)) (marks : List ℕ) (i : ℕ) (p : ℕ × ℕ) (a : ℕ) → i < length image → p ≡ get_or image i p → a ≡ p.0 → a < length marks → ((at : ℕ) → at < 4096 → get_or marks at 0 ≡ mark (take i image) at)
+    → (at : ℕ) → at < 4096 → get_or (slice_set marks a 1) at 0 ≡ mark (take (i + 1) image) at
+marks_go_on image marks i p a lt is same inside so_far at fits =
+    let more : take (i + 1) image ≡ take i image ++ p ∷ [] = take_more image i p lt ∙ ap (λ (q : ℕ × ℕ). take i image ++ q ∷ []) (sym is) in
+    let one : mark (take (i + 1) image) at ≡ cond (eqb p.0 at) 1 (mark (take i image) at) = ap (λ l. mark l at) more ∙ mark_more (take i image) p at in
     elim (cases_eq at a) [
       | inl e ↦ let own : eqb p.0 at ≡ true = let k : p.0 ≡ at = omega arith in grind (arith, nat_tests) in get_or-set_at marks a at 1 0 e inside ∙ sym (one ∙ rw own refl)
       | inr ne ↦ let other : eqb p.0 at ≡ false = let k : p.0 ≢ at = λ h. ne (sym (same ∙ h)) in grind (arith, nat_tests) in get_or-set_other marks a at 1 0 ne ∙ so_far at fits ∙ sym (one ∙ rw other refl)
@@ -253,16 +246,16 @@ marks_go_on pairs marks i p a lt is same inside so_far at fits =
 pub same_byte : (f g : ℕ → ℕ) → ((k : ℕ) → k < 8 → f k ≡ g k) → byte_of f ≡ byte_of g
 same_byte f g h = rw (h 0 (omega arith), h 1 (omega arith), h 2 (omega arith), h 3 (omega arith), h 4 (omega arith), h 5 (omega arith), h 6 (omega arith), h 7 (omega arith)) refl
 
-pub map_goes_on : (pairs : List (ℕ × ℕ)) (marks map : List ℕ) (i byte : ℕ) → i < 512 → length map ≡ 512 → ((at : ℕ) → at < 4096 → get_or marks at 0 ≡ mark pairs at) → byte ≡ byte_of (λ k. get_or marks (8 * i + k) 0)
-    → ((j : ℕ) → j < i → get_or map j 0 ≡ byte_of (λ k. mark pairs (8 * j + k))) → (j : ℕ) → j < i + 1 → get_or (slice_set map i byte) j 0 ≡ byte_of (λ k. mark pairs (8 * j + k))
-map_goes_on pairs marks map i byte lt len marked is so_far j below =
+pub map_goes_on : (image : List (ℕ × ℕ)) (marks map : List ℕ) (i byte : ℕ) → i < 512 → length map ≡ 512 → ((at : ℕ) → at < 4096 → get_or marks at 0 ≡ mark image at) → byte ≡ byte_of (λ k. get_or marks (8 * i + k) 0)
+    → ((j : ℕ) → j < i → get_or map j 0 ≡ byte_of (λ k. mark image (8 * j + k))) → (j : ℕ) → j < i + 1 → get_or (slice_set map i byte) j 0 ≡ byte_of (λ k. mark image (8 * j + k))
+map_goes_on image marks map i byte lt len marked is so_far j below =
     elim (cases_eq j i) [
       | inl e ↦
-          let here : byte ≡ byte_of (λ k. mark pairs (8 * i + k)) = is ∙ same_byte (λ k. get_or marks (8 * i + k) 0) (λ k. mark pairs (8 * i + k)) (λ k small. marked (8 * i + k) (omega arith)) in
-          get_or-set_at map i j byte 0 e (omega arith) ∙ here ∙ ap (λ n. byte_of (λ k. mark pairs (8 * n + k))) (sym e)
+          let here : byte ≡ byte_of (λ k. mark image (8 * i + k)) = is ∙ same_byte (λ k. get_or marks (8 * i + k) 0) (λ k. mark image (8 * i + k)) (λ k small. marked (8 * i + k) (omega arith)) in
+          get_or-set_at map i j byte 0 e (omega arith) ∙ here ∙ ap (λ n. byte_of (λ k. mark image (8 * n + k))) (sym e)
       | inr ne ↦ get_or-set_other map i j byte 0 ne ∙ so_far j (omega arith)
     ]
 
-pub map_done : (pairs : List (ℕ × ℕ)) (map : List ℕ) (i : ℕ) → 512 ≤ i → length map ≡ 512 → ((j : ℕ) → j < i → get_or map j 0 ≡ byte_of (λ k. mark pairs (8 * j + k))) → map ≡ map_bytes pairs
+pub map_done : (image : List (ℕ × ℕ)) (map : List ℕ) (i : ℕ) → 512 ≤ i → length map ≡ 512 → ((j : ℕ) → j < i → get_or map j 0 ≡ byte_of (λ k. mark image (8 * j + k))) → map ≡ map_bytes image
 unfolding map_bytes
-map_done pairs map i le len so_far = tabled_from 512 (λ j. byte_of (λ k. mark pairs (8 * j + k))) map 0 len (λ j lt. so_far j (omega arith))
+map_done image map i le len so_far = tabled_from 512 (λ j. byte_of (λ k. mark image (8 * j + k))) map 0 len (λ j lt. so_far j (omega arith))

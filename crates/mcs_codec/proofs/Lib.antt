@@ -3,10 +3,8 @@ pub mod Codecs
 pub mod BoardLengths
 pub mod BoardCodec
 pub mod ImageCodec
-pub mod ImageLoops
 pub mod CommandCodec
-pub mod MarkedCodec
+pub mod VersionCodec
 pub mod StateCodec
-pub mod StateLoops
 pub mod StateParts
 pub mod Sizes

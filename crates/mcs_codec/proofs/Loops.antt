@@ -1,35 +1,74 @@
--- Values one after the other, as a loop reads them.
-use Rattle.std.proofs.Common.{◌≡◌, ℕ, suc, ◌-◌, ◌+◌, ◌≤◌, ◌<◌, List, [], ◌∷◌, ◌++◌, Some, None, refl, sym, ap, ◌∙◌, append_assoc, arith}
-use Rattle.std.proofs.lemmas.List.{append-nil}
-use Rattle.mcs_codec.specs.Reading.{and_then, Read, Reading, giving, many}
+-- Values one after the other, as a loop reads them: what is still read is a step, and what is read after it.
+use Rattle.std.proofs.Common.{◌≡◌, ℕ, suc, ◌-◌, ◌+◌, ◌*◌, ◌≤◌, ◌<◌, false, eqb, List, [], ◌∷◌, ◌++◌, length, get_or, drop, Some, None, refl, ap, ◌∙◌, append_assoc, arith}
+use Rattle.std.specs.Prelude.{◌≢◌}
+use Rattle.std.proofs.lemmas.Bool.Decides.{nat_tests}
+use Rattle.std.proofs.lemmas.List.{append-nil, at_drop_more, at_drop_all}
+use Rattle.mcs_model.specs.declared.board.ChainPart.{ChainPart}
+use Rattle.mcs_codec.specs.Reading.{◌>>=◌, and_then, Read, Reading, giving, byte_at, bytes_at, many}
+use Rattle.mcs_codec.specs.CommandReading.{map_bit_at, addressed_at}
+use Rattle.mcs_codec.specs.StateReading.{chains_at}
 
 -- what was read before, and what is still read
 abbrev pub with_front : {A : Type 0} → List A → Read (List A) → Read (List A)
 with_front front read = and_then read (λ xs. giving (front ++ xs))
 
-pub regroup : {A : Type 0} (front : List A) (a : A) (read : Read (List A)) → with_front front (and_then read (λ xs. giving (a ∷ xs))) ≡ with_front (front ++ a ∷ []) read
+regroup : {A : Type 0} (front : List A) (a : A) (read : Read (List A)) → with_front front (and_then read (λ xs. giving (a ∷ xs))) ≡ with_front (front ++ a ∷ []) read
 regroup {A} front a (Some x) = ap (λ (xs : List A). Some (xs, x.1)) (simp append_assoc)
 regroup front a None = refl
 
-pub goes_on : {A : Type 0} (read : Reading A) (front : List A) (count i : ℕ) (bytes : List ℕ) (a : A) (after : List ℕ) (total : Read (List A)) → i < count → Some (a, after) ≡ read bytes
-    → with_front front (many (count - i) read bytes) ≡ total → with_front (front ++ a ∷ []) (many (count - (i + 1)) read after) ≡ total
-unfolding many
-goes_on read front count i bytes a after total lt h so_far =
-    let k : count - i ≡ suc (count - (i + 1)) = omega arith in
-    let one : with_front front (many (count - i) read bytes) ≡ with_front (front ++ a ∷ []) (many (count - (i + 1)) read after) = rw (k, sym h) (regroup front a (many (count - (i + 1)) read after)) in
-    sym one ∙ so_far
+-- a value that is read, made one of the list, and those that are read later
+abbrev step_to : {A B : Type 0} → List A → (B → A) → Read B → Reading (List A) → Read (List A)
+step_to front make read later = and_then read (λ b after. with_front (front ++ make b ∷ []) (later after))
 
-pub ends : {A : Type 0} (read : Reading A) (front : List A) (count i : ℕ) (bytes : List ℕ) (total : Read (List A)) → i < count → None ≡ read bytes
-    → with_front front (many (count - i) read bytes) ≡ total → None ≡ total
-unfolding many
-ends read front count i bytes total lt h so_far =
-    let k : count - i ≡ suc (count - (i + 1)) = omega arith in
-    let one : with_front front (many (count - i) read bytes) ≡ None = rw (k, sym h) refl in
-    sym one ∙ so_far
+step : {A B : Type 0} (front : List A) (make : B → A) (read : Read B) (later : Reading (List A)) → with_front front (and_then read (λ b. later >>= λ others. giving (make b ∷ others))) ≡ step_to front make read later
+step front make (Some x) later = regroup front (make x.0) (later x.1)
+step front make None later = refl
 
-pub is_done : {A : Type 0} (read : Reading A) (front : List A) (count i : ℕ) (bytes : List ℕ) (total : Read (List A)) → count ≤ i → with_front front (many (count - i) read bytes) ≡ total → Some (front, bytes) ≡ total
+none_left : {A : Type 0} (front : List A) (bytes : List ℕ) → with_front front (Some ([], bytes)) ≡ Some (front, bytes)
+none_left {A} front bytes = ap (λ (xs : List A). Some (xs, bytes)) (append-nil front)
+
+-- ---- that many values
+
+pub many_step : {A : Type 0} (read : Reading A) (front : List A) (count i : ℕ) (bytes : List ℕ) → i < count
+    → with_front front (many (count - i) read bytes) ≡ and_then (read bytes) (λ a after. with_front (front ++ a ∷ []) (many (count - (i + 1)) read after))
 unfolding many
-is_done {A} read front count i bytes total le so_far =
-    let k : count - i ≡ 0 = omega arith in
-    let one : with_front front (many (count - i) read bytes) ≡ Some (front, bytes) = rw k (ap (λ (xs : List A). Some (xs, bytes)) (append-nil front)) in
-    sym one ∙ so_far
+many_step read front count i bytes lt =
+    let k : count - i ≡ suc (count - (i + 1)) = omega arith in
+    rw k (step front (λ a. a) (read bytes) (many (count - (i + 1)) read))
+
+pub many_done : {A : Type 0} (read : Reading A) (front : List A) (count i : ℕ) (bytes : List ℕ) → count ≤ i → with_front front (many (count - i) read bytes) ≡ Some (front, bytes)
+unfolding many
+many_done read front count i bytes le = let k : count - i ≡ 0 = omega arith in rw k (none_left front bytes)
+
+-- ---- the bits of each chain
+
+pub chains_step : (chains : List ChainPart) (i : ℕ) (d : ChainPart) (front : List (List ℕ)) (bytes : List ℕ) → i < length chains
+    → with_front front (chains_at (drop i chains) bytes) ≡ and_then (bytes_at (10 * (get_or chains i d).chips) bytes) (λ bits after. with_front (front ++ bits ∷ []) (chains_at (drop (i + 1) chains) after))
+unfolding chains_at
+chains_step chains i d front bytes lt =
+    ap (with_front front) (at_drop_more (λ l. chains_at l bytes) chains i d lt) ∙ step front (λ bits. bits) (bytes_at (10 * (get_or chains i d).chips) bytes) (chains_at (drop (i + 1) chains))
+
+pub chains_done : (chains : List ChainPart) (i : ℕ) (front : List (List ℕ)) (bytes : List ℕ) → length chains ≤ i → with_front front (chains_at (drop i chains) bytes) ≡ Some (front, bytes)
+unfolding chains_at
+chains_done chains i front bytes le = ap (with_front front) (at_drop_all (λ l. chains_at l bytes) chains i le) ∙ none_left front bytes
+
+-- ---- the bytes of the addresses that a map has
+
+pub addressed_step : (marks : List ℕ) (front : List (ℕ × ℕ)) (count at : ℕ) (bytes : List ℕ) → at < count → map_bit_at marks at ≡ 1
+    → with_front front (addressed_at marks (count - at) at bytes) ≡ and_then (byte_at bytes) (λ byte after. with_front (front ++ (at, byte) ∷ []) (addressed_at marks (count - (at + 1)) (at + 1) after))
+unfolding addressed_at
+addressed_step marks front count at bytes lt one =
+    let k : count - at ≡ suc (count - (at + 1)) = omega arith in
+    rw (k, one) (step front (λ byte. (at, byte)) (byte_at bytes) (addressed_at marks (count - (at + 1)) (at + 1)))
+
+pub addressed_skip : (marks : List ℕ) (front : List (ℕ × ℕ)) (count at : ℕ) (bytes : List ℕ) → at < count → map_bit_at marks at ≢ 1
+    → with_front front (addressed_at marks (count - at) at bytes) ≡ with_front front (addressed_at marks (count - (at + 1)) (at + 1) bytes)
+unfolding addressed_at
+addressed_skip marks front count at bytes lt other =
+    let k : count - at ≡ suc (count - (at + 1)) = omega arith in
+    let test : eqb (map_bit_at marks at) 1 ≡ false = grind (arith, nat_tests) in
+    rw (k, test) refl
+
+pub addressed_done : (marks : List ℕ) (front : List (ℕ × ℕ)) (count at : ℕ) (bytes : List ℕ) → count ≤ at → with_front front (addressed_at marks (count - at) at bytes) ≡ Some (front, bytes)
+unfolding addressed_at
+addressed_done marks front count at bytes le = let k : count - at ≡ 0 = omega arith in rw k (none_left front bytes)

@@ -14,17 +14,14 @@ use Rattle.mcs_model.specs.declared.command.Command.TheVariants.{Wire, Load, Pre
 use Rattle.mcs_model.specs.declared.command.Place.{Place}
 use Rattle.mcs_model.specs.declared.command.Place.TheVariants.{Acc, Cy, Pc, Register, Dcl, Rom, Ram, Status}
 use Rattle.mcs_model.specs.declared.limits.TheConstants.{CHAIN_CHIPS, CHAIN_BITS}
-use Rattle.mcs_model.specs.declared.regs.Regs.{Regs}
-use Rattle.mcs_model.specs.Boards.{board_fault_of}
-use Rattle.mcs_model.specs.Bus.{BusState}
 use Rattle.mcs_model.specs.BenchState.{BenchState}
 use Rattle.mcs_model.specs.Validity.{IsValid}
 use Rattle.mcs_codec.specs.BoardBytes.{rom_bytes, board_line_bytes, chain_bytes, counted_bytes, keys_bytes, board_bytes}
 use Rattle.mcs_codec.specs.CommandBytes.{address_bytes, place_bytes, command_bytes, IsCommand}
-use Rattle.mcs_codec.specs.StateBytes.{memory_bytes, registers_bytes, src_bytes, wiring_bytes, after_board, state_bytes}
+use Rattle.mcs_codec.specs.StateBytes.{state_bytes}
 use Rattle.mcs_codec.proofs.BoardLengths.{IsMask, IsKeys, HasLengths, lengths_of, chips_of, keys_of}
 use Rattle.mcs_codec.proofs.ImageCodec.{length-image}
-use Rattle.mcs_codec.proofs.StateCodec.{AreRows, HasMemory, HasRegisters, HasSources, HasWiring, memory_of, registers_of, sources_of, wiring_state, shape_of}
+use Rattle.mcs_codec.proofs.StateCodec.{AreChains, chains_of}
 use Rattle.mcs_codec.proofs.Codecs.{all_units}
 
 pub each_is : {A : Type 0} (s : A → List ℕ) (f : A → Type 0) (k : ℕ) → ((a : A) → f a → length (s a) ≡ k) → (l : List A) → AllByRecursion f l → length (flat_map s l) ≡ length l * k
@@ -62,98 +59,53 @@ length-board b h =
     let chains : length (flat_map chain_bytes b.chains.items) ≡ length b.chains.items * 9 = each_is chain_bytes (λ _. Unit {0}) 9 (λ c u. length-chain c) b.chains.items (all_units b.chains.items) in
     let keys = length-keys b.keys h.keys in
     let lamps : length (counted_bytes board_line_bytes b.lamps.items) ≡ 1 + length b.lamps.items * 4 = length-lines b.lamps.items in
-    let last = counted_bytes board_line_bytes b.lamps.items in
-    let four = keys_bytes b.keys ++ last in
-    let three = counted_bytes chain_bytes b.chains.items ++ four in
-    let two = b.banks ++ three in
-    omega (arith, h.roms, h.banks.0, h.chains, h.lamps, length-append (flat_map rom_bytes b.roms) two, length-append b.banks three, length-append (counted_bytes chain_bytes b.chains.items) four, length-append (keys_bytes b.keys) last)
+    simp length-append (omega (arith, roms, chains, keys, lamps, h.roms, h.banks, h.chains, h.lamps))
 
 -- ---- a state
 
-length-rows : (chains : List ChainPart) (rows : List (List ℕ)) → AreRows chains rows → AllByRecursion (λ c. c.chips ≤ CHAIN_CHIPS) chains → length (flat_map (λ row. row) rows) ≤ length chains * CHAIN_BITS
-length-rows [] [] h few = omega arith
-length-rows [] (row ∷ rows) h few = absurd h
-length-rows (c ∷ chains) [] h few = absurd h
-length-rows (c ∷ chains) (row ∷ rows) h few =
-    let rest : length (flat_map (λ row. row) rows) ≤ length chains * CHAIN_BITS = length-rows chains rows h.1 few.1 in
-    omega (arith, h.0.len, few.0, length-append row (flat_map (λ row. row) rows))
-
-length-memory : (b : BusState) → HasMemory (memory_of b) → length (memory_bytes b) ≡ 6704
-length-memory b h =
-    let four = b.ram_ports ++ b.rom_ports in
-    let three = b.status ++ four in
-    let two = b.ram ++ three in
-    omega (
-      arith,
-      h.rom.len,
-      h.ram.len,
-      h.status.len,
-      h.ram_ports.len,
-      h.rom_ports.len,
-      length-append b.rom two,
-      length-append b.ram three,
-      length-append b.status four,
-      length-append b.ram_ports b.rom_ports,
-    )
+length-chains : (chains : List ChainPart) (l : List (List ℕ)) → AreChains chains l → AllByRecursion (λ c. c.chips ≤ CHAIN_CHIPS) chains → length (flat_map (λ bits. bits) l) ≤ length chains * CHAIN_BITS
+length-chains [] [] h few = omega arith
+length-chains [] (bits ∷ l) h few = absurd h
+length-chains (c ∷ chains) [] h few = absurd h
+length-chains (c ∷ chains) (bits ∷ l) h few =
+    let rest : length (flat_map (λ bits. bits) l) ≤ length chains * CHAIN_BITS = length-chains chains l h.1 few.1 in
+    omega (arith, h.0, few.0, length-append bits (flat_map (λ bits. bits) l))
 
 addresses : (l : List ℕ) → length (flat_map address_bytes l) ≡ length l * 2
 addresses l = each_is address_bytes (λ _. Unit {0}) 2 (λ a h. refl) l (all_units l)
 
-length-registers : (p : Regs) → HasRegisters (registers_of p) → length (registers_bytes p) ≡ 26
-length-registers p h =
-    omega (arith, h.r.len, h.ret.0, addresses p.ret, length-append p.r (address_bytes p.pc ++ flat_map address_bytes p.ret), length-append (address_bytes p.pc) (flat_map address_bytes p.ret))
-
-length-sources : (s : BenchState) → HasSources (sources_of s) → length (src_bytes s.processor s.bus) ≡ 11
-length-sources s h = omega (arith, h.ram_src.len, length-append s.bus.ram_src (s.processor.owed ∷ []))
-
-length-wiring : (s : BenchState) → HasLengths s.bus.board → board_fault_of s.bus.board ≡ None → HasWiring s.bus.board (wiring_state s) → length (wiring_bytes s.bus s.breakpoints) ≤ 466
-length-wiring s b sound h =
-    let rows = length-rows s.bus.board.chains.items s.bus.chains h.chains (chips_of s.bus.board sound) in
-    let keys = keys_of s.bus.board b.keys sound in
-    let last = s.bus.test ∷ counted_bytes address_bytes s.breakpoints in
-    omega (arith, rows, keys, b.chains, h.keys.len, h.breakpoints.0, addresses s.breakpoints, length-append (flat_map (λ row. row) s.bus.chains) (s.bus.keys ++ last), length-append s.bus.keys last)
-
 pub length-state : (s : BenchState) → IsValid s → length (state_bytes s) ≤ 7632
 length-state s valid =
-    let h = shape_of s valid in
-    let lengths = lengths_of s.bus.board h.board in
-    let m = length-memory s.bus h.memory in
-    let r = length-registers s.processor h.registers in
-    let x = length-sources s h.sources in
-    let w = length-wiring s lengths h.board.valid h.wiring in
-    let b = length-board s.bus.board lengths in
-    let wiring = wiring_bytes s.bus s.breakpoints in
-    let sources = src_bytes s.processor s.bus in
-    let watches = counted_bytes address_bytes s.watches in
-    let three = sources ++ (wiring ++ watches) in
-    let two = registers_bytes s.processor ++ three in
-    omega (
+    let b = valid.bus.in_range in
+    let sound = valid.bus.board.valid in
+    let lengths = lengths_of s.bus.board valid.bus.board in
+    let chains = length-chains s.bus.board.chains.items s.bus.chains (chains_of s.bus.board.chains.items s.bus.chains b.chains b.chain_bits) (chips_of s.bus.board sound) in
+    simp length-append (omega (
       arith,
-      m,
-      r,
-      x,
-      w,
-      b,
-      h.watches.0,
+      simp length-append at (length-board s.bus.board lengths),
+      b.rom.count_is,
+      b.ram.count_is,
+      b.status.count_is,
+      b.ram_ports.count_is,
+      b.rom_ports.count_is,
+      valid.processor.r.count_is,
+      valid.processor.ret.count_is,
+      addresses s.processor.ret,
+      b.ram_src.count_is,
+      chains,
+      lengths.chains,
+      keys_of s.bus.board lengths.keys sound,
+      b.keys.count_is,
+      valid.breakpoints.few,
+      addresses s.breakpoints,
+      valid.watches.few,
       addresses s.watches,
-      length-append (memory_bytes s.bus) two,
-      length-append (registers_bytes s.processor) three,
-      length-append sources (wiring ++ watches),
-      length-append wiring watches,
-      length-append (board_bytes s.bus.board) (after_board s),
-    )
+    ))
 
 -- ---- a command
 
 length-place : (p : Place) → length (place_bytes p) ≤ 5
-length-place (Acc n) = omega arith
-length-place (Cy b) = omega arith
-length-place (Pc at) = omega arith
-length-place (Register r n) = omega arith
-length-place (Dcl bank) = omega arith
-length-place (Rom at byte) = omega arith
-length-place (Ram bank src n) = omega arith
-length-place (Status bank high k n) = omega arith
+length-place p = elim p as (λ k. length (place_bytes k) ≤ 5) [ Acc n ↦ omega arith | Cy b ↦ omega arith | Pc at ↦ omega arith | Register r n ↦ omega arith | Dcl bank ↦ omega arith | Rom at byte ↦ omega arith | Ram bank src n ↦ omega arith | Status bank high k n ↦ omega arith ]
 
 pub length-command : (c : Command) → IsCommand c → length (command_bytes c) ≤ 4609
 length-command (Wire board) h = omega (arith, length-board board (lengths_of board h))
@@ -169,19 +121,3 @@ length-command (Break at) h = omega arith
 length-command (Unbreak at) h = omega arith
 length-command (Watch bank src) h = omega arith
 length-command (Unwatch bank src) h = omega arith
-
--- each command takes a tag
-pub some-command : (c : Command) → 1 ≤ length (command_bytes c)
-some-command (Wire board) = omega arith
-some-command (Load image) = omega arith
-some-command (Press row column) = omega arith
-some-command (Release row column) = omega arith
-some-command (Run cycles) = omega arith
-some-command Step = omega arith
-some-command (Poke place) = omega arith
-some-command (Test bit) = omega arith
-some-command Reset = omega arith
-some-command (Break at) = omega arith
-some-command (Unbreak at) = omega arith
-some-command (Watch bank src) = omega arith
-some-command (Unwatch bank src) = omega arith

@@ -48,17 +48,17 @@ unfoldable pub map_bit_at : List ℕ → ℕ → ℕ
 map_bit_at marks at = bit_of (slice_index marks (at / 8)) (at % 8)
 
 -- the bytes of the addresses that a map has, that many addresses from one on
-unfoldable pub pairs_at : List ℕ → ℕ → ℕ → Reading (List (ℕ × ℕ))
-pairs_at marks zero at = giving []
-pairs_at marks (suc n) at =
+unfoldable pub addressed_at : List ℕ → ℕ → ℕ → Reading (List (ℕ × ℕ))
+addressed_at marks zero at = giving []
+addressed_at marks (suc n) at =
     if map_bit_at marks at == 1
-    then (do byte ← byte_at; others ← pairs_at marks n (at + 1); giving ((at, byte) ∷ others))
-    else pairs_at marks n (at + 1)
+    then (do byte ← byte_at; others ← addressed_at marks n (at + 1); giving ((at, byte) ∷ others))
+    else addressed_at marks n (at + 1)
 
 unfoldable pub image_at : Reading (List (ℕ × ℕ))
 image_at = do
   marks ← bytes_at 512
-  pairs_at marks 4096 0
+  addressed_at marks 4096 0
 
 -- after a tag, where reading takes no memory: any command but a load of an image
 abbrev pub command_without_image : ℕ → Reading Command

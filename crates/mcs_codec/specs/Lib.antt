@@ -3,7 +3,6 @@ pub mod BoardBytes
 pub mod BoardReading
 pub mod CommandBytes
 pub mod CommandReading
-pub mod Marked
 pub mod StateBytes
 pub mod StateReading
 pub mod Codec

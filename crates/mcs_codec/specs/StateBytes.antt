@@ -1,6 +1,6 @@
--- The bytes that spell a state, by groups. Each number of a list, and each single number of no
--- other width, is one byte. (Our own choice.)
-use Rattle.std.specs.Prelude.{ℕ, Bool, List, [], ◌∷◌, ◌++◌}
+-- The bytes that spell a state, by groups, in two versions. Each number of a list, and each single
+-- number of no other width, is one byte. (Our own choice.)
+use Rattle.std.specs.Prelude.{ℕ, List, [], ◌∷◌, ◌++◌}
 use Rattle.std.specs.List.{flat_map}
 use Rattle.std.specs.Int.{w32, to_be_bytes}
 use Rattle.mcs_model.specs.declared.regs.Regs.{Regs}
@@ -8,7 +8,6 @@ use Rattle.mcs_model.specs.Bus.{BusState}
 use Rattle.mcs_model.specs.BenchState.{BenchState}
 use Rattle.mcs_codec.specs.BoardBytes.{board_bytes, counted_bytes}
 use Rattle.mcs_codec.specs.CommandBytes.{address_bytes}
-use Rattle.mcs_codec.specs.Marked.{marked_bytes, watches_bytes}
 use Rattle.mcs_version1.specs.BenchState.{BenchState1}
 
 -- the bytes of the ROMs, the characters and the status characters of the RAM chips, the port
@@ -27,7 +26,7 @@ src_bytes p b = p.dcl ∷ b.rom_src ∷ (b.ram_src ++ p.owed ∷ [])
 -- the bits of the chains, the keys, TEST, the breakpoints
 abbrev pub wiring_bytes : BusState → List ℕ → List ℕ
 wiring_bytes b breakpoints =
-    flat_map (λ row. row) b.chains ++ (b.keys ++ (b.test ∷ counted_bytes address_bytes breakpoints))
+    flat_map (λ bits. bits) b.chains ++ (b.keys ++ (b.test ∷ counted_bytes address_bytes breakpoints))
 
 -- the groups after the board, and what comes after the breakpoints
 abbrev pub groups_bytes : Regs → BusState → List ℕ → List ℕ → List ℕ
@@ -52,11 +51,3 @@ state_bytes_1 s =
     to_be_bytes w32 s.seq
     ++ (board_bytes s.bus.board
     ++ groups_bytes s.processor s.bus s.breakpoints [])
-
--- a state in the one or the other: in version 1 where `version_1` is true (nothing to believe: for the
--- proofs)
-abbrev pub bytes_by : Bool × BenchState → List ℕ
-bytes_by (version_1, s) =
-    to_be_bytes w32 s.seq
-    ++ (marked_bytes (version_1, s.bus.board)
-    ++ groups_bytes s.processor s.bus s.breakpoints (watches_bytes version_1 s.watches))

@@ -3,7 +3,7 @@ ghost use Rattle.std.specs.Prelude.{◌≡◌, ℕ, ◌+◌, ◌≤◌, ◌<◌,
 ghost use Rattle.mcs_codec.specs.BoardBytes.{rom_bytes, board_line_bytes, chain_bytes, keys_bytes, board_bytes};
 ghost use Rattle.mcs_codec.specs.BoardReading.{rom_at, board_line_at, chain_at, keys_at, matrix_at, parts_at, board_at};
 
-use crate::encoding::{Decode, Encode, counted, fill, put, put_all, put_counted};
+use crate::encoding::{Decode, Encode, put, put_all, put_counted, read_counted, read_into};
 use crate::reader::Reader;
 use mcs_model::board::{Board, BoardParts, ChainPart, KeyMatrix, Line};
 use mcs_model::limits::{BANKS, ROMS};
@@ -128,7 +128,7 @@ fn read_matrix(reader: &mut Reader<'_>) -> Option<KeyMatrix>
     let chain = reader.byte()?;
     let first = reader.byte()?;
     let rows = reader.byte()?;
-    let columns = counted(reader)?;
+    let columns = read_counted(reader)?;
     Some(KeyMatrix {
         chain,
         first,
@@ -173,12 +173,12 @@ fn read_parts(reader: &mut Reader<'_>) -> Option<BoardParts>
     ensures { option_map (λ x. (x, reader.new)) result ≡ parts_at reader.old }
 {
     let mut roms = [None; ROMS];
-    fill(reader, &mut roms)?;
+    read_into(reader, &mut roms)?;
     let mut banks = [0; BANKS];
     reader.fill(&mut banks)?;
-    let chains = counted(reader)?;
+    let chains = read_counted(reader)?;
     let keys = read_keys(reader)?;
-    let lamps = counted(reader)?;
+    let lamps = read_counted(reader)?;
     Some(BoardParts {
         roms,
         banks,

@@ -19,9 +19,10 @@ use std::alloc::{AllocError, Global};
 /// encoding: how many bytes a record may have is the journal's own limit.
 pub const COMMAND_BYTES: usize = 8_192;
 
-/// A law: each part of a command is in its range.
+/// A law: each part of a command is in its range, and its tag takes a byte.
 fn command_is_in_range(command: &Command)
-    ensures { IsCommand command.now }
+    ensures range { IsCommand command.now }
+    ensures tag { 1 ≤ length (command_bytes command.now) }
 {
     match command {
         Command::Wire(board) => {
@@ -91,7 +92,7 @@ fn put_command(command: &Command, out: &mut [u8], at: usize) -> usize
     }
 }
 
-/// Spells a command at the front of these bytes, and answers how many it took: 1 to 4,609. Nothing
+/// Puts a command at the front of these bytes, and answers how many it took: 1 to 4,609. Nothing
 /// is said of those after.
 pub fn command_bytes(command: &Command, into: &mut [u8]) -> usize
     requires lent { COMMAND_BYTES ≤ length into.old }

@@ -54,7 +54,7 @@ pub fn put_all<T: Encode>(items: &[T], out: &mut [u8], at: usize) -> usize
 }
 
 /// Reads a value into each place.
-pub fn fill<T: Decode>(reader: &mut Reader<'_>, items: &mut [T]) -> Option<()>
+pub fn read_into<T: Decode>(reader: &mut Reader<'_>, items: &mut [T]) -> Option<()>
     ensures { option_map (λ _. (items.new, reader.new)) result
         ≡ many (length items.old) T.reading reader.old }
 {
@@ -65,7 +65,7 @@ pub fn fill<T: Decode>(reader: &mut Reader<'_>, items: &mut [T]) -> Option<()>
 }
 
 /// Reads that many values.
-pub fn list<T: Decode + Default, const CAP: usize>(
+pub fn read_list<T: Decode + Default, const CAP: usize>(
     reader: &mut Reader<'_>,
     count: usize,
 ) -> Option<ArrayVec<T, CAP>>
@@ -120,14 +120,14 @@ impl Decode for Addr {
 
 /// Reads a count, and that many values.
 #[tactic(auto, unfolding(crate::specs::Reading::counted_at))]
-pub fn counted<T: Decode + Default, const CAP: usize>(
+pub fn read_counted<T: Decode + Default, const CAP: usize>(
     reader: &mut Reader<'_>,
 ) -> Option<ArrayVec<T, CAP>>
     ensures { option_map (λ v. (v.items, reader.new)) result ≡ counted_at CAP T.reading reader.old }
 {
     let count = usize::from(reader.byte()?);
     if count <= CAP {
-        list(reader, count)
+        read_list(reader, count)
     } else {
         None
     }

@@ -2,7 +2,7 @@
 ghost use Rattle.std.specs.Prelude.{◌≡◌, ℕ, ◌+◌, ◌*◌, ◌≤◌, ◌<◌, ◌∷◌, ◌++◌, List, [], length, take, map, slice_index, option_map, IfOk};
 ghost use Rattle.mcs_nibble.specs.Tables.{table_of};
 ghost use Rattle.mcs_codec.specs.CommandBytes.{mark, byte_of, map_bytes, values, image_bytes};
-ghost use Rattle.mcs_codec.specs.CommandReading.{map_bit_at, pairs_at, image_at};
+ghost use Rattle.mcs_codec.specs.CommandReading.{map_bit_at, addressed_at, image_at};
 
 use crate::encoding::{Encode, put, put_all};
 use crate::reader::Reader;
@@ -16,13 +16,16 @@ const ADDRESSES: usize = 4096;
 /// Bytes of a map, a bit for each address.
 const MAP_BYTES: usize = 512;
 
-/// For each address, 1 where some pair has it.
-fn marks_of(pairs: &[(Addr, u8)]) -> [Bit; ADDRESSES]
-    ensures { (at : ℕ) → at < 4096 → slice_index result at ≡ mark pairs.now at }
+/// A byte of an image, after its address.
+type AddressedByte = (Addr, u8);
+
+/// For each address, 1 where an image has a byte at it.
+fn marks_of(image: &[AddressedByte]) -> [Bit; ADDRESSES]
+    ensures { (at : ℕ) → at < 4096 → slice_index result at ≡ mark image.now at }
 {
     let mut marks = [Bit::ZERO; ADDRESSES];
-    for pair in pairs {
-        marks[usize::from(pair.0.get())] = Bit::ONE;
+    for addressed in image {
+        marks[usize::from(addressed.0.get())] = Bit::ONE;
     }
     marks
 }
@@ -38,11 +41,11 @@ fn map_byte(marks: &[Bit], at: usize) -> u8
     low + middle + high
 }
 
-/// The map of the addresses of some pairs.
-fn map_of(pairs: &[(Addr, u8)]) -> [u8; MAP_BYTES]
-    ensures { result ≡ map_bytes pairs.now }
+/// The map of the addresses of an image.
+fn map_of(image: &[AddressedByte]) -> [u8; MAP_BYTES]
+    ensures { result ≡ map_bytes image.now }
 {
-    let marks = marks_of(pairs);
+    let marks = marks_of(image);
     let mut map = [0; MAP_BYTES];
     for i in 0..MAP_BYTES {
         map[i] = map_byte(&marks, 8 * i);
@@ -50,8 +53,8 @@ fn map_of(pairs: &[(Addr, u8)]) -> [u8; MAP_BYTES]
     map
 }
 
-impl Encode for (Addr, u8) {
-    ghost spelling = { λ pair. pair.1 ∷ [] };
+impl Encode for AddressedByte {
+    ghost spelling = { λ addressed. addressed.1 ∷ [] };
 
     fn put(&self, out: &mut [u8], at: usize) -> usize {
         put(out, at, &[self.1])
@@ -59,12 +62,12 @@ impl Encode for (Addr, u8) {
 }
 
 /// Puts the bytes by rising address.
-fn put_values(pairs: &[(Addr, u8)], out: &mut [u8], at: usize) -> usize
-    requires { at + length (values pairs.now) ≤ length out.old }
-    ensures end { result ≡ at + length (values pairs.now) }
-    ensures front { take result out.new ≡ take at out.old ++ values pairs.now }
+fn put_values(image: &[AddressedByte], out: &mut [u8], at: usize) -> usize
+    requires { at + length (values image.now) ≤ length out.old }
+    ensures end { result ≡ at + length (values image.now) }
+    ensures front { take result out.new ≡ take at out.old ++ values image.now }
 {
-    put_all(pairs, out, at)
+    put_all(image, out, at)
 }
 
 /// Puts an image at a place of the buffer, and answers the place after it.
@@ -73,9 +76,9 @@ pub fn put_image(image: &Image, out: &mut [u8], at: usize) -> usize
     ensures end { result ≡ at + length (image_bytes image.now) }
     ensures front { take result out.new ≡ take at out.old ++ image_bytes image.now }
 {
-    let pairs = image.pairs();
-    let at = put(out, at, &map_of(pairs));
-    put_values(pairs, out, at)
+    let addressed = image.pairs();
+    let at = put(out, at, &map_of(addressed));
+    put_values(addressed, out, at)
 }
 
 /// The bit of an address in a map.
@@ -88,15 +91,15 @@ fn map_bit_at(marks: &[u8], at: u16) -> u8
     marks[usize::from(at / 8)] >> (at % 8) & 1
 }
 
-/// What was read of an image: nothing where its bytes are not there.
-fn read_pairs(
+/// Reads the bytes of the addresses that a map has, by rising address.
+fn read_addressed(
     alloc: Global,
     reader: &mut Reader<'_>,
     marks: &[u8],
 ) -> Result<Option<Image>, AllocError>
     requires { length marks.now ≡ 512 }
     ensures { IfOk result (λ found.
-        option_map (λ x. (x, reader.new)) found ≡ pairs_at marks.now 4096 0 reader.old) }
+        option_map (λ x. (x, reader.new)) found ≡ addressed_at marks.now 4096 0 reader.old) }
 {
     let mut image = Image::new(alloc)?;
     for at in 0..4096 {
@@ -117,7 +120,7 @@ pub fn read_image(alloc: Global, reader: &mut Reader<'_>) -> Result<Option<Image
     ensures { IfOk result (λ found. option_map (λ x. (x, reader.new)) found ≡ image_at reader.old) }
 {
     match reader.bytes(MAP_BYTES) {
-        Some(marks) => read_pairs(alloc, reader, marks),
+        Some(marks) => read_addressed(alloc, reader, marks),
         None => Ok(None),
     }
 }

@@ -4,6 +4,9 @@
 //! of version 1, whose bytes begin otherwise, are read too, and carried over; nothing is written in
 //! version 1. A value out of its range, a board with which something is wrong, bytes that are left
 //! over and bytes that are missing spell nothing.
+//!
+//! `put` and `put_..` write a value at a place of a buffer, `read` and `read_..` read one from a
+//! `Reader`. Definitions ending in `_bytes` are what is written, those ending in `_at` what is read.
 #![tactic(auto)]
 
 mod boards;
@@ -20,4 +23,4 @@ pub use commands::{COMMAND_BYTES, command_bytes, command_of, one_command};
 pub use mcs_version1::laws::{boards_are_small, commands_lift, queries_lift};
 pub use restoring::bench_of;
 pub use saving::{STATE_BYTES, state_bytes};
-pub use versions::{in_version_1, one_state, version_of};
+pub use versions::{in_version_1, is_version_1, one_state, version_of};

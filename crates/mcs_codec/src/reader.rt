@@ -1,7 +1,6 @@
 //! Bytes, read from left to right.
-ghost use Rattle.std.specs.Prelude.{◌≡◌, ◌==◌, List, [], drop, length, option_map, Option, Some, None, IfSome, if◌then◌else◌};
+ghost use Rattle.std.specs.Prelude.{◌≡◌, ◌==◌, length, option_map, IfSome};
 ghost use Rattle.std.specs.Int.{w16, w32};
-ghost use Rattle.mcs_codec.specs.Marked.{is_marked};
 ghost use Rattle.mcs_codec.specs.Reading.{byte_at, wide_number_at, bytes_at};
 
 use std::marker::Model;
@@ -33,23 +32,6 @@ impl<'a> Reader<'a> {
         ensures { result ≡ (length self.now == 0) }
     {
         self.rest.is_empty()
-    }
-
-    /// Whether the mark of version 2 comes first, which is then read.
-    pub fn mark(&mut self) -> bool
-        ensures marked { result ≡ is_marked self.old }
-        ensures rest { self.new ≡ (if is_marked self.old then drop 1 self.old else self.old) }
-    {
-        match self.rest.split_first() {
-            Some((first, rest)) => {
-                if *first == 2 {
-                    self.rest = rest;
-                    return true;
-                }
-                false
-            }
-            None => false,
-        }
     }
 
     /// One byte.

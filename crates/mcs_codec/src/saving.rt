@@ -13,7 +13,7 @@ use mcs_bench::Bench;
 use mcs_nibble::{Addr, Nibble};
 
 /// The version in which states are written.
-const VERSION: u8 = 2;
+pub(crate) const VERSION: u8 = 2;
 
 /// Bytes that are lent to write a state into. No state takes more. This is a bound of the encoding:
 /// how many bytes a snapshot may have is the journal's own limit.
@@ -159,12 +159,12 @@ fn put_src_bytes(bench: &Bench, out: &mut [u8], at: usize) -> usize
 }
 
 /// Puts the bits of each chain.
-fn put_rows(bench: &Bench, out: &mut [u8], at: usize) -> usize
+fn put_chains(bench: &Bench, out: &mut [u8], at: usize) -> usize
     requires valid { IsValid bench.now }
-    requires room { at + length (flat_map (λ row. row) bench.now.bus.chains) ≤ length out.old }
-    ensures end { result ≡ at + length (flat_map (λ row. row) bench.now.bus.chains) }
+    requires room { at + length (flat_map (λ bits. bits) bench.now.bus.chains) ≤ length out.old }
+    ensures end { result ≡ at + length (flat_map (λ bits. bits) bench.now.bus.chains) }
     ensures front { take result out.new
-        ≡ take at out.old ++ flat_map (λ row. row) bench.now.bus.chains }
+        ≡ take at out.old ++ flat_map (λ bits. bits) bench.now.bus.chains }
 {
     let mut end = at;
     for n in 0..bench.board().chain_count() {
@@ -182,7 +182,7 @@ fn put_wiring(bench: &Bench, out: &mut [u8], at: usize) -> usize
     ensures front { take result out.new
         ≡ take at out.old ++ wiring_bytes bench.now.bus bench.now.breakpoints }
 {
-    let at = put_rows(bench, out, at);
+    let at = put_chains(bench, out, at);
     let at = StateList::Keys.put(bench, out, at);
     let at = put(out, at, &[bench.test().get()]);
     put_counted(bench.breaks(), out, at)
@@ -215,7 +215,7 @@ fn put_state(bench: &Bench, into: &mut [u8]) -> usize
     put_groups(bench, into, at)
 }
 
-/// Spells the state of a bench at the front of these bytes, and answers how many it took: at most
+/// Puts the state of a bench at the front of these bytes, and answers how many it took: at most
 /// 7,632. Nothing is said of those after.
 pub fn state_bytes(bench: &Bench, into: &mut [u8]) -> usize
     requires lent { STATE_BYTES ≤ length into.old }

@@ -4,34 +4,34 @@ ghost use Rattle.std.specs.List.{list_any};
 ghost use Rattle.mcs_model.specs.BenchState.{BenchState};
 ghost use Rattle.mcs_version1.specs.Boards.{is_small};
 ghost use Rattle.mcs_version1.specs.Command.{in_version_1};
-ghost use Rattle.mcs_codec.specs.Codec.{SpellsStateBy, version_of};
+ghost use Rattle.mcs_codec.specs.Codec.{SpellsStateBy, version_of, is_version_1};
 
 use mcs_model::board::Board;
 use mcs_model::command::Command;
 
 /// Chains of a board of version 1.
-const FIRST_CHAINS: usize = 2;
+const VERSION_1_CHAINS: usize = 2;
 
 /// Chips of a chain of version 1.
-const FIRST_CHAIN_CHIPS: u8 = 4;
+const VERSION_1_CHAIN_CHIPS: u8 = 4;
 
 /// Whether a board has a chain that is too long for version 1.
 fn has_long_chain(board: &Board) -> bool
     ensures { result
-        ≡ list_any (λ chain. nat_lt FIRST_CHAIN_CHIPS chain.chips) board.now.chains.items }
+        ≡ list_any (λ chain. nat_lt VERSION_1_CHAIN_CHIPS chain.chips) board.now.chains.items }
 {
     board
         .parts()
         .chains
         .iter()
-        .any(|chain| chain.chips > FIRST_CHAIN_CHIPS)
+        .any(|chain| chain.chips > VERSION_1_CHAIN_CHIPS)
 }
 
 /// Whether a board is one of version 1: at most two chains of at most four chips.
 pub(crate) fn is_small(board: &Board) -> bool
     ensures { result ≡ is_small board.now }
 {
-    if board.chain_count() > FIRST_CHAINS {
+    if board.chain_count() > VERSION_1_CHAINS {
         return false;
     }
     !has_long_chain(board)
@@ -70,6 +70,14 @@ pub fn version_of(bytes: &[u8]) -> Option<u8>
         2 => Some(2),
         _ => None,
     }
+}
+
+/// Whether the bytes of a state tell that they are of version 1. A state is read in the version that
+/// this tells: what is read tells no other.
+pub fn is_version_1(bytes: &[u8]) -> bool
+    ensures { result ≡ is_version_1 bytes.now }
+{
+    version_of(bytes).unwrap_or(2) == 1
 }
 
 /// A law: no bytes spell two states, nor states of both versions, and the fifth byte tells the

@@ -1,12 +1,9 @@
 use Rattle.std.proofs.Common.{arith}
-use Rattle.mcs_codec.proofs.Sizes.{length-command, some-command}
+use Rattle.mcs_codec.proofs.Sizes.{length-command}
 use Rattle.mcs_codec.proofs.commands.command_bytes.Goals as goal
 
 pub put_command-requires : goal.put_command-requires
-put_command-requires c = omega (arith, length-command c.args.command.now c.command_is_in_range.ensures)
-
-pub returns-clause-some : goal.returns-clause-some
-returns-clause-some c = omega (arith, some-command c.args.command.now)
+put_command-requires c = omega (arith, length-command c.args.command.now c.command_is_in_range.ensures.range)
 
 pub returns-clause-fits : goal.returns-clause-fits
-returns-clause-fits c = omega (arith, length-command c.args.command.now c.command_is_in_range.ensures)
+returns-clause-fits c = omega (arith, length-command c.args.command.now c.command_is_in_range.ensures.range)

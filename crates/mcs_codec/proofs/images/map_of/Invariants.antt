@@ -6,5 +6,5 @@ use Rattle.mcs_codec.proofs.images.map_of.Given as goal
 abbrev pub invariant-loop-i : goal.invariant-loop-i
 invariant-loop-i l = record {
   len : length l.map ≡ 512;
-  so_far : (j : ℕ) → j < l.i → get_or l.map j 0 ≡ byte_of (λ k. mark l.pairs (8 * j + k));
+  so_far : (j : ℕ) → j < l.i → get_or l.map j 0 ≡ byte_of (λ k. mark l.image (8 * j + k));
 }

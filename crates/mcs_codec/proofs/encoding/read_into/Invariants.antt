@@ -1,7 +1,7 @@
 use Rattle.std.proofs.Common.{◌≡◌, ◌-◌, length, take}
 use Rattle.mcs_codec.specs.Reading.{many}
 use Rattle.mcs_codec.proofs.Loops.{with_front}
-use Rattle.mcs_codec.proofs.encoding.fill.Given as goal
+use Rattle.mcs_codec.proofs.encoding.read_into.Given as goal
 
 -- the values so far, and those that are still read, are all
 abbrev pub invariant-loop-i : goal.invariant-loop-i

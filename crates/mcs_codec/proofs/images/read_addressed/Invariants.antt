@@ -1,12 +1,12 @@
 use Rattle.std.proofs.Common.{◌≡◌, ◌-◌, ◌<◌}
 use Rattle.std.specs.List.{All}
-use Rattle.mcs_codec.specs.CommandReading.{pairs_at}
+use Rattle.mcs_codec.specs.CommandReading.{addressed_at}
 use Rattle.mcs_codec.proofs.Loops.{with_front}
-use Rattle.mcs_codec.proofs.images.read_pairs.Given as goal
+use Rattle.mcs_codec.proofs.images.read_addressed.Given as goal
 
 -- the bytes so far, and those that are still read, are all
 abbrev pub invariant-loop-at : goal.invariant-loop-at
 invariant-loop-at l = record {
-  all : with_front l.image (pairs_at l.marks (4096 - l.at) l.at l.reader) ≡ pairs_at l.marks 4096 0 l.fn.reader;
+  all : with_front l.image (addressed_at l.marks (4096 - l.at) l.at l.reader) ≡ addressed_at l.marks 4096 0 l.fn.reader;
   below : All (λ p. p.0 < l.at) l.image;
 }
