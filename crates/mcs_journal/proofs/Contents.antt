@@ -38,6 +38,12 @@ holds_on f c snap rs news old sized slot name zeros same log = record {
 pub area_holds : (c snap area : List ℕ) → length c ≡ 163856 → part 0 8 c ≡ NAME → part 9 7 c ≡ ZEROS → IsArea snap area → part (slot_at c) 16385 c ≡ area → Holds c snap []
 area_holds c snap area long name zeros is_area there =
     let log = part (slot_at c + 16384) 65536 c in
+    let flat : slot_at c ≡ slot_at c + 0 = omega arith in
+    let flat_log : slot_at c + 16384 + 0 ≡ slot_at c + 16384 = omega arith in
+    let inner : (j n m : ℕ) → 16385 ≡ j + m → n ≤ m → part (slot_at c + j) n c ≡ part j n area = λ j n m is le. sym (part_part (slot_at c) 16385 j n m c is le) ∙ ap (part j n) there in
+    let sized : length log ≡ 65536 = length-part (slot_at c + 16384) 65536 c (omega (arith, slot_bounds c, long)) in
+    let closed : get_or log 0 0 ≡ 0 = part_at (slot_at c + 16384) 65536 c 0 (omega arith) ∙ ap (λ (i : ℕ). get_or c i 0) flat_log
+    ∙ sym (part_at (slot_at c) 16385 c 16384 (omega arith)) ∙ ap (λ (l : List ℕ). get_or l 16384 0) there ∙ is_area.closed in
     record {
       size = long;
       name = name;
@@ -47,24 +53,6 @@ area_holds c snap area long name zeros is_area there =
       snap_bytes = inner 4 (length snap) 16381 (omega arith) (omega (arith, is_area.short)) ∙ is_area.snap_bytes;
       log = record { commit_byte = 0; rest = drop 1 log; is = drop_more log 0 0 (omega (arith, sized)) ∙ ap (λ (q : ℕ). q ∷ drop 1 log) closed; closed = λ no. cc; records_ok = tt };
     }
-  where
-    flat : slot_at c ≡ slot_at c + 0
-    flat = omega arith
-
-    flat_log : slot_at c + 16384 + 0 ≡ slot_at c + 16384
-    flat_log = omega arith
-
-    inner : (j n m : ℕ) → 16385 ≡ j + m → n ≤ m → part (slot_at c + j) n c ≡ part j n area
-    inner j n m is le = sym (part_part (slot_at c) 16385 j n m c is le) ∙ ap (part j n) there
-
-    sized : length (part (slot_at c + 16384) 65536 c) ≡ 65536
-    sized = length-part (slot_at c + 16384) 65536 c (omega (arith, slot_bounds c, long))
-
-    closed : get_or (part (slot_at c + 16384) 65536 c) 0 0 ≡ 0
-    closed =
-        part_at (slot_at c + 16384) 65536 c 0 (omega arith)
-        ∙ ap (λ (i : ℕ). get_or c i 0) flat_log
-        ∙ sym (part_at (slot_at c) 16385 c 16384 (omega arith)) ∙ ap (λ (l : List ℕ). get_or l 16384 0) there ∙ is_area.closed
 
 -- a write inside the active log leaves the rest of the contents
 kept_outside : (f c snap : List ℕ) (rs news : List (List ℕ)) (at n : ℕ) → Holds f snap rs → Torn at n f c → slot_at f + 16384 ≤ at → IsLog news (part (slot_at f + 16384) 65536 c) → Holds c snap news

@@ -1,7 +1,6 @@
 pub mod Headers
 pub mod Logs
 pub mod NextRecord
-pub mod OnOk
 pub mod Contents
 pub mod Parts
 pub mod Refusing

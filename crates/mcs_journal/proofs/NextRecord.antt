@@ -7,7 +7,7 @@ use Rattle.mcs_journal.specs.File.{frame_of, be16}
 use Rattle.mcs_journal.specs.Writing.{IsNext, IsNoRecord}
 use Rattle.mcs_journal.proofs.Parts.{part_at, part_part}
 
-pub part_add : (at m n : ℕ) (f : List ℕ) → part at (m + n) f ≡ part at m f ++ part (at + m) n f
+part_add : (at m n : ℕ) (f : List ℕ) → part at (m + n) f ≡ part at m f ++ part (at + m) n f
 part_add at m n f = take-add m n (drop at f) ∙ ap (λ (l : List ℕ). part at m f ++ take n l) (drop-drop m at f)
 
 two : (p : List ℕ) → length p ≡ 2 → p ≡ get_or p 0 0 ∷ get_or p 1 0 ∷ []
@@ -23,54 +23,34 @@ one (a ∷ b ∷ p) long = absurd (omega arith)
 
 pub next_is : (f : List ℕ) (at n : ℕ) (commit_byte prefix r : List ℕ) → commit_byte ≡ part at 1 f → length commit_byte ≡ 1 → get_or commit_byte 0 0 ≡ 1 → prefix ≡ part (at + 1) 2 f → length prefix ≡ 2 → get_or prefix 1 0 < 256
     → n ≡ get_or prefix 0 0 * 256 + get_or prefix 1 0 → r ≡ part (at + 3) n f → length r ≡ n → 1 ≤ n → n ≤ 8192 → IsNext f at r
-next_is f at n commit_byte prefix r is_commit commit_long opened is_prefix prefix_long low is is_r r_long some few = record { good = (omega arith, omega arith); is = whole }
-  where
-    a : ℕ
-    a = get_or prefix 0 0
-
-    b : ℕ
-    b = get_or prefix 1 0
-
-    commit_is : part at 1 f ≡ 1 ∷ []
-    commit_is = sym is_commit ∙ one commit_byte commit_long ∙ ap (λ (x : ℕ). x ∷ []) opened
-
-    high_is : get_or prefix 0 0 ≡ length r / 256
-    high_is = omega (arith, is, r_long, low)
-
-    low_is : get_or prefix 1 0 ≡ length r % 256
-    low_is = omega (arith, is, r_long, low)
-
-    prefix_is : part (at + 1) 2 f ≡ be16 (length r)
-    prefix_is = sym is_prefix ∙ two prefix prefix_long ∙ (λ k. high_is k ∷ low_is k ∷ [])
-
-    count : length r + 3 ≡ 1 + (2 + n)
-    count = omega (arith, r_long)
-
-    shift : at + 1 + 2 ≡ at + 3
-    shift = omega arith
-
-    whole : part at (length r + 3) f ≡ frame_of r
-    whole =
-        ap (λ (k : ℕ). part at k f) count
-        ∙ part_add at 1 (2 + n) f
-        ∙ ap (λ (l : List ℕ). part at 1 f ++ l) (part_add (at + 1) 2 n f)
-        ∙ ap (λ (k : ℕ). part at 1 f ++ (part (at + 1) 2 f ++ part k n f)) shift
-        ∙ (λ k. commit_is k ++ (prefix_is k ++ sym is_r k))
+next_is f at n commit_byte prefix r is_commit commit_long opened is_prefix prefix_long low is is_r r_long some few =
+    let commit_is : part at 1 f ≡ 1 ∷ [] = sym is_commit ∙ one commit_byte commit_long ∙ ap (λ (x : ℕ). x ∷ []) opened in
+    let high_is : get_or prefix 0 0 ≡ length r / 256 = omega (arith, is, r_long, low) in
+    let low_is : get_or prefix 1 0 ≡ length r % 256 = omega (arith, is, r_long, low) in
+    let prefix_is : part (at + 1) 2 f ≡ be16 (length r) = sym is_prefix ∙ two prefix prefix_long ∙ (λ k. high_is k ∷ low_is k ∷ []) in
+    let count : length r + 3 ≡ 1 + (2 + n) = omega (arith, r_long) in
+    let shift : at + 1 + 2 ≡ at + 3 = omega arith in
+    record {
+      good = (omega arith, omega arith);
+      is =
+          ap (λ (k : ℕ). part at k f) count
+          ∙ part_add at 1 (2 + n) f
+          ∙ ap (λ (l : List ℕ). part at 1 f ++ l) (part_add (at + 1) 2 n f)
+          ∙ ap (λ (k : ℕ). part at 1 f ++ (part (at + 1) 2 f ++ part k n f)) shift
+          ∙ (λ k. commit_is k ++ (prefix_is k ++ sym is_r k));
+    }
 
 pub no_record : (f : List ℕ) (at room n : ℕ) (commit_byte prefix : List ℕ) → commit_byte ≡ part at 1 f → get_or commit_byte 0 0 ≡ 1 → prefix ≡ part (at + 1) 2 f
     → n ≡ get_or prefix 0 0 * 256 + get_or prefix 1 0 → (1 ≤ n → n ≤ 8192 → n + 4 ≤ room → ⊥) → IsNoRecord f at room
-no_record f at room n commit_byte prefix is_commit opened is_prefix is not_good = record {
-  opened = there;
-  none = λ r fits next.
-      let prefix_is : prefix ≡ be16 (length r) = is_prefix ∙ sym (part_part at (length r + 3) 1 2 (length r + 2) f (omega arith) (omega arith)) ∙ ap (part 1 2) next.is in
-      let high : get_or prefix 0 0 ≡ length r / 256 = ap (λ (l : List ℕ). get_or l 0 0) prefix_is in
-      let low : get_or prefix 1 0 ≡ length r % 256 = ap (λ (l : List ℕ). get_or l 1 0) prefix_is in
-      let same : n ≡ length r = omega (arith, high, low, is) in
-      let good = next.good in
-      not_good (omega (arith, same, good.0)) (omega (arith, same, good.1)) (omega (arith, same, fits));
-}
-  where
-    there : get_or f at 0 ≡ 1
-    there =
-        let place : at ≡ at + 0 = omega arith in
-        ap (λ (i : ℕ). get_or f i 0) place ∙ sym (part_at at 1 f 0 (omega arith)) ∙ ap (λ (l : List ℕ). get_or l 0 0) (sym is_commit) ∙ opened
+no_record f at room n commit_byte prefix is_commit opened is_prefix is not_good =
+    let place : at ≡ at + 0 = omega arith in
+    record {
+      opened = ap (λ (i : ℕ). get_or f i 0) place ∙ sym (part_at at 1 f 0 (omega arith)) ∙ ap (λ (l : List ℕ). get_or l 0 0) (sym is_commit) ∙ opened;
+      none = λ r fits next.
+          let prefix_is : prefix ≡ be16 (length r) = is_prefix ∙ sym (part_part at (length r + 3) 1 2 (length r + 2) f (omega arith) (omega arith)) ∙ ap (part 1 2) next.is in
+          let high : get_or prefix 0 0 ≡ length r / 256 = ap (λ (l : List ℕ). get_or l 0 0) prefix_is in
+          let low : get_or prefix 1 0 ≡ length r % 256 = ap (λ (l : List ℕ). get_or l 1 0) prefix_is in
+          let same : n ≡ length r = omega (arith, high, low, is) in
+          let good = next.good in
+          not_good (omega (arith, same, good.0)) (omega (arith, same, good.1)) (omega (arith, same, fits));
+    }

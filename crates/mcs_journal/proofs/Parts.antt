@@ -12,14 +12,10 @@ part_at at n f i lt = get_or-take n (drop at f) i 0 lt ∙ get_or-drop at f i 0
 
 -- a part outside the range stays
 pub part_same : (at n lo k : ℕ) (f c : List ℕ) → Torn at n f c → (lo + k ≤ at) ⊎ (at + n ≤ lo) → part lo k c ≡ part lo k f
-part_same at n lo k f c torn apart = ext_get_or 0 _ _ long (λ i lt. at_index i (below i lt))
+part_same at n lo k f c torn apart =
+    let long : length (part lo k c) ≡ length (part lo k f) = omega (arith, length-take k (drop lo c), length-drop lo c, length-take k (drop lo f), length-drop lo f, torn.size) in
+    ext_get_or 0 _ _ long (λ i lt. at_index i (omega (arith, lt, length-take k (drop lo c))))
   where
-    long : length (part lo k c) ≡ length (part lo k f)
-    long = omega (arith, length-take k (drop lo c), length-drop lo c, length-take k (drop lo f), length-drop lo f, torn.size)
-
-    below : (i : ℕ) → i < length (part lo k c) → i < k
-    below i lt = omega (arith, lt, length-take k (drop lo c))
-
     same : (i : ℕ) → i < k → get_or c (lo + i) 0 ≡ get_or f (lo + i) 0
     same i lt = elim apart [ inl under ↦ torn.before (lo + i) (omega (arith, under, lt)) | inr over ↦ torn.after (lo + i) (omega (arith, over)) ]
 
@@ -28,20 +24,16 @@ part_same at n lo k f c torn apart = ext_get_or 0 _ _ long (λ i lt. at_index i 
 
 -- a part round the range is torn in its turn
 pub part_torn : (at n lo k j : ℕ) (f c : List ℕ) → Torn at n f c → lo + k ≤ length f → at ≡ lo + j → j + n ≤ k → Torn j n (part lo k f) (part lo k c)
-part_torn at n lo k j f c torn fits is inside = record {
-  size = length-part lo k c (omega (arith, fits, torn.size)) ∙ sym (length-part lo k f fits);
-  before = λ i lt. part_at lo k c i (omega (arith, lt, inside)) ∙ torn.before (lo + i) (omega (arith, lt, is)) ∙ sym (part_at lo k f i (omega (arith, lt, inside)));
-  after = λ i le. past i le;
-}
-  where
-    long_c : length (part lo k c) ≡ k
-    long_c = length-part lo k c (omega (arith, fits, torn.size))
-
-    past : (i : ℕ) → j + n ≤ i → get_or (part lo k c) i 0 ≡ get_or (part lo k f) i 0
-    past i le = elim (cases_lt i k) [
-      | inl lt ↦ part_at lo k c i lt ∙ torn.after (lo + i) (omega (arith, le, is)) ∙ sym (part_at lo k f i lt)
-      | inr over ↦ get_or_past (part lo k c) i 0 (omega (arith, over, long_c)) ∙ sym (get_or_past (part lo k f) i 0 (omega (arith, over, length-part lo k f fits)))
-    ]
+part_torn at n lo k j f c torn fits is inside =
+    let long : length (part lo k c) ≡ k = length-part lo k c (omega (arith, fits, torn.size)) in
+    record {
+      size = long ∙ sym (length-part lo k f fits);
+      before = λ i lt. part_at lo k c i (omega (arith, lt, inside)) ∙ torn.before (lo + i) (omega (arith, lt, is)) ∙ sym (part_at lo k f i (omega (arith, lt, inside)));
+      after = λ i le. elim (cases_lt i k) [
+        | inl lt ↦ part_at lo k c i lt ∙ torn.after (lo + i) (omega (arith, le, is)) ∙ sym (part_at lo k f i lt)
+        | inr over ↦ get_or_past (part lo k c) i 0 (omega (arith, over, long)) ∙ sym (get_or_past (part lo k f) i 0 (omega (arith, over, length-part lo k f fits)))
+      ];
+    }
 
 -- a part of a part
 pub part_part : (lo k j n m : ℕ) (f : List ℕ) → k ≡ j + m → n ≤ m → part j n (part lo k f) ≡ part (lo + j) n f

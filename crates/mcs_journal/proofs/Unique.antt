@@ -2,30 +2,23 @@
 use Rattle.std.proofs.Common.{◌≡◌, ◌≢◌, ◌≤◌, ◌+◌, ◌/◌, ◌%◌, List, [], ◌∷◌, ◌++◌, ℕ, length, take, drop, refl, sym, ◌∙◌, ap, arith, append_assoc}
 use Rattle.std.proofs.lemmas.List.{take_at, drop_at}
 use Rattle.mcs_disk.specs.Disk.{part}
-use Rattle.mcs_journal.specs.File.{Holds, IsLog, frames_of, be32, slot_at}
-
--- two numbers of the same two bytes
-same_16 : (m n : ℕ) → m / 256 ≡ n / 256 → m % 256 ≡ n % 256 → m ≡ n
-same_16 m n high low = omega (arith, high, low)
+use Rattle.mcs_journal.specs.File.{Holds, frames_of, be32, slot_at}
 
 -- records of the same bytes, up to a commit byte that is not 1
-pub same_frames : (rs ss : List (List ℕ)) (g h : ℕ) (xs ys : List ℕ) → g ≢ 1 → h ≢ 1 → frames_of rs ++ g ∷ xs ≡ frames_of ss ++ h ∷ ys → rs ≡ ss
+same_frames : (rs ss : List (List ℕ)) (g h : ℕ) (xs ys : List ℕ) → g ≢ 1 → h ≢ 1 → frames_of rs ++ g ∷ xs ≡ frames_of ss ++ h ∷ ys → rs ≡ ss
 same_frames [] [] g h xs ys shut closed same = refl
 same_frames [] (s ∷ ss) g h xs ys shut closed same = let one : g ≡ 1 = cc in absurd (shut one)
 same_frames (r ∷ rs) [] g h xs ys shut closed same = let one : h ≡ 1 = cc in absurd (closed one)
 same_frames (r ∷ rs) (s ∷ ss) g h xs ys shut closed same =
     let high : length r / 256 ≡ length s / 256 = cc in
     let low : length r % 256 ≡ length s % 256 = cc in
-    let long = same_16 (length r) (length s) high low in
+    let long : length r ≡ length s = omega (arith, high, low) in
     let tails : (r ++ frames_of rs) ++ g ∷ xs ≡ (s ++ frames_of ss) ++ h ∷ ys = cc in
     let apart : r ++ (frames_of rs ++ g ∷ xs) ≡ s ++ (frames_of ss ++ h ∷ ys) = sym (append_assoc r (frames_of rs) (g ∷ xs)) ∙ tails ∙ append_assoc s (frames_of ss) (h ∷ ys) in
     let head : r ≡ s = sym (take_at r (frames_of rs ++ g ∷ xs) (length r) refl) ∙ ap (λ (l : List ℕ). take (length r) l) apart ∙ take_at s (frames_of ss ++ h ∷ ys) (length r) (sym long) in
     let rest : frames_of rs ++ g ∷ xs ≡ frames_of ss ++ h ∷ ys = sym (drop_at r (frames_of rs ++ g ∷ xs) (length r) refl) ∙ ap (λ (l : List ℕ). drop (length r) l) apart ∙ drop_at s (frames_of ss ++ h ∷ ys) (length r) (sym long) in
     let more = same_frames rs ss g h xs ys shut closed rest in
     (λ k. head k ∷ more k)
-
-pub same_log : (rs ss : List (List ℕ)) (log : List ℕ) → IsLog rs log → IsLog ss log → rs ≡ ss
-same_log rs ss log a b = same_frames rs ss a.commit_byte b.commit_byte a.rest b.rest a.closed b.closed (sym a.is ∙ b.is)
 
 -- two numbers of the same four bytes
 same_32 : (m n : ℕ) → m ≤ 16380 → n ≤ 16380 → be32 m ≡ be32 n → m ≡ n
@@ -40,4 +33,4 @@ same_snap file snap other rs ss a b =
     sym a.snap_bytes ∙ ap (λ (n : ℕ). part (slot_at file + 4) n file) long ∙ b.snap_bytes
 
 pub same_records : (file snap other : List ℕ) (rs ss : List (List ℕ)) → Holds file snap rs → Holds file other ss → rs ≡ ss
-same_records file snap other rs ss a b = same_log rs ss _ a.log b.log
+same_records file snap other rs ss a b = same_frames rs ss _ _ _ _ a.log.closed b.log.closed (sym a.log.is ∙ b.log.is)

@@ -13,9 +13,6 @@ pub record IsPrefix (records : List (List ℕ)) (used : ℕ) (log : List ℕ) : 
   pub count : used ≡ length (frames_of records)
   pub good : AreRecords records
 
-pub nothing_read : (log : List ℕ) → IsPrefix [] 0 log
-nothing_read log = record { is = refl; count = refl; good = tt }
-
 module _ (f : List ℕ) (at : ℕ) (fits : at + 65536 ≤ length f) (rs : List (List ℕ)) (used : ℕ) where
   abbrev log : List ℕ
   log = part at 65536 f

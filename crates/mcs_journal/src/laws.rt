@@ -42,8 +42,8 @@ pub fn cut_leaves_old_or_new_contents<D: Disk, E: Disk>()
 {}
 
 /// The contents of a durable disk, as [`append`](crate::Store::append) and
-/// [`replace`](crate::Store::replace) leave it with Ok, are held by the disk that a power cut leaves
-/// from then on.
+/// [`replace`](crate::Store::replace) leave it with Ok, are held by the disk that a power cut
+/// leaves from then on.
 pub fn cut_leaves_durable_contents<D: Disk, E: Disk>()
     ensures { (snap : List ℕ) (records : List (List ℕ)) (disk : D) (found : E)
         → IsDurable (D.state disk) → Holds (D.state disk).bytes snap records

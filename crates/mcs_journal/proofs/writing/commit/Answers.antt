@@ -1,9 +1,12 @@
-use Rattle.std.proofs.Common.{◌≡◌, inl, inr, ⊎_elim, ◌≤◌, ◌+◌, List, ℕ, length, sym, ◌∙◌, ap, subst, arith}
+use Rattle.std.proofs.Common.{◌≡◌, inl, inr, ⊎_elim, ◌+◌, List, ℕ, length, sym, ◌∙◌, ap, subst, arith, Result, Ok, Err, OnOk}
 use Rattle.std.proofs.lemmas.Result.{on_ok_weaker}
 use Rattle.mcs_disk.specs.Disk.{part, Torn, Only}
 use Rattle.mcs_disk.proofs.Composing.{later_then}
-use Rattle.mcs_journal.proofs.OnOk.{ok_both}
 use Rattle.mcs_journal.proofs.writing.commit.Goals as goal
+
+ok_both : {T E A B C : Type 0} (r : Result T E) → (A → B → C) → OnOk r A → OnOk r B → OnOk r C
+ok_both (Ok x) f a b = f a b
+ok_both (Err e) f a b = tt
 
 pub returns-clause-commits : goal.returns-clause-commits
 returns-clause-commits g c = λ h.
