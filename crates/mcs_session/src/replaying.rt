@@ -8,7 +8,7 @@ ghost use Rattle.mcs_version1.specs.Command.{in_version_1};
 ghost use Rattle.mcs_session.specs.Stands.{RecordsStandFor};
 
 use mcs_bench::Bench;
-use mcs_codec::{bench_of, command_of, in_version_1, version_of};
+use mcs_codec::{bench_of, command_of, in_version_1, is_version_1};
 use mcs_journal::Records;
 use mcs_model::command::Command;
 use mcs_model::limits::REPLAY_CYCLES;
@@ -32,13 +32,6 @@ pub(crate) fn replay_cycles(command: &Command) -> u32
         Command::Step => 2,
         _ => 0,
     }
-}
-
-/// Whether a snapshot tells that it is of version 1.
-fn is_version_1(snap: &[u8]) -> bool
-    ensures { result ≡ is_version_1 snap.now }
-{
-    version_of(snap).unwrap_or(2) == 1
 }
 
 /// Whether a command may stand in a log, of version 1 where `version_1` is true.
