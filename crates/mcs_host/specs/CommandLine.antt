@@ -1,12 +1,12 @@
--- The command line of the program, and what its words mean by clap's definition of the matches.
+-- The command line of the program, and what its arguments mean by clap's definition of the matches.
 -- (Our own choice.)
 use Rattle.std.specs.Prelude.{List, Bool, true, codes, Option, None, ◌||◌, if◌then◌else◌, option_map, option_and_then}
 use Rattle.std.specs.Str.{bytes_eq}
 use Rattle.clap.specs.Words.{App, Row, Rule, Text, first_of, new_app, new_rule, subcommand_of, takes, with_rule, with_subcommand}
-use Rattle.mcs_host.specs.declared.words.Choice.{Choice}
-use Rattle.mcs_host.specs.declared.words.Choice.TheVariants.{New, Open}
+use Rattle.mcs_host.specs.declared.arguments.Choice.{Choice}
+use Rattle.mcs_host.specs.declared.arguments.Choice.TheVariants.{New, Open}
 
--- the word FILE, which has to be given
+-- the argument FILE, which has to be given
 abbrev pub file_rule : Rule
 file_rule = record (new_rule (codes "FILE")) { required = true }
 
@@ -20,9 +20,9 @@ program =
     with_subcommand (with_subcommand (new_app (codes "mcs4")) (over_file (codes "new")).top)
     (over_file (codes "open")).top
 
--- clap's definition takes these words, the program's name first
-unfoldable pub takes_words : List Text → Bool
-takes_words words = takes program words
+-- clap's definition takes these arguments, the program's name first
+unfoldable pub takes_arguments : List Text → Bool
+takes_arguments arguments = takes program arguments
 
 -- `new` or `open`, with its FILE
 abbrev pub file_in : Text × List Row → Option (Text × Text)
@@ -30,11 +30,11 @@ file_in entered =
     if bytes_eq entered.0 (codes "new") || bytes_eq entered.0 (codes "open")
     then option_map (λ file. (entered.0, file)) (first_of (codes "FILE") entered.1) else None
 
--- the subcommand and the FILE that clap's definition of the matches gives for these words
+-- the subcommand and the FILE that clap's definition of the matches gives for these arguments
 unfoldable pub choice_in : List Text → Option (Text × Text)
-choice_in words = option_and_then file_in (subcommand_of program words)
+choice_in arguments = option_and_then file_in (subcommand_of program arguments)
 
 -- a choice as a subcommand and its FILE
-abbrev pub words_of_choice : Choice → Text × Text
-words_of_choice (New file) = (codes "new", file)
-words_of_choice (Open file) = (codes "open", file)
+abbrev pub arguments_of_choice : Choice → Text × Text
+arguments_of_choice (New file) = (codes "new", file)
+arguments_of_choice (Open file) = (codes "open", file)

@@ -12,8 +12,8 @@ use Rattle.mcs_host.specs.declared.ending.Ending.{Ending}
 abbrev pub IsHonest : CallRecord → Ending → Type 0
 IsHonest history end = images_after history.start end.calls_by_the_end end.found
 
--- what contracts see of a file that has that many faults, these bytes, this record of calls and this
--- end
+-- what contracts see of a file that has that many faults, these bytes, this record of calls and
+-- this end
 abbrev pub file_state : ℕ → List ℕ → CallRecord → Ending → DiskState
 file_state faults bytes history end =
     called_disk (IsHonest history end) faults bytes history.start history.calls

@@ -1,4 +1,4 @@
-//! Runs the host's part of the program: a session file as a disk, the words of the command line, and a session over both.
+//! Runs the host's part of the program: a session file as a disk, the arguments of the command line, and a session over both.
 #![tactic(auto)]
 
 #[cfg(test)]

@@ -1,4 +1,4 @@
-//! Sessions in files of the host, chosen by the words of the command line.
+//! Sessions in files of the host, chosen by the arguments of the command line.
 use crate::checks::equal;
 use crate::files::{read, remove, write};
 use mcs_fixtures::files::{NEW_BENCH, POKE};
@@ -15,9 +15,9 @@ const SCRIPT: &[u8] = b"poke r5 9\nseq\nregs\n";
 const ANSWERS: &[u8] =
     b"session 0\nok 1\nseq 1\nacc 0 cy 0 pc 000 owed 0 dcl 0 test 1 r 0000090000000000 ret 000 000 000\n";
 
-/// What the program is to do by a word of the command line with a file.
-pub(crate) fn chosen(alloc: Global, word: &str, path: &str) -> Option<Choice> {
-    choice(alloc, &["mcs4", word, path]).ok()
+/// What the program is to do by a subcommand of the command line with a file.
+pub(crate) fn chosen(alloc: Global, subcommand: &str, path: &str) -> Option<Choice> {
+    choice(alloc, &["mcs4", subcommand, path]).ok()
 }
 
 /// The session that is chosen, or the number that it is refused by.
@@ -28,13 +28,13 @@ fn begun(rt: &HostRuntime, choice: &Choice) -> Result<Session<FileDisk>, u8> {
     }
 }
 
-/// The session of a word with a file, or the number that it is refused by: 0 where the words choose none.
+/// The session of a subcommand with a file, or the number that it is refused by: 0 where the arguments choose none.
 pub(crate) fn session_of(
     rt: &HostRuntime,
-    word: &str,
+    subcommand: &str,
     path: &str,
 ) -> Result<Session<FileDisk>, u8> {
-    match chosen(rt.alloc(), word, path) {
+    match chosen(rt.alloc(), subcommand, path) {
         Some(choice) => begun(rt, &choice),
         None => Err(0),
     }
@@ -45,9 +45,9 @@ fn seq_of(session: &Session<FileDisk>) -> u32 {
     session.bench().seq()
 }
 
-/// The count of the commands of the session of a word with a file, or the number that it is refused by.
-pub(crate) fn count_of(rt: &HostRuntime, word: &str, path: &str) -> Result<u32, u8> {
-    match session_of(rt, word, path) {
+/// The count of the commands of the session of a subcommand with a file, or the number that it is refused by.
+pub(crate) fn count_of(rt: &HostRuntime, subcommand: &str, path: &str) -> Result<u32, u8> {
+    match session_of(rt, subcommand, path) {
         Ok(session) => Ok(seq_of(&session)),
         Err(number) => Err(number),
     }
@@ -132,12 +132,17 @@ fn changed(rt: &impl Abort, alloc: Global, made: &[u8], (at, size, _): Change) -
     bytes
 }
 
-/// How a word with a file of these bytes is refused, if it is written first, and is as it was then.
-fn refusal_of(rt: &HostRuntime, word: &str, path: &str, bytes: &[u8]) -> Option<Result<u32, u8>> {
+/// How a subcommand with a file of these bytes is refused, if it is written first, and is as it was then.
+fn refusal_of(
+    rt: &HostRuntime,
+    subcommand: &str,
+    path: &str,
+    bytes: &[u8],
+) -> Option<Result<u32, u8>> {
     if !write(rt, path, bytes) {
         return None;
     }
-    let count = count_of(rt, word, path);
+    let count = count_of(rt, subcommand, path);
     match read(rt, path) {
         Some(left) if left.as_slice() == bytes => Some(count),
         _ => None,

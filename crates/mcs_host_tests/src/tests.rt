@@ -1,8 +1,8 @@
-//! Files of the host as disks, and the words of the command line.
+//! Files of the host as disks, and the arguments of the command line.
 use crate::checks::equal;
 use crate::files::{remove, write};
 use mcs_disk::{Disk, DiskFault};
-use mcs_host::{Choice, FileDisk, FileFault, WordsFault, choice};
+use mcs_host::{ArgumentsFault, Choice, FileDisk, FileFault, choice};
 use std::alloc::Global;
 use std::fs::OpenOptions;
 use std::os::unix::fs::FileExt;
@@ -121,31 +121,31 @@ fn a_file_of_another_size_is_seen_as_one(rt: HostRuntime) {
     equal(&rt, remove(&rt, path), true);
 }
 
-/// Whether the words choose a new session in this file.
-fn makes(alloc: Global, words: &[&str], name: &str) -> bool {
-    match choice(alloc, words) {
+/// Whether the arguments choose a new session in this file.
+fn makes(alloc: Global, arguments: &[&str], name: &str) -> bool {
+    match choice(alloc, arguments) {
         Ok(Choice::New(file)) => file.as_str() == name,
         Ok(Choice::Open(_)) | Err(_) => false,
     }
 }
 
-/// Whether the words choose the session that is in this file.
-fn opens(alloc: Global, words: &[&str], name: &str) -> bool {
-    match choice(alloc, words) {
+/// Whether the arguments choose the session that is in this file.
+fn opens(alloc: Global, arguments: &[&str], name: &str) -> bool {
+    match choice(alloc, arguments) {
         Ok(Choice::Open(file)) => file.as_str() == name,
         Ok(Choice::New(_)) | Err(_) => false,
     }
 }
 
-/// Whether the words are not the program's.
-fn is_usage(alloc: Global, words: &[&str]) -> bool {
-    match choice(alloc, words) {
-        Err(WordsFault::Usage) => true,
-        Ok(_) | Err(WordsFault::NoMemory) => false,
+/// Whether the arguments are not the program's.
+fn is_usage(alloc: Global, arguments: &[&str]) -> bool {
+    match choice(alloc, arguments) {
+        Err(ArgumentsFault::Usage) => true,
+        Ok(_) | Err(ArgumentsFault::NoMemory) => false,
     }
 }
 
-/// Words that are not the program's.
+/// Arguments that are not the program's.
 const USAGE: [&[&str]; 7] = [
     &["mcs4"],
     &["mcs4", "frob"],
@@ -157,11 +157,11 @@ const USAGE: [&[&str]; 7] = [
 ];
 
 #[test]
-fn words_choose(rt: HostRuntime) {
+fn arguments_choose(rt: HostRuntime) {
     let alloc = rt.alloc();
     equal(&rt, makes(alloc, &["mcs4", "new", "s.mcs"], "s.mcs"), true);
     equal(&rt, opens(alloc, &["mcs4", "open", "s.mcs"], "s.mcs"), true);
-    for words in USAGE.iter() {
-        equal(&rt, is_usage(alloc, words), true);
+    for arguments in USAGE.iter() {
+        equal(&rt, is_usage(alloc, arguments), true);
     }
 }

@@ -1,2 +1,2 @@
-pub mod Carried
-pub mod Served
+pub mod WholeInput
+pub mod FrontOfBuffer

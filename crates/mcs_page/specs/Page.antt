@@ -10,11 +10,11 @@ use Rattle.mcs_disk.specs.declared.memory.MemDisk.{MemDisk}
 use Rattle.mcs_page.specs.declared.fault.NotServed.{NotServed}
 use Rattle.mcs_page.specs.declared.fault.NotServed.TheVariants.{Refused, NoRoom}
 use Rattle.mcs_session.specs.SessionCalls.{RefusesSession}
-use Rattle.mcs_session.specs.Standing.{SessionView}
-use Rattle.mcs_session.specs.Stands.{HoldsState, StandsByEither, StandsFor}
-use Rattle.mcs_shell.specs.Program.{GoesOnWith}
-use Rattle.mcs_shell.specs.Shell.{Ran}
-use Rattle.mcs_shell.specs.Stage.{stage_of}
+use Rattle.mcs_session.specs.SessionState.{SessionView}
+use Rattle.mcs_session.specs.StandsFor.{HoldsState, StandsByEither, StandsFor}
+use Rattle.mcs_shell.specs.Program.{OpenBegins}
+use Rattle.mcs_shell.specs.Shell.{RanShell}
+use Rattle.mcs_shell.specs.ShellState.{shell_state}
 use Rattle.mcs_shell.specs.declared.ends.ShellEnd.{ShellEnd}
 use Rattle.mcs_shell.specs.declared.ends.ShellEnd.TheVariants.{End, InputLimit}
 
@@ -28,26 +28,26 @@ abbrev pub IsNewFile : List ℕ → Type 0
 IsNewFile file = StandsFor file new_bench_state
 
 -- the session of a file goes on: a disk that has its bytes was opened
-pub record Resumes (file : List ℕ) (session : SessionView MemDisk) : Type 0 where
+pub record ResumesSession (file : List ℕ) (session : SessionView MemDisk) : Type 0 where
   pub disk : MemDisk
   pub held : IsFresh file (mem_disk_state disk)
-  pub begun : GoesOnWith (mem_disk_state disk) (mem_disk_state session.disk) session.live
+  pub begun : OpenBegins (mem_disk_state disk) (mem_disk_state session.disk) session.live
       session.state
 
 -- The session that the bytes of a file hold went on, the shell read this input and wrote these
 -- answers, and left the session so.
-pub record WentOn (file input : List ℕ) (end : ShellEnd) (answers : List ℕ)
+pub record RunsOnFile (file input : List ℕ) (end : ShellEnd) (answers : List ℕ)
     (left : SessionView MemDisk) : Type 0 where
   pub session : SessionView MemDisk
-  pub resumes : Resumes file session
+  pub resumes : ResumesSession file session
   pub rest : Option (List ℕ)
-  pub ran : Ran end (Some input) rest (stage_of mem_disk_state session (Some []))
-      (stage_of mem_disk_state left (Some answers))
+  pub ran : RanShell end (Some input) rest (shell_state mem_disk_state session (Some []))
+      (shell_state mem_disk_state left (Some answers))
 
 -- the same, and these are the bytes that the session's disk has then
-pub record ServedOn (file input : List ℕ) (end : ShellEnd) (answers after : List ℕ) : Type 0 where
+pub record ServesFile (file input : List ℕ) (end : ShellEnd) (answers after : List ℕ) : Type 0 where
   pub left : SessionView MemDisk
-  pub went : WentOn file input end answers left
+  pub went : RunsOnFile file input end answers left
   pub kept : HasBytes after (mem_disk_state left.disk)
 
 -- all of the input was served, or as much of it as a shell reads
@@ -57,43 +57,43 @@ IsServedWhole InputLimit = Unit {0}
 IsServedWhole end = ⊥
 
 -- all of the input was served, with these answers, and left the session so: it is open
-pub record HasServed (file input : List ℕ) (end : ShellEnd) (answers : List ℕ)
+pub record ServesAllInput (file input : List ℕ) (end : ShellEnd) (answers : List ℕ)
     (left : SessionView MemDisk) : Type 0 where
   pub whole : IsServedWhole end
-  pub went : WentOn file input end answers left
+  pub went : RunsOnFile file input end answers left
   pub is_open : IsTrue left.live
   pub size : (mem_disk_state left.disk).size ≡ length file
 
 -- the input was served, and the answers are that many bytes at the front of the buffer
-pub record Answers (file input : List ℕ) (end : ShellEnd) (count : ℕ)
+pub record AnswersInBuffer (file input : List ℕ) (end : ShellEnd) (count : ℕ)
     (buffer buffer' after : List ℕ) : Type 0 where
   pub whole : IsServedWhole end
   pub within : count ≤ length buffer
-  pub served : ServedOn file input end (take count buffer') after
+  pub served : ServesFile file input end (take count buffer') after
   pub rest : drop count buffer' ≡ drop count buffer
 
--- Opening the file is refused: by what its bytes are, or for lack of memory. A disk in memory has no
--- other fault.
-abbrev pub IsRefused : OpenFault → List ℕ → Type 0
-IsRefused open_fault.NoMemory file = Unit {0}
-IsRefused open_fault.Device file = ⊥
-IsRefused fault file = (disk : MemDisk) × IsFresh file (mem_disk_state disk)
+-- Opening the file is refused: by what its bytes are, or for lack of memory. A disk in memory has
+-- no other fault.
+abbrev pub IsFileRefused : OpenFault → List ℕ → Type 0
+IsFileRefused open_fault.NoMemory file = Unit {0}
+IsFileRefused open_fault.Device file = ⊥
+IsFileRefused fault file = (disk : MemDisk) × IsFresh file (mem_disk_state disk)
     × RefusesSession fault (mem_disk_state disk)
 
 -- this input was served whole: its answers are that many bytes, more than the buffer has room for
-pub record LacksRoom (file input : List ℕ) (count room : ℕ) : Type 0 where
+pub record LacksBufferRoom (file input : List ℕ) (count room : ℕ) : Type 0 where
   pub end : ShellEnd
   pub whole : IsServedWhole end
   pub answers : List ℕ
   pub after : List ℕ
-  pub served : ServedOn file input end answers after
+  pub served : ServesFile file input end answers after
   pub counted : length answers ≡ count
   pub short : room < count
 
 -- why input was not served
-abbrev pub IsWhyNot : NotServed → List ℕ → List ℕ → ℕ → Type 0
-IsWhyNot (Refused fault) file input room = IsRefused fault file
-IsWhyNot (NoRoom count) file input room = LacksRoom file input count room
+abbrev pub IsWhyNotServed : NotServed → List ℕ → List ℕ → ℕ → Type 0
+IsWhyNotServed (Refused fault) file input room = IsFileRefused fault file
+IsWhyNotServed (NoRoom count) file input room = LacksBufferRoom file input count room
 
 -- the disk of a session stood for its state, and these bytes hold a snapshot of that state and no
 -- records
@@ -102,7 +102,7 @@ pub record SettlesTo (session : SessionView MemDisk) (file : List ℕ) : Type 0 
   pub holds : HoldsState file session.state
 
 -- the file stood for a state, and now it holds a snapshot of that state and no records
-pub record StandsForTheSame (old new : List ℕ) : Type 0 where
+pub record StandsForSameState (old new : List ℕ) : Type 0 where
   pub state : BenchState
   pub before : StandsByEither old state
   pub after : HoldsState new state
@@ -112,12 +112,12 @@ pub record StandsForTheSame (old new : List ℕ) : Type 0 where
 pub record AnswersAndSettles (file input : List ℕ) (end : ShellEnd) (count : ℕ)
     (buffer buffer' after : List ℕ) : Type 0 where
   pub between : List ℕ
-  pub answers : Answers file input end count buffer buffer' between
-  pub settled : StandsForTheSame between after
+  pub answers : AnswersInBuffer file input end count buffer buffer' between
+  pub settled : StandsForSameState between after
   pub same : settled.state ≡ answers.served.left.state
 
 -- the input would be served so; what file that would give is not told
 pub record WouldAnswer (file input : List ℕ) (end : ShellEnd) (count : ℕ)
     (buffer buffer' : List ℕ) : Type 0 where
   pub after : List ℕ
-  pub answers : Answers file input end count buffer buffer' after
+  pub answers : AnswersInBuffer file input end count buffer buffer' after

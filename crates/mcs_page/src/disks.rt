@@ -2,7 +2,7 @@
 ghost use Rattle.std.specs.Prelude.{◌≡◌, length, IfErr, IfOk, IsTrue};
 ghost use Rattle.mcs_disk.specs.Moments.{IsFresh};
 ghost use Rattle.mcs_disk.specs.States.{mem_disk_state};
-ghost use Rattle.mcs_page.specs.Page.{IsRefused, Resumes, SettlesTo};
+ghost use Rattle.mcs_page.specs.Page.{IsFileRefused, ResumesSession, SettlesTo};
 
 use mcs_disk::MemDisk;
 use mcs_journal::OpenFault;
@@ -21,8 +21,8 @@ fn disk_of(alloc: Global, file: &[u8]) -> Result<MemDisk, AllocError>
 
 /// Opens the session that the bytes of a file hold, on a copy of them.
 pub(crate) fn resume(alloc: Global, file: &[u8]) -> Result<Session<MemDisk>, OpenFault>
-    ensures resumed { IfOk result (λ session. Resumes file.now session) }
-    ensures refused { IfErr result (λ fault. IsRefused fault file.now) }
+    ensures resumed { IfOk result (λ session. ResumesSession file.now session) }
+    ensures refused { IfErr result (λ fault. IsFileRefused fault file.now) }
 {
     let Ok(disk) = disk_of(alloc, file) else {
         return Err(OpenFault::NoMemory);

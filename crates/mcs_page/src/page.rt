@@ -1,7 +1,7 @@
 //! What a page calls.
 ghost use Rattle.std.specs.Prelude.{◌≡◌, ◌≤◌, ◌↔◌, drop, length, take, IfErr, IfOk, IsTrue, OnErr, OnOk};
-ghost use Rattle.mcs_page.specs.Page.{Answers, AnswersAndSettles, HasServed, IsNewFile, IsRefused};
-ghost use Rattle.mcs_page.specs.Page.{IsServedWhole, IsWhyNot, StandsForTheSame, WouldAnswer};
+ghost use Rattle.mcs_page.specs.Page.{AnswersInBuffer, AnswersAndSettles, ServesAllInput, IsNewFile, IsFileRefused};
+ghost use Rattle.mcs_page.specs.Page.{IsServedWhole, IsWhyNotServed, StandsForSameState, WouldAnswer};
 ghost use Rattle.mcs_journal.specs.declared.format.TheConstants.{FILE_SIZE};
 
 use crate::disks::{resume, settle_into, write_back};
@@ -59,9 +59,10 @@ fn is_whole(end: ShellEnd) -> bool
 /// Goes on with the session that the bytes of a file hold, on a copy of them, and serves the lines
 /// of an input on it, where the answers have room in so many bytes.
 fn serve_on(alloc: Global, file: &[u8], input: &[u8], room: usize) -> Result<Answered, NotServed>
-    ensures served { IfOk result (λ a. HasServed file.now input.now a.end a.told.items a.session) }
+    ensures served { IfOk result (λ a.
+        ServesAllInput file.now input.now a.end a.told.items a.session) }
     ensures room { IfOk result (λ a. length a.told.items ≤ room) }
-    ensures refused { IfErr result (λ why. IsWhyNot why file.now input.now room) }
+    ensures refused { IfErr result (λ why. IsWhyNotServed why file.now input.now room) }
 {
     let mut session = match resume(alloc, file) {
         Ok(session) => session,
@@ -105,9 +106,11 @@ pub fn serve(
     input: &[u8],
     answers: &mut [u8],
 ) -> Result<Served, NotServed>
-    ensures served { IfOk result (λ served. Answers file.old input.now served.end served.count
+    ensures served { IfOk result (λ served.
+        AnswersInBuffer file.old input.now served.end served.count
         answers.old answers.new file.new) }
-    ensures refused { IfErr result (λ why. IsWhyNot why file.old input.now (length answers.old)) }
+    ensures refused { IfErr result (λ why.
+        IsWhyNotServed why file.old input.now (length answers.old)) }
     ensures stays { OnErr result ((file.new ≡ file.old) × (answers.new ≡ answers.old)) }
 {
     let Answered { session, end, told } = match serve_on(alloc, file, input, answers.len()) {
@@ -131,7 +134,8 @@ pub fn serve_and_settle(
 ) -> Result<Served, NotServed>
     ensures served { IfOk result (λ served. AnswersAndSettles file.old input.now served.end
         served.count answers.old answers.new file.new) }
-    ensures refused { IfErr result (λ why. IsWhyNot why file.old input.now (length answers.old)) }
+    ensures refused { IfErr result (λ why.
+        IsWhyNotServed why file.old input.now (length answers.old)) }
     ensures stays { OnErr result ((file.new ≡ file.old) × (answers.new ≡ answers.old)) }
 {
     let Answered { session, end, told } = match serve_on(alloc, file, input, answers.len()) {
@@ -152,7 +156,8 @@ pub fn ask(
 ) -> Result<Served, NotServed>
     ensures served { IfOk result (λ served. WouldAnswer file.now input.now served.end served.count
         answers.old answers.new) }
-    ensures refused { IfErr result (λ why. IsWhyNot why file.now input.now (length answers.old)) }
+    ensures refused { IfErr result (λ why.
+        IsWhyNotServed why file.now input.now (length answers.old)) }
     ensures stays { OnErr result (answers.new ≡ answers.old) }
 {
     let Answered {
@@ -171,8 +176,8 @@ pub fn ask(
 /// state then, and opening it has no command to do again. Where the bytes hold no session (50, 51)
 /// or there is no memory (90), they stay.
 pub fn settle(alloc: Global, file: &mut [u8]) -> Result<(), OpenFault>
-    ensures settled { OnOk result (StandsForTheSame file.old file.new) }
-    ensures refused { IfErr result (λ fault. IsRefused fault file.old) }
+    ensures settled { OnOk result (StandsForSameState file.old file.new) }
+    ensures refused { IfErr result (λ fault. IsFileRefused fault file.old) }
     ensures stays { OnErr result (file.new ≡ file.old) }
 {
     let session = match resume(alloc, file) {

@@ -20,11 +20,11 @@ use Rattle.mcs_version1.specs.BenchState.{BenchState1}
 use Rattle.mcs_version1.specs.Fold.{fold_1}
 use Rattle.mcs_version1.specs.Lift.{lift}
 use Rattle.mcs_version1.proofs.Lifting.{command-lifts}
-use Rattle.mcs_session.specs.Version1.{Replays1, RecordsStandFor1, StandsForLifted}
-use Rattle.mcs_session.specs.Stands.{Replays, RecordsStandFor, StandsFor, StandsByEither, StandsSince, HoldsState, IsAt, IsAtLifted}
-use Rattle.mcs_session.specs.SessionCalls.{CreatesSession, FailsMigrating, LeftRefused, MayMigrate, OpensSession, RefusesSession}
+use Rattle.mcs_session.specs.Version1.{ReplaysCommands1, RecordsStandFor1, StandsForLifted}
+use Rattle.mcs_session.specs.StandsFor.{ReplaysCommands, RecordsStandFor, StandsFor, StandsByEither, DiskStandsSince, HoldsState, DiskStandsFor, DiskStandsForLifted}
+use Rattle.mcs_session.specs.SessionCalls.{CreatesSession, FailsMigrating, RefusalLeaves, MayMigrate, OpensSession, RefusesSession}
 use Rattle.mcs_session.specs.LogUse.{UsesLog, empty_log}
-use Rattle.mcs_session.specs.Invariant.{IsRecorded, IsReplayed, MayReplace, Replaced}
+use Rattle.mcs_session.specs.Invariant.{IsRecorded, IsReplayed, MayReplaceContents, ReplacedContents}
 use Rattle.mcs_session.proofs.Records.{same_pair_state}
 
 -- no bytes spell states of both versions
@@ -36,7 +36,7 @@ not_both snap s version_1 a b =
 pub stands_by : (snap : List ℕ) (records : List (List ℕ)) (s : BenchState) → RecordsStandFor false snap records s → (c : List ℕ) → Holds c snap records → StandsFor c s
 stands_by snap records s p c held = record { snap = snap; records = records; holds = held; stand = p }
 
-pub at_of : (disk : DiskState) (s : BenchState) → IsDurable disk → StandsFor disk.bytes s → IsAt disk s
+pub at_of : (disk : DiskState) (s : BenchState) → IsDurable disk → StandsFor disk.bytes s → DiskStandsFor disk s
 at_of disk s durable stands image now = subst (λ (f : List ℕ). StandsFor f s) (sym (durable.fresh image now)) stands
 
 -- a snapshot with no records after it
@@ -91,7 +91,7 @@ opened_session old new snap records cycles s unwritten opened replayed = record 
 -- ---- version 1
 
 -- what version 1 does is what the last version does at the lifted state
-replays_first : (s : BenchState) (version_1 : BenchState1) (rs : List (List ℕ)) (cs : List Command) → s ≡ lift version_1 → Replays true s rs cs → Replays1 version_1 rs cs × (fold s cs ≡ lift (fold_1 version_1 cs))
+replays_first : (s : BenchState) (version_1 : BenchState1) (rs : List (List ℕ)) (cs : List Command) → s ≡ lift version_1 → ReplaysCommands true s rs cs → ReplaysCommands1 version_1 rs cs × (fold s cs ≡ lift (fold_1 version_1 cs))
 replays_first s version_1 [] [] e h = (tt, e)
 replays_first s version_1 [] (c ∷ cs) e h = absurd h
 replays_first s version_1 (r ∷ rs) [] e h = absurd h
@@ -100,14 +100,14 @@ replays_first s version_1 (r ∷ rs) (c ∷ cs) e h =
     let rest = replays_first (after s c) (after_1 version_1 c) rs cs (ap (λ (x : BenchState). after x c) e ∙ sym lifts.after) (h.2) in
     ((h.0, sym lifts.refusal ∙ subst (λ (x : BenchState). refusal x c ≡ None) e h.1, rest.0), rest.1)
 
-first_replays : (version_1 : BenchState1) (rs : List (List ℕ)) (cs : List Command) → Replays1 version_1 rs cs → Replays true (lift version_1) rs cs × (fold (lift version_1) cs ≡ lift (fold_1 version_1 cs))
+first_replays : (version_1 : BenchState1) (rs : List (List ℕ)) (cs : List Command) → ReplaysCommands1 version_1 rs cs → ReplaysCommands true (lift version_1) rs cs × (fold (lift version_1) cs ≡ lift (fold_1 version_1 cs))
 first_replays version_1 [] [] h = (tt, refl)
 first_replays version_1 [] (c ∷ cs) h = absurd h
 first_replays version_1 (r ∷ rs) [] h = absurd h
 first_replays version_1 (r ∷ rs) (c ∷ cs) h =
     let lifts = command-lifts version_1 c h.0.1 in
     let rest = first_replays (after_1 version_1 c) rs cs (h.2) in (
-      (h.0, lifts.refusal ∙ h.1, subst (λ (x : BenchState). Replays true x rs cs) lifts.after rest.0),
+      (h.0, lifts.refusal ∙ h.1, subst (λ (x : BenchState). ReplaysCommands true x rs cs) lifts.after rest.0),
       ap (λ (x : BenchState). fold x cs) (sym lifts.after) ∙ rest.1,
     )
 
@@ -213,7 +213,7 @@ refuses_store Damaged disk h = (h.0, λ s. ⊎_elim (λ stands. h.1 stands.snap 
 refuses_store Device disk h = tt
 refuses_store NoMemory disk h = tt
 
-pub left_store : (fault : OpenFault) (old new : DiskState) → AddsNoImage old new → LeftRefused fault old new
+pub left_store : (fault : OpenFault) (old new : DiskState) → AddsNoImage old new → RefusalLeaves fault old new
 left_store NotASession old new h = h
 left_store Damaged old new h = h
 left_store Device old new h = inl h
@@ -221,17 +221,17 @@ left_store NoMemory old new h = h
 
 -- what `begin` did with a log that was opened
 pub opened_by : (v : Bool) (old mid new : DiskState) (snap : List ℕ) (records : List (List ℕ)) (cycles : ℕ) (s : BenchState) → IsLawful new → WritesNothing old mid → Opens old mid snap records → IsReplayed v snap records cycles s
-    → (v ≡ false → OpensSession old mid s → OpensSession old new s) → (v ≡ true → Replaced mid new snap records s) → OpensSession old new s
+    → (v ≡ false → OpensSession old mid s → OpensSession old new s) → (v ≡ true → ReplacedContents mid new snap records s) → OpensSession old new s
 opened_by false old mid new snap records cycles s lawful unwritten opened replayed same replaced = same refl (opened_session old mid snap records cycles s unwritten opened replayed)
 opened_by true old mid new snap records cycles s lawful unwritten opened replayed same replaced =
     let now = replaced refl in migrated_session old mid new snap records cycles s lawful opened replayed now.moments now.held now.durable
 
 pub failed_by : (v : Bool) (old mid new : DiskState) (snap : List ℕ) (records : List (List ℕ)) (cycles : ℕ) (s : BenchState) → v ≡ true → IsLawful new → Opens old mid snap records → IsReplayed v snap records cycles s
-    → MayReplace mid new snap records s → FailsMigrating old new
+    → MayReplaceContents mid new snap records s → FailsMigrating old new
 failed_by false old mid new snap records cycles s e lawful opened replayed moments = absurd (cc)
 failed_by true old mid new snap records cycles s e lawful opened replayed moments = fails_migrating old mid new snap records cycles s lawful opened replayed moments
 
-pub refused_by : (fault : OpenFault) (old new : DiskState) → fault ≡ Device → FailsMigrating old new → RefusesSession fault old × LeftRefused fault old new
+pub refused_by : (fault : OpenFault) (old new : DiskState) → fault ≡ Device → FailsMigrating old new → RefusesSession fault old × RefusalLeaves fault old new
 refused_by fault old new e fails = rw e (tt, inr fails)
 
 pub recorded_by : (v : Bool) (old new : DiskState) (snap : List ℕ) (records : List (List ℕ)) (cycles : ℕ) (s : BenchState) → v ≡ false → Opens old new snap records → IsReplayed v snap records cycles s → IsRecorded new cycles s
@@ -249,26 +249,26 @@ one_either file s t (inr a) (inl b) = sym (one_state file t s b (inr a))
 one_either file s t (inr a) (inr b) = one_first file s t a b
 
 -- a disk whose every image stands for a state by version 1
-pub stays_first : (old new : DiskState) (s u : BenchState) → MayMigrate old new u → u ≡ s → IsAtLifted old s → StandsSince old.clock new s
+pub stays_first : (old new : DiskState) (s u : BenchState) → MayMigrate old new u → u ≡ s → DiskStandsForLifted old s → DiskStandsSince old.clock new s
 stays_first old new s u moments same each image left = ⊎_elim (λ before. inr (each image before)) (λ now. subst (λ (x : BenchState). StandsByEither image x) same now) (moments.each image left)
 
-pub opens_first : (old new : DiskState) (s u : BenchState) → IsLawful old → IsAtLifted old s → OpensSession old new u
-    → (u ≡ s) × (HoldsState new.bytes s × StandsSince old.clock new s)
+pub opens_first : (old new : DiskState) (s u : BenchState) → IsLawful old → DiskStandsForLifted old s → OpensSession old new u
+    → (u ≡ s) × (HoldsState new.bytes s × DiskStandsSince old.clock new s)
 opens_first old new s u lawful each opens =
     let here : StandsForLifted old.bytes s = each old.bytes (lawful.counts_now old.clock old.bytes (omega arith) lawful.current) in
     let same : u ≡ s = one_either old.bytes u s opens.stands (inr here) in
     (same, (subst (HoldsState new.bytes) same (opens.migrated (subst (StandsForLifted old.bytes) (sym same) here)), stays_first old new s u opens.moments same each))
 
-fails_first : (old new : DiskState) (s : BenchState) → IsLawful old → IsAtLifted old s → FailsMigrating old new → StandsSince old.clock new s
+fails_first : (old new : DiskState) (s : BenchState) → IsLawful old → DiskStandsForLifted old s → FailsMigrating old new → DiskStandsSince old.clock new s
 fails_first old new s lawful each fails =
     let here : StandsForLifted old.bytes s = each old.bytes (lawful.counts_now old.clock old.bytes (omega arith) lawful.current) in
     stays_first old new s fails.state fails.moments (one_first old.bytes fails.state s fails.stands here) each
 
 -- what a refusal left, for whatever reason, is what was there or what stands for the same state
-rests_first : (old new : DiskState) (s : BenchState) → IsAtLifted old s → AddsNoImage old new → StandsSince old.clock new s
+rests_first : (old new : DiskState) (s : BenchState) → DiskStandsForLifted old s → AddsNoImage old new → DiskStandsSince old.clock new s
 rests_first old new s each rests image left = inr (each image (rests.nothing_else old.clock image (omega arith) left))
 
-pub refused_first : (fault : OpenFault) (old new : DiskState) (s : BenchState) → IsLawful old → IsAtLifted old s → LeftRefused fault old new → StandsSince old.clock new s
+pub refused_first : (fault : OpenFault) (old new : DiskState) (s : BenchState) → IsLawful old → DiskStandsForLifted old s → RefusalLeaves fault old new → DiskStandsSince old.clock new s
 refused_first NotASession old new s lawful each rests = rests_first old new s each rests
 refused_first Damaged old new s lawful each rests = rests_first old new s each rests
 refused_first Device old new s lawful each (inl rests) = rests_first old new s each rests

@@ -8,11 +8,11 @@ use Rattle.mcs_model.specs.declared.command.Command.{Command}
 use Rattle.mcs_model.specs.BenchState.{BenchState}
 use Rattle.mcs_model.specs.Command.{after}
 use Rattle.mcs_model.specs.Fold.{fold}
-use Rattle.mcs_session.specs.Stands.{StandsFor, IsAt}
-use Rattle.mcs_session.specs.SessionCalls.{Acknowledges, MayLeave, Ticks}
-use Rattle.mcs_session.specs.Standing.{SessionState, Standing}
+use Rattle.mcs_session.specs.StandsFor.{StandsFor, DiskStandsFor}
+use Rattle.mcs_session.specs.SessionCalls.{AcknowledgesCommand, LeavesEitherState, TakesTicks}
+use Rattle.mcs_session.specs.SessionState.{SessionState, SessionBench}
 use Rattle.mcs_session.specs.LogUse.{UsesLog, use_after_all}
-use Rattle.mcs_session.specs.Kept.{Carries, IsIntact, IsIntactAt, IsSpaced, Kept, KeptWhole, StandsForPrefix, acknowledged_by, last_moment}
+use Rattle.mcs_session.specs.KeptCommands.{RecordsCommands, IsIntact, IsIntactAt, IsSpaced, KeepsCommands, KeepsAllCommands, StandsForPrefix, acknowledged_by, last_moment}
 use Rattle.mcs_session.proofs.Folds.{standing_after-further}
 use Rattle.mcs_session.proofs.Using.{ticked_by, timed_more, use_append}
 use Rattle.mcs_session.proofs.Prefixes.{acknowledged-append, acknowledged_all, acknowledged_before, acknowledged_few, acknowledged_none, last_append, prefix_all, prefix_more, prefix_none, prefix_one, prefix_past, spaced_append, spaced_le}
@@ -20,7 +20,7 @@ use Rattle.mcs_session.proofs.Prefixes.{acknowledged-append, acknowledged_all, a
 -- ---- two runs
 
 -- the images since a time of the first run, and those since a time of the second
-each_more : (d e f : DiskState) (s t : BenchState) (cs done ds : List Command) (a : KeptWhole d e s cs) → t ≡ fold s cs → (b : Kept e f t done ds)
+each_more : (d e f : DiskState) (s t : BenchState) (cs done ds : List Command) (a : KeepsAllCommands d e s cs) → t ≡ fold s cs → (b : KeepsCommands e f t done ds)
     → (u : ℕ) (image : List ℕ) → d.clock ≤ u → f.since u image → StandsForPrefix s (cs ++ ds) (acknowledged_by u (a.kept.moments ++ b.moments)) image
 each_more d e f s t cs done ds a same b u image le now =
     let both = acknowledged-append u a.kept.moments b.moments in
@@ -37,7 +37,7 @@ each_more d e f s t cs done ds a same b u image le now =
           ]
     ]
 
-pub kept_more : (d e f : DiskState) (s t : BenchState) (cs done ds : List Command) → KeptWhole d e s cs → t ≡ fold s cs → Kept e f t done ds → Kept d f s (cs ++ done) (cs ++ ds)
+pub kept_more : (d e f : DiskState) (s t : BenchState) (cs done ds : List Command) → KeepsAllCommands d e s cs → t ≡ fold s cs → KeepsCommands e f t done ds → KeepsCommands d f s (cs ++ done) (cs ++ ds)
 kept_more d e f s t cs done ds a same b =
     let last : last_moment d.clock a.kept.moments ≡ e.clock = sym a.now in
     let P : ℕ → Type 0 = λ c. IsSpaced c b.moments in
@@ -54,7 +54,7 @@ kept_more d e f s t cs done ds a same b =
       lawful = b.lawful;
     }
 
-pub whole_more : (d e f : DiskState) (s t : BenchState) (cs ds : List Command) → KeptWhole d e s cs → t ≡ fold s cs → KeptWhole e f t ds → KeptWhole d f s (cs ++ ds)
+pub whole_more : (d e f : DiskState) (s t : BenchState) (cs ds : List Command) → KeepsAllCommands d e s cs → t ≡ fold s cs → KeepsAllCommands e f t ds → KeepsAllCommands d f s (cs ++ ds)
 unfolding kept_more
 whole_more d e f s t cs ds a same b = record {
   kept = kept_more d e f s t cs ds ds a same b.kept;
@@ -63,7 +63,7 @@ whole_more d e f s t cs ds a same b = record {
 }
 
 -- after a run in which no call failed
-pub settled_after : (d e : DiskState) (s t : BenchState) (cs : List Command) → t ≡ fold s cs → KeptWhole d e s cs → IsIntactAt e t
+pub settled_after : (d e : DiskState) (s t : BenchState) (cs : List Command) → t ≡ fold s cs → KeepsAllCommands d e s cs → IsIntactAt e t
 settled_after d e s t cs same a = record {
   at = λ image now.
       let behind = spaced_le d.clock a.kept.moments a.kept.spaced in
@@ -74,7 +74,7 @@ settled_after d e s t cs same a = record {
   lawful = a.kept.lawful;
 }
 
-pub settle : (d : DiskState) (s : BenchState) → IsLawful d → IsAt d s → IsIntactAt d s
+pub settle : (d : DiskState) (s : BenchState) → IsLawful d → DiskStandsFor d s → IsIntactAt d s
 settle d s lawful at = record { at = at; lawful = lawful }
 
 -- ---- no command
@@ -89,7 +89,7 @@ goes_nowhere d e a = record {
 stays : (d : DiskState) → IsUntouched d d
 stays d = record { unwritten = refl; bytes = refl; clock = refl; images = λ image. (λ now. now, λ now. now); since = λ u image. (λ now. now, λ now. now) }
 
-pub stays_keeps : (d e : DiskState) (s : BenchState) → IsUntouched d e → IsIntactAt d s → IsLawful e → KeptWhole d e s []
+pub stays_keeps : (d e : DiskState) (s : BenchState) → IsUntouched d e → IsIntactAt d s → IsLawful e → KeepsAllCommands d e s []
 stays_keeps d e s a h lawful = record {
   kept = record {
     moments = [];
@@ -105,28 +105,28 @@ stays_keeps d e s a h lawful = record {
   log = λ log uses. subst (λ (file : List ℕ). UsesLog file log) (sym a.bytes) uses;
 }
 
-pub whole_nothing : (d : DiskState) (s : BenchState) → IsIntactAt d s → KeptWhole d d s []
+pub whole_nothing : (d : DiskState) (s : BenchState) → IsIntactAt d s → KeepsAllCommands d d s []
 whole_nothing d s h = stays_keeps d d s (stays d) h h.lawful
 
 -- ---- sessions
 
 -- the premise of the next stretch
-pub settled_on : (a b : SessionState) (cs : List Command) → Carries IsIntact a b cs → IsIntact a → IsIntact b
+pub settled_on : (a b : SessionState) (cs : List Command) → RecordsCommands IsIntact a b cs → IsIntact a → IsIntact b
 settled_on a b cs x given = record {
-  honest = (subst (λ (m : Standing). IsTrue m.live) (sym x.standing) given.honest.0, x.honest.1 given.honest.1);
-  intact = settled_after a.disk b.disk a.standing.state b.standing.state cs (ap (λ (m : Standing). m.state) x.standing) (x.kept given);
+  honest = (subst (λ (m : SessionBench). IsTrue m.live) (sym x.bench) given.honest.0, x.honest.1 given.honest.1);
+  intact = settled_after a.disk b.disk a.bench.state b.bench.state cs (ap (λ (m : SessionBench). m.state) x.bench) (x.kept given);
 }
 
-pub carries_nothing : (a : SessionState) → Carries IsIntact a a []
-carries_nothing a = record { standing = refl; same_faults = refl; size = refl; honest = (λ h. h, λ h. h); kept = λ given. whole_nothing a.disk a.standing.state given.intact }
+pub carries_nothing : (a : SessionState) → RecordsCommands IsIntact a a []
+carries_nothing a = record { bench = refl; same_faults = refl; size = refl; honest = (λ h. h, λ h. h); kept = λ given. whole_nothing a.disk a.bench.state given.intact }
 
-pub carries_more : (a b c : SessionState) (cs ds : List Command) → Carries IsIntact a b cs → Carries IsIntact b c ds → Carries IsIntact a c (cs ++ ds)
+pub carries_more : (a b c : SessionState) (cs ds : List Command) → RecordsCommands IsIntact a b cs → RecordsCommands IsIntact b c ds → RecordsCommands IsIntact a c (cs ++ ds)
 carries_more a b c cs ds x y = record {
-  standing = y.standing ∙ standing_after-further a.standing b.standing cs ds x.standing;
+  bench = y.bench ∙ standing_after-further a.bench b.bench cs ds x.bench;
   same_faults = y.same_faults ∙ x.same_faults;
   size = y.size ∙ x.size;
   honest = (λ h. x.honest.0 (y.honest.0 h), λ h. y.honest.1 (x.honest.1 h));
-  kept = λ given. whole_more a.disk b.disk c.disk a.standing.state b.standing.state cs ds (x.kept given) (ap (λ (m : Standing). m.state) x.standing) (y.kept (settled_on a b cs x given));
+  kept = λ given. whole_more a.disk b.disk c.disk a.bench.state b.bench.state cs ds (x.kept given) (ap (λ (m : SessionBench). m.state) x.bench) (y.kept (settled_on a b cs x given));
 }
 
 -- ---- one command
@@ -136,10 +136,10 @@ goes_on : (d e : DiskState) (P : List ℕ → Type 0) → LeavesOnly d e P → K
 goes_on d e P a = record { later = a.later; each = λ image now. tt; before = a.before }
 
 -- four or eight steps
-spaced_by : (d e : DiskState) (c : Command) → Ticks d e c → (e.clock ≡ d.clock + 4) ⊎ (e.clock ≡ d.clock + 8)
+spaced_by : (d e : DiskState) (c : Command) → TakesTicks d e c → (e.clock ≡ d.clock + 4) ⊎ (e.clock ≡ d.clock + 8)
 spaced_by d e c ticks = elim ticks [ inl room ↦ inl room.1 | inr none ↦ inr none.1 ]
 
-pub acknowledged_keeps : (d e : DiskState) (s : BenchState) (c : Command) → Acknowledges d e s c → IsLawful e → KeptWhole d e s (c ∷ [])
+pub acknowledged_keeps : (d e : DiskState) (s : BenchState) (c : Command) → AcknowledgesCommand d e s c → IsLawful e → KeepsAllCommands d e s (c ∷ [])
 acknowledged_keeps d e s c a lawful = record {
   kept = record {
     moments = e.clock ∷ [];
@@ -163,7 +163,7 @@ acknowledged_keeps d e s c a lawful = record {
   log = a.log;
 }
 
-pub failed_keeps : (d e : DiskState) (s : BenchState) (c : Command) → MayLeave d e s (after s c) → IsLawful e → Kept d e s [] (c ∷ [])
+pub failed_keeps : (d e : DiskState) (s : BenchState) (c : Command) → LeavesEitherState d e s (after s c) → IsLawful e → KeepsCommands d e s [] (c ∷ [])
 failed_keeps d e s c a lawful = record {
   moments = [];
   count = refl;

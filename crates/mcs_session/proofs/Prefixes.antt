@@ -8,8 +8,8 @@ use Rattle.std.proofs.lemmas.List.{take_all}
 use Rattle.mcs_model.specs.declared.command.Command.{Command}
 use Rattle.mcs_model.specs.BenchState.{BenchState}
 use Rattle.mcs_model.specs.Fold.{fold}
-use Rattle.mcs_session.specs.Kept.{IsAfterPrefix, IsSpaced, StandsForPrefix, acknowledged_by, last_moment}
-use Rattle.mcs_session.specs.Stands.{StandsFor}
+use Rattle.mcs_session.specs.KeptCommands.{IsAfterPrefix, IsSpaced, StandsForPrefix, acknowledged_by, last_moment}
+use Rattle.mcs_session.specs.StandsFor.{StandsFor}
 use Rattle.mcs_session.proofs.Folds.{fold-append}
 
 -- ---- moments

@@ -14,7 +14,7 @@ use Rattle.mcs_model.specs.declared.limits.TheConstants.{REPLAY_CYCLES}
 use Rattle.mcs_session.specs.Invariant.{IsReplayed}
 use Rattle.mcs_session.specs.Cycles.{log_cycles, replay_cycles}
 use Rattle.mcs_version1.specs.Command.{in_version_1}
-use Rattle.mcs_session.specs.Stands.{Replays, RecordsStandFor}
+use Rattle.mcs_session.specs.StandsFor.{ReplaysCommands, RecordsStandFor}
 use Rattle.mcs_session.proofs.Folds.{fold-append}
 
 pub spelled : (v : Bool) (r : List ℕ) (c : Command) → SpellsBy v r c → Spells r c
@@ -26,15 +26,15 @@ same_start : (v : Bool) (snap : List ℕ) (s t : BenchState) → SpellsStateBy v
 same_start v snap s t a b = (same_state snap v v s t a b).1
 
 -- one more
-pub replays-more : (v : Bool) (s : BenchState) (rs : List (List ℕ)) (cs : List Command) (r : List ℕ) (c : Command) → Replays v s rs cs → SpellsBy v r c → refusal (fold s cs) c ≡ None → Replays v s (rs ++ r ∷ []) (cs ++ c ∷ [])
+pub replays-more : (v : Bool) (s : BenchState) (rs : List (List ℕ)) (cs : List Command) (r : List ℕ) (c : Command) → ReplaysCommands v s rs cs → SpellsBy v r c → refusal (fold s cs) c ≡ None → ReplaysCommands v s (rs ++ r ∷ []) (cs ++ c ∷ [])
 replays-more v s [] [] r c h spells accepted = (spells, accepted, tt)
 replays-more v s [] (d ∷ cs) r c h spells accepted = absurd h
 replays-more v s (q ∷ rs) [] r c h spells accepted = absurd h
 replays-more v s (q ∷ rs) (d ∷ cs) r c h spells accepted = (h.0, h.1, replays-more v (after s d) rs cs r c (h.2) spells accepted)
 
 -- where the next record spells no accepted command, no commands are spelled
-pub no_replay : (v : Bool) (s : BenchState) (rs : List (List ℕ)) (cs ds : List Command) (r : List ℕ) (more : List (List ℕ)) → Replays v s rs cs
-    → ((c : Command) → SpellsBy v r c → refusal (fold s cs) c ≡ None → ⊥) → Replays v s (rs ++ r ∷ more) ds → ⊥
+pub no_replay : (v : Bool) (s : BenchState) (rs : List (List ℕ)) (cs ds : List Command) (r : List ℕ) (more : List (List ℕ)) → ReplaysCommands v s rs cs
+    → ((c : Command) → SpellsBy v r c → refusal (fold s cs) c ≡ None → ⊥) → ReplaysCommands v s (rs ++ r ∷ more) ds → ⊥
 no_replay v s [] [] [] r more h none k = k
 no_replay v s [] [] (d ∷ ds) r more h none k = none d k.0 k.1
 no_replay v s [] (c ∷ cs) ds r more h none k = h
@@ -42,10 +42,10 @@ no_replay v s (q ∷ rs) [] ds r more h none k = h
 no_replay v s (q ∷ rs) (c ∷ cs) [] r more h none k = k
 no_replay v s (q ∷ rs) (c ∷ cs) (d ∷ ds) r more h none k =
     let same : d ≡ c = same_command q d c (spelled v q d k.0) (spelled v q c h.0) in
-    no_replay v (after s c) rs cs ds r more (h.2) none (subst (λ (x : Command). Replays v (after s x) (rs ++ r ∷ more) ds) same (k.2))
+    no_replay v (after s c) rs cs ds r more (h.2) none (subst (λ (x : Command). ReplaysCommands v (after s x) (rs ++ r ∷ more) ds) same (k.2))
 
 -- records spell one list of commands at most
-pub same_commands : (v : Bool) (s : BenchState) (rs : List (List ℕ)) (cs ds : List Command) → Replays v s rs cs → Replays v s rs ds → cs ≡ ds
+pub same_commands : (v : Bool) (s : BenchState) (rs : List (List ℕ)) (cs ds : List Command) → ReplaysCommands v s rs cs → ReplaysCommands v s rs ds → cs ≡ ds
 same_commands v s [] [] [] h k = refl
 same_commands v s [] [] (d ∷ ds) h k = absurd k
 same_commands v s [] (c ∷ cs) ds h k = absurd h
@@ -53,7 +53,7 @@ same_commands v s (q ∷ rs) [] ds h k = absurd h
 same_commands v s (q ∷ rs) (c ∷ cs) [] h k = absurd k
 same_commands v s (q ∷ rs) (c ∷ cs) (d ∷ ds) h k =
     let same : d ≡ c = same_command q d c (spelled v q d k.0) (spelled v q c h.0) in
-    let rest : cs ≡ ds = same_commands v (after s c) rs cs ds (h.2) (subst (λ (x : Command). Replays v (after s x) rs ds) same (k.2)) in
+    let rest : cs ≡ ds = same_commands v (after s c) rs cs ds (h.2) (subst (λ (x : Command). ReplaysCommands v (after s x) rs ds) same (k.2)) in
     rw (same, rest) refl
 
 -- the same snapshot and the same records stand for one list of commands
@@ -61,7 +61,7 @@ pub same_list : (v : Bool) (snap other : List ℕ) (records more : List (List �
     → (a.start ≡ b.start) × (a.commands ≡ b.commands)
 same_list v snap other records more s t e f a b =
     let start : a.start ≡ b.start = same_start v snap a.start b.start a.snapshot (subst (λ (x : List ℕ). SpellsStateBy v x b.start) (sym e) b.snapshot) in
-    let replays : Replays v a.start records b.commands = subst (λ (x : BenchState). Replays v x records b.commands) (sym start) (subst (λ (x : List (List ℕ)). Replays v b.start x b.commands) (sym f) b.replays) in
+    let replays : ReplaysCommands v a.start records b.commands = subst (λ (x : BenchState). ReplaysCommands v x records b.commands) (sym start) (subst (λ (x : List (List ℕ)). ReplaysCommands v b.start x b.commands) (sym f) b.replays) in
     (start, same_commands v a.start records a.commands b.commands a.replays replays)
 
 -- and so for one state
@@ -84,16 +84,16 @@ pub no_pair : (v : Bool) (snap : List ℕ) (records : List (List ℕ)) (r : List
     → ((c : Command) → SpellsBy v r c → refusal s c ≡ None → ⊥) → RecordsStandFor v snap records t → ⊥
 no_pair v snap records r i s t e a none b =
     let start = same_start v snap b.start a.start b.snapshot a.snapshot in
-    let replays : Replays v a.start records b.commands = subst (λ (x : BenchState). Replays v x records b.commands) start b.replays in
+    let replays : ReplaysCommands v a.start records b.commands = subst (λ (x : BenchState). ReplaysCommands v x records b.commands) start b.replays in
     let split = one_at records r i e in
-    let whole : Replays v a.start (take i records ++ r ∷ split.0) b.commands = subst (λ (x : List (List ℕ)). Replays v a.start x b.commands) split.1 replays in
+    let whole : ReplaysCommands v a.start (take i records ++ r ∷ split.0) b.commands = subst (λ (x : List (List ℕ)). ReplaysCommands v a.start x b.commands) split.1 replays in
     no_replay v a.start (take i records) a.commands b.commands r (split.0) a.replays
     (λ c spells accepted. none c spells (subst (λ (x : BenchState). refusal x c ≡ None) (sym a.state) accepted)) whole
 
 -- ---- the cycles of a log
 
 -- commands that begin with these and this one count no less
-front_cycles : (v : Bool) (s : BenchState) (rs : List (List ℕ)) (cs ds : List Command) (r : List ℕ) (c : Command) (more : List (List ℕ)) → Replays v s rs cs → SpellsBy v r c → Replays v s (rs ++ r ∷ more) ds
+front_cycles : (v : Bool) (s : BenchState) (rs : List (List ℕ)) (cs ds : List Command) (r : List ℕ) (c : Command) (more : List (List ℕ)) → ReplaysCommands v s rs cs → SpellsBy v r c → ReplaysCommands v s (rs ++ r ∷ more) ds
     → log_cycles cs + replay_cycles c ≤ log_cycles ds
 front_cycles v s [] [] [] r c more h spells k = absurd k
 front_cycles v s [] [] (d ∷ ds) r c more h spells k =
@@ -104,7 +104,7 @@ front_cycles v s (q ∷ rs) [] ds r c more h spells k = absurd h
 front_cycles v s (q ∷ rs) (d ∷ cs) [] r c more h spells k = absurd k
 front_cycles v s (q ∷ rs) (d ∷ cs) (e ∷ ds) r c more h spells k =
     let same : e ≡ d = same_command q e d (spelled v q e k.0) (spelled v q d h.0) in
-    let rest = front_cycles v (after s d) rs cs ds r c more (h.2) spells (subst (λ (x : Command). Replays v (after s x) (rs ++ r ∷ more) ds) same (k.2)) in
+    let rest = front_cycles v (after s d) rs cs ds r c more (h.2) spells (subst (λ (x : Command). ReplaysCommands v (after s x) (rs ++ r ∷ more) ds) same (k.2)) in
     let one : replay_cycles e ≡ replay_cycles d = ap replay_cycles same in
     let left = sum_by-cons replay_cycles d cs in
     let right = sum_by-cons replay_cycles e ds in omega (arith, rest, one, left, right)
@@ -114,9 +114,9 @@ pub too_long : (v : Bool) (snap : List ℕ) (records : List (List ℕ)) (r : Lis
     → SpellsBy v r c → REPLAY_CYCLES < cycles + replay_cycles c → RecordsStandFor v snap records t → ⊥
 too_long v snap records r i cycles s t c e a spells over b =
     let start = same_start v snap b.start a.stand.start b.snapshot a.stand.snapshot in
-    let replays : Replays v a.stand.start records b.commands = subst (λ (x : BenchState). Replays v x records b.commands) start b.replays in
+    let replays : ReplaysCommands v a.stand.start records b.commands = subst (λ (x : BenchState). ReplaysCommands v x records b.commands) start b.replays in
     let split = one_at records r i e in
-    let whole : Replays v a.stand.start (take i records ++ r ∷ split.0) b.commands = subst (λ (x : List (List ℕ)). Replays v a.stand.start x b.commands) split.1 replays in
+    let whole : ReplaysCommands v a.stand.start (take i records ++ r ∷ split.0) b.commands = subst (λ (x : List (List ℕ)). ReplaysCommands v a.stand.start x b.commands) split.1 replays in
     let least = front_cycles v a.stand.start (take i records) a.stand.commands b.commands r c (split.0) a.stand.replays spells whole in
     let count = a.count in
     let bounded = b.bounded in

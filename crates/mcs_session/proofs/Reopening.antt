@@ -8,12 +8,12 @@ use Rattle.mcs_model.specs.declared.command.Command.{Command}
 use Rattle.mcs_model.specs.BenchState.{BenchState}
 use Rattle.mcs_model.specs.Fold.{fold}
 use Rattle.mcs_session.specs.SessionCalls.{RefusesSession}
-use Rattle.mcs_session.specs.Kept.{IsAfterPrefix, IsReopened, Kept, StandsForPrefix, acknowledged_by}
-use Rattle.mcs_session.specs.Stands.{StandsFor}
+use Rattle.mcs_session.specs.KeptCommands.{IsAfterPrefix, IsReopened, KeepsCommands, StandsForPrefix, acknowledged_by}
+use Rattle.mcs_session.specs.StandsFor.{StandsFor}
 use Rattle.mcs_session.proofs.Prefixes.{acknowledged_all, acknowledged_at, prefix_all, prefix_fewer, spaced_le}
 use Rattle.mcs_session.proofs.Files.{is_session, one_state}
 
-pub reopened : (t : ℕ) (old new found opened : DiskState) (s u : BenchState) (done reached : List Command) (kept : Kept old new s done reached) → old.clock ≤ t
+pub reopened : (t : ℕ) (old new found opened : DiskState) (s u : BenchState) (done reached : List Command) (kept : KeepsCommands old new s done reached) → old.clock ≤ t
     → IsReopened t new found opened u → IsAfterPrefix s reached (acknowledged_by t kept.moments) u
 reopened t old new found opened s u done reached kept le h =
     let there = kept.each t found.bytes le h.cut.found in
@@ -25,18 +25,18 @@ not_refused Damaged disk s lawful stands h = absurd (h.1 s (inl stands))
 not_refused Device disk s lawful stands h = inl refl
 not_refused NoMemory disk s lawful stands h = inr refl
 
-pub found_is_opened : (t : ℕ) (old new found : DiskState) (s : BenchState) (done reached : List Command) (fault : OpenFault) → Kept old new s done reached → old.clock ≤ t
+pub found_is_opened : (t : ℕ) (old new found : DiskState) (s : BenchState) (done reached : List Command) (fault : OpenFault) → KeepsCommands old new s done reached → old.clock ≤ t
     → IsLeftByCut t new found → IsLawful found → RefusesSession fault found → (fault ≡ Device) ⊎ (fault ≡ NoMemory)
 found_is_opened t old new found s done reached fault kept le cut lawful h =
     let there = kept.each t found.bytes le cut.found in not_refused fault found there.state lawful there.stands h
 
-pub since_moment : (old new : DiskState) (s : BenchState) (done reached : List Command) (kept : Kept old new s done reached) (j moment : ℕ) (image : List ℕ)
+pub since_moment : (old new : DiskState) (s : BenchState) (done reached : List Command) (kept : KeepsCommands old new s done reached) (j moment : ℕ) (image : List ℕ)
     → slice_get kept.moments j ≡ Some moment → new.since moment image → StandsForPrefix s reached (j + 1) image
 since_moment old new s done reached kept j moment image e now =
     let by = acknowledged_at old.clock kept.moments j moment e kept.spaced in
     prefix_fewer s reached (j + 1) (acknowledged_by moment kept.moments) image by.1 (kept.each moment image by.0 now)
 
-pub at_end : (old new : DiskState) (s : BenchState) (done reached : List Command) (image : List ℕ) → Kept old new s done reached → new.images image → StandsForPrefix s reached (length done) image
+pub at_end : (old new : DiskState) (s : BenchState) (done reached : List Command) (image : List ℕ) → KeepsCommands old new s done reached → new.images image → StandsForPrefix s reached (length done) image
 at_end old new s done reached image kept now =
     let behind = spaced_le old.clock kept.moments kept.spaced in
     let within = kept.within in
@@ -45,5 +45,5 @@ at_end old new s done reached image kept now =
     prefix_fewer s reached (length done) (acknowledged_by new.clock kept.moments) image (omega (arith, all, count))
     (kept.each new.clock image (omega (arith, behind, within)) (kept.lawful.counts_now new.clock image (omega arith) now))
 
-pub whole_at_end : (old new : DiskState) (s : BenchState) (cs : List Command) (image : List ℕ) → Kept old new s cs cs → new.images image → StandsFor image (fold s cs)
+pub whole_at_end : (old new : DiskState) (s : BenchState) (cs : List Command) (image : List ℕ) → KeepsCommands old new s cs cs → new.images image → StandsFor image (fold s cs)
 whole_at_end old new s cs image kept now = prefix_all s cs (length cs) image (omega arith) (at_end old new s cs cs image kept now)

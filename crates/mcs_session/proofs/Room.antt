@@ -11,13 +11,13 @@ use Rattle.mcs_model.specs.declared.command.Command.TheVariants.{Wire, Load, Pre
 use Rattle.mcs_model.specs.declared.limits.TheConstants.{REPLAY_CYCLES}
 use Rattle.mcs_model.specs.BenchState.{BenchState}
 use Rattle.mcs_model.specs.Command.{refusal, after}
-use Rattle.mcs_session.specs.SessionCalls.{Acknowledges, MayLeave, Settles, Ticks}
+use Rattle.mcs_session.specs.SessionCalls.{AcknowledgesCommand, LeavesEitherState, SettlesSession, TakesTicks}
 use Rattle.mcs_codec.specs.Codec.{Spells}
 use Rattle.mcs_codec.specs.CommandBytes.{command_bytes}
 use Rattle.mcs_session.specs.Invariant.{HasMadeRoom, IsRecorded, IsReplayed}
 use Rattle.mcs_session.specs.Cycles.{log_cycles, replay_cycles}
 use Rattle.mcs_session.specs.LogUse.{LogUse, UsesLog, use_after}
-use Rattle.mcs_session.specs.Stands.{HasSpace, HoldsState, StandsFor}
+use Rattle.mcs_session.specs.StandsFor.{HasSpace, HoldsState, StandsFor}
 use Rattle.mcs_session.proofs.Files.{at_of, recorded_new, stands_by, stands_new}
 use Rattle.mcs_session.proofs.Records.{pair_more, replayed_more, same_list}
 
@@ -105,7 +105,7 @@ leaves_state old new cycles s was moments =
 
 -- the snapshot is there, in the place of the records
 pub settles : (old new : DiskState) (cycles : ℕ) (s : BenchState) (was : IsRecorded old cycles s)
-    → LeavesOnly old new (Either (λ c. Holds c was.stands.snap was.stands.records) (λ c. HoldsState c s)) → HoldsState new.bytes s → IsDurable new → new.clock ≡ old.clock + 4 → Settles old new s
+    → LeavesOnly old new (Either (λ c. Holds c was.stands.snap was.stands.records) (λ c. HoldsState c s)) → HoldsState new.bytes s → IsDurable new → new.clock ≡ old.clock + 4 → SettlesSession old new s
 settles old new cycles s was moments held durable ticks = record {
   stood = was.stands;
   holds = held;
@@ -117,13 +117,13 @@ settles old new cycles s was moments held durable ticks = record {
 -- ---- the record
 
 -- the record was not begun
-pub leaves_before : (old new : DiskState) (s t : BenchState) → LeavesOnly old new (λ file. StandsFor file s) → MayLeave old new s t
+pub leaves_before : (old new : DiskState) (s t : BenchState) → LeavesOnly old new (λ file. StandsFor file s) → LeavesEitherState old new s t
 leaves_before old new s t moments = leaves_map old new (λ file. StandsFor file s) (Either (λ file. StandsFor file s) (λ file. StandsFor file t)) (λ c there. inl there) moments
 
 -- a record is written after those that are there
 pub appended : (old mid new : DiskState) (cycles : ℕ) (s : BenchState) (c : Command) (r : List ℕ) (was : IsRecorded mid cycles s) → Spells r c → refusal s c ≡ None
     → cycles + replay_cycles c ≤ REPLAY_CYCLES → IsLawful new → LeavesOnly old mid (λ file. StandsFor file s)
-    → LeavesOnly mid new (Either (λ f. Holds f was.stands.snap was.stands.records) (λ f. Holds f was.stands.snap (was.stands.records ++ r ∷ []))) → MayLeave old new s (after s c)
+    → LeavesOnly mid new (Either (λ f. Holds f was.stands.snap was.stands.records) (λ f. Holds f was.stands.snap (was.stands.records ++ r ∷ []))) → LeavesEitherState old new s (after s c)
 appended old mid new cycles s c r was spells accepted few lawful first moments =
     let count = was.count in
     let more = pair_more false was.stands.snap r was.stands.records s c was.stands.stand spells accepted (omega (arith, count, few)) in
@@ -141,7 +141,7 @@ recorded_more old new cycles more s c r was spells accepted is few durable held 
 
 -- the steps of both
 pub ticked : (old mid new : DiskState) (bytes more cycles : ℕ) (s : BenchState) (c : Command) → bytes ≡ length (command_bytes c) → more ≡ replay_cycles c
-    → HasMadeRoom old mid bytes more cycles s → new.clock ≡ mid.clock + 4 → Ticks old new c
+    → HasMadeRoom old mid bytes more cycles s → new.clock ≡ mid.clock + 4 → TakesTicks old new c
 ticked old mid new bytes more cycles s c is_long is_more made tick =
     elim made.ticks [
       | inl there ↦
@@ -152,5 +152,5 @@ ticked old mid new bytes more cycles s c is_long is_more made tick =
           inr (λ room. none.0 (subst (λ (n : ℕ). HasSpace old.bytes bytes n) (sym is_more) (subst (λ (n : ℕ). HasSpace old.bytes n (replay_cycles c)) (sym is_long) room)), omega (arith, tick, four))
     ]
 
-pub acknowledged : (old new : DiskState) (cycles : ℕ) (s : BenchState) (c : Command) → MayLeave old new s (after s c) → Ticks old new c → IsRecorded new cycles (after s c) → ((log : LogUse) → UsesLog old.bytes log → UsesLog new.bytes (use_after log c)) → Acknowledges old new s c
+pub acknowledged : (old new : DiskState) (cycles : ℕ) (s : BenchState) (c : Command) → LeavesEitherState old new s (after s c) → TakesTicks old new c → IsRecorded new cycles (after s c) → ((log : LogUse) → UsesLog old.bytes log → UsesLog new.bytes (use_after log c)) → AcknowledgesCommand old new s c
 acknowledged old new cycles s c moments ticks was used = record { moments = moments; ticks = ticks; log = used; now = at_of new (after s c) was.durable was.stands }

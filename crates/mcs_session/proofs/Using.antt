@@ -12,12 +12,12 @@ use Rattle.mcs_model.specs.declared.command.Command.{Command}
 use Rattle.mcs_model.specs.declared.limits.TheConstants.{REPLAY_CYCLES}
 use Rattle.mcs_model.specs.BenchState.{BenchState}
 use Rattle.mcs_model.specs.Command.{refusal, after}
-use Rattle.mcs_session.specs.SessionCalls.{Ticks}
+use Rattle.mcs_session.specs.SessionCalls.{TakesTicks}
 use Rattle.mcs_session.specs.Cycles.{log_cycles, replay_cycles}
 use Rattle.mcs_session.specs.Invariant.{HasMadeRoom, IsRecorded, IsReplayed}
-use Rattle.mcs_session.specs.Kept.{last_moment}
+use Rattle.mcs_session.specs.KeptCommands.{last_moment}
 use Rattle.mcs_session.specs.LogUse.{LogUse, UsesLog, empty_log, has_room_for, moments_of, steps_of, use_after, use_after_all, with_record}
-use Rattle.mcs_session.specs.Stands.{HasRoomFor, HasSpace}
+use Rattle.mcs_session.specs.StandsFor.{HasRoomFor, HasSpace}
 use Rattle.mcs_session.proofs.Files.{empty_uses}
 use Rattle.mcs_session.proofs.Records.{replayed_more, same_list}
 
@@ -67,7 +67,7 @@ room_space file log c uses room =
 
 -- ---- one command
 
-pub ticked_by : (d e : DiskState) (log : LogUse) (c : Command) → UsesLog d.bytes log → Ticks d e c → e.clock ≡ d.clock + steps_of log c
+pub ticked_by : (d e : DiskState) (log : LogUse) (c : Command) → UsesLog d.bytes log → TakesTicks d e c → e.clock ≡ d.clock + steps_of log c
 ticked_by d e log c uses ticks =
     let P : Bool → ℕ = λ b. d.clock + (if b then 4 else 8) in
     elim (decide log c) [

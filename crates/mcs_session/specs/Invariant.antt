@@ -7,7 +7,7 @@ use Rattle.mcs_journal.specs.declared.format.TheConstants.{MOST_RECORD, MOST_SNA
 use Rattle.mcs_model.specs.declared.limits.TheConstants.{REPLAY_CYCLES}
 use Rattle.mcs_model.specs.BenchState.{BenchState}
 use Rattle.mcs_session.specs.Cycles.{log_cycles}
-use Rattle.mcs_session.specs.Stands.{HoldsState, HasSpace, RecordsStandFor, StandsFor}
+use Rattle.mcs_session.specs.StandsFor.{HoldsState, HasSpace, RecordsStandFor, StandsFor}
 
 -- an honest disk of an open session: whatever a power cut leaves stands for the state of the bench,
 -- by a log of that many cycles
@@ -30,8 +30,8 @@ pub record IsSession
   pub ready : IsReady cycles payload snapshot
   pub recorded : IsTrue live → disk.honest → IsRecorded disk cycles s
 
--- a snapshot and records, of version 1 where `version_1` is true, stand for this state, by commands of
--- that many cycles
+-- a snapshot and records, of version 1 where `version_1` is true, stand for this state, by commands
+-- of that many cycles
 pub record IsReplayed
     (version_1 : Bool) (snap : List ℕ) (records : List (List ℕ)) (cycles : ℕ)
     (s : BenchState) : Type 0 where
@@ -39,8 +39,8 @@ pub record IsReplayed
   pub count : cycles ≡ log_cycles stand.commands
 
 -- Room was made for a record of that many bytes and that many cycles: in no step where there was
--- room, and else in four, by a snapshot of the state in the place of all records. The disk stands for
--- the same state still, by a log of that many cycles.
+-- room, and else in four, by a snapshot of the state in the place of all records. The disk stands
+-- for the same state still, by a log of that many cycles.
 pub record HasMadeRoom (old new : DiskState) (bytes more cycles : ℕ) (s : BenchState) : Type 0 where
   pub ticks : (HasSpace old.bytes bytes more × (new.clock ≡ old.clock))
       ⊎ (¬ (HasSpace old.bytes bytes more) × (new.clock ≡ old.clock + 4))
@@ -54,15 +54,16 @@ pub record HasContents (disk : DiskState) : Type 0 where
   pub records : List (List ℕ)
   pub holds : Holds disk.bytes snap records
 
--- until a snapshot of this state is there, the pair of before is
-abbrev pub MayReplace : DiskState → DiskState → List ℕ → List (List ℕ) → BenchState → Type 0
-MayReplace old new snap records s =
+-- whatever a power cut of this stretch leaves holds the pair of before, or a snapshot of this state
+-- and no records
+abbrev pub MayReplaceContents : DiskState → DiskState → List ℕ → List (List ℕ) → BenchState → Type 0
+MayReplaceContents old new snap records s =
     LeavesOnly old new (Either (λ c. Holds c snap records) (λ c. HoldsState c s))
 
--- and now it is there
-pub record Replaced
+-- the same, and now the snapshot is there
+pub record ReplacedContents
     (old new : DiskState) (snap : List ℕ) (records : List (List ℕ)) (s : BenchState) : Type 0 where
-  pub moments : MayReplace old new snap records s
+  pub moments : MayReplaceContents old new snap records s
   pub held : HoldsState new.bytes s
   pub durable : IsDurable new
 
@@ -72,14 +73,14 @@ ReplacesAll old new s result =
     (snap : List ℕ) (records : List (List ℕ)) → Holds old.bytes snap records
     → Changes 4 old new (λ c. Holds c snap records) (λ c. HoldsState c s) result
 
--- until a snapshot of this state is there, the pair that the disk held is
+-- `MayReplaceContents` for the pair that the disk held, whichever that is
 abbrev pub MayReplaceAll : DiskState → DiskState → BenchState → Type 0
 MayReplaceAll old new s =
     (snap : List ℕ) (records : List (List ℕ)) → Holds old.bytes snap records
-    → MayReplace old new snap records s
+    → MayReplaceContents old new snap records s
 
--- and now it is there
+-- `ReplacedContents` for it
 abbrev pub ReplacedAll : DiskState → DiskState → BenchState → Type 0
 ReplacedAll old new s =
     (snap : List ℕ) (records : List (List ℕ)) → Holds old.bytes snap records
-    → Replaced old new snap records s
+    → ReplacedContents old new snap records s

@@ -1,8 +1,8 @@
 pub mod Cycles
 pub mod Version1
-pub mod Stands
+pub mod StandsFor
 pub mod LogUse
-pub mod Standing
+pub mod SessionState
 pub mod SessionCalls
 pub mod Invariant
-pub mod Kept
+pub mod KeptCommands

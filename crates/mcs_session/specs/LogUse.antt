@@ -7,7 +7,7 @@ use Rattle.mcs_model.specs.declared.command.Command.{Command}
 use Rattle.mcs_model.specs.declared.limits.TheConstants.{REPLAY_CYCLES}
 use Rattle.mcs_model.specs.BenchState.{BenchState}
 use Rattle.mcs_session.specs.Cycles.{log_cycles, replay_cycles}
-use Rattle.mcs_session.specs.Stands.{StandsFor}
+use Rattle.mcs_session.specs.StandsFor.{StandsFor}
 
 -- the bytes of a log's records, and the cycles of their commands
 pub record LogUse : Type 0 where
@@ -37,8 +37,8 @@ with_record log c = record {
   cycles = log.cycles + replay_cycles c;
 }
 
--- the use of a log once a command was recorded: where there was no room, a snapshot took the place of
--- all records first
+-- the use of a log once a command was recorded: where there was no room, a snapshot took the place
+-- of all records first
 abbrev pub use_after : LogUse → Command → LogUse
 use_after log c = with_record (if has_room_for log c then log else empty_log) c
 

@@ -13,7 +13,7 @@ use Rattle.mcs_model.specs.Command.{refusal, after, reply}
 use Rattle.mcs_session.specs.declared.fault.SessionFault.{SessionFault}
 use Rattle.mcs_session.specs.declared.fault.SessionFault.TheVariants.{Refused, Device, Closed}
 use Rattle.mcs_session.specs.LogUse.{LogUse, UsesLog, use_after}
-use Rattle.mcs_session.specs.Stands.{HasRoomFor, HoldsState, IsAt, StandsByEither, StandsFor}
+use Rattle.mcs_session.specs.StandsFor.{HasRoomFor, HoldsState, DiskStandsFor, StandsByEither, StandsFor}
 use Rattle.mcs_session.specs.Version1.{StandsForLifted}
 
 -- ---- `create` and `open` on an honest disk
@@ -22,12 +22,12 @@ use Rattle.mcs_session.specs.Version1.{StandsForLifted}
 pub record CreatesSession (old new : DiskState) : Type 0 where
   pub blank : IsBlank old.size old.bytes
   pub stands : StandsFor new.bytes new_bench_state
-  pub at : IsAt new new_bench_state
+  pub at : DiskStandsFor new new_bench_state
   pub ticks : new.clock ≡ old.clock + 5
   pub moments : KeepsEarlierImages old new
 
--- an image that a power cut may leave of this stretch: one that the disk had before, or one that
--- stands for this state
+-- whatever a power cut of this stretch leaves is an image that the disk had before, or stands for
+-- this state
 abbrev pub MayMigrate : DiskState → DiskState → BenchState → Type 0
 MayMigrate old new s =
     LeavesOnly old new (Either (old.since old.clock) (λ file. StandsByEither file s))
@@ -40,13 +40,14 @@ pub record OpensSession (old new : DiskState) (s : BenchState) : Type 0 where
   pub rests : StandsFor old.bytes s → AddsNoImage old new
   pub unwritten : StandsFor old.bytes s → WritesNothing old new
   pub migrated : StandsForLifted old.bytes s → HoldsState new.bytes s
-  pub at : IsAt new s
+  pub at : DiskStandsFor new s
 
 -- the bytes stand for no state
 abbrev pub StandsForNone : DiskState → Type 0
 StandsForNone disk = (s : BenchState) → StandsByEither disk.bytes s → ⊥
 
--- what a refusal of `open` says of the disk
+-- what a refusal of `open` says of the disk: its bytes are no session, or they stand for no state;
+-- of lack of memory and a device fault, nothing
 abbrev pub RefusesSession : OpenFault → DiskState → Type 0
 RefusesSession open_fault.NotASession disk = IsNoSession disk
 RefusesSession open_fault.Damaged disk = ¬ (IsNoSession disk) × StandsForNone disk
@@ -61,60 +62,63 @@ pub record FailsMigrating (old new : DiskState) : Type 0 where
 
 -- what a refused `open` did to the disk: nothing, except for a device fault while a file of version
 -- 1 was replaced
-abbrev pub LeftRefused : OpenFault → DiskState → DiskState → Type 0
-LeftRefused open_fault.Device old new = AddsNoImage old new ⊎ FailsMigrating old new
-LeftRefused fault old new = AddsNoImage old new
+abbrev pub RefusalLeaves : OpenFault → DiskState → DiskState → Type 0
+RefusalLeaves open_fault.Device old new = AddsNoImage old new ⊎ FailsMigrating old new
+RefusalLeaves fault old new = AddsNoImage old new
 
 -- ---- `apply` and `settle`
 
 -- from this state the command leads to that answer and state, on an open session or a closed one
-abbrev pub Applied : Bool → BenchState → Command → Result Reply SessionFault → BenchState → Type 0
-Applied true s c (Ok r) t = (refusal s c ≡ None) × (r ≡ reply s c) × (t ≡ after s c)
-Applied true s c (Err (Refused f)) t = (refusal s c ≡ Some f) × (t ≡ s)
-Applied true s c (Err Device) t = (refusal s c ≡ None) × (t ≡ s)
-Applied false s c (Err Closed) t = t ≡ s
-Applied live s c result t = ⊥
+abbrev pub AppliesCommand : Bool → BenchState → Command → Result Reply SessionFault → BenchState
+    → Type 0
+AppliesCommand true s c (Ok r) t = (refusal s c ≡ None) × (r ≡ reply s c) × (t ≡ after s c)
+AppliesCommand true s c (Err (Refused f)) t = (refusal s c ≡ Some f) × (t ≡ s)
+AppliesCommand true s c (Err Device) t = (refusal s c ≡ None) × (t ≡ s)
+AppliesCommand false s c (Err Closed) t = t ≡ s
+AppliesCommand live s c result t = ⊥
 
 -- the session is closed where the device failed, and the count of faults rose there alone
-abbrev pub Closes : {T : Type 0} → Bool → ℕ → Result T SessionFault → Bool → ℕ → Type 0
-Closes live faults (Ok r) new_live new_faults = (new_live ≡ live) × (new_faults ≡ faults)
-Closes live faults (Err Device) new_live new_faults =
+abbrev pub ClosesAtDeviceFault : {T : Type 0} → Bool → ℕ → Result T SessionFault → Bool → ℕ → Type 0
+ClosesAtDeviceFault live faults (Ok r) new_live new_faults =
+    (new_live ≡ live) × (new_faults ≡ faults)
+ClosesAtDeviceFault live faults (Err Device) new_live new_faults =
     (new_live ≡ false) × (new_faults ≡ min (faults + 1) most_faults)
-Closes live faults (Err fault) new_live new_faults = (new_live ≡ live) × (new_faults ≡ faults)
+ClosesAtDeviceFault live faults (Err fault) new_live new_faults =
+    (new_live ≡ live) × (new_faults ≡ faults)
 
 -- at every moment of this stretch a power cut leaves the one state or the other
-abbrev pub MayLeave : DiskState → DiskState → BenchState → BenchState → Type 0
-MayLeave old new s t =
+abbrev pub LeavesEitherState : DiskState → DiskState → BenchState → BenchState → Type 0
+LeavesEitherState old new s t =
     LeavesOnly old new (Either (λ file. StandsFor file s) (λ file. StandsFor file t))
 
 -- an acknowledged command takes four steps of the clock where there was room for its record, and
 -- eight where there was none
-abbrev pub Ticks : DiskState → DiskState → Command → Type 0
-Ticks old new c =
+abbrev pub TakesTicks : DiskState → DiskState → Command → Type 0
+TakesTicks old new c =
     (HasRoomFor old.bytes c × (new.clock ≡ old.clock + 4))
     ⊎ (¬ (HasRoomFor old.bytes c) × (new.clock ≡ old.clock + 8))
 
 -- Until the command is acknowledged, a power cut leaves the state before or after, and from then on
 -- the state after.
-pub record Acknowledges (old new : DiskState) (s : BenchState) (c : Command) : Type 0 where
-  pub moments : MayLeave old new s (after s c)
-  pub ticks : Ticks old new c
+pub record AcknowledgesCommand (old new : DiskState) (s : BenchState) (c : Command) : Type 0 where
+  pub moments : LeavesEitherState old new s (after s c)
+  pub ticks : TakesTicks old new c
   pub log : (log : LogUse) → UsesLog old.bytes log → UsesLog new.bytes (use_after log c)
-  pub now : IsAt new (after s c)
+  pub now : DiskStandsFor new (after s c)
 
 -- what the command does to an honest disk
-abbrev pub Recorded : Result Reply SessionFault → DiskState → DiskState → BenchState
+abbrev pub RecordsOrFails : Result Reply SessionFault → DiskState → DiskState → BenchState
     → Command → Type 0
-Recorded (Ok r) old new s c = Acknowledges old new s c
-Recorded (Err Device) old new s c = MayLeave old new s (after s c)
-Recorded (Err fault) old new s c = IsUntouched old new
+RecordsOrFails (Ok r) old new s c = AcknowledgesCommand old new s c
+RecordsOrFails (Err Device) old new s c = LeavesEitherState old new s (after s c)
+RecordsOrFails (Err fault) old new s c = IsUntouched old new
 
 -- an open session settles or meets a device fault, and a closed one is refused
-abbrev pub MaySettle : {T : Type 0} → Bool → Result T SessionFault → Type 0
-MaySettle true (Ok x) = Unit {0}
-MaySettle true (Err Device) = Unit {0}
-MaySettle false (Err Closed) = Unit {0}
-MaySettle live result = ⊥
+abbrev pub MayAnswerSettle : {T : Type 0} → Bool → Result T SessionFault → Type 0
+MayAnswerSettle true (Ok x) = Unit {0}
+MayAnswerSettle true (Err Device) = Unit {0}
+MayAnswerSettle false (Err Closed) = Unit {0}
+MayAnswerSettle live result = ⊥
 
 -- at every moment of this stretch a power cut leaves this state
 abbrev pub KeepsState : DiskState → DiskState → BenchState → Type 0
@@ -122,16 +126,16 @@ KeepsState old new s = LeavesOnly old new (λ file. StandsFor file s)
 
 -- The disk stood for this state, and now, four steps later, it holds a snapshot of it and no
 -- records. At every moment between it stood for this state.
-pub record Settles (old new : DiskState) (s : BenchState) : Type 0 where
+pub record SettlesSession (old new : DiskState) (s : BenchState) : Type 0 where
   pub stood : StandsFor old.bytes s
   pub holds : HoldsState new.bytes s
   pub moments : KeepsState old new s
   pub ticks : new.clock ≡ old.clock + 4
-  pub now : IsAt new s
+  pub now : DiskStandsFor new s
 
 -- what settling does to an honest disk
-abbrev pub Settled : {T : Type 0} → Result T SessionFault → DiskState → DiskState
+abbrev pub SettlesOrFails : {T : Type 0} → Result T SessionFault → DiskState → DiskState
     → BenchState → Type 0
-Settled (Ok x) old new s = Settles old new s
-Settled (Err Device) old new s = StandsFor old.bytes s × KeepsState old new s
-Settled (Err fault) old new s = IsUntouched old new
+SettlesOrFails (Ok x) old new s = SettlesSession old new s
+SettlesOrFails (Err Device) old new s = StandsFor old.bytes s × KeepsState old new s
+SettlesOrFails (Err fault) old new s = IsUntouched old new

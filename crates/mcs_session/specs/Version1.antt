@@ -12,12 +12,13 @@ use Rattle.mcs_version1.specs.Lift.{lift}
 use Rattle.mcs_session.specs.Cycles.{log_cycles}
 
 -- these records spell these commands of version 1, accepted in turn from this state
-abbrev pub Replays1 : BenchState1 → List (List ℕ) → List Command → Type 0
-Replays1 s [] [] = Unit {0}
-Replays1 s [] (c ∷ cs) = ⊥
-Replays1 s (r ∷ rs) [] = ⊥
-Replays1 s (r ∷ rs) (c ∷ cs) =
-    (Spells r c × (in_version_1 c ≡ true)) × (refusal_1 s c ≡ None) × Replays1 (after_1 s c) rs cs
+abbrev pub ReplaysCommands1 : BenchState1 → List (List ℕ) → List Command → Type 0
+ReplaysCommands1 s [] [] = Unit {0}
+ReplaysCommands1 s [] (c ∷ cs) = ⊥
+ReplaysCommands1 s (r ∷ rs) [] = ⊥
+ReplaysCommands1 s (r ∷ rs) (c ∷ cs) =
+    (Spells r c × (in_version_1 c ≡ true)) × (refusal_1 s c ≡ None)
+    × ReplaysCommands1 (after_1 s c) rs cs
 
 -- a snapshot and the records after it stand for this state of version 1
 pub record RecordsStandFor1
@@ -25,7 +26,7 @@ pub record RecordsStandFor1
   pub start : BenchState1
   pub snapshot : SpellsState1 snap start
   pub commands : List Command
-  pub replays : Replays1 start records commands
+  pub replays : ReplaysCommands1 start records commands
   pub bounded : log_cycles commands ≤ REPLAY_CYCLES
   pub state : s ≡ fold_1 start commands
 

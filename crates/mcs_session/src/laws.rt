@@ -6,9 +6,9 @@ ghost use Rattle.mcs_journal.specs.declared.fault.OpenFault.{OpenFault};
 ghost use Rattle.mcs_model.specs.declared.command.Command.{Command};
 ghost use Rattle.mcs_model.specs.BenchState.{BenchState};
 ghost use Rattle.mcs_model.specs.Fold.{fold};
-ghost use Rattle.mcs_session.specs.SessionCalls.{LeftRefused, OpensSession, RefusesSession};
-ghost use Rattle.mcs_session.specs.Kept.{IsAfterPrefix, IsReopened, Kept, StandsForPrefix, acknowledged_by};
-ghost use Rattle.mcs_session.specs.Stands.{HoldsState, IsAtLifted, StandsByEither, StandsFor, StandsSince};
+ghost use Rattle.mcs_session.specs.SessionCalls.{RefusalLeaves, OpensSession, RefusesSession};
+ghost use Rattle.mcs_session.specs.KeptCommands.{IsAfterPrefix, IsReopened, KeepsCommands, StandsForPrefix, acknowledged_by};
+ghost use Rattle.mcs_session.specs.StandsFor.{HoldsState, DiskStandsForLifted, StandsByEither, StandsFor, DiskStandsSince};
 
 use mcs_disk::Disk;
 use mcs_journal::OpenFault;
@@ -24,7 +24,8 @@ pub fn file_stands_for_one_state()
 /// holds each one acknowledged by that time.
 pub fn reopened_bench_holds_what_was_acknowledged<D: Disk, E: Disk>()
     ensures { (t : ℕ) (old new : D) (found opened : E) (s u : BenchState)
-        (done reached : List Command) (kept : Kept (D.state old) (D.state new) s done reached)
+        (done reached : List Command)
+        (kept : KeepsCommands (D.state old) (D.state new) s done reached)
         → (D.state old).clock ≤ t
         → IsReopened t (D.state new) (E.state found) (E.state opened) u
         → IsAfterPrefix s reached (acknowledged_by t kept.moments) u }
@@ -34,7 +35,7 @@ pub fn reopened_bench_holds_what_was_acknowledged<D: Disk, E: Disk>()
 pub fn what_a_power_cut_left_is_opened<D: Disk, E: Disk>()
     ensures { (t : ℕ) (old new : D) (found : E) (s : BenchState) (done reached : List Command)
         (fault : OpenFault)
-        → Kept (D.state old) (D.state new) s done reached → (D.state old).clock ≤ t
+        → KeepsCommands (D.state old) (D.state new) s done reached → (D.state old).clock ≤ t
         → IsLeftByCut t (D.state new) (E.state found) → RefusesSession fault (E.state found)
         → (fault ≡ OpenFault.Device) ⊎ (fault ≡ OpenFault.NoMemory) }
 {}
@@ -42,7 +43,8 @@ pub fn what_a_power_cut_left_is_opened<D: Disk, E: Disk>()
 /// What a power cut since a command was acknowledged left holds it and those before it.
 pub fn since_an_acknowledgement_its_commands_are_kept<D: Disk>()
     ensures { (old new : D) (s : BenchState) (done reached : List Command)
-        (kept : Kept (D.state old) (D.state new) s done reached) (j moment : ℕ) (image : List ℕ)
+        (kept : KeepsCommands (D.state old) (D.state new) s done reached)
+        (j moment : ℕ) (image : List ℕ)
         → slice_get kept.moments j ≡ Some moment → (D.state new).since moment image
         → StandsForPrefix s reached (j + 1) image }
 {}
@@ -51,10 +53,10 @@ pub fn since_an_acknowledgement_its_commands_are_kept<D: Disk>()
 /// failed, it stands for the state after all commands.
 pub fn at_the_end_all_is_kept<D: Disk>()
     ensures acknowledged { (old new : D) (s : BenchState) (done reached : List Command)
-        (image : List ℕ) → Kept (D.state old) (D.state new) s done reached
+        (image : List ℕ) → KeepsCommands (D.state old) (D.state new) s done reached
         → (D.state new).images image → StandsForPrefix s reached (length done) image }
     ensures whole { (old new : D) (s : BenchState) (commands : List Command) (image : List ℕ)
-        → Kept (D.state old) (D.state new) s commands commands → (D.state new).images image
+        → KeepsCommands (D.state old) (D.state new) s commands commands → (D.state new).images image
         → StandsFor image (fold s commands) }
 {}
 
@@ -64,10 +66,10 @@ pub fn at_the_end_all_is_kept<D: Disk>()
 /// disk holds a snapshot of version 2 and no records.
 pub fn a_file_of_version_1_keeps_its_state<D: Disk>()
     ensures opened { (old new : D) (s u : BenchState) → (D.state old).honest
-        → IsAtLifted (D.state old) s → OpensSession (D.state old) (D.state new) u
+        → DiskStandsForLifted (D.state old) s → OpensSession (D.state old) (D.state new) u
         → (u ≡ s) × (HoldsState (D.state new).bytes s
-        × StandsSince (D.state old).clock (D.state new) s) }
+        × DiskStandsSince (D.state old).clock (D.state new) s) }
     ensures refused { (old new : D) (s : BenchState) (fault : OpenFault) → (D.state old).honest
-        → IsAtLifted (D.state old) s → LeftRefused fault (D.state old) (D.state new)
-        → StandsSince (D.state old).clock (D.state new) s }
+        → DiskStandsForLifted (D.state old) s → RefusalLeaves fault (D.state old) (D.state new)
+        → DiskStandsSince (D.state old).clock (D.state new) s }
 {}

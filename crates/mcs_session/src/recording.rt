@@ -6,9 +6,9 @@ ghost use Rattle.mcs_codec.specs.CommandBytes.{command_bytes};
 ghost use Rattle.mcs_disk.specs.Moments.{CountsFault, LeavesOnly};
 ghost use Rattle.mcs_journal.specs.File.{HasRoom};
 ghost use Rattle.mcs_model.specs.Command.{after, refusal};
-ghost use Rattle.mcs_session.specs.SessionCalls.{Acknowledges, MayLeave};
+ghost use Rattle.mcs_session.specs.SessionCalls.{AcknowledgesCommand, LeavesEitherState};
 ghost use Rattle.mcs_session.specs.Invariant.{HasMadeRoom, IsReady, IsRecorded, ReplacesAll};
-ghost use Rattle.mcs_session.specs.Stands.{StandsFor};
+ghost use Rattle.mcs_session.specs.StandsFor.{StandsFor};
 
 use crate::replaying::replay_cycles;
 use mcs_bench::Bench;
@@ -127,12 +127,12 @@ impl<D: Disk + Drop> CommandLog<D> {
         ensures ready { IsReady self.new.cycles self.new.payload.items self.new.snapshot.items }
         ensures moments { (D.state self.old.store.disk).honest
             → IsRecorded (D.state self.old.store.disk) self.old.cycles bench.now
-            → MayLeave (D.state self.old.store.disk) (D.state self.new.store.disk)
+            → LeavesEitherState (D.state self.old.store.disk) (D.state self.new.store.disk)
             bench.now (after bench.now command.now) }
         ensures acknowledges { (D.state self.old.store.disk).honest
             → IsRecorded (D.state self.old.store.disk) self.old.cycles bench.now
-            → OnOk result (Acknowledges (D.state self.old.store.disk) (D.state self.new.store.disk)
-            bench.now command.now) }
+            → OnOk result (AcknowledgesCommand
+            (D.state self.old.store.disk) (D.state self.new.store.disk) bench.now command.now) }
         ensures recorded { (D.state self.old.store.disk).honest
             → IsRecorded (D.state self.old.store.disk) self.old.cycles bench.now
             → OnOk result (IsRecorded (D.state self.new.store.disk) self.new.cycles

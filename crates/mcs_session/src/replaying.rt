@@ -5,7 +5,7 @@ ghost use Rattle.mcs_session.specs.Invariant.{IsReplayed};
 ghost use Rattle.mcs_session.specs.Cycles.{replay_cycles};
 ghost use Rattle.mcs_codec.specs.Codec.{is_version_1};
 ghost use Rattle.mcs_version1.specs.Command.{in_version_1};
-ghost use Rattle.mcs_session.specs.Stands.{RecordsStandFor};
+ghost use Rattle.mcs_session.specs.StandsFor.{RecordsStandFor};
 
 use mcs_bench::Bench;
 use mcs_codec::{bench_of, command_of, in_version_1, is_version_1};

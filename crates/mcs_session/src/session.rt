@@ -3,8 +3,8 @@ ghost use Rattle.std.specs.Prelude.{◌≡◌, ◌≢◌, ◌⊎◌, ◌↔◌, 
 ghost use Rattle.mcs_disk.specs.Moments.{CountsFault, WritesNothing};
 ghost use Rattle.mcs_journal.specs.StoreCalls.{RefusesCreate};
 ghost use Rattle.mcs_model.specs.BenchState.{new_bench_state};
-ghost use Rattle.mcs_session.specs.Stands.{StandsFor, IsAt};
-ghost use Rattle.mcs_session.specs.SessionCalls.{Applied, Closes, CreatesSession, LeftRefused, MaySettle, OpensSession, Recorded, RefusesSession, Settled};
+ghost use Rattle.mcs_session.specs.StandsFor.{StandsFor, DiskStandsFor};
+ghost use Rattle.mcs_session.specs.SessionCalls.{AppliesCommand, ClosesAtDeviceFault, CreatesSession, RefusalLeaves, MayAnswerSettle, OpensSession, RecordsOrFails, RefusesSession, SettlesOrFails};
 ghost use Rattle.mcs_session.specs.Invariant.{HasContents, IsReady, IsRecorded, MayReplaceAll, ReplacedAll};
 
 use crate::fault::SessionFault;
@@ -29,7 +29,7 @@ pub struct Session<D: Disk + Drop> {
 
 impl<D: Disk + Drop> Model for Session<D> {
     ghost use Rattle.mcs_session.specs.Invariant.{IsSession};
-    ghost use Rattle.mcs_session.specs.Standing.{SessionView};
+    ghost use Rattle.mcs_session.specs.SessionState.{SessionView};
 
     ghost Value = { SessionView D };
 
@@ -112,7 +112,7 @@ impl<D: Disk + Drop> Session<D> {
             OpensSession (D.state disk) (D.state s.disk) s.state) }
         ensures refused { (D.state disk).honest → IfErr result (λ refused.
             RefusesSession refused.0 (D.state disk)
-            × LeftRefused refused.0 (D.state disk) (D.state refused.1)) }
+            × RefusalLeaves refused.0 (D.state disk) (D.state refused.1)) }
     {
         let Ok(buffers) = log_buffers(alloc) else {
             return Err((OpenFault::NoMemory, disk));
@@ -147,12 +147,13 @@ impl<D: Disk + Drop> Session<D> {
     pub fn bench(&self) -> &Bench
         ensures is { result.now ≡ self.now.state }
         ensures at { IsTrue self.now.live → (D.state self.now.disk).honest
-            → IsAt (D.state self.now.disk) self.now.state }
+            → DiskStandsFor (D.state self.now.disk) self.now.state }
     {
         &self.bench
     }
 
-    /// Does a command and records it. By `Ok` it is acknowledged: from then on no power cut loses it.
+    /// Does a command and records it. By `Ok` it is acknowledged: from then on no power cut loses
+    /// it.
     ///
     /// Where its record has no room in the log, by its bytes or by the cycles that the log counts,
     /// the state before the command first takes the place of the snapshot and of all records.
@@ -161,8 +162,9 @@ impl<D: Disk + Drop> Session<D> {
     /// call on the disk failed (53). Each refusal but the last leaves the disk untouched.
     pub fn apply(&mut self, command: &Command) -> Result<Reply, SessionFault>
         // on any disk
-        ensures applied { Applied self.old.live self.old.state command.now result self.new.state }
-        ensures closes { Closes self.old.live (D.state self.old.disk).faults result
+        ensures applied { AppliesCommand self.old.live self.old.state command.now result
+            self.new.state }
+        ensures closes { ClosesAtDeviceFault self.old.live (D.state self.old.disk).faults result
             self.new.live (D.state self.new.disk).faults }
         ensures size { (D.state self.new.disk).size ≡ (D.state self.old.disk).size }
         ensures honest { (D.state self.new.disk).honest ↔ (D.state self.old.disk).honest }
@@ -171,7 +173,7 @@ impl<D: Disk + Drop> Session<D> {
 
         // on an honest disk
         ensures records { (D.state self.old.disk).honest
-            → Recorded result (D.state self.old.disk) (D.state self.new.disk)
+            → RecordsOrFails result (D.state self.old.disk) (D.state self.new.disk)
             self.old.state command.now }
     {
         if !self.log.store.is_open() {
@@ -191,8 +193,8 @@ impl<D: Disk + Drop> Session<D> {
     pub fn settle(&mut self) -> Result<(), SessionFault>
         // on any disk
         ensures state { self.new.state ≡ self.old.state }
-        ensures answers { MaySettle self.old.live result }
-        ensures closes { Closes self.old.live (D.state self.old.disk).faults result
+        ensures answers { MayAnswerSettle self.old.live result }
+        ensures closes { ClosesAtDeviceFault self.old.live (D.state self.old.disk).faults result
             self.new.live (D.state self.new.disk).faults }
         ensures size { (D.state self.new.disk).size ≡ (D.state self.old.disk).size }
         ensures honest { (D.state self.new.disk).honest ↔ (D.state self.old.disk).honest }
@@ -201,7 +203,7 @@ impl<D: Disk + Drop> Session<D> {
 
         // on an honest disk
         ensures settles { (D.state self.old.disk).honest
-            → Settled result (D.state self.old.disk) (D.state self.new.disk) self.old.state }
+            → SettlesOrFails result (D.state self.old.disk) (D.state self.new.disk) self.old.state }
     {
         if !self.log.store.is_open() {
             return Err(SessionFault::Closed);

@@ -18,28 +18,28 @@ use Rattle.mcs_lines.specs.declared.requests.TextKind.{TextKind}
 use Rattle.mcs_shell.specs.declared.texts.TextFault.{TextFault}
 use Rattle.mcs_shell.specs.declared.ends.ShellEnd.{ShellEnd}
 use Rattle.mcs_shell.specs.Inputs.{Input, Line, Text, BadText, text_fault_of, judged_text, text_or_fault}
-use Rattle.mcs_shell.specs.Spelling.{Does, Tells, spelled_by, text_refusal}
-use Rattle.mcs_session.specs.SessionCalls.{Applied, Closes, Recorded}
-use Rattle.mcs_session.specs.Standing.{Premise, SessionState}
-use Rattle.mcs_shell.specs.Stage.{Stage}
+use Rattle.mcs_shell.specs.Spelling.{Does, Tells, meaning_of_text, text_refusal}
+use Rattle.mcs_session.specs.SessionCalls.{AppliesCommand, ClosesAtDeviceFault, RecordsOrFails}
+use Rattle.mcs_session.specs.SessionState.{Premise, SessionState}
+use Rattle.mcs_shell.specs.ShellState.{ShellState}
 use Rattle.mcs_shell.specs.RefusalNumbers.{session_fault_number}
 use Rattle.mcs_answers.specs.AnswerTexts.{no_text, ok_text}
-use Rattle.mcs_shell.specs.Transcript.{MayEnd, accepted_commands, answer, asked_command, text_command, change_answer, commands, halt_of, is_device, plain_answer, reached_commands, spelled_answer, takes_memory}
-use Rattle.mcs_session.specs.Kept.{IsIntact}
-use Rattle.mcs_shell.specs.Serving.{Answered, Leaves, Meets, Serves, Wrote, outcome_of}
+use Rattle.mcs_shell.specs.Transcript.{IsPossibleOutcome, accepted_commands, answer, asked_command, text_command, change_answer, acknowledged_commands, halt_of, is_device_fault, plain_answer, reached_commands, meaning_answer, takes_memory}
+use Rattle.mcs_session.specs.KeptCommands.{IsIntact}
+use Rattle.mcs_shell.specs.Serving.{AnsweredInput, LeavesSession, ServesInputs, ServesSteps, WroteBytes, outcome_of}
 use Rattle.mcs_session.proofs.Keeping.{acknowledged_keeps, carries_nothing, failed_keeps, stays_keeps}
-use Rattle.mcs_shell.proofs.Served.{or_no, or_none}
+use Rattle.mcs_shell.proofs.StepLists.{or_no, or_none}
 
 abbrev pub at : Bool → BenchState → DiskState → SessionState
-at live s d = record { standing = record { live = live; state = s }; disk = d }
+at live s d = record { bench = record { live = live; state = s }; disk = d }
 
 -- what `apply` says of the session and its disk
 pub record Tried (live : Bool) (s : BenchState) (d : DiskState) (c : Command) (result : Result Reply SessionFault) (b : SessionState) : Type 0 where
-  pub applied : Applied live s c result b.standing.state
-  pub closes : Closes live d.faults result b.standing.live b.disk.faults
+  pub applied : AppliesCommand live s c result b.bench.state
+  pub closes : ClosesAtDeviceFault live d.faults result b.bench.live b.disk.faults
   pub size : b.disk.size ≡ d.size
   pub honest : b.disk.honest ↔ d.honest
-  pub records : d.honest → Recorded result d b.disk s c
+  pub records : d.honest → RecordsOrFails result d b.disk s c
   pub lawful : b.disk.honest → IsLawful b.disk
 
 -- what it says of a known result
@@ -60,17 +60,17 @@ text_refused s c f e = ap (λ (v : Option BenchFault). elim v [ None ↦ ok_text
 
 -- ---- a command
 
-pub ok_changed : (r : Reply) (live : Bool) (s : BenchState) (d : DiskState) (b : SessionState) (c : Command) (told : List ℕ) → Tried live s d c (Ok r) b → told ≡ ok_text r b.standing.state → Answered (at live s d) (Line (Change c)) Plain told b
-unfolding answer commands reached_commands MayEnd
+pub ok_changed : (r : Reply) (live : Bool) (s : BenchState) (d : DiskState) (b : SessionState) (c : Command) (told : List ℕ) → Tried live s d c (Ok r) b → told ≡ ok_text r b.bench.state → AnsweredInput (at live s d) (Line (Change c)) Plain told b
+unfolding answer acknowledged_commands reached_commands IsPossibleOutcome
 ok_changed r false s d b c told h k = absurd (h.applied)
 ok_changed r true s d b c told h k =
     let yes : refusal s c ≡ None = h.applied.0 in
-    let P : List Command → Type 0 = λ cs. Leaves IsIntact false (at true s d) b cs cs in
+    let P : List Command → Type 0 = λ cs. LeavesSession IsIntact false (at true s d) b cs cs in
     record {
       may = inr refl;
-      told_is = k ∙ ap (λ v. ok_text v b.standing.state) (h.applied.1) ∙ ap (ok_text (reply s c)) (h.applied.2) ∙ sym (text_accepted s c yes);
+      told_is = k ∙ ap (λ v. ok_text v b.bench.state) (h.applied.1) ∙ ap (ok_text (reply s c)) (h.applied.2) ∙ sym (text_accepted s c yes);
       leaves = subst P (sym (accepted_alone s c yes)) (record {
-        standing = λ k. record { live = h.closes.0 k; state = h.applied.2 k };
+        bench = λ k. record { live = h.closes.0 k; state = h.applied.2 k };
         same_faults = h.closes.1;
         size = h.size;
         honest = h.honest;
@@ -78,17 +78,17 @@ ok_changed r true s d b c told h k =
       });
     }
 
-refused_changed : (f : BenchFault) (live : Bool) (s : BenchState) (d : DiskState) (b : SessionState) (c : Command) (told : List ℕ) → Tried live s d c (Err (fault.Refused f)) b → told ≡ no_text (session_fault_number (fault.Refused f)) → Answered (at live s d) (Line (Change c)) Plain told b
-unfolding answer commands reached_commands MayEnd
+refused_changed : (f : BenchFault) (live : Bool) (s : BenchState) (d : DiskState) (b : SessionState) (c : Command) (told : List ℕ) → Tried live s d c (Err (fault.Refused f)) b → told ≡ no_text (session_fault_number (fault.Refused f)) → AnsweredInput (at live s d) (Line (Change c)) Plain told b
+unfolding answer acknowledged_commands reached_commands IsPossibleOutcome
 refused_changed f false s d b c told h k = absurd (h.applied)
 refused_changed f true s d b c told h k =
     let no : refusal s c ≡ Some f = h.applied.0 in
-    let P : List Command → Type 0 = λ cs. Leaves IsIntact false (at true s d) b cs cs in
+    let P : List Command → Type 0 = λ cs. LeavesSession IsIntact false (at true s d) b cs cs in
     record {
       may = inr refl;
       told_is = k ∙ sym (text_refused s c f no);
       leaves = subst P (sym (refused_none s c f no)) (record {
-        standing = λ k. record { live = h.closes.0 k; state = h.applied.1 k };
+        bench = λ k. record { live = h.closes.0 k; state = h.applied.1 k };
         same_faults = h.closes.1;
         size = h.size;
         honest = h.honest;
@@ -96,12 +96,12 @@ refused_changed f true s d b c told h k =
       });
     }
 
-device_changed : (live : Bool) (s : BenchState) (d : DiskState) (b : SessionState) (c : Command) (told : List ℕ) → Tried live s d c (Err fault.Device) b → told ≡ no_text DEVICE → Answered (at live s d) (Line (Change c)) Device told b
-unfolding answer commands reached_commands MayEnd
+device_changed : (live : Bool) (s : BenchState) (d : DiskState) (b : SessionState) (c : Command) (told : List ℕ) → Tried live s d c (Err fault.Device) b → told ≡ no_text DEVICE → AnsweredInput (at live s d) (Line (Change c)) Device told b
+unfolding answer acknowledged_commands reached_commands IsPossibleOutcome
 device_changed false s d b c told h k = absurd (h.applied)
 device_changed true s d b c told h k =
     let alone : accepted_commands s (Some c) ≡ c ∷ [] = accepted_alone s c (h.applied.0) in
-    let P : List Command → Type 0 = λ cs. Leaves IsIntact true (at true s d) b [] cs in
+    let P : List Command → Type 0 = λ cs. LeavesSession IsIntact true (at true s d) b [] cs in
     record {
       may = (λ none. let x : c ∷ [] ≡ [] = sym alone ∙ none in absurd (cc x), refl);
       told_is = k;
@@ -115,17 +115,17 @@ device_changed true s d b c told h k =
       });
     }
 
-closed_changed : (live : Bool) (s : BenchState) (d : DiskState) (b : SessionState) (c : Command) (told : List ℕ) → Tried live s d c (Err fault.Closed) b → told ≡ no_text CLOSED → Answered (at live s d) (Line (Change c)) Closed told b
-unfolding answer commands reached_commands MayEnd
+closed_changed : (live : Bool) (s : BenchState) (d : DiskState) (b : SessionState) (c : Command) (told : List ℕ) → Tried live s d c (Err fault.Closed) b → told ≡ no_text CLOSED → AnsweredInput (at live s d) (Line (Change c)) Closed told b
+unfolding answer acknowledged_commands reached_commands IsPossibleOutcome
 closed_changed true s d b c told h k = absurd (h.applied)
 closed_changed false s d b c told h k = record {
   may = (λ x. absurd (cc x), refl);
   told_is = k;
-  leaves = record { standing = λ k. record { live = h.closes.0 k; state = h.applied k }; same_faults = h.closes.1; size = h.size; honest = h.honest; kept = λ given. absurd (cc given.honest.0) };
+  leaves = record { bench = λ k. record { live = h.closes.0 k; state = h.applied k }; same_faults = h.closes.1; size = h.size; honest = h.honest; kept = λ given. absurd (cc given.honest.0) };
 }
 
 -- it was not recorded
-pub fault_changed : (f : SessionFault) (live : Bool) (s : BenchState) (d : DiskState) (b : SessionState) (c : Command) (told : List ℕ) → Tried live s d c (Err f) b → told ≡ no_text (session_fault_number f) → Answered (at live s d) (Line (Change c)) (outcome_of f) told b
+pub fault_changed : (f : SessionFault) (live : Bool) (s : BenchState) (d : DiskState) (b : SessionState) (c : Command) (told : List ℕ) → Tried live s d c (Err f) b → told ≡ no_text (session_fault_number f) → AnsweredInput (at live s d) (Line (Change c)) (outcome_of f) told b
 fault_changed (fault.Refused f) = refused_changed f
 fault_changed fault.Device = device_changed
 fault_changed fault.Closed = closed_changed
@@ -133,27 +133,27 @@ fault_changed fault.Closed = closed_changed
 -- ---- inputs that change nothing
 
 -- an input that asks for no command
-pub answered_plain : (a : SessionState) (i : Input) (told : List ℕ) → asked_command i ≡ None → told ≡ plain_answer a.standing.state i → Answered a i Plain told a
-unfolding answer commands reached_commands MayEnd
+pub answered_plain : (a : SessionState) (i : Input) (told : List ℕ) → asked_command i ≡ None → told ≡ plain_answer a.bench.state i → AnsweredInput a i Plain told a
+unfolding answer acknowledged_commands reached_commands IsPossibleOutcome
 answered_plain a i told none k =
-    let P : List Command → Type 0 = λ cs. Leaves IsIntact false a a cs cs in
-    let nothing : accepted_commands a.standing.state (asked_command i) ≡ [] = ap (accepted_commands a.standing.state) none in
+    let P : List Command → Type 0 = λ cs. LeavesSession IsIntact false a a cs cs in
+    let nothing : accepted_commands a.bench.state (asked_command i) ≡ [] = ap (accepted_commands a.bench.state) none in
     record { may = inl none; told_is = k; leaves = subst P (sym nothing) (carries_nothing a) }
 
 -- memory for it was refused
-pub answered_no_memory : (a : SessionState) (i : Input) (told : List ℕ) → takes_memory i ≡ true → told ≡ no_text NO_MEMORY → Answered a i NoMemory told a
-unfolding answer commands reached_commands MayEnd
+pub answered_no_memory : (a : SessionState) (i : Input) (told : List ℕ) → takes_memory i ≡ true → told ≡ no_text NO_MEMORY → AnsweredInput a i NoMemory told a
+unfolding answer acknowledged_commands reached_commands IsPossibleOutcome
 answered_no_memory a i told takes k = record { may = takes; told_is = k; leaves = carries_nothing a }
 
-pub answered_as : (a b : SessionState) (i j : Input) (o : Outcome) (told : List ℕ) → i ≡ j → Answered a j o told b → Answered a i o told b
-answered_as a b i j o told same h = let P : Input → Type 0 = λ x. Answered a x o told b in subst P (sym same) h
+pub answered_as : (a b : SessionState) (i j : Input) (o : Outcome) (told : List ℕ) → i ≡ j → AnsweredInput a j o told b → AnsweredInput a i o told b
+answered_as a b i j o told same h = let P : Input → Type 0 = λ x. AnsweredInput a x o told b in subst P (sym same) h
 
-answered_by : (a b : SessionState) (i : Input) (o q : Outcome) (told : List ℕ) → o ≡ q → Answered a i q told b → Answered a i o told b
-answered_by a b i o q told same h = let P : Outcome → Type 0 = λ x. Answered a i x told b in subst P (sym same) h
+answered_by : (a b : SessionState) (i : Input) (o q : Outcome) (told : List ℕ) → o ≡ q → AnsweredInput a i q told b → AnsweredInput a i o told b
+answered_by a b i o q told same h = let P : Outcome → Type 0 = λ x. AnsweredInput a i x told b in subst P (sym same) h
 
 -- a request whose answer takes memory
 pub answered_long : {T E : Type 0} (r : Result T E) (a : SessionState) (i : Input) (o : Outcome) (text told : List ℕ) → asked_command i ≡ None → takes_memory i ≡ true
-    → OnOk r (text ≡ plain_answer a.standing.state i) → OnOk r ((o ≡ Plain) × (told ≡ text)) → OnErr r ((o ≡ NoMemory) × (told ≡ no_text NO_MEMORY)) → Answered a i o told a
+    → OnOk r (text ≡ plain_answer a.bench.state i) → OnOk r ((o ≡ Plain) × (told ≡ text)) → OnErr r ((o ≡ NoMemory) × (told ≡ no_text NO_MEMORY)) → AnsweredInput a i o told a
 answered_long (Ok x) a i o text told none takes is k refused = answered_by a a i o Plain told (k.0) (answered_plain a i told none (k.1 ∙ is))
 answered_long (Err x) a i o text told none takes is k refused = answered_by a a i o NoMemory told (refused.0) (answered_no_memory a i told takes (refused.1))
 
@@ -166,37 +166,37 @@ pub is_bad_text : (kind : TextKind) (text : List ℕ) (f : TextFault) → text_f
 is_bad_text kind text f e = ap (text_or_fault kind text) e
 
 -- inputs that ask for the same command, and are answered alike by the state
-answered_alike : (a b : SessionState) (i j : Input) (o : Outcome) (told : List ℕ) → asked_command i ≡ asked_command j → plain_answer a.standing.state i ≡ plain_answer a.standing.state j → takes_memory i ≡ true
-    → Answered a j o told b → Answered a i o told b
-unfolding answer commands reached_commands MayEnd
+answered_alike : (a b : SessionState) (i j : Input) (o : Outcome) (told : List ℕ) → asked_command i ≡ asked_command j → plain_answer a.bench.state i ≡ plain_answer a.bench.state j → takes_memory i ≡ true
+    → AnsweredInput a j o told b → AnsweredInput a i o told b
+unfolding answer acknowledged_commands reached_commands IsPossibleOutcome
 answered_alike a b i j Plain told same alike takes h =
-    let P : Option Command → Type 0 = λ q. Leaves IsIntact false a b (accepted_commands a.standing.state q) (accepted_commands a.standing.state q) in
-    let Q : Option Command → Type 0 = λ q. (q ≡ None) ⊎ (a.standing.live ≡ true) in
+    let P : Option Command → Type 0 = λ q. LeavesSession IsIntact false a b (accepted_commands a.bench.state q) (accepted_commands a.bench.state q) in
+    let Q : Option Command → Type 0 = λ q. (q ≡ None) ⊎ (a.bench.live ≡ true) in
     record { may = subst Q (sym same) h.may; told_is = h.told_is ∙ sym alike; leaves = subst P (sym same) h.leaves }
 answered_alike a b i j Device told same alike takes h =
-    let P : Option Command → Type 0 = λ q. Leaves IsIntact true a b [] (accepted_commands a.standing.state q) in
-    let Q : Option Command → Type 0 = λ q. (accepted_commands a.standing.state q ≢ []) × (a.standing.live ≡ true) in
+    let P : Option Command → Type 0 = λ q. LeavesSession IsIntact true a b [] (accepted_commands a.bench.state q) in
+    let Q : Option Command → Type 0 = λ q. (accepted_commands a.bench.state q ≢ []) × (a.bench.live ≡ true) in
     record { may = subst Q (sym same) h.may; told_is = h.told_is; leaves = subst P (sym same) h.leaves }
 answered_alike a b i j Closed told same alike takes h =
-    let Q : Option Command → Type 0 = λ q. (q ≢ None) × (a.standing.live ≡ false) in
+    let Q : Option Command → Type 0 = λ q. (q ≢ None) × (a.bench.live ≡ false) in
     record { may = subst Q (sym same) h.may; told_is = h.told_is; leaves = h.leaves }
 answered_alike a b i j NoMemory told same alike takes h = record { may = takes; told_is = h.told_is; leaves = h.leaves }
 
 -- a text that spells a command is answered as that command is
 pub answered_text : (a b : SessionState) (kind : TextKind) (text : List ℕ) (c : Command) (o : Outcome) (told : List ℕ)
-    → spelled_by kind text ≡ Ok (Does c) → Answered a (Line (Change c)) o told b → Answered a (Text kind text) o told b
+    → meaning_of_text kind text ≡ Ok (Does c) → AnsweredInput a (Line (Change c)) o told b → AnsweredInput a (Text kind text) o told b
 answered_text a b kind text c o told is h =
-    answered_alike a b (Text kind text) (Line (Change c)) o told (ap text_command is) (ap (spelled_answer a.standing.state) is) refl h
+    answered_alike a b (Text kind text) (Line (Change c)) o told (ap text_command is) (ap (meaning_answer a.bench.state) is) refl h
 
 -- one that spells none
 pub answered_refused_text : (a : SessionState) (kind : TextKind) (text : List ℕ) (why : TextRefusal) (told : List ℕ)
-    → spelled_by kind text ≡ Err why → told ≡ text_refusal why → Answered a (Text kind text) Plain told a
-answered_refused_text a kind text why told is k = answered_plain a (Text kind text) told (ap text_command is) (k ∙ sym (ap (spelled_answer a.standing.state) is))
+    → meaning_of_text kind text ≡ Err why → told ≡ text_refusal why → AnsweredInput a (Text kind text) Plain told a
+answered_refused_text a kind text why told is k = answered_plain a (Text kind text) told (ap text_command is) (k ∙ sym (ap (meaning_answer a.bench.state) is))
 
 -- one that comes to lines
 pub answered_told_text : (a : SessionState) (kind : TextKind) (text lines told : List ℕ)
-    → spelled_by kind text ≡ Ok (Tells lines) → told ≡ lines → Answered a (Text kind text) Plain told a
-answered_told_text a kind text lines told is k = answered_plain a (Text kind text) told (ap text_command is) (k ∙ sym (ap (spelled_answer a.standing.state) is))
+    → meaning_of_text kind text ≡ Ok (Tells lines) → told ≡ lines → AnsweredInput a (Text kind text) Plain told a
+answered_told_text a kind text lines told is k = answered_plain a (Text kind text) told (ap text_command is) (k ∙ sym (ap (meaning_answer a.bench.state) is))
 
 -- ---- an input that was answered, and its answer
 
@@ -206,24 +206,24 @@ no_halt Device h = absurd (h refl)
 no_halt Closed h = refl
 no_halt NoMemory h = refl
 
-abbrev pub leaves_as : (Given : Premise) (f g : Bool) (a b : SessionState) (cs ds rs qs : List Command) → f ≡ g → cs ≡ ds → rs ≡ qs → Leaves Given g a b ds qs → Leaves Given f a b cs rs
+abbrev pub leaves_as : (Given : Premise) (f g : Bool) (a b : SessionState) (cs ds rs qs : List Command) → f ≡ g → cs ≡ ds → rs ≡ qs → LeavesSession Given g a b ds qs → LeavesSession Given f a b cs rs
 leaves_as Given f g a b cs ds rs qs e k l h =
-    subst (λ (v : Bool). Leaves Given v a b cs rs) (sym e) (subst (λ (v : List Command). Leaves Given g a b v rs) (sym k) (subst (λ (v : List Command). Leaves Given g a b ds v) (sym l) h))
+    subst (λ (v : Bool). LeavesSession Given v a b cs rs) (sym e) (subst (λ (v : List Command). LeavesSession Given g a b v rs) (sym k) (subst (λ (v : List Command). LeavesSession Given g a b ds v) (sym l) h))
 
-serves_one : (a b : Stage) (i : Input) (o : Outcome) (told : List ℕ) (whole : Bool) → Answered a.session i o told b.session → Wrote whole a.out b.out told
-    → Serves IsIntact a (record { input = i; outcome = o; whole = whole } ∷ []) b
+serves_one : (a b : ShellState) (i : Input) (o : Outcome) (told : List ℕ) (whole : Bool) → AnsweredInput a.session i o told b.session → WroteBytes whole a.out b.out told
+    → ServesSteps IsIntact a (record { input = i; outcome = o; whole = whole } ∷ []) b
 serves_one a b i o told whole h sent =
-    let s = a.session.standing.state in
-    let P : List ℕ → Type 0 = λ v. Wrote whole a.out b.out v in
+    let s = a.session.bench.state in
+    let P : List ℕ → Type 0 = λ v. WroteBytes whole a.out b.out v in
     record {
       may = (h.may, λ more. absurd (more refl), tt);
       wrote = (b.out, subst P h.told_is sent, refl);
-      leaves = leaves_as IsIntact (is_device o || false) (is_device o) a.session b.session (commands s i o ++ []) (commands s i o) (reached_commands s i o ++ []) (reached_commands s i o)
-          (or_no (is_device o)) (append-nil (commands s i o)) (append-nil (reached_commands s i o)) h.leaves;
+      leaves = leaves_as IsIntact (is_device_fault o || false) (is_device_fault o) a.session b.session (acknowledged_commands s i o ++ []) (acknowledged_commands s i o) (reached_commands s i o ++ []) (reached_commands s i o)
+          (or_no (is_device_fault o)) (append-nil (acknowledged_commands s i o)) (append-nil (reached_commands s i o)) h.leaves;
     }
 
-pub meets_one : (a b : Stage) (i : Input) (o : Outcome) (told : List ℕ) (halted : Option ShellEnd) → Answered a.session i o told b.session
-    → ((whole : Bool) × Wrote whole a.out b.out told × (halted ≡ halt_of whole o)) → Meets IsIntact (i ∷ []) a b halted
+pub meets_one : (a b : ShellState) (i : Input) (o : Outcome) (told : List ℕ) (halted : Option ShellEnd) → AnsweredInput a.session i o told b.session
+    → ((whole : Bool) × WroteBytes whole a.out b.out told × (halted ≡ halt_of whole o)) → ServesInputs IsIntact (i ∷ []) a b halted
 meets_one a b i o told halted h sent = record {
   met = record { input = i; outcome = o; whole = sent.0 } ∷ [];
   serves = serves_one a b i o told sent.0 h sent.1;

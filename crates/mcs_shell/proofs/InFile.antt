@@ -8,13 +8,14 @@ use Rattle.mcs_host.specs.declared.file_disk.FileDisk.{FileDisk}
 use Rattle.mcs_host.proofs.Leaving.{found_since}
 use Rattle.mcs_journal.specs.declared.fault.OpenFault.{OpenFault}
 use Rattle.mcs_journal.specs.declared.fault.OpenFault.TheVariants as open_fault
-use Rattle.mcs_session.specs.Kept.{IsOpenOnHonestDisk}
-use Rattle.mcs_session.specs.Standing.{session_state}
+use Rattle.mcs_model.specs.declared.refusal_numbers.TheConstants.{DEVICE, NO_MEMORY}
+use Rattle.mcs_session.specs.KeptCommands.{IsOpenOnHonestDisk}
+use Rattle.mcs_session.specs.SessionState.{session_state}
 use Rattle.mcs_shell.specs.Headline.{SurvivesPowerCuts}
 use Rattle.mcs_shell.specs.InFile.{IsFoundAgain, SurvivesInFile}
 use Rattle.mcs_shell.specs.RefusalNumbers.{open_fault_number}
-use Rattle.mcs_shell.specs.Shell.{Run}
-use Rattle.mcs_shell.specs.Stage.{stage_of}
+use Rattle.mcs_shell.specs.Shell.{ShellRun}
+use Rattle.mcs_shell.specs.ShellState.{shell_state}
 use Rattle.mcs_shell.proofs.Surviving.{honest_after, survives}
 use Rattle.mcs_shell.proofs.InTurn.{answers_of_run}
 
@@ -29,14 +30,14 @@ left_by_cut t file again honest h =
       durable = h.opened.durable;
     }
 
-number_of : (fault : OpenFault) (number : ℕ) → number ≡ open_fault_number fault → (fault ≡ open_fault.Device) ⊎ (fault ≡ open_fault.NoMemory) → (number ≡ 53) ⊎ (number ≡ 90)
+number_of : (fault : OpenFault) (number : ℕ) → number ≡ open_fault_number fault → (fault ≡ open_fault.Device) ⊎ (fault ≡ open_fault.NoMemory) → (number ≡ DEVICE) ⊎ (number ≡ NO_MEMORY)
 number_of fault number told (inl is) = inl (told ∙ ap open_fault_number is)
 number_of fault number told (inr is) = inr (told ∙ ap open_fault_number is)
 
-pub survives_in_file : (run : Run as_disk) → IsOpenOnHonestDisk (session_state as_disk run.before) → SurvivesInFile run
+pub survives_in_file : (run : ShellRun as_disk) → IsOpenOnHonestDisk (session_state as_disk run.before) → SurvivesInFile run
 survives_in_file run given =
-    let a = stage_of as_disk run.before run.out in
-    let b = stage_of as_disk run.after run.out' in
+    let a = shell_state as_disk run.before run.out in
+    let b = shell_state as_disk run.after run.out' in
     let honest : (as_disk run.after.disk).honest = honest_after run.end run.reader run.reader' a b run.ran given.1 in
     let kept : SurvivesPowerCuts as_disk (session_state as_disk run.before) (as_disk run.after.disk) run.ran.served.met =
     survives as_disk (λ (e : FileDisk) is. lawful _ e.faults e.bytes.items e.history.start e.history.calls e.kept) run.end run.reader run.reader' a b run.ran given in

@@ -6,18 +6,18 @@ use Rattle.std.proofs.KnownBytes.{Appends-nil, Appends-trans}
 use Rattle.std.proofs.lemmas.List.{take-append-drop}
 use Rattle.mcs_answers.specs.AnswerTexts.{session_text}
 use Rattle.mcs_model.specs.BenchState.{BenchState}
-use Rattle.mcs_session.specs.Standing.{Standing, standing_after}
+use Rattle.mcs_session.specs.SessionState.{SessionBench, bench_after}
 use Rattle.mcs_shell.specs.declared.ends.ShellEnd.{ShellEnd}
 use Rattle.mcs_shell.specs.declared.ends.ShellEnd.TheVariants.{End, ReadFault, WriteFault, DeviceFault, InputLimit, NoMemory}
 use Rattle.mcs_shell.specs.declared.outcome.Outcome.{Outcome}
 use Rattle.mcs_shell.specs.Headline.{AnswersInTurn}
-use Rattle.mcs_shell.specs.Serving.{Wrote, WroteAll}
-use Rattle.mcs_shell.specs.Shell.{Ran}
-use Rattle.mcs_shell.specs.Stage.{KnownBytes, Stage}
-use Rattle.mcs_shell.specs.Transcript.{MayMeet, Step, answer, commands, halt_after, halt_of, in_turn}
+use Rattle.mcs_shell.specs.Serving.{WroteBytes, WroteAnswers}
+use Rattle.mcs_shell.specs.Shell.{RanShell}
+use Rattle.mcs_shell.specs.ShellState.{KnownBytes, ShellState}
+use Rattle.mcs_shell.specs.Transcript.{ArePossibleSteps, Step, answer, acknowledged_commands, halt_after, halt_of, in_turn}
 
 -- of these bytes some were written, and the others were not, which are none unless a write failed
-record Told (old new : KnownBytes) (bytes : List ℕ) (halted : Option ShellEnd) : Type 0 where
+record AnswersTold (old new : KnownBytes) (bytes : List ℕ) (halted : Option ShellEnd) : Type 0 where
   pub told : List ℕ
   pub left_out : List ℕ
   pub written : Appends old new told
@@ -29,8 +29,8 @@ cut_later whole o [] goes cut = absurd (cc cut)
 cut_later whole o (x ∷ rest) goes cut = ap (λ (h : Option ShellEnd). option_or h (halt_after (x ∷ rest))) (goes (λ e. absurd (cc e))) ∙ cut
 
 -- one answer, and then the others
-told_first : (s : BenchState) (whole : Bool) (o : Outcome) (rest : List Step) (old middle new : KnownBytes) (bytes : List ℕ) → Wrote whole old middle bytes → (rest ≢ [] → halt_of whole o ≡ None) → WroteAll s rest middle new
-    → Told middle new (in_turn answer s rest) (halt_after rest) → Told old new (bytes ++ in_turn answer s rest) (option_or (halt_of whole o) (halt_after rest))
+told_first : (s : BenchState) (whole : Bool) (o : Outcome) (rest : List Step) (old middle new : KnownBytes) (bytes : List ℕ) → WroteBytes whole old middle bytes → (rest ≢ [] → halt_of whole o ≡ None) → WroteAnswers s rest middle new
+    → AnswersTold middle new (in_turn answer s rest) (halt_after rest) → AnswersTold old new (bytes ++ in_turn answer s rest) (option_or (halt_of whole o) (halt_after rest))
 told_first s true o rest old middle new bytes wrote goes others t = record {
   told = bytes ++ t.told;
   left_out = t.left_out;
@@ -47,22 +47,22 @@ told_first s false o [] old middle new bytes wrote goes others t = record {
 }
 told_first s false o (x ∷ rest) old middle new bytes wrote goes others t = absurd (cc (goes (λ e. absurd (cc e))))
 
-told_all : (m : Standing) (met : List Step) (old new : KnownBytes) → MayMeet m met → WroteAll m.state met old new → Told old new (in_turn answer m.state met) (halt_after met)
+told_all : (m : SessionBench) (met : List Step) (old new : KnownBytes) → ArePossibleSteps m met → WroteAnswers m.state met old new → AnswersTold old new (in_turn answer m.state met) (halt_after met)
 told_all m [] old new may wrote = record { told = []; left_out = []; written = subst (λ (v : KnownBytes). Appends old v []) (sym wrote) (Appends-nil old); parts = refl; all_told = λ uncut. refl }
 told_all m (x ∷ rest) old new may wrote =
-    let n = standing_after m (commands m.state x.input x.outcome) in
+    let n = bench_after m (acknowledged_commands m.state x.input x.outcome) in
     told_first n.state x.whole x.outcome rest old wrote.0 new (answer m.state x.input x.outcome) wrote.1 may.1 wrote.2 (told_all n rest wrote.0 new may.2 wrote.2)
 
 -- ---- a run that wrote its first line, or not
 
-begun : (end : ShellEnd) (r r' : KnownBytes) (a b : Stage) (ran : Ran end r r' a b) → ran.begun ≡ true → (end ≢ WriteFault → ran.halted ≢ Some WriteFault) → (end ≢ WriteFault → end ≢ DeviceFault → ran.halted ≡ None)
+begun : (end : ShellEnd) (r r' : KnownBytes) (a b : ShellState) (ran : RanShell end r r' a b) → ran.begun ≡ true → (end ≢ WriteFault → ran.halted ≢ Some WriteFault) → (end ≢ WriteFault → end ≢ DeviceFault → ran.halted ≡ None)
     → AnswersInTurn end r r' a b ran.served.met
 begun end r r' a b ran whole uncut none =
-    let s = a.session.standing.state in
+    let s = a.session.bench.state in
     let met = ran.served.met in
     let serves = ran.served.serves in
-    let first : Appends a.out ran.started (session_text s) = subst (λ (v : Bool). Wrote v a.out ran.started (session_text s)) whole ran.first in
-    let t : Told ran.started b.out (in_turn answer s met) (halt_after met) = told_all a.session.standing met ran.started b.out serves.may serves.wrote in
+    let first : Appends a.out ran.started (session_text s) = subst (λ (v : Bool). WroteBytes v a.out ran.started (session_text s)) whole ran.first in
+    let t : AnswersTold ran.started b.out (in_turn answer s met) (halt_after met) = told_all a.session.bench met ran.started b.out serves.may serves.wrote in
     record {
       bytes = ran.bytes;
       consumed = ran.consumed;
@@ -78,11 +78,11 @@ begun end r r' a b ran whole uncut none =
       all_told = λ x z. t.all_told (λ cut. uncut x (sym ran.served.halts ∙ cut));
     }
 
-not_begun : (end : ShellEnd) (r r' : KnownBytes) (a b : Stage) (ran : Ran end r r' a b) → ran.begun ≡ false → ran.served.met ≡ [] → (end ≢ WriteFault → end ≢ NoMemory → ⊥) → AnswersInTurn end r r' a b ran.served.met
+not_begun : (end : ShellEnd) (r r' : KnownBytes) (a b : ShellState) (ran : RanShell end r r' a b) → ran.begun ≡ false → ran.served.met ≡ [] → (end ≢ WriteFault → end ≢ NoMemory → ⊥) → AnswersInTurn end r r' a b ran.served.met
 not_begun end r r' a b ran cut none by =
-    let s = a.session.standing.state in
-    let some : Wrote false a.out ran.started (session_text s) = subst (λ (v : Bool). Wrote v a.out ran.started (session_text s)) cut ran.first in
-    let then : b.out ≡ ran.started = subst (λ (v : List Step). WroteAll s v ran.started b.out) none ran.served.serves.wrote in
+    let s = a.session.bench.state in
+    let some : WroteBytes false a.out ran.started (session_text s) = subst (λ (v : Bool). WroteBytes v a.out ran.started (session_text s)) cut ran.first in
+    let then : b.out ≡ ran.started = subst (λ (v : List Step). WroteAnswers s v ran.started b.out) none ran.served.serves.wrote in
     record {
       bytes = ran.bytes;
       consumed = ran.consumed;
@@ -98,7 +98,7 @@ not_begun end r r' a b ran cut none by =
       all_told = λ x z. absurd (by x z);
     }
 
-pub answers_of_run : (end : ShellEnd) (r r' : KnownBytes) (a b : Stage) (ran : Ran end r r' a b) → AnswersInTurn end r r' a b ran.served.met
+pub answers_of_run : (end : ShellEnd) (r r' : KnownBytes) (a b : ShellState) (ran : RanShell end r r' a b) → AnswersInTurn end r r' a b ran.served.met
 answers_of_run End r r' a b ran = begun End r r' a b ran ran.ends.0 (λ x e. absurd (cc (sym ran.ends.2 ∙ e))) (λ x y. ran.ends.2)
 answers_of_run ReadFault r r' a b ran = begun ReadFault r r' a b ran ran.ends.0 (λ x e. absurd (cc (sym ran.ends.2 ∙ e))) (λ x y. ran.ends.2)
 answers_of_run InputLimit r r' a b ran = begun InputLimit r r' a b ran ran.ends.0 (λ x e. absurd (cc (sym ran.ends.2 ∙ e))) (λ x y. ran.ends.2)

@@ -4,7 +4,7 @@ pub mod ShortLines
 pub mod TextLaws
 pub mod PlainText
 pub mod ByAddress
-pub mod Served
+pub mod StepLists
 pub mod GrowingBytes
 pub mod Steps
 pub mod Doing

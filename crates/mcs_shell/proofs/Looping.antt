@@ -10,8 +10,8 @@ use Rattle.mcs_lines.specs.declared.requests.TextKind.{TextKind}
 use Rattle.mcs_model.specs.declared.command.Command.{Command}
 use Rattle.mcs_model.specs.BenchState.{BenchState}
 use Rattle.mcs_model.specs.declared.limits.TheConstants.{INPUT_BYTES}
-use Rattle.mcs_session.specs.Kept.{IsOpenOnHonestDisk, IsIntact}
-use Rattle.mcs_session.specs.Standing.{Premise, SessionState}
+use Rattle.mcs_session.specs.KeptCommands.{IsOpenOnHonestDisk, IsIntact}
+use Rattle.mcs_session.specs.SessionState.{Premise, SessionState}
 use Rattle.mcs_shell.specs.declared.ends.ShellEnd.{ShellEnd}
 use Rattle.mcs_shell.specs.declared.ends.ShellEnd.TheVariants.{End, ReadFault, WriteFault, DeviceFault, InputLimit, NoMemory}
 use Rattle.mcs_shell.specs.declared.outcome.Outcome.{Outcome}
@@ -20,23 +20,23 @@ use Rattle.mcs_shell.specs.declared.outcome.Outcome.TheVariants.{Plain, Device, 
 use Rattle.mcs_shell.specs.declared.shell.TheConstants.{CHUNK_BYTES}
 use Rattle.mcs_shell.specs.declared.texts.TextFault.TheVariants.{NoEnd}
 use Rattle.mcs_shell.specs.LineFeeds.{HasNoFeed}
-use Rattle.mcs_shell.specs.Inputs.{Input, BadText, Commands, InText, Pending, fresh, inputs, inputs_after}
-use Rattle.mcs_shell.specs.Serving.{Feeds, GotSome, Leaves, Meets, Wrote}
-use Rattle.mcs_shell.specs.Shell.{EndsBy, IsNear, RanGiven, ReadSome}
-use Rattle.mcs_shell.specs.Stage.{KnownBytes, Stage, with_out}
-use Rattle.mcs_shell.specs.Transcript.{Step, commands, halt_after, halt_of, in_turn, inputs_in, reached_commands}
+use Rattle.mcs_shell.specs.Inputs.{Input, BadText, Commands, InText, Pending, nothing_pending, inputs, inputs_after}
+use Rattle.mcs_shell.specs.Serving.{ServesBytes, GotFirstBytes, LeavesSession, ServesInputs, WroteBytes}
+use Rattle.mcs_shell.specs.Shell.{EndsBy, ReadsLittleAhead, RanShellGiven, ReadBytes}
+use Rattle.mcs_shell.specs.ShellState.{KnownBytes, ShellState, with_written}
+use Rattle.mcs_shell.specs.Transcript.{Step, acknowledged_commands, halt_after, halt_of, in_turn, inputs_in, reached_commands}
 use Rattle.mcs_shell.proofs.LineFeeds.{after-commands, after-cut, after-no_end, after-whole}
-use Rattle.mcs_shell.proofs.Served.{halt-append, has_failed, some_apart}
+use Rattle.mcs_shell.proofs.StepLists.{halt-append, has_failed, some_apart}
 use Rattle.mcs_shell.proofs.Steps.{feeds_more, feeds_nothing, meets_nothing, serves_more}
 
 -- ---- inputs of the bytes that were read
 
-abbrev pub meets_as : (Given : Premise) (xs ys : List Input) (a b : Stage) (halted : Option ShellEnd) → xs ≡ ys → Meets Given ys a b halted → Meets Given xs a b halted
+abbrev pub meets_as : (Given : Premise) (xs ys : List Input) (a b : ShellState) (halted : Option ShellEnd) → xs ≡ ys → ServesInputs Given ys a b halted → ServesInputs Given xs a b halted
 meets_as Given xs ys a b halted e m = record { met = m.met; serves = m.serves; halts = m.halts; not_met = m.not_met; spelled = e ∙ m.spelled; all_met = m.all_met }
 
 -- these bytes, and then what is unfinished
-abbrev pub meets_then : (whole : Bool) (a b c : Stage) (l k : Pending) (bytes : List ℕ) (halted : Option ShellEnd) → Feeds a b l k bytes None → Meets IsIntact (inputs_after k [] whole) b c halted
-    → Meets IsIntact (inputs_after l (bytes ++ []) whole) a c halted
+abbrev pub meets_then : (whole : Bool) (a b c : ShellState) (l k : Pending) (bytes : List ℕ) (halted : Option ShellEnd) → ServesBytes a b l k bytes None → ServesInputs IsIntact (inputs_after k [] whole) b c halted
+    → ServesInputs IsIntact (inputs_after l (bytes ++ []) whole) a c halted
 meets_then whole a b c l k bytes halted x y = record {
   met = x.met ++ y.met;
   serves = serves_more a b c x.met y.met x.halts x.serves y.serves;
@@ -49,54 +49,54 @@ meets_then whole a b c l k bytes halted x y = record {
   all_met = y.all_met;
 }
 
-abbrev pub meets_halted : (whole : Bool) (a b : Stage) (p q : Pending) (bytes : List ℕ) (cause : ShellEnd) → Feeds a b p q bytes (Some cause) → Meets IsIntact (inputs_after p (bytes ++ []) whole) a b (Some cause)
+abbrev pub meets_halted : (whole : Bool) (a b : ShellState) (p q : Pending) (bytes : List ℕ) (cause : ShellEnd) → ServesBytes a b p q bytes (Some cause) → ServesInputs IsIntact (inputs_after p (bytes ++ []) whole) a b (Some cause)
 meets_halted whole a b p q bytes cause x = record { met = x.met; serves = x.serves; halts = x.halts; not_met = x.not_met [] whole; spelled = x.spelled [] whole; all_met = λ none. absurd (some_apart cause none) }
 
 -- ---- where input ended
 
-pub finished_empty : (a : Stage) (p : Pending) → length p.line ≡ 0 → p.mode ≡ Commands → Meets IsIntact (inputs_after p [] true) a a None
+pub finished_empty : (a : ShellState) (p : Pending) → length p.line ≡ 0 → p.mode ≡ Commands → ServesInputs IsIntact (inputs_after p [] true) a a None
 finished_empty a p none is = meets_as IsIntact (inputs_after p [] true) [] a a None (after-commands p none is) (meets_nothing a)
 
-pub finished_text : (a b : Stage) (p : Pending) (kind : TextKind) (text : List ℕ) (halted : Option ShellEnd) → length p.line ≡ 0 → p.mode ≡ InText kind text → Meets IsIntact (BadText NoEnd ∷ []) a b halted → Meets IsIntact (inputs_after p [] true) a b halted
+pub finished_text : (a b : ShellState) (p : Pending) (kind : TextKind) (text : List ℕ) (halted : Option ShellEnd) → length p.line ≡ 0 → p.mode ≡ InText kind text → ServesInputs IsIntact (BadText NoEnd ∷ []) a b halted → ServesInputs IsIntact (inputs_after p [] true) a b halted
 finished_text a b p kind text halted none is m = meets_as IsIntact (inputs_after p [] true) (BadText NoEnd ∷ []) a b halted (after-no_end p kind text none is) m
 
 -- as if a line feed had come
-pub finished_line : (a b c : Stage) (p q : Pending) (halted : Option ShellEnd) → HasNoFeed p.line → 0 < length p.line → Feeds a b p q (10 ∷ []) None → Meets IsIntact (inputs_after q [] true) b c halted → Meets IsIntact (inputs_after p [] true) a c halted
+pub finished_line : (a b c : ShellState) (p q : Pending) (halted : Option ShellEnd) → HasNoFeed p.line → 0 < length p.line → ServesBytes a b p q (10 ∷ []) None → ServesInputs IsIntact (inputs_after q [] true) b c halted → ServesInputs IsIntact (inputs_after p [] true) a c halted
 finished_line a b c p q halted f some x y = meets_as IsIntact (inputs_after p [] true) (inputs_after p (10 ∷ []) true) a c halted (after-whole p f some) (meets_then true a b c p q (10 ∷ []) halted x y)
 
-pub finished_halt : (a b : Stage) (p q : Pending) (cause : ShellEnd) → HasNoFeed p.line → 0 < length p.line → Feeds a b p q (10 ∷ []) (Some cause) → Meets IsIntact (inputs_after p [] true) a b (Some cause)
+pub finished_halt : (a b : ShellState) (p q : Pending) (cause : ShellEnd) → HasNoFeed p.line → 0 < length p.line → ServesBytes a b p q (10 ∷ []) (Some cause) → ServesInputs IsIntact (inputs_after p [] true) a b (Some cause)
 finished_halt a b p q cause f some x = meets_as IsIntact (inputs_after p [] true) (inputs_after p (10 ∷ []) true) a b (Some cause) (after-whole p f some) (meets_halted true a b p q (10 ∷ []) cause x)
 
 -- ---- the loop
 
 -- how far the loop has come
-pub record SoFar (r r' : KnownBytes) (a b : Stage) (line : Pending) (total : ℕ) : Type 0 where
+pub record SoFar (r r' : KnownBytes) (a b : ShellState) (line : Pending) (total : ℕ) : Type 0 where
   pub bytes : List ℕ
   pub count : length bytes ≡ total
   pub consumed : Consumes r r' bytes
-  pub fed : Feeds a b fresh line bytes None
+  pub fed : ServesBytes a b nothing_pending line bytes None
 
-pub so_far_nothing : (r : KnownBytes) (a : Stage) (line : Pending) → line ≡ fresh → SoFar r r a a line 0
-so_far_nothing r a line e = let P : Pending → Type 0 = λ l. SoFar r r a a l 0 in subst P (sym e) (record { bytes = []; count = refl; consumed = Consumes-nil r; fed = feeds_nothing a fresh tt })
+pub so_far_nothing : (r : KnownBytes) (a : ShellState) (line : Pending) → line ≡ nothing_pending → SoFar r r a a line 0
+so_far_nothing r a line e = let P : Pending → Type 0 = λ l. SoFar r r a a l 0 in subst P (sym e) (record { bytes = []; count = refl; consumed = Consumes-nil r; fed = feeds_nothing a nothing_pending tt })
 
-pub so_far_more : (r r' r'' : KnownBytes) (a b c : Stage) (line new_line : Pending) (chunk : List ℕ) (total n most : ℕ)
-    → SoFar r r' a b line total → ReadSome n most r' r'' chunk → Feeds b c line new_line chunk None → SoFar r r'' a c new_line (total + n)
+pub so_far_more : (r r' r'' : KnownBytes) (a b c : ShellState) (line new_line : Pending) (chunk : List ℕ) (total n most : ℕ)
+    → SoFar r r' a b line total → ReadBytes n most r' r'' chunk → ServesBytes b c line new_line chunk None → SoFar r r'' a c new_line (total + n)
 so_far_more r r' r'' a b c line new_line chunk total n most x y z = record {
   bytes = x.bytes ++ chunk;
   count = length-append x.bytes chunk ∙ let e : length x.bytes + length chunk ≡ total + n = omega (arith, x.count, y.count) in e;
   consumed = Consumes-trans r r' r'' x.bytes chunk x.consumed y.consumed;
-  fed = feeds_more a b c fresh line new_line x.bytes chunk None x.fed z;
+  fed = feeds_more a b c nothing_pending line new_line x.bytes chunk None x.fed z;
 }
 
-from_fresh : (bytes : List ℕ) (whole : Bool) → inputs bytes whole ≡ inputs_after fresh (bytes ++ []) whole
+from_fresh : (bytes : List ℕ) (whole : Bool) → inputs bytes whole ≡ inputs_after nothing_pending (bytes ++ []) whole
 unfolding inputs
-from_fresh bytes whole = ap (λ v. inputs_after fresh v whole) (sym (append-nil bytes))
+from_fresh bytes whole = ap (λ v. inputs_after nothing_pending v whole) (sym (append-nil bytes))
 
-cut_is_met : (a b : Stage) (line : Pending) (bytes : List ℕ) (x : Feeds a b fresh line bytes None) → inputs bytes false ≡ inputs_in x.met
+cut_is_met : (a b : ShellState) (line : Pending) (bytes : List ℕ) (x : ServesBytes a b nothing_pending line bytes None) → inputs bytes false ≡ inputs_in x.met
 cut_is_met a b line bytes x = from_fresh bytes false ∙ x.spelled [] false ∙ ap (λ v. inputs_in x.met ++ v) (x.all_met refl [] false ∙ after-cut line (x.no_feed refl)) ∙ append-nil (inputs_in x.met)
 
 -- what was met begins with what the bytes before those read ahead spell
-near_behind : (a b : Stage) (line : Pending) (bytes ahead : List ℕ) (x : Feeds a b fresh line bytes None) (ys : List Step) → length ahead ≤ CHUNK_BYTES → IsNear (bytes ++ ahead) (inputs_in (x.met ++ ys))
+near_behind : (a b : ShellState) (line : Pending) (bytes ahead : List ℕ) (x : ServesBytes a b nothing_pending line bytes None) (ys : List Step) → length ahead ≤ CHUNK_BYTES → ReadsLittleAhead (bytes ++ ahead) (inputs_in (x.met ++ ys))
 near_behind a b line bytes ahead x ys few = record {
   before = bytes;
   ahead = ahead;
@@ -106,22 +106,22 @@ near_behind a b line bytes ahead x ys few = record {
   answered_are = map-append (λ (z : Step). z.input) x.met ys ∙ ap (λ v. v ++ inputs_in ys) (sym (cut_is_met a b line bytes x));
 }
 
-near_whole : (a b : Stage) (line : Pending) (bytes : List ℕ) (x : Feeds a b fresh line bytes None) (ys : List Step) → IsNear bytes (inputs_in (x.met ++ ys))
-near_whole a b line bytes x ys = let P : List ℕ → Type 0 = λ v. IsNear v (inputs_in (x.met ++ ys)) in subst P (append-nil bytes) (near_behind a b line bytes [] x ys (omega arith))
+near_whole : (a b : ShellState) (line : Pending) (bytes : List ℕ) (x : ServesBytes a b nothing_pending line bytes None) (ys : List Step) → ReadsLittleAhead bytes (inputs_in (x.met ++ ys))
+near_whole a b line bytes x ys = let P : List ℕ → Type 0 = λ v. ReadsLittleAhead v (inputs_in (x.met ++ ys)) in subst P (append-nil bytes) (near_behind a b line bytes [] x ys (omega arith))
 
 -- a shell that had no memory did not begin
 begun_has_memory : (end : ShellEnd) (bytes : List ℕ) (whole : Bool) (met : List Step) (halted : Option ShellEnd) → EndsBy end true bytes whole met halted → end ≡ NoMemory → ⊥
 begun_has_memory end bytes whole met halted ends is = let P : ShellEnd → Type 0 = λ e. EndsBy e true bytes whole met halted in let h : EndsBy NoMemory true bytes whole met halted = subst P is ends in absurd (cc h.0)
 
 -- the loop has nothing to write first
-ran_loop : (end : ShellEnd) (whole : Bool) (r r' : KnownBytes) (a c : Stage) (bytes : List ℕ) (halted : Option ShellEnd) → Consumes r r' bytes → length bytes ≤ INPUT_BYTES → (whole ≡ true → (length bytes < INPUT_BYTES) × IsAtEnd r')
-    → (m : Meets IsIntact (inputs bytes whole) a c halted) → IsNear bytes (inputs_in m.met) → EndsBy end true bytes whole m.met halted → RanGiven IsIntact [] end r r' a c
+ran_loop : (end : ShellEnd) (whole : Bool) (r r' : KnownBytes) (a c : ShellState) (bytes : List ℕ) (halted : Option ShellEnd) → Consumes r r' bytes → length bytes ≤ INPUT_BYTES → (whole ≡ true → (length bytes < INPUT_BYTES) × IsAtEnd r')
+    → (m : ServesInputs IsIntact (inputs bytes whole) a c halted) → ReadsLittleAhead bytes (inputs_in m.met) → EndsBy end true bytes whole m.met halted → RanShellGiven IsIntact [] end r r' a c
 ran_loop end whole r r' a c bytes halted consumed within ended m near ends = record {
   bytes = bytes;
   consumed = consumed;
   within = within;
   whole = whole;
-  ended = ended;
+  input_ended = ended;
   begun = true;
   started = a.out;
   first = Appends-nil a.out;
@@ -133,37 +133,37 @@ ran_loop end whole r r' a c bytes halted consumed within ended m near ends = rec
 }
 
 -- these bytes, and what was unfinished then
-abbrev met_all : (whole : Bool) (a b c : Stage) (line : Pending) (bytes : List ℕ) (halted : Option ShellEnd) → Feeds a b fresh line bytes None → Meets IsIntact (inputs_after line [] whole) b c halted → Meets IsIntact (inputs bytes whole) a c halted
-met_all whole a b c line bytes halted x y = meets_as IsIntact (inputs bytes whole) (inputs_after fresh (bytes ++ []) whole) a c halted (from_fresh bytes whole) (meets_then whole a b c fresh line bytes halted x y)
+abbrev met_all : (whole : Bool) (a b c : ShellState) (line : Pending) (bytes : List ℕ) (halted : Option ShellEnd) → ServesBytes a b nothing_pending line bytes None → ServesInputs IsIntact (inputs_after line [] whole) b c halted → ServesInputs IsIntact (inputs bytes whole) a c halted
+met_all whole a b c line bytes halted x y = meets_as IsIntact (inputs bytes whole) (inputs_after nothing_pending (bytes ++ []) whole) a c halted (from_fresh bytes whole) (meets_then whole a b c nothing_pending line bytes halted x y)
 
-abbrev met_cut : (a b : Stage) (line : Pending) (bytes : List ℕ) → Feeds a b fresh line bytes None → Meets IsIntact (inputs bytes false) a b None
+abbrev met_cut : (a b : ShellState) (line : Pending) (bytes : List ℕ) → ServesBytes a b nothing_pending line bytes None → ServesInputs IsIntact (inputs bytes false) a b None
 met_cut a b line bytes x = met_all false a b b line bytes None x (meets_as IsIntact (inputs_after line [] false) [] b b None (after-cut line (x.no_feed refl)) (meets_nothing b))
 
-pub ran_read_fault : (r r' r'' : KnownBytes) (a b : Stage) (line : Pending) (total : ℕ) → SoFar r r' a b line total → total < INPUT_BYTES → Keeps r' r'' → RanGiven IsIntact [] ReadFault r r'' a b
+pub ran_read_fault : (r r' r'' : KnownBytes) (a b : ShellState) (line : Pending) (total : ℕ) → SoFar r r' a b line total → total < INPUT_BYTES → Keeps r' r'' → RanShellGiven IsIntact [] ReadFault r r'' a b
 ran_read_fault r r' r'' a b line total x small keeps =
     let below : length x.bytes < INPUT_BYTES = omega (arith, x.count, small) in
     ran_loop ReadFault false r r'' a b x.bytes None (Consumes-kept r r' r'' x.bytes x.consumed keeps) (omega (arith, below)) (λ e. absurd (cc e)) (met_cut a b line x.bytes x.fed) (near_whole a b line x.bytes x.fed []) (refl, refl, refl, below)
 
-pub ran_limit : (r r' : KnownBytes) (a b : Stage) (line : Pending) (total : ℕ) → SoFar r r' a b line total → total ≡ INPUT_BYTES → RanGiven IsIntact [] InputLimit r r' a b
+pub ran_limit : (r r' : KnownBytes) (a b : ShellState) (line : Pending) (total : ℕ) → SoFar r r' a b line total → total ≡ INPUT_BYTES → RanShellGiven IsIntact [] InputLimit r r' a b
 ran_limit r r' a b line total x e =
     let all : length x.bytes ≡ INPUT_BYTES = x.count ∙ e in
     ran_loop InputLimit false r r' a b x.bytes None x.consumed (omega (arith, all)) (λ e. absurd (cc e)) (met_cut a b line x.bytes x.fed) (near_whole a b line x.bytes x.fed []) (refl, refl, refl, all)
 
 -- ---- where input ended, or the shell was halted
 
-last_read : (r r' r'' : KnownBytes) (most : ℕ) (bytes chunk : List ℕ) → Consumes r r' bytes → ReadSome 0 most r' r'' chunk → Consumes r r'' bytes
+last_read : (r r' r'' : KnownBytes) (most : ℕ) (bytes chunk : List ℕ) → Consumes r r' bytes → ReadBytes 0 most r' r'' chunk → Consumes r r'' bytes
 last_read r r' r'' most bytes chunk a b = let P : List ℕ → Type 0 = λ y. Consumes r r'' y in
     subst P (ap (λ y. bytes ++ y) (nil_from_length chunk b.count) ∙ append-nil bytes) (Consumes-trans r r' r'' bytes chunk a b.consumed)
 
-ran_whole : (end : ShellEnd) (r r' r'' : KnownBytes) (a b c : Stage) (line : Pending) (chunk : List ℕ) (total most : ℕ) (halted : Option ShellEnd) (x : SoFar r r' a b line total) → total < INPUT_BYTES → ReadSome 0 most r' r'' chunk
-    → (m : Meets IsIntact (inputs_after line [] true) b c halted) → EndsBy end true x.bytes true (x.fed.met ++ m.met) halted → RanGiven IsIntact [] end r r'' a c
+ran_whole : (end : ShellEnd) (r r' r'' : KnownBytes) (a b c : ShellState) (line : Pending) (chunk : List ℕ) (total most : ℕ) (halted : Option ShellEnd) (x : SoFar r r' a b line total) → total < INPUT_BYTES → ReadBytes 0 most r' r'' chunk
+    → (m : ServesInputs IsIntact (inputs_after line [] true) b c halted) → EndsBy end true x.bytes true (x.fed.met ++ m.met) halted → RanShellGiven IsIntact [] end r r'' a c
 ran_whole end r r' r'' a b c line chunk total most halted x small y m ends =
     let below : length x.bytes < INPUT_BYTES = omega (arith, x.count, small) in
     ran_loop end true r r'' a c x.bytes halted (last_read r r' r'' most x.bytes chunk x.consumed y) (omega (arith, below)) (λ e. (below, y.at_end refl))
     (met_all true a b c line x.bytes halted x.fed m) (near_whole a b line x.bytes x.fed m.met) ends
 
-pub ran_end : (r r' r'' : KnownBytes) (a b c : Stage) (line : Pending) (chunk : List ℕ) (total most : ℕ) → SoFar r r' a b line total → total < INPUT_BYTES → ReadSome 0 most r' r'' chunk
-    → Meets IsIntact (inputs_after line [] true) b c None → RanGiven IsIntact [] End r r'' a c
+pub ran_end : (r r' r'' : KnownBytes) (a b c : ShellState) (line : Pending) (chunk : List ℕ) (total most : ℕ) → SoFar r r' a b line total → total < INPUT_BYTES → ReadBytes 0 most r' r'' chunk
+    → ServesInputs IsIntact (inputs_after line [] true) b c None → RanShellGiven IsIntact [] End r r'' a c
 ran_end r r' r'' a b c line chunk total most x small y m = ran_whole End r r' r'' a b c line chunk total most None x small y m (refl, refl, refl)
 
 some_end : (x y : ShellEnd) → Some x ≡ Some y → x ≡ y
@@ -188,33 +188,33 @@ ends_halted (x ∷ xs) end bytes whole met e = elim (either_end (halt_of x.whole
   | inr h ↦ ends_halted xs end bytes whole met h
 ]
 
-pub ran_finish : (end : ShellEnd) (r r' r'' : KnownBytes) (a b c : Stage) (line : Pending) (chunk : List ℕ) (total most : ℕ) → SoFar r r' a b line total → total < INPUT_BYTES → ReadSome 0 most r' r'' chunk
-    → Meets IsIntact (inputs_after line [] true) b c (Some end) → RanGiven IsIntact [] end r r'' a c
+pub ran_finish : (end : ShellEnd) (r r' r'' : KnownBytes) (a b c : ShellState) (line : Pending) (chunk : List ℕ) (total most : ℕ) → SoFar r r' a b line total → total < INPUT_BYTES → ReadBytes 0 most r' r'' chunk
+    → ServesInputs IsIntact (inputs_after line [] true) b c (Some end) → RanShellGiven IsIntact [] end r r'' a c
 ran_finish end r r' r'' a b c line chunk total most x small y m = ran_whole end r r' r'' a b c line chunk total most (Some end) x small y m (ends_halted m.met end x.bytes true (x.fed.met ++ m.met) m.halts)
 
 -- the bytes before the chunk were served, and the shell was halted within it
-pub ran_halt : (end : ShellEnd) (r r' r'' : KnownBytes) (a b c : Stage) (line new_line : Pending) (chunk : List ℕ) (total n most : ℕ)
-    → SoFar r r' a b line total → total + most ≤ INPUT_BYTES → most ≤ CHUNK_BYTES → ReadSome n most r' r'' chunk → Feeds b c line new_line chunk (Some end) → RanGiven IsIntact [] end r r'' a c
+pub ran_halt : (end : ShellEnd) (r r' r'' : KnownBytes) (a b c : ShellState) (line new_line : Pending) (chunk : List ℕ) (total n most : ℕ)
+    → SoFar r r' a b line total → total + most ≤ INPUT_BYTES → most ≤ CHUNK_BYTES → ReadBytes n most r' r'' chunk → ServesBytes b c line new_line chunk (Some end) → RanShellGiven IsIntact [] end r r'' a c
 ran_halt end r r' r'' a b c line new_line chunk total n most x small little y z =
     let bytes = x.bytes ++ chunk in
-    let all = feeds_more a b c fresh line new_line x.bytes chunk (Some end) x.fed z in
+    let all = feeds_more a b c nothing_pending line new_line x.bytes chunk (Some end) x.fed z in
     let within : length bytes ≤ INPUT_BYTES = rw (length-append x.bytes chunk) (omega (arith, x.count, y.count, y.within, small)) in
     ran_loop end false r r'' a c bytes (Some end) (Consumes-trans r r' r'' x.bytes chunk x.consumed y.consumed) within (λ e. absurd (cc e))
-    (meets_as IsIntact (inputs bytes false) (inputs_after fresh (bytes ++ []) false) a c (Some end) (from_fresh bytes false) (meets_halted false a c fresh new_line bytes end all))
+    (meets_as IsIntact (inputs bytes false) (inputs_after nothing_pending (bytes ++ []) false) a c (Some end) (from_fresh bytes false) (meets_halted false a c nothing_pending new_line bytes end all))
     (near_behind a b line x.bytes chunk x.fed z.met (omega (arith, y.count, y.within, little))) (ends_halted z.met end bytes false (x.fed.met ++ z.met) z.halts)
 
 -- ---- the premise that callers see
 
-leaves_under : (failed : Bool) (a b : SessionState) (cs rs : List Command) → (IsOpenOnHonestDisk a → IsIntact a) → Leaves IsIntact failed a b cs rs → Leaves IsOpenOnHonestDisk failed a b cs rs
-leaves_under false a b cs rs settle x = record { standing = x.standing; same_faults = x.same_faults; size = x.size; honest = x.honest; kept = λ given. x.kept (settle given) }
+leaves_under : (failed : Bool) (a b : SessionState) (cs rs : List Command) → (IsOpenOnHonestDisk a → IsIntact a) → LeavesSession IsIntact failed a b cs rs → LeavesSession IsOpenOnHonestDisk failed a b cs rs
+leaves_under false a b cs rs settle x = record { bench = x.bench; same_faults = x.same_faults; size = x.size; honest = x.honest; kept = λ given. x.kept (settle given) }
 leaves_under true a b cs rs settle x = record { closed = x.closed; state = x.state; faults = x.faults; size = x.size; honest = x.honest; kept = λ given. x.kept (settle given) }
 
-abbrev meets_under : (given : List Input) (a b : Stage) (halted : Option ShellEnd) → (IsOpenOnHonestDisk a.session → IsIntact a.session) → Meets IsIntact given a b halted → Meets IsOpenOnHonestDisk given a b halted
+abbrev meets_under : (given : List Input) (a b : ShellState) (halted : Option ShellEnd) → (IsOpenOnHonestDisk a.session → IsIntact a.session) → ServesInputs IsIntact given a b halted → ServesInputs IsOpenOnHonestDisk given a b halted
 meets_under given a b halted settle m =
-    let s = a.session.standing.state in
+    let s = a.session.bench.state in
     record {
       met = m.met;
-      serves = record { may = m.serves.may; wrote = m.serves.wrote; leaves = leaves_under (has_failed m.met) a.session b.session (in_turn commands s m.met) (in_turn reached_commands s m.met) settle m.serves.leaves };
+      serves = record { may = m.serves.may; wrote = m.serves.wrote; leaves = leaves_under (has_failed m.met) a.session b.session (in_turn acknowledged_commands s m.met) (in_turn reached_commands s m.met) settle m.serves.leaves };
       halts = m.halts;
       not_met = m.not_met;
       spelled = m.spelled;
@@ -223,16 +223,16 @@ meets_under given a b halted settle m =
 
 -- ---- the whole run
 
-whole_first : (begun : Bool) (old new : KnownBytes) → Wrote begun old new [] → begun ≡ true
+whole_first : (begun : Bool) (old new : KnownBytes) → WroteBytes begun old new [] → begun ≡ true
 whole_first true old new h = refl
 whole_first false old new h = absurd (omega (arith, h.fewer))
 
 -- its first line was written, and then the loop ran
-pub ran_after : (end : ShellEnd) (r r' : KnownBytes) (a b : Stage) (started : KnownBytes) (first_line : List ℕ) → (IsOpenOnHonestDisk a.session → IsIntact a.session) → Appends a.out started first_line
-    → RanGiven IsIntact [] end r r' (with_out a started) b → RanGiven IsOpenOnHonestDisk first_line end r r' a b
+pub ran_after : (end : ShellEnd) (r r' : KnownBytes) (a b : ShellState) (started : KnownBytes) (first_line : List ℕ) → (IsOpenOnHonestDisk a.session → IsIntact a.session) → Appends a.out started first_line
+    → RanShellGiven IsIntact [] end r r' (with_written a started) b → RanShellGiven IsOpenOnHonestDisk first_line end r r' a b
 ran_after end r r' a b started first_line settle wrote x =
     let begun : x.begun ≡ true = whole_first x.begun started x.started x.first in
-    let nothing : Appends started x.started [] = subst (λ (v : Bool). Wrote v started x.started []) begun x.first in
+    let nothing : Appends started x.started [] = subst (λ (v : Bool). WroteBytes v started x.started []) begun x.first in
     let ends : EndsBy end true x.bytes x.whole x.served.met x.halted = subst (λ (v : Bool). EndsBy end v x.bytes x.whole x.served.met x.halted) begun x.ends in
     let P : List ℕ → Type 0 = λ v. Appends a.out x.started v in
     record {
@@ -240,41 +240,41 @@ ran_after end r r' a b started first_line settle wrote x =
       consumed = x.consumed;
       within = x.within;
       whole = x.whole;
-      ended = x.ended;
+      input_ended = x.input_ended;
       begun = true;
       started = x.started;
       first = subst P (append-nil first_line) (Appends-trans a.out started x.started first_line [] wrote nothing);
       untold = λ is. absurd (begun_has_memory end x.bytes x.whole x.served.met x.halted ends is);
       halted = x.halted;
-      served = meets_under (inputs x.bytes x.whole) (with_out a x.started) b x.halted settle x.served;
+      served = meets_under (inputs x.bytes x.whole) (with_written a x.started) b x.halted settle x.served;
       near = x.near;
       ends = ends;
     }
 
 nothing_cut : inputs [] false ≡ []
-nothing_cut = from_fresh [] false ∙ after-cut fresh tt
+nothing_cut = from_fresh [] false ∙ after-cut nothing_pending tt
 
 -- nothing was read or done
-pub not_begun : (end : ShellEnd) (r : KnownBytes) (a : Stage) (out : KnownBytes) (first_line : List ℕ) → (IsOpenOnHonestDisk a.session → IsIntact a.session) → GotSome a.out out first_line
-    → (end ≡ NoMemory → out ≡ a.out) → EndsBy end false [] false [] None → RanGiven IsOpenOnHonestDisk first_line end r r a (with_out a out)
+pub not_begun : (end : ShellEnd) (r : KnownBytes) (a : ShellState) (out : KnownBytes) (first_line : List ℕ) → (IsOpenOnHonestDisk a.session → IsIntact a.session) → GotFirstBytes a.out out first_line
+    → (end ≡ NoMemory → out ≡ a.out) → EndsBy end false [] false [] None → RanShellGiven IsOpenOnHonestDisk first_line end r r a (with_written a out)
 not_begun end r a out first_line settle some untold ends = record {
   bytes = [];
   consumed = Consumes-nil r;
   within = omega arith;
   whole = false;
-  ended = λ e. absurd (cc e);
+  input_ended = λ e. absurd (cc e);
   begun = false;
   started = out;
   first = some;
   untold = untold;
   halted = None;
-  served = meets_as IsOpenOnHonestDisk (inputs [] false) [] (with_out a out) (with_out a out) None nothing_cut (meets_under [] (with_out a out) (with_out a out) None settle (meets_nothing (with_out a out)));
+  served = meets_as IsOpenOnHonestDisk (inputs [] false) [] (with_written a out) (with_written a out) None nothing_cut (meets_under [] (with_written a out) (with_written a out) None settle (meets_nothing (with_written a out)));
   near = record { before = []; ahead = []; parts = refl; few = omega arith; more = []; answered_are = sym (append-nil (inputs [] false) ∙ nothing_cut) };
   ends = ends;
 }
 
 -- nothing of a line that has bytes is some of it
-pub got_none : (out : KnownBytes) (bytes : List ℕ) → 0 < length bytes → GotSome out out bytes
+pub got_none : (out : KnownBytes) (bytes : List ℕ) → 0 < length bytes → GotFirstBytes out out bytes
 got_none out bytes some = record { count = 0; fewer = some; got = Appends-nil out }
 
 pub session_has_bytes : (s : BenchState) → 0 < length (session_text s)

@@ -8,7 +8,7 @@ use Rattle.mcs_source.specs.Survey.{Survey, survey_of}
 use Rattle.mcs_lines.specs.declared.requests.TextKind.TheVariants.{Asm, Map}
 use Rattle.mcs_shell.specs.declared.spelling.TextRefusal.{TextRefusal}
 use Rattle.mcs_shell.specs.Inputs.{Text}
-use Rattle.mcs_shell.specs.Spelling.{Does, load_command, program_map, spelled_by}
+use Rattle.mcs_shell.specs.Spelling.{Does, load_command, program_map, meaning_of_text}
 use Rattle.mcs_shell.specs.Transcript.{asked_command, text_command}
 
 abbrev surveyed_as : (List (ℕ × ℕ) → Survey) → Result (List (ℕ × ℕ)) (ℕ × SourceFault) → Result Survey (ℕ × SourceFault)
@@ -23,9 +23,9 @@ refused_alike f (Ok pairs) why = (λ e. absurd (cc e), λ e. absurd (cc e))
 refused_alike f (Err at) why = (λ e. e, λ e. e)
 
 pub map_asks_none : (text : List ℕ) → asked_command (Text Map text) ≡ None
-unfolding spelled_by
+unfolding meaning_of_text
 map_asks_none text = asks_none (λ pairs. survey_of (read (lines_of text))) (assembly_of_text text)
 
-pub map_refused : (text : List ℕ) (why : TextRefusal) → (spelled_by Map text ≡ Err why) ↔ (spelled_by Asm text ≡ Err why)
-unfolding spelled_by
+pub map_refused : (text : List ℕ) (why : TextRefusal) → (meaning_of_text Map text ≡ Err why) ↔ (meaning_of_text Asm text ≡ Err why)
+unfolding meaning_of_text
 map_refused text why = refused_alike (λ pairs. survey_of (read (lines_of text))) (assembly_of_text text) why

@@ -9,69 +9,69 @@ use Rattle.mcs_lines.specs.Requests.{request_of}
 use Rattle.mcs_model.specs.declared.command.Command.{Command}
 use Rattle.mcs_model.specs.BenchState.{BenchState}
 use Rattle.mcs_model.specs.Fold.{fold}
-use Rattle.mcs_session.specs.Kept.{Carries, IsIntact}
-use Rattle.mcs_session.specs.Standing.{Premise, SessionState, Standing}
+use Rattle.mcs_session.specs.KeptCommands.{RecordsCommands, IsIntact}
+use Rattle.mcs_session.specs.SessionState.{Premise, SessionState, SessionBench}
 use Rattle.mcs_session.proofs.Folds.{fold-append}
 use Rattle.mcs_session.proofs.Keeping.{carries_more, carries_nothing, kept_more, settled_on}
 use Rattle.mcs_shell.specs.declared.ends.ShellEnd.{ShellEnd}
 use Rattle.mcs_shell.specs.LineFeeds.{HasNoFeed, is_line_feed}
-use Rattle.mcs_shell.specs.Inputs.{Input, Line, Pending, Commands, InText, text_begun, fresh, inputs_after, is_dot_line, judged_text}
-use Rattle.mcs_shell.specs.Reading.{Gathers}
-use Rattle.mcs_shell.specs.Serving.{Feeds, Leaves, Meets, Serves, WroteAll}
-use Rattle.mcs_shell.specs.Stage.{Stage}
-use Rattle.mcs_shell.specs.Transcript.{MayMeet, Step, commands, halt_after, in_turn, inputs_in, reached_commands}
+use Rattle.mcs_shell.specs.Inputs.{Input, Line, Pending, Commands, InText, text_begun, nothing_pending, inputs_after, is_dot_line, judged_text}
+use Rattle.mcs_shell.specs.Reading.{AddsLineToText}
+use Rattle.mcs_shell.specs.Serving.{ServesBytes, LeavesSession, ServesInputs, ServesSteps, WroteAnswers}
+use Rattle.mcs_shell.specs.ShellState.{ShellState}
+use Rattle.mcs_shell.specs.Transcript.{ArePossibleSteps, Step, acknowledged_commands, halt_after, in_turn, inputs_in, reached_commands}
 use Rattle.mcs_shell.proofs.Cutting.{HasNone-append, HasNone-take}
 use Rattle.mcs_shell.proofs.Doing.{leaves_as}
 use Rattle.mcs_shell.proofs.LineFeeds.{after-kept, feed-command, feed-dot, feed-line, feed-begun}
-use Rattle.mcs_shell.proofs.Served.{failed-append, halt-append, has_failed, in_turn-further, may-append, not_failed, reached_all, state_after, wrote-append}
+use Rattle.mcs_shell.proofs.StepLists.{failed-append, halt-append, has_failed, in_turn-further, may-append, not_failed, reached_all, state_after, wrote-append}
 
 -- ---- inputs in turn
 
-leaves_more : (failed : Bool) (a b c : SessionState) (cs ds rs : List Command) → Carries IsIntact a b cs → Leaves IsIntact failed b c ds rs → Leaves IsIntact failed a c (cs ++ ds) (cs ++ rs)
+leaves_more : (failed : Bool) (a b c : SessionState) (cs ds rs : List Command) → RecordsCommands IsIntact a b cs → LeavesSession IsIntact failed b c ds rs → LeavesSession IsIntact failed a c (cs ++ ds) (cs ++ rs)
 leaves_more false a b c cs ds rs x y = carries_more a b c cs ds x y
 leaves_more true a b c cs ds rs x y = record {
   closed = y.closed;
-  state = y.state ∙ ap (λ (v : Standing). fold v.state ds) x.standing ∙ sym (fold-append a.standing.state cs ds);
+  state = y.state ∙ ap (λ (v : SessionBench). fold v.state ds) x.bench ∙ sym (fold-append a.bench.state cs ds);
   faults = y.faults ∙ ap (λ (n : ℕ). min (n + 1) most_faults) x.same_faults;
   size = y.size ∙ x.size;
   honest = (λ h. x.honest.0 (y.honest.0 h), λ h. y.honest.1 (x.honest.1 h));
-  kept = λ given. kept_more a.disk b.disk c.disk a.standing.state b.standing.state cs ds rs (x.kept given) (ap (λ (v : Standing). v.state) x.standing) (y.kept (settled_on a b cs x given));
+  kept = λ given. kept_more a.disk b.disk c.disk a.bench.state b.bench.state cs ds rs (x.kept given) (ap (λ (v : SessionBench). v.state) x.bench) (y.kept (settled_on a b cs x given));
 }
 
-pub serves_nothing : (a : Stage) → Serves IsIntact a [] a
+pub serves_nothing : (a : ShellState) → ServesSteps IsIntact a [] a
 serves_nothing a = record { may = tt; wrote = refl; leaves = carries_nothing a.session }
 
 -- where nothing halted the shell
-pub carries_unhalted : (Given : Premise) (a b : SessionState) (s : BenchState) (met : List Step) → halt_after met ≡ None → Leaves Given (has_failed met) a b (in_turn commands s met) (in_turn reached_commands s met) → Carries Given a b (in_turn commands s met)
-carries_unhalted Given a b s met none h = subst (λ (v : Bool). Leaves Given v a b (in_turn commands s met) (in_turn reached_commands s met)) (not_failed met none) h
+pub carries_unhalted : (Given : Premise) (a b : SessionState) (s : BenchState) (met : List Step) → halt_after met ≡ None → LeavesSession Given (has_failed met) a b (in_turn acknowledged_commands s met) (in_turn reached_commands s met) → RecordsCommands Given a b (in_turn acknowledged_commands s met)
+carries_unhalted Given a b s met none h = subst (λ (v : Bool). LeavesSession Given v a b (in_turn acknowledged_commands s met) (in_turn reached_commands s met)) (not_failed met none) h
 
 -- the shell went on, and so one list follows the other
-pub serves_more : (a b c : Stage) (xs ys : List Step) → halt_after xs ≡ None → Serves IsIntact a xs b → Serves IsIntact b ys c → Serves IsIntact a (xs ++ ys) c
+pub serves_more : (a b c : ShellState) (xs ys : List Step) → halt_after xs ≡ None → ServesSteps IsIntact a xs b → ServesSteps IsIntact b ys c → ServesSteps IsIntact a (xs ++ ys) c
 serves_more a b c xs ys none x y =
-    let s = a.session.standing.state in
-    let t = b.session.standing.state in
+    let s = a.session.bench.state in
+    let t = b.session.bench.state in
     let carries = carries_unhalted IsIntact a.session b.session s xs none x.leaves in
-    let state : t ≡ state_after s xs = ap (λ (v : Standing). v.state) carries.standing in
+    let state : t ≡ state_after s xs = ap (λ (v : SessionBench). v.state) carries.bench in
     record {
-      may = may-append a.session.standing xs ys none x.may (subst (λ (v : Standing). MayMeet v ys) carries.standing y.may);
-      wrote = wrote-append s xs ys a.out b.out c.out x.wrote (subst (λ (u : BenchState). WroteAll u ys b.out c.out) state y.wrote);
+      may = may-append a.session.bench xs ys none x.may (subst (λ (v : SessionBench). ArePossibleSteps v ys) carries.bench y.may);
+      wrote = wrote-append s xs ys a.out b.out c.out x.wrote (subst (λ (u : BenchState). WroteAnswers u ys b.out c.out) state y.wrote);
       leaves = leaves_as IsIntact (has_failed (xs ++ ys)) (has_failed ys) a.session c.session
-          (in_turn commands s (xs ++ ys)) (in_turn commands s xs ++ in_turn commands t ys)
-          (in_turn reached_commands s (xs ++ ys)) (in_turn commands s xs ++ in_turn reached_commands t ys)
-          (failed-append xs ys none) (in_turn-further commands s t xs ys state)
+          (in_turn acknowledged_commands s (xs ++ ys)) (in_turn acknowledged_commands s xs ++ in_turn acknowledged_commands t ys)
+          (in_turn reached_commands s (xs ++ ys)) (in_turn acknowledged_commands s xs ++ in_turn reached_commands t ys)
+          (failed-append xs ys none) (in_turn-further acknowledged_commands s t xs ys state)
           (in_turn-further reached_commands s t xs ys state ∙ ap (λ rs. rs ++ in_turn reached_commands t ys) (reached_all s xs (not_failed xs none)))
-          (leaves_more (has_failed ys) a.session b.session c.session (in_turn commands s xs) (in_turn commands t ys) (in_turn reached_commands t ys) carries y.leaves);
+          (leaves_more (has_failed ys) a.session b.session c.session (in_turn acknowledged_commands s xs) (in_turn acknowledged_commands t ys) (in_turn reached_commands t ys) carries y.leaves);
     }
 
 -- ---- bytes
 
-abbrev pub meets_nothing : (a : Stage) → Meets IsIntact [] a a None
+abbrev pub meets_nothing : (a : ShellState) → ServesInputs IsIntact [] a a None
 meets_nothing a = record { met = []; serves = serves_nothing a; halts = refl; not_met = []; spelled = refl; all_met = λ none. refl }
 
 -- these bytes spell the inputs that were given
-pub feeds : (a b : Stage) (p q k : Pending) (bytes : List ℕ) (given : List Input) (halted : Option ShellEnd) → HasNoFeed k.line → (halted ≡ None → q ≡ k)
+pub feeds : (a b : ShellState) (p q k : Pending) (bytes : List ℕ) (given : List Input) (halted : Option ShellEnd) → HasNoFeed k.line → (halted ≡ None → q ≡ k)
     → ((more : List ℕ) (whole : Bool) → inputs_after p (bytes ++ more) whole ≡ given ++ inputs_after k more whole)
-    → Meets IsIntact given a b halted → Feeds a b p q bytes halted
+    → ServesInputs IsIntact given a b halted → ServesBytes a b p q bytes halted
 feeds a b p q k bytes given halted f same e m = record {
   met = m.met;
   serves = m.serves;
@@ -82,15 +82,15 @@ feeds a b p q k bytes given halted f same e m = record {
   no_feed = λ none. subst (λ (x : Pending). HasNoFeed x.line) (sym (same none)) f;
 }
 
-pub feeds_none : (a : Stage) (p q : Pending) (bytes : List ℕ) → HasNoFeed q.line
-    → ((more : List ℕ) (whole : Bool) → inputs_after p (bytes ++ more) whole ≡ inputs_after q more whole) → Feeds a a p q bytes None
+pub feeds_none : (a : ShellState) (p q : Pending) (bytes : List ℕ) → HasNoFeed q.line
+    → ((more : List ℕ) (whole : Bool) → inputs_after p (bytes ++ more) whole ≡ inputs_after q more whole) → ServesBytes a a p q bytes None
 feeds_none a p q bytes f e = feeds a a p q q bytes [] None f (λ none. refl) e (meets_nothing a)
 
-pub feeds_nothing : (a : Stage) (p : Pending) → HasNoFeed p.line → Feeds a a p p [] None
+pub feeds_nothing : (a : ShellState) (p : Pending) → HasNoFeed p.line → ServesBytes a a p p [] None
 feeds_nothing a p f = feeds_none a p p [] f (λ more whole. refl)
 
 -- two stretches
-abbrev pub feeds_more : (a b c : Stage) (l k e : Pending) (bytes rest : List ℕ) (halted : Option ShellEnd) → Feeds a b l k bytes None → Feeds b c k e rest halted → Feeds a c l e (bytes ++ rest) halted
+abbrev pub feeds_more : (a b c : ShellState) (l k e : Pending) (bytes rest : List ℕ) (halted : Option ShellEnd) → ServesBytes a b l k bytes None → ServesBytes b c k e rest halted → ServesBytes a c l e (bytes ++ rest) halted
 feeds_more a b c l k e bytes rest halted x y = record {
   met = x.met ++ y.met;
   serves = serves_more a b c x.met y.met x.halts x.serves y.serves;
@@ -107,7 +107,7 @@ feeds_more a b c l k e bytes rest halted x y = record {
 }
 
 -- whatever comes after what halted the shell
-feeds_halted : (a b : Stage) (p q r : Pending) (bytes more_bytes : List ℕ) (end : ShellEnd) → Feeds a b p q bytes (Some end) → Feeds a b p r (bytes ++ more_bytes) (Some end)
+feeds_halted : (a b : ShellState) (p q r : Pending) (bytes more_bytes : List ℕ) (end : ShellEnd) → ServesBytes a b p q bytes (Some end) → ServesBytes a b p r (bytes ++ more_bytes) (Some end)
 feeds_halted a b p q r bytes more_bytes end x = record {
   met = x.met;
   serves = x.serves;
@@ -120,75 +120,75 @@ feeds_halted a b p q r bytes more_bytes end x = record {
 
 -- ---- a stretch without a line feed, and a line feed
 
-pub feeds_kept : (a : Stage) (p q : Pending) (bytes : List ℕ) → HasNoFeed p.line → HasNoFeed bytes → q ≡ record { mode = p.mode; line = take 16386 (p.line ++ bytes) } → Feeds a a p q bytes None
-feeds_kept a p q bytes f g e = let P : Pending → Type 0 = λ x. Feeds a a p x bytes None in subst P (sym e)
+pub feeds_kept : (a : ShellState) (p q : Pending) (bytes : List ℕ) → HasNoFeed p.line → HasNoFeed bytes → q ≡ record { mode = p.mode; line = take 16386 (p.line ++ bytes) } → ServesBytes a a p q bytes None
+feeds_kept a p q bytes f g e = let P : Pending → Type 0 = λ x. ServesBytes a a p x bytes None in subst P (sym e)
     (feeds_none a p (record { mode = p.mode; line = take 16386 (p.line ++ bytes) }) bytes (HasNone-take is_line_feed 16386 (p.line ++ bytes) (HasNone-append is_line_feed p.line bytes f g)) (λ more whole. after-kept p bytes more whole f g))
 
-pub feeds_command : (a b : Stage) (p q : Pending) (line : List ℕ) (halted : Option ShellEnd) → HasNoFeed p.line → p.mode ≡ Commands → line ≡ strip_carriage_return p.line → text_begun (request_of line) ≡ None
-    → (halted ≡ None → q ≡ fresh) → Meets IsIntact (Line (request_of line) ∷ []) a b halted → Feeds a b p q (10 ∷ []) halted
+pub feeds_command : (a b : ShellState) (p q : Pending) (line : List ℕ) (halted : Option ShellEnd) → HasNoFeed p.line → p.mode ≡ Commands → line ≡ strip_carriage_return p.line → text_begun (request_of line) ≡ None
+    → (halted ≡ None → q ≡ nothing_pending) → ServesInputs IsIntact (Line (request_of line) ∷ []) a b halted → ServesBytes a b p q (10 ∷ []) halted
 feeds_command a b p q line halted f is e none new h =
     let none2 : text_begun (request_of (strip_carriage_return p.line)) ≡ None = ap (λ l. text_begun (request_of l)) (sym e) ∙ none in
-    feeds a b p q fresh (10 ∷ []) (Line (request_of line) ∷ []) halted tt new
-    (λ more whole. feed-command p fresh more whole f is none2 refl ∙ ap (λ l. Line (request_of l) ∷ inputs_after fresh more whole) (sym e)) h
+    feeds a b p q nothing_pending (10 ∷ []) (Line (request_of line) ∷ []) halted tt new
+    (λ more whole. feed-command p nothing_pending more whole f is none2 refl ∙ ap (λ l. Line (request_of l) ∷ inputs_after nothing_pending more whole) (sym e)) h
 
-pub feeds_begun : (a : Stage) (p q : Pending) (line : List ℕ) (kind : TextKind) → HasNoFeed p.line → p.mode ≡ Commands → line ≡ strip_carriage_return p.line → request_of line ≡ Begin kind
-    → q ≡ record { mode = InText kind []; line = [] } → Feeds a a p q (10 ∷ []) None
+pub feeds_begun : (a : ShellState) (p q : Pending) (line : List ℕ) (kind : TextKind) → HasNoFeed p.line → p.mode ≡ Commands → line ≡ strip_carriage_return p.line → request_of line ≡ Begin kind
+    → q ≡ record { mode = InText kind []; line = [] } → ServesBytes a a p q (10 ∷ []) None
 feeds_begun a p q line kind f is e some new =
     let some2 : request_of (strip_carriage_return p.line) ≡ Begin kind = ap request_of (sym e) ∙ some in
     feeds_none a p q (10 ∷ []) (subst (λ (x : Pending). HasNoFeed x.line) (sym new) tt) (λ more whole. feed-begun p q more whole kind f is some2 new)
 
-pub feeds_text : (a b : Stage) (p q : Pending) (line : List ℕ) (kind : TextKind) (text : List ℕ) (halted : Option ShellEnd) → HasNoFeed p.line → p.mode ≡ InText kind text → line ≡ strip_carriage_return p.line
-    → is_dot_line line ≡ true → (halted ≡ None → q ≡ fresh) → Meets IsIntact (judged_text kind text ∷ []) a b halted → Feeds a b p q (10 ∷ []) halted
+pub feeds_text : (a b : ShellState) (p q : Pending) (line : List ℕ) (kind : TextKind) (text : List ℕ) (halted : Option ShellEnd) → HasNoFeed p.line → p.mode ≡ InText kind text → line ≡ strip_carriage_return p.line
+    → is_dot_line line ≡ true → (halted ≡ None → q ≡ nothing_pending) → ServesInputs IsIntact (judged_text kind text ∷ []) a b halted → ServesBytes a b p q (10 ∷ []) halted
 feeds_text a b p q line kind text halted f is e dot new h =
     let dot2 : is_dot_line (strip_carriage_return p.line) ≡ true = ap is_dot_line (sym e) ∙ dot in
-    feeds a b p q fresh (10 ∷ []) (judged_text kind text ∷ []) halted tt new (λ more whole. feed-dot p fresh more whole kind text f is dot2 refl) h
+    feeds a b p q nothing_pending (10 ∷ []) (judged_text kind text ∷ []) halted tt new (λ more whole. feed-dot p nothing_pending more whole kind text f is dot2 refl) h
 
-pub feeds_line : (a : Stage) (p q : Pending) (line : List ℕ) (kind : TextKind) (text : List ℕ) → HasNoFeed p.line → p.mode ≡ InText kind text → line ≡ strip_carriage_return p.line → is_dot_line line ≡ false
-    → Gathers p.mode p.line q → Feeds a a p q (10 ∷ []) None
+pub feeds_line : (a : ShellState) (p q : Pending) (line : List ℕ) (kind : TextKind) (text : List ℕ) → HasNoFeed p.line → p.mode ≡ InText kind text → line ≡ strip_carriage_return p.line → is_dot_line line ≡ false
+    → AddsLineToText p.mode p.line q → ServesBytes a a p q (10 ∷ []) None
 feeds_line a p q line kind text f is e dot h =
     let dot2 : is_dot_line (strip_carriage_return p.line) ≡ false = ap is_dot_line (sym e) ∙ dot in
-    let g : Gathers (InText kind text) p.line q = subst (λ m. Gathers m p.line q) is h in
+    let g : AddsLineToText (InText kind text) p.line q = subst (λ m. AddsLineToText m p.line q) is h in
     feeds_none a p q (10 ∷ []) (subst (λ (x : Pending). HasNoFeed x.line) (sym (g.2)) tt) (λ more whole. feed-line p q more whole kind text (g.0) f is dot2 (g.1) (g.2))
 
 -- ---- a chunk, line by line
 
 -- some of the chunk was served, and this is left
-pub record ServedTo (a b : Stage) (p q : Pending) (rest chunk : List ℕ) : Type 0 where
+pub record ServedTo (a b : ShellState) (p q : Pending) (rest chunk : List ℕ) : Type 0 where
   pub done : List ℕ
   pub split : chunk ≡ done ++ rest
-  pub fed : Feeds a b p q done None
+  pub fed : ServesBytes a b p q done None
 
-pub served_to_nothing : (a : Stage) (p : Pending) (chunk : List ℕ) → HasNoFeed p.line → ServedTo a a p p chunk chunk
+pub served_to_nothing : (a : ShellState) (p : Pending) (chunk : List ℕ) → HasNoFeed p.line → ServedTo a a p p chunk chunk
 served_to_nothing a p chunk f = record { done = []; split = refl; fed = feeds_nothing a p f }
 
 -- what is kept of a line after those
-pub served_to_kept : (a b : Stage) (p q r : Pending) (front rest chunk : List ℕ) (x : ServedTo a b p q rest chunk) → HasNoFeed front → r ≡ record { mode = q.mode; line = take 16386 (q.line ++ front) } → Feeds a b p r (x.done ++ front) None
+pub served_to_kept : (a b : ShellState) (p q r : Pending) (front rest chunk : List ℕ) (x : ServedTo a b p q rest chunk) → HasNoFeed front → r ≡ record { mode = q.mode; line = take 16386 (q.line ++ front) } → ServesBytes a b p r (x.done ++ front) None
 served_to_kept a b p q r front rest chunk x free kept = feeds_more a b b p q r x.done front None x.fed (feeds_kept b q r front (x.fed.no_feed refl) free kept)
 
-served_to_split : (a b : Stage) (p q : Pending) (front back rest chunk : List ℕ) (x : ServedTo a b p q rest chunk) → rest ≡ front ++ 10 ∷ back → chunk ≡ ((x.done ++ front) ++ 10 ∷ []) ++ back
+served_to_split : (a b : ShellState) (p q : Pending) (front back rest chunk : List ℕ) (x : ServedTo a b p q rest chunk) → rest ≡ front ++ 10 ∷ back → chunk ≡ ((x.done ++ front) ++ 10 ∷ []) ++ back
 served_to_split a b p q front back rest chunk x e = x.split ∙ ap (λ v. x.done ++ v) e ∙ sym (append_assoc x.done front (10 ∷ back)) ∙ sym (append_assoc (x.done ++ front) (10 ∷ []) back)
 
 -- a line was kept and ended
-pub served_to_line : (a b c : Stage) (p q r s : Pending) (front back rest chunk : List ℕ) → ServedTo a b p q rest chunk → HasNoFeed front × (rest ≡ front ++ 10 ∷ back)
-    → r ≡ record { mode = q.mode; line = take 16386 (q.line ++ front) } → Feeds b c r s (10 ∷ []) None → ServedTo a c p s back chunk
+pub served_to_line : (a b c : ShellState) (p q r s : Pending) (front back rest chunk : List ℕ) → ServedTo a b p q rest chunk → HasNoFeed front × (rest ≡ front ++ 10 ∷ back)
+    → r ≡ record { mode = q.mode; line = take 16386 (q.line ++ front) } → ServesBytes b c r s (10 ∷ []) None → ServedTo a c p s back chunk
 served_to_line a b c p q r s front back rest chunk x e kept h = record {
   done = (x.done ++ front) ++ 10 ∷ [];
   split = served_to_split a b p q front back rest chunk x e.1;
   fed = feeds_more a b c p r s (x.done ++ front) (10 ∷ []) None (served_to_kept a b p q r front rest chunk x e.0 kept) h;
 }
 
-pub kept_feed : (a b : Stage) (p q r : Pending) (front rest chunk : List ℕ) → ServedTo a b p q rest chunk → HasNoFeed front → r ≡ record { mode = q.mode; line = take 16386 (q.line ++ front) } → HasNoFeed r.line
+pub kept_feed : (a b : ShellState) (p q r : Pending) (front rest chunk : List ℕ) → ServedTo a b p q rest chunk → HasNoFeed front → r ≡ record { mode = q.mode; line = take 16386 (q.line ++ front) } → HasNoFeed r.line
 kept_feed a b p q r front rest chunk x free kept = (served_to_kept a b p q r front rest chunk x free kept).no_feed refl
 
-pub halted_line : (end : ShellEnd) (a b c : Stage) (p q r s : Pending) (front back rest chunk : List ℕ) → ServedTo a b p q rest chunk → HasNoFeed front × (rest ≡ front ++ 10 ∷ back)
-    → r ≡ record { mode = q.mode; line = take 16386 (q.line ++ front) } → Feeds b c r s (10 ∷ []) (Some end) → Feeds a c p s chunk (Some end)
+pub halted_line : (end : ShellEnd) (a b c : ShellState) (p q r s : Pending) (front back rest chunk : List ℕ) → ServedTo a b p q rest chunk → HasNoFeed front × (rest ≡ front ++ 10 ∷ back)
+    → r ≡ record { mode = q.mode; line = take 16386 (q.line ++ front) } → ServesBytes b c r s (10 ∷ []) (Some end) → ServesBytes a c p s chunk (Some end)
 halted_line end a b c p q r s front back rest chunk x e kept h =
-    let P : List ℕ → Type 0 = λ v. Feeds a c p s v (Some end) in
+    let P : List ℕ → Type 0 = λ v. ServesBytes a c p s v (Some end) in
     subst P (sym (served_to_split a b p q front back rest chunk x e.1))
     (feeds_halted a c p s s ((x.done ++ front) ++ 10 ∷ []) back end (feeds_more a b c p r s (x.done ++ front) (10 ∷ []) (Some end) (served_to_kept a b p q r front rest chunk x e.0 kept) h))
 
 -- the rest has no line feed
-pub served_rest : (a b : Stage) (p q r : Pending) (rest chunk : List ℕ) → ServedTo a b p q rest chunk → HasNoFeed rest
-    → r ≡ record { mode = q.mode; line = take 16386 (q.line ++ rest) } → Feeds a b p r chunk None
-served_rest a b p q r rest chunk x free kept = let P : List ℕ → Type 0 = λ v. Feeds a b p r v None in
+pub served_rest : (a b : ShellState) (p q r : Pending) (rest chunk : List ℕ) → ServedTo a b p q rest chunk → HasNoFeed rest
+    → r ≡ record { mode = q.mode; line = take 16386 (q.line ++ rest) } → ServesBytes a b p r chunk None
+served_rest a b p q r rest chunk x free kept = let P : List ℕ → Type 0 = λ v. ServesBytes a b p r v None in
     subst P (sym x.split) (served_to_kept a b p q r rest rest chunk x free kept)

@@ -2,29 +2,29 @@
 use Rattle.std.proofs.Common.{◌≡◌, List, Bool, true, false, refl, sym, subst}
 use Rattle.mcs_disk.specs.Disk.{DiskState, IsLawful}
 use Rattle.mcs_model.specs.declared.command.Command.{Command}
-use Rattle.mcs_session.specs.Kept.{IsOpenOnHonestDisk, Kept}
-use Rattle.mcs_session.specs.Standing.{SessionState}
+use Rattle.mcs_session.specs.KeptCommands.{IsOpenOnHonestDisk, KeepsCommands}
+use Rattle.mcs_session.specs.SessionState.{SessionState}
 use Rattle.mcs_session.proofs.Reopening.{found_is_opened, reopened}
 use Rattle.mcs_shell.specs.declared.ends.ShellEnd.{ShellEnd}
 use Rattle.mcs_shell.specs.Headline.{SurvivesPowerCuts}
-use Rattle.mcs_shell.specs.Serving.{Leaves}
-use Rattle.mcs_shell.specs.Shell.{Ran}
-use Rattle.mcs_shell.specs.Stage.{KnownBytes, Stage}
-use Rattle.mcs_shell.specs.Transcript.{commands, in_turn, reached_commands}
-use Rattle.mcs_shell.proofs.Served.{has_failed, reached_all}
+use Rattle.mcs_shell.specs.Serving.{LeavesSession}
+use Rattle.mcs_shell.specs.Shell.{RanShell}
+use Rattle.mcs_shell.specs.ShellState.{KnownBytes, ShellState}
+use Rattle.mcs_shell.specs.Transcript.{acknowledged_commands, in_turn, reached_commands}
+use Rattle.mcs_shell.proofs.StepLists.{has_failed, reached_all}
 
-kept_by : (failed : Bool) (a b : SessionState) (cs rs : List Command) → (failed ≡ false → rs ≡ cs) → IsOpenOnHonestDisk a → Leaves IsOpenOnHonestDisk failed a b cs rs → Kept a.disk b.disk a.standing.state cs rs
-kept_by false a b cs rs same given x = subst (λ (v : List Command). Kept a.disk b.disk a.standing.state cs v) (sym (same refl)) (x.kept given).kept
+kept_by : (failed : Bool) (a b : SessionState) (cs rs : List Command) → (failed ≡ false → rs ≡ cs) → IsOpenOnHonestDisk a → LeavesSession IsOpenOnHonestDisk failed a b cs rs → KeepsCommands a.disk b.disk a.bench.state cs rs
+kept_by false a b cs rs same given x = subst (λ (v : List Command). KeepsCommands a.disk b.disk a.bench.state cs v) (sym (same refl)) (x.kept given).kept
 kept_by true a b cs rs same given x = x.kept given
 
-pub survives : {E : Type 0} (state_of : E → DiskState) → ((e : E) → (state_of e).honest → IsLawful (state_of e)) → (end : ShellEnd) (r r' : KnownBytes) (a b : Stage) (ran : Ran end r r' a b)
+pub survives : {E : Type 0} (state_of : E → DiskState) → ((e : E) → (state_of e).honest → IsLawful (state_of e)) → (end : ShellEnd) (r r' : KnownBytes) (a b : ShellState) (ran : RanShell end r r' a b)
     → IsOpenOnHonestDisk a.session → SurvivesPowerCuts state_of a.session b.session.disk ran.served.met
 survives state_of lawful end r r' a b ran given =
-    let s = a.session.standing.state in
+    let s = a.session.bench.state in
     let met = ran.served.met in
-    let done : List Command = in_turn commands s met in
+    let done : List Command = in_turn acknowledged_commands s met in
     let may : List Command = in_turn reached_commands s met in
-    let kept : Kept a.session.disk b.session.disk s done may = kept_by (has_failed met) a.session b.session done may (reached_all s met) given ran.served.serves.leaves in
+    let kept : KeepsCommands a.session.disk b.session.disk s done may = kept_by (has_failed met) a.session b.session done may (reached_all s met) given ran.served.serves.leaves in
     record {
       moments = kept.moments;
       count = kept.count;
@@ -37,10 +37,10 @@ survives state_of lawful end r r' a b ran given =
 
 -- ---- what it leaves as it was
 
-honest_by : (failed : Bool) (a b : SessionState) (cs rs : List Command) → Leaves IsOpenOnHonestDisk failed a b cs rs → a.disk.honest → b.disk.honest
+honest_by : (failed : Bool) (a b : SessionState) (cs rs : List Command) → LeavesSession IsOpenOnHonestDisk failed a b cs rs → a.disk.honest → b.disk.honest
 honest_by false a b cs rs x = x.honest.1
 honest_by true a b cs rs x = x.honest.1
 
-pub honest_after : (end : ShellEnd) (r r' : KnownBytes) (a b : Stage) → Ran end r r' a b → a.session.disk.honest → b.session.disk.honest
-honest_after end r r' a b ran = let s = a.session.standing.state in
-    honest_by (has_failed ran.served.met) a.session b.session (in_turn commands s ran.served.met) (in_turn reached_commands s ran.served.met) ran.served.serves.leaves
+pub honest_after : (end : ShellEnd) (r r' : KnownBytes) (a b : ShellState) → RanShell end r r' a b → a.session.disk.honest → b.session.disk.honest
+honest_after end r r' a b ran = let s = a.session.bench.state in
+    honest_by (has_failed ran.served.met) a.session b.session (in_turn acknowledged_commands s ran.served.met) (in_turn reached_commands s ran.served.met) ran.served.serves.leaves

@@ -9,33 +9,34 @@ use Rattle.mcs_journal.specs.declared.fault.OpenFault.TheVariants as open_fault
 use Rattle.mcs_model.specs.BenchState.{BenchState}
 use Rattle.mcs_session.specs.LogUse.{LogUse, UsesLog, moments_of}
 use Rattle.mcs_session.specs.SessionCalls.{RefusesSession}
-use Rattle.mcs_session.specs.Kept.{IsAfterPrefix, IsReopened, IsSpaced, acknowledged_by, last_moment}
-use Rattle.mcs_session.specs.Standing.{SessionState, session_state}
+use Rattle.mcs_session.specs.KeptCommands.{IsAfterPrefix, IsReopened, IsSpaced, acknowledged_by, last_moment}
+use Rattle.mcs_session.specs.SessionState.{SessionState, session_state}
 use Rattle.mcs_shell.specs.Inputs.{Input, inputs}
 use Rattle.mcs_shell.specs.declared.ends.ShellEnd.{ShellEnd}
 use Rattle.mcs_shell.specs.declared.ends.ShellEnd.TheVariants.{WriteFault, DeviceFault, NoMemory}
-use Rattle.mcs_shell.specs.Shell.{Run}
-use Rattle.mcs_shell.specs.Stage.{KnownBytes, Stage, stage_of}
-use Rattle.mcs_shell.specs.Transcript.{MayMeet, Step, answer, commands, in_turn, inputs_in, reached_commands}
+use Rattle.mcs_shell.specs.Shell.{ShellRun}
+use Rattle.mcs_shell.specs.ShellState.{KnownBytes, ShellState, shell_state}
+use Rattle.mcs_shell.specs.Transcript.{ArePossibleSteps, Step, answer, acknowledged_commands, in_turn, inputs_in, reached_commands}
 
 -- A run met these inputs, from one session to the disk that it left. Each command that it answered
 -- `ok` was acknowledged at its moment. A power cut at any time of the run left a disk (`state_of`
 -- is what contracts see of one): opened, it gives the bench as it is after a prefix of the commands
 -- answered `ok` and the one answered `no 53`, and the prefix holds each one acknowledged by that
--- time. It is refused for lack of memory and for a device fault alone.
+-- time. Opening it is refused for lack of memory and for a device fault alone.
 pub record SurvivesPowerCuts
     {E : Type 0} (state_of : E → DiskState) (a : SessionState) (ran : DiskState)
     (met : List Step) : Type 0 where
   pub moments : List ℕ
-  pub count : length moments ≡ length (in_turn commands a.standing.state met)
+  pub count : length moments ≡ length (in_turn acknowledged_commands a.bench.state met)
   pub spaced : IsSpaced a.disk.clock moments
-  -- eight where the log, in use as it was then, had no room for the record of the command, else four
+  -- each is eight steps after the one before where the log, in use as it was then, had no room for
+  -- the record of the command, else four
   pub timed : (log : LogUse) → UsesLog a.disk.bytes log
-      → moments ≡ moments_of a.disk.clock log (in_turn commands a.standing.state met)
+      → moments ≡ moments_of a.disk.clock log (in_turn acknowledged_commands a.bench.state met)
   pub within : last_moment a.disk.clock moments ≤ ran.clock
   pub reopened : (t : ℕ) (found opened : E) (u : BenchState) → a.disk.clock ≤ t
       → IsReopened t ran (state_of found) (state_of opened) u
-      → IsAfterPrefix a.standing.state (in_turn reached_commands a.standing.state met)
+      → IsAfterPrefix a.bench.state (in_turn reached_commands a.bench.state met)
       (acknowledged_by t moments) u
   pub not_refused : (t : ℕ) (found : E) (fault : OpenFault) → a.disk.clock ≤ t
       → IsLeftByCut t ran (state_of found) → RefusesSession fault (state_of found)
@@ -48,28 +49,30 @@ pub record SurvivesPowerCuts
 -- accepted before it. Only a write that failed, and a shell that had no memory to begin, leave the
 -- last of it out.
 pub record AnswersInTurn
-    (end : ShellEnd) (reader reader' : KnownBytes) (a b : Stage) (met : List Step) : Type 0 where
+    (end : ShellEnd) (reader reader' : KnownBytes) (a b : ShellState)
+    (met : List Step) : Type 0 where
   pub bytes : List ℕ
   pub consumed : Consumes reader reader' bytes
   pub whole : Bool
   pub not_met : List Input
   pub spelled : inputs bytes whole ≡ inputs_in met ++ not_met
   pub all_met : end ≢ WriteFault → end ≢ DeviceFault → end ≢ NoMemory → not_met ≡ []
-  pub may : MayMeet a.session.standing met
+  pub may : ArePossibleSteps a.session.bench met
   pub told : List ℕ
   pub left_out : List ℕ
   pub written : Appends a.out b.out told
   pub parts : told ++ left_out
-      ≡ session_text a.session.standing.state ++ in_turn answer a.session.standing.state met
+      ≡ session_text a.session.bench.state ++ in_turn answer a.session.bench.state met
   pub all_told : end ≢ WriteFault → end ≢ NoMemory → left_out ≡ []
 
--- The answers of a run are those of the inputs that it met, in turn, and what is found after a power
--- cut is the bench after a prefix of the commands among them that holds what was acknowledged
+-- The answers of a run are those of the inputs that it met, in turn, and what is found after a
+-- power cut is the bench after a prefix of the commands among them that holds what was acknowledged
 -- (`state_of` and `found_of` are what contracts see of the disks).
 pub record AnswersAndSurvives
     {D E : Type 0} (state_of : D → DiskState) (found_of : E → DiskState)
-    (run : Run state_of) : Type 0 where
-  pub answers : AnswersInTurn run.end run.reader run.reader' (stage_of state_of run.before run.out)
-      (stage_of state_of run.after run.out') run.ran.served.met
+    (run : ShellRun state_of) : Type 0 where
+  pub answers : AnswersInTurn run.end run.reader run.reader'
+      (shell_state state_of run.before run.out)
+      (shell_state state_of run.after run.out') run.ran.served.met
   pub survives : SurvivesPowerCuts found_of (session_state state_of run.before)
       (state_of run.after.disk) run.ran.served.met

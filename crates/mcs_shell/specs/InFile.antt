@@ -3,14 +3,15 @@ use Rattle.std.specs.Prelude.{◌≡◌, ◌⊎◌, ◌≤◌, ℕ, List, length
 use Rattle.mcs_host.specs.Ending.{IsLeftSince, as_disk, found_in}
 use Rattle.mcs_host.specs.FileDisk.{IsOpened}
 use Rattle.mcs_host.specs.declared.file_disk.FileDisk.{FileDisk}
-use Rattle.mcs_host.specs.declared.words.Choice.TheVariants as choice
-use Rattle.mcs_session.specs.Kept.{IsAfterPrefix, IsSpaced, acknowledged_by, last_moment}
-use Rattle.mcs_session.specs.Standing.{SessionView}
+use Rattle.mcs_host.specs.declared.arguments.Choice.TheVariants as choice
+use Rattle.mcs_model.specs.declared.refusal_numbers.TheConstants.{DEVICE, NO_MEMORY}
+use Rattle.mcs_session.specs.KeptCommands.{IsAfterPrefix, IsSpaced, acknowledged_by, last_moment}
+use Rattle.mcs_session.specs.SessionState.{SessionView}
 use Rattle.mcs_shell.specs.Headline.{AnswersInTurn}
 use Rattle.mcs_shell.specs.Program.{IsBegunOn, IsRefusedWith}
-use Rattle.mcs_shell.specs.Shell.{Run}
-use Rattle.mcs_shell.specs.Stage.{stage_of}
-use Rattle.mcs_shell.specs.Transcript.{commands, in_turn, reached_commands}
+use Rattle.mcs_shell.specs.Shell.{ShellRun}
+use Rattle.mcs_shell.specs.ShellState.{shell_state}
+use Rattle.mcs_shell.specs.Transcript.{acknowledged_commands, in_turn, reached_commands}
 
 -- A file was left at a clock of t or later, by a close, a kill or a power cut. Then it was opened
 -- with what is found in it, and is honest from then on.
@@ -21,25 +22,27 @@ pub record IsFoundAgain (t : ℕ) (file again : FileDisk) : Type 0 where
   pub honest : (as_disk again).honest
 
 -- The answers of a run over a file of the host are those of the inputs that it met. However and
--- whenever the file was left since the run began: what the program's `open` begins on the file as it
--- is found is the bench after a prefix of the commands answered `ok` and the one answered `no 53`,
--- and the prefix holds each one acknowledged by that time. The program refuses it by 53 and by 90
--- alone.
-pub record SurvivesInFile (run : Run as_disk) : Type 0 where
-  pub answers : AnswersInTurn run.end run.reader run.reader' (stage_of as_disk run.before run.out)
-      (stage_of as_disk run.after run.out') run.ran.served.met
+-- whenever the file was left since the run began: what the program's `open` begins on the file as
+-- it is found is the bench after a prefix of the commands answered `ok` and the one answered
+-- `no 53`, and the prefix holds each one acknowledged by that time. The program refuses it for a
+-- device fault and for lack of memory alone.
+pub record SurvivesInFile (run : ShellRun as_disk) : Type 0 where
+  pub answers : AnswersInTurn run.end run.reader run.reader'
+      (shell_state as_disk run.before run.out)
+      (shell_state as_disk run.after run.out') run.ran.served.met
   pub moments : List ℕ
   pub count : length moments
-      ≡ length (in_turn commands run.before.state run.ran.served.met)
+      ≡ length (in_turn acknowledged_commands run.before.state run.ran.served.met)
   pub spaced : IsSpaced (as_disk run.before.disk).clock moments
   pub within : last_moment (as_disk run.before.disk).clock moments
       ≤ (as_disk run.after.disk).clock
   pub reopened : (t : ℕ) (again : FileDisk) (name : List ℕ) (session : SessionView FileDisk)
       → (as_disk run.before.disk).clock ≤ t → IsFoundAgain t run.after.disk again
       → IsBegunOn as_disk (choice.Open name) again session
-      → IsAfterPrefix run.before.state (in_turn reached_commands run.before.state run.ran.served.met)
+      → IsAfterPrefix run.before.state
+      (in_turn reached_commands run.before.state run.ran.served.met)
       (acknowledged_by t moments) session.state
   pub not_refused : (t : ℕ) (again : FileDisk) (name : List ℕ) (number : ℕ)
       → (as_disk run.before.disk).clock ≤ t → IsFoundAgain t run.after.disk again
       → IsRefusedWith as_disk (choice.Open name) again number
-      → (number ≡ 53) ⊎ (number ≡ 90)
+      → (number ≡ DEVICE) ⊎ (number ≡ NO_MEMORY)

@@ -48,7 +48,7 @@ text_or_fault kind text (Some fault) = BadText fault
 abbrev pub judged_text : TextKind → List ℕ → Input
 judged_text kind text = text_or_fault kind text (text_fault_of text)
 
--- ---- groups of lines
+-- ---- lines in groups
 
 -- where a line stands: outside a text, or in one, after these bytes of it
 pub data Mode : Type 0 where
@@ -62,21 +62,21 @@ text_begun request = None
 
 -- A text is the lines after the one that began it, up to one that is a dot, each followed by a line
 -- feed. It has no end where input ended before that.
-unfoldable pub group : Bool → Mode → List (List ℕ) → List Input
-group whole Commands [] = []
-group whole (InText kind text) [] = if whole then BadText NoEnd ∷ [] else []
-group whole Commands (l ∷ ls) =
+unfoldable pub inputs_of_lines : Bool → Mode → List (List ℕ) → List Input
+inputs_of_lines whole Commands [] = []
+inputs_of_lines whole (InText kind text) [] = if whole then BadText NoEnd ∷ [] else []
+inputs_of_lines whole Commands (l ∷ ls) =
     elim (text_begun (request_of l)) [
-      | None ↦ Line (request_of l) ∷ group whole Commands ls
-      | Some kind ↦ group whole (InText kind []) ls
+      | None ↦ Line (request_of l) ∷ inputs_of_lines whole Commands ls
+      | Some kind ↦ inputs_of_lines whole (InText kind []) ls
     ]
-group whole (InText kind text) (l ∷ ls) =
-    if is_dot_line l then judged_text kind text ∷ group whole Commands ls
-    else group whole (InText kind (text ++ (l ++ 10 ∷ []))) ls
+inputs_of_lines whole (InText kind text) (l ∷ ls) =
+    if is_dot_line l then judged_text kind text ∷ inputs_of_lines whole Commands ls
+    else inputs_of_lines whole (InText kind (text ++ (l ++ 10 ∷ []))) ls
 
 -- the inputs that the bytes spell; `whole` says that input ended there, else it was cut
 unfoldable pub inputs : List ℕ → Bool → List Input
-inputs bytes whole = group whole Commands (lines bytes whole)
+inputs bytes whole = inputs_of_lines whole Commands (lines bytes whole)
 
 -- ---- what a reader of pieces has not finished
 
@@ -85,9 +85,10 @@ pub record Pending : Type 0 where
   pub mode : Mode
   pub line : List ℕ
 
-abbrev pub fresh : Pending
-fresh = record { mode = Commands; line = [] }
+-- no text is open, and no line has begun
+abbrev pub nothing_pending : Pending
+nothing_pending = record { mode = Commands; line = [] }
 
 -- the inputs that what is unfinished and these bytes spell
 abbrev pub inputs_after : Pending → List ℕ → Bool → List Input
-inputs_after p bytes whole = group whole p.mode (lines (p.line ++ bytes) whole)
+inputs_after p bytes whole = inputs_of_lines whole p.mode (lines (p.line ++ bytes) whole)

@@ -4,7 +4,7 @@ pub mod Inputs
 pub mod Reading
 pub mod Spelling
 pub mod RefusalNumbers
-pub mod Stage
+pub mod ShellState
 pub mod Transcript
 pub mod Serving
 pub mod Shell

@@ -13,30 +13,30 @@ use Rattle.mcs_session.specs.declared.fault.SessionFault.TheVariants as session_
 use Rattle.mcs_shell.specs.declared.ends.ShellEnd.{ShellEnd}
 use Rattle.mcs_shell.specs.LineFeeds.{HasNoFeed}
 use Rattle.mcs_shell.specs.Inputs.{Input, Pending, inputs_after}
-use Rattle.mcs_session.specs.Standing.{Premise, SessionState}
-use Rattle.mcs_shell.specs.Stage.{KnownBytes, Stage}
-use Rattle.mcs_shell.specs.Transcript.{MayEnd, MayMeet, Step, answer, commands, halt_after, in_turn, inputs_in, is_device, reached_commands}
-use Rattle.mcs_session.specs.Kept.{Carries, IsIntact, Kept}
+use Rattle.mcs_session.specs.SessionState.{Premise, SessionState}
+use Rattle.mcs_shell.specs.ShellState.{KnownBytes, ShellState}
+use Rattle.mcs_shell.specs.Transcript.{IsPossibleOutcome, ArePossibleSteps, Step, answer, acknowledged_commands, halt_after, in_turn, inputs_in, is_device_fault, reached_commands}
+use Rattle.mcs_session.specs.KeptCommands.{RecordsCommands, IsIntact, KeepsCommands}
 
 -- ---- an answer
 
--- the writer has got some of the first bytes, and not all
-pub record GotSome (old new : KnownBytes) (bytes : List ℕ) : Type 0 where
+-- the writer got only the first of these bytes, or none
+pub record GotFirstBytes (old new : KnownBytes) (bytes : List ℕ) : Type 0 where
   pub count : ℕ
   pub fewer : count < length bytes
   pub got : Appends old new (take count bytes)
 
--- the writer has got the bytes whole, or not
-abbrev pub Wrote : Bool → KnownBytes → KnownBytes → List ℕ → Type 0
-Wrote true old new bytes = Appends old new bytes
-Wrote false old new bytes = GotSome old new bytes
+-- the writer got all of these bytes where this is true, else only the first of them, or none
+abbrev pub WroteBytes : Bool → KnownBytes → KnownBytes → List ℕ → Type 0
+WroteBytes true old new bytes = Appends old new bytes
+WroteBytes false old new bytes = GotFirstBytes old new bytes
 
--- what the writer has got of the answers, in turn
-abbrev pub WroteAll : BenchState → List Step → KnownBytes → KnownBytes → Type 0
-WroteAll s [] old new = new ≡ old
-WroteAll s (x ∷ rest) old new =
-    (middle : KnownBytes) × Wrote x.whole old middle (answer s x.input x.outcome)
-    × WroteAll (fold s (commands s x.input x.outcome)) rest middle new
+-- what the writer got of the answers to these steps, in turn
+abbrev pub WroteAnswers : BenchState → List Step → KnownBytes → KnownBytes → Type 0
+WroteAnswers s [] old new = new ≡ old
+WroteAnswers s (x ∷ rest) old new =
+    (middle : KnownBytes) × WroteBytes x.whole old middle (answer s x.input x.outcome)
+    × WroteAnswers (fold s (acknowledged_commands s x.input x.outcome)) rest middle new
 
 -- ---- the session
 
@@ -48,47 +48,50 @@ outcome_of session_fault.Closed = Closed
 
 -- The device failed, which closed the session. The commands `done` were answered `ok`, and all of
 -- `reached_too` may have reached the disk.
-pub record BreaksOff
+pub record ClosesSession
     (Given : Premise) (a b : SessionState) (done reached_too : List Command) : Type 0 where
-  pub closed : b.standing.live ≡ false
-  pub state : b.standing.state ≡ fold a.standing.state done
+  pub closed : b.bench.live ≡ false
+  pub state : b.bench.state ≡ fold a.bench.state done
   pub faults : b.disk.faults ≡ min (a.disk.faults + 1) most_faults
   pub size : b.disk.size ≡ a.disk.size
   pub honest : b.disk.honest ↔ a.disk.honest
-  pub kept : Given a → Kept a.disk b.disk a.standing.state done reached_too
+  pub kept : Given a → KeepsCommands a.disk b.disk a.bench.state done reached_too
 
 -- what inputs leave of the session and its disk, by whether the device failed at the last of them
-abbrev pub Leaves : Premise → Bool → SessionState → SessionState → List Command → List Command
-    → Type 0
-Leaves Given false a b done reached_too = Carries Given a b done
-Leaves Given true a b done reached_too = BreaksOff Given a b done reached_too
+abbrev pub LeavesSession : Premise → Bool → SessionState → SessionState → List Command
+    → List Command → Type 0
+LeavesSession Given false a b done reached_too = RecordsCommands Given a b done
+LeavesSession Given true a b done reached_too = ClosesSession Given a b done reached_too
 
--- an input was judged and done: its answer is this
-pub record Answered
+-- an input had this outcome in the session a: its answer is this, and it left the session b
+pub record AnsweredInput
     (a : SessionState) (i : Input) (o : Outcome) (told : List ℕ)
     (b : SessionState) : Type 0 where
-  pub may : MayEnd a.standing i o
-  pub told_is : told ≡ answer a.standing.state i o
-  pub leaves : Leaves IsIntact (is_device o) a b (commands a.standing.state i o)
-      (reached_commands a.standing.state i o)
+  pub may : IsPossibleOutcome a.bench i o
+  pub told_is : told ≡ answer a.bench.state i o
+  pub leaves : LeavesSession IsIntact (is_device_fault o) a b
+      (acknowledged_commands a.bench.state i o)
+      (reached_commands a.bench.state i o)
 
 -- ---- inputs in turn
 
--- From a on these inputs were met, in turn, and then there is b. `Given` is the premise of what the
+-- From a on these steps were made, in turn, and then there is b. `Given` is the premise of what the
 -- disk keeps.
-pub record Serves (Given : Premise) (a : Stage) (met : List Step) (b : Stage) : Type 0 where
-  pub may : MayMeet a.session.standing met
-  pub wrote : WroteAll a.session.standing.state met a.out b.out
-  pub leaves : Leaves Given (list_any (λ (x : Step). is_device x.outcome) met)
+pub record ServesSteps
+    (Given : Premise) (a : ShellState) (met : List Step) (b : ShellState) : Type 0 where
+  pub may : ArePossibleSteps a.session.bench met
+  pub wrote : WroteAnswers a.session.bench.state met a.out b.out
+  pub leaves : LeavesSession Given (list_any (λ (x : Step). is_device_fault x.outcome) met)
       a.session b.session
-      (in_turn commands a.session.standing.state met)
-      (in_turn reached_commands a.session.standing.state met)
+      (in_turn acknowledged_commands a.session.bench.state met)
+      (in_turn reached_commands a.session.bench.state met)
 
 -- the first of these inputs were met: all, where nothing halted the shell
-pub record Meets
-    (Given : Premise) (given : List Input) (a b : Stage) (halted : Option ShellEnd) : Type 0 where
+pub record ServesInputs
+    (Given : Premise) (given : List Input) (a b : ShellState)
+    (halted : Option ShellEnd) : Type 0 where
   pub met : List Step
-  pub serves : Serves Given a met b
+  pub serves : ServesSteps Given a met b
   pub halts : halt_after met ≡ halted
   pub not_met : List Input
   pub spelled : given ≡ inputs_in met ++ not_met
@@ -96,10 +99,10 @@ pub record Meets
 
 -- From what was unfinished in `p` on, these bytes were read, and the first of the inputs that they
 -- spell were met: all, where nothing halted the shell, and what is unfinished then is `q`.
-pub record Feeds
-    (a b : Stage) (p q : Pending) (bytes : List ℕ) (halted : Option ShellEnd) : Type 0 where
+pub record ServesBytes
+    (a b : ShellState) (p q : Pending) (bytes : List ℕ) (halted : Option ShellEnd) : Type 0 where
   pub met : List Step
-  pub serves : Serves IsIntact a met b
+  pub serves : ServesSteps IsIntact a met b
   pub halts : halt_after met ≡ halted
   -- however the bytes go on
   pub not_met : List ℕ → Bool → List Input

@@ -6,20 +6,21 @@ use Rattle.mcs_shell.specs.declared.ends.ShellEnd.TheVariants.{End, ReadFault, W
 use Rattle.mcs_model.specs.declared.limits.TheConstants.{INPUT_BYTES}
 use Rattle.mcs_shell.specs.Inputs.{Input, inputs}
 use Rattle.mcs_disk.specs.Disk.{DiskState}
-use Rattle.mcs_session.specs.Standing.{Premise, SessionView}
-use Rattle.mcs_shell.specs.Stage.{KnownBytes, Stage, stage_of, with_out}
+use Rattle.mcs_session.specs.SessionState.{Premise, SessionView}
+use Rattle.mcs_shell.specs.ShellState.{KnownBytes, ShellState, shell_state, with_written}
 use Rattle.mcs_shell.specs.Transcript.{Step, inputs_in}
+use Rattle.mcs_shell.specs.declared.shell.TheConstants.{CHUNK_BYTES}
 use Rattle.mcs_answers.specs.AnswerTexts.{session_text}
-use Rattle.mcs_session.specs.Kept.{IsOpenOnHonestDisk}
-use Rattle.mcs_shell.specs.Serving.{Meets, Wrote}
+use Rattle.mcs_session.specs.KeptCommands.{IsOpenOnHonestDisk}
+use Rattle.mcs_shell.specs.Serving.{ServesInputs, WroteBytes}
 
--- no more than that many bytes were read ahead of what was answered: these inputs are those of the
--- bytes before, and maybe more
-pub record IsNear (bytes : List ℕ) (answered : List Input) : Type 0 where
+-- No more bytes than one read takes were read ahead of what was answered: the inputs that were met
+-- are those that the bytes before spell, and maybe more.
+pub record ReadsLittleAhead (bytes : List ℕ) (answered : List Input) : Type 0 where
   pub before : List ℕ
   pub ahead : List ℕ
   pub parts : bytes ≡ before ++ ahead
-  pub few : length ahead ≤ 4_096
+  pub few : length ahead ≤ CHUNK_BYTES
   pub more : List Input
   pub answered_are : answered ≡ inputs before false ++ more
 
@@ -40,32 +41,33 @@ EndsBy NoMemory begun bytes whole met halted = (begun ≡ false) × (bytes ≡ [
 
 -- The shell ran from a to b: it consumed these bytes, wrote a first line, and met the first of the
 -- inputs that the bytes spell.
-pub record RanGiven
+pub record RanShellGiven
     (Given : Premise) (first_line : List ℕ) (end : ShellEnd) (reader reader' : KnownBytes)
-    (a b : Stage) : Type 0 where
+    (a b : ShellState) : Type 0 where
   pub bytes : List ℕ
   pub consumed : Consumes reader reader' bytes
   pub within : length bytes ≤ INPUT_BYTES
-  -- input ended after them, and more would have been read
+  -- whether input ended after them; then the limit was not reached, and the reader has nothing left
   pub whole : Bool
-  pub ended : whole ≡ true → (length bytes < INPUT_BYTES) × IsAtEnd reader'
+  pub input_ended : whole ≡ true → (length bytes < INPUT_BYTES) × IsAtEnd reader'
+  -- whether the first line was written whole, and what the writer had got then
   pub begun : Bool
   pub started : KnownBytes
-  pub first : Wrote begun a.out started first_line
+  pub first : WroteBytes begun a.out started first_line
   pub untold : end ≡ NoMemory → b.out ≡ a.out
   pub halted : Option ShellEnd
-  pub served : Meets Given (inputs bytes whole) (with_out a started) b halted
-  pub near : IsNear bytes (inputs_in served.met)
+  pub served : ServesInputs Given (inputs bytes whole) (with_written a started) b halted
+  pub near : ReadsLittleAhead bytes (inputs_in served.met)
   pub ends : EndsBy end begun bytes whole served.met halted
 
 -- the same of a whole run, under the premise that the session is open and its disk honest
-abbrev pub Ran : ShellEnd → KnownBytes → KnownBytes → Stage → Stage → Type 0
-Ran end reader reader' a b =
-    RanGiven IsOpenOnHonestDisk (session_text a.session.standing.state) end reader reader' a b
+abbrev pub RanShell : ShellEnd → KnownBytes → KnownBytes → ShellState → ShellState → Type 0
+RanShell end reader reader' a b =
+    RanShellGiven IsOpenOnHonestDisk (session_text a.session.bench.state) end reader reader' a b
 
 -- A run of the shell: how it ended, what the reader had left, what the writer held, and the session
 -- (`state_of` is what contracts see of its disk), before and after.
-pub record Run {D : Type 0} (state_of : D → DiskState) : Type 0 where
+pub record ShellRun {D : Type 0} (state_of : D → DiskState) : Type 0 where
   pub end : ShellEnd
   pub reader : KnownBytes
   pub reader' : KnownBytes
@@ -73,10 +75,11 @@ pub record Run {D : Type 0} (state_of : D → DiskState) : Type 0 where
   pub after : SessionView D
   pub out : KnownBytes
   pub out' : KnownBytes
-  pub ran : Ran end reader reader' (stage_of state_of before out) (stage_of state_of after out')
+  pub ran : RanShell end reader reader'
+      (shell_state state_of before out) (shell_state state_of after out')
 
 -- a read gave these n bytes, none only at the end
-pub record ReadSome (n most : ℕ) (old new : KnownBytes) (bytes : List ℕ) : Type 0 where
+pub record ReadBytes (n most : ℕ) (old new : KnownBytes) (bytes : List ℕ) : Type 0 where
   pub within : n ≤ most
   pub count : length bytes ≡ n
   pub consumed : Consumes old new bytes

@@ -12,8 +12,8 @@ use Rattle.mcs_source.specs.declared.fault.SourceFault.{SourceFault}
 use Rattle.mcs_wiring.specs.RefusalNumbers.{wiring_fault_number}
 use Rattle.mcs_wiring.specs.Wiring.{board_of_text}
 use Rattle.mcs_wiring.specs.declared.fault.WiringFault.{WiringFault}
-use Rattle.mcs_shell.specs.declared.spelling.Spelled as code
-use Rattle.mcs_shell.specs.declared.spelling.Spelled.TheVariants as spelled
+use Rattle.mcs_shell.specs.declared.spelling.TextMeaning as code
+use Rattle.mcs_shell.specs.declared.spelling.TextMeaning.TheVariants as spelled
 use Rattle.mcs_shell.specs.declared.spelling.TextRefusal.{TextRefusal}
 use Rattle.mcs_shell.specs.declared.spelling.TextRefusal.TheVariants.{Wiring, Program}
 use Rattle.mcs_lines.specs.declared.requests.TextKind.{TextKind}
@@ -43,25 +43,25 @@ load_command (Ok pairs) = Ok (command.Load (by_address pairs))
 load_command (Err at) = Err (Program (at.0) (at.1))
 
 -- what a text comes to: a command, which is done, or lines, which are told while nothing is done
-pub data Spelled : Type 0 where
-  Does : Command → Spelled
-  Tells : List ℕ → Spelled
+pub data TextMeaning : Type 0 where
+  Does : Command → TextMeaning
+  Tells : List ℕ → TextMeaning
 
 -- the map of a program, or why the text is none
-abbrev pub program_map : Result Survey (ℕ × SourceFault) → Result Spelled TextRefusal
+abbrev pub program_map : Result Survey (ℕ × SourceFault) → Result TextMeaning TextRefusal
 program_map (Ok survey) = Ok (Tells (survey_text survey))
 program_map (Err at) = Err (Program (at.0) (at.1))
 
 -- what a text comes to, or why it spells nothing
-unfoldable pub spelled_by : TextKind → List ℕ → Result Spelled TextRefusal
-spelled_by Wire text = result_map_both Does (λ why. why) (wire_command (board_of_text text))
-spelled_by Asm text = result_map_both Does (λ why. why) (load_command (assembly_of_text text))
-spelled_by Map text = program_map (survey_of_text text)
+unfoldable pub meaning_of_text : TextKind → List ℕ → Result TextMeaning TextRefusal
+meaning_of_text Wire text = result_map_both Does (λ why. why) (wire_command (board_of_text text))
+meaning_of_text Asm text = result_map_both Does (λ why. why) (load_command (assembly_of_text text))
+meaning_of_text Map text = program_map (survey_of_text text)
 
--- the code's value for it
-abbrev pub spelled_view : code.Spelled → Spelled
-spelled_view (spelled.Does c) = Does c
-spelled_view (spelled.Tells lines) = Tells lines.items
+-- the meaning that a value of the Rust type is
+abbrev pub meaning_view : code.TextMeaning → TextMeaning
+meaning_view (spelled.Does c) = Does c
+meaning_view (spelled.Tells lines) = Tells lines.items
 
 -- the answer to a text that spells nothing
 abbrev pub text_refusal : TextRefusal → List ℕ

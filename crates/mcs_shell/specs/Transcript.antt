@@ -10,7 +10,7 @@ use Rattle.mcs_model.specs.declared.refusal_numbers.TheConstants.{CLOSED, DEVICE
 use Rattle.mcs_lines.specs.RefusalNumbers.{line_fault_number}
 use Rattle.mcs_lines.specs.declared.requests.Request.TheVariants.{Nothing, Refused, Ask, Listing, Board, Change, Begin}
 use Rattle.mcs_answers.specs.AnswerTexts.{board_answer, listing_answer, no_text, ok_text, query_answer}
-use Rattle.mcs_session.specs.Standing.{Standing, standing_after}
+use Rattle.mcs_session.specs.SessionState.{SessionBench, bench_after}
 use Rattle.mcs_shell.specs.declared.ends.ShellEnd.{ShellEnd}
 use Rattle.mcs_shell.specs.declared.ends.ShellEnd.TheVariants.{WriteFault, DeviceFault}
 use Rattle.mcs_shell.specs.declared.outcome.Outcome.{Outcome}
@@ -18,19 +18,19 @@ use Rattle.mcs_shell.specs.declared.outcome.Outcome.TheVariants.{Plain, Device, 
 use Rattle.mcs_shell.specs.declared.spelling.TextRefusal.{TextRefusal}
 use Rattle.mcs_shell.specs.Inputs.{Input, Line, Text, BadText}
 use Rattle.mcs_shell.specs.RefusalNumbers.{text_fault_number}
-use Rattle.mcs_shell.specs.Spelling.{Spelled, Does, Tells, spelled_by, text_refusal}
+use Rattle.mcs_shell.specs.Spelling.{TextMeaning, Does, Tells, meaning_of_text, text_refusal}
 
 -- ---- one input
 
 -- the command that a text asks for, if any
-abbrev pub text_command : Result Spelled TextRefusal → Option Command
+abbrev pub text_command : Result TextMeaning TextRefusal → Option Command
 text_command (Ok (Does c)) = Some c
 text_command r = None
 
 -- the command that an input asks for, if any
 abbrev pub asked_command : Input → Option Command
 asked_command (Line (Change c)) = Some c
-asked_command (Text kind text) = text_command (spelled_by kind text)
+asked_command (Text kind text) = text_command (meaning_of_text kind text)
 asked_command i = None
 
 -- that command as a list: empty where there is none or the state refuses it
@@ -47,16 +47,16 @@ takes_memory i = false
 
 -- What may come of an input: the state gave the answer; or its command was accepted, and the device
 -- failed as it was recorded; or its command met a closed session; or memory for it was refused.
-unfoldable pub MayEnd : Standing → Input → Outcome → Type 0
-MayEnd m i Plain = (asked_command i ≡ None) ⊎ (m.live ≡ true)
-MayEnd m i Device = (accepted_commands m.state (asked_command i) ≢ []) × (m.live ≡ true)
-MayEnd m i Closed = (asked_command i ≢ None) × (m.live ≡ false)
-MayEnd m i NoMemory = takes_memory i ≡ true
+unfoldable pub IsPossibleOutcome : SessionBench → Input → Outcome → Type 0
+IsPossibleOutcome m i Plain = (asked_command i ≡ None) ⊎ (m.live ≡ true)
+IsPossibleOutcome m i Device = (accepted_commands m.state (asked_command i) ≢ []) × (m.live ≡ true)
+IsPossibleOutcome m i Closed = (asked_command i ≢ None) × (m.live ≡ false)
+IsPossibleOutcome m i NoMemory = takes_memory i ≡ true
 
 -- the command that was answered `ok`, if any
-unfoldable pub commands : BenchState → Input → Outcome → List Command
-commands s i Plain = accepted_commands s (asked_command i)
-commands s i o = []
+unfoldable pub acknowledged_commands : BenchState → Input → Outcome → List Command
+acknowledged_commands s i Plain = accepted_commands s (asked_command i)
+acknowledged_commands s i o = []
 
 -- the command that may have reached the disk, if any: it was answered `ok` or `no 53`
 unfoldable pub reached_commands : BenchState → Input → Outcome → List Command
@@ -74,10 +74,10 @@ change_answer s c =
 
 -- the answer that the state gives to a text: to the command that it spells, the lines that it comes
 -- to, or why it spells nothing
-abbrev pub spelled_answer : BenchState → Result Spelled TextRefusal → List ℕ
-spelled_answer s (Ok (Does c)) = change_answer s c
-spelled_answer s (Ok (Tells lines)) = lines
-spelled_answer s (Err why) = text_refusal why
+abbrev pub meaning_answer : BenchState → Result TextMeaning TextRefusal → List ℕ
+meaning_answer s (Ok (Does c)) = change_answer s c
+meaning_answer s (Ok (Tells lines)) = lines
+meaning_answer s (Err why) = text_refusal why
 
 -- the answer that the state gives to an input
 abbrev pub plain_answer : BenchState → Input → List ℕ
@@ -88,7 +88,7 @@ plain_answer s (Line (Ask query)) = query_answer query s
 plain_answer s (Line (Listing at lines)) = listing_answer at lines s
 plain_answer s (Line Board) = board_answer s
 plain_answer s (Line (Change c)) = change_answer s c
-plain_answer s (Text kind text) = spelled_answer s (spelled_by kind text)
+plain_answer s (Text kind text) = meaning_answer s (meaning_of_text kind text)
 plain_answer s (BadText fault) = no_text (text_fault_number fault)
 
 -- the answer to an input
@@ -111,13 +111,13 @@ abbrev pub inputs_in : List Step → List Input
 inputs_in met = map (λ (x : Step). x.input) met
 
 -- What each input gives by the state that it meets, in turn: `in_turn answer` are the answers,
--- `in_turn commands` the commands answered `ok`, and `in_turn reached_commands` those that may have reached
--- the disk.
+-- `in_turn acknowledged_commands` the commands answered `ok`, and `in_turn reached_commands` those
+-- that may have reached the disk.
 abbrev pub in_turn : {A : Type 0} → (BenchState → Input → Outcome → List A) → BenchState
     → List Step → List A
 in_turn f s [] = []
 in_turn f s (x ∷ rest) =
-    f s x.input x.outcome ++ in_turn f (fold s (commands s x.input x.outcome)) rest
+    f s x.input x.outcome ++ in_turn f (fold s (acknowledged_commands s x.input x.outcome)) rest
 
 -- the end that an answer makes, which went out whole or not, if it makes one
 abbrev pub halt_of : Bool → Outcome → Option ShellEnd
@@ -131,14 +131,14 @@ halt_after [] = None
 halt_after (x ∷ rest) = option_or (halt_of x.whole x.outcome) (halt_after rest)
 
 -- whether the device failed
-abbrev pub is_device : Outcome → Bool
-is_device Device = true
-is_device o = false
+abbrev pub is_device_fault : Outcome → Bool
+is_device_fault Device = true
+is_device_fault o = false
 
 -- each outcome is one that may come of its input in its turn, and the shell goes on after each but
 -- the last
-abbrev pub MayMeet : Standing → List Step → Type 0
-MayMeet m [] = Unit {0}
-MayMeet m (x ∷ rest) =
-    MayEnd m x.input x.outcome × (rest ≢ [] → halt_of x.whole x.outcome ≡ None)
-    × MayMeet (standing_after m (commands m.state x.input x.outcome)) rest
+abbrev pub ArePossibleSteps : SessionBench → List Step → Type 0
+ArePossibleSteps m [] = Unit {0}
+ArePossibleSteps m (x ∷ rest) =
+    IsPossibleOutcome m x.input x.outcome × (rest ≢ [] → halt_of x.whole x.outcome ≡ None)
+    × ArePossibleSteps (bench_after m (acknowledged_commands m.state x.input x.outcome)) rest

@@ -3,7 +3,7 @@ ghost use Rattle.std.specs.Prelude.{◌≡◌, ◌≤◌, ◌++◌, [], length, 
 ghost use Rattle.std.specs.Io.KnownBytes.{Appends};
 ghost use Rattle.std.specs.Fmt.{decimal};
 ghost use Rattle.mcs_answers.specs.AnswerTexts.{board_answer, line_feed, listing_answer, no_text, ok_text, query_answer};
-ghost use Rattle.mcs_shell.specs.Serving.{GotSome};
+ghost use Rattle.mcs_shell.specs.Serving.{GotFirstBytes};
 ghost use Rattle.mcs_shell.specs.Spelling.{text_refusal};
 
 use crate::sending::{WriteStopped, send, send_two};
@@ -135,7 +135,7 @@ impl Answer {
         ensures ok { OnOk result
             (Appends (W.contents writer.old) (W.contents writer.new) self.now) }
         ensures err { OnErr result
-            (GotSome (W.contents writer.old) (W.contents writer.new) self.now) }
+            (GotFirstBytes (W.contents writer.old) (W.contents writer.new) self.now) }
     {
         match &self.long {
             None => send(writer, self.short.as_slice()),

@@ -3,14 +3,14 @@ ghost use Rattle.std.specs.Prelude.{◌≡◌, [], OnErr, OnOk};
 ghost use Rattle.mcs_answers.specs.AnswerTexts.{no_text};
 ghost use Rattle.mcs_lines.specs.declared.requests.Request.TheVariants.{Change};
 ghost use Rattle.mcs_model.specs.declared.refusal_numbers.TheConstants.{NO_MEMORY};
-ghost use Rattle.mcs_session.specs.Standing.{session_state};
+ghost use Rattle.mcs_session.specs.SessionState.{session_state};
 ghost use Rattle.mcs_shell.specs.Inputs.{Line, judged_text};
-ghost use Rattle.mcs_shell.specs.Serving.{Answered, outcome_of};
+ghost use Rattle.mcs_shell.specs.Serving.{AnsweredInput, outcome_of};
 
 use crate::answer::Answer;
 use crate::faults::session_number;
 use crate::outcome::Outcome;
-use crate::spelling::{Spelled, read_text};
+use crate::spelling::{TextMeaning, read_text};
 use crate::texts::{as_text, text_fault};
 use mcs_disk::Disk;
 use mcs_lines::requests::{Request, TextKind};
@@ -37,7 +37,7 @@ fn answer_change<D: Disk + Drop>(
     session: &mut Session<D>,
     answer: &mut Answer,
 ) -> Outcome
-    ensures { Answered (session_state D.state session.old) (Line (Change command.now)) result
+    ensures { AnsweredInput (session_state D.state session.old) (Line (Change command.now)) result
         answer.new (session_state D.state session.new) }
 {
     match session.apply(command) {
@@ -76,7 +76,7 @@ pub(crate) fn answer_request<D: Disk + Drop>(
     answer: &mut Answer,
 ) -> Outcome
     requires { answer.old ≡ [] }
-    ensures { Answered (session_state D.state session.old) (Line request.now) result
+    ensures { AnsweredInput (session_state D.state session.old) (Line request.now) result
         answer.new (session_state D.state session.new) }
 {
     match request {
@@ -110,7 +110,7 @@ pub(crate) fn answer_text<D: Disk + Drop>(
     session: &mut Session<D>,
     answer: &mut Answer,
 ) -> Outcome
-    ensures { Answered (session_state D.state session.old) (judged_text kind text.now) result
+    ensures { AnsweredInput (session_state D.state session.old) (judged_text kind text.now) result
         answer.new (session_state D.state session.new) }
 {
     if let Some(fault) = text_fault(text) {
@@ -118,8 +118,8 @@ pub(crate) fn answer_text<D: Disk + Drop>(
         return Outcome::Plain;
     }
     match read_text(alloc, kind, as_text(text)) {
-        Ok(Ok(Spelled::Does(command))) => answer_change(&command, session, answer),
-        Ok(Ok(Spelled::Tells(lines))) => {
+        Ok(Ok(TextMeaning::Does(command))) => answer_change(&command, session, answer),
+        Ok(Ok(TextMeaning::Tells(lines))) => {
             answer.tell_lines(lines);
             Outcome::Plain
         }

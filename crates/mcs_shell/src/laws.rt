@@ -7,26 +7,27 @@ ghost use Rattle.mcs_lines.specs.declared.requests.TextKind.{TextKind};
 ghost use Rattle.mcs_lines.specs.declared.requests.TextKind.TheVariants.{Asm, Map};
 ghost use Rattle.mcs_shell.specs.declared.spelling.TextRefusal.{TextRefusal};
 ghost use Rattle.mcs_shell.specs.declared.texts.TextFault.TheVariants.{NoEnd};
-ghost use Rattle.mcs_shell.specs.Inputs.{BadText, Commands, Text, group, is_dot_line, judged_text};
-ghost use Rattle.mcs_shell.specs.Spelling.{spelled_by};
+ghost use Rattle.mcs_shell.specs.Inputs.{BadText, Commands, Text, inputs_of_lines, is_dot_line, judged_text};
+ghost use Rattle.mcs_shell.specs.Spelling.{meaning_of_text};
 ghost use Rattle.mcs_shell.specs.Transcript.{asked_command};
 
-/// A line that begins a text, lines of which none is a dot, and a dot: they are one input, whose text
-/// is those lines, each followed by a line feed, and the lines after it are judged as if nothing had
-/// come before. Without a dot it is refused where input ended.
+/// A line that begins a text, lines of which none is a dot, and a dot: they are one input, whose
+/// text is those lines, each followed by a line feed, and the lines after it are judged as if
+/// nothing had come before. Without a dot it is refused where input ended.
 pub fn a_text_ends_at_a_dot()
     ensures ended { (whole : Bool) (kind : TextKind) (line : List ℕ) (text rest : List (List ℕ))
         → request_of line ≡ Begin kind → list_any is_dot_line text ≡ false
-        → group whole Commands (line ∷ (text ++ codes "." ∷ rest))
-        ≡ judged_text kind (flat_map (λ l. l ++ 10 ∷ []) text) ∷ group whole Commands rest }
+        → inputs_of_lines whole Commands (line ∷ (text ++ codes "." ∷ rest))
+        ≡ judged_text kind (flat_map (λ l. l ++ 10 ∷ []) text)
+        ∷ inputs_of_lines whole Commands rest }
     ensures open { (kind : TextKind) (line : List ℕ) (text : List (List ℕ))
         → request_of line ≡ Begin kind → list_any is_dot_line text ≡ false
-        → group true Commands (line ∷ text) ≡ BadText NoEnd ∷ [] }
+        → inputs_of_lines true Commands (line ∷ text) ≡ BadText NoEnd ∷ [] }
 {}
 
 /// A map asks for no command, and it is refused where the program would be, for the same reason.
 pub fn a_map_only_tells()
     ensures asks { (text : List ℕ) → asked_command (Text Map text) ≡ None }
     ensures refused { (text : List ℕ) (why : TextRefusal)
-        → (spelled_by Map text ≡ Err why) ↔ (spelled_by Asm text ≡ Err why) }
+        → (meaning_of_text Map text ≡ Err why) ↔ (meaning_of_text Asm text ≡ Err why) }
 {}

@@ -1,22 +1,22 @@
-//! The program: its words, its file, its session, its shell, its exit status.
+//! The program: its arguments, its file, its session, its shell, its exit status.
 ghost use Rattle.std.specs.Prelude.{◌≡◌, ◌⊎◌, IfOk, IfErr, IfSome, IfNone, IsSomeAnd, OnErr, None, true, map};
 ghost use Rattle.std.specs.Process.{exit_status};
-ghost use Rattle.mcs_host.specs.CommandLine.{choice_in, takes_words};
+ghost use Rattle.mcs_host.specs.CommandLine.{choice_in, takes_arguments};
 ghost use Rattle.mcs_host.specs.Ending.{as_disk};
 ghost use Rattle.mcs_host.specs.FileDisk.{IsOpened};
 ghost use Rattle.mcs_host.specs.declared.file_disk.FileDisk.{FileDisk};
 ghost use Rattle.mcs_host.specs.declared.file_fault.FileFault.{FileFault};
-ghost use Rattle.mcs_shell.specs.Program.{IsBegunOn, IsRefusedWith, RanToStatus, ServedAsChosen, ServedBySomeWords, ServedTo};
-ghost use Rattle.mcs_shell.specs.Shell.{Ran};
+ghost use Rattle.mcs_shell.specs.Program.{IsBegunOn, IsRefusedWith, RanWithStatus, ServedChosenSession, ServedBySomeArguments, ServedSession};
+ghost use Rattle.mcs_shell.specs.Shell.{RanShell};
 ghost use Rattle.mcs_shell.specs.RefusalNumbers.{refusal_number};
-ghost use Rattle.mcs_shell.specs.Stage.{stage_of};
+ghost use Rattle.mcs_shell.specs.ShellState.{shell_state};
 
 use crate::ends::{ShellEnd, status};
 use crate::refusal::Refusal;
 use crate::shell::run_shell;
 use crate::telling::{tell_end, tell_no_memory, tell_refusal, tell_usage};
 use mcs_disk::Disk;
-use mcs_host::{Choice, FileDisk, FileFault, WordsFault, choice};
+use mcs_host::{ArgumentsFault, Choice, FileDisk, FileFault, choice};
 use mcs_model::refusal_numbers;
 use mcs_session::session::Session;
 use std::alloc::Global;
@@ -25,19 +25,19 @@ use std::env;
 use std::io::{self, ErrorKind, Read, Write};
 use std::process::ExitCode;
 
-/// The exit status where the words are none of the program's.
-const WRONG_WORDS: u8 = 2;
+/// The exit status where the arguments are none of the program's.
+const WRONG_ARGUMENTS: u8 = 2;
 
 /// The exit status where the session is refused.
 const REFUSED: u8 = 3;
 
-/// The words of the command line, the program's name first. Those that are no text are none of the
-/// program's.
-fn given_words(rt: &HostRuntime) -> Result<Vec<String>, WordsFault> {
+/// The arguments of the command line, the program's name first. Those that are no text are none of
+/// the program's.
+fn given_arguments(rt: &HostRuntime) -> Result<Vec<String>, ArgumentsFault> {
     match env::args(rt) {
-        Ok(words) => Ok(words.collect(rt.alloc())?),
-        Err(error) if error.kind() == ErrorKind::InvalidData => Err(WordsFault::Usage),
-        Err(_) => Err(WordsFault::NoMemory),
+        Ok(arguments) => Ok(arguments.collect(rt.alloc())?),
+        Err(error) if error.kind() == ErrorKind::InvalidData => Err(ArgumentsFault::Usage),
+        Err(_) => Err(ArgumentsFault::NoMemory),
     }
 }
 
@@ -49,19 +49,19 @@ pub fn refuse(rt: &HostRuntime, number: u8) -> io::Result<ExitCode>
     Ok(ExitCode::from(REFUSED))
 }
 
-/// Tells that the words choose nothing, or that there was no memory to read them.
-pub fn refuse_words(rt: &HostRuntime, fault: WordsFault) -> io::Result<ExitCode>
-    ensures usage { fault ≡ WordsFault.Usage
+/// Tells that the arguments choose nothing, or that there was no memory to read them.
+pub fn refuse_arguments(rt: &HostRuntime, fault: ArgumentsFault) -> io::Result<ExitCode>
+    ensures usage { fault ≡ ArgumentsFault.Usage
         → IfOk result (λ code. exit_status code ≡ 2) }
-    ensures no_memory { fault ≡ WordsFault.NoMemory
+    ensures no_memory { fault ≡ ArgumentsFault.NoMemory
         → IfOk result (λ code. exit_status code ≡ 3) }
 {
     match fault {
-        WordsFault::Usage => {
+        ArgumentsFault::Usage => {
             tell_usage(rt)?;
-            Ok(ExitCode::from(WRONG_WORDS))
+            Ok(ExitCode::from(WRONG_ARGUMENTS))
         }
-        WordsFault::NoMemory => {
+        ArgumentsFault::NoMemory => {
             let refused = refuse(rt, refusal_numbers::NO_MEMORY);
             tell_no_memory(rt);
             refused
@@ -123,14 +123,14 @@ pub fn serve<R: Read, W: Write, D: Disk + Drop>(
     session: &mut Session<D>,
     file: &str,
 ) -> io::Result<ExitCode>
-    ensures ran { IfOk result (λ code. RanToStatus (exit_status code)
+    ensures ran { IfOk result (λ code. RanWithStatus (exit_status code)
         (R.remaining reader.old) (R.remaining reader.new)
-        (stage_of D.state session.old (W.contents writer.old))
-        (stage_of D.state session.new (W.contents writer.new))) }
-    ensures untold { OnErr result (Ran ShellEnd.NoMemory
+        (shell_state D.state session.old (W.contents writer.old))
+        (shell_state D.state session.new (W.contents writer.new))) }
+    ensures untold { OnErr result (RanShell ShellEnd.NoMemory
         (R.remaining reader.old) (R.remaining reader.new)
-        (stage_of D.state session.old (W.contents writer.old))
-        (stage_of D.state session.new (W.contents writer.new))) }
+        (shell_state D.state session.old (W.contents writer.old))
+        (shell_state D.state session.new (W.contents writer.new))) }
 {
     let end = run_shell(rt.alloc(), reader, writer, session);
     let left = match end {
@@ -160,7 +160,7 @@ pub fn serve_begun<R: Read, W: Write, D: Disk + Drop>(
     begun: Result<Session<D>, Refusal>,
 ) -> Ended<D>
     ensures served { IfOk begun (λ before. IsSomeAnd result.session (λ after.
-        ServedTo D.state result.status (R.remaining reader.old) (R.remaining reader.new)
+        ServedSession D.state result.status (R.remaining reader.old) (R.remaining reader.new)
         (W.contents writer.old) (W.contents writer.new) before after)) }
     ensures refused { OnErr begun (IfOk result.status (λ code. exit_status code ≡ 3)) }
     ensures unserved { OnErr begun (result.session ≡ None) }
@@ -186,19 +186,20 @@ pub fn serve_begun<R: Read, W: Write, D: Disk + Drop>(
     }
 }
 
-/// Runs the bench by these words, the program's name first, over a reader and a writer: session,
-/// shell, exit status. Without a session the status is 2 or 3, and nothing was read or answered.
-pub fn run_words<S: AsStr, R: Read, W: Write>(
+/// Runs the bench by these arguments, the program's name first, over a reader and a writer:
+/// session, shell, exit status. Without a session the status is 2 or 3, and nothing was read or
+/// answered.
+pub fn run_arguments<S: AsStr, R: Read, W: Write>(
     rt: &HostRuntime,
-    words: &[S],
+    arguments: &[S],
     reader: &mut R,
     writer: &mut W,
 ) -> Ended<FileDisk>
     ensures usage { IfOk result.status (λ code. exit_status code ≡ 2
-        → takes_words (map S.text words.entry.now) ≡ true
-        → choice_in (map S.text words.entry.now) ≡ None) }
-    ensures served { IfSome result.session (λ after. ServedAsChosen as_disk
-        (choice_in (map S.text words.entry.now)) result.status
+        → takes_arguments (map S.text arguments.entry.now) ≡ true
+        → choice_in (map S.text arguments.entry.now) ≡ None) }
+    ensures served { IfSome result.session (λ after. ServedChosenSession as_disk
+        (choice_in (map S.text arguments.entry.now)) result.status
         (R.remaining reader.old) (R.remaining reader.new)
         (W.contents writer.old) (W.contents writer.new) after) }
     ensures unserved { IfNone result.session (IfOk result.status (λ code.
@@ -208,11 +209,11 @@ pub fn run_words<S: AsStr, R: Read, W: Write>(
     ensures unwritten { IfNone result.session
         (W.contents writer.new ≡ W.contents writer.old) }
 {
-    let choice = match choice(rt.alloc(), words) {
+    let choice = match choice(rt.alloc(), arguments) {
         Ok(choice) => choice,
         Err(fault) => {
             return Ended {
-                status: refuse_words(rt, fault),
+                status: refuse_arguments(rt, fault),
                 session: None,
             };
         }
@@ -221,21 +222,21 @@ pub fn run_words<S: AsStr, R: Read, W: Write>(
     serve_begun(rt, reader, writer, &choice, begun)
 }
 
-/// Runs the bench by the words of the command line, over standard input and standard output. It
+/// Runs the bench by the arguments of the command line, over standard input and standard output. It
 /// hands the session back, so that nothing was done to it since its shell ended.
 pub fn run_program(rt: &HostRuntime) -> Ended<FileDisk>
     ensures served { IfSome result.session (λ after.
-        ServedBySomeWords as_disk result.status after) }
+        ServedBySomeArguments as_disk result.status after) }
     ensures unserved { IfNone result.session (IfOk result.status (λ code.
         (exit_status code ≡ 2) ⊎ (exit_status code ≡ 3))) }
 {
-    match given_words(rt) {
-        Ok(words) => {
+    match given_arguments(rt) {
+        Ok(arguments) => {
             let (input, output) = (&mut rt.stdin(), &mut rt.stdout());
-            run_words(rt, words.as_slice(), input, output)
+            run_arguments(rt, arguments.as_slice(), input, output)
         }
         Err(fault) => Ended {
-            status: refuse_words(rt, fault),
+            status: refuse_arguments(rt, fault),
             session: None,
         },
     }

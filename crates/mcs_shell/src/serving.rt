@@ -4,10 +4,10 @@ ghost use Rattle.std.specs.Result.{result_err};
 ghost use Rattle.mcs_shell.specs.declared.texts.TextFault.TheVariants.{NoEnd};
 ghost use Rattle.mcs_shell.specs.LineFeeds.{HasNoFeed};
 ghost use Rattle.mcs_shell.specs.Inputs.{BadText, Line, judged_text};
-ghost use Rattle.mcs_shell.specs.Stage.{stage_of};
-ghost use Rattle.mcs_shell.specs.Serving.{Feeds, Meets, Wrote};
+ghost use Rattle.mcs_shell.specs.ShellState.{shell_state};
+ghost use Rattle.mcs_shell.specs.Serving.{ServesBytes, ServesInputs, WroteBytes};
 ghost use Rattle.mcs_shell.specs.Transcript.{halt_of};
-ghost use Rattle.mcs_session.specs.Kept.{IsIntact};
+ghost use Rattle.mcs_session.specs.KeptCommands.{IsIntact};
 
 use crate::answer::Answer;
 use crate::answering::{answer_request, answer_text};
@@ -25,7 +25,8 @@ use std::io::Write;
 
 /// Writes the answer to an input that met this outcome.
 fn deliver<W: Write>(outcome: Outcome, answer: &Answer, writer: &mut W) -> Result<(), ShellEnd>
-    ensures { (whole : Bool) × Wrote whole (W.contents writer.old) (W.contents writer.new) answer.now
+    ensures { (whole : Bool)
+        × WroteBytes whole (W.contents writer.old) (W.contents writer.new) answer.now
         × (result_err result ≡ halt_of whole outcome) }
 {
     match answer.send(writer) {
@@ -44,9 +45,9 @@ fn serve_request<W: Write, D: Disk + Drop>(
     writer: &mut W,
     session: &mut Session<D>,
 ) -> Result<(), ShellEnd>
-    ensures { Meets IsIntact (Line request ∷ [])
-        (stage_of D.state session.old (W.contents writer.old))
-        (stage_of D.state session.new (W.contents writer.new)) (result_err result) }
+    ensures { ServesInputs IsIntact (Line request ∷ [])
+        (shell_state D.state session.old (W.contents writer.old))
+        (shell_state D.state session.new (W.contents writer.new)) (result_err result) }
 {
     let mut answer = Answer::new();
     let outcome = answer_request(alloc, &request, session, &mut answer);
@@ -61,9 +62,9 @@ fn serve_text<W: Write, D: Disk + Drop>(
     writer: &mut W,
     session: &mut Session<D>,
 ) -> Result<(), ShellEnd>
-    ensures { Meets IsIntact (judged_text kind text.now ∷ [])
-        (stage_of D.state session.old (W.contents writer.old))
-        (stage_of D.state session.new (W.contents writer.new)) (result_err result) }
+    ensures { ServesInputs IsIntact (judged_text kind text.now ∷ [])
+        (shell_state D.state session.old (W.contents writer.old))
+        (shell_state D.state session.new (W.contents writer.new)) (result_err result) }
 {
     let mut answer = Answer::new();
     let outcome = answer_text(alloc, kind, text, session, &mut answer);
@@ -75,9 +76,9 @@ pub(crate) fn serve_no_end<W: Write, D: Disk + Drop>(
     writer: &mut W,
     session: &mut Session<D>,
 ) -> Result<(), ShellEnd>
-    ensures { Meets IsIntact (BadText NoEnd ∷ [])
-        (stage_of D.state session.old (W.contents writer.old))
-        (stage_of D.state session.new (W.contents writer.new)) (result_err result) }
+    ensures { ServesInputs IsIntact (BadText NoEnd ∷ [])
+        (shell_state D.state session.old (W.contents writer.old))
+        (shell_state D.state session.new (W.contents writer.new)) (result_err result) }
 {
     let mut answer = Answer::new();
     answer.tell_refusal(TextFault::NoEnd.number());
@@ -92,8 +93,8 @@ pub(crate) fn end_line<W: Write, D: Disk + Drop>(
     session: &mut Session<D>,
 ) -> Result<(), ShellEnd>
     requires { HasNoFeed unfinished.old.line }
-    ensures fed { Feeds (stage_of D.state session.old (W.contents writer.old))
-        (stage_of D.state session.new (W.contents writer.new))
+    ensures fed { ServesBytes (shell_state D.state session.old (W.contents writer.old))
+        (shell_state D.state session.new (W.contents writer.new))
         unfinished.old unfinished.new (10 ∷ []) (result_err result) }
     ensures empty { OnOk result (length unfinished.new.line ≡ 0) }
 {
@@ -151,8 +152,8 @@ pub(crate) fn serve_chunk<W: Write, D: Disk + Drop>(
     session: &mut Session<D>,
 ) -> Result<(), ShellEnd>
     requires { HasNoFeed unfinished.old.line }
-    ensures { Feeds (stage_of D.state session.old (W.contents writer.old))
-        (stage_of D.state session.new (W.contents writer.new))
+    ensures { ServesBytes (shell_state D.state session.old (W.contents writer.old))
+        (shell_state D.state session.new (W.contents writer.new))
         unfinished.old unfinished.new chunk.now (result_err result) }
 {
     let mut rest = chunk;

@@ -3,11 +3,11 @@ ghost use Rattle.std.specs.Prelude.{◌≡◌, ◌<◌, ◌≤◌, [], true, tak
 ghost use Rattle.std.specs.Result.{result_err};
 ghost use Rattle.std.specs.Io.KnownBytes.{Keeps};
 ghost use Rattle.mcs_shell.specs.LineFeeds.{HasNoFeed};
-ghost use Rattle.mcs_shell.specs.Stage.{stage_of};
-ghost use Rattle.mcs_shell.specs.Shell.{Ran, RanGiven, ReadSome};
-ghost use Rattle.mcs_shell.specs.Serving.{Meets};
+ghost use Rattle.mcs_shell.specs.ShellState.{shell_state};
+ghost use Rattle.mcs_shell.specs.Shell.{RanShell, RanShellGiven, ReadBytes};
+ghost use Rattle.mcs_shell.specs.Serving.{ServesInputs};
 ghost use Rattle.mcs_shell.specs.Inputs.{inputs_after};
-ghost use Rattle.mcs_session.specs.Kept.{IsIntact};
+ghost use Rattle.mcs_session.specs.KeptCommands.{IsIntact};
 
 use crate::answer::Answer;
 use crate::ends::ShellEnd;
@@ -31,7 +31,7 @@ fn read_some<R: Read>(reader: &mut R, buffer: &mut [u8], most: usize) -> Result<
     requires some { 0 < most }
     requires room { most ≤ length buffer.old }
     ensures ok { IfOk result (λ n.
-        ReadSome n most (R.remaining reader.old) (R.remaining reader.new) (take n buffer.new)) }
+        ReadBytes n most (R.remaining reader.old) (R.remaining reader.new) (take n buffer.new)) }
     ensures err { OnErr result (Keeps (R.remaining reader.old) (R.remaining reader.new)) }
 {
     match reader.read(&mut buffer[..most]) {
@@ -47,9 +47,9 @@ fn finish_text<W: Write, D: Disk + Drop>(
     session: &mut Session<D>,
 ) -> Result<(), ShellEnd>
     requires { length unfinished.now.line ≡ 0 }
-    ensures { Meets IsIntact (inputs_after unfinished.now [] true)
-        (stage_of D.state session.old (W.contents writer.old))
-        (stage_of D.state session.new (W.contents writer.new)) (result_err result) }
+    ensures { ServesInputs IsIntact (inputs_after unfinished.now [] true)
+        (shell_state D.state session.old (W.contents writer.old))
+        (shell_state D.state session.new (W.contents writer.new)) (result_err result) }
 {
     match unfinished.text() {
         None => Ok(()),
@@ -65,9 +65,9 @@ fn finish<W: Write, D: Disk + Drop>(
     session: &mut Session<D>,
 ) -> Result<(), ShellEnd>
     requires { HasNoFeed unfinished.old.line }
-    ensures { Meets IsIntact (inputs_after unfinished.old [] true)
-        (stage_of D.state session.old (W.contents writer.old))
-        (stage_of D.state session.new (W.contents writer.new)) (result_err result) }
+    ensures { ServesInputs IsIntact (inputs_after unfinished.old [] true)
+        (shell_state D.state session.old (W.contents writer.old))
+        (shell_state D.state session.new (W.contents writer.new)) (result_err result) }
 {
     if unfinished.line().is_empty() {
         return finish_text(unfinished, writer, session);
@@ -88,9 +88,9 @@ fn run_loop<R: Read, W: Write, D: Disk + Drop>(
 ) -> ShellEnd
     requires some { 0 < length buffer.old }
     requires chunk { length buffer.old ≤ CHUNK_BYTES }
-    ensures { RanGiven IsIntact [] result (R.remaining reader.old) (R.remaining reader.new)
-        (stage_of D.state session.old (W.contents writer.old))
-        (stage_of D.state session.new (W.contents writer.new)) }
+    ensures { RanShellGiven IsIntact [] result (R.remaining reader.old) (R.remaining reader.new)
+        (shell_state D.state session.old (W.contents writer.old))
+        (shell_state D.state session.new (W.contents writer.new)) }
 {
     let mut unfinished = Unfinished::new();
     let mut total = 0;
@@ -131,9 +131,9 @@ pub fn run_shell<R: Read, W: Write, D: Disk + Drop>(
     writer: &mut W,
     session: &mut Session<D>,
 ) -> ShellEnd
-    ensures { Ran result (R.remaining reader.old) (R.remaining reader.new)
-        (stage_of D.state session.old (W.contents writer.old))
-        (stage_of D.state session.new (W.contents writer.new)) }
+    ensures { RanShell result (R.remaining reader.old) (R.remaining reader.new)
+        (shell_state D.state session.old (W.contents writer.old))
+        (shell_state D.state session.new (W.contents writer.new)) }
 {
     let seq = session.bench().seq();
     let Ok(mut buffer) = vec![in alloc; 0u8; CHUNK_BYTES] else {

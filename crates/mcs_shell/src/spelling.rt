@@ -4,7 +4,7 @@ ghost use Rattle.std.specs.Result.{result_map_both};
 ghost use Rattle.mcs_source.specs.Assembly.{assembly_of_text};
 ghost use Rattle.mcs_wiring.specs.Wiring.{board_of_text};
 ghost use Rattle.mcs_source.specs.Survey.{survey_of_text};
-ghost use Rattle.mcs_shell.specs.Spelling.{Tells, load_command, program_map, spelled_by, spelled_view, wire_command};
+ghost use Rattle.mcs_shell.specs.Spelling.{Tells, load_command, program_map, meaning_of_text, meaning_view, wire_command};
 
 use mcs_asm::{FaultKind, SourceFault, assemble, survey, survey_text};
 use mcs_lines::requests::TextKind;
@@ -27,7 +27,7 @@ pub enum TextRefusal {
 
 /// What a text comes to.
 #[derive(Drop)]
-pub enum Spelled {
+pub enum TextMeaning {
     /// A command, which is done.
     Does(Command),
     /// Lines, each with its line feed, which are told while nothing is done.
@@ -63,7 +63,8 @@ fn read_program(alloc: Global, text: &str) -> Result<Result<Command, TextRefusal
 /// The map of a program, or why the text is none. It fails where memory is refused.
 fn read_map(alloc: Global, text: &str) -> Result<Result<Vec<u8>, TextRefusal>, AllocError>
     ensures { IfOk result (λ told.
-        result_map_both (λ lines. Tells lines.items) (λ why. why) told ≡ program_map (survey_of_text text.now)) }
+        result_map_both (λ lines. Tells lines.items) (λ why. why) told
+        ≡ program_map (survey_of_text text.now)) }
 {
     match survey(alloc, text) {
         Ok(survey) => Ok(Ok(survey_text(alloc, &survey)?)),
@@ -75,18 +76,18 @@ fn read_map(alloc: Global, text: &str) -> Result<Result<Vec<u8>, TextRefusal>, A
 }
 
 /// What a text comes to, or why it spells nothing. It fails where memory is refused.
-#[tactic(auto, unfolding(crate::specs::Spelling::spelled_by))]
+#[tactic(auto, unfolding(crate::specs::Spelling::meaning_of_text))]
 pub fn read_text(
     alloc: Global,
     kind: TextKind,
     text: &str,
-) -> Result<Result<Spelled, TextRefusal>, AllocError>
+) -> Result<Result<TextMeaning, TextRefusal>, AllocError>
     ensures { IfOk result (λ spelled.
-        result_map_both spelled_view (λ why. why) spelled ≡ spelled_by kind text.now) }
+        result_map_both meaning_view (λ why. why) spelled ≡ meaning_of_text kind text.now) }
 {
     match kind {
-        TextKind::Wire => Ok(read_board(alloc, text)?.map(Spelled::Does)),
-        TextKind::Asm => Ok(read_program(alloc, text)?.map(Spelled::Does)),
-        TextKind::Map => Ok(read_map(alloc, text)?.map(Spelled::Tells)),
+        TextKind::Wire => Ok(read_board(alloc, text)?.map(TextMeaning::Does)),
+        TextKind::Asm => Ok(read_program(alloc, text)?.map(TextMeaning::Does)),
+        TextKind::Map => Ok(read_map(alloc, text)?.map(TextMeaning::Tells)),
     }
 }

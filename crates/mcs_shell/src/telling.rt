@@ -7,8 +7,8 @@ use mcs_host::{Choice, FileFault};
 use mcs_journal::{CreateFault, OpenFault};
 use std::io;
 
-/// What wrong words get: what the words are, where the manual is, and the versions of the program
-/// and of its session files.
+/// What wrong arguments get: what the arguments are, where the manual is, and the versions of the
+/// program and of its session files.
 pub fn tell_usage(rt: &HostRuntime) -> io::Result<()> {
     eprintln!(rt; "usage: mcs4 new FILE or mcs4 open FILE")?;
     eprintln!(rt; "manual: docs/MANUAL.md in the folder that mcs4 was built in")?;
@@ -28,13 +28,13 @@ pub fn tell_refusal(rt: &HostRuntime, choice: &Choice, refusal: Refusal) {
         (_, Refusal::Create(CreateFault::NotBlank)) => eprintln!(rt;
             "mcs4: {file}: not blank, so no session is made in it; remove it, or go on with: mcs4 open {file}"
         ),
-        (_, refusal) => eprintln!(rt; "mcs4: {file}: {}", words_of(refusal)),
+        (_, refusal) => eprintln!(rt; "mcs4: {file}: {}", reason_of(refusal)),
     };
 }
 
 /// A line on a session that a fault ended, or nothing where it came to its end.
 pub fn tell_end(rt: &HostRuntime, file: &str, end: ShellEnd) {
-    let words = match end {
+    let reason = match end {
         ShellEnd::End => return,
         ShellEnd::ReadFault => "standard input could not be read; what was answered ok is kept",
         ShellEnd::WriteFault => "standard output took no more; what was answered ok is kept",
@@ -42,15 +42,15 @@ pub fn tell_end(rt: &HostRuntime, file: &str, end: ShellEnd) {
         ShellEnd::InputLimit => "no more than 16777216 bytes are read; open it again to go on",
         ShellEnd::NoMemory => "out of memory",
     };
-    let _ = eprintln!(rt; "mcs4: {file}: {words}");
+    let _ = eprintln!(rt; "mcs4: {file}: {reason}");
 }
 
-/// A line on words that there was no memory for.
+/// A line on arguments that there was no memory for.
 pub fn tell_no_memory(rt: &HostRuntime) {
     let _ = eprintln!(rt; "mcs4: out of memory");
 }
 
-fn words_of(refusal: Refusal) -> &'static str {
+fn reason_of(refusal: Refusal) -> &'static str {
     match refusal {
         Refusal::File(FileFault::InUse) => "in use by another program; wait until that has ended",
         Refusal::File(FileFault::NoLock) => {

@@ -3,8 +3,8 @@
 
 ghost use Rattle.std.specs.Prelude.{◌≡◌, length, true, false};
 ghost use Rattle.mcs_journal.specs.declared.format.TheConstants.{FILE_SIZE};
-ghost use Rattle.mcs_page.specs.Page.{IsNewFile, StandsForTheSame};
-ghost use Rattle.page.specs.Told.{TellsAndSettles, TellsOf, TellsWhatWouldBe, TellsWhyNot, count_told, number_told};
+ghost use Rattle.mcs_page.specs.Page.{IsNewFile, StandsForSameState};
+ghost use Rattle.page.specs.NumbersTold.{TellsAndSettles, TellsAnswers, TellsWhatItWouldAnswer, TellsWhyNot, count_told, number_told};
 ghost use Rattle.mcs_shell.specs.Shell.{exit_status_of};
 
 use mcs_page::fault::NotServed;
@@ -83,7 +83,7 @@ pub extern "C" fn page_serve(
     answers: &mut [u8],
     told: &mut Told,
 ) -> bool
-    ensures served { result ≡ true → TellsOf file.old input.now told.new.number told.new.count
+    ensures served { result ≡ true → TellsAnswers file.old input.now told.new.number told.new.count
         answers.old answers.new file.new }
     ensures refused { result ≡ false → TellsWhyNot file.old input.now told.new.number told.new.count
         (length answers.old) }
@@ -127,7 +127,7 @@ pub extern "C" fn page_ask(
     answers: &mut [u8],
     told: &mut Told,
 ) -> bool
-    ensures served { result ≡ true → TellsWhatWouldBe file.now input.now told.new.number
+    ensures served { result ≡ true → TellsWhatItWouldAnswer file.now input.now told.new.number
         told.new.count answers.old answers.new }
     ensures refused { result ≡ false → TellsWhyNot file.now input.now told.new.number told.new.count
         (length answers.old) }
@@ -143,7 +143,7 @@ pub extern "C" fn page_ask(
 /// bytes hold no session or there was no memory, and they stay.
 #[unsafe(no_mangle)]
 pub extern "C" fn page_settle(alloc: Global, file: &mut [u8]) -> bool
-    ensures settled { result ≡ true → StandsForTheSame file.old file.new }
+    ensures settled { result ≡ true → StandsForSameState file.old file.new }
     ensures stays { result ≡ false → file.new ≡ file.old }
 {
     settle(alloc, file).is_ok()

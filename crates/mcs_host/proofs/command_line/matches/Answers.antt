@@ -2,7 +2,7 @@ use Rattle.std.proofs.Common.{rules, ap, ap₂, refl, codes, true, map, ◌≡�
 use Rattle.std.proofs.lemmas.Result.{IfErr-weaker, IfOk-weaker}
 use Rattle.clap.specs.Words.{App, app_of, is_simple, rule_of, subcommand_of, takes, with_rule, with_subcommand}
 use Rattle.clap.proofs.OnLiterals.{clap_on_literals}
-use Rattle.mcs_host.specs.CommandLine.{file_rule, takes_words, over_file, program}
+use Rattle.mcs_host.specs.CommandLine.{file_rule, takes_arguments, over_file, program}
 use Rattle.mcs_host.proofs.command_line.matches.Goals as goal
 
 is_simple_program : is_simple program ≡ true
@@ -10,7 +10,7 @@ unfolding clap_on_literals
 is_simple_program = refl
 
 pub returns : goal.returns
-unfolding takes_words
+unfolding takes_arguments
 returns g c =
     let new_file_is : rule_of c.required-new_file.result ≡ file_rule = search rules in
     let open_file_is : rule_of c.required-open_file.result ≡ file_rule = search rules in
@@ -20,9 +20,9 @@ returns g c =
     ∙ ap₂ with_rule c.new-4.ensures.app open_file_is in
     let program_is : app_of c.in_ok-with_both.with_both ≡ program = c.in_ok-with_both.ensures.shape (search rules)
     ∙ ap₂ with_subcommand (c.in_ok-with_new.ensures.shape (search rules) ∙ ap₂ with_subcommand c.new-bench.ensures.app (ap (λ (a : App). a.top) making_is)) (ap (λ (a : App). a.top) opening_is) in
-    let words = map g.S.AsStr.text c.args.words.now in
+    let arguments = map g.S.AsStr.text c.args.arguments.now in
     let parse = c.try_get_matches_from in
     record {
-      ok = IfOk-weaker parse.result _ _ (λ m h. (h (ap is_simple program_is ∙ is_simple_program)).1 ∙ ap (λ (a : App). subcommand_of a words) program_is) parse.ensures.matches;
-      err = IfErr-weaker parse.result _ _ (λ e h taken. h (ap (λ (a : App). takes a words) program_is ∙ taken)) parse.ensures.passes;
+      ok = IfOk-weaker parse.result _ _ (λ m h. (h (ap is_simple program_is ∙ is_simple_program)).1 ∙ ap (λ (a : App). subcommand_of a arguments) program_is) parse.ensures.matches;
+      err = IfErr-weaker parse.result _ _ (λ e h taken. h (ap (λ (a : App). takes a arguments) program_is ∙ taken)) parse.ensures.passes;
     }

@@ -1,5 +1,5 @@
 use Rattle.std.proofs.Common.{◌∙◌, ℕ, List, length, ap, refl}
-use Rattle.mcs_page.proofs.Served.{answers_of}
+use Rattle.mcs_page.proofs.FrontOfBuffer.{answers_of}
 use Rattle.mcs_page.proofs.page.ask.Goals as goal
 
 pub returns-clause-served : goal.returns-clause-served

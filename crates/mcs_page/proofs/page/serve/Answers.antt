@@ -1,5 +1,5 @@
 use Rattle.std.proofs.Common.{◌∙◌, ℕ, List, length, ap}
-use Rattle.mcs_page.proofs.Served.{answers_of}
+use Rattle.mcs_page.proofs.FrontOfBuffer.{answers_of}
 use Rattle.mcs_disk.specs.declared.memory.MemDisk.{MemDisk}
 use Rattle.mcs_page.proofs.page.serve.Goals as goal
 

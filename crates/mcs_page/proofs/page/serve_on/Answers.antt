@@ -1,5 +1,5 @@
 use Rattle.std.proofs.Common.{◌∙◌, IsTrue, Some, refl, rules, subst, sym}
-use Rattle.mcs_page.proofs.Carried.{keeps_open, keeps_size, size_resumed}
+use Rattle.mcs_page.proofs.WholeInput.{keeps_open, keeps_size, size_resumed}
 use Rattle.mcs_page.specs.Page.{IsServedWhole}
 use Rattle.mcs_page.proofs.page.serve_on.Goals as goal
 

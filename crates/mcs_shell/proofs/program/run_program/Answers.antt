@@ -7,11 +7,11 @@ if_some None P Q f h = tt
 
 pub returns-in-Ok-clause-served : goal.returns-in-Ok-clause-served
 returns-in-Ok-clause-served c =
-    if_some c.run_words.result.session _ _ (λ after served. record {
-      words = _;
+    if_some c.run_arguments.result.session _ _ (λ after served. record {
+      arguments = _;
       reader = _;
       reader' = _;
       out = _;
       out' = _;
       served = served;
-    }) c.run_words.ensures.served
+    }) c.run_arguments.ensures.served

@@ -3,8 +3,8 @@ use Rattle.mcs_host.specs.Ending.{as_disk}
 use Rattle.mcs_host.specs.FileDisk.{IsOpened}
 use Rattle.mcs_host.specs.declared.file_disk.FileDisk.{FileDisk}
 use Rattle.mcs_host.specs.declared.file_fault.FileFault.{FileFault}
-use Rattle.mcs_host.specs.declared.words.Choice.{Choice}
-use Rattle.mcs_session.specs.Standing.{SessionView}
+use Rattle.mcs_host.specs.declared.arguments.Choice.{Choice}
+use Rattle.mcs_session.specs.SessionState.{SessionView}
 use Rattle.mcs_shell.specs.Program.{IsBegunOn, IsRefusedWith}
 use Rattle.mcs_shell.specs.RefusalNumbers.{refusal_number}
 use Rattle.mcs_shell.specs.declared.refusal.Refusal.{Refusal}

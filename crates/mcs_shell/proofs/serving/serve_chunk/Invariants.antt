@@ -1,12 +1,12 @@
 use Rattle.std.proofs.Common.{length}
-use Rattle.mcs_shell.specs.Stage.{stage_of}
+use Rattle.mcs_shell.specs.ShellState.{shell_state}
 use Rattle.mcs_shell.proofs.Steps.{ServedTo}
 use Rattle.mcs_shell.proofs.serving.serve_chunk.Given as goal
 
 abbrev pub invariant-loop-front : goal.invariant-loop-front
 invariant-loop-front g l = ServedTo
-    (stage_of g.D.Disk.state l.fn.session (g.W.Write.contents l.fn.writer))
-    (stage_of g.D.Disk.state l.session (g.W.Write.contents l.writer))
+    (shell_state g.D.Disk.state l.fn.session (g.W.Write.contents l.fn.writer))
+    (shell_state g.D.Disk.state l.session (g.W.Write.contents l.writer))
     l.fn.unfinished l.unfinished l.rest l.chunk
 
 abbrev pub decreases-loop-front : goal.decreases-loop-front

@@ -1,6 +1,6 @@
 use Rattle.std.proofs.Common.{◌≤◌, ◌<◌, ◌-◌, length}
 use Rattle.mcs_model.specs.declared.limits.TheConstants.{INPUT_BYTES}
-use Rattle.mcs_shell.specs.Stage.{stage_of}
+use Rattle.mcs_shell.specs.ShellState.{shell_state}
 use Rattle.mcs_shell.specs.declared.shell.TheConstants.{CHUNK_BYTES}
 use Rattle.mcs_shell.proofs.Looping.{SoFar}
 use Rattle.mcs_shell.proofs.shell.run_loop.Given as goal
@@ -11,8 +11,8 @@ invariant-loop-total g l = record {
   room : 0 < length l.buffer;
   chunk : length l.buffer ≤ CHUNK_BYTES;
   so_far : SoFar (g.R.Read.remaining l.fn.reader) (g.R.Read.remaining l.reader)
-      (stage_of g.D.Disk.state l.fn.session (g.W.Write.contents l.fn.writer))
-      (stage_of g.D.Disk.state l.session (g.W.Write.contents l.writer))
+      (shell_state g.D.Disk.state l.fn.session (g.W.Write.contents l.fn.writer))
+      (shell_state g.D.Disk.state l.session (g.W.Write.contents l.writer))
       l.unfinished l.total;
 }
 

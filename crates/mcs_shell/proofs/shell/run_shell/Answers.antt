@@ -1,10 +1,10 @@
 use Rattle.std.proofs.Common.{rules, ◌≡◌, inr, refl}
-use Rattle.mcs_session.specs.Kept.{IsOpenOnHonestDisk, IsIntact}
-use Rattle.mcs_session.specs.Standing.{session_state}
+use Rattle.mcs_session.specs.KeptCommands.{IsOpenOnHonestDisk, IsIntact}
+use Rattle.mcs_session.specs.SessionState.{session_state}
 use Rattle.mcs_answers.specs.AnswerTexts.{session_text}
 use Rattle.mcs_session.proofs.Keeping.{settle}
 use Rattle.mcs_shell.specs.declared.ends.ShellEnd.TheVariants.{NoMemory, WriteFault}
-use Rattle.mcs_shell.specs.Stage.{stage_of}
+use Rattle.mcs_shell.specs.ShellState.{shell_state}
 use Rattle.mcs_shell.proofs.Looping.{got_none, not_begun, ran_after, session_has_bytes}
 use Rattle.mcs_shell.proofs.shell.run_shell.Goals as goal
 
@@ -12,19 +12,19 @@ pub returns-in-Err : goal.returns-in-Err
 returns-in-Err g c =
     let told : c.tell_number.new.self ≡ session_text (c.args.session.now.state) = search rules in
     let a = session_state g.D.Disk.state c.args.session.now in
-    let settled : IsOpenOnHonestDisk a → IsIntact a = λ honest. record { honest = honest; intact = settle a.disk a.standing.state (g.met.D.Disk.lawful c.args.session.now.disk honest.1) (c.bench.ensures.at honest.0 honest.1) } in
-    not_begun WriteFault _ (stage_of g.D.Disk.state c.args.session.now (g.W.Write.contents c.args.writer.now)) _ (session_text a.standing.state) settled (rw told at c.in-Err.ensures.err) (λ is. absurd (cc is)) (inr (refl, refl, refl))
+    let settled : IsOpenOnHonestDisk a → IsIntact a = λ honest. record { honest = honest; intact = settle a.disk a.bench.state (g.met.D.Disk.lawful c.args.session.now.disk honest.1) (c.bench.ensures.at honest.0 honest.1) } in
+    not_begun WriteFault _ (shell_state g.D.Disk.state c.args.session.now (g.W.Write.contents c.args.writer.now)) _ (session_text a.bench.state) settled (rw told at c.in-Err.ensures.err) (λ is. absurd (cc is)) (inr (refl, refl, refl))
 
 pub returns : goal.returns
 returns g c =
     let told : c.tell_number.new.self ≡ session_text (c.args.session.now.state) = search rules in
     let a = session_state g.D.Disk.state c.args.session.now in
-    let settled : IsOpenOnHonestDisk a → IsIntact a = λ honest. record { honest = honest; intact = settle a.disk a.standing.state (g.met.D.Disk.lawful c.args.session.now.disk honest.1) (c.bench.ensures.at honest.0 honest.1) } in
-    ran_after c.run_loop.result _ _ (stage_of g.D.Disk.state c.args.session.now (g.W.Write.contents c.args.writer.now)) _ _ (session_text a.standing.state) settled (rw told at c.in-Ok-send.ensures.ok) c.run_loop.ensures
+    let settled : IsOpenOnHonestDisk a → IsIntact a = λ honest. record { honest = honest; intact = settle a.disk a.bench.state (g.met.D.Disk.lawful c.args.session.now.disk honest.1) (c.bench.ensures.at honest.0 honest.1) } in
+    ran_after c.run_loop.result _ _ (shell_state g.D.Disk.state c.args.session.now (g.W.Write.contents c.args.writer.now)) _ _ (session_text a.bench.state) settled (rw told at c.in-Ok-send.ensures.ok) c.run_loop.ensures
 
 pub returns-in_default : goal.returns-in_default
 returns-in_default g c =
     let a = session_state g.D.Disk.state c.args.session.now in
-    let settled : IsOpenOnHonestDisk a → IsIntact a = λ honest. record { honest = honest; intact = settle a.disk a.standing.state (g.met.D.Disk.lawful c.args.session.now.disk honest.1) (c.bench.ensures.at honest.0 honest.1) } in
+    let settled : IsOpenOnHonestDisk a → IsIntact a = λ honest. record { honest = honest; intact = settle a.disk a.bench.state (g.met.D.Disk.lawful c.args.session.now.disk honest.1) (c.bench.ensures.at honest.0 honest.1) } in
     let out = g.W.Write.contents c.args.writer.now in
-    not_begun NoMemory _ (stage_of g.D.Disk.state c.args.session.now out) out (session_text a.standing.state) settled (got_none out (session_text a.standing.state) (session_has_bytes a.standing.state)) (λ is. refl) (refl, refl, refl)
+    not_begun NoMemory _ (shell_state g.D.Disk.state c.args.session.now out) out (session_text a.bench.state) settled (got_none out (session_text a.bench.state) (session_has_bytes a.bench.state)) (λ is. refl) (refl, refl, refl)

@@ -8,8 +8,8 @@ use Rattle.mcs_model.specs.BenchState.{BenchState}
 use Rattle.mcs_model.specs.Fold.{fold}
 use Rattle.mcs_session.specs.SessionCalls.{OpensSession}
 use Rattle.mcs_session.specs.LogUse.{LogUse, UsesLog, moments_of, use_after_all}
-use Rattle.mcs_session.specs.Standing.{Premise, SessionState, standing_after}
-use Rattle.mcs_session.specs.Stands.{StandsFor, IsAt}
+use Rattle.mcs_session.specs.SessionState.{Premise, SessionState, bench_after}
+use Rattle.mcs_session.specs.StandsFor.{StandsFor, DiskStandsFor}
 
 -- ---- the moments of a run: what the clock was as each of its commands was acknowledged
 
@@ -48,11 +48,13 @@ pub record StandsForPrefix
 
 -- From the state s the commands `done` were acknowledged, each at its moment, and all of `reached`
 -- may have reached the disk.
-pub record Kept (old new : DiskState) (s : BenchState) (done reached : List Command) : Type 0 where
+pub record KeepsCommands
+    (old new : DiskState) (s : BenchState) (done reached : List Command) : Type 0 where
   pub moments : List ℕ
   pub count : length moments ≡ length done
   pub spaced : IsSpaced old.clock moments
-  -- eight where the log, in use as it was then, had no room for the record of the command, else four
+  -- each is eight steps after the one before where the log, in use as it was then, had no room for
+  -- the record of the command, else four
   pub timed : (log : LogUse) → UsesLog old.bytes log → moments ≡ moments_of old.clock log done
   pub within : last_moment old.clock moments ≤ new.clock
   -- whatever a power cut at some moment since t left stands for a prefix that holds what was
@@ -62,33 +64,35 @@ pub record Kept (old new : DiskState) (s : BenchState) (done reached : List Comm
   pub stretch : KeepsEarlierImages old new
   pub lawful : IsLawful new
 
--- no call failed: the last of the moments is now
-pub record KeptWhole (old new : DiskState) (s : BenchState) (cs : List Command) : Type 0 where
-  pub kept : Kept old new s cs cs
+-- the same where no call failed: the disk's clock stands at the last of the moments
+pub record KeepsAllCommands
+    (old new : DiskState) (s : BenchState) (cs : List Command) : Type 0 where
+  pub kept : KeepsCommands old new s cs cs
   pub now : new.clock ≡ last_moment old.clock kept.moments
   pub log : (log : LogUse) → UsesLog old.bytes log → UsesLog new.bytes (use_after_all log cs)
 
 -- the premise of what is kept: an open session on an honest disk
 abbrev pub IsOpenOnHonestDisk : Premise
-IsOpenOnHonestDisk a = IsTrue a.standing.live × a.disk.honest
+IsOpenOnHonestDisk a = IsTrue a.bench.live × a.disk.honest
 
 -- whatever a power cut now leaves stands for this state
 pub record IsIntactAt (disk : DiskState) (s : BenchState) : Type 0 where
-  pub at : IsAt disk s
+  pub at : DiskStandsFor disk s
   pub lawful : IsLawful disk
 
--- the premise as the steps of a run hand it on
+-- what each step of a run hands on to the next: the premise, and that the disk is intact
 pub record IsIntact (a : SessionState) : Type 0 where
   pub honest : IsOpenOnHonestDisk a
-  pub intact : IsIntactAt a.disk a.standing.state
+  pub intact : IsIntactAt a.disk a.bench.state
 
--- The session went on by these commands. `Given` is the premise of what the disk keeps.
-pub record Carries (Given : Premise) (a b : SessionState) (cs : List Command) : Type 0 where
-  pub standing : b.standing ≡ standing_after a.standing cs
+-- The session accepted these commands in turn, and recorded them. `Given` is the premise of what the
+-- disk keeps.
+pub record RecordsCommands (Given : Premise) (a b : SessionState) (cs : List Command) : Type 0 where
+  pub bench : b.bench ≡ bench_after a.bench cs
   pub same_faults : b.disk.faults ≡ a.disk.faults
   pub size : b.disk.size ≡ a.disk.size
   pub honest : b.disk.honest ↔ a.disk.honest
-  pub kept : Given a → KeptWhole a.disk b.disk a.standing.state cs
+  pub kept : Given a → KeepsAllCommands a.disk b.disk a.bench.state cs
 
 -- ---- reopening
 

@@ -1,4 +1,4 @@
--- What a parse of the words gives: whether it entered a subcommand, which one, and the FILE in it.
+-- What a parse of the arguments gives: whether it entered a subcommand, which one, and the FILE in it.
 use Rattle.std.proofs.Common.{◌≡◌, ◌∙◌, sym, ap, refl, List, Bool, true, false, ◌||◌, if◌then◌else◌, Option, Some, None, codes, option_map}
 use Rattle.std.specs.Prelude.{option_and_then, Box}
 use Rattle.std.specs.Box.{box_value}
@@ -28,18 +28,18 @@ no_rows None unnamed = refl
 no_rows (Some b) unnamed = absurd (cc)
 
 -- the parse entered this subcommand
-pub chosen_from : (words : List Text) (m sub : ArgMatches) (name : Text) → subcommand_rows_of m ≡ subcommand_of program words
+pub chosen_from : (arguments : List Text) (m sub : ArgMatches) (name : Text) → subcommand_rows_of m ≡ subcommand_of program arguments
     → subcommand_name_of m ≡ Some name
     → option_map (λ p. p.1) (subcommand_rows (out-ArgMatches m).subcommand) ≡ Some (rows_of (found_of sub))
-    → choice_in words ≡ file_in (name, rows_of (found_of sub))
+    → choice_in arguments ≡ file_in (name, rows_of (found_of sub))
 unfolding choice_in
-chosen_from words m sub name parsed named rowed = ap (option_and_then file_in)
+chosen_from arguments m sub name parsed named rowed = ap (option_and_then file_in)
     (sym parsed ∙ both_there (subcommand_rows_of m) name (rows_of (found_of sub)) (names_agree (out-ArgMatches m).subcommand ∙ named) rowed)
 
 -- the parse entered none
-pub chosen_none : (words : List Text) (m : ArgMatches) → subcommand_rows_of m ≡ subcommand_of program words → subcommand_name_of m ≡ None → choice_in words ≡ None
+pub chosen_none : (arguments : List Text) (m : ArgMatches) → subcommand_rows_of m ≡ subcommand_of program arguments → subcommand_name_of m ≡ None → choice_in arguments ≡ None
 unfolding choice_in
-chosen_none words m parsed unnamed = ap (option_and_then file_in) (sym parsed ∙ no_rows (out-ArgMatches m).subcommand unnamed)
+chosen_none arguments m parsed unnamed = ap (option_and_then file_in) (sym parsed ∙ no_rows (out-ArgMatches m).subcommand unnamed)
 
 pub file_in_new : (sub : ArgMatches) (file : Text) → first_value (found_of sub) (codes "FILE") ≡ Some file → file_in (codes "new", rows_of (found_of sub)) ≡ Some (codes "new", file)
 file_in_new sub file found = ap (option_map (λ f. (codes "new", f))) (sym (first_value-rows (found_of sub) (codes "FILE")) ∙ found)

@@ -1,19 +1,19 @@
 -- What a call of the page tells.
 use Rattle.std.specs.Prelude.{◌≡◌, ℕ, List}
-use Rattle.mcs_page.specs.Page.{Answers, AnswersAndSettles, IsWhyNot, WouldAnswer}
+use Rattle.mcs_page.specs.Page.{AnswersInBuffer, AnswersAndSettles, IsWhyNotServed, WouldAnswer}
 use Rattle.mcs_page.specs.declared.fault.NotServed.{NotServed}
 use Rattle.mcs_page.specs.declared.fault.NotServed.TheVariants.{Refused, NoRoom}
 use Rattle.mcs_shell.specs.RefusalNumbers.{open_fault_number}
 use Rattle.mcs_shell.specs.Shell.{exit_status_of}
 use Rattle.mcs_shell.specs.declared.ends.ShellEnd.{ShellEnd}
 
--- the input was served on the session of the file, the number is the exit status of the shell's end,
--- and that many bytes at the front of the buffer are the answers
-pub record TellsOf (file input : List ℕ) (number count : ℕ) (buffer buffer' after : List ℕ)
+-- the input was served on the session of the file, the number is the exit status of the shell's
+-- end, and that many bytes at the front of the buffer are the answers
+pub record TellsAnswers (file input : List ℕ) (number count : ℕ) (buffer buffer' after : List ℕ)
     : Type 0 where
   pub end : ShellEnd
   pub told : number ≡ exit_status_of end
-  pub answers : Answers file input end count buffer buffer' after
+  pub answers : AnswersInBuffer file input end count buffer buffer' after
 
 -- the same, where the file was settled then
 pub record TellsAndSettles (file input : List ℕ) (number count : ℕ)
@@ -23,7 +23,7 @@ pub record TellsAndSettles (file input : List ℕ) (number count : ℕ)
   pub answers : AnswersAndSettles file input end count buffer buffer' after
 
 -- the same, where nothing is said of the file
-pub record TellsWhatWouldBe (file input : List ℕ) (number count : ℕ) (buffer buffer' : List ℕ)
+pub record TellsWhatItWouldAnswer (file input : List ℕ) (number count : ℕ) (buffer buffer' : List ℕ)
     : Type 0 where
   pub end : ShellEnd
   pub told : number ≡ exit_status_of end
@@ -43,4 +43,4 @@ pub record TellsWhyNot (file input : List ℕ) (number count room : ℕ) : Type 
   pub why : NotServed
   pub told : number ≡ number_told why
   pub counted : count ≡ count_told why
-  pub is : IsWhyNot why file input room
+  pub is : IsWhyNotServed why file input room

@@ -1,4 +1,4 @@
--- How a session stands: whether it is open, the state of its bench, and its disk.
+-- What contracts see of a session: whether it is open, the state of its bench, and its disk.
 use Rattle.std.specs.Prelude.{Bool, List}
 use Rattle.mcs_disk.specs.Disk.{DiskState}
 use Rattle.mcs_model.specs.declared.command.Command.{Command}
@@ -6,24 +6,24 @@ use Rattle.mcs_model.specs.BenchState.{BenchState}
 use Rattle.mcs_model.specs.Fold.{fold}
 
 -- whether a session is open, and the state of its bench
-pub record Standing : Type 0 where
-  -- no command was answered with a device fault
+pub record SessionBench : Type 0 where
+  -- no call has met a device fault
   pub live : Bool
   pub state : BenchState
 
--- how a session stands once these commands were accepted and recorded
-abbrev pub standing_after : Standing → List Command → Standing
-standing_after m cs = record { live = m.live; state = fold m.state cs }
+-- the same once these commands were accepted and recorded
+abbrev pub bench_after : SessionBench → List Command → SessionBench
+bench_after m cs = record { live = m.live; state = fold m.state cs }
 
--- what contracts see of a session: its disk too, as a value of the disk's type
+-- a session with its disk, which is a value of the disk's type
 pub record SessionView (D : Type 0) : Type 0 where
   pub disk : D
   pub live : Bool
   pub state : BenchState
 
--- the same with what contracts see of the disk
+-- a session with what contracts see of its disk
 pub record SessionState : Type 1 where
-  pub standing : Standing
+  pub bench : SessionBench
   pub disk : DiskState
 
 -- what holds of a session, as a premise of what follows
@@ -33,4 +33,4 @@ Premise = SessionState → Type 0
 -- the same, where `state_of` is what contracts see of a disk
 abbrev pub session_state : {D : Type 0} → (D → DiskState) → SessionView D → SessionState
 session_state state_of s =
-    record { standing = record { live = s.live; state = s.state }; disk = state_of s.disk }
+    record { bench = record { live = s.live; state = s.state }; disk = state_of s.disk }

@@ -1,21 +1,21 @@
 -- A session with what its shell has written.
 use Rattle.std.specs.Prelude.{ℕ, List, Option}
 use Rattle.mcs_disk.specs.Disk.{DiskState}
-use Rattle.mcs_session.specs.Standing.{SessionState, SessionView, session_state}
+use Rattle.mcs_session.specs.SessionState.{SessionState, SessionView, session_state}
 
 -- what a reader has left or a writer has got, where it tells that
 abbrev pub KnownBytes : Type 0
 KnownBytes = Option (List ℕ)
 
 -- a session, and what its shell has written so far, where the writer tells it
-pub record Stage : Type 1 where
+pub record ShellState : Type 1 where
   pub session : SessionState
   pub out : KnownBytes
 
 -- the same with what its shell has written, where the writer tells it
-abbrev pub stage_of : {D : Type 0} → (D → DiskState) → SessionView D → KnownBytes → Stage
-stage_of state_of s out = record { session = session_state state_of s; out = out }
+abbrev pub shell_state : {D : Type 0} → (D → DiskState) → SessionView D → KnownBytes → ShellState
+shell_state state_of s out = record { session = session_state state_of s; out = out }
 
 -- the same session, once this is what its shell has written
-abbrev pub with_out : Stage → KnownBytes → Stage
-with_out a out = record { session = a.session; out = out }
+abbrev pub with_written : ShellState → KnownBytes → ShellState
+with_written a out = record { session = a.session; out = out }

@@ -1,5 +1,5 @@
--- What a session file stands for, and what it has room for. What one of version 1 stands for is said
--- by the definitions of version 1 and carried over (`StandsForLifted` in Version1). Where a
+-- What a session file stands for, and what it has room for. What one of version 1 stands for is
+-- said by the definitions of version 1 and carried over (`StandsForLifted` in Version1). Where a
 -- definition here takes a Boolean first, that is true where the snapshot and the records are of
 -- version 1: they are read as carried over, and the commands are those of version 2 from there on.
 use Rattle.std.specs.Prelude.{◌≡◌, ◌⊎◌, ◌+◌, ◌≤◌, ℕ, Bool, false, List, [], ◌∷◌, None, length}
@@ -16,12 +16,12 @@ use Rattle.mcs_model.specs.Command.{refusal, after}
 use Rattle.mcs_model.specs.Fold.{fold}
 
 -- these records spell these commands, accepted in turn from this state
-abbrev pub Replays : Bool → BenchState → List (List ℕ) → List Command → Type 0
-Replays version_1 s [] [] = Unit {0}
-Replays version_1 s [] (c ∷ cs) = ⊥
-Replays version_1 s (r ∷ rs) [] = ⊥
-Replays version_1 s (r ∷ rs) (c ∷ cs) =
-    SpellsBy version_1 r c × (refusal s c ≡ None) × Replays version_1 (after s c) rs cs
+abbrev pub ReplaysCommands : Bool → BenchState → List (List ℕ) → List Command → Type 0
+ReplaysCommands version_1 s [] [] = Unit {0}
+ReplaysCommands version_1 s [] (c ∷ cs) = ⊥
+ReplaysCommands version_1 s (r ∷ rs) [] = ⊥
+ReplaysCommands version_1 s (r ∷ rs) (c ∷ cs) =
+    SpellsBy version_1 r c × (refusal s c ≡ None) × ReplaysCommands version_1 (after s c) rs cs
 
 -- a snapshot and the records after it stand for this state
 pub record RecordsStandFor
@@ -29,7 +29,7 @@ pub record RecordsStandFor
   pub start : BenchState
   pub snapshot : SpellsStateBy version_1 snap start
   pub commands : List Command
-  pub replays : Replays version_1 start records commands
+  pub replays : ReplaysCommands version_1 start records commands
   pub bounded : log_cycles commands ≤ REPLAY_CYCLES
   pub state : s ≡ fold start commands
 
@@ -50,18 +50,19 @@ pub record HoldsState (file : List ℕ) (s : BenchState) : Type 0 where
   pub spells : SpellsState snap s
   pub holds : Holds file snap []
 
--- Whatever a power cut leaves stands for this state, one now and one at any moment since the last
--- call that answered Ok: a call that failed after it is no step of the clock.
-abbrev pub IsAt : DiskState → BenchState → Type 0
-IsAt disk s = (image : List ℕ) → disk.since disk.clock image → StandsFor image s
+-- Whatever a power cut leaves stands for this state: a cut at this moment, and one within a call that
+-- failed since the clock's last step, as such a call is no step of the clock.
+abbrev pub DiskStandsFor : DiskState → BenchState → Type 0
+DiskStandsFor disk s = (image : List ℕ) → disk.since disk.clock image → StandsFor image s
 
 -- the same by version 1: the disk stands for the state carried over from it
-abbrev pub IsAtLifted : DiskState → BenchState → Type 0
-IsAtLifted disk s = (image : List ℕ) → disk.since disk.clock image → StandsForLifted image s
+abbrev pub DiskStandsForLifted : DiskState → BenchState → Type 0
+DiskStandsForLifted disk s =
+    (image : List ℕ) → disk.since disk.clock image → StandsForLifted image s
 
 -- whatever a power cut at some moment since this time left stands for this state, by either version
-abbrev pub StandsSince : ℕ → DiskState → BenchState → Type 0
-StandsSince t disk s = (image : List ℕ) → disk.since t image → StandsByEither image s
+abbrev pub DiskStandsSince : ℕ → DiskState → BenchState → Type 0
+DiskStandsSince t disk s = (image : List ℕ) → disk.since t image → StandsByEither image s
 
 -- a file has room for one more record of that many bytes, and for that many more cycles in its log
 pub record HasSpace (file : List ℕ) (bytes cycles : ℕ) : Type 0 where

@@ -1,12 +1,12 @@
-//! What the words of the command line choose.
+//! What the arguments of the command line choose.
 ghost use Rattle.std.specs.Prelude.{◌≡◌, ℕ, List, string_bytes};
-ghost use Rattle.mcs_host.specs.declared.words.WordsFault.TheVariants.{NoMemory};
+ghost use Rattle.mcs_host.specs.declared.arguments.ArgumentsFault.TheVariants.{NoMemory};
 
 use std::alloc::AllocError;
 use std::marker::Model;
 use thiserror::Error;
 
-/// The name of a session file, as the words give it. Contracts see its bytes.
+/// The name of a session file, as the arguments give it. Contracts see its bytes.
 #[derive(Drop)]
 pub struct FileName {
     name: String,
@@ -42,10 +42,10 @@ pub enum Choice {
     Open(FileName),
 }
 
-/// Why words choose nothing.
+/// Why arguments choose nothing.
 #[derive(Clone, Copy, Debug, Error)]
-pub enum WordsFault {
-    /// The words are none of the program's: the usage is shown.
+pub enum ArgumentsFault {
+    /// The arguments are none of the program's: the usage is shown.
     #[error("usage: mcs4 new FILE or mcs4 open FILE")]
     Usage,
     /// There was no memory.
@@ -53,10 +53,10 @@ pub enum WordsFault {
     NoMemory,
 }
 
-impl From<AllocError> for WordsFault {
+impl From<AllocError> for ArgumentsFault {
     ghost from_gives = { λ _ e. e ≡ NoMemory };
 
     fn from(_: AllocError) -> Self {
-        WordsFault::NoMemory
+        ArgumentsFault::NoMemory
     }
 }

@@ -1,25 +1,25 @@
 use Rattle.std.proofs.Common.{◌≡◌, ◌⊎◌, ℕ, List, Option, Some, None, Result, Ok, Err, IfOk, IfSome, IfNone, IsSomeAnd, OnErr, inr, sym, ◌∙◌}
 use Rattle.std.specs.Process.{exit_status}
 use Rattle.std.specs.declared.process.ExitCode.{ExitCode}
-use Rattle.mcs_host.specs.CommandLine.{words_of_choice}
+use Rattle.mcs_host.specs.CommandLine.{arguments_of_choice}
 use Rattle.mcs_host.specs.Ending.{as_disk}
 use Rattle.mcs_host.specs.FileDisk.{IsOpened}
 use Rattle.mcs_host.specs.declared.file_disk.FileDisk.{FileDisk}
-use Rattle.mcs_host.specs.declared.words.Choice.{Choice}
-use Rattle.mcs_session.specs.Standing.{SessionView}
-use Rattle.mcs_shell.specs.Program.{IsBegunOn, ServedAsChosen, ServedTo}
+use Rattle.mcs_host.specs.declared.arguments.Choice.{Choice}
+use Rattle.mcs_session.specs.SessionState.{SessionView}
+use Rattle.mcs_shell.specs.Program.{IsBegunOn, ServedChosenSession, ServedSession}
 use Rattle.mcs_shell.specs.Shell.{exit_status_of}
-use Rattle.mcs_shell.specs.Stage.{KnownBytes}
+use Rattle.mcs_shell.specs.ShellState.{KnownBytes}
 use Rattle.mcs_shell.specs.declared.ends.ShellEnd.{ShellEnd}
 use Rattle.mcs_shell.specs.declared.ends.ShellEnd.TheVariants.{End, ReadFault, WriteFault, DeviceFault, InputLimit, NoMemory}
 use Rattle.mcs_shell.specs.declared.refusal.Refusal.{Refusal}
-use Rattle.mcs_shell.proofs.program.run_words.Goals as goal
+use Rattle.mcs_shell.proofs.program.run_arguments.Goals as goal
 
 -- what a choice began was served to what is handed back
 abbrev pub Serves : {E : Type 0} → Result (SessionView FileDisk) Refusal → Option (SessionView FileDisk) → Result ExitCode E
     → KnownBytes → KnownBytes → KnownBytes → KnownBytes → Type 0
 Serves begun session status reader reader' out out' = IfOk begun (λ before. IsSomeAnd session (λ after.
-    ServedTo as_disk status reader reader' out out' before after))
+    ServedSession as_disk status reader reader' out out' before after))
 
 not_two : (end : ShellEnd) → exit_status_of end ≡ 2 → ⊥
 not_two End e = cc e
@@ -42,10 +42,10 @@ usage_of (Err refusal) session (Ok code) reader reader' out out' P served refuse
 
 served_as_chosen : {E : Type 0} (entered : Option (List ℕ × List ℕ)) (choice : Choice) (begun : Result (SessionView FileDisk) Refusal)
     (session : Option (SessionView FileDisk)) (status : Result ExitCode E) (reader reader' out out' : KnownBytes)
-    → entered ≡ Some (words_of_choice choice)
+    → entered ≡ Some (arguments_of_choice choice)
     → IfOk begun (λ before. (disk : FileDisk) × IsOpened (as_disk disk) × IsBegunOn as_disk choice disk before)
     → Serves begun session status reader reader' out out' → OnErr begun (session ≡ None)
-    → IfSome session (λ after. ServedAsChosen as_disk entered status reader reader' out out' after)
+    → IfSome session (λ after. ServedChosenSession as_disk entered status reader reader' out out' after)
 served_as_chosen entered choice (Ok before) (Some after) status reader reader' out out' is found served none =
     record {
       choice = choice;
