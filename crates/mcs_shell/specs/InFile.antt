@@ -4,7 +4,6 @@ use Rattle.mcs_host.specs.Ending.{IsLeftSince, as_disk, found_in}
 use Rattle.mcs_host.specs.FileDisk.{IsOpened}
 use Rattle.mcs_host.specs.declared.file_disk.FileDisk.{FileDisk}
 use Rattle.mcs_host.specs.declared.arguments.Choice.TheVariants as choice
-use Rattle.mcs_model.specs.declared.refusal_numbers.TheConstants.{DEVICE, NO_MEMORY}
 use Rattle.mcs_session.specs.KeptCommands.{IsAfterPrefix, IsSpaced, acknowledged_by, last_moment}
 use Rattle.mcs_session.specs.SessionState.{SessionView}
 use Rattle.mcs_shell.specs.Headline.{AnswersInTurn}
@@ -45,4 +44,4 @@ pub record SurvivesInFile (run : ShellRun as_disk) : Type 0 where
   pub not_refused : (t : ℕ) (again : FileDisk) (name : List ℕ) (number : ℕ)
       → (as_disk run.before.disk).clock ≤ t → IsFoundAgain t run.after.disk again
       → IsRefusedWith as_disk (choice.Open name) again number
-      → (number ≡ DEVICE) ⊎ (number ≡ NO_MEMORY)
+      → (number ≡ 53) ⊎ (number ≡ 90)

@@ -9,18 +9,18 @@ use Rattle.mcs_disk.specs.Disk.{DiskState}
 use Rattle.mcs_session.specs.SessionState.{Premise, SessionView}
 use Rattle.mcs_shell.specs.ShellState.{KnownBytes, ShellState, shell_state, with_written}
 use Rattle.mcs_shell.specs.Transcript.{Step, inputs_in}
-use Rattle.mcs_shell.specs.declared.shell.TheConstants.{CHUNK_BYTES}
 use Rattle.mcs_answers.specs.AnswerTexts.{session_text}
 use Rattle.mcs_session.specs.KeptCommands.{IsOpenOnHonestDisk}
 use Rattle.mcs_shell.specs.Serving.{ServesInputs, WroteBytes}
 
--- No more bytes than one read takes were read ahead of what was answered: the inputs that were met
--- are those that the bytes before spell, and maybe more.
+-- No more than 4,096 bytes were read ahead of what was answered: the inputs that were met are those
+-- that the bytes before spell, and maybe more. (A numeral, so that a shell with a larger chunk is
+-- refused.)
 pub record ReadsLittleAhead (bytes : List ℕ) (answered : List Input) : Type 0 where
   pub before : List ℕ
   pub ahead : List ℕ
   pub parts : bytes ≡ before ++ ahead
-  pub few : length ahead ≤ CHUNK_BYTES
+  pub few : length ahead ≤ 4_096
   pub more : List Input
   pub answered_are : answered ≡ inputs before false ++ more
 
