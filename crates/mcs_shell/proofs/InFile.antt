@@ -8,7 +8,6 @@ use Rattle.mcs_host.specs.declared.file_disk.FileDisk.{FileDisk}
 use Rattle.mcs_host.proofs.Leaving.{found_since}
 use Rattle.mcs_journal.specs.declared.fault.OpenFault.{OpenFault}
 use Rattle.mcs_journal.specs.declared.fault.OpenFault.TheVariants as open_fault
-use Rattle.mcs_model.specs.declared.refusal_numbers.TheConstants.{DEVICE, NO_MEMORY}
 use Rattle.mcs_session.specs.KeptCommands.{IsOpenOnHonestDisk}
 use Rattle.mcs_session.specs.SessionState.{session_state}
 use Rattle.mcs_shell.specs.Headline.{SurvivesPowerCuts}
@@ -30,7 +29,7 @@ left_by_cut t file again honest h =
       durable = h.opened.durable;
     }
 
-number_of : (fault : OpenFault) (number : ℕ) → number ≡ open_fault_number fault → (fault ≡ open_fault.Device) ⊎ (fault ≡ open_fault.NoMemory) → (number ≡ DEVICE) ⊎ (number ≡ NO_MEMORY)
+number_of : (fault : OpenFault) (number : ℕ) → number ≡ open_fault_number fault → (fault ≡ open_fault.Device) ⊎ (fault ≡ open_fault.NoMemory) → (number ≡ 53) ⊎ (number ≡ 90)
 number_of fault number told (inl is) = inl (told ∙ ap open_fault_number is)
 number_of fault number told (inr is) = inr (told ∙ ap open_fault_number is)
 
