@@ -1,13 +1,11 @@
 -- A run over a file of the host, and what is found in the file after a stop.
-use Rattle.std.proofs.Common.{◌≡◌, ◌⊎◌, inl, inr, ℕ, List, length, ap, sym, ◌∙◌, subst}
+use Rattle.std.proofs.Common.{inl, inr, ℕ, List, length, ap, sym, ◌∙◌, subst}
 use Rattle.mcs_disk.specs.Calls.{since_after}
 use Rattle.mcs_disk.specs.CallLaws.{lawful, length-bytes_after, sized}
 use Rattle.mcs_disk.specs.PowerCut.{IsLeftByCut}
 use Rattle.mcs_host.specs.Ending.{as_disk, found_in}
 use Rattle.mcs_host.specs.declared.file_disk.FileDisk.{FileDisk}
 use Rattle.mcs_host.proofs.Leaving.{found_since}
-use Rattle.mcs_journal.specs.declared.fault.OpenFault.{OpenFault}
-use Rattle.mcs_journal.specs.declared.fault.OpenFault.TheVariants as open_fault
 use Rattle.mcs_session.specs.KeptCommands.{IsOpenOnHonestDisk}
 use Rattle.mcs_session.specs.SessionState.{session_state}
 use Rattle.mcs_shell.specs.Headline.{SurvivesPowerCuts}
@@ -29,10 +27,6 @@ left_by_cut t file again honest h =
       durable = h.opened.durable;
     }
 
-number_of : (fault : OpenFault) (number : ℕ) → number ≡ open_fault_number fault → (fault ≡ open_fault.Device) ⊎ (fault ≡ open_fault.NoMemory) → (number ≡ 53) ⊎ (number ≡ 90)
-number_of fault number told (inl is) = inl (told ∙ ap open_fault_number is)
-number_of fault number told (inr is) = inr (told ∙ ap open_fault_number is)
-
 pub survives_in_file : (run : ShellRun as_disk) → IsOpenOnHonestDisk (session_state as_disk run.before) → SurvivesInFile run
 survives_in_file run given =
     let a = shell_state as_disk run.before run.out in
@@ -49,6 +43,8 @@ survives_in_file run given =
       reopened = λ t again name session late found begun.
           kept.reopened t again session.disk session.state late (record { cut = left_by_cut t run.after.disk again honest found; opens = begun.opens found.honest });
       not_refused = λ t again name number late found refused.
-          number_of refused.1.fault number refused.1.told
-          (kept.not_refused t again refused.1.fault late (left_by_cut t run.after.disk again honest found) (refused.1.refuses found.honest).0);
+          elim (kept.not_refused t again refused.1.fault late (left_by_cut t run.after.disk again honest found) (refused.1.refuses found.honest).0) [
+            | inl is ↦ inl (refused.1.told ∙ ap open_fault_number is)
+            | inr is ↦ inr (refused.1.told ∙ ap open_fault_number is)
+          ];
     }

@@ -38,9 +38,6 @@ leaves_more true a b c cs ds rs x y = record {
   kept = λ given. kept_more a.disk b.disk c.disk a.bench.state b.bench.state cs ds rs (x.kept given) (ap (λ (v : SessionBench). v.state) x.bench) (y.kept (settled_on a b cs x given));
 }
 
-pub serves_nothing : (a : ShellState) → ServesSteps IsIntact a [] a
-serves_nothing a = record { may = tt; wrote = refl; leaves = carries_nothing a.session }
-
 -- where nothing halted the shell
 pub carries_unhalted : (Given : Premise) (a b : SessionState) (s : BenchState) (met : List Step) → halt_after met ≡ None → LeavesSession Given (has_failed met) a b (in_turn acknowledged_commands s met) (in_turn reached_commands s met) → RecordsCommands Given a b (in_turn acknowledged_commands s met)
 carries_unhalted Given a b s met none h = subst (λ (v : Bool). LeavesSession Given v a b (in_turn acknowledged_commands s met) (in_turn reached_commands s met)) (not_failed met none) h
@@ -66,7 +63,7 @@ serves_more a b c xs ys none x y =
 -- ---- bytes
 
 abbrev pub meets_nothing : (a : ShellState) → ServesInputs IsIntact [] a a None
-meets_nothing a = record { met = []; serves = serves_nothing a; halts = refl; not_met = []; spelled = refl; all_met = λ none. refl }
+meets_nothing a = record { met = []; serves = record { may = tt; wrote = refl; leaves = carries_nothing a.session }; halts = refl; not_met = []; spelled = refl; all_met = λ none. refl }
 
 -- these bytes spell the inputs that were given
 pub feeds : (a b : ShellState) (p q k : Pending) (bytes : List ℕ) (given : List Input) (halted : Option ShellEnd) → HasNoFeed k.line → (halted ≡ None → q ≡ k)
@@ -129,7 +126,7 @@ pub feeds_command : (a b : ShellState) (p q : Pending) (line : List ℕ) (halted
 feeds_command a b p q line halted f is e none new h =
     let none2 : text_begun (request_of (strip_carriage_return p.line)) ≡ None = ap (λ l. text_begun (request_of l)) (sym e) ∙ none in
     feeds a b p q nothing_pending (10 ∷ []) (Line (request_of line) ∷ []) halted tt new
-    (λ more whole. feed-command p nothing_pending more whole f is none2 refl ∙ ap (λ l. Line (request_of l) ∷ inputs_after nothing_pending more whole) (sym e)) h
+    (λ more whole. feed-command p more whole f is none2 ∙ ap (λ l. Line (request_of l) ∷ inputs_after nothing_pending more whole) (sym e)) h
 
 pub feeds_begun : (a : ShellState) (p q : Pending) (line : List ℕ) (kind : TextKind) → HasNoFeed p.line → p.mode ≡ Commands → line ≡ strip_carriage_return p.line → request_of line ≡ Begin kind
     → q ≡ record { mode = InText kind []; line = [] } → ServesBytes a a p q (10 ∷ []) None
@@ -141,7 +138,7 @@ pub feeds_text : (a b : ShellState) (p q : Pending) (line : List ℕ) (kind : Te
     → is_dot_line line ≡ true → (halted ≡ None → q ≡ nothing_pending) → ServesInputs IsIntact (judged_text kind text ∷ []) a b halted → ServesBytes a b p q (10 ∷ []) halted
 feeds_text a b p q line kind text halted f is e dot new h =
     let dot2 : is_dot_line (strip_carriage_return p.line) ≡ true = ap is_dot_line (sym e) ∙ dot in
-    feeds a b p q nothing_pending (10 ∷ []) (judged_text kind text ∷ []) halted tt new (λ more whole. feed-dot p nothing_pending more whole kind text f is dot2 refl) h
+    feeds a b p q nothing_pending (10 ∷ []) (judged_text kind text ∷ []) halted tt new (λ more whole. feed-dot p more whole kind text f is dot2) h
 
 pub feeds_line : (a : ShellState) (p q : Pending) (line : List ℕ) (kind : TextKind) (text : List ℕ) → HasNoFeed p.line → p.mode ≡ InText kind text → line ≡ strip_carriage_return p.line → is_dot_line line ≡ false
     → AddsLineToText p.mode p.line q → ServesBytes a a p q (10 ∷ []) None
