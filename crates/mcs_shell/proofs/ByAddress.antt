@@ -123,14 +123,20 @@ placed_in p (q ∷ qs) one = placed_by p q qs (λ v. Contains v p) (λ lt. Conta
 placed_rises : (p : ℕ × ℕ) (qs : List (ℕ × ℕ)) → Rises qs → Rises (insert_pair p qs)
 placed_rises p [] h = ((λ q a. absurd (in_none q a)), tt)
 placed_rises p (q ∷ qs) h = placed_by p q qs Rises
-    (λ lt. (λ r a. elim (Contains-cons_cases q qs r a) [
-      | inl e ↦ omega (arith, lt, ap (λ (v : ℕ × ℕ). v.0) e)
-      | inr more ↦ let further : q.0 < r.0 = h.0 r more in omega (arith, lt, further)
-    ], h))
-    (λ gt. (λ r a. elim (placed_has p qs r a) [
-      | inl e ↦ omega (arith, gt, ap (λ (v : ℕ × ℕ). v.0) e)
-      | inr old ↦ h.0 r old
-    ], placed_rises p qs (h.1)))
+    (λ lt. (
+      λ r a. elim (Contains-cons_cases q qs r a) [
+        | inl e ↦ omega (arith, lt, ap (λ (v : ℕ × ℕ). v.0) e)
+        | inr more ↦ let further : q.0 < r.0 = h.0 r more in omega (arith, lt, further)
+      ],
+      h,
+    ))
+    (λ gt. (
+      λ r a. elim (placed_has p qs r a) [
+        | inl e ↦ omega (arith, gt, ap (λ (v : ℕ × ℕ). v.0) e)
+        | inr old ↦ h.0 r old
+      ],
+      placed_rises p qs (h.1),
+    ))
     (λ e. h)
 
 -- ---- all of them

@@ -1,10 +1,11 @@
 -- What an input leaves, by its answer.
-use Rattle.std.proofs.Common.{◌≡◌, ◌≢◌, ◌↔◌, ◌||◌, ◌++◌, ℕ, Bool, true, false, List, [], ◌∷◌, Option, None, Result, Ok, Err, OnErr, OnOk, inl, inr, sym, ap, append-nil, ◌∙◌, refl, subst}
+use Rattle.std.proofs.Common.{◌≡◌, ◌≢◌, ◌↔◌, ◌||◌, ◌++◌, ℕ, Bool, true, false, List, [], ◌∷◌, Option, Some, None, Result, Ok, Err, OnErr, OnOk, inl, inr, sym, ap, append-nil, ◌∙◌, refl, subst}
 use Rattle.mcs_disk.specs.Disk.{DiskState, IsLawful}
 use Rattle.mcs_model.specs.declared.command.Command.{Command}
 use Rattle.mcs_model.specs.declared.command.Reply.{Reply}
 use Rattle.mcs_model.specs.declared.refusals.BenchFault.{BenchFault}
-use Rattle.mcs_model.specs.Command.{reply}
+use Rattle.mcs_model.specs.Command.{refusal, after, reply}
+use Rattle.mcs_model.specs.RefusalNumbers.{bench_fault_number}
 use Rattle.mcs_model.specs.declared.refusal_numbers.TheConstants.{CLOSED, DEVICE, NO_MEMORY}
 use Rattle.mcs_model.specs.BenchState.{BenchState}
 use Rattle.mcs_session.specs.declared.fault.SessionFault.{SessionFault}
@@ -23,7 +24,7 @@ use Rattle.mcs_session.specs.SessionState.{Premise, SessionState}
 use Rattle.mcs_shell.specs.ShellState.{ShellState}
 use Rattle.mcs_shell.specs.RefusalNumbers.{session_fault_number}
 use Rattle.mcs_answers.specs.AnswerTexts.{no_text, ok_text}
-use Rattle.mcs_shell.specs.Transcript.{IsPossibleOutcome, answer, asked_command, acknowledged_commands, halt_of, is_device_fault, plain_answer, reached_commands, takes_memory}
+use Rattle.mcs_shell.specs.Transcript.{IsPossibleOutcome, accepted_commands, answer, asked_command, change_answer, acknowledged_commands, halt_of, is_device_fault, plain_answer, reached_commands, takes_memory}
 use Rattle.mcs_session.specs.KeptCommands.{IsIntact}
 use Rattle.mcs_shell.specs.Serving.{AnsweredInput, LeavesSession, ServesInputs, ServesSteps, WroteBytes, outcome_of}
 use Rattle.mcs_session.proofs.Keeping.{acknowledged_keeps, carries_nothing, failed_keeps, stays_keeps}
@@ -45,53 +46,74 @@ pub record Tried (live : Bool) (s : BenchState) (d : DiskState) (c : Command) (r
 pub known : (q r : Result Reply SessionFault) (live : Bool) (s : BenchState) (d : DiskState) (b : SessionState) (c : Command) → q ≡ r → Tried live s d c q b → Tried live s d c r b
 known q r live s d b c same h = subst (λ x. Tried live s d c x b) same h
 
+accepted_alone : (s : BenchState) (c : Command) → refusal s c ≡ None → accepted_commands s (Some c) ≡ c ∷ []
+accepted_alone s c e = ap (λ (v : Option BenchFault). elim v [ None ↦ c ∷ [] | Some f ↦ [] ]) e
+
+refused_none : (s : BenchState) (c : Command) (f : BenchFault) → refusal s c ≡ Some f → accepted_commands s (Some c) ≡ []
+refused_none s c f e = ap (λ (v : Option BenchFault). elim v [ None ↦ c ∷ [] | Some g ↦ [] ]) e
+
+text_accepted : (s : BenchState) (c : Command) → refusal s c ≡ None → change_answer s c ≡ ok_text (reply s c) (after s c)
+text_accepted s c e = ap (λ (v : Option BenchFault). elim v [ None ↦ ok_text (reply s c) (after s c) | Some f ↦ no_text (bench_fault_number f) ]) e
+
+text_refused : (s : BenchState) (c : Command) (f : BenchFault) → refusal s c ≡ Some f → change_answer s c ≡ no_text (bench_fault_number f)
+text_refused s c f e = ap (λ (v : Option BenchFault). elim v [ None ↦ ok_text (reply s c) (after s c) | Some g ↦ no_text (bench_fault_number g) ]) e
+
 -- ---- a command
 
 pub ok_changed : (r : Reply) (live : Bool) (s : BenchState) (d : DiskState) (b : SessionState) (c : Command) (told : List ℕ) → Tried live s d c (Ok r) b → told ≡ ok_text r b.bench.state → AnsweredInput (at live s d) (Line (Change c)) Plain told b
 unfolding answer acknowledged_commands reached_commands IsPossibleOutcome
 ok_changed r false s d b c told h k = absurd (h.applied)
-ok_changed r true s d b c told h k = record {
-  may = inr refl;
-  told_is = rw h.applied.0 (k ∙ ap (λ v. ok_text v b.bench.state) (h.applied.1) ∙ ap (ok_text (reply s c)) (h.applied.2));
-  leaves = rw h.applied.0 (record {
-    bench = λ k. record { live = h.closes.0 k; state = h.applied.2 k };
-    same_faults = h.closes.1;
-    size = h.size;
-    honest = h.honest;
-    kept = λ given. acknowledged_keeps d b.disk s c (h.records given.honest.1) (h.lawful (h.honest.1 given.honest.1));
-  });
-}
+ok_changed r true s d b c told h k =
+    let yes : refusal s c ≡ None = h.applied.0 in
+    let P : List Command → Type 0 = λ cs. LeavesSession IsIntact false (at true s d) b cs cs in
+    record {
+      may = inr refl;
+      told_is = k ∙ ap (λ v. ok_text v b.bench.state) (h.applied.1) ∙ ap (ok_text (reply s c)) (h.applied.2) ∙ sym (text_accepted s c yes);
+      leaves = subst P (sym (accepted_alone s c yes)) (record {
+        bench = λ k. record { live = h.closes.0 k; state = h.applied.2 k };
+        same_faults = h.closes.1;
+        size = h.size;
+        honest = h.honest;
+        kept = λ given. acknowledged_keeps d b.disk s c (h.records given.honest.1) (h.lawful (h.honest.1 given.honest.1));
+      });
+    }
 
 refused_changed : (f : BenchFault) (live : Bool) (s : BenchState) (d : DiskState) (b : SessionState) (c : Command) (told : List ℕ) → Tried live s d c (Err (fault.Refused f)) b → told ≡ no_text (session_fault_number (fault.Refused f)) → AnsweredInput (at live s d) (Line (Change c)) Plain told b
 unfolding answer acknowledged_commands reached_commands IsPossibleOutcome
 refused_changed f false s d b c told h k = absurd (h.applied)
-refused_changed f true s d b c told h k = record {
-  may = inr refl;
-  told_is = rw h.applied.0 k;
-  leaves = rw h.applied.0 (record {
-    bench = λ k. record { live = h.closes.0 k; state = h.applied.1 k };
-    same_faults = h.closes.1;
-    size = h.size;
-    honest = h.honest;
-    kept = λ given. stays_keeps d b.disk s (h.records given.honest.1) given.intact (h.lawful (h.honest.1 given.honest.1));
-  });
-}
+refused_changed f true s d b c told h k =
+    let no : refusal s c ≡ Some f = h.applied.0 in
+    let P : List Command → Type 0 = λ cs. LeavesSession IsIntact false (at true s d) b cs cs in
+    record {
+      may = inr refl;
+      told_is = k ∙ sym (text_refused s c f no);
+      leaves = subst P (sym (refused_none s c f no)) (record {
+        bench = λ k. record { live = h.closes.0 k; state = h.applied.1 k };
+        same_faults = h.closes.1;
+        size = h.size;
+        honest = h.honest;
+        kept = λ given. stays_keeps d b.disk s (h.records given.honest.1) given.intact (h.lawful (h.honest.1 given.honest.1));
+      });
+    }
 
 device_changed : (live : Bool) (s : BenchState) (d : DiskState) (b : SessionState) (c : Command) (told : List ℕ) → Tried live s d c (Err fault.Device) b → told ≡ no_text DEVICE → AnsweredInput (at live s d) (Line (Change c)) Device told b
 unfolding answer acknowledged_commands reached_commands IsPossibleOutcome
 device_changed false s d b c told h k = absurd (h.applied)
-device_changed true s d b c told h k = record {
-  may = rw h.applied.0 (λ none. absurd (cc none), refl);
-  told_is = k;
-  leaves = rw h.applied.0 (record {
-    closed = h.closes.0;
-    state = h.applied.1;
-    faults = h.closes.1;
-    size = h.size;
-    honest = h.honest;
-    kept = λ given. failed_keeps d b.disk s c (h.records given.honest.1) (h.lawful (h.honest.1 given.honest.1));
-  });
-}
+device_changed true s d b c told h k =
+    let alone : accepted_commands s (Some c) ≡ c ∷ [] = accepted_alone s c (h.applied.0) in
+    let P : List Command → Type 0 = λ cs. LeavesSession IsIntact true (at true s d) b [] cs in
+    record {
+      may = (λ none. let x : c ∷ [] ≡ [] = sym alone ∙ none in absurd (cc x), refl);
+      told_is = k;
+      leaves = subst P (sym alone) (record {
+        closed = h.closes.0;
+        state = h.applied.1;
+        faults = h.closes.1;
+        size = h.size;
+        honest = h.honest;
+        kept = λ given. failed_keeps d b.disk s c (h.records given.honest.1) (h.lawful (h.honest.1 given.honest.1));
+      });
+    }
 
 closed_changed : (live : Bool) (s : BenchState) (d : DiskState) (b : SessionState) (c : Command) (told : List ℕ) → Tried live s d c (Err fault.Closed) b → told ≡ no_text CLOSED → AnsweredInput (at live s d) (Line (Change c)) Closed told b
 unfolding answer acknowledged_commands reached_commands IsPossibleOutcome

@@ -25,7 +25,7 @@ use Rattle.mcs_shell.specs.Shell.{EndsBy, ReadsLittleAhead, RanShellGiven, ReadB
 use Rattle.mcs_shell.specs.ShellState.{KnownBytes, ShellState, with_written}
 use Rattle.mcs_shell.specs.Transcript.{Step, acknowledged_commands, halt_after, halt_of, in_turn, inputs_in, reached_commands}
 use Rattle.mcs_shell.proofs.LineFeeds.{after-commands, after-cut, after-no_end, after-whole}
-use Rattle.mcs_shell.proofs.StepLists.{halt-append, has_failed}
+use Rattle.mcs_shell.proofs.StepLists.{halt-append, has_failed, some_apart}
 use Rattle.mcs_shell.proofs.Steps.{feeds_more, feeds_nothing, meets_nothing, serves_more}
 
 -- ---- inputs of the bytes that were read
@@ -49,7 +49,7 @@ meets_then whole a b c l k bytes halted x y = record {
 }
 
 abbrev pub meets_halted : (whole : Bool) (a b : ShellState) (p q : Pending) (bytes : List ℕ) (cause : ShellEnd) → ServesBytes a b p q bytes (Some cause) → ServesInputs IsIntact (inputs_after p (bytes ++ []) whole) a b (Some cause)
-meets_halted whole a b p q bytes cause x = record { met = x.met; serves = x.serves; halts = x.halts; not_met = x.not_met [] whole; spelled = x.spelled [] whole; all_met = λ none. absurd (cc none) }
+meets_halted whole a b p q bytes cause x = record { met = x.met; serves = x.serves; halts = x.halts; not_met = x.not_met [] whole; spelled = x.spelled [] whole; all_met = λ none. absurd (some_apart cause none) }
 
 -- ---- where input ended
 
