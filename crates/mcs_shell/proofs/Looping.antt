@@ -19,12 +19,12 @@ use Rattle.mcs_shell.specs.declared.outcome.Outcome.TheVariants.{Device}
 use Rattle.mcs_shell.specs.declared.shell.TheConstants.{CHUNK_BYTES}
 use Rattle.mcs_shell.specs.declared.texts.TextFault.TheVariants.{NoEnd}
 use Rattle.mcs_shell.specs.LineFeeds.{HasNoFeed}
-use Rattle.mcs_shell.specs.Inputs.{Input, BadText, Commands, InText, Pending, nothing_pending, inputs, inputs_after}
+use Rattle.mcs_shell.specs.Inputs.{Input, BadText, Commands, InText, Pending, nothing_pending, inputs, inputs_after, inputs_of_lines}
 use Rattle.mcs_shell.specs.Serving.{ServesBytes, GotFirstBytes, LeavesSession, ServesInputs, WroteBytes}
 use Rattle.mcs_shell.specs.Shell.{EndsBy, ReadsLittleAhead, RanShellGiven, ReadBytes}
 use Rattle.mcs_shell.specs.ShellState.{KnownBytes, ShellState, with_written}
 use Rattle.mcs_shell.specs.Transcript.{Step, acknowledged_commands, halt_after, halt_of, in_turn, inputs_in, reached_commands}
-use Rattle.mcs_shell.proofs.LineFeeds.{after-commands, after-cut, after-no_end, after-whole}
+use Rattle.mcs_shell.proofs.LineFeeds.{after-cut, after-empty, after-whole}
 use Rattle.mcs_shell.proofs.StepLists.{halt-append, has_failed, some_apart}
 use Rattle.mcs_shell.proofs.Steps.{feeds_more, feeds_nothing, meets_nothing, serves_more}
 
@@ -54,10 +54,12 @@ meets_halted whole a b p q bytes cause x = record { met = x.met; serves = x.serv
 -- ---- where input ended
 
 pub finished_empty : (a : ShellState) (p : Pending) → length p.line ≡ 0 → p.mode ≡ Commands → ServesInputs IsIntact (inputs_after p [] true) a a None
-finished_empty a p none is = meets_as IsIntact (inputs_after p [] true) [] a a None (after-commands p none is) (meets_nothing a)
+unfolding inputs_of_lines
+finished_empty a p none is = meets_as IsIntact (inputs_after p [] true) [] a a None (after-empty p Commands none is) (meets_nothing a)
 
 pub finished_text : (a b : ShellState) (p : Pending) (kind : TextKind) (text : List ℕ) (halted : Option ShellEnd) → length p.line ≡ 0 → p.mode ≡ InText kind text → ServesInputs IsIntact (BadText NoEnd ∷ []) a b halted → ServesInputs IsIntact (inputs_after p [] true) a b halted
-finished_text a b p kind text halted none is m = meets_as IsIntact (inputs_after p [] true) (BadText NoEnd ∷ []) a b halted (after-no_end p kind text none is) m
+unfolding inputs_of_lines
+finished_text a b p kind text halted none is m = meets_as IsIntact (inputs_after p [] true) (BadText NoEnd ∷ []) a b halted (after-empty p (InText kind text) none is) m
 
 -- as if a line feed had come
 pub finished_line : (a b c : ShellState) (p q : Pending) (halted : Option ShellEnd) → HasNoFeed p.line → 0 < length p.line → ServesBytes a b p q (10 ∷ []) None → ServesInputs IsIntact (inputs_after q [] true) b c halted → ServesInputs IsIntact (inputs_after p [] true) a c halted
