@@ -85,62 +85,59 @@ placed_above p q qs h = let e : nat_lt p.0 q.0 ≡ false = search rules in let f
 placed_same : (p q : ℕ × ℕ) (qs : List (ℕ × ℕ)) → p.0 ≡ q.0 → insert_pair p (q ∷ qs) ≡ q ∷ qs
 placed_same p q qs h = let e : nat_lt p.0 q.0 ≡ false = search rules in let f : nat_lt q.0 p.0 ≡ false = search rules in rw (e, f) refl
 
-tri : (m n : ℕ) → (m < n) ⊎ ((n < m) ⊎ (m ≡ n))
-tri m n = elim (cases_lt m n) [
-  | inl lt ↦ inl lt
-  | inr le ↦ elim (cases_lt n m) [ inl lt ↦ inr (inl lt) | inr ge ↦ inr (inr (omega (arith, le, ge))) ]
+-- what holds at each place that the pair may take
+placed_by : (p q : ℕ × ℕ) (qs : List (ℕ × ℕ)) (P : List (ℕ × ℕ) → Type 0) → (p.0 < q.0 → P (p ∷ q ∷ qs)) → (q.0 < p.0 → P (q ∷ insert_pair p qs)) → (p.0 ≡ q.0 → P (q ∷ qs)) → P (insert_pair p (q ∷ qs))
+placed_by p q qs P below above same = elim (cases_lt p.0 q.0) [
+  | inl lt ↦ subst P (sym (placed_below p q qs lt)) (below lt)
+  | inr le ↦ elim (cases_lt q.0 p.0) [
+    | inl gt ↦ subst P (sym (placed_above p q qs gt)) (above gt)
+    | inr ge ↦ let e : p.0 ≡ q.0 = omega (arith, le, ge) in subst P (sym (placed_same p q qs e)) (same e)
+  ]
 ]
 
 placed_has : (p : ℕ × ℕ) (qs : List (ℕ × ℕ)) (r : ℕ × ℕ) → Contains (insert_pair p qs) r → (p ≡ r) ⊎ Contains qs r
 placed_has p [] r h = Contains-cons_cases p [] r h
-placed_has p (q ∷ qs) r h = elim (tri p.0 q.0) [
-  | inl lt ↦ Contains-cons_cases p (q ∷ qs) r (subst (λ (v : List (ℕ × ℕ)). Contains v r) (placed_below p q qs lt) h)
-  | inr (inl gt) ↦ elim (Contains-cons_cases q (insert_pair p qs) r (subst (λ (v : List (ℕ × ℕ)). Contains v r) (placed_above p q qs gt) h)) [
-    | inl e ↦ inr (subst (λ (v : ℕ × ℕ). Contains (q ∷ qs) v) e (Contains-head q qs))
-    | inr more ↦ elim (placed_has p qs r more) [ inl e ↦ inl e | inr old ↦ inr (in_rest q qs r old) ]
-  ]
-  | inr (inr e) ↦ inr (subst (λ (v : List (ℕ × ℕ)). Contains v r) (placed_same p q qs e) h)
-]
+placed_has p (q ∷ qs) r h = placed_by p q qs (λ v. Contains v r → (p ≡ r) ⊎ Contains (q ∷ qs) r) (λ lt a. Contains-cons_cases p (q ∷ qs) r a)
+    (λ gt a. elim (Contains-cons_cases q (insert_pair p qs) r a) [
+      | inl e ↦ inr (subst (λ (v : ℕ × ℕ). Contains (q ∷ qs) v) e (Contains-head q qs))
+      | inr more ↦ elim (placed_has p qs r more) [ inl e ↦ inl e | inr old ↦ inr (in_rest q qs r old) ]
+    ])
+    (λ e a. inr a) h
 
 placed_keeps : (p : ℕ × ℕ) (qs : List (ℕ × ℕ)) (r : ℕ × ℕ) → Contains qs r → Contains (insert_pair p qs) r
 placed_keeps p [] r h = absurd (in_none r h)
-placed_keeps p (q ∷ qs) r h = elim (tri p.0 q.0) [
-  | inl lt ↦ subst (λ (v : List (ℕ × ℕ)). Contains v r) (sym (placed_below p q qs lt)) (in_rest p (q ∷ qs) r h)
-  | inr (inl gt) ↦ subst (λ (v : List (ℕ × ℕ)). Contains v r) (sym (placed_above p q qs gt)) (elim (Contains-cons_cases q qs r h) [
-    | inl e ↦ subst (λ (v : ℕ × ℕ). Contains (q ∷ insert_pair p qs) v) e (Contains-head q (insert_pair p qs))
-    | inr old ↦ in_rest q (insert_pair p qs) r (placed_keeps p qs r old)
-  ])
-  | inr (inr e) ↦ subst (λ (v : List (ℕ × ℕ)). Contains v r) (sym (placed_same p q qs e)) h
-]
+placed_keeps p (q ∷ qs) r h = placed_by p q qs (λ v. Contains v r) (λ lt. in_rest p (q ∷ qs) r h)
+    (λ gt. elim (Contains-cons_cases q qs r h) [
+      | inl e ↦ subst (λ (v : ℕ × ℕ). Contains (q ∷ insert_pair p qs) v) e (Contains-head q (insert_pair p qs))
+      | inr old ↦ in_rest q (insert_pair p qs) r (placed_keeps p qs r old)
+    ])
+    (λ e. h)
 
 -- the pair itself, where no other has its address
 placed_in : (p : ℕ × ℕ) (qs : List (ℕ × ℕ)) → ((q : ℕ × ℕ) → Contains qs q → p.0 ≡ q.0 → p ≡ q) → Contains (insert_pair p qs) p
 placed_in p [] one = Contains-head p []
-placed_in p (q ∷ qs) one = elim (tri p.0 q.0) [
-  | inl lt ↦ subst (λ (v : List (ℕ × ℕ)). Contains v p) (sym (placed_below p q qs lt)) (Contains-head p (q ∷ qs))
-  | inr (inl gt) ↦ subst (λ (v : List (ℕ × ℕ)). Contains v p) (sym (placed_above p q qs gt)) (in_rest q (insert_pair p qs) p (placed_in p qs (λ r h. one r (in_rest q qs r h))))
-  | inr (inr e) ↦ subst (λ (v : List (ℕ × ℕ)). Contains v p) (sym (placed_same p q qs e)) (subst (λ (v : ℕ × ℕ). Contains (q ∷ qs) v) (sym (one q (Contains-head q qs) e)) (Contains-head q qs))
-]
+placed_in p (q ∷ qs) one = placed_by p q qs (λ v. Contains v p) (λ lt. Contains-head p (q ∷ qs))
+    (λ gt. in_rest q (insert_pair p qs) p (placed_in p qs (λ r h. one r (in_rest q qs r h))))
+    (λ e. subst (λ (v : ℕ × ℕ). Contains (q ∷ qs) v) (sym (one q (Contains-head q qs) e)) (Contains-head q qs))
 
 placed_rises : (p : ℕ × ℕ) (qs : List (ℕ × ℕ)) → Rises qs → Rises (insert_pair p qs)
 placed_rises p [] h = ((λ q a. absurd (in_none q a)), tt)
-placed_rises p (q ∷ qs) h = elim (tri p.0 q.0) [
-  | inl lt ↦ subst Rises (sym (placed_below p q qs lt)) (
-    (λ r a. elim (Contains-cons_cases q qs r a) [
-      | inl e ↦ omega (arith, lt, ap (λ (v : ℕ × ℕ). v.0) e)
-      | inr more ↦ let further : q.0 < r.0 = h.0 r more in omega (arith, lt, further)
-    ]),
-    h,
-  )
-  | inr (inl gt) ↦ subst Rises (sym (placed_above p q qs gt)) (
-    (λ r a. elim (placed_has p qs r a) [
-      | inl e ↦ omega (arith, gt, ap (λ (v : ℕ × ℕ). v.0) e)
-      | inr old ↦ h.0 r old
-    ]),
-    placed_rises p qs (h.1),
-  )
-  | inr (inr e) ↦ subst Rises (sym (placed_same p q qs e)) h
-]
+placed_rises p (q ∷ qs) h = placed_by p q qs Rises
+    (λ lt. (
+      λ r a. elim (Contains-cons_cases q qs r a) [
+        | inl e ↦ omega (arith, lt, ap (λ (v : ℕ × ℕ). v.0) e)
+        | inr more ↦ let further : q.0 < r.0 = h.0 r more in omega (arith, lt, further)
+      ],
+      h,
+    ))
+    (λ gt. (
+      λ r a. elim (placed_has p qs r a) [
+        | inl e ↦ omega (arith, gt, ap (λ (v : ℕ × ℕ). v.0) e)
+        | inr old ↦ h.0 r old
+      ],
+      placed_rises p qs (h.1),
+    ))
+    (λ e. h)
 
 -- ---- all of them
 

@@ -1,5 +1,5 @@
 -- What an input leaves, by its answer.
-use Rattle.std.proofs.Common.{◌≡◌, ◌≢◌, ◌⊎◌, ◌↔◌, ◌||◌, ◌++◌, ℕ, Bool, true, false, List, [], ◌∷◌, Option, Some, None, Result, Ok, Err, OnErr, OnOk, inl, inr, sym, ap, append-nil, ◌∙◌, refl, subst}
+use Rattle.std.proofs.Common.{◌≡◌, ◌≢◌, ◌↔◌, ◌||◌, ◌++◌, ℕ, Bool, true, false, List, [], ◌∷◌, Option, Some, None, Result, Ok, Err, OnErr, OnOk, inl, inr, sym, ap, append-nil, ◌∙◌, refl, subst}
 use Rattle.mcs_disk.specs.Disk.{DiskState, IsLawful}
 use Rattle.mcs_model.specs.declared.command.Command.{Command}
 use Rattle.mcs_model.specs.declared.command.Reply.{Reply}
@@ -17,14 +17,14 @@ use Rattle.mcs_shell.specs.declared.spelling.TextRefusal.{TextRefusal}
 use Rattle.mcs_lines.specs.declared.requests.TextKind.{TextKind}
 use Rattle.mcs_shell.specs.declared.texts.TextFault.{TextFault}
 use Rattle.mcs_shell.specs.declared.ends.ShellEnd.{ShellEnd}
-use Rattle.mcs_shell.specs.Inputs.{Input, Line, Text, BadText, text_fault_of, judged_text, text_or_fault}
+use Rattle.mcs_shell.specs.Inputs.{Input, Line, Text, text_fault_of, judged_text, text_or_fault}
 use Rattle.mcs_shell.specs.Spelling.{Does, Tells, meaning_of_text, text_refusal}
 use Rattle.mcs_session.specs.SessionCalls.{AppliesCommand, ClosesAtDeviceFault, RecordsOrFails}
 use Rattle.mcs_session.specs.SessionState.{Premise, SessionState}
 use Rattle.mcs_shell.specs.ShellState.{ShellState}
 use Rattle.mcs_shell.specs.RefusalNumbers.{session_fault_number}
 use Rattle.mcs_answers.specs.AnswerTexts.{no_text, ok_text}
-use Rattle.mcs_shell.specs.Transcript.{IsPossibleOutcome, accepted_commands, answer, asked_command, text_command, change_answer, acknowledged_commands, halt_of, is_device_fault, plain_answer, reached_commands, meaning_answer, takes_memory}
+use Rattle.mcs_shell.specs.Transcript.{IsPossibleOutcome, accepted_commands, answer, asked_command, change_answer, acknowledged_commands, halt_of, is_device_fault, plain_answer, reached_commands, takes_memory}
 use Rattle.mcs_session.specs.KeptCommands.{IsIntact}
 use Rattle.mcs_shell.specs.Serving.{AnsweredInput, LeavesSession, ServesInputs, ServesSteps, WroteBytes, outcome_of}
 use Rattle.mcs_session.proofs.Keeping.{acknowledged_keeps, carries_nothing, failed_keeps, stays_keeps}
@@ -135,10 +135,7 @@ fault_changed fault.Closed = closed_changed
 -- an input that asks for no command
 pub answered_plain : (a : SessionState) (i : Input) (told : List ℕ) → asked_command i ≡ None → told ≡ plain_answer a.bench.state i → AnsweredInput a i Plain told a
 unfolding answer acknowledged_commands reached_commands IsPossibleOutcome
-answered_plain a i told none k =
-    let P : List Command → Type 0 = λ cs. LeavesSession IsIntact false a a cs cs in
-    let nothing : accepted_commands a.bench.state (asked_command i) ≡ [] = ap (accepted_commands a.bench.state) none in
-    record { may = inl none; told_is = k; leaves = subst P (sym nothing) (carries_nothing a) }
+answered_plain a i told none k = record { may = inl none; told_is = k; leaves = rw none (carries_nothing a) }
 
 -- memory for it was refused
 pub answered_no_memory : (a : SessionState) (i : Input) (told : List ℕ) → takes_memory i ≡ true → told ≡ no_text NO_MEMORY → AnsweredInput a i NoMemory told a
@@ -148,63 +145,41 @@ answered_no_memory a i told takes k = record { may = takes; told_is = k; leaves 
 pub answered_as : (a b : SessionState) (i j : Input) (o : Outcome) (told : List ℕ) → i ≡ j → AnsweredInput a j o told b → AnsweredInput a i o told b
 answered_as a b i j o told same h = let P : Input → Type 0 = λ x. AnsweredInput a x o told b in subst P (sym same) h
 
-answered_by : (a b : SessionState) (i : Input) (o q : Outcome) (told : List ℕ) → o ≡ q → AnsweredInput a i q told b → AnsweredInput a i o told b
-answered_by a b i o q told same h = let P : Outcome → Type 0 = λ x. AnsweredInput a i x told b in subst P (sym same) h
-
 -- a request whose answer takes memory
 pub answered_long : {T E : Type 0} (r : Result T E) (a : SessionState) (i : Input) (o : Outcome) (text told : List ℕ) → asked_command i ≡ None → takes_memory i ≡ true
     → OnOk r (text ≡ plain_answer a.bench.state i) → OnOk r ((o ≡ Plain) × (told ≡ text)) → OnErr r ((o ≡ NoMemory) × (told ≡ no_text NO_MEMORY)) → AnsweredInput a i o told a
-answered_long (Ok x) a i o text told none takes is k refused = answered_by a a i o Plain told (k.0) (answered_plain a i told none (k.1 ∙ is))
-answered_long (Err x) a i o text told none takes is k refused = answered_by a a i o NoMemory told (refused.0) (answered_no_memory a i told takes (refused.1))
+answered_long (Ok x) a i o text told none takes is k refused = rw k.0 (answered_plain a i told none (k.1 ∙ is))
+answered_long (Err x) a i o text told none takes is k refused = rw refused.0 (answered_no_memory a i told takes (refused.1))
 
 -- ---- a text
 
-pub is_text : (kind : TextKind) (text : List ℕ) → text_fault_of text ≡ None → judged_text kind text ≡ Text kind text
-is_text kind text e = ap (text_or_fault kind text) e
-
-pub is_bad_text : (kind : TextKind) (text : List ℕ) (f : TextFault) → text_fault_of text ≡ Some f → judged_text kind text ≡ BadText f
-is_bad_text kind text f e = ap (text_or_fault kind text) e
-
--- inputs that ask for the same command, and are answered alike by the state
-answered_alike : (a b : SessionState) (i j : Input) (o : Outcome) (told : List ℕ) → asked_command i ≡ asked_command j → plain_answer a.bench.state i ≡ plain_answer a.bench.state j → takes_memory i ≡ true
-    → AnsweredInput a j o told b → AnsweredInput a i o told b
-unfolding answer acknowledged_commands reached_commands IsPossibleOutcome
-answered_alike a b i j Plain told same alike takes h =
-    let P : Option Command → Type 0 = λ q. LeavesSession IsIntact false a b (accepted_commands a.bench.state q) (accepted_commands a.bench.state q) in
-    let Q : Option Command → Type 0 = λ q. (q ≡ None) ⊎ (a.bench.live ≡ true) in
-    record { may = subst Q (sym same) h.may; told_is = h.told_is ∙ sym alike; leaves = subst P (sym same) h.leaves }
-answered_alike a b i j Device told same alike takes h =
-    let P : Option Command → Type 0 = λ q. LeavesSession IsIntact true a b [] (accepted_commands a.bench.state q) in
-    let Q : Option Command → Type 0 = λ q. (accepted_commands a.bench.state q ≢ []) × (a.bench.live ≡ true) in
-    record { may = subst Q (sym same) h.may; told_is = h.told_is; leaves = subst P (sym same) h.leaves }
-answered_alike a b i j Closed told same alike takes h =
-    let Q : Option Command → Type 0 = λ q. (q ≢ None) × (a.bench.live ≡ false) in
-    record { may = subst Q (sym same) h.may; told_is = h.told_is; leaves = h.leaves }
-answered_alike a b i j NoMemory told same alike takes h = record { may = takes; told_is = h.told_is; leaves = h.leaves }
+pub is_judged : (kind : TextKind) (text : List ℕ) (f : Option TextFault) → text_fault_of text ≡ f → judged_text kind text ≡ text_or_fault kind text f
+is_judged kind text f e = ap (text_or_fault kind text) e
 
 -- a text that spells a command is answered as that command is
 pub answered_text : (a b : SessionState) (kind : TextKind) (text : List ℕ) (c : Command) (o : Outcome) (told : List ℕ)
     → meaning_of_text kind text ≡ Ok (Does c) → AnsweredInput a (Line (Change c)) o told b → AnsweredInput a (Text kind text) o told b
-answered_text a b kind text c o told is h =
-    answered_alike a b (Text kind text) (Line (Change c)) o told (ap text_command is) (ap (meaning_answer a.bench.state) is) refl h
+unfolding answer acknowledged_commands reached_commands IsPossibleOutcome
+answered_text a b kind text c Plain told is h = record { may = rw is h.may; told_is = rw is h.told_is; leaves = rw is h.leaves }
+answered_text a b kind text c Device told is h = record { may = rw is h.may; told_is = h.told_is; leaves = rw is h.leaves }
+answered_text a b kind text c Closed told is h = record { may = rw is h.may; told_is = h.told_is; leaves = h.leaves }
+answered_text a b kind text c NoMemory told is h = record { may = refl; told_is = h.told_is; leaves = h.leaves }
 
 -- one that spells none
 pub answered_refused_text : (a : SessionState) (kind : TextKind) (text : List ℕ) (why : TextRefusal) (told : List ℕ)
     → meaning_of_text kind text ≡ Err why → told ≡ text_refusal why → AnsweredInput a (Text kind text) Plain told a
-answered_refused_text a kind text why told is k = answered_plain a (Text kind text) told (ap text_command is) (k ∙ sym (ap (meaning_answer a.bench.state) is))
+answered_refused_text a kind text why told is k = answered_plain a (Text kind text) told (rw is refl) (rw is k)
 
 -- one that comes to lines
 pub answered_told_text : (a : SessionState) (kind : TextKind) (text lines told : List ℕ)
     → meaning_of_text kind text ≡ Ok (Tells lines) → told ≡ lines → AnsweredInput a (Text kind text) Plain told a
-answered_told_text a kind text lines told is k = answered_plain a (Text kind text) told (ap text_command is) (k ∙ sym (ap (meaning_answer a.bench.state) is))
+answered_told_text a kind text lines told is k = answered_plain a (Text kind text) told (rw is refl) (rw is k)
 
 -- ---- an input that was answered, and its answer
 
 pub no_halt : (o : Outcome) → o ≢ Device → halt_of true o ≡ None
-no_halt Plain h = refl
 no_halt Device h = absurd (h refl)
-no_halt Closed h = refl
-no_halt NoMemory h = refl
+no_halt o h = refl
 
 abbrev pub leaves_as : (Given : Premise) (f g : Bool) (a b : SessionState) (cs ds rs qs : List Command) → f ≡ g → cs ≡ ds → rs ≡ qs → LeavesSession Given g a b ds qs → LeavesSession Given f a b cs rs
 leaves_as Given f g a b cs ds rs qs e k l h =

@@ -1,15 +1,11 @@
 pub mod Cutting
 pub mod LineFeeds
 pub mod ShortLines
-pub mod TextLaws
 pub mod PlainText
 pub mod ByAddress
 pub mod StepLists
-pub mod GrowingBytes
 pub mod Steps
 pub mod Doing
 pub mod Looping
 pub mod Surviving
-pub mod MapLaws
 pub mod InTurn
-pub mod InFile

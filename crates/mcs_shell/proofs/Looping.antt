@@ -13,19 +13,18 @@ use Rattle.mcs_model.specs.declared.limits.TheConstants.{INPUT_BYTES}
 use Rattle.mcs_session.specs.KeptCommands.{IsOpenOnHonestDisk, IsIntact}
 use Rattle.mcs_session.specs.SessionState.{Premise, SessionState}
 use Rattle.mcs_shell.specs.declared.ends.ShellEnd.{ShellEnd}
-use Rattle.mcs_shell.specs.declared.ends.ShellEnd.TheVariants.{End, ReadFault, WriteFault, DeviceFault, InputLimit, NoMemory}
+use Rattle.mcs_shell.specs.declared.ends.ShellEnd.TheVariants.{ReadFault, WriteFault, DeviceFault, InputLimit, NoMemory}
 use Rattle.mcs_shell.specs.declared.outcome.Outcome.{Outcome}
-use Rattle.mcs_shell.specs.declared.outcome.Outcome.TheVariants as outcome
-use Rattle.mcs_shell.specs.declared.outcome.Outcome.TheVariants.{Plain, Device, Closed}
+use Rattle.mcs_shell.specs.declared.outcome.Outcome.TheVariants.{Device}
 use Rattle.mcs_shell.specs.declared.shell.TheConstants.{CHUNK_BYTES}
 use Rattle.mcs_shell.specs.declared.texts.TextFault.TheVariants.{NoEnd}
 use Rattle.mcs_shell.specs.LineFeeds.{HasNoFeed}
-use Rattle.mcs_shell.specs.Inputs.{Input, BadText, Commands, InText, Pending, nothing_pending, inputs, inputs_after}
+use Rattle.mcs_shell.specs.Inputs.{Input, BadText, Commands, InText, Pending, nothing_pending, inputs, inputs_after, inputs_of_lines}
 use Rattle.mcs_shell.specs.Serving.{ServesBytes, GotFirstBytes, LeavesSession, ServesInputs, WroteBytes}
 use Rattle.mcs_shell.specs.Shell.{EndsBy, ReadsLittleAhead, RanShellGiven, ReadBytes}
 use Rattle.mcs_shell.specs.ShellState.{KnownBytes, ShellState, with_written}
 use Rattle.mcs_shell.specs.Transcript.{Step, acknowledged_commands, halt_after, halt_of, in_turn, inputs_in, reached_commands}
-use Rattle.mcs_shell.proofs.LineFeeds.{after-commands, after-cut, after-no_end, after-whole}
+use Rattle.mcs_shell.proofs.LineFeeds.{after-cut, after-empty, after-whole}
 use Rattle.mcs_shell.proofs.StepLists.{halt-append, has_failed, some_apart}
 use Rattle.mcs_shell.proofs.Steps.{feeds_more, feeds_nothing, meets_nothing, serves_more}
 
@@ -55,10 +54,12 @@ meets_halted whole a b p q bytes cause x = record { met = x.met; serves = x.serv
 -- ---- where input ended
 
 pub finished_empty : (a : ShellState) (p : Pending) → length p.line ≡ 0 → p.mode ≡ Commands → ServesInputs IsIntact (inputs_after p [] true) a a None
-finished_empty a p none is = meets_as IsIntact (inputs_after p [] true) [] a a None (after-commands p none is) (meets_nothing a)
+unfolding inputs_of_lines
+finished_empty a p none is = meets_as IsIntact (inputs_after p [] true) [] a a None (after-empty p Commands none is) (meets_nothing a)
 
 pub finished_text : (a b : ShellState) (p : Pending) (kind : TextKind) (text : List ℕ) (halted : Option ShellEnd) → length p.line ≡ 0 → p.mode ≡ InText kind text → ServesInputs IsIntact (BadText NoEnd ∷ []) a b halted → ServesInputs IsIntact (inputs_after p [] true) a b halted
-finished_text a b p kind text halted none is m = meets_as IsIntact (inputs_after p [] true) (BadText NoEnd ∷ []) a b halted (after-no_end p kind text none is) m
+unfolding inputs_of_lines
+finished_text a b p kind text halted none is m = meets_as IsIntact (inputs_after p [] true) (BadText NoEnd ∷ []) a b halted (after-empty p (InText kind text) none is) m
 
 -- as if a line feed had come
 pub finished_line : (a b c : ShellState) (p q : Pending) (halted : Option ShellEnd) → HasNoFeed p.line → 0 < length p.line → ServesBytes a b p q (10 ∷ []) None → ServesInputs IsIntact (inputs_after q [] true) b c halted → ServesInputs IsIntact (inputs_after p [] true) a c halted
@@ -155,26 +156,17 @@ last_read : (r r' r'' : KnownBytes) (most : ℕ) (bytes chunk : List ℕ) → Co
 last_read r r' r'' most bytes chunk a b = let P : List ℕ → Type 0 = λ y. Consumes r r'' y in
     subst P (ap (λ y. bytes ++ y) (nil_from_length chunk b.count) ∙ append-nil bytes) (Consumes-trans r r' r'' bytes chunk a b.consumed)
 
-ran_whole : (end : ShellEnd) (r r' r'' : KnownBytes) (a b c : ShellState) (line : Pending) (chunk : List ℕ) (total most : ℕ) (halted : Option ShellEnd) (x : SoFar r r' a b line total) → total < INPUT_BYTES → ReadBytes 0 most r' r'' chunk
+pub ran_whole : (end : ShellEnd) (r r' r'' : KnownBytes) (a b c : ShellState) (line : Pending) (chunk : List ℕ) (total most : ℕ) (halted : Option ShellEnd) (x : SoFar r r' a b line total) → total < INPUT_BYTES → ReadBytes 0 most r' r'' chunk
     → (m : ServesInputs IsIntact (inputs_after line [] true) b c halted) → EndsBy end true x.bytes true (x.fed.met ++ m.met) halted → RanShellGiven IsIntact [] end r r'' a c
 ran_whole end r r' r'' a b c line chunk total most halted x small y m ends =
     let below : length x.bytes < INPUT_BYTES = omega (arith, x.count, small) in
     ran_loop end true r r'' a c x.bytes halted (last_read r r' r'' most x.bytes chunk x.consumed y) (omega (arith, below)) (λ e. (below, y.at_end refl))
     (met_all true a b c line x.bytes halted x.fed m) (near_whole a b line x.bytes x.fed m.met) ends
 
-pub ran_end : (r r' r'' : KnownBytes) (a b c : ShellState) (line : Pending) (chunk : List ℕ) (total most : ℕ) → SoFar r r' a b line total → total < INPUT_BYTES → ReadBytes 0 most r' r'' chunk
-    → ServesInputs IsIntact (inputs_after line [] true) b c None → RanShellGiven IsIntact [] End r r'' a c
-ran_end r r' r'' a b c line chunk total most x small y m = ran_whole End r r' r'' a b c line chunk total most None x small y m (refl, refl, refl)
-
-some_end : (x y : ShellEnd) → Some x ≡ Some y → x ≡ y
-some_end x y e = ap (λ (v : Option ShellEnd). elim v [ None ↦ x | Some z ↦ z ]) e
-
 ends_one : (going : Bool) (o : Outcome) (end : ShellEnd) (bytes : List ℕ) (whole : Bool) (met : List Step) → halt_of going o ≡ Some end → EndsBy end true bytes whole met (Some end)
-ends_one false o end bytes whole met e = let P : ShellEnd → Type 0 = λ v. EndsBy v true bytes whole met (Some v) in subst P (some_end WriteFault end e) (inl (refl, refl))
-ends_one true Device end bytes whole met e = let P : ShellEnd → Type 0 = λ v. EndsBy v true bytes whole met (Some v) in subst P (some_end DeviceFault end e) (refl, refl)
-ends_one true Plain end bytes whole met e = absurd (cc e)
-ends_one true Closed end bytes whole met e = absurd (cc e)
-ends_one true outcome.NoMemory end bytes whole met e = absurd (cc e)
+ends_one false o end bytes whole met e = let is : WriteFault ≡ end = cc e in subst (λ (v : ShellEnd). EndsBy v true bytes whole met (Some v)) is (inl (refl, refl))
+ends_one true Device end bytes whole met e = let is : DeviceFault ≡ end = cc e in subst (λ (v : ShellEnd). EndsBy v true bytes whole met (Some v)) is (refl, refl)
+ends_one true o end bytes whole met e = absurd (cc e)
 
 either_end : (h k : Option ShellEnd) (end : ShellEnd) → option_or h k ≡ Some end → (h ≡ Some end) ⊎ (k ≡ Some end)
 either_end None k end e = inr e
@@ -272,10 +264,6 @@ not_begun end r a out first_line settle some untold ends = record {
   near = record { before = []; ahead = []; parts = refl; few = omega arith; more = []; answered_are = sym (append-nil (inputs [] false) ∙ nothing_cut) };
   ends = ends;
 }
-
--- nothing of a line that has bytes is some of it
-pub got_none : (out : KnownBytes) (bytes : List ℕ) → 0 < length bytes → GotFirstBytes out out bytes
-got_none out bytes some = record { count = 0; fewer = some; got = Appends-nil out }
 
 pub session_has_bytes : (s : BenchState) → 0 < length (session_text s)
 session_has_bytes s = let e : length (codes "session " ++ (decimal s.seq ++ line_feed)) ≡ 8 + length (decimal s.seq ++ line_feed) = length-append (codes "session ") (decimal s.seq ++ line_feed) in omega (arith, e)

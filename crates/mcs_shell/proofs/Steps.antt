@@ -9,6 +9,7 @@ use Rattle.mcs_lines.specs.Requests.{request_of}
 use Rattle.mcs_model.specs.declared.command.Command.{Command}
 use Rattle.mcs_model.specs.BenchState.{BenchState}
 use Rattle.mcs_model.specs.Fold.{fold}
+use Rattle.mcs_model.specs.TextLines.{lines}
 use Rattle.mcs_session.specs.KeptCommands.{RecordsCommands, IsIntact}
 use Rattle.mcs_session.specs.SessionState.{Premise, SessionState, SessionBench}
 use Rattle.mcs_session.proofs.Folds.{fold-append}
@@ -16,13 +17,13 @@ use Rattle.mcs_session.proofs.Keeping.{carries_more, carries_nothing, kept_more,
 use Rattle.mcs_shell.specs.declared.ends.ShellEnd.{ShellEnd}
 use Rattle.mcs_shell.specs.LineFeeds.{HasNoFeed, is_line_feed}
 use Rattle.mcs_shell.specs.Inputs.{Input, Line, Pending, Commands, InText, text_begun, nothing_pending, inputs_after, is_dot_line, judged_text}
-use Rattle.mcs_shell.specs.Reading.{AddsLineToText}
+use Rattle.mcs_shell.specs.Reading.{AddsLine, AddsLineToText}
 use Rattle.mcs_shell.specs.Serving.{ServesBytes, LeavesSession, ServesInputs, ServesSteps, WroteAnswers}
 use Rattle.mcs_shell.specs.ShellState.{ShellState}
 use Rattle.mcs_shell.specs.Transcript.{ArePossibleSteps, Step, acknowledged_commands, halt_after, in_turn, inputs_in, reached_commands}
 use Rattle.mcs_shell.proofs.Cutting.{HasNone-append, HasNone-take}
 use Rattle.mcs_shell.proofs.Doing.{leaves_as}
-use Rattle.mcs_shell.proofs.LineFeeds.{after-kept, feed-command, feed-dot, feed-line, feed-begun}
+use Rattle.mcs_shell.proofs.LineFeeds.{after-kept, after-line, group-begun, group-command, group-dot, group-kept, group-line}
 use Rattle.mcs_shell.proofs.StepLists.{failed-append, halt-append, has_failed, in_turn-further, may-append, not_failed, reached_all, state_after, wrote-append}
 
 -- ---- inputs in turn
@@ -37,9 +38,6 @@ leaves_more true a b c cs ds rs x y = record {
   honest = (λ h. x.honest.0 (y.honest.0 h), λ h. y.honest.1 (x.honest.1 h));
   kept = λ given. kept_more a.disk b.disk c.disk a.bench.state b.bench.state cs ds rs (x.kept given) (ap (λ (v : SessionBench). v.state) x.bench) (y.kept (settled_on a b cs x given));
 }
-
-pub serves_nothing : (a : ShellState) → ServesSteps IsIntact a [] a
-serves_nothing a = record { may = tt; wrote = refl; leaves = carries_nothing a.session }
 
 -- where nothing halted the shell
 pub carries_unhalted : (Given : Premise) (a b : SessionState) (s : BenchState) (met : List Step) → halt_after met ≡ None → LeavesSession Given (has_failed met) a b (in_turn acknowledged_commands s met) (in_turn reached_commands s met) → RecordsCommands Given a b (in_turn acknowledged_commands s met)
@@ -66,7 +64,7 @@ serves_more a b c xs ys none x y =
 -- ---- bytes
 
 abbrev pub meets_nothing : (a : ShellState) → ServesInputs IsIntact [] a a None
-meets_nothing a = record { met = []; serves = serves_nothing a; halts = refl; not_met = []; spelled = refl; all_met = λ none. refl }
+meets_nothing a = record { met = []; serves = record { may = tt; wrote = refl; leaves = carries_nothing a.session }; halts = refl; not_met = []; spelled = refl; all_met = λ none. refl }
 
 -- these bytes spell the inputs that were given
 pub feeds : (a b : ShellState) (p q k : Pending) (bytes : List ℕ) (given : List Input) (halted : Option ShellEnd) → HasNoFeed k.line → (halted ≡ None → q ≡ k)
@@ -127,28 +125,28 @@ feeds_kept a p q bytes f g e = let P : Pending → Type 0 = λ x. ServesBytes a 
 pub feeds_command : (a b : ShellState) (p q : Pending) (line : List ℕ) (halted : Option ShellEnd) → HasNoFeed p.line → p.mode ≡ Commands → line ≡ strip_carriage_return p.line → text_begun (request_of line) ≡ None
     → (halted ≡ None → q ≡ nothing_pending) → ServesInputs IsIntact (Line (request_of line) ∷ []) a b halted → ServesBytes a b p q (10 ∷ []) halted
 feeds_command a b p q line halted f is e none new h =
-    let none2 : text_begun (request_of (strip_carriage_return p.line)) ≡ None = ap (λ l. text_begun (request_of l)) (sym e) ∙ none in
     feeds a b p q nothing_pending (10 ∷ []) (Line (request_of line) ∷ []) halted tt new
-    (λ more whole. feed-command p nothing_pending more whole f is none2 refl ∙ ap (λ l. Line (request_of l) ∷ inputs_after nothing_pending more whole) (sym e)) h
+    (λ more whole. after-line p Commands line more whole f is e ∙ group-command whole line (lines more whole) none) h
 
 pub feeds_begun : (a : ShellState) (p q : Pending) (line : List ℕ) (kind : TextKind) → HasNoFeed p.line → p.mode ≡ Commands → line ≡ strip_carriage_return p.line → request_of line ≡ Begin kind
     → q ≡ record { mode = InText kind []; line = [] } → ServesBytes a a p q (10 ∷ []) None
-feeds_begun a p q line kind f is e some new =
-    let some2 : request_of (strip_carriage_return p.line) ≡ Begin kind = ap request_of (sym e) ∙ some in
-    feeds_none a p q (10 ∷ []) (subst (λ (x : Pending). HasNoFeed x.line) (sym new) tt) (λ more whole. feed-begun p q more whole kind f is some2 new)
+feeds_begun a p q line kind f is e some new = feeds_none a p q (10 ∷ []) (subst (λ (x : Pending). HasNoFeed x.line) (sym new) tt)
+    (λ more whole. after-line p Commands line more whole f is e ∙ group-begun whole line (lines more whole) kind some ∙ ap (λ (x : Pending). inputs_after x more whole) (sym new))
 
 pub feeds_text : (a b : ShellState) (p q : Pending) (line : List ℕ) (kind : TextKind) (text : List ℕ) (halted : Option ShellEnd) → HasNoFeed p.line → p.mode ≡ InText kind text → line ≡ strip_carriage_return p.line
     → is_dot_line line ≡ true → (halted ≡ None → q ≡ nothing_pending) → ServesInputs IsIntact (judged_text kind text ∷ []) a b halted → ServesBytes a b p q (10 ∷ []) halted
 feeds_text a b p q line kind text halted f is e dot new h =
-    let dot2 : is_dot_line (strip_carriage_return p.line) ≡ true = ap is_dot_line (sym e) ∙ dot in
-    feeds a b p q nothing_pending (10 ∷ []) (judged_text kind text ∷ []) halted tt new (λ more whole. feed-dot p nothing_pending more whole kind text f is dot2 refl) h
+    feeds a b p q nothing_pending (10 ∷ []) (judged_text kind text ∷ []) halted tt new
+    (λ more whole. after-line p (InText kind text) line more whole f is e ∙ group-dot whole kind text line (lines more whole) dot) h
 
 pub feeds_line : (a : ShellState) (p q : Pending) (line : List ℕ) (kind : TextKind) (text : List ℕ) → HasNoFeed p.line → p.mode ≡ InText kind text → line ≡ strip_carriage_return p.line → is_dot_line line ≡ false
     → AddsLineToText p.mode p.line q → ServesBytes a a p q (10 ∷ []) None
 feeds_line a p q line kind text f is e dot h =
-    let dot2 : is_dot_line (strip_carriage_return p.line) ≡ false = ap is_dot_line (sym e) ∙ dot in
     let g : AddsLineToText (InText kind text) p.line q = subst (λ m. AddsLineToText m p.line q) is h in
-    feeds_none a p q (10 ∷ []) (subst (λ (x : Pending). HasNoFeed x.line) (sym (g.2)) tt) (λ more whole. feed-line p q more whole kind text (g.0) f is dot2 (g.1) (g.2))
+    let kept : AddsLine text line g.0 = subst (λ l. AddsLine text l g.0) (sym e) g.1 in
+    feeds_none a p q (10 ∷ []) (subst (λ (x : Pending). HasNoFeed x.line) (sym g.2) tt)
+    (λ more whole. after-line p (InText kind text) line more whole f is e ∙ group-line whole kind text line (lines more whole) dot
+    ∙ group-kept whole kind text line g.0 (lines more whole) kept ∙ ap (λ (x : Pending). inputs_after x more whole) (sym g.2))
 
 -- ---- a chunk, line by line
 

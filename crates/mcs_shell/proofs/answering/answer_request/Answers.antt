@@ -1,4 +1,4 @@
-use Rattle.std.proofs.Common.{rules, ◌≡◌, ap, refl}
+use Rattle.std.proofs.Common.{rules, ap, refl}
 use Rattle.mcs_lines.specs.declared.requests.Request.TheVariants.{Ask, Begin, Board, Change, Listing, Nothing, Refused}
 use Rattle.mcs_shell.specs.Inputs.{Line}
 use Rattle.mcs_shell.proofs.Doing.{answered_as, answered_long, answered_plain}
@@ -6,8 +6,7 @@ use Rattle.mcs_shell.proofs.answering.answer_request.Goals as goal
 
 pub returns-in-Nothing : goal.returns-in-Nothing
 returns-in-Nothing g c =
-    let is : c.args.request.now ≡ Nothing = search rules in
-    answered_as _ _ _ (Line Nothing) _ _ (ap Line is) (answered_plain _ (Line Nothing) _ refl c.requires)
+    answered_as _ _ _ (Line Nothing) _ _ (ap Line (search rules)) (answered_plain _ (Line Nothing) _ refl c.requires)
 
 pub returns-in-Begin : goal.returns-in-Begin
 returns-in-Begin g c =
@@ -15,27 +14,22 @@ returns-in-Begin g c =
 
 pub returns-in-Refused : goal.returns-in-Refused
 returns-in-Refused g c =
-    let is : c.args.request.now ≡ Refused c.in-Refused.fault = search rules in
-    answered_as _ _ _ (Line (Refused c.in-Refused.fault)) _ _ (ap Line is) (answered_plain _ (Line (Refused c.in-Refused.fault)) _ refl (search rules))
+    answered_as _ _ _ (Line (Refused c.in-Refused.fault)) _ _ (ap Line (search rules)) (answered_plain _ (Line (Refused c.in-Refused.fault)) _ refl (search rules))
 
 pub returns-in-Ask : goal.returns-in-Ask
 returns-in-Ask g c =
-    let is : c.args.request.now ≡ Ask c.in-Ask.query = search rules in
-    answered_as _ _ _ (Line (Ask c.in-Ask.query)) _ _ (ap Line is) (answered_plain _ (Line (Ask c.in-Ask.query)) _ refl (search rules))
+    answered_as _ _ _ (Line (Ask c.in-Ask.query)) _ _ (ap Line (search rules)) (answered_plain _ (Line (Ask c.in-Ask.query)) _ refl (search rules))
 
 pub returns-in-Listing : goal.returns-in-Listing
 returns-in-Listing g c =
-    let is : c.args.request.now ≡ Listing c.in-Listing.from c.in-Listing.lines = search rules in
-    answered_as _ _ _ (Line (Listing c.in-Listing.from c.in-Listing.lines)) _ _ (ap Line is)
+    answered_as _ _ _ (Line (Listing c.in-Listing.from c.in-Listing.lines)) _ _ (ap Line (search rules))
     (answered_long c.tell_listing-told.result _ (Line (Listing c.in-Listing.from c.in-Listing.lines)) _ c.tell_listing-told.new.self _ refl refl
     (rw c.bench-in-Listing.ensures.is at c.tell_listing-told.ensures) c.unless_refused.ensures.told c.unless_refused.ensures.refused)
 
 pub returns-in-Board : goal.returns-in-Board
 returns-in-Board g c =
-    let is : c.args.request.now ≡ Board = search rules in
-    answered_as _ _ _ (Line Board) _ _ (ap Line is) (answered_long c.tell_board-told.result _ (Line Board) _ c.tell_board-told.new.self _ refl refl (rw c.bench-in-Board.ensures.is at c.tell_board-told.ensures) c.unless_refused-in-Board.ensures.told c.unless_refused-in-Board.ensures.refused)
+    answered_as _ _ _ (Line Board) _ _ (ap Line (search rules)) (answered_long c.tell_board-told.result _ (Line Board) _ c.tell_board-told.new.self _ refl refl (rw c.bench-in-Board.ensures.is at c.tell_board-told.ensures) c.unless_refused-in-Board.ensures.told c.unless_refused-in-Board.ensures.refused)
 
 pub returns-in-Change : goal.returns-in-Change
 returns-in-Change g c =
-    let is : c.args.request.now ≡ Change c.in-Change.command = search rules in
-    answered_as _ _ _ (Line (Change c.in-Change.command)) _ _ (ap Line is) c.answer_change.ensures
+    answered_as _ _ _ (Line (Change c.in-Change.command)) _ _ (ap Line (search rules)) c.answer_change.ensures

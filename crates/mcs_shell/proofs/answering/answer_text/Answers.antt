@@ -1,33 +1,24 @@
-use Rattle.std.proofs.Common.{rules, sym, ◌∙◌, ◌≡◌, None, Some, Ok, Err, refl}
-use Rattle.mcs_shell.specs.Inputs.{BadText, Text, text_fault_of}
-use Rattle.mcs_shell.specs.Spelling.{Does, Tells, meaning_of_text}
-use Rattle.mcs_shell.proofs.Doing.{answered_as, answered_no_memory, answered_plain, answered_refused_text, answered_text, answered_told_text, is_bad_text, is_text}
+use Rattle.std.proofs.Common.{rules, sym, ◌∙◌, None, Some, refl}
+use Rattle.mcs_shell.specs.Inputs.{BadText, Text}
+use Rattle.mcs_shell.proofs.Doing.{answered_as, answered_no_memory, answered_plain, answered_refused_text, answered_text, answered_told_text, is_judged}
 use Rattle.mcs_shell.proofs.answering.answer_text.Goals as goal
 
 pub returns-in-Some : goal.returns-in-Some
 returns-in-Some g c =
-    let e : text_fault_of c.args.text.now ≡ Some c.in-Some.fault = sym c.text_fault.ensures ∙ c.in-Some.is in
-    answered_as _ _ _ (BadText c.in-Some.fault) _ _ (is_bad_text c.args.kind c.args.text.now c.in-Some.fault e) (answered_plain _ (BadText c.in-Some.fault) _ refl (search rules))
+    answered_as _ _ _ (BadText c.in-Some.fault) _ _ (is_judged c.args.kind c.args.text.now (Some c.in-Some.fault) (sym c.text_fault.ensures ∙ c.in-Some.is)) (answered_plain _ (BadText c.in-Some.fault) _ refl (search rules))
 
 pub returns-in-Ok-Ok-Does : goal.returns-in-Ok-Ok-Does
 returns-in-Ok-Ok-Does g c =
-    let e : text_fault_of c.args.text.now ≡ None = search rules in
-    let is : meaning_of_text c.args.kind c.args.text.now ≡ Ok (Does c.in-Ok-Ok-Does.command) = search rules in
-    answered_as _ _ _ (Text c.args.kind c.args.text.now) _ _ (is_text c.args.kind c.args.text.now e) (answered_text _ _ c.args.kind c.args.text.now c.in-Ok-Ok-Does.command _ _ is c.answer_change.ensures)
+    answered_as _ _ _ (Text c.args.kind c.args.text.now) _ _ (is_judged c.args.kind c.args.text.now None (search rules)) (answered_text _ _ c.args.kind c.args.text.now c.in-Ok-Ok-Does.command _ _ (search rules) c.answer_change.ensures)
 
 pub returns-in-Ok-Ok-Tells : goal.returns-in-Ok-Ok-Tells
 returns-in-Ok-Ok-Tells g c =
-    let e : text_fault_of c.args.text.now ≡ None = search rules in
-    let is : meaning_of_text c.args.kind c.args.text.now ≡ Ok (Tells c.in-Ok-Ok-Tells.lines.items) = search rules in
-    answered_as _ _ _ (Text c.args.kind c.args.text.now) _ _ (is_text c.args.kind c.args.text.now e) (answered_told_text _ c.args.kind c.args.text.now c.in-Ok-Ok-Tells.lines.items _ is (search rules))
+    answered_as _ _ _ (Text c.args.kind c.args.text.now) _ _ (is_judged c.args.kind c.args.text.now None (search rules)) (answered_told_text _ c.args.kind c.args.text.now c.in-Ok-Ok-Tells.lines.items _ (search rules) (search rules))
 
 pub returns-in-Ok-Err : goal.returns-in-Ok-Err
 returns-in-Ok-Err g c =
-    let e : text_fault_of c.args.text.now ≡ None = search rules in
-    let is : meaning_of_text c.args.kind c.args.text.now ≡ Err c.in-Ok-Err.refusal = search rules in
-    answered_as _ _ _ (Text c.args.kind c.args.text.now) _ _ (is_text c.args.kind c.args.text.now e) (answered_refused_text _ c.args.kind c.args.text.now c.in-Ok-Err.refusal _ is (search rules))
+    answered_as _ _ _ (Text c.args.kind c.args.text.now) _ _ (is_judged c.args.kind c.args.text.now None (search rules)) (answered_refused_text _ c.args.kind c.args.text.now c.in-Ok-Err.refusal _ (search rules) (search rules))
 
 pub returns-in-Err : goal.returns-in-Err
 returns-in-Err g c =
-    let e : text_fault_of c.args.text.now ≡ None = search rules in
-    answered_as _ _ _ (Text c.args.kind c.args.text.now) _ _ (is_text c.args.kind c.args.text.now e) (answered_no_memory _ (Text c.args.kind c.args.text.now) _ refl c.tell_refusal-in-Err.ensures)
+    answered_as _ _ _ (Text c.args.kind c.args.text.now) _ _ (is_judged c.args.kind c.args.text.now None (search rules)) (answered_no_memory _ (Text c.args.kind c.args.text.now) _ refl c.tell_refusal-in-Err.ensures)

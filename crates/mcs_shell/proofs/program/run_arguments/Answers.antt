@@ -11,7 +11,7 @@ use Rattle.mcs_shell.specs.Program.{IsBegunOn, ServedChosenSession, ServedSessio
 use Rattle.mcs_shell.specs.Shell.{exit_status_of}
 use Rattle.mcs_shell.specs.ShellState.{KnownBytes}
 use Rattle.mcs_shell.specs.declared.ends.ShellEnd.{ShellEnd}
-use Rattle.mcs_shell.specs.declared.ends.ShellEnd.TheVariants.{End, ReadFault, WriteFault, DeviceFault, InputLimit, NoMemory}
+use Rattle.mcs_shell.specs.declared.ends.ShellEnd.TheVariants.{End}
 use Rattle.mcs_shell.specs.declared.refusal.Refusal.{Refusal}
 use Rattle.mcs_shell.proofs.program.run_arguments.Goals as goal
 
@@ -23,11 +23,7 @@ Serves begun session status reader reader' out out' = IfOk begun (λ before. IsS
 
 not_two : (end : ShellEnd) → exit_status_of end ≡ 2 → ⊥
 not_two End e = cc e
-not_two ReadFault e = cc e
-not_two WriteFault e = cc e
-not_two DeviceFault e = cc e
-not_two InputLimit e = cc e
-not_two NoMemory e = cc e
+not_two end e = cc e
 
 usage_of : {E : Type 0} (begun : Result (SessionView FileDisk) Refusal) (session : Option (SessionView FileDisk)) (status : Result ExitCode E)
     (reader reader' out out' : KnownBytes) (P : Type 0) → Serves begun session status reader reader' out out'

@@ -1,6 +1,7 @@
-use Rattle.std.proofs.Common.{rules, arith, ◌≡◌, ◌≤◌, ◌+◌}
+use Rattle.std.proofs.Common.{rules, arith, ◌≡◌, ◌≤◌, ◌+◌, None, refl}
 use Rattle.mcs_model.specs.declared.limits.TheConstants.{INPUT_BYTES}
-use Rattle.mcs_shell.proofs.Looping.{ran_end, ran_finish, ran_halt, ran_limit, ran_read_fault, so_far_more, so_far_nothing}
+use Rattle.mcs_shell.specs.declared.ends.ShellEnd.TheVariants.{End}
+use Rattle.mcs_shell.proofs.Looping.{ran_finish, ran_halt, ran_limit, ran_read_fault, ran_whole, so_far_more, so_far_nothing}
 use Rattle.mcs_shell.proofs.shell.run_loop.Goals as goal
 
 pub loop-total-init : goal.loop-total-init
@@ -10,8 +11,8 @@ pub returns-in-Err : goal.returns-in-Err
 returns-in-Err g c = ran_read_fault _ _ _ _ _ _ _ c.loop-total.invariant.so_far c.loop-total-test.true c.in-Err.ensures.err
 
 pub returns-in-Ok-finish : goal.returns-in-Ok-finish
-returns-in-Ok-finish g c = ran_end _ _ _ _ _ _ _ _ _ _ c.loop-total.invariant.so_far c.loop-total-test.true
-    (let e : c.in-Ok-eq0.field-0 ≡ 0 = search rules in rw e at c.in-Ok-eq0.ensures.ok) c.in-Ok-finish.ensures
+returns-in-Ok-finish g c = ran_whole End _ _ _ _ _ _ _ _ _ _ None c.loop-total.invariant.so_far c.loop-total-test.true
+    (let e : c.in-Ok-eq0.field-0 ≡ 0 = search rules in rw e at c.in-Ok-eq0.ensures.ok) c.in-Ok-finish.ensures (refl, refl, refl)
 
 pub returns-in-Err-finish : goal.returns-in-Err-finish
 returns-in-Err-finish g c = ran_finish c.in-Err-finish.end _ _ _ _ _ _ _ _ _ _ c.loop-total.invariant.so_far c.loop-total-test.true

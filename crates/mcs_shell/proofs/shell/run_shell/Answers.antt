@@ -1,11 +1,12 @@
 use Rattle.std.proofs.Common.{rules, ◌≡◌, inr, refl}
+use Rattle.std.proofs.KnownBytes.{Appends-nil}
 use Rattle.mcs_session.specs.KeptCommands.{IsOpenOnHonestDisk, IsIntact}
 use Rattle.mcs_session.specs.SessionState.{session_state}
 use Rattle.mcs_answers.specs.AnswerTexts.{session_text}
 use Rattle.mcs_session.proofs.Keeping.{settle}
 use Rattle.mcs_shell.specs.declared.ends.ShellEnd.TheVariants.{NoMemory, WriteFault}
 use Rattle.mcs_shell.specs.ShellState.{shell_state}
-use Rattle.mcs_shell.proofs.Looping.{got_none, not_begun, ran_after, session_has_bytes}
+use Rattle.mcs_shell.proofs.Looping.{not_begun, ran_after, session_has_bytes}
 use Rattle.mcs_shell.proofs.shell.run_shell.Goals as goal
 
 pub returns-in-Err : goal.returns-in-Err
@@ -27,4 +28,4 @@ returns-in_default g c =
     let a = session_state g.D.Disk.state c.args.session.now in
     let settled : IsOpenOnHonestDisk a → IsIntact a = λ honest. record { honest = honest; intact = settle a.disk a.bench.state (g.met.D.Disk.lawful c.args.session.now.disk honest.1) (c.bench.ensures.at honest.0 honest.1) } in
     let out = g.W.Write.contents c.args.writer.now in
-    not_begun NoMemory _ (shell_state g.D.Disk.state c.args.session.now out) out (session_text a.bench.state) settled (got_none out (session_text a.bench.state) (session_has_bytes a.bench.state)) (λ is. refl) (refl, refl, refl)
+    not_begun NoMemory _ (shell_state g.D.Disk.state c.args.session.now out) out (session_text a.bench.state) settled (record { count = 0; fewer = session_has_bytes a.bench.state; got = Appends-nil out }) (λ is. refl) (refl, refl, refl)
