@@ -12,11 +12,16 @@ function secretName() {
 }
 
 /**
- * The channel of that name, or null where there is none, in older browsers say.
+ * The channel of that name, or null where there is none: in older browsers, and in Firefox where the data of sites are blocked.
  * @param {string} name
  */
 function channelOf(name) {
-  return name !== "" && typeof BroadcastChannel === "function" ? new BroadcastChannel(name) : null;
+  if (name === "" || typeof BroadcastChannel !== "function") return null;
+  try {
+    return new BroadcastChannel(name);
+  } catch {
+    return null;
+  }
 }
 
 /**
