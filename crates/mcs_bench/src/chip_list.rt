@@ -7,9 +7,9 @@ use mcs_board::BenchRig;
 use mcs_model::board::Board;
 use mcs_nibble::{Addr, Nibble};
 
-/// A list of numbers.
+/// A list of numbers that chips hold, each at a place of its own; 0 where the chip is absent.
 #[derive(Clone, Copy)]
-pub(crate) enum ChipList {
+pub enum ChipList {
     /// The bytes of the ROMs, by address.
     RomBytes,
     /// The RAM characters, at bank * 256 + SRC byte.
@@ -22,16 +22,18 @@ pub(crate) enum ChipList {
     BankSrcs,
 }
 
-/// How many numbers a list has.
-fn count_of(list: ChipList) -> usize
-    ensures { result ≡ count_of list }
-{
-    match list {
-        ChipList::RomBytes => 4096,
-        ChipList::Characters => 2048,
-        ChipList::StatusCharacters => 512,
-        ChipList::RamPorts => 32,
-        ChipList::BankSrcs => 8,
+impl ChipList {
+    /// How many numbers the list has.
+    pub fn count(self) -> usize
+        ensures { result ≡ count_of self }
+    {
+        match self {
+            ChipList::RomBytes => 4096,
+            ChipList::Characters => 2048,
+            ChipList::StatusCharacters => 512,
+            ChipList::RamPorts => 32,
+            ChipList::BankSrcs => 8,
+        }
     }
 }
 

@@ -9,13 +9,14 @@ mod breaks;
 mod chip_list;
 mod commands;
 mod flat;
-mod judging;
 mod laws;
 mod reading;
 mod restoring;
 mod running;
+mod validity;
 mod watches;
 
 pub use bench::Bench;
+pub use chip_list::ChipList;
 pub use flat::{Cells, Flat};
 pub use laws::runs_add_up;

@@ -5,8 +5,10 @@ ghost use Rattle.mcs_model.specs.Boards.{has_key, key_place};
 ghost use Rattle.mcs_model.specs.Levels.{chain_bit, level, port_at};
 ghost use Rattle.mcs_model.specs.Bus.{status_place};
 ghost use Rattle.mcs_model.specs.Validity.{AreWatches};
+ghost use Rattle.mcs_bench.specs.ChipLists.{count_of, list_of};
 
 use crate::bench::Bench;
+use crate::chip_list::ChipList;
 use mcs_model::board::Board;
 use mcs_model::limits::BREAKPOINTS;
 use mcs_model::regs::Regs;
@@ -118,6 +120,23 @@ impl Bench {
         ensures { result ≡ slice_index self.now.bus.ram_src bank }
     {
         self.rig.ram_src(bank)
+    }
+
+    /// Number `i` of a list that the chips hold; 0 where the chip is absent.
+    pub fn chip_number(&self, list: ChipList, i: usize) -> u8
+        requires { i < count_of list }
+        ensures { result ≡ slice_index (list_of self.now.bus list) i }
+    {
+        match list {
+            ChipList::RomBytes => self.rom_byte(Addr::ZERO.plus(i as u16)),
+            ChipList::Characters => self.ram((i / 256) as u8, (i % 256) as u8).get(),
+            ChipList::StatusCharacters => {
+                let high = Nibble::low_of((i / 4 % 16) as u8);
+                self.status((i / 64) as u8, high, (i % 4) as u8).get()
+            }
+            ChipList::RamPorts => self.ram_port((i / 4) as u8, (i % 4) as u8).get(),
+            ChipList::BankSrcs => self.ram_src(i as u8),
+        }
     }
 
     /// Bit `i` of a chain, both counted from 0; 0 where the board has no such bit.

@@ -1,8 +1,8 @@
 -- The chips of a rig stay those of its board where one of them is replaced by one that is wired as it was.
 use Rattle.std.proofs.Common.{◌≡◌, ℕ, ◌<◌, List, [], Some, None, length, get_or, slice_set, sym, ap, ◌∙◌}
 use Rattle.std.proofs.lemmas.List.{length-set, get_or_default}
-use Rattle.mcs_nibble.specs.Tables.{grid}
-use Rattle.mcs_nibble.proofs.GridLemmas.{kept-at}
+use Rattle.mcs_nibble.specs.Tables.{flat_rows}
+use Rattle.mcs_nibble.proofs.FlatRowsLemmas.{kept-at}
 use Rattle.mcs_ram4002.specs.RamBank.{BankState}
 use Rattle.mcs_rom4001.specs.Roms.{RomState}
 use Rattle.mcs_board.specs.RigState.{RigParts, Fitted, no_bank, masks_of_rom, bytes_of_rom}
@@ -22,7 +22,7 @@ fitted-bank {p = p} v i e d l is same = record {
   src = v.src;
 }
 
-pub fitted-rom : {p : RigParts} {r k c : ℕ} → Fitted p r k c → (i : ℕ) (e d : RomState) → i < length p.roms → get_or p.roms i None ≡ Some e → d.mask ≡ e.mask → (program : List ℕ) → program ≡ grid 16 256 bytes_of_rom None (slice_set p.roms i (Some d)) → Fitted (record p { roms = slice_set p.roms i (Some d); program = program }) r k c
+pub fitted-rom : {p : RigParts} {r k c : ℕ} → Fitted p r k c → (i : ℕ) (e d : RomState) → i < length p.roms → get_or p.roms i None ≡ Some e → d.mask ≡ e.mask → (program : List ℕ) → program ≡ flat_rows 16 256 bytes_of_rom None (slice_set p.roms i (Some d)) → Fitted (record p { roms = slice_set p.roms i (Some d); program = program }) r k c
 fitted-rom {p = p} v i e d l here same program is = record {
   roms_len = length-set p.roms i (Some d) ∙ v.roms_len;
   banks_len = v.banks_len;

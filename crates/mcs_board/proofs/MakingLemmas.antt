@@ -3,9 +3,9 @@ use Rattle.std.proofs.Common.{◌≡◌, ℕ, ◌*◌, ◌/◌, ◌%◌, ◌<◌
 use Rattle.std.proofs.lemmas.Bool.{cases_lt}
 use Rattle.std.proofs.lemmas.List.{get_or-replicate, get_or_past, length-replicate, length-map, get_or-map}
 use Rattle.mcs_nibble.specs.declared.lines.LineMask.{LineMask}
-use Rattle.mcs_nibble.specs.Tables.{table_of, column, grid}
+use Rattle.mcs_nibble.specs.Tables.{table_of, column, flat_rows}
 use Rattle.mcs_nibble.proofs.TabledLemmas.{same_tabled, tabled_from}
-use Rattle.mcs_nibble.proofs.GridLemmas.{length-grid, blank-grid, blank-column}
+use Rattle.mcs_nibble.proofs.FlatRowsLemmas.{length-flat, blank-flat, blank-column}
 use Rattle.mcs_ram4002.specs.RamBank.{BankState, blank_bank}
 use Rattle.mcs_rom4001.specs.Roms.{RomState}
 use Rattle.mcs_model.specs.declared.board.BoardParts.{BoardParts}
@@ -19,9 +19,9 @@ use Rattle.mcs_board.proofs.RigLemmas.{byte-of}
 use Rattle.mcs_board.specs.Fitting.{FitsCounts, bytes_in, rom_after_wire, rom_after_reset}
 use Rattle.mcs_ram4002.proofs.BankLemmas.{slice_index-zeros}
 
-same_grid : {X : Type 0} (n wide : ℕ) (f : X → List ℕ) (d : X) (xs ys : List X) → ((i : ℕ) → f (get_or xs i d) ≡ f (get_or ys i d)) → grid n wide f d xs ≡ grid n wide f d ys
-unfolding grid
-same_grid n wide f d xs ys h = same_tabled (n * wide) _ _ (λ k _. ap (λ zs. slice_index zs (k % wide)) (h (k / wide)))
+same_flat : {X : Type 0} (n wide : ℕ) (f : X → List ℕ) (d : X) (xs ys : List X) → ((i : ℕ) → f (get_or xs i d) ≡ f (get_or ys i d)) → flat_rows n wide f d xs ≡ flat_rows n wide f d ys
+unfolding flat_rows
+same_flat n wide f d xs ys h = same_tabled (n * wide) _ _ (λ k _. ap (λ zs. slice_index zs (k % wide)) (h (k / wide)))
 
 -- each bank is as it was made
 pub record AllBlank (banks : List BankState) (wired : ℕ → ℕ) : Type 0 where
@@ -29,24 +29,24 @@ pub record AllBlank (banks : List BankState) (wired : ℕ → ℕ) : Type 0 wher
 
 -- what a list of such banks shows
 record Zeros (banks : List BankState) : Type 0 where
-  ram : grid 8 256 (λ b. b.main) no_bank banks ≡ replicate 2048 0
-  status : grid 8 64 (λ b. b.status) no_bank banks ≡ replicate 512 0
-  ports : grid 8 4 (λ b. b.ports) no_bank banks ≡ replicate 32 0
+  ram : flat_rows 8 256 (λ b. b.main) no_bank banks ≡ replicate 2048 0
+  status : flat_rows 8 64 (λ b. b.status) no_bank banks ≡ replicate 512 0
+  ports : flat_rows 8 4 (λ b. b.ports) no_bank banks ≡ replicate 32 0
   src : column 8 (λ b. b.src) no_bank banks ≡ replicate 8 0
 
 blank-zeros : (banks : List BankState) (wired : ℕ → ℕ) → AllBlank banks wired → Zeros banks
 blank-zeros banks wired blank = record {
-  ram = blank-grid 8 256 (λ (b : BankState). b.main) no_bank banks (λ i k.
+  ram = blank-flat 8 256 (λ (b : BankState). b.main) no_bank banks (λ i k.
       elim (cases_lt i (length banks)) [
         | inl h ↦ ap (λ (b : BankState). slice_index b.main k) (blank.at i h) ∙ slice_index-zeros 256 k
         | inr h ↦ ap (λ (b : BankState). slice_index b.main k) (get_or_past banks i no_bank h)
       ]);
-  status = blank-grid 8 64 (λ (b : BankState). b.status) no_bank banks (λ i k.
+  status = blank-flat 8 64 (λ (b : BankState). b.status) no_bank banks (λ i k.
       elim (cases_lt i (length banks)) [
         | inl h ↦ ap (λ (b : BankState). slice_index b.status k) (blank.at i h) ∙ slice_index-zeros 64 k
         | inr h ↦ ap (λ (b : BankState). slice_index b.status k) (get_or_past banks i no_bank h)
       ]);
-  ports = blank-grid 8 4 (λ (b : BankState). b.ports) no_bank banks (λ i k.
+  ports = blank-flat 8 4 (λ (b : BankState). b.ports) no_bank banks (λ i k.
       elim (cases_lt i (length banks)) [
         | inl h ↦ ap (λ (b : BankState). slice_index b.ports k) (blank.at i h) ∙ slice_index-zeros 4 k
         | inr h ↦ ap (λ (b : BankState). slice_index b.ports k) (get_or_past banks i no_bank h)
@@ -97,7 +97,7 @@ rewired-bytes (Some m) rom k = bytes-in rom k
 rewired-bytes None rom k = refl
 
 -- a byte of the flat list, by its ROM
-pub rom-at : (roms : List (Option RomState)) (at : ℕ) → at < 4096 → slice_index (grid 16 256 bytes_of_rom None roms) at ≡ slice_index (bytes_of_rom (get_or roms (at / 256) None)) (at % 256)
+pub rom-at : (roms : List (Option RomState)) (at : ℕ) → at < 4096 → slice_index (flat_rows 16 256 bytes_of_rom None roms) at ≡ slice_index (bytes_of_rom (get_or roms (at / 256) None)) (at % 256)
 rom-at roms at h = byte-of roms at (get_or roms (at / 256) None) h refl
 
 -- every place for a ROM, on a new board; beyond the places the board has none
@@ -115,10 +115,10 @@ silenced-every roms roms' l h k =
       | inr beyond ↦ get_or_past roms' k None (omega arith) ∙ sym (ap rom_after_reset (get_or_past roms k None beyond))
     ]
 
-kept-bytes : (b : BoardParts) (roms roms' : List (Option RomState)) → ((k : ℕ) → get_or roms' k None ≡ rom_after_wire (masks_on b k) (get_or roms k None)) → grid 16 256 bytes_of_rom None roms' ≡ kept_rom b (grid 16 256 bytes_of_rom None roms)
+kept-bytes : (b : BoardParts) (roms roms' : List (Option RomState)) → ((k : ℕ) → get_or roms' k None ≡ rom_after_wire (masks_on b k) (get_or roms k None)) → flat_rows 16 256 bytes_of_rom None roms' ≡ kept_rom b (flat_rows 16 256 bytes_of_rom None roms)
 unfolding kept_rom
 kept-bytes b roms roms' every =
-    tabled_from 4096 (λ at. if is_some (masks_on b (at / 256)) then slice_index (grid 16 256 bytes_of_rom None roms) at else 0) (grid 16 256 bytes_of_rom None roms') 0 (length-grid 16 256 bytes_of_rom None roms')
+    tabled_from 4096 (λ at. if is_some (masks_on b (at / 256)) then slice_index (flat_rows 16 256 bytes_of_rom None roms) at else 0) (flat_rows 16 256 bytes_of_rom None roms') 0 (length-flat 16 256 bytes_of_rom None roms')
     (λ at h.
     rom-at roms' at h
     ∙ ap (λ r. slice_index (bytes_of_rom r) (at % 256)) (every (at / 256))
@@ -152,7 +152,7 @@ pub reset-state : (p : RigParts) (roms : List (Option RomState)) (banks : List B
 unfolding zero_bus
 reset-state p roms banks chains wired every blank fit rows =
     let z = blank-zeros banks wired blank in
-    let bytes = same_grid 16 256 bytes_of_rom None roms p.roms (λ k. ap bytes_of_rom (every k) ∙ silenced-bytes (get_or p.roms k None)) in
+    let bytes = same_flat 16 256 bytes_of_rom None roms p.roms (λ k. ap bytes_of_rom (every k) ∙ silenced-bytes (get_or p.roms k None)) in
     let ports = ports-blank roms (λ k. ap port_of_rom (every k) ∙ silenced-port (get_or p.roms k None)) in
     let cs = chains-blank p.board chains fit rows in
     rw (bytes, z.ram, z.status, z.ports, ports, z.src, cs) refl
@@ -166,7 +166,7 @@ reset-fitted p roms banks chains rom_places bank_places chain_places v rl bl cl 
   matrix = v.matrix;
   keys_len = v.keys_len;
   chains_fit = v.chains_fit;
-  program = v.program ∙ same_grid 16 256 bytes_of_rom None p.roms roms (λ k. sym (ap bytes_of_rom (every k) ∙ silenced-bytes (get_or p.roms k None)));
+  program = v.program ∙ same_flat 16 256 bytes_of_rom None p.roms roms (λ k. sym (ap bytes_of_rom (every k) ∙ silenced-bytes (get_or p.roms k None)));
   masks = λ k. ap masks_of_rom (every k) ∙ silenced-masks (get_or p.roms k None) ∙ v.masks k;
   wired = λ k.
       elim (cases_lt k (length banks)) [
@@ -178,7 +178,7 @@ reset-fitted p roms banks chains rom_places bank_places chain_places v rl bl cl 
 }
 
 -- the chips of a rig fit the board that it was put on
-pub wire-fitted : (old new : RigParts) (rom_places bank_places chain_places chain_size : ℕ) → FitsCounts new.board rom_places bank_places chain_places chain_size → length new.roms ≡ rom_places → length new.banks ≡ bank_places → length new.chains ≡ chain_places → old.program ≡ grid 16 256 bytes_of_rom None old.roms → IsRewired old new → Fitted new rom_places bank_places chain_places
+pub wire-fitted : (old new : RigParts) (rom_places bank_places chain_places chain_size : ℕ) → FitsCounts new.board rom_places bank_places chain_places chain_size → length new.roms ≡ rom_places → length new.banks ≡ bank_places → length new.chains ≡ chain_places → old.program ≡ flat_rows 16 256 bytes_of_rom None old.roms → IsRewired old new → Fitted new rom_places bank_places chain_places
 wire-fitted old new rom_places bank_places chain_places chain_size fits rl bl cl copied w = record {
   roms_len = rl;
   banks_len = bl;
@@ -224,8 +224,8 @@ new_parts rom_places bank_places chain_places = record {
   test = 1;
 }
 
-no-bytes : (rom_places : ℕ) → grid 16 256 bytes_of_rom None (replicate rom_places None) ≡ replicate 4096 0
-no-bytes rom_places = blank-grid 16 256 bytes_of_rom None (replicate rom_places None) (λ i k. ap (λ r. slice_index (bytes_of_rom r) k) (same-all rom_places i None))
+no-bytes : (rom_places : ℕ) → flat_rows 16 256 bytes_of_rom None (replicate rom_places None) ≡ replicate 4096 0
+no-bytes rom_places = blank-flat 16 256 bytes_of_rom None (replicate rom_places None) (λ i k. ap (λ r. slice_index (bytes_of_rom r) k) (same-all rom_places i None))
 
 -- the places of a new rig fit the empty board
 pub new-fitted : (rom_places bank_places chain_places : ℕ) → Fitted (new_parts rom_places bank_places chain_places) rom_places bank_places chain_places

@@ -5,12 +5,12 @@ use Rattle.std.proofs.lemmas.Bool.{cases_lt}
 use Rattle.std.proofs.lemmas.List.{get_or_past}
 use Rattle.mcs_nibble.specs.declared.lines.LineMask.{LineMask}
 use Rattle.mcs_nibble.specs.Ports.{latch_value}
-use Rattle.mcs_nibble.specs.Tables.{column, grid}
+use Rattle.mcs_nibble.specs.Tables.{column, flat_rows}
 use Rattle.mcs_nibble.proofs.TabledLemmas.{length-tabled}
-use Rattle.mcs_nibble.proofs.GridLemmas.{length-grid, length-column}
+use Rattle.mcs_nibble.proofs.FlatRowsLemmas.{length-flat, length-column}
 use Rattle.mcs_nibble.proofs.PortLemmas.{latch_value-zero}
 use Rattle.mcs_ram4002.specs.RamBank.{BankState, IsValidBank}
-use Rattle.mcs_ram4002.proofs.Below.{below-at, grid-below, column-below}
+use Rattle.mcs_ram4002.proofs.Below.{below-at, flat-below, column-below}
 use Rattle.mcs_rom4001.specs.Roms.{RomState, IsValidRom}
 use Rattle.mcs_model.specs.Boards.{masks_on, chain_count}
 use Rattle.mcs_model.specs.Validity.{IsValidBoard, IsValidBus}
@@ -77,10 +77,10 @@ valid-state p rom_places bank_places chain_places board v chips bits keys test =
     record {
       board = board;
       in_range = record {
-        rom = record { count_is = length-grid 16 256 bytes_of_rom None p.roms; below = grid-below 16 256 256 bytes_of_rom None p.roms (λ i k. byte-below (get_or p.roms i None) k (roms i)) };
-        ram = record { count_is = length-grid 8 256 (λ (x : BankState). x.main) no_bank p.banks; below = grid-below 8 256 16 (λ (x : BankState). x.main) no_bank p.banks (λ i k. bank (λ b. slice_index b.main k < 16) (omega arith) (λ b w. below-at 16 b.main k (omega arith) w.main) i) };
-        status = record { count_is = length-grid 8 64 (λ (x : BankState). x.status) no_bank p.banks; below = grid-below 8 64 16 (λ (x : BankState). x.status) no_bank p.banks (λ i k. bank (λ b. slice_index b.status k < 16) (omega arith) (λ b w. below-at 16 b.status k (omega arith) w.status) i) };
-        ram_ports = record { count_is = length-grid 8 4 (λ (x : BankState). x.ports) no_bank p.banks; below = grid-below 8 4 16 (λ (x : BankState). x.ports) no_bank p.banks (λ i k. bank (λ b. slice_index b.ports k < 16) (omega arith) (λ b w. below-at 16 b.ports k (omega arith) w.ports) i) };
+        rom = record { count_is = length-flat 16 256 bytes_of_rom None p.roms; below = flat-below 16 256 256 bytes_of_rom None p.roms (λ i k. byte-below (get_or p.roms i None) k (roms i)) };
+        ram = record { count_is = length-flat 8 256 (λ (x : BankState). x.main) no_bank p.banks; below = flat-below 8 256 16 (λ (x : BankState). x.main) no_bank p.banks (λ i k. bank (λ b. slice_index b.main k < 16) (omega arith) (λ b w. below-at 16 b.main k (omega arith) w.main) i) };
+        status = record { count_is = length-flat 8 64 (λ (x : BankState). x.status) no_bank p.banks; below = flat-below 8 64 16 (λ (x : BankState). x.status) no_bank p.banks (λ i k. bank (λ b. slice_index b.status k < 16) (omega arith) (λ b w. below-at 16 b.status k (omega arith) w.status) i) };
+        ram_ports = record { count_is = length-flat 8 4 (λ (x : BankState). x.ports) no_bank p.banks; below = flat-below 8 4 16 (λ (x : BankState). x.ports) no_bank p.banks (λ i k. bank (λ b. slice_index b.ports k < 16) (omega arith) (λ b w. below-at 16 b.ports k (omega arith) w.ports) i) };
         rom_ports = record { count_is = length-column 16 port_of_rom None p.roms; below = column-below 16 16 port_of_rom None p.roms (λ i. latch-below (get_or p.roms i None) (roms i)) };
         rom_src = v.src;
         ram_src = record { count_is = length-column 8 (λ (x : BankState). x.src) no_bank p.banks; below = column-below 8 256 (λ (x : BankState). x.src) no_bank p.banks (λ i. bank (λ b. b.src < 256) (omega arith) (λ b w. w.src) i) };
@@ -93,22 +93,22 @@ valid-state p rom_places bank_places chain_places board v chips bits keys test =
         rom = λ at none.
             elim (cases_lt at 4096) [
               | inl h ↦ rom-at p.roms at h ∙ ap (λ r. slice_index (bytes_of_rom r) (at % 256)) (no-rom (get_or p.roms (at / 256) None) (v.masks (at / 256) ∙ none))
-              | inr h ↦ let l = length-grid 16 256 bytes_of_rom None p.roms in get_or_past (grid 16 256 bytes_of_rom None p.roms) at 0 (omega arith)
+              | inr h ↦ let l = length-flat 16 256 bytes_of_rom None p.roms in get_or_past (flat_rows 16 256 bytes_of_rom None p.roms) at 0 (omega arith)
             ];
         ram = λ n src l gone.
             elim (cases_lt n 8) [
               | inl h ↦ main-of p.banks n src (get_or p.banks n no_bank) h l refl ∙ bank (λ b. b.wired ≤ src / 64 → slice_index b.main src ≡ 0) (λ _. refl) (λ b w. w.absent_main src l) n (let e = v.wired n in omega arith)
-              | inr h ↦ let len = length-grid 8 256 (λ (x : BankState). x.main) no_bank p.banks in get_or_past (grid 8 256 (λ (x : BankState). x.main) no_bank p.banks) (n * 256 + src) 0 (omega arith)
+              | inr h ↦ let len = length-flat 8 256 (λ (x : BankState). x.main) no_bank p.banks in get_or_past (flat_rows 8 256 (λ (x : BankState). x.main) no_bank p.banks) (n * 256 + src) 0 (omega arith)
             ];
         status = λ n high k h4 k4 gone.
             elim (cases_lt n 8) [
               | inl h ↦ status-of p.banks n (high * 4 + k) (get_or p.banks n no_bank) h (omega arith) refl ∙ bank (λ b. b.wired ≤ high / 4 → slice_index b.status (high * 4 + k) ≡ 0) (λ _. refl) (λ b w. w.absent_status high k h4 k4) n (let e = v.wired n in omega arith)
-              | inr h ↦ let len = length-grid 8 64 (λ (x : BankState). x.status) no_bank p.banks in get_or_past (grid 8 64 (λ (x : BankState). x.status) no_bank p.banks) (n * 64 + (high * 4 + k)) 0 (omega arith)
+              | inr h ↦ let len = length-flat 8 64 (λ (x : BankState). x.status) no_bank p.banks in get_or_past (flat_rows 8 64 (λ (x : BankState). x.status) no_bank p.banks) (n * 64 + (high * 4 + k)) 0 (omega arith)
             ];
         ram_ports = λ n chip l gone.
             elim (cases_lt n 8) [
               | inl h ↦ port-of p.banks n chip (get_or p.banks n no_bank) h l refl ∙ bank (λ b. b.wired ≤ chip → slice_index b.ports chip ≡ 0) (λ _. refl) (λ b w. w.absent_port chip l) n (let e = v.wired n in omega arith)
-              | inr h ↦ let len = length-grid 8 4 (λ (x : BankState). x.ports) no_bank p.banks in get_or_past (grid 8 4 (λ (x : BankState). x.ports) no_bank p.banks) (n * 4 + chip) 0 (omega arith)
+              | inr h ↦ let len = length-flat 8 4 (λ (x : BankState). x.ports) no_bank p.banks in get_or_past (flat_rows 8 4 (λ (x : BankState). x.ports) no_bank p.banks) (n * 4 + chip) 0 (omega arith)
             ];
         rom_ports = λ chip.
             elim (cases_lt chip 16) [

@@ -1,7 +1,7 @@
 -- The chips of a rig as the bus's part of the flat state.
 -- Source: our own choice. A ROM's page is its number, and a bank's number is the command register's value.
 use Rattle.std.specs.Prelude.{◌≡◌, ℕ, ◌<◌, ◌≤◌, List, [], Option, Some, None, slice_index, slice_index_or, length}
-use Rattle.mcs_nibble.specs.Tables.{table_of, column, grid}
+use Rattle.mcs_nibble.specs.Tables.{table_of, column, flat_rows}
 use Rattle.mcs_nibble.specs.declared.lines.LineMask.{LineMask}
 use Rattle.mcs_ram4002.specs.declared.BankWrite.{BankWrite}
 use Rattle.mcs_ram4002.specs.declared.BankWrite.TheVariants.{Character, Status, Port, Src}
@@ -54,10 +54,10 @@ pub record RigParts : Type 0 where
 abbrev pub rig_of : RigParts → BusState
 rig_of p = record {
   board = p.board;
-  rom = grid 16 256 bytes_of_rom None p.roms;
-  ram = grid 8 256 (λ b. b.main) no_bank p.banks;
-  status = grid 8 64 (λ b. b.status) no_bank p.banks;
-  ram_ports = grid 8 4 (λ b. b.ports) no_bank p.banks;
+  rom = flat_rows 16 256 bytes_of_rom None p.roms;
+  ram = flat_rows 8 256 (λ b. b.main) no_bank p.banks;
+  status = flat_rows 8 64 (λ b. b.status) no_bank p.banks;
+  ram_ports = flat_rows 8 4 (λ b. b.ports) no_bank p.banks;
   rom_ports = column 16 port_of_rom None p.roms;
   rom_src = p.rom_src;
   ram_src = column 8 (λ b. b.src) no_bank p.banks;
@@ -76,7 +76,7 @@ pub record Fitted (p : RigParts) (rom_places bank_places chain_places : ℕ) : T
   pub matrix : p.keys.matrix ≡ matrix_on p.board
   pub keys_len : length p.keys.down ≡ key_count p.board
   pub chains_fit : chain_count p.board ≤ chain_places
-  pub program : p.program ≡ grid 16 256 bytes_of_rom None p.roms
+  pub program : p.program ≡ flat_rows 16 256 bytes_of_rom None p.roms
   pub masks : (k : ℕ) → masks_of_rom (slice_index_or p.roms k None) ≡ masks_on p.board k
   pub wired : (k : ℕ) → (slice_index_or p.banks k no_bank).wired ≡ slice_index p.board.banks k
   pub bits : (i : ℕ) → i < chain_count p.board → length (slice_index_or p.chains i []) ≡ chain_bits p.board i

@@ -6,8 +6,9 @@ use Rattle.mcs_model.specs.Boards.{chain_count, chain_bits, no_chain}
 use Rattle.mcs_model.specs.Bus.{zero_bus}
 use Rattle.mcs_model.specs.BenchState.{BenchState, new_bench_state}
 use Rattle.mcs_model.specs.Validity.{IsValid}
+use Rattle.mcs_bench.specs.declared.chip_list.ChipList.TheVariants.{RomBytes, Characters, StatusCharacters, RamPorts, BankSrcs}
 use Rattle.mcs_codec.specs.declared.saving.StateList.{StateList}
-use Rattle.mcs_codec.specs.declared.saving.StateList.TheVariants.{RomBytes, Characters, StatusCharacters, RamPorts, RomPorts, IndexRegisters, BankSrcs, ChainBits, Keys}
+use Rattle.mcs_codec.specs.declared.saving.StateList.TheVariants.{Chips, RomPorts, IndexRegisters, ChainBits, Keys}
 use Rattle.mcs_codec.specs.StateLists.{list_in_state, state_list_length}
 use Rattle.mcs_codec.specs.StateReading.{HasCells}
 
@@ -17,13 +18,13 @@ no_bits s n h past =
     rw (get_or_past s.bus.chains n [] (omega (arith, h.bus.in_range.chains)), get_or_past s.bus.board.chains.items n no_chain past) refl
 
 pub is_whole : (p : StateList) (s : BenchState) → IsValid s → length (list_in_state p s) ≡ state_list_length p s
-is_whole RomBytes s h = h.bus.in_range.rom.count_is
-is_whole Characters s h = h.bus.in_range.ram.count_is
-is_whole StatusCharacters s h = h.bus.in_range.status.count_is
-is_whole RamPorts s h = h.bus.in_range.ram_ports.count_is
+is_whole (Chips RomBytes) s h = h.bus.in_range.rom.count_is
+is_whole (Chips Characters) s h = h.bus.in_range.ram.count_is
+is_whole (Chips StatusCharacters) s h = h.bus.in_range.status.count_is
+is_whole (Chips RamPorts) s h = h.bus.in_range.ram_ports.count_is
 is_whole RomPorts s h = h.bus.in_range.rom_ports.count_is
 is_whole IndexRegisters s h = h.processor.r.count_is
-is_whole BankSrcs s h = h.bus.in_range.ram_src.count_is
+is_whole (Chips BankSrcs) s h = h.bus.in_range.ram_src.count_is
 is_whole (ChainBits n) s h = elim (cases_lt n (chain_count s.bus.board)) [ inl lt ↦ (h.bus.in_range.chain_bits n lt).count_is | inr past ↦ no_bits s n h past ]
 is_whole Keys s h = h.bus.in_range.keys.count_is
 

@@ -9,8 +9,7 @@ ghost use Rattle.mcs_codec.specs.Codec.{SpellsState};
 
 use crate::boards::put_board;
 use crate::encoding::{Encode, put, put_all, put_counted};
-use mcs_bench::Bench;
-use mcs_nibble::{Addr, Nibble};
+use mcs_bench::{Bench, ChipList};
 
 /// The version in which states are written.
 pub(crate) const VERSION: u8 = 2;
@@ -22,20 +21,12 @@ pub const STATE_BYTES: usize = 16_380;
 /// The lists of a bench that are written place by place.
 #[derive(Clone, Copy)]
 pub enum StateList {
-    /// The bytes of the ROMs, by address.
-    RomBytes,
-    /// The RAM characters, by bank and SRC byte.
-    Characters,
-    /// The status characters, by bank, upper nibble of the SRC byte, and number.
-    StatusCharacters,
-    /// The port latches of the RAM chips, by bank and chip.
-    RamPorts,
+    /// A list that the chips hold.
+    Chips(ChipList),
     /// The port latches of the ROMs.
     RomPorts,
     /// The index registers of the processor.
     IndexRegisters,
-    /// The SRC byte of each bank.
-    BankSrcs,
     /// The bits of a chain, bit 0 first.
     ChainBits(u8),
     /// The keys, row by row.
@@ -62,12 +53,8 @@ impl StateList {
         ensures { result ≡ state_list_length self bench.now }
     {
         match self {
-            StateList::RomBytes => 4096,
-            StateList::Characters => 2048,
-            StateList::StatusCharacters => 512,
-            StateList::RamPorts => 32,
+            StateList::Chips(list) => list.count(),
             StateList::RomPorts | StateList::IndexRegisters => 16,
-            StateList::BankSrcs => 8,
             StateList::ChainBits(n) => match bench.board().parts().chains.get(usize::from(n)) {
                 Some(chain) => usize::from(chain.bits()),
                 None => 0,
@@ -86,16 +73,9 @@ impl StateList {
         ensures { result ≡ slice_index (list_in_state self bench.now) i }
     {
         match self {
-            StateList::RomBytes => bench.rom_byte(Addr::ZERO.plus(i as u16)),
-            StateList::Characters => bench.ram((i / 256) as u8, (i % 256) as u8).get(),
-            StateList::StatusCharacters => {
-                let high = Nibble::low_of((i / 4 % 16) as u8);
-                bench.status((i / 64) as u8, high, (i % 4) as u8).get()
-            }
-            StateList::RamPorts => bench.ram_port((i / 4) as u8, (i % 4) as u8).get(),
+            StateList::Chips(list) => bench.chip_number(list, i),
             StateList::RomPorts => bench.rom_port(i as u8).get(),
             StateList::IndexRegisters => bench.regs().r[i].get(),
-            StateList::BankSrcs => bench.ram_src(i as u8),
             StateList::ChainBits(n) => bench.chain_bit(n, i as u8).get(),
             StateList::Keys => key_at(bench, i),
         }
@@ -123,10 +103,10 @@ fn put_memory(bench: &Bench, out: &mut [u8], at: usize) -> usize
     ensures end { result ≡ at + length (memory_bytes bench.now.bus) }
     ensures front { take result out.new ≡ take at out.old ++ memory_bytes bench.now.bus }
 {
-    let at = StateList::RomBytes.put(bench, out, at);
-    let at = StateList::Characters.put(bench, out, at);
-    let at = StateList::StatusCharacters.put(bench, out, at);
-    let at = StateList::RamPorts.put(bench, out, at);
+    let at = StateList::Chips(ChipList::RomBytes).put(bench, out, at);
+    let at = StateList::Chips(ChipList::Characters).put(bench, out, at);
+    let at = StateList::Chips(ChipList::StatusCharacters).put(bench, out, at);
+    let at = StateList::Chips(ChipList::RamPorts).put(bench, out, at);
     StateList::RomPorts.put(bench, out, at)
 }
 
@@ -154,7 +134,7 @@ fn put_src_bytes(bench: &Bench, out: &mut [u8], at: usize) -> usize
 {
     let registers = bench.regs();
     let at = put(out, at, &[registers.dcl, bench.rom_src()]);
-    let at = StateList::BankSrcs.put(bench, out, at);
+    let at = StateList::Chips(ChipList::BankSrcs).put(bench, out, at);
     put(out, at, &[registers.owed])
 }
 

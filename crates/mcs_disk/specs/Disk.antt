@@ -56,15 +56,16 @@ pub record IsCall {T E : Type 0} (old new : DiskState) (result : Result T E) : T
   pub fault : OnErr result (new.faults ≡ min (old.faults + 1) most_faults)
   pub honest : new.honest ↔ old.honest
 
--- a later moment of a disk: its clock shows no less, and what a power cut may have left since an
--- earlier time, it still may have
+-- new is old, or what old became: its clock shows no less, and what a power cut may have left since
+-- an earlier time, it still may have
 pub record IsLater (old new : DiskState) : Type 0 where
   pub clock : old.clock ≤ new.clock
   pub keeps : (t : ℕ) (c : List ℕ) → t ≤ old.clock → old.since t c → new.since t c
 
--- What each call does on an honest disk to its times: an Ok is one step of the clock, and since an
--- earlier time a power cut may have left what it might have by then, and what it may leave now.
-pub record Elapses {T E : Type 0} (old new : DiskState) (result : Result T E) : Type 0 where
+-- What each call does on an honest disk to its times: an Ok is one step of the clock, a failure is
+-- none. What a power cut may have left since an earlier time it still may have (`later`), and
+-- besides only what it may leave now.
+pub record StepsClock {T E : Type 0} (old new : DiskState) (result : Result T E) : Type 0 where
   pub ticks : OnOk result (new.clock ≡ old.clock + 1)
   pub stands : OnErr result (new.clock ≡ old.clock)
   pub later : IsLater old new
@@ -79,7 +80,7 @@ pub record Reads {T E : Type 0} (at : ℕ) (old_into into : List ℕ) (old new :
   pub bytes : new.bytes ≡ old.bytes
   pub images : Within new.images old.images
   pub kept : Within old.images new.images
-  pub time : Elapses old new result
+  pub time : StepsClock old new result
 
 -- a write on an honest disk: until a sync its range may hold any bytes after a power cut, and the
 -- rest stays
@@ -91,7 +92,7 @@ pub record Writes {T E : Type 0} (at : ℕ) (from : List ℕ) (old new : DiskSta
   pub images : (c : List ℕ) → new.images c → (d : List ℕ) × old.images d × Torn at (length from) d c
   pub any : OnOk result ((d c : List ℕ) → old.images d → Torn at (length from) d c → new.images c)
   pub kept : Within old.images new.images
-  pub time : Elapses old new result
+  pub time : StepsClock old new result
 
 -- a sync on an honest disk: after an Ok the current bytes are the only image, and after a failure
 -- nothing became stable
@@ -100,7 +101,7 @@ pub record Syncs {T E : Type 0} (old new : DiskState) (result : Result T E) : Ty
   pub bytes : new.bytes ≡ old.bytes
   pub images : Within new.images old.images
   pub kept : OnErr result (Within old.images new.images)
-  pub time : Elapses old new result
+  pub time : StepsClock old new result
 
 -- what holds of an honest disk at each moment
 pub record IsLawful (disk : DiskState) : Type 0 where

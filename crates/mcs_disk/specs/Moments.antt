@@ -21,7 +21,7 @@ pub record CountsFault (old new : DiskState) (failed : Type 0) : Type 0 where
 abbrev pub WritesNothing : DiskState → DiskState → Type 0
 WritesNothing old new = new.writes ≡ old.writes
 
--- nothing but the count of faults has changed
+-- no byte has changed, nor what a power cut may leave; of size, faults and honesty this says nothing
 pub record IsUntouched (old new : DiskState) : Type 0 where
   pub unwritten : WritesNothing old new
   pub bytes : new.bytes ≡ old.bytes
@@ -61,8 +61,8 @@ pub record AddsNoImage (old new : DiskState) : Type 0 where
   pub later : IsLater old new
   pub nothing_else : (t : ℕ) (c : List ℕ) → t ≤ old.clock → new.since t c → old.since t c
 
--- calls that ask for no write: one that fails is counted, an honest disk rests, and if none failed,
--- what was durable is so still
+-- calls that ask for no write: one that fails is counted, an honest disk gets no new image, and if
+-- none failed, what was durable is so still
 pub record ReadsOnly (old new : DiskState) (failed : Type 0) : Type 0 where
   pub tells : CountsFault old new failed
   pub unwritten : WritesNothing old new
@@ -77,7 +77,7 @@ pub record LeavesOnly (old new : DiskState) (P : List ℕ → Type 0) : Type 0 w
   pub before : (t : ℕ) (c : List ℕ) → t ≤ old.clock → new.since t c
       → old.since t c ⊎ new.since old.clock c
 
--- nothing is said of what the stretch left after
+-- the images since each earlier time stay; of what was added since the start nothing is said
 abbrev pub KeepsEarlierImages : DiskState → DiskState → Type 0
 KeepsEarlierImages old new = LeavesOnly old new (λ c. Unit {0})
 

@@ -1,3 +1,3 @@
 pub mod TabledLemmas
-pub mod GridLemmas
+pub mod FlatRowsLemmas
 pub mod PortLemmas

@@ -11,6 +11,6 @@ unfoldable pub column : {X : Type 0} → ℕ → (X → ℕ) → X → List X �
 column n f d xs = table_of n (λ i. f (slice_index_or xs i d))
 
 -- `wide` numbers of each of n things, one thing after another
-unfoldable pub grid : {X : Type 0} → ℕ → ℕ → (X → List ℕ) → X → List X → List ℕ
-grid n wide f d xs =
+unfoldable pub flat_rows : {X : Type 0} → ℕ → ℕ → (X → List ℕ) → X → List X → List ℕ
+flat_rows n wide f d xs =
     table_of (n * wide) (λ i. slice_index (f (slice_index_or xs (i / wide) d)) (i % wide))

@@ -7,8 +7,8 @@ use Rattle.mcs_model.specs.BenchState.{BenchState, new_bench_state}
 use Rattle.mcs_disk.specs.Moments.{IsFresh}
 use Rattle.mcs_disk.specs.States.{mem_disk_state}
 use Rattle.mcs_disk.specs.declared.memory.MemDisk.{MemDisk}
-use Rattle.mcs_page.specs.declared.fault.NotServed.{NotServed}
-use Rattle.mcs_page.specs.declared.fault.NotServed.TheVariants.{Refused, NoRoom}
+use Rattle.mcs_page.specs.declared.fault.ServeFault.{ServeFault}
+use Rattle.mcs_page.specs.declared.fault.ServeFault.TheVariants.{Refused, NoRoom}
 use Rattle.mcs_session.specs.SessionCalls.{RefusesSession}
 use Rattle.mcs_session.specs.SessionState.{SessionView}
 use Rattle.mcs_session.specs.StandsFor.{HoldsState, StandsByEither, StandsFor}
@@ -91,7 +91,7 @@ pub record LacksBufferRoom (file input : List ℕ) (count room : ℕ) : Type 0 w
   pub short : room < count
 
 -- why input was not served
-abbrev pub IsWhyNotServed : NotServed → List ℕ → List ℕ → ℕ → Type 0
+abbrev pub IsWhyNotServed : ServeFault → List ℕ → List ℕ → ℕ → Type 0
 IsWhyNotServed (Refused fault) file input room = IsFileRefused fault file
 IsWhyNotServed (NoRoom count) file input room = LacksBufferRoom file input count room
 

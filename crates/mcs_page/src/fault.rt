@@ -4,7 +4,7 @@ use thiserror::Error;
 
 /// Why input is not served. Nothing was done then.
 #[derive(Clone, Copy, Debug, PartialEq, Eq, Error)]
-pub enum NotServed {
+pub enum ServeFault {
     /// The bytes hold no session (50, 51), or there was no memory (90).
     #[error("the file is refused")]
     Refused(OpenFault),

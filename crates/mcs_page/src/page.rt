@@ -5,7 +5,7 @@ ghost use Rattle.mcs_page.specs.Page.{IsServedWhole, IsWhyNotServed, StandsForSa
 ghost use Rattle.mcs_journal.specs.declared.format.TheConstants.{FILE_SIZE};
 
 use crate::disks::{resume, settle_into, write_back};
-use crate::fault::NotServed;
+use crate::fault::ServeFault;
 use mcs_disk::MemDisk;
 use mcs_journal::{FILE_SIZE, OpenFault};
 use mcs_session::session::Session;
@@ -15,7 +15,7 @@ use std::alloc::{AllocError, Global};
 
 /// What came of input that was served.
 #[derive(Clone, Copy, Debug, PartialEq, Eq)]
-pub struct Served {
+pub struct ServedInput {
     /// How the shell ended: its input was served to its end, or to the limit of what a shell reads.
     pub end: ShellEnd,
     /// How many bytes of answers there are.
@@ -58,7 +58,7 @@ fn is_whole(end: ShellEnd) -> bool
 
 /// Goes on with the session that the bytes of a file hold, on a copy of them, and serves the lines
 /// of an input on it, where the answers have room in so many bytes.
-fn serve_on(alloc: Global, file: &[u8], input: &[u8], room: usize) -> Result<Answered, NotServed>
+fn serve_on(alloc: Global, file: &[u8], input: &[u8], room: usize) -> Result<Answered, ServeFault>
     ensures served { IfOk result (λ a.
         ServesAllInput file.now input.now a.end a.told.items a.session) }
     ensures room { IfOk result (λ a. length a.told.items ≤ room) }
@@ -66,7 +66,7 @@ fn serve_on(alloc: Global, file: &[u8], input: &[u8], room: usize) -> Result<Ans
 {
     let mut session = match resume(alloc, file) {
         Ok(session) => session,
-        Err(fault) => return Err(NotServed::Refused(fault)),
+        Err(fault) => return Err(ServeFault::Refused(fault)),
     };
     let mut reader = input;
     let mut told = Vec::new(alloc);
@@ -74,10 +74,10 @@ fn serve_on(alloc: Global, file: &[u8], input: &[u8], room: usize) -> Result<Ans
     // Every other end comes of a lack of memory: over a slice, a vector and bytes in memory nothing
     // else fails.
     if !is_whole(end) {
-        return Err(NotServed::Refused(OpenFault::NoMemory));
+        return Err(ServeFault::Refused(OpenFault::NoMemory));
     }
     if room < told.len() {
-        return Err(NotServed::NoRoom(told.len()));
+        return Err(ServeFault::NoRoom(told.len()));
     }
     Ok(Answered { session, end, told })
 }
@@ -105,7 +105,7 @@ pub fn serve(
     file: &mut [u8],
     input: &[u8],
     answers: &mut [u8],
-) -> Result<Served, NotServed>
+) -> Result<ServedInput, ServeFault>
     ensures served { IfOk result (λ served.
         AnswersInBuffer file.old input.now served.end served.count
         answers.old answers.new file.new) }
@@ -119,7 +119,7 @@ pub fn serve(
     };
     write_back(&session.into_disk(), file);
     let count = tell(answers, &told);
-    Ok(Served { end, count })
+    Ok(ServedInput { end, count })
 }
 
 /// Serves input as [`serve`] does, and then puts a snapshot in the place of the records of the
@@ -131,7 +131,7 @@ pub fn serve_and_settle(
     file: &mut [u8],
     input: &[u8],
     answers: &mut [u8],
-) -> Result<Served, NotServed>
+) -> Result<ServedInput, ServeFault>
     ensures served { IfOk result (λ served. AnswersAndSettles file.old input.now served.end
         served.count answers.old answers.new file.new) }
     ensures refused { IfErr result (λ why.
@@ -144,7 +144,7 @@ pub fn serve_and_settle(
     };
     settle_into(session, file);
     let count = tell(answers, &told);
-    Ok(Served { end, count })
+    Ok(ServedInput { end, count })
 }
 
 /// Answers an input as [`serve`] would, and leaves the file as it is.
@@ -153,7 +153,7 @@ pub fn ask(
     file: &[u8],
     input: &[u8],
     answers: &mut [u8],
-) -> Result<Served, NotServed>
+) -> Result<ServedInput, ServeFault>
     ensures served { IfOk result (λ served. WouldAnswer file.now input.now served.end served.count
         answers.old answers.new) }
     ensures refused { IfErr result (λ why.
@@ -169,7 +169,7 @@ pub fn ask(
         Err(why) => return Err(why),
     };
     let count = tell(answers, &told);
-    Ok(Served { end, count })
+    Ok(ServedInput { end, count })
 }
 
 /// Puts a snapshot in the place of the records of a session's file. The file stands for the same

@@ -6,7 +6,7 @@ use crate::files::{
 };
 use mcs_disk::{Disk, MemDisk};
 use mcs_journal::{FILE_SIZE, OpenFault};
-use mcs_page::fault::NotServed;
+use mcs_page::fault::ServeFault;
 use mcs_session::session::Session;
 use mcs_shell::shell::run_shell;
 use std::alloc::Global;
@@ -175,7 +175,7 @@ fn expect_refused(alloc: Global, rt: &impl Abort, file: &[u8], fault: OpenFault)
     let mut kept = copy(alloc, rt, file);
     for call in CALLS {
         let why = answers(alloc, rt, call, kept.as_mut_slice(), SECOND).err();
-        equal(rt, why, Some(NotServed::Refused(fault)));
+        equal(rt, why, Some(ServeFault::Refused(fault)));
     }
     equal(rt, settled(alloc, kept.as_mut_slice()), Err(fault));
     assert!(rt; kept.as_slice() == file);
@@ -230,7 +230,7 @@ fn expect_no_room(alloc: Global, rt: &impl Abort, file: &mut [u8], room: usize) 
     };
     for call in CALLS {
         let why = served(alloc, call, file, FIRST, short).err();
-        equal(rt, why, Some(NotServed::NoRoom(FIRST_ANSWERS.len())));
+        equal(rt, why, Some(ServeFault::NoRoom(FIRST_ANSWERS.len())));
     }
     equal(rt, buffer, [b'#'; 128]);
 }

@@ -2,8 +2,8 @@
 use crate::checks::equal;
 use mcs_fixtures::files::{NEW_BENCH, POKE};
 use mcs_journal::{FILE_SIZE, OpenFault};
-use mcs_page::fault::NotServed;
-use mcs_page::page::{Served, ask, begin, serve, serve_and_settle, settle};
+use mcs_page::fault::ServeFault;
+use mcs_page::page::{ServedInput, ask, begin, serve, serve_and_settle, settle};
 use mcs_shell::ends::ShellEnd;
 use std::alloc::Global;
 use std::process::Abort;
@@ -65,7 +65,7 @@ pub(crate) fn served(
     file: &mut [u8],
     input: &[u8],
     buffer: &mut [u8],
-) -> Result<Served, NotServed> {
+) -> Result<ServedInput, ServeFault> {
     match call {
         Call::Serve => serve(alloc, file, input, buffer),
         Call::ServeAndSettle => serve_and_settle(alloc, file, input, buffer),
@@ -85,7 +85,7 @@ pub(crate) fn answers(
     call: Call,
     file: &mut [u8],
     input: &[u8],
-) -> Result<Vec<u8>, NotServed> {
+) -> Result<Vec<u8>, ServeFault> {
     let mut buffer = vec![in alloc; 0u8; 65_536].expect(rt, "memory");
     let served = served(alloc, call, file, input, buffer.as_mut_slice())?;
     equal(rt, served.end, ShellEnd::End);

@@ -4,8 +4,8 @@
 use crate::checks::equal;
 use crate::files::{CARRIED_OVER, Call, put, put_version_1, served, settled};
 use mcs_journal::{FILE_SIZE, OpenFault};
-use mcs_page::fault::NotServed;
-use mcs_page::page::{Served, begin};
+use mcs_page::fault::ServeFault;
+use mcs_page::page::{ServedInput, begin};
 use mcs_shell::ends::ShellEnd;
 use std::alloc::{AllocError, Global};
 use std::process::Abort;
@@ -27,14 +27,14 @@ struct Told {
 }
 
 /// How many bytes a call told of, which was not refused.
-fn count_of(rt: &impl Abort, told: Result<Served, NotServed>) -> Result<usize, usize> {
+fn count_of(rt: &impl Abort, told: Result<ServedInput, ServeFault>) -> Result<usize, usize> {
     match told {
         Ok(served) => {
             equal(rt, served.end, ShellEnd::End);
             Ok(served.count)
         }
-        Err(NotServed::NoRoom(count)) => Err(count),
-        Err(NotServed::Refused(_)) => panic!(rt; "refused again"),
+        Err(ServeFault::NoRoom(count)) => Err(count),
+        Err(ServeFault::Refused(_)) => panic!(rt; "refused again"),
     }
 }
 
@@ -94,10 +94,10 @@ impl Desk {
         call: Call,
         input: &[u8],
         room: usize,
-    ) -> Result<Served, NotServed> {
+    ) -> Result<ServedInput, ServeFault> {
         match self.buffer.get_mut(..room) {
             Some(answers) => served(alloc, call, self.file.as_mut_slice(), input, answers),
-            None => Err(NotServed::NoRoom(0)),
+            None => Err(ServeFault::NoRoom(0)),
         }
     }
 
@@ -116,7 +116,7 @@ impl Desk {
     ) -> Told {
         self.prepare(rt);
         let first = self.call_once(alloc, call, input, room);
-        if let Err(NotServed::Refused(fault)) = first {
+        if let Err(ServeFault::Refused(fault)) = first {
             equal(rt, fault, OpenFault::NoMemory);
             self.expect_untouched(rt);
             let again = self.call_once(alloc, call, input, room);

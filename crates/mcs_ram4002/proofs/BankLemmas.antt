@@ -6,13 +6,13 @@ use Rattle.std.proofs.lemmas.Bool.{cases_lt}
 use Rattle.std.specs.Prelude.{All}
 use Rattle.std.proofs.lemmas.List.{get_or_default, get_or_past, get_or-replicate, get_or-take}
 use Rattle.std.proofs.lemmas.List.Elements.{All-get_or, All-take}
-use Rattle.mcs_nibble.specs.Tables.{grid, column}
-use Rattle.mcs_nibble.proofs.GridLemmas.{get-grid, set-grid, kept-grid, length-grid, blank-grid, get-column, set-column, kept-column, length-column, blank-column}
+use Rattle.mcs_nibble.specs.Tables.{flat_rows, column}
+use Rattle.mcs_nibble.proofs.FlatRowsLemmas.{get-flat, set-flat, kept-flat, length-flat, blank-flat, get-column, set-column, kept-column, length-column, blank-column}
 use Rattle.mcs_ram4002.specs.declared.BankWrite.{BankWrite}
 use Rattle.mcs_ram4002.specs.declared.BankWrite.TheVariants.{Character, Status, Port, Src}
 use Rattle.mcs_ram4002.specs.declared.Chip.{Chip}
 use Rattle.mcs_ram4002.specs.RamBank.{BankState, ChipState, characters_of, cells_of, no_chip, bank_of, blank_bank, main_cells_of, status_cells_of, status_cell, chip_written, chip_after, src_after, with_write, IsInBank, IsSizedChip, IsValidChip, IsWhole, IsValidBank}
-use Rattle.mcs_ram4002.proofs.Below.{below-at, grid-below, column-below}
+use Rattle.mcs_ram4002.proofs.Below.{below-at, flat-below, column-below}
 use Rattle.mcs_ram4002.proofs.Packed.{unpacked-small, unpacked-zeros, unpacked-none}
 
 length_wired : (chips : List Chip) (wired : ℕ) → wired ≤ length chips → length (take wired chips) ≡ wired
@@ -26,16 +26,16 @@ chip_absent : (chips : List Chip) (wired i : ℕ) → wired ≤ i → get_or (ta
 chip_absent chips wired i h = grind (arith, common_steps)
 
 -- reads of cell k of chip i, which stands at p in the flat list
-pub read-grid : (wide : ℕ) (f : Chip → List ℕ) (chips : List Chip) (wired i k p : ℕ) (x : Chip) → i < 4 → k < wide → p ≡ i * wide + k → i < wired → wired ≤ length chips → slice_index (f (get_or chips i x)) k ≡ slice_index (grid 4 wide f no_chip (take wired chips)) p
-read-grid wide f chips wired i k p x h l at there fits =
+pub read-flat : (wide : ℕ) (f : Chip → List ℕ) (chips : List Chip) (wired i k p : ℕ) (x : Chip) → i < 4 → k < wide → p ≡ i * wide + k → i < wired → wired ≤ length chips → slice_index (f (get_or chips i x)) k ≡ slice_index (flat_rows 4 wide f no_chip (take wired chips)) p
+read-flat wide f chips wired i k p x h l at there fits =
     ap (λ c. slice_index (f c) k) (sym (chip_there chips wired i x there fits))
-    ∙ sym (get-grid 4 wide f no_chip (take wired chips) i k h l)
-    ∙ ap (slice_index (grid 4 wide f no_chip (take wired chips))) (sym at)
+    ∙ sym (get-flat 4 wide f no_chip (take wired chips) i k h l)
+    ∙ ap (slice_index (flat_rows 4 wide f no_chip (take wired chips))) (sym at)
 
-pub absent-grid : (wide : ℕ) (f : Chip → List ℕ) (chips : List Chip) (wired i k p : ℕ) → slice_index (f no_chip) k ≡ 0 → i < 4 → k < wide → p ≡ i * wide + k → wired ≤ i → 0 ≡ slice_index (grid 4 wide f no_chip (take wired chips)) p
-absent-grid wide f chips wired i k p none h l at gone =
-    sym (ap (slice_index (grid 4 wide f no_chip (take wired chips))) at
-    ∙ get-grid 4 wide f no_chip (take wired chips) i k h l
+pub absent-flat : (wide : ℕ) (f : Chip → List ℕ) (chips : List Chip) (wired i k p : ℕ) → slice_index (f no_chip) k ≡ 0 → i < 4 → k < wide → p ≡ i * wide + k → wired ≤ i → 0 ≡ slice_index (flat_rows 4 wide f no_chip (take wired chips)) p
+absent-flat wide f chips wired i k p none h l at gone =
+    sym (ap (slice_index (flat_rows 4 wide f no_chip (take wired chips))) at
+    ∙ get-flat 4 wide f no_chip (take wired chips) i k h l
     ∙ ap (λ c. slice_index (f c) k) (chip_absent chips wired i gone)
     ∙ none)
 
@@ -51,10 +51,10 @@ port-absent chips wired src i h gone =
 within : (chips : List Chip) (wired i : ℕ) → i < wired → wired ≤ length chips → i < length (take wired chips)
 within chips wired i there fits = let e = length_wired chips wired fits in omega arith
 
-kept : (wide : ℕ) (f : Chip → List ℕ) (chips : List Chip) (wired i : ℕ) (x d : Chip) → i < wired → wired ≤ length chips → f d ≡ f (get_or chips i x) → grid 4 wide f no_chip (take wired (slice_set chips i d)) ≡ grid 4 wide f no_chip (take wired chips)
+kept : (wide : ℕ) (f : Chip → List ℕ) (chips : List Chip) (wired i : ℕ) (x d : Chip) → i < wired → wired ≤ length chips → f d ≡ f (get_or chips i x) → flat_rows 4 wide f no_chip (take wired (slice_set chips i d)) ≡ flat_rows 4 wide f no_chip (take wired chips)
 kept wide f chips wired i x d there fits same =
-    ap (grid 4 wide f no_chip) (take-set-lt wired chips i d there)
-    ∙ kept-grid 4 wide f no_chip (take wired chips) i d (within chips wired i there fits) (same ∙ ap f (sym (chip_there chips wired i x there fits)))
+    ap (flat_rows 4 wide f no_chip) (take-set-lt wired chips i d there)
+    ∙ kept-flat 4 wide f no_chip (take wired chips) i d (within chips wired i there fits) (same ∙ ap f (sym (chip_there chips wired i x there fits)))
 
 kept-ports : (chips : List Chip) (wired i : ℕ) (x d : Chip) → i < wired → wired ≤ length chips → d.port ≡ (get_or chips i x).port → column 4 (λ (c : Chip). c.port) no_chip (take wired (slice_set chips i d)) ≡ column 4 (λ (c : Chip). c.port) no_chip (take wired chips)
 kept-ports chips wired i x d there fits same =
@@ -62,12 +62,12 @@ kept-ports chips wired i x d there fits same =
     ∙ kept-column 4 (λ (c : Chip). c.port) no_chip (take wired chips) i d (within chips wired i there fits) (same ∙ ap (λ (c : Chip). c.port) (sym (chip_there chips wired i x there fits)))
 
 -- the list that changes where cell k of chip i becomes n
-written : (wide : ℕ) (f : Chip → List ℕ) (chips : List Chip) (wired i k p n : ℕ) (x d : Chip) → i < 4 → k < wide → p ≡ i * wide + k → i < wired → wired ≤ length chips → length (f (get_or chips i x)) ≡ wide → f d ≡ slice_set (f (get_or chips i x)) k n → grid 4 wide f no_chip (take wired (slice_set chips i d)) ≡ slice_set (grid 4 wide f no_chip (take wired chips)) p n
+written : (wide : ℕ) (f : Chip → List ℕ) (chips : List Chip) (wired i k p n : ℕ) (x d : Chip) → i < 4 → k < wide → p ≡ i * wide + k → i < wired → wired ≤ length chips → length (f (get_or chips i x)) ≡ wide → f d ≡ slice_set (f (get_or chips i x)) k n → flat_rows 4 wide f no_chip (take wired (slice_set chips i d)) ≡ slice_set (flat_rows 4 wide f no_chip (take wired chips)) p n
 written wide f chips wired i k p n x d h l at there fits len new =
     let old = chip_there chips wired i x there fits in
-    ap (grid 4 wide f no_chip) (take-set-lt wired chips i d there)
-    ∙ set-grid 4 wide f no_chip (take wired chips) i k d n h l (within chips wired i there fits) (rw old (omega arith)) (new ∙ ap (λ c. slice_set (f c) k n) (sym old))
-    ∙ ap (λ j. slice_set (grid 4 wide f no_chip (take wired chips)) j n) (sym at)
+    ap (flat_rows 4 wide f no_chip) (take-set-lt wired chips i d there)
+    ∙ set-flat 4 wide f no_chip (take wired chips) i k d n h l (within chips wired i there fits) (rw old (omega arith)) (new ∙ ap (λ c. slice_set (f c) k n) (sym old))
+    ∙ ap (λ j. slice_set (flat_rows 4 wide f no_chip (take wired chips)) j n) (sym at)
 
 -- a bank whose chip that a write goes to did it
 pub stored : (chips : List Chip) (wired src i : ℕ) (x d : Chip) (write : BankWrite) → IsInBank write → i ≡ chip_written write → i < 4 → i < wired → wired ≤ length chips → IsSizedChip (get_or chips i x) → cells_of d ≡ chip_after (cells_of (get_or chips i x)) write → bank_of (slice_set chips i d) wired (src_after write src) ≡ with_write (bank_of chips wired src) write
@@ -87,7 +87,7 @@ stored chips wired src i x d (Src byte) place is h there fits sized new =
 -- ---- what holds of every bank
 
 whole : (chips : List Chip) (wired src : ℕ) → IsWhole (bank_of chips wired src)
-whole chips wired src = record { main = length-grid 4 64 _ _ _; status = length-grid 4 16 _ _ _; ports = length-column 4 _ _ _ }
+whole chips wired src = record { main = length-flat 4 64 _ _ _; status = length-flat 4 16 _ _ _; ports = length-column 4 _ _ _ }
 
 pub whole_of : (b : BankState) (chips : List Chip) (wired src : ℕ) → bank_of chips wired src ≡ b → IsWhole b
 whole_of b chips wired src is = subst IsWhole is (whole chips wired src)
@@ -104,12 +104,12 @@ pub valid_of : (b : BankState) (chips : List Chip) (wired src : ℕ) → bank_of
 valid_of b chips wired src is small unwired valid =
     let at : IsValidBank (bank_of chips wired src) = record {
       whole = whole chips wired src;
-      main = grid-below 4 64 16 main_cells_of no_chip (take wired chips) (λ i k. below-at 16 _ k (omega arith) (chip_valid chips wired i valid).main);
-      status = grid-below 4 16 16 status_cells_of no_chip (take wired chips) (λ i k. below-at 16 _ k (omega arith) (chip_valid chips wired i valid).status);
+      main = flat-below 4 64 16 main_cells_of no_chip (take wired chips) (λ i k. below-at 16 _ k (omega arith) (chip_valid chips wired i valid).main);
+      status = flat-below 4 16 16 status_cells_of no_chip (take wired chips) (λ i k. below-at 16 _ k (omega arith) (chip_valid chips wired i valid).status);
       ports = column-below 4 16 (λ (c : Chip). c.port) no_chip (take wired chips) (λ i. (chip_valid chips wired i valid).port);
       src = small;
-      absent_main = λ at l gone. sym (absent-grid 64 main_cells_of chips wired (at / 64) (at % 64) at (unpacked-none (at % 64)) (omega arith) (omega arith) (omega arith) gone);
-      absent_status = λ high k h l gone. sym (absent-grid 16 status_cells_of chips wired (high / 4) (high % 4 * 4 + k) (status_cell high k) (unpacked-none (high % 4 * 4 + k)) (omega arith) (omega arith) (omega arith) gone);
+      absent_main = λ at l gone. sym (absent-flat 64 main_cells_of chips wired (at / 64) (at % 64) at (unpacked-none (at % 64)) (omega arith) (omega arith) (omega arith) gone);
+      absent_status = λ high k h l gone. sym (absent-flat 16 status_cells_of chips wired (high / 4) (high % 4 * 4 + k) (status_cell high k) (unpacked-none (high % 4 * 4 + k)) (omega arith) (omega arith) (omega arith) gone);
       absent_port = λ chip l gone. sym (port-absent chips wired src chip l gone);
       absent_src = unwired;
     } in
@@ -133,7 +133,7 @@ zero-cell n k = ap (λ cells. slice_index cells k) (unpacked-zeros n) ∙ slice_
 pub blank : (n wired src : ℕ) → wired ≤ n → bank_of (replicate n (record { main = replicate 32 0; status = replicate 8 0; port = 0 })) wired src ≡ record (blank_bank wired) { src = src }
 blank n wired src l =
     let b : Chip = record { main = replicate 32 0; status = replicate 8 0; port = 0 } in
-    let main = blank-grid 4 64 main_cells_of no_chip (take wired (replicate n b)) (λ i k. equal (λ c. slice_index (main_cells_of c) k) 0 n wired i b l (zero-cell 32 k) (unpacked-none k)) in
-    let status = blank-grid 4 16 status_cells_of no_chip (take wired (replicate n b)) (λ i k. equal (λ c. slice_index (status_cells_of c) k) 0 n wired i b l (zero-cell 8 k) (unpacked-none k)) in
+    let main = blank-flat 4 64 main_cells_of no_chip (take wired (replicate n b)) (λ i k. equal (λ c. slice_index (main_cells_of c) k) 0 n wired i b l (zero-cell 32 k) (unpacked-none k)) in
+    let status = blank-flat 4 16 status_cells_of no_chip (take wired (replicate n b)) (λ i k. equal (λ c. slice_index (status_cells_of c) k) 0 n wired i b l (zero-cell 8 k) (unpacked-none k)) in
     let ports = blank-column 4 (λ (c : Chip). c.port) no_chip (take wired (replicate n b)) (λ i. equal (λ c. c.port) 0 n wired i b l refl refl) in
     rw (main, status, ports) refl

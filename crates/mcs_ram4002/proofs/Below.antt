@@ -4,7 +4,7 @@ use Rattle.std.specs.Prelude.{All}
 use Rattle.std.proofs.lemmas.Bool.{cases_lt}
 use Rattle.std.proofs.lemmas.List.{get_or_past}
 use Rattle.std.proofs.lemmas.List.Elements.{All-get_or, All-from_get_or}
-use Rattle.mcs_nibble.specs.Tables.{table_of, column, grid}
+use Rattle.mcs_nibble.specs.Tables.{table_of, column, flat_rows}
 use Rattle.mcs_nibble.proofs.TabledLemmas.{get_or-tabled, length-tabled}
 
 -- a number at an index, or 0 beyond the end
@@ -19,9 +19,9 @@ tabled-below : (n m : ℕ) (f : ℕ → ℕ) → ((i : ℕ) → f i < m) → All
 tabled-below n m f h =
     All-from_get_or (λ v. v < m) (table_of n f) 0 (λ i l. subst (λ v. v < m) (sym (get_or-tabled n f i 0 (let e = length-tabled n f in omega arith))) (h i))
 
-pub grid-below : {X : Type 0} (n wide m : ℕ) (f : X → List ℕ) (d : X) (xs : List X) → ((i k : ℕ) → slice_index (f (get_or xs i d)) k < m) → All (λ v. v < m) (grid n wide f d xs)
-unfolding grid
-grid-below n wide m f d xs h = tabled-below (n * wide) m (λ j. slice_index (f (get_or xs (j / wide) d)) (j % wide)) (λ j. h (j / wide) (j % wide))
+pub flat-below : {X : Type 0} (n wide m : ℕ) (f : X → List ℕ) (d : X) (xs : List X) → ((i k : ℕ) → slice_index (f (get_or xs i d)) k < m) → All (λ v. v < m) (flat_rows n wide f d xs)
+unfolding flat_rows
+flat-below n wide m f d xs h = tabled-below (n * wide) m (λ j. slice_index (f (get_or xs (j / wide) d)) (j % wide)) (λ j. h (j / wide) (j % wide))
 
 pub column-below : {X : Type 0} (n m : ℕ) (f : X → ℕ) (d : X) (xs : List X) → ((i : ℕ) → f (get_or xs i d) < m) → All (λ v. v < m) (column n f d xs)
 unfolding column

@@ -2,7 +2,7 @@
 -- Source: MCS-4 Users Manual, 4002: four registers of 16 main and 4 status characters and an output port a chip; SRC
 -- selects chip, register and character. That an absent chip reads 0 is our own choice.
 use Rattle.std.specs.Prelude.{◌≡◌, ℕ, ◌+◌, ◌*◌, ◌/◌, ◌%◌, ◌^◌, ◌<◌, ◌≤◌, List, [], All, replicate, slice_index, slice_set, length, take, if◌then◌else◌, nat_lt}
-use Rattle.mcs_nibble.specs.Tables.{table_of, grid, column}
+use Rattle.mcs_nibble.specs.Tables.{table_of, flat_rows, column}
 use Rattle.mcs_ram4002.specs.declared.BankWrite.{BankWrite}
 use Rattle.mcs_ram4002.specs.declared.BankWrite.TheVariants.{Character, Status, Port, Src}
 use Rattle.mcs_ram4002.specs.declared.Chip.{Chip}
@@ -116,8 +116,8 @@ abbrev pub bank_of : List Chip → ℕ → ℕ → BankState
 bank_of chips wired src = record {
   wired = wired;
   src = src;
-  main = grid 4 64 main_cells_of no_chip (take wired chips);
-  status = grid 4 16 status_cells_of no_chip (take wired chips);
+  main = flat_rows 4 64 main_cells_of no_chip (take wired chips);
+  status = flat_rows 4 16 status_cells_of no_chip (take wired chips);
   ports = column 4 (λ c. c.port) no_chip (take wired chips);
 }
 

@@ -32,7 +32,7 @@ abbrev pub MayMigrate : DiskState → DiskState → BenchState → Type 0
 MayMigrate old new s =
     LeavesOnly old new (Either (old.since old.clock) (λ file. StandsByEither file s))
 
--- The disk stood for this state, and now every image stands for it. A file of version 2 is not
+-- The bytes of the disk stood for this state, and now every image stands for it. A file of version 2 is not
 -- written; one of version 1 is replaced by a snapshot of version 2.
 pub record OpensSession (old new : DiskState) (s : BenchState) : Type 0 where
   pub stands : StandsByEither old.bytes s
@@ -124,8 +124,8 @@ MayAnswerSettle live result = ⊥
 abbrev pub KeepsState : DiskState → DiskState → BenchState → Type 0
 KeepsState old new s = LeavesOnly old new (λ file. StandsFor file s)
 
--- The disk stood for this state, and now, four steps later, it holds a snapshot of it and no
--- records. At every moment between it stood for this state.
+-- The bytes of the disk stood for this state, and now, four steps later, it holds a snapshot of it
+-- and no records. At every moment between, a power cut leaves this state.
 pub record SettlesSession (old new : DiskState) (s : BenchState) : Type 0 where
   pub stood : StandsFor old.bytes s
   pub holds : HoldsState new.bytes s

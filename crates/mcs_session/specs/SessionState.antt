@@ -11,7 +11,7 @@ pub record SessionBench : Type 0 where
   pub live : Bool
   pub state : BenchState
 
--- the same once these commands were accepted and recorded
+-- the bench of a session once these commands were accepted and recorded
 abbrev pub bench_after : SessionBench → List Command → SessionBench
 bench_after m cs = record { live = m.live; state = fold m.state cs }
 
@@ -30,7 +30,7 @@ pub record SessionState : Type 1 where
 abbrev pub Premise : Type 1
 Premise = SessionState → Type 0
 
--- the same, where `state_of` is what contracts see of a disk
+-- a session with what contracts see of its disk, which `state_of` gives
 abbrev pub session_state : {D : Type 0} → (D → DiskState) → SessionView D → SessionState
 session_state state_of s =
     record { bench = record { live = s.live; state = s.state }; disk = state_of s.disk }

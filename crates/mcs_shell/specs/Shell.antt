@@ -13,8 +13,8 @@ use Rattle.mcs_answers.specs.AnswerTexts.{session_text}
 use Rattle.mcs_session.specs.KeptCommands.{IsOpenOnHonestDisk}
 use Rattle.mcs_shell.specs.Serving.{ServesInputs, WroteBytes}
 
--- No more than 4,096 bytes were read ahead of what was answered: the inputs that were met are those
--- that the bytes before spell, and maybe more. (A numeral, so that a shell with a larger chunk is
+-- No more than 4,096 bytes were read ahead of the inputs that were met: these are those that the
+-- bytes before spell, and maybe more. (A numeral, so that a shell with a larger chunk is
 -- refused.)
 pub record ReadsLittleAhead (bytes : List ℕ) (answered : List Input) : Type 0 where
   pub before : List ℕ
@@ -60,7 +60,8 @@ pub record RanShellGiven
   pub near : ReadsLittleAhead bytes (inputs_in served.met)
   pub ends : EndsBy end begun bytes whole served.met halted
 
--- the same of a whole run, under the premise that the session is open and its disk honest
+-- a run whose first line is that of the session, under the premise that the session is open and its
+-- disk honest
 abbrev pub RanShell : ShellEnd → KnownBytes → KnownBytes → ShellState → ShellState → Type 0
 RanShell end reader reader' a b =
     RanShellGiven IsOpenOnHonestDisk (session_text a.session.bench.state) end reader reader' a b

@@ -12,7 +12,7 @@ pub record ShellState : Type 1 where
   pub session : SessionState
   pub out : KnownBytes
 
--- the same with what its shell has written, where the writer tells it
+-- a session on a disk of some type, and what its shell has written, where the writer tells it
 abbrev pub shell_state : {D : Type 0} → (D → DiskState) → SessionView D → KnownBytes → ShellState
 shell_state state_of s out = record { session = session_state state_of s; out = out }
 

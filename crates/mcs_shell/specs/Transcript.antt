@@ -45,20 +45,21 @@ takes_memory (Line (Listing at lines)) = true
 takes_memory (Line Board) = true
 takes_memory i = false
 
--- What may come of an input: the state gave the answer; or its command was accepted, and the device
--- failed as it was recorded; or its command met a closed session; or memory for it was refused.
+-- What may come of an input: the state gave the answer, to a command on an open session alone; or
+-- its command was accepted, and the device failed as it was recorded; or its command met a closed
+-- session; or memory for it was refused.
 unfoldable pub IsPossibleOutcome : SessionBench → Input → Outcome → Type 0
 IsPossibleOutcome m i Plain = (asked_command i ≡ None) ⊎ (m.live ≡ true)
 IsPossibleOutcome m i Device = (accepted_commands m.state (asked_command i) ≢ []) × (m.live ≡ true)
 IsPossibleOutcome m i Closed = (asked_command i ≢ None) × (m.live ≡ false)
 IsPossibleOutcome m i NoMemory = takes_memory i ≡ true
 
--- the command that was answered `ok`, if any
+-- the command that was answered `ok`, as a list: empty where there is none
 unfoldable pub acknowledged_commands : BenchState → Input → Outcome → List Command
 acknowledged_commands s i Plain = accepted_commands s (asked_command i)
 acknowledged_commands s i o = []
 
--- the command that may have reached the disk, if any: it was answered `ok` or `no 53`
+-- the command that may have reached the disk, which was answered `ok` or `no 53`, as a list
 unfoldable pub reached_commands : BenchState → Input → Outcome → List Command
 reached_commands s i Plain = accepted_commands s (asked_command i)
 reached_commands s i Device = accepted_commands s (asked_command i)
@@ -119,7 +120,7 @@ in_turn f s [] = []
 in_turn f s (x ∷ rest) =
     f s x.input x.outcome ++ in_turn f (fold s (acknowledged_commands s x.input x.outcome)) rest
 
--- the end that an answer makes, which went out whole or not, if it makes one
+-- the end that an answer makes, if it makes one: by whether it went out whole, and what it answers
 abbrev pub halt_of : Bool → Outcome → Option ShellEnd
 halt_of false o = Some WriteFault
 halt_of true Device = Some DeviceFault

@@ -1,8 +1,8 @@
 -- What a call of the page tells.
 use Rattle.std.specs.Prelude.{◌≡◌, ℕ, List}
 use Rattle.mcs_page.specs.Page.{AnswersInBuffer, AnswersAndSettles, IsWhyNotServed, WouldAnswer}
-use Rattle.mcs_page.specs.declared.fault.NotServed.{NotServed}
-use Rattle.mcs_page.specs.declared.fault.NotServed.TheVariants.{Refused, NoRoom}
+use Rattle.mcs_page.specs.declared.fault.ServeFault.{ServeFault}
+use Rattle.mcs_page.specs.declared.fault.ServeFault.TheVariants.{Refused, NoRoom}
 use Rattle.mcs_shell.specs.RefusalNumbers.{open_fault_number}
 use Rattle.mcs_shell.specs.Shell.{exit_status_of}
 use Rattle.mcs_shell.specs.declared.ends.ShellEnd.{ShellEnd}
@@ -30,17 +30,17 @@ pub record TellsWhatItWouldAnswer (file input : List ℕ) (number count : ℕ) (
   pub answers : WouldAnswer file input end count buffer buffer'
 
 -- the number that tells why input was not served, and the count beside it
-abbrev pub number_told : NotServed → ℕ
+abbrev pub number_told : ServeFault → ℕ
 number_told (Refused fault) = open_fault_number fault
 number_told (NoRoom count) = 0
 
-abbrev pub count_told : NotServed → ℕ
+abbrev pub count_told : ServeFault → ℕ
 count_told (Refused fault) = 0
 count_told (NoRoom count) = count
 
 -- the input was not served, and the number and the count tell why
 pub record TellsWhyNot (file input : List ℕ) (number count room : ℕ) : Type 0 where
-  pub why : NotServed
+  pub why : ServeFault
   pub told : number ≡ number_told why
   pub counted : count ≡ count_told why
   pub is : IsWhyNotServed why file input room

@@ -7,8 +7,8 @@ ghost use Rattle.mcs_page.specs.Page.{IsNewFile, StandsForSameState};
 ghost use Rattle.page.specs.NumbersTold.{TellsAndSettles, TellsAnswers, TellsWhatItWouldAnswer, TellsWhyNot, count_told, number_told};
 ghost use Rattle.mcs_shell.specs.Shell.{exit_status_of};
 
-use mcs_page::fault::NotServed;
-use mcs_page::page::{Served, ask, begin, serve, serve_and_settle, settle};
+use mcs_page::fault::ServeFault;
+use mcs_page::page::{ServedInput, ask, begin, serve, serve_and_settle, settle};
 use mcs_shell::ends::status;
 use mcs_shell::faults::open_number;
 use std::alloc::Global;
@@ -16,7 +16,7 @@ use std::alloc::Global;
 /// What came of a call.
 #[derive(Clone, Copy)]
 #[repr(C)]
-pub struct Told {
+pub struct CallResult {
     /// Where input was served the exit status of the shell's end, and else the number of the
     /// refusal, or 0 where the answers have no room.
     pub number: u32,
@@ -25,12 +25,12 @@ pub struct Told {
 }
 
 /// Tells what came of input that was served.
-fn tell_served(served: Served, told: &mut Told) -> bool
+fn tell_served(served: ServedInput, told: &mut CallResult) -> bool
     ensures is { result ≡ true }
     ensures number { told.new.number ≡ exit_status_of served.end }
     ensures count { told.new.count ≡ served.count }
 {
-    *told = Told {
+    *told = CallResult {
         number: u32::from(status(served.end)),
         count: served.count,
     };
@@ -38,17 +38,17 @@ fn tell_served(served: Served, told: &mut Told) -> bool
 }
 
 /// Tells why input was not served.
-fn tell_why(why: NotServed, told: &mut Told) -> bool
+fn tell_why(why: ServeFault, told: &mut CallResult) -> bool
     ensures is { result ≡ false }
     ensures number { told.new.number ≡ number_told why }
     ensures count { told.new.count ≡ count_told why }
 {
     *told = match why {
-        NotServed::Refused(fault) => Told {
+        ServeFault::Refused(fault) => CallResult {
             number: u32::from(open_number(fault)),
             count: 0,
         },
-        NotServed::NoRoom(count) => Told { number: 0, count },
+        ServeFault::NoRoom(count) => CallResult { number: 0, count },
     };
     false
 }
@@ -81,7 +81,7 @@ pub extern "C" fn page_serve(
     file: &mut [u8],
     input: &[u8],
     answers: &mut [u8],
-    told: &mut Told,
+    told: &mut CallResult,
 ) -> bool
     ensures served { result ≡ true → TellsAnswers file.old input.now told.new.number told.new.count
         answers.old answers.new file.new }
@@ -103,7 +103,7 @@ pub extern "C" fn page_serve_and_settle(
     file: &mut [u8],
     input: &[u8],
     answers: &mut [u8],
-    told: &mut Told,
+    told: &mut CallResult,
 ) -> bool
     ensures served { result ≡ true → TellsAndSettles file.old input.now told.new.number
         told.new.count answers.old answers.new file.new }
@@ -125,7 +125,7 @@ pub extern "C" fn page_ask(
     file: &[u8],
     input: &[u8],
     answers: &mut [u8],
-    told: &mut Told,
+    told: &mut CallResult,
 ) -> bool
     ensures served { result ≡ true → TellsWhatItWouldAnswer file.now input.now told.new.number
         told.new.count answers.old answers.new }

@@ -1,7 +1,7 @@
 use Rattle.std.proofs.Common.{arith, sym, ap, refl, ◌∙◌, ◌≡◌, ◌/◌, None, length, slice_index_or, slice_set}
 use Rattle.std.proofs.lemmas.List.{set-get_or}
-use Rattle.mcs_nibble.specs.Tables.{grid}
-use Rattle.mcs_nibble.proofs.GridLemmas.{length-grid}
+use Rattle.mcs_nibble.specs.Tables.{flat_rows}
+use Rattle.mcs_nibble.proofs.FlatRowsLemmas.{length-flat}
 use Rattle.mcs_rom4001.specs.Roms.{RomState}
 use Rattle.mcs_model.specs.Bus.{BusState}
 use Rattle.mcs_model.specs.Boards.{masks_on}
@@ -9,7 +9,7 @@ use Rattle.mcs_model.specs.Places.{with_rom_byte}
 use Rattle.mcs_board.specs.RigFields.{rig_parts}
 use Rattle.mcs_board.specs.RigState.{masks_of_rom, bytes_of_rom, rig_of}
 use Rattle.mcs_board.proofs.FittedLemmas.{fitted-rom}
-use Rattle.mcs_board.proofs.PlaceLemmas.{rom_byte-grid, rom_byte-write, rom_byte-lost}
+use Rattle.mcs_board.proofs.PlaceLemmas.{rom_byte-flat, rom_byte-write, rom_byte-lost}
 use Rattle.mcs_board.proofs.RigLemmas.{rom_here, rom_absent}
 use Rattle.mcs_board.proofs.rig.Rig.set_rom_byte.Goals as goal
 
@@ -41,7 +41,7 @@ returns-else-page-len g c =
 
 pub index_mut-requires-in-Some : goal.index_mut-requires-in-Some
 index_mut-requires-in-Some g c =
-    let whole : length c.self.inside.program.items ≡ 4096 = ap length c.self.invariant.program ∙ length-grid 16 256 _ _ _ in
+    let whole : length c.self.inside.program.items ≡ 4096 = ap length c.self.invariant.program ∙ length-flat 16 256 _ _ _ in
     omega arith
 
 pub invariant_of-self : goal.invariant_of-self
@@ -52,8 +52,8 @@ invariant_of-self g c =
     let here = rom_here i.roms.items page page c.index_mut.result.now refl (omega arith) c.index_mut.ensures.value ∙ c.in-Some.is in
     let at : c.from.result ≡ c.args.at = c.from.ensures ∙ c.get-in-Some.ensures.value in
     let place : page ≡ c.args.at / 256 = omega arith in
-    let bytes = rom_byte-grid i.roms.items c.args.at c.low.result c.args.byte page c.in-Some.rom c.set_byte.new.self (omega arith) c.low.ensures place (omega arith) (ap (λ k. slice_index_or i.roms.items k None) (sym place) ∙ here) c.set_byte.ensures.whole c.set_byte.ensures.byte in
+    let bytes = rom_byte-flat i.roms.items c.args.at c.low.result c.args.byte page c.in-Some.rom c.set_byte.new.self (omega arith) c.low.ensures place (omega arith) (ap (λ k. slice_index_or i.roms.items k None) (sym place) ∙ here) c.set_byte.ensures.whole c.set_byte.ensures.byte in
     fitted-rom v page c.in-Some.rom c.set_byte.new.self (omega arith) here (ap (λ (x : RomState). x.mask) c.set_byte.ensures.byte) (slice_set i.program.items c.from.result c.args.byte)
     (ap (λ xs. slice_set xs c.from.result c.args.byte) v.program
-    ∙ ap (λ k. slice_set (grid 16 256 bytes_of_rom None i.roms.items) k c.args.byte) at
+    ∙ ap (λ k. slice_set (flat_rows 16 256 bytes_of_rom None i.roms.items) k c.args.byte) at
     ∙ sym bytes)

@@ -10,7 +10,7 @@ use Rattle.mcs_model.specs.Places.{with_rom_latch}
 use Rattle.mcs_board.specs.RigFields.{rig_parts}
 use Rattle.mcs_board.specs.RigState.{masks_of_rom, rig_of}
 use Rattle.mcs_board.proofs.FittedLemmas.{fitted-rom}
-use Rattle.mcs_board.proofs.RigLemmas.{rom_here, rom_absent, rom_latch-grid, rom_latch-write}
+use Rattle.mcs_board.proofs.RigLemmas.{rom_here, rom_absent, rom_latch-flat, rom_latch-write}
 use Rattle.mcs_board.proofs.rig.Rig.set_rom_latch.Goals as goal
 
 written : (s : BusState) (chip n : ℕ) (mask : List LineMask) → masks_on s.board chip ≡ Some mask → with_rom_ports_at s chip (latch_value mask n) ≡ with_rom_latch s chip n
@@ -56,4 +56,4 @@ invariant_of-self g c =
     let at = c.from-at.result in
     let here = rom_here i.roms.items at at c.index_mut.result.now refl (omega arith) c.index_mut.ensures.value ∙ c.in-Some.is in
     fitted-rom v at c.in-Some.rom c.set_port.new.self (omega arith) here (ap (λ (x : RomState). x.mask) c.set_port.ensures) i.program.items
-    (v.program ∙ sym (rom_latch-grid i.roms.items at (latch_value c.in-Some.rom.mask c.args.n) c.in-Some.rom c.set_port.new.self (omega arith) here c.set_port.ensures))
+    (v.program ∙ sym (rom_latch-flat i.roms.items at (latch_value c.in-Some.rom.mask c.args.n) c.in-Some.rom c.set_port.new.self (omega arith) here c.set_port.ensures))

@@ -1,6 +1,6 @@
 use Rattle.std.proofs.Common.{◌≡◌, ◌∙◌, sym, ap, arith, refl, length}
 use Rattle.std.proofs.lemmas.Bool.{eqb-true}
-use Rattle.mcs_nibble.proofs.GridLemmas.{length-grid}
+use Rattle.mcs_nibble.proofs.FlatRowsLemmas.{length-flat}
 use Rattle.mcs_model.specs.declared.board.BoardParts.{BoardParts}
 use Rattle.mcs_model.specs.Places.{after_wire}
 use Rattle.mcs_board.specs.RigState.{RigParts, rig_of}
@@ -93,4 +93,4 @@ returns g c =
     ∙ ap (λ s. after_wire s b) c.self.view_is
 
 pub clear_absent-requires : goal.clear_absent-requires
-clear_absent-requires g c = ap length c.self.invariant.program ∙ length-grid 16 256 _ _ _
+clear_absent-requires g c = ap length c.self.invariant.program ∙ length-flat 16 256 _ _ _

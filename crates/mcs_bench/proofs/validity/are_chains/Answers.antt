@@ -4,7 +4,7 @@ use Rattle.mcs_model.specs.Boards.{chain_bits}
 use Rattle.mcs_model.specs.Validity.{AreBelow}
 use Rattle.mcs_bench.specs.States.{bits_of_chains}
 use Rattle.mcs_bench.proofs.ChainBits.{chain-at}
-use Rattle.mcs_bench.proofs.judging.are_chains.Goals as goal
+use Rattle.mcs_bench.proofs.validity.are_chains.Goals as goal
 
 pub loop-i-preserved : goal.loop-i-preserved
 loop-i-preserved c =

@@ -1,11 +1,11 @@
--- Columns and grids: what one element's change does to them.
+-- Columns and flat rows: what one element's change does to them.
 use Rattle.std.proofs.Common.{◌≡◌, ◌≢◌, ℕ, ◌+◌, ◌*◌, ◌/◌, ◌%◌, ◌<◌, inl, inr, List, length, get_or, slice_set, slice_index, refl, sym, ap, ◌∙◌, arith, get_or-set_same, get_or-set_other, replicate}
 use Rattle.std.proofs.Math.Nat.{div-add-mod, mul-le-mul_right}
 use Rattle.std.proofs.lemmas.Nat.{div-mul-add, mod-mul-add}
 use Rattle.std.proofs.lemmas.Grind.{get_or-set_at}
 use Rattle.std.proofs.lemmas.Bool.{cases_eq}
 use Rattle.std.proofs.lemmas.List.{get_or-replicate, length-replicate}
-use Rattle.mcs_nibble.specs.Tables.{column, grid}
+use Rattle.mcs_nibble.specs.Tables.{column, flat_rows}
 use Rattle.mcs_nibble.proofs.TabledLemmas.{set-tabled, same_tabled, get_or-tabled, tabled_from, length-tabled}
 
 -- what f gives of each element, where one element was replaced by one of which f gives the same
@@ -29,31 +29,31 @@ unfolding column
 set-column n f d xs i e v h l is =
     sym (set-tabled n _ _ i v h (ap f (get_or-set_at xs i i e d refl l) ∙ is) (λ k _ ne. ap f (get_or-set_other xs i k e d ne)))
 
-pub kept-grid : {X : Type 0} (n wide : ℕ) (f : X → List ℕ) (d : X) (xs : List X) (i : ℕ) (e : X) → i < length xs → f e ≡ f (get_or xs i d) → grid n wide f d (slice_set xs i e) ≡ grid n wide f d xs
-unfolding grid
-kept-grid n wide f d xs i e l same = same_tabled (n * wide) _ _ (λ k _. ap (λ ys. slice_index ys (k % wide)) (kept-at f d xs i (k / wide) e l same))
+pub kept-flat : {X : Type 0} (n wide : ℕ) (f : X → List ℕ) (d : X) (xs : List X) (i : ℕ) (e : X) → i < length xs → f e ≡ f (get_or xs i d) → flat_rows n wide f d (slice_set xs i e) ≡ flat_rows n wide f d xs
+unfolding flat_rows
+kept-flat n wide f d xs i e l same = same_tabled (n * wide) _ _ (λ k _. ap (λ ys. slice_index ys (k % wide)) (kept-at f d xs i (k / wide) e l same))
 
-pub in_grid : (n wide i k : ℕ) → i < n → k < wide → i * wide + k < n * wide
-in_grid n wide i k h l = omega (arith, mul-le-mul_right {m = i + 1} {n = n} wide (omega arith))
+pub in_flat : (n wide i k : ℕ) → i < n → k < wide → i * wide + k < n * wide
+in_flat n wide i k h l = omega (arith, mul-le-mul_right {m = i + 1} {n = n} wide (omega arith))
 
-pub get-grid : {X : Type 0} (n wide : ℕ) (f : X → List ℕ) (d : X) (xs : List X) (i k : ℕ) → i < n → k < wide → slice_index (grid n wide f d xs) (i * wide + k) ≡ slice_index (f (get_or xs i d)) k
-unfolding grid
-get-grid n wide f d xs i k h l =
-    get_or-tabled (n * wide) _ (i * wide + k) 0 (in_grid n wide i k h l)
+pub get-flat : {X : Type 0} (n wide : ℕ) (f : X → List ℕ) (d : X) (xs : List X) (i k : ℕ) → i < n → k < wide → slice_index (flat_rows n wide f d xs) (i * wide + k) ≡ slice_index (f (get_or xs i d)) k
+unfolding flat_rows
+get-flat n wide f d xs i k h l =
+    get_or-tabled (n * wide) _ (i * wide + k) 0 (in_flat n wide i k h l)
     ∙ ap (λ j. slice_index (f (get_or xs j d)) ((i * wide + k) % wide)) (div-mul-add i wide k l)
     ∙ ap (λ j. slice_index (f (get_or xs i d)) j) (mod-mul-add i wide k l)
 
 -- an element's list written at k
-pub set-grid : {X : Type 0} (n wide : ℕ) (f : X → List ℕ) (d : X) (xs : List X) (i k : ℕ) (e : X) (v : ℕ) → i < n → k < wide → i < length xs → k < length (f (get_or xs i d)) → f e ≡ slice_set (f (get_or xs i d)) k v → grid n wide f d (slice_set xs i e) ≡ slice_set (grid n wide f d xs) (i * wide + k) v
-unfolding grid
-set-grid n wide f d xs i k e v h l len inner is =
+pub set-flat : {X : Type 0} (n wide : ℕ) (f : X → List ℕ) (d : X) (xs : List X) (i k : ℕ) (e : X) (v : ℕ) → i < n → k < wide → i < length xs → k < length (f (get_or xs i d)) → f e ≡ slice_set (f (get_or xs i d)) k v → flat_rows n wide f d (slice_set xs i e) ≡ slice_set (flat_rows n wide f d xs) (i * wide + k) v
+unfolding flat_rows
+set-flat n wide f d xs i k e v h l len inner is =
     let here : slice_index (f (get_or (slice_set xs i e) ((i * wide + k) / wide) d)) ((i * wide + k) % wide) ≡ v =
     ap (λ j. slice_index (f (get_or (slice_set xs i e) j d)) ((i * wide + k) % wide)) (div-mul-add i wide k l)
     ∙ ap (λ j. slice_index (f (get_or (slice_set xs i e) i d)) j) (mod-mul-add i wide k l)
     ∙ ap (λ x. slice_index (f x) k) (get_or-set_at xs i i e d refl len)
     ∙ ap (λ ys. slice_index ys k) is
     ∙ get_or-set_same (f (get_or xs i d)) k v 0 inner in
-    sym (set-tabled (n * wide) _ _ (i * wide + k) v (in_grid n wide i k h l) here
+    sym (set-tabled (n * wide) _ _ (i * wide + k) v (in_flat n wide i k h l) here
     (λ j _ ne.
     elim (cases_eq (j / wide) i) [
       | inl q ↦
@@ -65,9 +65,9 @@ set-grid n wide f d xs i k e v h l len inner is =
       | inr ne' ↦ ap (λ x. slice_index (f x) (j % wide)) (get_or-set_other xs i (j / wide) e d ne')
     ]))
 
-pub length-grid : {X : Type 0} (n wide : ℕ) (f : X → List ℕ) (d : X) (xs : List X) → length (grid n wide f d xs) ≡ n * wide
-unfolding grid
-length-grid n wide f d xs = length-tabled (n * wide) _
+pub length-flat : {X : Type 0} (n wide : ℕ) (f : X → List ℕ) (d : X) (xs : List X) → length (flat_rows n wide f d xs) ≡ n * wide
+unfolding flat_rows
+length-flat n wide f d xs = length-tabled (n * wide) _
 
 pub length-column : {X : Type 0} (n : ℕ) (f : X → ℕ) (d : X) (xs : List X) → length (column n f d xs) ≡ n
 unfolding column
@@ -78,9 +78,9 @@ unfolding column
 same_column n f d xs ys h = same_tabled n _ _ h
 
 -- where every element has 0 throughout
-pub blank-grid : {X : Type 0} (n wide : ℕ) (f : X → List ℕ) (d : X) (xs : List X) → ((i k : ℕ) → slice_index (f (get_or xs i d)) k ≡ 0) → grid n wide f d xs ≡ replicate (n * wide) 0
-unfolding grid
-blank-grid n wide f d xs h =
+pub blank-flat : {X : Type 0} (n wide : ℕ) (f : X → List ℕ) (d : X) (xs : List X) → ((i k : ℕ) → slice_index (f (get_or xs i d)) k ≡ 0) → flat_rows n wide f d xs ≡ replicate (n * wide) 0
+unfolding flat_rows
+blank-flat n wide f d xs h =
     sym (tabled_from (n * wide) _ (replicate (n * wide) 0) 0 (length-replicate {A = ℕ} (n * wide) 0) (λ k l. get_or-replicate (n * wide) k 0 0 l ∙ sym (h (k / wide) (k % wide))))
 
 pub blank-column : {X : Type 0} (n : ℕ) (f : X → ℕ) (d : X) (xs : List X) → ((i : ℕ) → f (get_or xs i d) ≡ 0) → column n f d xs ≡ replicate n 0

@@ -3,7 +3,7 @@ use Rattle.std.proofs.lemmas.Bool.{cases_lt}
 use Rattle.std.proofs.lemmas.List.{get_or_past}
 use Rattle.mcs_model.specs.Boards.{masks_on}
 use Rattle.mcs_bench.proofs.ChipListLemmas.{no-mask}
-use Rattle.mcs_bench.proofs.judging.can_all_hold.Goals as goal
+use Rattle.mcs_bench.proofs.validity.can_all_hold.Goals as goal
 
 pub returns : goal.returns
 returns c = (
