@@ -21,7 +21,7 @@ pub record CountsFault (old new : DiskState) (failed : Type 0) : Type 0 where
 abbrev pub WritesNothing : DiskState → DiskState → Type 0
 WritesNothing old new = new.writes ≡ old.writes
 
--- no byte has changed, nor what a power cut may leave; of size, faults and honesty this says nothing
+-- no byte has changed, nor what a power cut may leave (of size, faults and honesty this is silent)
 pub record IsUntouched (old new : DiskState) : Type 0 where
   pub unwritten : WritesNothing old new
   pub bytes : new.bytes ≡ old.bytes

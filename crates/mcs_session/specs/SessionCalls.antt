@@ -32,8 +32,8 @@ abbrev pub MayMigrate : DiskState → DiskState → BenchState → Type 0
 MayMigrate old new s =
     LeavesOnly old new (Either (old.since old.clock) (λ file. StandsByEither file s))
 
--- The bytes of the disk stood for this state, and now every image stands for it. A file of version 2 is not
--- written; one of version 1 is replaced by a snapshot of version 2.
+-- The bytes of the disk stood for this state, and now every image stands for it. A file of version
+-- 2 is not written; one of version 1 is replaced by a snapshot of version 2.
 pub record OpensSession (old new : DiskState) (s : BenchState) : Type 0 where
   pub stands : StandsByEither old.bytes s
   pub moments : MayMigrate old new s

@@ -19,10 +19,10 @@ use Rattle.mcs_shell.specs.ShellState.{KnownBytes, ShellState, shell_state}
 use Rattle.mcs_shell.specs.Transcript.{ArePossibleSteps, Step, answer, acknowledged_commands, in_turn, inputs_in, reached_commands}
 
 -- A run that began in session `a` met these inputs, and left the disk `ran`. Each command that it
--- answered `ok` was acknowledged at its moment. A power cut at any time of the run left a disk (`state_of`
--- is what contracts see of one): opened, it gives the bench as it is after a prefix of the commands
--- answered `ok` and the one answered `no 53`, and the prefix holds each one acknowledged by that
--- time. Opening it is refused for lack of memory and for a device fault alone.
+-- answered `ok` was acknowledged at its moment. A power cut at any time of the run left a disk
+-- (`state_of` is what contracts see of one): opened, it gives the bench as it is after a prefix of
+-- the commands answered `ok` and the one answered `no 53`, and the prefix holds each one
+-- acknowledged by that time. Opening it is refused for lack of memory and for a device fault alone.
 pub record SurvivesPowerCuts
     {E : Type 0} (state_of : E → DiskState) (a : SessionState) (ran : DiskState)
     (met : List Step) : Type 0 where
@@ -68,8 +68,8 @@ pub record AnswersInTurn
 
 -- The answers of a run are those of the inputs that it met, in turn, and what is found after a
 -- power cut is the bench after a prefix of the commands among them that holds what was acknowledged
--- (`state_of` and `found_of` are what contracts see of the disks). The premise of the law is that the
--- session is open and its disk honest (`IsOpenOnHonestDisk`).
+-- (`state_of` and `found_of` are what contracts see of the disks). The premise of the law is that
+-- the session is open and its disk honest (`IsOpenOnHonestDisk`).
 pub record AnswersAndSurvives
     {D E : Type 0} (state_of : D → DiskState) (found_of : E → DiskState)
     (run : ShellRun state_of) : Type 0 where

@@ -46,8 +46,9 @@ outcome_of (session_fault.Refused fault) = Plain
 outcome_of session_fault.Device = Device
 outcome_of session_fault.Closed = Closed
 
--- The device failed, which closed the session. The commands `done` were answered `ok`; `reached_too`,
--- which holds them and the one at which the device failed, may all have reached the disk.
+-- The device failed, which closed the session. The commands `done` were answered `ok`;
+-- `reached_too`, which holds them and the one at which the device failed, may all have reached the
+-- disk.
 pub record ClosesSession
     (Given : Premise) (a b : SessionState) (done reached_too : List Command) : Type 0 where
   pub closed : b.bench.live ≡ false
