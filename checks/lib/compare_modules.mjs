@@ -10,7 +10,7 @@ const ROOM = 1n << 20n;
 const FILE_ROOM = 1n << 18n;
 
 // A module with a file, an input and the answers.
-class Desk {
+class Instance {
   constructor(path) {
     this.calls = new WebAssembly.Instance(new WebAssembly.Module(readFileSync(path)), {}).exports;
     this.file = this.calls.page_buffer(FILE_ROOM);
@@ -101,37 +101,37 @@ function expect(name, isRight) {
   console.error(`compare_modules: ${name}`);
 }
 
-const desks = paths.map((path) => new Desk(path));
+const instances = paths.map((path) => new Instance(path));
 
 // The same on each module. It answers what the first one told.
 function onAll(name, act) {
-  const found = desks.map((desk) => {
+  const found = instances.map((instance) => {
     try {
-      return JSON.stringify(act(desk));
+      return JSON.stringify(act(instance));
     } catch (fault) {
       return String(fault);
     }
   });
-  const file = desks[0].get();
-  desks.forEach((desk, at) => expect(`${name}: ${paths[at]} differs from ${paths[0]}`, found[at] === found[0] && desk.get().equals(file)));
+  const file = instances[0].get();
+  instances.forEach((instance, at) => expect(`${name}: ${paths[at]} differs from ${paths[0]}`, found[at] === found[0] && instance.get().equals(file)));
   return found[0];
 }
 
 // What one call that serves and settles promises, and one that asks.
 function tryLaws(name, text) {
-  const [desk] = desks;
-  const before = desk.get();
-  const served = desk.serve("page_serve", text);
-  expect(`${name}: its file does not settle`, !served.done || desk.settle().done);
-  const settled = desk.get();
-  desk.put(before);
-  const asked = desk.serve("page_ask", text);
+  const [instance] = instances;
+  const before = instance.get();
+  const served = instance.serve("page_serve", text);
+  expect(`${name}: its file does not settle`, !served.done || instance.settle().done);
+  const settled = instance.get();
+  instance.put(before);
+  const asked = instance.serve("page_ask", text);
   expect(`${name}: asking answers otherwise`, JSON.stringify(asked) === JSON.stringify(served));
-  expect(`${name}: asking changes the file`, desk.get().equals(before));
-  const both = desk.serve("page_serve_and_settle", text);
+  expect(`${name}: asking changes the file`, instance.get().equals(before));
+  const both = instance.serve("page_serve_and_settle", text);
   expect(`${name}: serving and settling answers otherwise`, JSON.stringify(both) === JSON.stringify(served));
-  expect(`${name}: serving and settling leaves another file`, desk.get().equals(served.done ? settled : before));
-  desk.put(before);
+  expect(`${name}: serving and settling leaves another file`, instance.get().equals(served.done ? settled : before));
+  instance.put(before);
 }
 
 function damage(file) {
@@ -143,22 +143,22 @@ function damage(file) {
 }
 
 function tryFile(name, file) {
-  for (const desk of desks) desk.put(file);
-  onAll(`${name}, served`, (desk) => desk.serve("page_serve", "seq\nregs\nlamps\nram 0\nlist 0 64\nrun 1000\n"));
-  onAll(`${name}, settled`, (desk) => desk.settle());
+  for (const instance of instances) instance.put(file);
+  onAll(`${name}, served`, (instance) => instance.serve("page_serve", "seq\nregs\nlamps\nram 0\nlist 0 64\nrun 1000\n"));
+  onAll(`${name}, settled`, (instance) => instance.settle());
 }
 
 const CALLS = ["page_serve", "page_serve_and_settle", "page_ask"];
 for (let number = 1; number <= Number(count); number++) {
-  onAll(`session ${number}, begun`, (desk) => desk.begin());
+  onAll(`session ${number}, begun`, (instance) => instance.begin());
   for (let part = 1 + below(4); part > 0; part--) {
     const text = script();
     tryLaws(`session ${number}`, text);
     const call = pick(CALLS);
-    onAll(`session ${number}, ${call}`, (desk) => desk.serve(call, text));
-    if (below(3) === 0) onAll(`session ${number}, settled`, (desk) => desk.settle());
+    onAll(`session ${number}, ${call}`, (instance) => instance.serve(call, text));
+    if (below(3) === 0) onAll(`session ${number}, settled`, (instance) => instance.settle());
   }
-  if (number % 3 === 0) tryFile(`damaged file ${number}`, damage(desks[0].get()));
+  if (number % 3 === 0) tryFile(`damaged file ${number}`, damage(instances[0].get()));
   if (number % 25 === 0) tryFile(`a file of another size, ${number}`, Buffer.alloc(pick([0, 1, 16, 163855, 163857]), 7));
 }
 console.log(`${count} sessions, ${made} comparisons, ${faults} differ`);

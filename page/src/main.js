@@ -9,7 +9,7 @@ import { Notice } from "./notice.js";
 import { Page } from "./page.js";
 import { SPEEDS, speedOf } from "./time/speeds.js";
 import { Stepping } from "./time/stepping.js";
-import { Forgetful, Store } from "./session/store.js";
+import { MemoryStore, Store } from "./session/store.js";
 import { Words } from "./words.js";
 
 /**
@@ -46,7 +46,7 @@ async function openStore(hasLocks) {
   try {
     return /** @type {Store} */ (await Promise.race([Store.open(hasLocks), late]));
   } catch {
-    return new Forgetful();
+    return new MemoryStore();
   }
 }
 
@@ -121,7 +121,7 @@ function listenToLeaving(page) {
     page.recovery.failed(event.error || event.message);
   });
   addEventListener("unhandledrejection", (event) => page.recovery.failed(event.reason));
-  addEventListener("hashchange", () => page.desk.follow());
+  addEventListener("hashchange", () => page.sessionsController.follow());
 }
 
 /**
@@ -138,7 +138,7 @@ async function start(words, notice, { examples, manual }) {
   page.pressing.listenToKeyboard();
   listenToButtons(page);
   listenToLeaving(page);
-  await page.desk.openFirst();
+  await page.sessionsController.openFirst();
   // How many milliseconds it took.
   document.body.dataset.ready = String(Math.round(performance.now()));
 }

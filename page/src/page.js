@@ -9,7 +9,7 @@ import { LogView } from "./log_view.js";
 import { Recovery } from "./recovery.js";
 import { Serving } from "./serving.js";
 import { CurrentSession } from "./session/current_session.js";
-import { boardViewOf, deskOf, editorsOf, historyOf, pressingOf, sharingOf, sourceOf, textsOf, travelOf } from "./ties.js";
+import { boardViewOf, editorsOf, historyOf, pressingOf, sessionsControllerOf, sharingOf, sourceOf, textsOf, travelOf } from "./ties.js";
 import { CyclesView } from "./time/cycles_view.js";
 import { Running } from "./time/running.js";
 import { scopeOf } from "./waves/scope_of_page.js";
@@ -59,9 +59,9 @@ export class Page {
     this.history = historyOf(this);
     this.ask = new AskView();
     this.texts = textsOf(this);
-    this.desk = deskOf(this, parts);
+    this.sessionsController = sessionsControllerOf(this, parts);
     this.sharing = sharingOf(this);
-    this.sessions = this.desk.view;
+    this.sessions = this.sessionsController.view;
     this.scope = scopeOf(this);
     bench.listener = {
       frame: (frame) => this.running.ran(frame),

@@ -8,9 +8,9 @@ import { wordsOfCell } from "./help/manual.js";
 import { listenToCaret, listenToHere } from "./machine/run_to.js";
 import { SourceSync } from "./machine/source_sync.js";
 import { newRecord } from "./session/kept_session.js";
-import { SessionDesk } from "./session/session_desk.js";
+import { SessionsController } from "./session/sessions_controller.js";
 import { Sharing } from "./session/sharing.js";
-import { TextsDesk } from "./session/texts_desk.js";
+import { TextsController } from "./session/texts_controller.js";
 import { Editors } from "./text/editors.js";
 import { HistoryView } from "./time/history_view.js";
 import { Travel } from "./time/travel.js";
@@ -136,11 +136,11 @@ export function sourceOf(page) {
 
 /**
  * @param {Page} page
- * @returns {TextsDesk}
+ * @returns {TextsController}
  */
 export function textsOf(page) {
   const { current } = page;
-  return new TextsDesk(page.boardEditor, page.programEditor, page.ask, page.notice, {
+  return new TextsController(page.boardEditor, page.programEditor, page.ask, page.notice, {
     session: () => current.session,
     touch: () => current.touch(),
     keep: () => current.keep(),
@@ -157,9 +157,9 @@ export function textsOf(page) {
  * @param {Page} page
  * @param {Parts} parts
  */
-export function deskOf(page, parts) {
+export function sessionsControllerOf(page, parts) {
   const { current } = page;
-  return new SessionDesk(parts, {
+  return new SessionsController(parts, {
     session: () => current.session,
     keep: () => current.keep(),
     use: (record, release, example) => current.use(record, release, example),
@@ -173,11 +173,11 @@ export function deskOf(page, parts) {
  * @returns {Sharing}
  */
 export function sharingOf(page) {
-  const { current, desk } = page;
+  const { current, sessionsController } = page;
   return new Sharing(page.bench, page.ask, page.notice, page.words, {
     shown: () => current.session && current.session.record,
     address: () => current.showName(),
-    begin: (texts, file, runs) => desk.cabinet.useNew(async () => newRecord(texts.name || "session", file, texts, runs)),
-    save: () => desk.cabinet.save(),
+    begin: (texts, file, runs) => sessionsController.manager.useNew(async () => newRecord(texts.name || "session", file, texts, runs)),
+    save: () => sessionsController.manager.save(),
   });
 }

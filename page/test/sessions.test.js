@@ -5,8 +5,8 @@ import { addressOf, readAddress } from "../src/session/address.js";
 import { Bin, namesOf } from "../src/session/bin.js";
 import { KeptSession, newRecord } from "../src/session/kept_session.js";
 import { Persistence } from "../src/session/persistence.js";
-import { Forgetful } from "../src/session/store.js";
-import { TextsDesk, wordsOfLines } from "../src/session/texts_desk.js";
+import { MemoryStore } from "../src/session/store.js";
+import { TextsController, wordsOfLines } from "../src/session/texts_controller.js";
 
 const record = (name = "die") => newRecord(name, Uint8Array.of(1, 2), { boardText: "# b", programText: "; p" });
 const freeLocks = { take: async () => () => {} };
@@ -20,7 +20,7 @@ test("what an address names", () => {
 });
 
 test("a session of an example is not kept before something is done in it", async () => {
-  const store = new Forgetful();
+  const store = new MemoryStore();
   const session = new KeptSession(store, record(), () => {}, "die");
   assert.equal(await session.keep(), "");
   assert.equal(await session.keepNow(), "");
@@ -31,7 +31,7 @@ test("a session of an example is not kept before something is done in it", async
 });
 
 test("sessions are deleted several at once, and brought back as they were", async () => {
-  const store = new Forgetful();
+  const store = new MemoryStore();
   const records = [record("one"), record("two"), record("three")];
   for (const each of records) await store.put(each);
   const refused = [];
@@ -48,7 +48,7 @@ test("sessions are deleted several at once, and brought back as they were", asyn
 });
 
 test("what another tab has open is not deleted, and what the store refuses can be brought back later", async () => {
-  const store = new Forgetful();
+  const store = new MemoryStore();
   const [one, two] = [record("one"), record("two")];
   await store.put(one);
   await store.put(two);
@@ -79,15 +79,15 @@ test("lines in words", () => {
   assert.deepEqual(["", "a", "a\n", "a\nb", "\n"].map(wordsOfLines), ["0 lines", "1 line", "1 line", "2 lines", "1 line"]);
 });
 
-/** A desk of texts over plain objects; what is asked is answered by `answers`. */
-function desk(answers, programText, found) {
+/** A controller of texts over plain objects; what is asked is answered by `answers`. */
+function controller(answers, programText, found) {
   const told = { asked: 0, notices: [], kept: 0 };
   const session = { record: { id: "1", name: "one", boardText: "", programText } };
   const shown = { session };
   const notice = { show: (words, kind, action) => told.notices.push({ words, kind, action }) };
   const ask = { ask: async () => { told.asked += 1; return answers.shift(); } };
   const editor = (text) => ({ text, open(_id, shownText) { this.text = shownText; }, replaceText(other) { this.text = other; } });
-  const made = new TextsDesk(editor("# b"), editor(programText), ask, notice, {
+  const made = new TextsController(editor("# b"), editor(programText), ask, notice, {
     session: () => shown.session, touch: () => {}, keep: async () => "", named: () => {}, source: async () => found,
     failed: (fault) => { throw fault; },
   });
@@ -95,7 +95,7 @@ function desk(answers, programText, found) {
 }
 
 test("a source that is replaced is asked for, and can be brought back", async () => {
-  const { made, told, session } = desk([false, true], "; mine", "\tNOP\n");
+  const { made, told, session } = controller([false, true], "; mine", "\tNOP\n");
   await made.takeFromRom();
   assert.deepEqual([made.program.text, told.notices.length], ["; mine", 0]);
   await made.takeFromRom();
@@ -108,7 +108,7 @@ test("a source that is replaced is asked for, and can be brought back", async ()
 });
 
 test("an empty source is replaced at once, and the same one not at all", async () => {
-  const { made, told } = desk([], " \n", "\tNOP\n");
+  const { made, told } = controller([], " \n", "\tNOP\n");
   await made.takeFromRom();
   assert.equal(made.program.text, "\tNOP\n");
   await made.takeFromRom();
@@ -118,7 +118,7 @@ test("an empty source is replaced at once, and the same one not at all", async (
 });
 
 test("a source of another session is not brought back into this one", async () => {
-  const { made, told, shown, session } = desk([true], "; mine", "\tNOP\n");
+  const { made, told, shown, session } = controller([true], "; mine", "\tNOP\n");
   await made.takeFromRom();
   shown.session = { record: { id: "2", name: "two", boardText: "", programText: "; two" } };
   made.show(shown.session.record);

@@ -2,7 +2,7 @@
 import assert from "node:assert/strict";
 import { test } from "node:test";
 import { KeptSession, newRecord } from "../src/session/kept_session.js";
-import { Forgetful, NotKept, Store, wordsOfStoreFault } from "../src/session/store.js";
+import { MemoryStore, NotKept, Store, wordsOfStoreFault } from "../src/session/store.js";
 
 /** As much of IndexedDB as the store uses: one transaction after the other, in tasks of their own. */
 class FakeBase {
@@ -113,7 +113,7 @@ test("a page that goes away writes at once, but where a write needs the answer t
 });
 
 test("the file of a session goes in, and the array of the old one comes out", () => {
-  const session = new KeptSession(new Forgetful(), record(), () => {});
+  const session = new KeptSession(new MemoryStore(), record(), () => {});
   const old = session.record.file.buffer;
   const next = Uint8Array.of(7).buffer;
   assert.equal(session.take(next), old);
@@ -121,7 +121,7 @@ test("the file of a session goes in, and the array of the old one comes out", ()
 });
 
 test("a browser without a store forgets, but not while the page is open", async () => {
-  const store = new Forgetful();
+  const store = new MemoryStore();
   const one = record();
   await store.put(one);
   one.file[0] = 9;

@@ -74,7 +74,7 @@ export class Guide {
 
   /** @param {import("../worker/examples.js").Example} example */
   async beginTour(example) {
-    const isDone = await this.page.desk.begin(example);
+    const isDone = await this.page.sessionsController.begin(example);
     if (isDone) this.help.close();
     if (isDone) this.page.layout.tabs.choose("program");
     return isDone;

@@ -99,7 +99,7 @@ export class CurrentSession {
   /** Something is done in it: from here on it is kept. */
   touch() {
     if (!this.session) return;
-    this.page.desk.touched();
+    this.page.sessionsController.touched();
     if (!this.session.touch()) return;
     this.showName();
     this.keep();

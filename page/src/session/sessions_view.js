@@ -14,14 +14,14 @@ import { KeptList } from "./kept_list.js";
  *   copy: (id: string) => Promise<boolean>, remove: (records: SessionRecord[]) => Promise<void>, deleted: () => SessionRecord[],
  *   bringBack: (records: SessionRecord[]) => Promise<void>, begin: (example: Example) => Promise<boolean>,
  *   openFile: (file: File) => Promise<boolean>, save: () => void, saveSession: () => void, rename: (name: string) => void,
- *   keptWhere: () => string }} CabinetCalls
+ *   keptWhere: () => string }} SessionsCalls
  */
 
 export class SessionsView {
   /**
    * @param {Example[]} examples
    * @param {Notice} notice is in the dialog while that is open
-   * @param {CabinetCalls} calls
+   * @param {SessionsCalls} calls
    */
   constructor(examples, notice, calls) {
     this.calls = calls;

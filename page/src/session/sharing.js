@@ -5,7 +5,7 @@ import { readBoard, refusalOf } from "../bench/answers.js";
 import { titleOf, wordsOfBoard } from "./described.js";
 import { element } from "../dom.js";
 import { LONGEST_LINK, SAFE_LINK, linkOf, readLink } from "./share_link.js";
-import { wordsOfLines } from "./texts_desk.js";
+import { wordsOfLines } from "./texts_controller.js";
 
 /**
  * @typedef {import("../ask_view.js").AskView} AskView

@@ -157,7 +157,7 @@ export function wordsOfStoreFault(error) {
  * In the place of the store where the browser has none: it forgets all when the page is closed.
  * @implements {SessionStore}
  */
-export class Forgetful {
+export class MemoryStore {
   constructor() {
     /** @type {Map<string, SessionRecord>} */
     this.records = new Map();

@@ -66,10 +66,10 @@ export class BenchCalls {
    * @returns {Shown}
    */
   shown(look, tellsBoard) {
-    const { file, desk, count, timeline } = this.session;
+    const { file, lookQuestions, count, timeline } = this.session;
     const buffer = this.spare.pop() || new ArrayBuffer(file.length);
     new Uint8Array(buffer).set(file);
-    const board = tellsBoard ? desk.board : null;
+    const board = tellsBoard ? lookQuestions.board : null;
     return { look, file: buffer, board, total: count.total, reset: count.reset, future: timeline.future.length };
   }
 
@@ -233,8 +233,8 @@ export class BenchCalls {
   checkProgram(text) {
     if (!this.program || this.program.text !== text) this.program = readProgram(this.engine, text);
     const { map, refusal } = this.program;
-    const { file, desk } = this.session;
-    return { map, refusal, difference: differenceOf(this.engine, file, desk.board, this.program) };
+    const { file, lookQuestions } = this.session;
+    return { map, refusal, difference: differenceOf(this.engine, file, lookQuestions.board, this.program) };
   }
 
   /**

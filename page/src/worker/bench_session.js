@@ -46,7 +46,7 @@ export class BenchSession {
     /** Takes the new bytes of a call, until they are in the place of the old ones. */
     this.next = new Uint8Array(file.length);
     this.queue = new KeyQueue();
-    this.desk = deskOf(engine, file);
+    this.lookQuestions = lookQuestionsOf(engine, file);
     this.timeline = new Timeline(this);
   }
 
@@ -59,7 +59,7 @@ export class BenchSession {
   }
 
   look() {
-    return lookAt(this.engine, this.file, this.desk);
+    return lookAt(this.engine, this.file, this.lookQuestions);
   }
 
   adopt() {
@@ -99,11 +99,11 @@ export class BenchSession {
    * @param {{ file: Uint8Array, count: CycleCount }} present
    */
   become({ file, count }) {
-    const desk = deskOf(this.engine, file);
-    const wires = desk.board.join("\n") !== this.desk.board.join("\n");
+    const lookQuestions = lookQuestionsOf(this.engine, file);
+    const wires = lookQuestions.board.join("\n") !== this.lookQuestions.board.join("\n");
     this.file = file.slice();
     this.count = count.copy();
-    this.desk = desk;
+    this.lookQuestions = lookQuestions;
     this.queue.clear();
     return wires;
   }
@@ -122,12 +122,12 @@ export class BenchSession {
       served = this.trySteps(done);
     }
     const answers = served.answers.slice(0, done.length);
-    return { steps: done, answers, look: lookOf(this.desk.inputs, served.answers.slice(done.length)) };
+    return { steps: done, answers, look: lookOf(this.lookQuestions.inputs, served.answers.slice(done.length)) };
   }
 
   /** @param {Step[]} steps */
   trySteps(steps) {
-    return this.engine.serve(this.file, linesOf(steps.map((step) => step.line)) + this.desk.questions, this.next);
+    return this.engine.serve(this.file, linesOf(steps.map((step) => step.line)) + this.lookQuestions.lines, this.next);
   }
 
   /**
@@ -153,11 +153,11 @@ export class BenchSession {
       size = nextSize(size, performance.now() - begun);
       if (at < lines.length && !(await goesOn(at))) throw new Cancelled();
     }
-    const desk = told.wires ? deskOf(this.engine, from) : this.desk;
-    const look = lookAt(this.engine, from, desk);
+    const lookQuestions = told.wires ? lookQuestionsOf(this.engine, from) : this.lookQuestions;
+    const look = lookAt(this.engine, from, lookQuestions);
     // From here on nothing fails: it is done.
     if (from !== this.file) [this.file, this.next] = [from, this.file];
-    this.desk = desk;
+    this.lookQuestions = lookQuestions;
     this.timeline.stop();
     this.count = told.count;
     this.timeline.record(told.accepted, this);
@@ -169,28 +169,28 @@ export class BenchSession {
 }
 
 /**
- * What is asked about a board: the answer to `board`, the questions of a look, and the same as inputs.
- * @typedef {{ board: string[], questions: string, inputs: Input[] }} Desk
+ * What is asked for a look at a board: the answer to `board`, the questions as lines, and as inputs.
+ * @typedef {{ board: string[], lines: string, inputs: Input[] }} LookQuestions
  */
 
 /**
  * @param {Engine} engine
  * @param {Uint8Array} file
- * @returns {Desk}
+ * @returns {LookQuestions}
  */
-function deskOf(engine, file) {
+function lookQuestionsOf(engine, file) {
   const board = engine.ask(file, "board\n").answers;
-  const questions = linesOf(questionsOf(readBoard(board)));
-  return { board, questions, inputs: readInputs(questions) };
+  const lines = linesOf(questionsOf(readBoard(board)));
+  return { board, lines, inputs: readInputs(lines) };
 }
 
 /**
  * @param {Engine} engine
  * @param {Uint8Array} file
- * @param {Desk} desk
+ * @param {LookQuestions} lookQuestions
  */
-function lookAt(engine, file, { questions, inputs }) {
-  return lookOf(inputs, engine.ask(file, questions).answers);
+function lookAt(engine, file, { lines, inputs }) {
+  return lookOf(inputs, engine.ask(file, lines).answers);
 }
 
 /**

@@ -2,7 +2,7 @@
 
 import { readAddress } from "./address.js";
 import { Bin, namesOf } from "./bin.js";
-import { Cabinet } from "./cabinet.js";
+import { SessionManager } from "./session_manager.js";
 import { FIRST_PROGRAM } from "../help/tour.js";
 import { OfferedLines } from "./offered_lines.js";
 import { Persistence } from "./persistence.js";
@@ -25,7 +25,7 @@ const KEPT_HERE = "They are kept in this browser, on this machine. To have one e
 const PROMISED = " The browser has promised to keep them where its space is short, too.";
 const KEPT_NOWHERE = "This browser keeps nothing for this page: save a session to a file before you leave.";
 
-export class SessionDesk {
+export class SessionsController {
   /**
    * @param {Parts} parts
    * @param {Calls} calls
@@ -39,7 +39,7 @@ export class SessionDesk {
     this.lines = new OfferedLines(notice);
     /** @type {(words: string) => void} */
     const refuse = (told) => notice.show(told, "session");
-    this.cabinet = new Cabinet(bench, store, locks, words, {
+    this.manager = new SessionManager(bench, store, locks, words, {
       ...calls,
       refuse,
       left: (record) => this.tellLeft(record),
@@ -54,19 +54,19 @@ export class SessionDesk {
   }
 
   makeView() {
-    const { cabinet, bin, calls } = this;
+    const { manager, bin, calls } = this;
     return new SessionsView(this.examples, this.notice, {
-      kept: () => cabinet.kept(),
+      kept: () => manager.kept(),
       isShown: (id) => this.isShown(id),
       open: (id) => this.open(id),
-      copy: (id) => cabinet.copy(id),
+      copy: (id) => manager.copy(id),
       remove: (records) => this.remove(records),
       deleted: () => bin.deleted,
       bringBack: (records) => bin.bringBack(records),
       begin: (example) => this.begin(example),
-      openFile: (file) => cabinet.openFile(file),
-      save: () => cabinet.save(),
-      saveSession: () => cabinet.saveSession(),
+      openFile: (file) => manager.openFile(file),
+      save: () => manager.save(),
+      saveSession: () => manager.saveSession(),
       rename: (name) => calls.rename(name),
       keptWhere: () => (this.store.keeps ? KEPT_HERE + (this.persistence.isPromised ? PROMISED : "") : KEPT_NOWHERE),
     });
@@ -95,7 +95,7 @@ export class SessionDesk {
 
   /** @param {string} id */
   open(id) {
-    return this.cabinet.open(id);
+    return this.manager.open(id);
   }
 
   /**
@@ -103,7 +103,7 @@ export class SessionDesk {
    * @param {Example} example
    */
   async begin(example) {
-    const isDone = await this.cabinet.begin(example);
+    const isDone = await this.manager.begin(example);
     if (isDone) this.lines.offer(example.lines);
     return isDone;
   }
@@ -150,7 +150,7 @@ export class SessionDesk {
 
   /** @param {boolean} isQuiet whether sessions that are open in other tabs are passed over without a word */
   async openLast(isQuiet) {
-    for (const record of await this.cabinet.kept()) {
+    for (const record of await this.manager.kept()) {
       if (await this.open(record.id)) return;
       if (isQuiet) this.notice.hide("session");
     }

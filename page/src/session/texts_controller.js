@@ -9,7 +9,7 @@
  * What it calls: the session that is shown; something is done in it; it is kept; names in the board's text may be others; a source
  * text of what is in ROM; a call failed.
  * @typedef {{ session: () => KeptSession | null, touch: () => void, keep: () => Promise<string>, named: (boardText: string) => void,
- *   source: () => Promise<string>, failed: (fault: unknown) => void }} DeskCalls
+ *   source: () => Promise<string>, failed: (fault: unknown) => void }} TextsCalls
  */
 
 /** The two texts, as they are called in words. */
@@ -28,13 +28,13 @@ export function wordsOfLines(text) {
   return `${count.toLocaleString("en")} line${count === 1 ? "" : "s"}`;
 }
 
-export class TextsDesk {
+export class TextsController {
   /**
    * @param {TextEditor} board
    * @param {TextEditor} program
    * @param {AskView} ask
    * @param {Notice} notice
-   * @param {DeskCalls} calls
+   * @param {TextsCalls} calls
    */
   constructor(board, program, ask, notice, calls) {
     this.board = board;

@@ -20,26 +20,26 @@ import { NotKept, wordsOfStoreFault } from "./store.js";
  * refused.
  * @typedef {{ session: () => KeptSession | null, keep: () => Promise<string>, refuse: (words: string) => void,
  *   left: (record: SessionRecord) => void,
- *   use: (record: SessionRecord, release: Release, example: string) => Promise<void> }} Desk where nothing was done yet in a session of
- *   an example, `example` is its name
+ *   use: (record: SessionRecord, release: Release, example: string) => Promise<void> }} ManagerCalls where nothing was done yet in a
+ *   session of an example, `example` is its name
  */
 
 const IN_ANOTHER_TAB = "This session is open in another tab. Go on there, close that tab, or open a copy of it.";
 
-export class Cabinet {
+export class SessionManager {
   /**
    * @param {Bench} bench
    * @param {SessionStore} store
    * @param {Locks} locks
    * @param {Words} words
-   * @param {Desk} desk
+   * @param {ManagerCalls} calls
    */
-  constructor(bench, store, locks, words, desk) {
+  constructor(bench, store, locks, words, calls) {
     this.bench = bench;
     this.store = store;
     this.locks = locks;
     this.words = words;
-    this.desk = desk;
+    this.calls = calls;
   }
 
   /** The sessions that are kept, the one that was changed last before the others. */
@@ -47,7 +47,7 @@ export class Cabinet {
     try {
       return (await this.store.all()).sort((a, b) => b.changed - a.changed);
     } catch (fault) {
-      this.desk.refuse(`The sessions that are kept could not be read: ${wordsOfStoreFault(fault)}.`);
+      this.calls.refuse(`The sessions that are kept could not be read: ${wordsOfStoreFault(fault)}.`);
       return [];
     }
   }
@@ -64,7 +64,7 @@ export class Cabinet {
    * @returns {false}
    */
   refuse(words) {
-    this.desk.refuse(words);
+    this.calls.refuse(words);
     return false;
   }
 
@@ -76,7 +76,7 @@ export class Cabinet {
     const release = await this.locks.take(id);
     if (!release) return this.refuse(IN_ANOTHER_TAB);
     try {
-      await this.desk.use(await this.keptRecord(id), release, "");
+      await this.calls.use(await this.keptRecord(id), release, "");
       return true;
     } catch (fault) {
       release();
@@ -90,11 +90,11 @@ export class Cabinet {
    * @param {string} example
    */
   async useNew(make, example = "") {
-    const before = this.desk.session();
+    const before = this.calls.session();
     try {
       const record = await make();
-      await this.desk.use(record, (await this.locks.take(record.id)) || (() => {}), example);
-      if (before && !before.isUntouched) this.desk.left(before.record);
+      await this.calls.use(record, (await this.locks.take(record.id)) || (() => {}), example);
+      if (before && !before.isUntouched) this.calls.left(before.record);
       return true;
     } catch (fault) {
       return this.refuse(`No session was made: ${this.words.ofFault(fault)}.`);
@@ -118,8 +118,8 @@ export class Cabinet {
 
   /** @param {string} id */
   async copy(id) {
-    const shown = this.desk.session();
-    if (shown && shown.record.id === id) await this.desk.keep();
+    const shown = this.calls.session();
+    if (shown && shown.record.id === id) await this.calls.keep();
     return this.useNew(async () => {
       const record = await this.keptRecord(id);
       return newRecord(`${record.name}, a copy`, record.file, record);
@@ -164,13 +164,13 @@ export class Cabinet {
 
   /** Saves the session that is shown with its texts, as a project. */
   save() {
-    const session = this.desk.session();
+    const session = this.calls.session();
     if (session) download(session.record.name, ".mcsp", new Blob([projectText(session.record)], { type: "application/octet-stream" }));
   }
 
   /** Saves the session alone, for the program. */
   saveSession() {
-    const session = this.desk.session();
+    const session = this.calls.session();
     if (session) download(session.record.name, ".mcs", new Blob([session.record.file], { type: "application/octet-stream" }));
   }
 }
