@@ -1,7 +1,7 @@
 -- One more call joins those on a disk.
 use Rattle.std.proofs.Common.{◌≡◌, ◌⊎◌, inl, inr, ⊎_elim, ℕ, zero, suc, ◌+◌, ◌≤◌, List, [], ◌∷◌, ◌++◌, length, take, drop, refl, sym, ◌∙◌, ap, subst, arith, length-take, Ok}
 use Rattle.std.proofs.lemmas.List.{drop_at, take_at}
-use Rattle.mcs_disk.specs.Disk.{Elapses, Syncs, Writes, Torn, part, put}
+use Rattle.mcs_disk.specs.Disk.{StepsClock, Syncs, Writes, Torn, part, put}
 use Rattle.mcs_disk.specs.Calls.{DiskCall, Wrote, Synced, bytes_after, images_after, clock_of, called_disk}
 use Rattle.mcs_disk.specs.CallLaws.{put_torn, current, untorn}
 use Rattle.mcs_disk.specs.declared.call_record.CallRecord.{CallRecord}
@@ -23,7 +23,7 @@ part_put at from file fits =
 
 -- the times of a disk before and after a call; what is said of its premise, its faults and its bytes does not matter to them
 answered : {T E : Type 0} (p q : Type 0) (f g : ℕ) (b d start : List ℕ) (cs : List DiskCall) (call : DiskCall) (x : T) → clock_of (call ∷ cs) ≡ clock_of cs + 1
-    → Elapses {T = T} {E = E} (called_disk p f b start cs) (called_disk q g d start (call ∷ cs)) (Ok x)
+    → StepsClock {T = T} {E = E} (called_disk p f b start cs) (called_disk q g d start (call ∷ cs)) (Ok x)
 answered p q f g b d start cs call x ticks = record {
   ticks = ticks;
   stands = tt;
