@@ -79,17 +79,13 @@ test("what lines may have changed is told", async () => {
   assert.deepEqual(session.queue.plan(1).map(({ line }) => line), ["run 1"]);
 });
 
-test("full speed: batches are told together ten times a second, where the page has taken the last ones", () => {
+test("full speed: batches are told together, where the page has taken the last ones", () => {
   const { engine, session } = begin();
-  let time = 0;
-  const fullSpeed = new FullSpeed(() => time);
+  const fullSpeed = new FullSpeed();
   fullSpeed.start(false);
-  time = 50;
-  fullSpeed.batch(session);
-  assert.equal(fullSpeed.isToBeTold(true), false);
-  time = 100;
   fullSpeed.batch(session);
   assert.equal(fullSpeed.isToBeTold(false), false);
+  fullSpeed.batch(session);
   assert.equal(fullSpeed.isToBeTold(true), true);
   const told = fullSpeed.take();
   assert.equal(told.ran.length, 1);
@@ -104,15 +100,10 @@ test("full speed: batches are told together ten times a second, where the page h
 
 test("a hidden page is told once a second, and of keys at once", () => {
   const { session } = begin();
-  let time = 0;
-  const fullSpeed = new FullSpeed(() => time);
+  const fullSpeed = new FullSpeed();
   fullSpeed.start(true);
-  time = 999;
   fullSpeed.batch(session);
   assert.equal(fullSpeed.isToBeTold(true), false);
-  time = 1000;
-  assert.equal(fullSpeed.isToBeTold(true), true);
-  fullSpeed.take();
   session.queue.press("0 1");
   fullSpeed.batch(session);
   assert.equal(fullSpeed.isToBeTold(true), true);

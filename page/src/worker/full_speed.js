@@ -11,9 +11,7 @@ import { Ran } from "../bench/ran.js";
 const BATCH_TIME = 50;
 const FIRST_BATCH = 50000;
 const LARGEST_BATCH = 8000000;
-/** A page that is seen is told once in so many milliseconds: what it draws takes speed from the batches. */
-const SEEN_TIME = 100;
-/** One that is hidden keeps the session alone. */
+/** A page that is hidden is told once in so many milliseconds, for it to keep the session. */
 const HIDDEN_TIME = 1000;
 
 /** Nothing done yet: the cycles, the answer that ended the run early, whether a key was changed, and the answers of the last look. */
@@ -22,9 +20,7 @@ function nothing() {
 }
 
 export class FullSpeed {
-  /** @param {() => number} [now] a clock, in milliseconds */
-  constructor(now = () => performance.now()) {
-    this.now = now;
+  constructor() {
     this.isOn = false;
     this.isHidden = false;
     this.size = FIRST_BATCH;
@@ -46,9 +42,9 @@ export class FullSpeed {
 
   /** @param {BenchSession} session */
   batch(session) {
-    const begun = this.now();
+    const begun = performance.now();
     const frame = session.advance(this.size);
-    const time = this.now() - begun;
+    const time = performance.now() - begun;
     this.ran.add(frame.ran);
     const { cycles, changesKeys } = this.since;
     this.since = { cycles: cycles + frame.cycles, end: frame.end, changesKeys: changesKeys || frame.changesKeys, look: frame.look };
@@ -60,8 +56,7 @@ export class FullSpeed {
   /** @param {boolean} isAwaited whether the page has taken what was told before */
   isToBeTold(isAwaited) {
     if (!this.isOn) return true;
-    const wait = this.isHidden ? HIDDEN_TIME : SEEN_TIME;
-    return isAwaited && (this.since.changesKeys || this.now() - this.told >= wait);
+    return isAwaited && (!this.isHidden || this.since.changesKeys || performance.now() - this.told >= HIDDEN_TIME);
   }
 
   /**
@@ -69,7 +64,7 @@ export class FullSpeed {
    * @returns {Frame}
    */
   take() {
-    this.told = this.now();
+    this.told = performance.now();
     const { since } = this;
     this.since = nothing();
     return { ...since, ran: this.ran.take() };
