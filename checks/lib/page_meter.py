@@ -69,34 +69,40 @@ Worker.prototype.addEventListener = function (kind, act) {
 };"""
 PARTS = "return window.parts"
 
-# Cycles a second of one long call of the module, in a worker of its own; they are in `alone` when it is done.
-MODULE_ALONE = """
-const work = `onmessage = async ({ data: { module, board, runs, cycles } }) => {
-  const { exports } = await WebAssembly.instantiate(await WebAssembly.compile(module), {});
-  const size = Number(exports.page_file_size());
-  const room = 1 << 20;
-  const [file, input, answers, told] = [size, room, room, 16].map((count) => exports.page_buffer(BigInt(count)));
-  const serve = (lines) => {
-    const bytes = new TextEncoder().encode(lines);
-    new Uint8Array(exports.memory.buffer).set(bytes, Number(input));
-    return exports.page_serve_and_settle(file, BigInt(size), input, BigInt(bytes.length), answers, BigInt(room), told);
-  };
-  exports.page_begin(file, BigInt(size));
-  serve(board);
-  serve(runs);
+# A worker of its own with the page's module, for MODULE_ALONE.
+MODULE_BESIDE = """
+const work = `
+let instance, file, size, input, room, answers, told;
+const serve = (lines) => {
+  const bytes = new TextEncoder().encode(lines);
+  new Uint8Array(instance.memory.buffer).set(bytes, Number(input));
+  return instance.page_serve_and_settle(file, BigInt(size), input, BigInt(bytes.length), answers, BigInt(room), told);
+};
+onmessage = async ({ data: { module, board, runs, cycles } }) => {
+  if (module) {
+    instance = (await WebAssembly.instantiate(await WebAssembly.compile(module), {})).exports;
+    size = Number(instance.page_file_size());
+    room = 1 << 20;
+    [file, input, answers, told] = [size, room, room, 16].map((count) => instance.page_buffer(BigInt(count)));
+    instance.page_begin(file, BigInt(size));
+    serve(board);
+  }
   const begun = performance.now();
   serve(runs);
   postMessage((cycles / (performance.now() - begun)) * 1000);
 }`;
-window.alone = 0;
 const { board, program } = JSON.parse(document.getElementById("data").textContent).examples.find(({ name }) => name === "calculator");
 const module = Uint8Array.from(atob(document.getElementById("module").textContent), (letter) => letter.charCodeAt(0));
 const worker = new Worker(URL.createObjectURL(new Blob([work], { type: "text/javascript" })));
-worker.onmessage = ({ data }) => {
-  window.alone = data;
-  worker.terminate();
+worker.onmessage = ({ data }) => { window.alone = data; };
+window.serveAlone = (begins) => {
+  window.alone = 0;
+  worker.postMessage({ ...(begins ? { module, board: `wire\\n${board}.\\nasm\\n${program}.\\n` } : {}),
+    runs: "run 100000\\n".repeat(1000), cycles: 1e8 });
 };
-worker.postMessage({ module, board: `wire\\n${board}.\\nasm\\n${program}.\\n`, runs: "run 100000\\n".repeat(3000), cycles: 3e8 });"""
+window.serveAlone(true);"""
+# Cycles a second of one long call of that module, which are in `alone` when it is done.
+MODULE_ALONE = "window.serveAlone(false)"
 
 # Measures the time from the next key to the next change of the digits.
 TIME_OF_KEY = """

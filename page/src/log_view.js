@@ -5,7 +5,7 @@ import { block, element } from "./dom.js";
 import { Ran, wordsOfRan } from "./bench/ran.js";
 
 /**
- * @typedef {import("./worker/bench_session.js").Answered} Answered
+ * @typedef {import("./worker/worker_session.js").Answered} Answered
  * @typedef {import("./bench/ran.js").RanEntry} RanEntry
  * @typedef {import("./words.js").Words} Words
  */

@@ -5,7 +5,7 @@ import { Cancelled } from "./bench/faults.js";
 import { putNames } from "./bench/names_in_lines.js";
 
 /**
- * @typedef {import("./worker/bench_session.js").Answered} Answered
+ * @typedef {import("./worker/worker_session.js").Answered} Answered
  * @typedef {import("./page.js").Page} Page
  * @typedef {import("./bench/protocol.js").ServedLines} ServedLines
  * @typedef {import("./bench/bench.js").Ways} Ways

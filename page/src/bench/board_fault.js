@@ -21,7 +21,7 @@ function deepens(text) {
 }
 
 /** The parts of a board's text, and which part each line belongs to. */
-export class BoardParts {
+export class BoardTextParts {
   /** @param {string[]} lines */
   constructor(lines) {
     this.lines = lines;
@@ -119,7 +119,7 @@ export class BoardParts {
  */
 export function findBoardFault(text, number, refusalNumber) {
   const lines = text.split("\n").map((line) => line.replace(/\r$/, ""));
-  const parts = new BoardParts(lines);
+  const parts = new BoardTextParts(lines);
   if (parts.kind.length === 1 || parts.kind.length > MOST_PARTS) return null;
   /** @type {(except?: number) => boolean} */
   const isSame = (except) => refusalNumber(parts.rest(except)) === number;

@@ -1,6 +1,6 @@
 // Where the parts of a board stand in its text: `rom 1`, `ram 0` (a bank), `chain 0`, `keys`, `lamp 3`.
 
-import { BoardParts } from "./board_fault.js";
+import { BoardTextParts } from "./board_fault.js";
 import { numberOf } from "./numbers.js";
 
 /** @typedef {import("../text/text_fault.js").Lines} Lines */
@@ -36,7 +36,7 @@ function namesOf(kind, text, counts) {
  */
 export function placesOfParts(text) {
   const lines = text.split("\n");
-  const { kind, partOf } = new BoardParts(lines);
+  const { kind, partOf } = new BoardTextParts(lines);
   /** @type {Map<number, number[]>} */
   const own = new Map();
   partOf.forEach((part, at) => own.set(part, [...(own.get(part) || []), at]));

@@ -1,7 +1,7 @@
 // The messages between the page and the worker. A request has a number, and one reply with that number; the rest has none.
 
 /**
- * @typedef {import("../worker/bench_session.js").Told} Told
+ * @typedef {import("../worker/worker_session.js").Told} Told
  * @typedef {import("../worker/examples.js").Example} Example
  * @typedef {import("./faults.js").PackedFault} PackedFault
  * @typedef {import("./ran.js").RanEntry} RanEntry

@@ -18,7 +18,7 @@ const RANGES = {
   "keys.chain": { from: 0, to: 3 }, "keys.first": { from: 0, to: 79 }, "keys.rows": { from: 1, to: 10 },
 };
 /** @type {Record<string, string[]>} the keys of each table */
-const KEYS = {
+const TOML_KEYS = {
   rom: ["chip", "port"], ram: ["bank", "chips"], chain: ["clock", "data", "chips"], lamp: ["line"],
   keys: ["chain", "first", "rows", "columns"],
 };
@@ -71,9 +71,9 @@ function wordsOfLine(name, { inner }) {
  */
 function faultsOfKey({ table }, key) {
   const kind = table.replace(/[[\]]/g, "");
-  if (!KEYS[kind].includes(key.name)) {
-    const likes = mostAlike(key.name, KEYS[kind]);
-    return [faultAt(21, key, `${key.name} is no key of ${kind}${meant(likes) || `, which has ${KEYS[kind].join(", ")}`}`)];
+  if (!TOML_KEYS[kind].includes(key.name)) {
+    const likes = mostAlike(key.name, TOML_KEYS[kind]);
+    return [faultAt(21, key, `${key.name} is no key of ${kind}${meant(likes) || `, which has ${TOML_KEYS[kind].join(", ")}`}`)];
   }
   const words = wordsOfValue(kind, key);
   if (words) return [faultAt(23, key.value, words)];
@@ -90,9 +90,9 @@ function faultsOfKey({ table }, key) {
  */
 function faultsOfEntry(entry) {
   const kind = entry.table.replace(/[[\]]/g, "");
-  if (!KEYS[kind]) {
-    const likes = mostAlike(kind, Object.keys(KEYS));
-    return [faultAt(21, entry, `${kind} is no part of a board${meant(likes) || `, which has ${Object.keys(KEYS).join(", ")}`}`)];
+  if (!TOML_KEYS[kind]) {
+    const likes = mostAlike(kind, Object.keys(TOML_KEYS));
+    return [faultAt(21, entry, `${kind} is no part of a board${meant(likes) || `, which has ${Object.keys(TOML_KEYS).join(", ")}`}`)];
   }
   const isSingle = entry.table.startsWith("[");
   if (isSingle !== (kind === "keys")) {
@@ -104,7 +104,7 @@ function faultsOfEntry(entry) {
     seen.set(key.name, key.line);
     return before ? [faultAt(20, key, `${key.name} is there already, in line ${before}`)] : faultsOfKey(entry, key);
   });
-  const lacks = KEYS[kind].filter((name) => !seen.has(name));
+  const lacks = TOML_KEYS[kind].filter((name) => !seen.has(name));
   return [...faults, ...(lacks.length > 0 ? [faultAt(22, entry, `this ${kind} lacks ${lacks.join(" and ")}`)] : [])];
 }
 
@@ -125,7 +125,7 @@ function surest(faults) {
  */
 export function faultsOfBoard(sent) {
   const { entries, others, faults } = readBoardText(sent);
-  const unknown = others.map((key) => (KEYS[key.name] ? faultAt(23, key.value, `${key.name} is a table, or an array of tables`)
+  const unknown = others.map((key) => (TOML_KEYS[key.name] ? faultAt(23, key.value, `${key.name} is a table, or an array of tables`)
     : faultAt(21, key, `${key.name} is no key at the top of a board`)));
   const all = [...faults, ...unknown, ...entries.flatMap(faultsOfEntry)];
   if (all.length === 0) all.push(...faultsOfParts(entries));

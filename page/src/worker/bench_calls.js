@@ -2,7 +2,7 @@
 
 import { CycleCount } from "./accepted.js";
 import { refusalOf } from "../bench/answers.js";
-import { BenchSession } from "./bench_session.js";
+import { WorkerSession } from "./worker_session.js";
 import { findBoardFault } from "../bench/board_fault.js";
 import { Engine } from "./engine.js";
 import { linesOfExample } from "./examples.js";
@@ -41,7 +41,7 @@ export class BenchCalls {
     this.fullSpeed = new FullSpeed();
     /** @type {Engine | null} */
     this.loaded = null;
-    /** @type {BenchSession | null} */
+    /** @type {WorkerSession | null} */
     this.opened = null;
     /** @type {Example[]} */
     this.examples = [];
@@ -144,7 +144,7 @@ export class BenchCalls {
    * @param {number} [reset] and up to the last reset
    */
   open(file, total = 0, reset = 0) {
-    const session = new BenchSession(this.engine, file, new CycleCount(total, reset));
+    const session = new WorkerSession(this.engine, file, new CycleCount(total, reset));
     const look = session.look();
     this.opened = session;
     this.fullSpeed.stop();

@@ -3,8 +3,8 @@
 import { Ran } from "../bench/ran.js";
 
 /**
- * @typedef {import("./bench_session.js").BenchSession} BenchSession
- * @typedef {import("./bench_session.js").Frame} Frame
+ * @typedef {import("./worker_session.js").WorkerSession} WorkerSession
+ * @typedef {import("./worker_session.js").Frame} Frame
  */
 
 /** A batch takes about so many milliseconds. */
@@ -40,7 +40,7 @@ export class FullSpeed {
     this.isOn = false;
   }
 
-  /** @param {BenchSession} session */
+  /** @param {WorkerSession} session */
   batch(session) {
     const begun = performance.now();
     const frame = session.advance(this.size);

@@ -32,7 +32,7 @@ const FIRST_PIECE = 4096;
 /** @type {Record<string, true>} */
 const TOUCHES_ROM = { poke: true, wire: true, asm: true };
 
-export class BenchSession {
+export class WorkerSession {
   /**
    * Opens a session; it throws where the bytes hold none.
    * @param {Engine} engine

@@ -1,6 +1,6 @@
 import assert from "node:assert/strict";
 import { test } from "node:test";
-import { BenchSession, MOST_ENTRIES } from "../src/worker/bench_session.js";
+import { WorkerSession, MOST_ENTRIES } from "../src/worker/worker_session.js";
 import { FullSpeed } from "../src/worker/full_speed.js";
 import { FakeEngine } from "./fake_engine.js";
 
@@ -8,7 +8,7 @@ const goesOn = async () => true;
 
 function begin() {
   const engine = new FakeEngine();
-  return { engine, session: new BenchSession(engine, engine.begin()) };
+  return { engine, session: new WorkerSession(engine, engine.begin()) };
 }
 
 test("cycles pass in one call, which looks as well", () => {
