@@ -13,6 +13,10 @@ BEFORE_SCRIPTS = "const isShown = (element) => element.getClientRects().length >
 class Fault(Exception):
     """What the driver or the page answered instead of a value."""
 
+PLACE_AND_TEXT = """
+const element = document.querySelector(arguments[0]);
+return `${element.getBoundingClientRect().top} ${element.textContent}`"""
+
 
 def fits(found, wanted):
     """Whether a value is what is wanted; a pattern has to be found in it."""
@@ -33,6 +37,16 @@ class Driven:
     def click(self, selector):
         self.show(selector)
         time.sleep(self.settles)
+        self.click_element(self.find(selector))
+
+    def click_at_rest(self, selector):
+        """Clicks on what moves on for a moment, as the rows of the listing do, once it has stayed for a third of a second."""
+        self.show(selector)
+        seen = None
+        end = time.monotonic() + 10
+        while (now := self.script(PLACE_AND_TEXT, selector)) != seen and time.monotonic() < end:
+            seen = now
+            time.sleep(0.3)
         self.click_element(self.find(selector))
 
     def type_into(self, selector, text):

@@ -3,7 +3,7 @@ reader (its accessibility tree), the way of the Tab key, and the contrast of all
 
 import re
 
-from page_in_browser import ESCAPE, READY, STATUS, TAB, TEXT_OF_EDITOR, choose_example, lines_answered, show_text
+from page_in_browser import AT_COUNTER, ESCAPE, READY, STATUS, TAB, TEXT_OF_EDITOR, choose_example, lines_answered, show_text
 from verdicts import comes, verdict
 from web_driver import Chromium
 
@@ -125,11 +125,6 @@ def check_views(browser):
     browser.command("Accessibility.disable")
 
 
-# The rows of the listing turn as the counter goes on: a click before that meets another line.
-AT_COUNTER = """const next = document.querySelector('#lines-of-program .next');
-return next !== null && next.textContent.includes(document.getElementById('value-pc').textContent)"""
-
-
 def check_board(browser):
     choose_example(browser, "traffic light")
     comes(browser, "a lamp is lit", "return document.querySelectorAll('.bulb.lit').length > 0", True)
@@ -138,7 +133,7 @@ def check_board(browser):
     browser.click("#step")
     comes(browser, "a step leaves marks", "return document.querySelectorAll('.changed').length > 0", True)
     comes(browser, "the listing is at the counter", AT_COUNTER, True)
-    browser.click("#lines-of-program button.next")
+    browser.click_at_rest("#lines-of-program button.next")
     comes(browser, "a breakpoint is said as pressed", "return document.querySelector('#lines-of-program .next').getAttribute('aria-pressed')", "true")
     verdict("the line that comes next is said as the current one",
             browser.script("return document.querySelector('#lines-of-program [aria-current]').classList.contains('next')"), True)

@@ -47,6 +47,10 @@ PUT_INTO_EDITOR = "document.querySelector(`${arguments[0]} .CodeMirror`).CodeMir
 # The browser runs nothing of the page for so many milliseconds.
 BLOCK = "const end = performance.now() + arguments[0]; while (performance.now() < end);"
 
+# The rows of the listing turn as the counter goes on: a click before that meets another line.
+AT_COUNTER = """const next = document.querySelector('#lines-of-program .next');
+return next !== null && next.textContent.includes(document.getElementById('value-pc').textContent)"""
+
 RATE = "return Number(document.getElementById('rate').textContent.replace(/\\D/g, ''))"
 
 # What the page's policy forbids: each of it is tried, and told by an event.
@@ -164,16 +168,14 @@ def check_stops(browser):
     browser.click("#step")
     browser.until(STATUS, "One instruction was done.")
     line = "#lines-of-program button.next"
-    browser.show(line)
-    # The listing draws its rows anew a moment after it was scrolled.
-    time.sleep(0.5)
+    comes(browser, "the listing is at the counter", AT_COUNTER, True)
     address = browser.text(f"{line} span")[:3]
-    browser.click(line)
+    browser.click_at_rest(line)
     comes(browser, "a breakpoint by a click", f"return document.querySelector('{line}').getAttribute('aria-pressed')", "true")
     browser.click("#run")
     comes(browser, "the run stops there", STATUS, f"Stopped at {address}, at a breakpoint.")
-    verdict("the listing shows it", browser.text(f"{line} span")[:3], address)
-    browser.click(line)
+    comes(browser, "the listing shows it", f"return document.querySelector('{line} span').textContent.slice(0, 3)", address)
+    browser.click_at_rest(line)
     comes(browser, "the breakpoint is gone", f"return document.querySelector('{line}').getAttribute('aria-pressed')", "false")
     browser.click(".ram button")
     comes(browser, "a watch by a click", "return document.querySelector('.ram button').getAttribute('aria-pressed')", "true")
@@ -371,7 +373,7 @@ def take_picture(browser, page, path):
     browser.click("#run")
     browser.click("#step")
     browser.until(STATUS, "One instruction was done.")
-    browser.click("#lines-of-program button.next + button")
+    browser.click_at_rest("#lines-of-program button.next + button")
     browser.click(".ram button")
     browser.until("return document.querySelectorAll('#lines-of-program [aria-pressed=true], .ram [aria-pressed=true]').length", 2)
     browser.script("scrollTo(0, 0)")

@@ -3,7 +3,7 @@
 import re
 import time
 
-from page_in_browser import ENTER, ESCAPE, READY, STATUS, choose_example, key, lines_answered, show_text
+from page_in_browser import AT_COUNTER, ENTER, ESCAPE, READY, STATUS, choose_example, key, lines_answered, show_text
 from verdicts import comes, verdict
 from web_driver import Chromium
 
@@ -144,8 +144,10 @@ def check_follow(browser):
     browser.click("#follow")
     comes(browser, "with follow it shows the counter", NEXT, re.compile("."))
     for _ in range(5):
+        before = text_of(browser, "pc")
         browser.click("#step")
-        comes(browser, "a line begins at the counter at each step", NEXT, re.compile(f"{text_of(browser, 'pc')}"))
+        comes(browser, "a step goes on", f"return document.getElementById('value-pc').textContent !== '{before}'", True)
+        comes(browser, "a line begins at the counter at each step", AT_COUNTER, True)
     browser.click("#run")
     comes(browser, "while time runs it follows, too", NEXT, re.compile("."))
     browser.click("#run")
