@@ -246,6 +246,8 @@ const engine = await Engine.load(readFileSync(modulePath));
 for (const name of readdirSync(examples, { recursive: true })) {
   if (name.endsWith(".txt")) compare(name, engine, null, readFileSync(join(examples, name), "utf8"));
 }
+// Longer than a chunk and than the room that the module has at first, and longer than the bench reads.
+for (const size of [70000, 1100000, 16777300]) compare(`an input of ${size} bytes`, engine, null, `poke acc 1\n${"\n".repeat(size)}seq\n`);
 for (let number = 1; number <= Number(count); number++) {
   const file = compare(`script ${number}`, engine, null, script());
   if (number % 4 === 0) compare(`script ${number}, gone on with`, engine, file, script());
