@@ -8,14 +8,13 @@ ELEMENT = "element-6066-11e4-a52e-4f735466cecf"
 PAUSE = {"type": "pause", "duration": 10}
 # What every script may use: whether an element can be seen. The oldest browsers have no call for it.
 BEFORE_SCRIPTS = "const isShown = (element) => element.getClientRects().length > 0;\n"
+PLACE_AND_TEXT = """
+const element = document.querySelector(arguments[0]);
+return `${element.getBoundingClientRect().top} ${element.textContent}`"""
 
 
 class Fault(Exception):
     """What the driver or the page answered instead of a value."""
-
-PLACE_AND_TEXT = """
-const element = document.querySelector(arguments[0]);
-return `${element.getBoundingClientRect().top} ${element.textContent}`"""
 
 
 def fits(found, wanted):
