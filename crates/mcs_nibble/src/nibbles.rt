@@ -113,11 +113,6 @@ impl Nibble {
         requires { k < 4 }
         ensures { result ≡ bit_of self k }
     {
-        Bit::low_of(match k {
-            0 => self.value,
-            1 => self.value / 2,
-            2 => self.value / 4,
-            _ => self.value / 8,
-        })
+        Bit::low_of(self.value >> k)
     }
 }

@@ -1,15 +1,21 @@
-use Rattle.std.proofs.Common.{arith, sym, ap, ◌∙◌, ◌≡◌, ◌<◌, ℕ, [], ◌∷◌, get_or, length, take, slice_set}
+use Rattle.std.proofs.Common.{arith, sym, ap, ◌∙◌, ◌≡◌, ◌<◌, ℕ, [], ◌∷◌, get_or, length, take, slice_set, List}
+use Rattle.std.proofs.lemmas.Grind.{common_steps}
 use Rattle.std.proofs.lemmas.List.{get_or_default, set-get_or}
+use Rattle.mcs_model.specs.declared.board.Line.{Line}
 use Rattle.mcs_model.specs.Bus.{BusState}
 use Rattle.mcs_model.specs.Boards.{chain_count}
-use Rattle.mcs_model.specs.Levels.{chain_clocked}
 use Rattle.mcs_board.specs.RigFields.{rig_parts}
-use Rattle.mcs_board.proofs.ClockLemmas.{chain-write, chain-read, clocked-high, clocked-was, clocked-low}
+use Rattle.mcs_board.specs.Rises.{chain_raised}
+use Rattle.mcs_board.proofs.ClockLemmas.{chain-write, chain-read, raised-high, raised-low}
+use Rattle.mcs_board.proofs.FittedLemmas.{fitted-chain}
+use Rattle.mcs_board.proofs.PlaceLemmas.{one-small}
 use Rattle.mcs_board.proofs.rig.Rig.clock_chain.Goals as goal
-use Rattle.mcs_board.proofs.rig.Rig.clock_chain.Goals.{else-get-eq0-via-then-get-eq0+else-get-eq1, else-get-eq0-via-else-get-eq0}
 
-pub returns-then-get-eq1 : goal.returns-then-get-eq1
-returns-then-get-eq1 g c =
+length-shifted : (level : ℕ) (bits : List ℕ) → length (take (length bits) (level ∷ bits)) ≡ length bits
+length-shifted level bits = grind (arith, common_steps)
+
+pub returns-then-clock_rises : goal.returns-then-clock_rises
+returns-then-clock_rises g c =
     let i = c.self.inside in
     let s = c.args.self.now in
     let board = ap (λ (s : BusState). s.board) c.self.view_is in
@@ -17,23 +23,33 @@ returns-then-get-eq1 g c =
     let there : c.args.i < length i.chains.items = let v = c.self.invariant in omega (arith, v.chains_len, v.chains_fit) in
     let row : c.index_mut.result.now ≡ get_or s.chains c.args.i [] =
     c.index_mut.ensures.value ∙ get_or_default i.chains.items c.args.i c.index_mut.result.now [] there ∙ sym (chain-read i.board i.chains.items c.args.i within) ∙ ap (λ (s : BusState). get_or s.chains c.args.i []) c.self.view_is in
-    let new : c.shift.new.self ≡ chain_clocked s c.args.i c.args.was (get_or s.chains c.args.i []) =
+    let new : c.shift.new.self ≡ chain_raised s c.args.port c.args.before c.args.after c.args.i (get_or s.chains c.args.i []) =
     c.shift.ensures
     ∙ ap (λ xs. take (length xs) (c.data_level-data.result ∷ xs)) row
-    ∙ clocked-high s c.args.i c.args.was (get_or s.chains c.args.i []) c.clock_level.result c.data_level-data.result (sym c.get.ensures.value ∙ c.if-get-eq0.true) (sym c.get-then-get-eq0.ensures.value ∙ c.if-get-eq1.true) c.clock_level.ensures c.data_level-data.ensures in
+    ∙ raised-high s c.args.port c.args.before c.args.after c.args.i (get_or s.chains c.args.i []) c.data_level-data.result (sym c.clock_rises.ensures ∙ c.if-clock_rises.true) c.data_level-data.ensures in
     chain-write (rig_parts i) c.args.i c.shift.new.self within there
     ∙ ap (λ (t : BusState). record t { chains = slice_set t.chains c.args.i c.shift.new.self }) c.self.view_is
     ∙ ap (λ d. record s { chains = slice_set s.chains c.args.i d }) new
 
-stay : (s : BusState) (i was : ℕ) → chain_clocked s i was (get_or s.chains i []) ≡ get_or s.chains i [] → s ≡ record s { chains = slice_set s.chains i (chain_clocked s i was (get_or s.chains i [])) }
-stay s i was e = sym (ap (λ d. record s { chains = slice_set s.chains i d }) e ∙ ap (λ cs. record s { chains = cs }) (set-get_or s.chains i []))
+stay : (s : BusState) (port : Line) (before after i : ℕ) → chain_raised s port before after i (get_or s.chains i []) ≡ get_or s.chains i [] → s ≡ record s { chains = slice_set s.chains i (chain_raised s port before after i (get_or s.chains i [])) }
+stay s port before after i e = sym (ap (λ d. record s { chains = slice_set s.chains i d }) e ∙ ap (λ cs. record s { chains = cs }) (set-get_or s.chains i []))
 
-pub returns-else-get-eq0 : goal.returns-else-get-eq0
-returns-else-get-eq0 g c =
+pub returns-else-clock_rises : goal.returns-else-clock_rises
+returns-else-clock_rises g c =
     let s = c.args.self.now in
-    stay s c.args.i c.args.was (elim c.else-get-eq0.branch [
-      | else-get-eq0-via-then-get-eq0+else-get-eq1 w ↦
-          clocked-low s c.args.i c.args.was (get_or s.chains c.args.i []) (λ e. w.if-get-eq1.false (w.get-then-get-eq0.ensures.value ∙ w.clock_level.ensures ∙ e))
-      | else-get-eq0-via-else-get-eq0 w ↦
-          clocked-was s c.args.i c.args.was (get_or s.chains c.args.i []) (λ e. w.if-get-eq0.false (c.get.ensures.value ∙ e))
-    ])
+    stay s c.args.port c.args.before c.args.after c.args.i (raised-low s c.args.port c.args.before c.args.after c.args.i (get_or s.chains c.args.i []) (sym c.clock_rises.ensures ∙ c.if-clock_rises.false))
+
+pub shift-requires : goal.shift-requires
+shift-requires g c =
+    let i = c.self.inside in
+    let within : c.args.i < chain_count i.board = let e = ap (λ (s : BusState). chain_count s.board) c.self.view_is in let r = c.requires in omega arith in
+    let there : c.args.i < length i.chains.items = let v = c.self.invariant in omega (arith, v.chains_len, v.chains_fit) in
+    one-small c.args.i (length c.as_slice-chains.result.now) _ (let l = ap length c.as_slice-chains.ensures.value in omega arith) c.as_slice-chains.type_inv.1
+
+pub invariant_of-self : goal.invariant_of-self
+invariant_of-self g c =
+    let i = c.self.inside in
+    let within : c.args.i < chain_count i.board = let e = ap (λ (s : BusState). chain_count s.board) c.self.view_is in let r = c.requires in omega arith in
+    let there : c.args.i < length i.chains.items = let v = c.self.invariant in omega (arith, v.chains_len, v.chains_fit) in
+    let row : c.index_mut.result.now ≡ get_or i.chains.items c.args.i [] = c.index_mut.ensures.value ∙ get_or_default i.chains.items c.args.i c.index_mut.result.now [] there in
+    fitted-chain c.self.invariant c.args.i c.shift.new.self there (ap length c.shift.ensures ∙ length-shifted c.data_level-data.result c.index_mut.result.now ∙ ap length row)
