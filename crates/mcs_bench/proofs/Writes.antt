@@ -1,5 +1,5 @@
 -- Which instructions change a RAM character, and which characters they change: WRM alone, and the selected one alone.
-use Rattle.std.proofs.Common.{◌≡◌, ◌≢◌, ℕ, ◌+◌, ◌*◌, ◌/◌, ◌<◌, ◌≤◌, zero, suc, Bool, true, false, ◌||◌, ◌&&◌, not, cond, List, [], ◌∷◌, Option, Some, None, slice_index, slice_set, length, unwrap_or, inl, inr, refl, sym, ap, ◌∙◌, arith, eqb, eq-eqb, nat_lt}
+use Rattle.std.proofs.Common.{◌≡◌, ◌≢◌, ℕ, ◌+◌, ◌*◌, ◌/◌, ◌<◌, Bool, true, false, ◌||◌, ◌&&◌, not, cond, List, [], ◌∷◌, Option, Some, None, slice_index, slice_set, length, unwrap_or, inl, inr, refl, sym, ap, ◌∙◌, arith, eqb, eq-eqb, nat_lt}
 use Rattle.std.proofs.lemmas.Bool.{cases_eq}
 use Rattle.std.proofs.lemmas.List.{get_or-set_other, get_or-set_same, set-get_or}
 use Rattle.std.proofs.lemmas.Bool.Decides.{nat_tests}
@@ -7,8 +7,6 @@ use Rattle.mcs_model.specs.declared.regs.Regs.{Regs}
 use Rattle.mcs_model.specs.declared.op.Op.{Op}
 use Rattle.mcs_model.specs.declared.op.Op.TheVariants.{Nop, Jcn, Fim, Src, Fin, Jin, Jun, Jms, Inc, Isz, Add, Sub, Ld, Xch, Bbl, Ldm, Wrm, Wmp, Wrr, Wr0, Wr1, Wr2, Wr3, Sbm, Rdm, Rdr, Adm, Rd0, Rd1, Rd2, Rd3, Clb, Clc, Iac, Cmc, Cma, Ral, Rar, Tcc, Dac, Tcs, Stc, Daa, Kbp, Dcl}
 use Rattle.mcs_nibble.specs.declared.lines.LineMask.{LineMask}
-use Rattle.std.specs.List.{list_all, range_with_len}
-use Rattle.mcs_model.specs.Table.{instruction_of, row_of}
 use Rattle.mcs_model.specs.Boards.{masks_on}
 use Rattle.mcs_model.specs.Bus.{BusState, after_src, after_ram, after_status, src_of, chips_of, has_chip, with_ram, with_status}
 use Rattle.mcs_model.specs.Levels.{after_ram_port, after_rom_port, chains_clocked}
@@ -144,50 +142,6 @@ place-of false m place n w ne = refl
 pub write-others : (m : BusState) (bank n w : ℕ) → w ≢ bank * 256 + src_of m bank → slice_index m.ram w ≡ slice_index (after_ram m bank n).ram w
 unfolding after_ram with_ram
 write-others m bank n w ne = place-of (has_chip m bank (src_of m bank)) m (bank * 256 + src_of m bank) n w ne
-
--- ---- the code of WRM
-
-is_wrm : Option Op → Bool
-is_wrm (Some Wrm) = true
-is_wrm _ = false
-
--- code by code
-other-codes : (x : ℕ) → list_all (λ code. eqb code 224 || not (is_wrm (instruction_of code x))) (range_with_len 0 256) ≡ true
-unfolding instruction_of row_of is_wrm
-other-codes x = refl
-
-both-true : (a b : Bool) → (a && b) ≡ true → a ≡ true
-both-true true b h = refl
-both-true false b h = absurd (cc)
-
-rest-true : (a b : Bool) → (a && b) ≡ true → b ≡ true
-rest-true true b h = h
-rest-true false b h = absurd (cc)
-
-all-at : (p : ℕ → Bool) (a n k : ℕ) → list_all p (range_with_len a n) ≡ true → a ≤ k → k < a + n → p k ≡ true
-all-at p a zero k h l m = absurd (omega arith)
-all-at p a (suc n) k h l m =
-    elim (cases_eq a k) [
-      | inl e ↦ ap p (sym e) ∙ both-true (p a) _ h
-      | inr ne ↦ all-at p (a + 1) n k (rest-true (p a) _ h) (omega arith) (omega arith)
-    ]
-
-pub code-writes : (code x : ℕ) → code ≡ 224 → instruction_of code x ≡ Some Wrm
-unfolding instruction_of row_of
-code-writes code x e = rw e refl
-
-neither-way : (a b : Bool) → a ≡ false → b ≡ true → (a || not b) ≡ true → ⊥
-neither-way true b e f h = cc
-neither-way false true e f h = cc
-neither-way false false e f h = cc
-
-pub only-code : (code x : ℕ) → code < 256 → code ≢ 224 → instruction_of code x ≢ Some Wrm
-unfolding is_wrm
-only-code code x l ne e =
-    let off : eqb code 224 ≡ false = grind (arith, nat_tests) in
-    let on = all-at (λ c. eqb c 224 || not (is_wrm (instruction_of c x))) 0 256 code (other-codes x) (omega arith) l in
-    let at : is_wrm (instruction_of code x) ≡ true = ap is_wrm e in
-    neither-way (eqb code 224) (is_wrm (instruction_of code x)) off at on
 
 -- ---- what a write does to the selected character
 

@@ -1,8 +1,9 @@
 //! Runs and steps of a processor over a rig of the bench's size.
-ghost use Rattle.std.specs.Prelude.{◌≡◌, ◌≢◌, ◌<◌, ◌*◌, ◌+◌, ◌&&◌, ◌==◌, not, unwrap_or, true, false, [], Some, None, MatchOption, slice_index};
+ghost use Rattle.std.specs.Prelude.{◌≡◌, ◌≢◌, ◌<◌, ◌*◌, ◌+◌, ◌&&◌, ◌==◌, not, unwrap_or, true, false, [], Some, None, MatchOption, slice_index, ◌↔◌};
 ghost use Rattle.mcs_model.specs.Bus.{src_of};
 ghost use Rattle.mcs_model.specs.Effect.{cycle_of, instruction_at};
 ghost use Rattle.mcs_model.specs.Running.{InstructionRan, is_outside};
+ghost use Rattle.mcs_model.specs.declared.op.Op.TheVariants.{Wrm};
 ghost use Rattle.mcs_model.specs.Listed.{is_listed};
 ghost use Rattle.mcs_bench.specs.Runs.{RanOn, RanTo, SteppedTo, WillChange, mark_of};
 
@@ -10,6 +11,7 @@ use crate::breaks::Breaks;
 use crate::watches::Watches;
 use mcs_board::BenchRig;
 use mcs_cpu4004::{Cpu, Cycle};
+use mcs_model::op::Op;
 use mcs_model::stop::Stop;
 use mcs_nibble::Addr;
 
@@ -36,16 +38,22 @@ fn mark_at(cpu: &Cpu, at: Addr, breaks: &Breaks, changed: bool) -> Option<Stop>
     }
 }
 
-/// The code of WRM, the one instruction that writes a RAM character.
-const WRM: u8 = 0xE0;
-
-/// Whether the instruction at an address will give a watched character another value.
+/// Whether an instruction is WRM, the one that writes a RAM character.
 #[inline(always)]
-fn will_change(cpu: &Cpu, rig: &BenchRig, watches: &Watches, at: Addr) -> bool
+fn is_wrm(op: &Op) -> bool
+    ensures { result ≡ true ↔ op.now ≡ Wrm }
+{
+    matches!(op, Op::Wrm)
+}
+
+/// Whether the instruction that is at an address will give a watched character another value.
+#[inline(always)]
+fn will_change(cpu: &Cpu, rig: &BenchRig, watches: &Watches, op: &Op, at: Addr) -> bool
+    requires { instruction_at (record cpu.now { pc = at }) rig.now ≡ Some op.now }
     ensures { WillChange watches.now (record cpu.now { pc = at }, rig.now) result }
 {
     rig.show_state_is_valid();
-    if rig.rom_byte(at) != WRM {
+    if !is_wrm(op) {
         return false;
     }
     let regs = cpu.regs();
@@ -66,41 +74,42 @@ fn foresees_change<const WATCHED: bool>(
     cpu: &Cpu,
     rig: &BenchRig,
     watches: &Watches,
+    op: &Op,
     at: Addr,
 ) -> bool
-    requires { WATCHED ≡ false → watches.now ≡ [] }
+    requires looks { WATCHED ≡ false → watches.now ≡ [] }
+    requires decoded { instruction_at (record cpu.now { pc = at }) rig.now ≡ Some op.now }
     ensures { WillChange watches.now (record cpu.now { pc = at }, rig.now) result }
 {
     if !WATCHED {
         return false;
     }
-    will_change(cpu, rig, watches, at)
+    will_change(cpu, rig, watches, op, at)
 }
 
-/// The instruction at an address, for at most `left` cycles, where a run may end with it: how many cycles it did, the
-/// address where the processor goes on, and why the run stops there. It is told whether a watched character changes. A
-/// call, since one copy serves both loops.
+/// The instruction that is at an address, for at most `left` cycles, where a run may end with it: how many cycles it did,
+/// the address where the processor goes on, and why the run stops there. It is told whether a watched character changes.
+/// A call, since one copy serves both loops.
 #[inline(never)]
 fn run_last(
     cpu: &mut Cpu,
     rig: &mut BenchRig,
     breaks: &Breaks,
+    op: Op,
     at: Addr,
     left: u32,
     changes: bool,
 ) -> (u32, Addr, Option<Stop>)
     requires free { cpu.old.owed ≢ 1 }
     requires some { 0 < left }
+    requires decoded { instruction_at (record cpu.old { pc = at }) rig.old ≡ Some op }
     ensures ran { InstructionRan left (record cpu.old { pc = at }, rig.old)
         (record cpu.new { pc = result.1 }, rig.new) result.0 }
-    ensures none { result.0 ≡ 0 → result.2 ≡ None }
-    ensures mark { 0 < result.0 → result.2
+    ensures goes { 0 < result.0 }
+    ensures mark { result.2
         ≡ mark_of (cpu.new.owed == 0 && is_listed breaks.now result.1) changes }
 {
-    let (next, cycles) = mcs_board::run_instruction(cpu, rig, at, left);
-    if cycles == 0 {
-        return (cycles, next, None);
-    }
+    let (next, cycles) = mcs_board::run_instruction(cpu, rig, op, at, left);
     (cycles, next, mark_at(cpu, next, breaks, changes))
 }
 
@@ -132,16 +141,18 @@ fn run_loop<const WATCHED: bool>(
     // The last cycle, and a change of a watched character, are left to `run_last`: the loop asks neither whether a cycle
     // is owed nor what has changed.
     while left > 1 {
-        if foresees_change::<WATCHED>(cpu, rig, watches, at) {
-            let (cycles, next, mark) = run_last(cpu, rig, breaks, at, left, true);
-            return (n - (left - cycles), next, mark);
+        match mcs_board::instruction(cpu, rig, at) {
+            None => return (n - left, at, None),
+            Some(op) => {
+                if foresees_change::<WATCHED>(cpu, rig, watches, &op, at) {
+                    let (cycles, next, mark) = run_last(cpu, rig, breaks, op, at, left, true);
+                    return (n - (left - cycles), next, mark);
+                }
+                let (next, cycles) = mcs_board::run_instruction(cpu, rig, op, at, left);
+                at = next;
+                left -= cycles;
+            }
         }
-        let (next, cycles) = mcs_board::run_instruction(cpu, rig, at, left);
-        if cycles == 0 {
-            return (n - left, next, None);
-        }
-        at = next;
-        left -= cycles;
         if breaks.contains(at) {
             return (n - left, at, mark_at(cpu, at, breaks, false));
         }
@@ -149,9 +160,14 @@ fn run_loop<const WATCHED: bool>(
     if left == 0 {
         return (n, at, None);
     }
-    let changes = foresees_change::<WATCHED>(cpu, rig, watches, at);
-    let (cycles, next, mark) = run_last(cpu, rig, breaks, at, left, changes);
-    (n - (left - cycles), next, mark)
+    match mcs_board::instruction(cpu, rig, at) {
+        None => (n - left, at, None),
+        Some(op) => {
+            let changes = foresees_change::<WATCHED>(cpu, rig, watches, &op, at);
+            let (cycles, next, mark) = run_last(cpu, rig, breaks, op, at, left, changes);
+            (n - (left - cycles), next, mark)
+        }
+    }
 }
 
 /// Runs for at most `n` cycles, up to the first breakpoint or change of a watched character: how many cycles it did, and

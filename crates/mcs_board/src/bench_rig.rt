@@ -1,6 +1,6 @@
 //! The bench's rig, which every board fits, and the processor over it.
-ghost use Rattle.std.specs.Prelude.{◌≡◌, ◌≢◌, ◌<◌, ◌↔◌, IsNone, unwrap_or};
-ghost use Rattle.mcs_model.specs.Effect.{cycle_of};
+ghost use Rattle.std.specs.Prelude.{◌≡◌, ◌≢◌, ◌<◌, ◌↔◌, IsNone, Some, unwrap_or};
+ghost use Rattle.mcs_model.specs.Effect.{cycle_of, instruction_at};
 ghost use Rattle.mcs_model.specs.Running.{InstructionRan};
 ghost use Rattle.mcs_board.specs.Fitting.{FitsCounts};
 
@@ -8,6 +8,7 @@ use crate::rig::Rig;
 use mcs_cpu4004::{Cpu, Cycle};
 use mcs_model::board::Board;
 use mcs_model::limits::{BANKS, CHAIN_PLACES, CHAINS, ROMS};
+use mcs_model::op::Op;
 use mcs_nibble::Addr;
 
 /// A rig that every board fits.
@@ -30,17 +31,32 @@ pub fn cycle(cpu: &mut Cpu, rig: &mut BenchRig) -> Cycle
     cpu.cycle(rig)
 }
 
-/// The cycles of the instruction at an address, at most `left` of them, of a processor over a rig, where none is owed:
-/// the address where the processor goes on, and how many cycles it did; 0 where none can follow. The counter itself
-/// stays as it is.
+/// The instruction at an address, if its code is in the table.
 #[inline(always)]
-pub fn run_instruction(cpu: &mut Cpu, rig: &mut BenchRig, at: Addr, left: u32) -> (Addr, u32)
+pub fn instruction(cpu: &Cpu, rig: &BenchRig, at: Addr) -> Option<Op>
+    ensures { result ≡ instruction_at (record cpu.now { pc = at }) rig.now }
+{
+    cpu.instruction(rig, at)
+}
+
+/// The cycles of the instruction that is at an address, at most `left` of them, of a processor over a rig, where none is
+/// owed: the address where the processor goes on, and how many cycles it did. The counter itself stays as it is.
+#[inline(always)]
+pub fn run_instruction(
+    cpu: &mut Cpu,
+    rig: &mut BenchRig,
+    op: Op,
+    at: Addr,
+    left: u32,
+) -> (Addr, u32)
     requires free { cpu.old.owed ≢ 1 }
     requires some { 0 < left }
+    requires decoded { instruction_at (record cpu.old { pc = at }) rig.old ≡ Some op }
     ensures ran { InstructionRan left (record cpu.old { pc = at }, rig.old)
         (record cpu.new { pc = result.0 }, rig.new) result.1 }
+    ensures goes { 0 < result.1 }
     ensures owes { cpu.new.owed ≡ 1 → result.1 ≡ left }
     ensures counter { cpu.new.pc ≡ cpu.old.pc }
 {
-    cpu.run_instruction(rig, at, left)
+    cpu.run_instruction(rig, op, at, left)
 }

@@ -16,5 +16,5 @@ mod making;
 mod places;
 mod rig;
 
-pub use bench_rig::{BenchRig, cycle, every_board_fits_the_bench, run_instruction};
+pub use bench_rig::{BenchRig, cycle, every_board_fits_the_bench, instruction, run_instruction};
 pub use rig::Rig;

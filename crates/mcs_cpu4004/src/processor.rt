@@ -1,12 +1,13 @@
 //! The processor and its instruction cycle.
-ghost use Rattle.std.specs.Prelude.{◌≡◌, ◌≢◌, ℕ, ◌<◌, ◌↔◌, IsNone, IsTrue, unwrap_or};
+ghost use Rattle.std.specs.Prelude.{◌≡◌, ◌≢◌, ℕ, ◌<◌, ◌↔◌, IsNone, IsTrue, Some, unwrap_or};
 ghost use Rattle.mcs_model.specs.BenchState.{new_regs};
 ghost use Rattle.mcs_model.specs.Registers.{with_register};
-ghost use Rattle.mcs_model.specs.Effect.{cycle_of};
+ghost use Rattle.mcs_model.specs.Effect.{cycle_of, instruction_at};
 ghost use Rattle.mcs_model.specs.Running.{InstructionRan};
 
 use crate::bus::Bus;
 use crate::execute::execute;
+use mcs_code::Op;
 use mcs_model::regs::Regs;
 use mcs_nibble::{Addr, Bit, Nibble, RegNo};
 use std::marker::Model;
@@ -60,8 +61,7 @@ impl Cpu {
             ≡ unwrap_or (cycle_of self.old (B.flat bus.old)) (self.old, B.flat bus.old) }
     {
         let at = self.regs.pc;
-        let second = at.plus(1);
-        match mcs_code::decode(bus.fetch(at), bus.fetch(second)) {
+        match self.instruction(bus, at) {
             None => Cycle::Outside,
             Some(op) => {
                 let (next, cycles) = execute(&mut self.regs, bus, op, at);
@@ -88,32 +88,43 @@ impl Cpu {
         self.begin(bus)
     }
 
-    /// The cycles of the instruction at an address, at most `left` of them, where none is owed: the address where the
-    /// processor goes on, and how many cycles it did; 0 where none can follow, and then nothing changed. The counter
-    /// itself stays as it is: a run keeps it at hand, and sets it at its end.
+    /// The instruction at an address, if its code is in the table.
+    #[inline(always)]
+    pub fn instruction<B: Bus>(&self, bus: &B, at: Addr) -> Option<Op>
+        ensures { result ≡ instruction_at (record self.now { pc = at }) (B.flat bus.now) }
+    {
+        let second = at.plus(1);
+        mcs_code::decode(bus.fetch(at), bus.fetch(second))
+    }
+
+    /// The cycles of the instruction that is at an address, at most `left` of them, where none is owed: the address where
+    /// the processor goes on, and how many cycles it did. The counter itself stays as it is: a run keeps it at hand, and
+    /// sets it at its end.
     #[inline(always)]
     #[tactic(auto, unfolding(mcs_model::specs::Effect::cycle_of))]
-    pub fn run_instruction<B: Bus>(&mut self, bus: &mut B, at: Addr, left: u32) -> (Addr, u32)
+    pub fn run_instruction<B: Bus>(
+        &mut self,
+        bus: &mut B,
+        op: Op,
+        at: Addr,
+        left: u32,
+    ) -> (Addr, u32)
         requires free { self.old.owed ≢ 1 }
         requires some { 0 < left }
+        requires decoded { instruction_at (record self.old { pc = at }) (B.flat bus.old) ≡ Some op }
         ensures ran { InstructionRan left (record self.old { pc = at }, B.flat bus.old)
             (record self.new { pc = result.0 }, B.flat bus.new) result.1 }
+        ensures goes { 0 < result.1 }
         ensures owes { self.new.owed ≡ 1 → result.1 ≡ left }
         ensures counter { self.new.pc ≡ self.old.pc }
     {
-        let second = at.plus(1);
-        match mcs_code::decode(bus.fetch(at), bus.fetch(second)) {
-            None => (at, 0),
-            Some(op) => {
-                let (next, cycles) = execute(&mut self.regs, bus, op, at);
-                let whole = u32::from(cycles);
-                if whole > left {
-                    self.regs.owed = 1;
-                    return (next, 1);
-                }
-                (next, whole)
-            }
+        let (next, cycles) = execute(&mut self.regs, bus, op, at);
+        let whole = u32::from(cycles);
+        if whole > left {
+            self.regs.owed = 1;
+            return (next, 1);
         }
+        (next, whole)
     }
 
     /// Whether the next cycle on a bus would be `Outside`.
@@ -121,9 +132,7 @@ impl Cpu {
     pub fn is_outside<B: Bus>(&self, bus: &B) -> bool
         ensures { IsTrue result ↔ IsNone (cycle_of self.now (B.flat bus.now)) }
     {
-        let at = self.regs.pc;
-        let second = at.plus(1);
-        self.regs.owed != 1 && mcs_code::decode(bus.fetch(at), bus.fetch(second)).is_none()
+        self.regs.owed != 1 && self.instruction(bus, self.regs.pc).is_none()
     }
 
     /// All registers.

@@ -4,5 +4,5 @@ use Rattle.mcs_bench.proofs.running.foresees_change.Goals as goal
 pub returns-then-not-this : goal.returns-then-not-this
 returns-then-not-this g c =
     let e = c.if-not-this.true in
-    let h = rw e at c.requires in
+    let h = rw e at c.requires.looks in
     inl (inl (h refl), refl)

@@ -3,7 +3,7 @@ use Rattle.mcs_model.specs.Listed.{is_listed}
 use Rattle.mcs_bench.specs.Runs.{RanOn, WillChange, mark_of}
 use Rattle.mcs_model.specs.declared.regs.Regs.{Regs}
 use Rattle.mcs_model.specs.Running.{Machine, Stops}
-use Rattle.mcs_bench.proofs.Runs.{Keeps, starts, starts-begun, begun-marks, left-marks, left-goes, watched-at, unlisted-by, listed-owes, told-seen, left-last}
+use Rattle.mcs_bench.proofs.Runs.{Keeps, starts, starts-begun, begun-marks, left-marks, left-goes, watched-at, unlisted-by, listed-owes, told-seen, left-none, left-end, left-last}
 use Rattle.mcs_bench.proofs.running.run_loop.Goals as goal
 use Rattle.mcs_bench.proofs.running.run_loop.Goals.{then-n-gt0+then-regs-eq1+in_default, else-n-gt0, else-n-gt0-via-then-n-gt0+else-regs-eq1, else-n-gt0-via-else-n-gt0}
 
@@ -50,7 +50,7 @@ returns-then-contains g c =
     let fits = c.loop-left.invariant.fits in
     let within = ran.within in
     let more : 1 < c.loop-left.left = c.loop-left-test.true in
-    let some : 0 < c.run_instruction-next.result.1 = (let none = c.if-cycles-eq0.false in omega arith) in
+    let some : 0 < c.run_instruction-next.result.1 = c.run_instruction-next.ensures.goes in
     let later : 0 < c.args.n - (c.loop-left.left - c.run_instruction-next.result.1) = omega arith in
     let told : WillChange c.args.watches.now t false = subst (WillChange c.args.watches.now t) c.if-foresees_change.false c.foresees_change.ensures in
     let seen = told-seen c.args.watches.now c.loop-left.left c.run_instruction-next.result.1 t u false ran (c.loop-left.invariant.free (omega arith)) told in
@@ -67,7 +67,7 @@ loop-left-preserved g c =
     let u : Machine = (record c.run_instruction-next.new.cpu { pc = c.run_instruction-next.result.0 }, c.run_instruction-next.new.rig) in
     let ran = c.run_instruction-next.ensures.ran in
     let more : 1 < c.loop-left.left = c.loop-left-test.true in
-    let some : 0 < c.run_instruction-next.result.1 = (let none = c.if-cycles-eq0.false in omega arith) in
+    let some : 0 < c.run_instruction-next.result.1 = c.run_instruction-next.ensures.goes in
     let told : WillChange c.args.watches.now t false = subst (WillChange c.args.watches.now t) c.if-foresees_change.false c.foresees_change.ensures in
     let seen = told-seen c.args.watches.now c.loop-left.left c.run_instruction-next.result.1 t u false ran (c.loop-left.invariant.free (omega arith)) told in
     let unlisted : is_listed c.args.breaks.now u.0.pc ≡ false = sym c.contains.ensures ∙ c.if-contains.false in
@@ -81,14 +81,37 @@ returns-then-foresees_change g c =
     let u : Machine = (record c.run_last-cycles.new.cpu { pc = c.run_last-cycles.result.1 }, c.run_last-cycles.new.rig) in
     let more : 1 < c.loop-left.left = c.loop-left-test.true in
     let told : WillChange c.args.watches.now t true = subst (WillChange c.args.watches.now t) c.if-foresees_change.true c.foresees_change.ensures in
-    left-last stops c.args.n c.loop-left.left c.run_last-cycles.result.0 s t u true c.run_last-cycles.result.2 c.loop-left.invariant c.run_last-cycles.ensures.ran told (omega arith) c.run_last-cycles.ensures.none c.run_last-cycles.ensures.mark (λ e. absurd (cc))
+    left-last stops c.args.n c.loop-left.left c.run_last-cycles.result.0 s t u true c.run_last-cycles.result.2 c.loop-left.invariant c.run_last-cycles.ensures.ran told (omega arith) c.run_last-cycles.ensures.goes c.run_last-cycles.ensures.mark (λ e. absurd (cc))
 
-pub returns : goal.returns
-returns g c =
+pub returns-in-None : goal.returns-in-None
+returns-in-None g c =
     let stops : Stops = record { breaks = c.args.breaks.now; watches = c.args.watches.now } in
     let s : Machine = (c.args.cpu.now, c.args.rig.now) in
     let t : Machine = (record c.loop-left.cpu { pc = c.loop-left.at }, c.loop-left.rig) in
-    let u : Machine = (record c.run_last-cycles-2.new.cpu { pc = c.run_last-cycles-2.result.1 }, c.run_last-cycles-2.new.rig) in
+    let more : 1 < c.loop-left.left = c.loop-left-test.true in
+    left-none stops c.args.n c.loop-left.left s t c.loop-left.invariant (omega arith) (sym c.in-None.is ∙ c.instruction.ensures)
+
+pub returns-then-left-eq0 : goal.returns-then-left-eq0
+returns-then-left-eq0 g c =
+    let stops : Stops = record { breaks = c.args.breaks.now; watches = c.args.watches.now } in
+    let s : Machine = (c.args.cpu.now, c.args.rig.now) in
+    let t : Machine = (record c.loop-left.cpu { pc = c.loop-left.at }, c.loop-left.rig) in
+    left-end stops c.args.n c.loop-left.left s t c.loop-left.invariant c.if-left-eq0.true
+
+pub returns-in-None-instruction : goal.returns-in-None-instruction
+returns-in-None-instruction g c =
+    let stops : Stops = record { breaks = c.args.breaks.now; watches = c.args.watches.now } in
+    let s : Machine = (c.args.cpu.now, c.args.rig.now) in
+    let t : Machine = (record c.loop-left.cpu { pc = c.loop-left.at }, c.loop-left.rig) in
+    let some : 0 < c.loop-left.left = (let none = c.if-left-eq0.false in omega arith) in
+    left-none stops c.args.n c.loop-left.left s t c.loop-left.invariant some (sym c.in-None-instruction.is ∙ c.instruction-2.ensures)
+
+pub returns-in-Some-instruction-2 : goal.returns-in-Some-instruction-2
+returns-in-Some-instruction-2 g c =
+    let stops : Stops = record { breaks = c.args.breaks.now; watches = c.args.watches.now } in
+    let s : Machine = (c.args.cpu.now, c.args.rig.now) in
+    let t : Machine = (record c.loop-left.cpu { pc = c.loop-left.at }, c.loop-left.rig) in
+    let u : Machine = (record c.run_last-cycles-in-Some-instruction-2.new.cpu { pc = c.run_last-cycles-in-Some-instruction-2.result.1 }, c.run_last-cycles-in-Some-instruction-2.new.rig) in
     let some : 0 < c.loop-left.left = (let none = c.if-left-eq0.false in omega arith) in
     let last = c.loop-left-test.false in
-    left-last stops c.args.n c.loop-left.left c.run_last-cycles-2.result.0 s t u c.foresees_change-changes.result c.run_last-cycles-2.result.2 c.loop-left.invariant c.run_last-cycles-2.ensures.ran c.foresees_change-changes.ensures some c.run_last-cycles-2.ensures.none c.run_last-cycles-2.ensures.mark (λ e. omega arith)
+    left-last stops c.args.n c.loop-left.left c.run_last-cycles-in-Some-instruction-2.result.0 s t u c.foresees_change-changes.result c.run_last-cycles-in-Some-instruction-2.result.2 c.loop-left.invariant c.run_last-cycles-in-Some-instruction-2.ensures.ran c.foresees_change-changes.ensures some c.run_last-cycles-in-Some-instruction-2.ensures.goes c.run_last-cycles-in-Some-instruction-2.ensures.mark (λ e. omega arith)

@@ -5,17 +5,13 @@ use Rattle.mcs_model.specs.Running.{InstructionRan}
 use Rattle.mcs_model.proofs.RunLemmas.{ran-whole}
 use Rattle.mcs_cpu4004.proofs.processor.Cpu.run_instruction.Goals as goal
 
-pub returns-else-whole-left-clause-ran : goal.returns-else-whole-left-clause-ran
-returns-else-whole-left-clause-ran g c =
+pub returns-clause-ran : goal.returns-clause-ran
+returns-clause-ran g c =
     let before : Regs = c.self.inside.regs in
     let m : BusState = g.B.Bus.flat c.args.bus.now in
     let regs : Regs = c.execute-next.new.regs in
     let n : BusState = g.B.Bus.flat c.execute-next.new.bus in
-    let decoded = c.decode.ensures in
-    let first = c.fetch.ensures in
-    let place = c.plus-second.ensures in
-    let second = c.fetch-2.ensures in
-    let is = c.in-Some.is in
+    let decoded = c.requires.decoded in
     let cycles = c.from-whole.ensures in
     let some = c.execute-next.ensures.some in
     let few = c.execute-next.ensures.few in
@@ -24,6 +20,6 @@ returns-else-whole-left-clause-ran g c =
     let range = c.self.invariant.1 in
     let free : before.owed ≢ 1 = λ e. c.requires.free (sym (ap (λ (r : Regs). r.owed) c.self.view_is) ∙ e) in
     let whole =
-    ran-whole c.args.left c.in-Some.op (record before { pc = c.args.at }, m) regs n c.execute-next.result.0 c.from-whole.result (omega arith) free (cc)
+    ran-whole c.args.left c.args.op (record before { pc = c.args.at }, m) regs n c.execute-next.result.0 c.from-whole.result (omega arith) free (cc)
     (ap (λ x. (record regs { pc = c.execute-next.result.0; owed = x - 1 }, n)) cycles ∙ c.execute-next.ensures.effect) (omega arith) (omega arith) (omega arith) in
     subst (λ (r : Regs). InstructionRan c.args.left (record r { pc = c.args.at }, m) (record regs { pc = c.execute-next.result.0 }, n) c.from-whole.result) c.self.view_is whole
