@@ -28,6 +28,7 @@ before	= 0x10		; characters of register 1; also the port of ROM 1
 upper	= 0x08		; the upper eight characters of register 0
 eight	= 8		; from 8, ISZ comes to 16 after eight turns
 scans	= 12		; from 12, it comes to 16 after four turns
+after_several = 11	; from 11, after five
 
 op_plus	  = 2		; operators: bit 0 turns the sign of the right number,
 op_minus  = 3		; bits 2 and 3 are looked at in `compute`
@@ -55,7 +56,7 @@ start:	FIM P4, 0	; no key is down, none was taken
 	FIM P5, 0
 
 ; C: both numbers and all that belongs to them become 0. CE: the one that is
-; shown. Uses P0, all of registers 0 and 1. C 156 cycles, CE 82.
+; shown. Uses P0, all of registers 0 and 1. C 158 cycles, CE 84.
 
 clear:	FIM P0, before
 	JMS wipe
@@ -67,13 +68,14 @@ entry:	FIM P0, shown
 ready:	JMS show
 
 ; Debounce. A key that goes down or up bounces for some milliseconds, so a
-; reading counts only when four further scans have found the same one.
-; Uses R0 to R12, no RAM. 925 cycles from the moment a key goes down until it is
+; reading counts only when four further scans have found the same one; behind
+; a scan that found several keys, five.
+; Uses R0 to R12, no RAM. 935 cycles from the moment a key goes down until it is
 ; taken.
 
 await:	JMS scan	; P1: the key that is down, or 0
 	LD R7
-	JCN nonzero, anew	; several keys are down: wait
+	JCN nonzero, several	; wait
 	LD R2
 	CLC
 	SUB R8
@@ -86,7 +88,10 @@ other:	LD R2		; another key than in the scan before
 	XCH R8
 	LD R3
 	XCH R9
-anew:	LDM scans
+	LDM scans
+	XCH R12
+	JUN await
+several: LDM after_several
 	XCH R12
 	JUN await
 alike:	ISZ R12, await
@@ -136,7 +141,7 @@ act:	LD R8
 
 ; Number entry. A digit: all digits move one place up and it becomes the
 ; lowest, unless eight digits are there, or seven after the point.
-; Uses P0, R3, R6; digits, decimals and mode of register 0. 203 cycles.
+; Uses P0, R3, R6; digits, decimals and mode of register 0. 205 cycles.
 
 digit:	JMS begin
 	FIM P0, 0x07	; the highest digit
@@ -158,7 +163,7 @@ enter:	LD R3
 	JMS left
 	JUN ready
 
-; The point: from now on digits stand after it. Uses P0; the mode. 94 cycles.
+; The point: from now on digits stand after it. Uses P0; the mode. 96 cycles.
 
 point:	JMS begin
 	LDM 1
@@ -166,7 +171,7 @@ point:	JMS begin
 	JUN ready
 
 ; Change of sign, of the number that is shown, keyed or not: -0 is seen only
-; while a number is keyed. Uses P0, R4, R5, R6. 116 cycles.
+; while a number is keyed. Uses P0, R4, R5, R6. 194 cycles.
 
 sign:	RD0
 	RAR		; the sign into carry
@@ -182,15 +187,15 @@ complete: LDM 3
 	WR2
 	JUN ready
 
-; S: the two numbers change places. Uses R0 to R7. 1,927 cycles.
+; S: the two numbers change places. Uses R0 to R7. 1,929 cycles.
 
-swap:	JMS tidy
-	JMS exchange
+swap:	JMS exchange
+	JMS tidy	; it may stand there as it was keyed: -0 or 1.50
 	JUN complete
 
 ; Equals: the operator that waits is done with the number before on its left.
 ; Where none waits, the last one is done once more with its right number.
-; Uses R0 to R7, R13, R14. 14,618 cycles, of which most are a quotient's.
+; Uses R0 to R7, R13, R14. 14,620 cycles, of which most are a quotient's.
 
 equals: FIM P1, before
 	SRC P1
@@ -204,7 +209,7 @@ again:	JMS compute
 
 ; An operator: the one that waited is done, and this one waits. Where it was
 ; keyed just before, this one only takes its place. Uses R0 to R7, R13 to R15.
-; 14,762 cycles.
+; 14,764 cycles.
 
 plus:	LDM op_plus
 	JUN keyed
@@ -236,7 +241,8 @@ wait:	FIM P1, before
 ; Scan. A single 1 walks down chain 0, from row to row, and the columns of its
 ; row are read at the port of ROM 1. KBP makes of the four lines 1 to 4 for one
 ; key, 0 for none, and 15 for several. The key goes to P1, 0 where none is
-; down; R7 is 1 where several are. Uses R0 to R7, no RAM. 142 cycles.
+; down; R7 is 1 where several are. Uses R0 to R7, no RAM. 142 cycles, with
+; several keys down up to 182.
 
 scan:	FIM P1, 0	; no key
 	FIM P2, keys	; the first key of row 0

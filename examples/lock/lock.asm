@@ -94,7 +94,7 @@ turn:   ISZ R0, turn
         BBL 0
 
 ; Waits for the next key: first all keys are up in five scans, then one is down
-; in five scans. It stands in R8 then.
+; in five scans. It stands in R8 then. Several keys in a row are neither.
 key:    LDM 11
         XCH R9
 up:     JMS scan
@@ -104,6 +104,8 @@ up:     JMS scan
         ISZ R9, up
 none:   JMS scan
         LD R6
+        IAC
+        JCN zero, none
         IAC
         JCN zero, none
         LD R6
@@ -118,7 +120,8 @@ same:   JMS scan
         ISZ R9, same
         BBL 0
 
-; Scan: a single 1 walks from row to row. R6: the key that is down, or 15.
+; Scan: a single 1 walks from row to row. R6: the key that is down, 15 where none
+; is, 14 where several in a row are.
 scan:   LDM 15
         XCH R6
         FIM P2, keys    ; P2: the first key of the row
@@ -136,7 +139,7 @@ row:    FIM P0, 0x00
         KBP             ; 1 to 3: one key, 0: none, 15: several
         JCN zero, next
         IAC
-        JCN zero, next
+        JCN zero, several
         DAC
         DAC
         CLC
@@ -146,7 +149,9 @@ row:    FIM P0, 0x00
         XCH R0
         FIN P1
         LD R3
-        XCH R6
+        JUN found
+several: LDM 14
+found:  XCH R6
 next:   INC R5          ; the next row is three keys further
         INC R5
         INC R5
