@@ -107,6 +107,18 @@ window.ticking = setInterval(() => {
   window.longest = Math.max(window.longest, performance.now() - before);
   before = performance.now();
 }, 20)"""
+# Opened with `?hang`, the page never comes to the end of opening a session, nor to what it does when it is left.
+HANG = """
+if (location.search === "?hang") {
+  const post = Worker.prototype.postMessage;
+  Worker.prototype.postMessage = function (message, ...rest) {
+    if (message.call === "open") window.hung = true;
+    else post.call(this, message, ...rest);
+  };
+  addEventListener("pagehide", (event) => event.stopImmediatePropagation(), true);
+}"""
+FLAGS = "return Object.keys(localStorage).filter((key) => key.startsWith('fethsaim.opening')).length"
+UNENDED = 'The session "die" was not opened by itself: its last opening did not come to an end.'
 LAST_ENTRY = "return document.getElementById('log').lastElementChild.textContent"
 PROGRESS = "return document.querySelector('#work progress').value > 0"
 LONGEST = "clearInterval(window.ticking); return window.longest"
@@ -216,8 +228,50 @@ def check_little_memory(page, folder):
         browser.end()
 
 
+def reopen(browser, address):
+    """The page, left and opened again; gives what it says then."""
+    browser.go("about:blank")
+    browser.go(address)
+    browser.until(READY, True)
+    return browser.script(NOTICE)
+
+
+def hang(browser, address):
+    """A session is opened, and the tab is left while that is under way, as where the page hangs."""
+    browser.go("about:blank")
+    browser.go(address.replace("html", "html?hang", 1))
+    browser.until("return Boolean(window.hung)", True)
+
+
+def check_unended(browser, page, folder):
+    """A session whose opening hung the page is not opened by itself again; it is told, and can be opened or deleted."""
+    hanging = altered(page, folder, HANG).as_uri()
+    reopen(browser, hanging)
+    choose_example(browser, "die")
+    browser.click("#step")
+    session = browser.until("return location.hash", re.compile("^#session="))
+    comes(browser, "an opening that came to an end leaves nothing", FLAGS, 0)
+    verdict("the session is opened by itself", [reopen(browser, hanging), browser.script("return location.hash")], ["", session])
+    browser.until(FLAGS, 0)
+    hang(browser, hanging + session)
+    for address in (hanging, hanging + session):
+        verdict("one whose opening did not is told", reopen(browser, address), UNENDED)
+        verdict("and is not opened by itself", browser.script("return location.hash") != session, True)
+    browser.click("#notice button[aria-label^='Open it']")
+    comes(browser, "it can be opened", "return location.hash", session)
+    comes(browser, "and is well again then", FLAGS, 0)
+    verdict("at the next start, too", [reopen(browser, hanging), browser.script("return location.hash")], ["", session])
+    browser.until(FLAGS, 0)
+    hang(browser, hanging + session)
+    reopen(browser, hanging)
+    browser.click("#notice button[aria-label^='Delete it']")
+    comes(browser, "it can be deleted", NOTICE, 'Deleted "die".')
+    verdict("and is not told any more", reopen(browser, hanging), "")
+
+
 def check_lacks(browser, page, folder):
     """What it does where something fails or is missing."""
     check_long_work(browser, page)
+    check_unended(browser, page, folder)
     check_failures(browser, page, folder)
     check_poor_browsers(browser, page, folder)

@@ -19,6 +19,11 @@ CHOSEN = "return document.getElementById('follow').checked"
 STACK = "return [...document.querySelectorAll('.stack button')].map((row) => [...row.children].map((part) => part.textContent).join(' '))"
 # The addresses of the listing's lines, and the lines whose margin shows a breakpoint.
 ADDRESSES = "return [...document.querySelectorAll('#lines-of-program button:not([hidden])')].map((row) => row.textContent.match(/[0-9A-F]{3}/)[0])"
+# What stands in the margin of the line that has a breakpoint, and in the row of the listing that has one.
+MARKS = """
+const marks = [...document.querySelectorAll(".mark-breakpoints")].map((mark) => `${mark.textContent} ${mark.title}`);
+const rows = [...document.querySelectorAll("#lines-of-program button[aria-pressed='true']")].filter((row) => !row.hidden);
+return [marks.join(), rows.map((row) => row.querySelector("i").textContent).join()]"""
 LABELS = "return [...document.querySelectorAll('#lines-of-program .labels')].map((label) => label.textContent).join('')"
 MARGIN = """
 const lines = [];
@@ -51,13 +56,16 @@ return (async () => {
   return told;
 })();"""
 
-# A click on the number of a line, as by the pointer.
-CLICK_MARGIN = """
+# The number of a line is brought into view.
+SHOW_MARGIN = """
 const editor = document.querySelector("#program-editor .CodeMirror").CodeMirror;
 editor.scrollIntoView({ line: arguments[0] - 1, ch: 0 }, 60);
 const numbers = [...document.querySelectorAll("#program-editor .CodeMirror-linenumber")];
 const node = numbers.find((each) => each.textContent === String(arguments[0]));
 node.scrollIntoView({ block: "center" });
+"""
+# A click on it, as by the pointer.
+CLICK_MARGIN = SHOW_MARGIN + """
 const { left, top, width, height } = node.getBoundingClientRect();
 const at = { clientX: left + width / 2, clientY: top + height / 2, button: 0, buttons: 1, bubbles: true, cancelable: true, detail: 1 };
 for (const kind of ["mousedown", "mouseup", "click"]) node.dispatchEvent(new MouseEvent(kind, at));"""
@@ -141,6 +149,29 @@ def check_margin(browser, source, values):
     comes(browser, "a line without bytes takes none, in words", TOLD_AT, re.compile("^Line 1 puts no bytes into ROM"))
 
 
+def check_inside(browser, source, values, lines):
+    """A breakpoint inside an instruction has no mark of one that a run stops at, and no run stops there."""
+    call = next(number for number, text in enumerate(lines, 1) if "JMS scan" in text.expandtabs(1))
+    address = next(place for place, (number, _) in source.items() if number == call)
+    inside = f"{int(address, 16) + 1:03X}"
+    go_to(browser, address)
+    lines_answered(browser, f"break 0x{inside}")
+    browser.script(SHOW_MARGIN, call)
+    comes(browser, "a breakpoint inside an instruction has a hollow mark, in the listing, too", MARKS,
+          [f"\u25cb breakpoint at {inside}, inside this instruction: a run that comes here does not stop; a click clears it", "\u25cb"])
+    lines_answered(browser, f"break 0x{values['scan']}")
+    browser.click("#run")
+    comes(browser, "a run goes through it", STATUS, f"Stopped at {values['scan']}, at a breakpoint.")
+    lines_answered(browser, f"unbreak 0x{values['scan']}")
+    browser.script(CLICK_MARGIN, call)
+    comes(browser, "a click in the margin clears it", MARGIN, "")
+    verdict("no breakpoint is left", lines_answered(browser, "breaks"), re.compile("breaks -$"))
+    lines_answered(browser, f"break 0x{inside}")
+    browser.until(MARGIN, str(call))
+    browser.script("document.querySelector('#lines-of-program button[aria-pressed=true]').click()")
+    comes(browser, "and so does one on its row of the listing", MARGIN, "")
+
+
 def point_at(browser, line, word):
     """The pointer comes to a word of the source, and rests there."""
     x, y = browser.script(WORD_PLACE, line, word)
@@ -220,6 +251,7 @@ def check(browser, page, _folder, mcs4):
     check_steps(browser, source)
     check_breakpoint_at_name(browser, source, values, lines)
     check_margin(browser, source, values)
+    check_inside(browser, source, values, lines)
     check_pointing(browser, source, values, lines)
     check_go_to(browser)
     check_names_in_lines(browser, values)

@@ -1,9 +1,11 @@
 """What checks/page looks at of texts, projects and links: nothing that a user has made is lost."""
 
+import base64
 import pathlib
 import re
 import subprocess
 import time
+import zlib
 
 from page_in_browser import NOTICE, READY, STATUS, choose_example, lines_answered, show_text, told_of
 from verdicts import comes, verdict
@@ -224,6 +226,37 @@ def check_link(browser, page):
         verdict("and the bench is as it was", browser.script(TEXTS), before)
 
 
+def link_of(name, board, program):
+    """A link as whoever wants to mislead makes it."""
+    rest = f"name {name}\nwire\n{board}.\nasm\n{program}.\n".encode()
+    total = subprocess.run(["cksum"], input=rest, stdout=subprocess.PIPE, check=True).stdout.split()[0]
+    packer = zlib.compressobj(wbits=-15)
+    packed = packer.compress(total + b"\n" + rest) + packer.flush()
+    return f"link=1.{base64.urlsafe_b64encode(packed).decode().rstrip('=')}"
+
+
+def check_foreign_links(browser, page):
+    """Links that would hang the page or mislead whoever opens them."""
+    names = [f"n{at}" for at in range(12000)]
+    hanging = f"# lamp 0: {' '.join(names)}\n# grid 0: {' '.join(f'-{name}' for name in names)}\n"
+    shown = browser.script(TEXTS)
+    open_link(browser, page, link_of("a clock", hanging, ""))
+    comes(browser, "a link with a text that is too long is refused in words", NOTICE, re.compile(
+        rf"^The link was not opened: the board's text has {len(hanging):,} bytes, and 16,384 is the most\. What was here stays as it was\.$"))
+    verdict("and the bench is as it was", browser.script(TEXTS), shown)
+    board = f"# title: {'long words ' * 20}\n# lamp 0: {' '.join(names[:400])}\n# grid 0: {' '.join(f'-{at}' for at in range(600))}\n"
+    open_link(browser, page, link_of("\u202etxe\u2066\t" + "name " * 900, board, ""))
+    comes(browser, "a long name is cut, and no letter turns it round", ASKED, f'Open "txe {"name " * 10}name…" from a link?')
+    verdict("and so is the title", browser.text("#ask"), re.compile("link\\?(long words ){5}long…The board's text has 3 lines"))
+    browser.click("#ask .bar button:first-child")
+    comes(browser, "it is opened", NAME, re.compile("^txe name"))
+    comes(browser, "and of its faults the first ones are told", "return [...document.querySelectorAll('#face-faults li')].slice(20)"
+          ".map((each) => each.textContent).join()", re.compile("^And [0-9,]+ more\\.$"))
+    browser.go("about:blank")
+    browser.go(f"{page.as_uri()}#example=%E2%80%AEhacked%2C%20go%20to%20evil.example%20{'x' * 100}")
+    comes(browser, "nor has an address more words than that", NOTICE, re.compile('^The address names an example, "hacked, go to evil.example x{32}…", that'))
+
+
 def check_drop(browser, project):
     """A file that is dropped on the page is opened."""
     browser.script("""
@@ -258,3 +291,4 @@ def check_texts(browser, page, folder, _mcs4):
     check_notices(browser, folder)
     check_drop(browser, project.read_bytes())
     check_link(browser, page)
+    check_foreign_links(browser, page)

@@ -5,8 +5,8 @@ const KEY = "fethsaim.choices";
 
 /** @typedef {Pick<Storage, "getItem" | "setItem">} ChoiceStore */
 
-/** @returns {ChoiceStore | null} */
-function ownStore() {
+/** The browser's store of words; null where it has none. */
+export function ownStore() {
   try {
     return localStorage;
   } catch {

@@ -1,18 +1,21 @@
 // Words for what went wrong, and for what can be undone: a list, where it is seen wherever the page is scrolled to. Of a kind there is one
-// notice, the newest; it goes when that kind is well again. What can be undone has a notice each.
+// notice, the newest; it goes when that kind is well again. What can be undone has a notice each, and so has each session that was not
+// opened by itself.
 
 import { block, element } from "./dom.js";
 
 /**
  * What stays wrong while it lasts (`kept`, `store`), what was refused (`session`, `refusal`), a link that was copied (`share`), the session
- * that was left for a new one (`left`), any other fault (""), and `undo`.
- * @typedef {"" | "kept" | "session" | "store" | "refusal" | "share" | "left" | "undo"} NoticeKind
+ * that was left for a new one (`left`), one that was not opened by itself (`unended`), any other fault (""), and `undo`.
+ * @typedef {"" | "kept" | "session" | "store" | "refusal" | "share" | "left" | "unended" | "undo"} NoticeKind
  * @typedef {{ word: string, act: () => void }} NoticeAction a button beside the words
  * @typedef {{ kind: NoticeKind, words: string, node: HTMLElement }} Row
  */
 
 /** Faults that are told again and again while they last: who dismissed one does not see the same words again before it was well. */
 const LASTING = new Set(["kept", "store"]);
+/** Kinds that have a notice each. */
+const SEVERAL = new Set(["undo", "unended"]);
 
 export class Notice {
   constructor() {
@@ -32,14 +35,14 @@ export class Notice {
   /**
    * @param {string} words
    * @param {NoticeKind} kind
-   * @param {NoticeAction | null} action
+   * @param {NoticeAction[]} actions
    */
-  show(words, kind = "", action = null) {
+  show(words, kind = "", ...actions) {
     if (this.dismissed.get(kind) === words) return;
     if (LASTING.has(kind) && this.rows.some((row) => row.kind === kind && row.words === words)) return;
-    if (kind !== "undo") this.hide(kind);
+    if (!SEVERAL.has(kind)) this.hide(kind);
     const row = { kind, words, node: element("div", { className: "notice", role: "alert" }, element("p", {}, words)) };
-    if (action) row.node.append(this.button(action.word, `${action.word}: ${words}`, () => this.do(row, action)));
+    row.node.append(...actions.map((action) => this.button(action.word, `${action.word}: ${words}`, () => this.do(row, action))));
     row.node.append(this.button("Dismiss", "Dismiss the notice", () => this.dismiss(row), "dismiss"));
     this.rows.unshift(row);
     this.block.prepend(row.node);

@@ -3,7 +3,7 @@ import { readFileSync } from "node:fs";
 import { test } from "node:test";
 import { readBoard } from "../src/bench/answers.js";
 import { DisplayText } from "../src/board/display_text.js";
-import { Face, faceFaults } from "../src/board/face.js";
+import { Face, faceFaults, moreThan } from "../src/board/face.js";
 import { missingOf } from "../src/board/face_board.js";
 
 /** The samples that tools/lib/face.awk is tried with, too: comments of a board, and what they tell. */
@@ -32,7 +32,7 @@ function told(face, faults, patterns) {
   ].sort();
 }
 
-for (const name of ["all", "faults", "none", "shows"]) {
+for (const name of ["all", "faults", "many", "none", "shows"]) {
   test(`a face as the tools read it: ${name}`, () => {
     const text = sample(`${name}.face`);
     const wanted = sample(`${name}.told`).split("\n").filter(Boolean);
@@ -41,6 +41,23 @@ for (const name of ["all", "faults", "none", "shows"]) {
     assert.deepEqual(told(face, [...faceFaults(text), ...missingOf(face, board)], patterns), wanted);
   });
 }
+
+test("a face takes no more time than its text has letters", () => {
+  const words = (count, sign) => Array.from({ length: count }, (_, at) => `${sign}${at}`).join(" ");
+  for (const [text, faults] of [
+    [`# lamp 0: ${words(100000, "n")}\n# grid 0: ${words(100000, "-")}\n`, 1],
+    [`# lamp 0: ${words(500, "n")}\n# grid 0: ${words(500, "-")}\n${"# grid 1: n0\n".repeat(100000)}`, 501],
+    ["# title: x\n# colour 0 to 9999: red\n".repeat(50000), 1001],
+  ]) {
+    const begun = performance.now();
+    assert.ok(new Face(text).faults.length >= faults);
+    assert.ok(performance.now() - begun < 1000);
+  }
+});
+
+test("of many faults the first ones are told", () => {
+  assert.deepEqual([moreThan([1, 2], 2), moreThan([1, 2], 1), moreThan(new Array(1020), 20)], ["", "And 1 more.", "And 1,000 more."]);
+});
 
 /** Lamps of digits, four each, the highest bit first; `width` 5 has a point after each. */
 const lampsOf = (digits, width, point = -1) => digits.map((digit, at) => (

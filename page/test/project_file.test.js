@@ -1,7 +1,7 @@
 import assert from "node:assert/strict";
 import { test } from "node:test";
 import { checksum } from "../src/session/checksum.js";
-import { NotAProject, isProject, projectText, readProject } from "../src/session/project_file.js";
+import { NotAProject, isProject, projectText, readProject, wordsOfLength } from "../src/session/project_file.js";
 
 const SIZE = 163856;
 const encode = (text) => new TextEncoder().encode(text);
@@ -55,6 +55,15 @@ test("bytes that are a project are told from others", () => {
   assert.equal(isProject(encode("MCS4BEN1")), false);
   assert.equal(isProject(new Uint8Array(0)), false);
   assert.equal(isProject(Uint8Array.of(255, 254, 0, 200)), false);
+});
+
+test("a text that the bench would not take is refused, and its project is not saved", () => {
+  const boardText = `#${" ".repeat(16384)}\n`;
+  const words = "the board's text has 16,386 bytes, and 16,384 is the most";
+  assert.throws(() => read(projectText(project({ boardText }))), { message: words });
+  assert.equal(wordsOfLength({ boardText, programText: "" }), words);
+  assert.equal(wordsOfLength({ boardText: boardText.slice(2), programText: "x".repeat(16383) }), "");
+  assert.match(wordsOfLength({ boardText: "", programText: "x".repeat(16384) }), /^the source has 16,385 bytes/);
 });
 
 test("each cut of a project is refused in words", () => {

@@ -3,6 +3,7 @@ import { readFileSync } from "node:fs";
 import { test } from "node:test";
 import { deflateRawSync } from "node:zlib";
 import { LONGEST_LINK, NotALink, SAFE_LINK, linkOf, readLink } from "../src/session/share_link.js";
+import { LONGEST_TEXT } from "../src/text/text_fault.js";
 
 const file = (name) => readFileSync(new URL(`../../examples/${name}`, import.meta.url), "utf8");
 const calculator = {
@@ -59,6 +60,24 @@ test("links that are made by hand", async () => {
     await assert.rejects(readLink(link), { message: "it is cut off, or was changed" }, link);
   }
   await assert.rejects(readLink("2.QQ"), /newer page/);
+});
+
+test("texts that the bench would not take are refused before anything reads them", async () => {
+  const texts = (size) => ({ name: "x", boardText: "", programText: `${";".repeat(size - 1)}\n` });
+  assert.deepEqual(await readLink(await linkOf(texts(LONGEST_TEXT))), texts(LONGEST_TEXT));
+  const words = /^the source has 16,385 bytes, and 16,384 is the most$/;
+  await assert.rejects(readLink(await linkOf(texts(LONGEST_TEXT + 1))), (fault) => fault instanceof NotALink && words.test(fault.message));
+  const { programText: boardText } = texts(900000);
+  await assert.rejects(readLink(await linkOf({ name: "x", boardText, programText: "" })), {
+    message: "the board's text has 900,000 bytes, and 16,384 is the most",
+  });
+});
+
+test("the name in a link is cut, and has no characters that mislead", async () => {
+  const nameOf = async (name) => (await readLink(await linkOf({ name, boardText: "", programText: "" }))).name;
+  assert.equal(await nameOf("a".repeat(5000)), `${"a".repeat(59)}\u2026`);
+  assert.equal(await nameOf("a".repeat(60)), "a".repeat(60));
+  assert.equal(await nameOf("\u202egolf\u2066 \u0007\u200b\u2028 x"), "golf x");
 });
 
 test("a link that would fill the memory is refused", async () => {

@@ -24,7 +24,7 @@ function begin(text, checked) {
   });
   sync.editor = {
     showNext: (line) => seen.next.push(line),
-    showBreakpoints: (lines) => seen.breakpoints.push([...lines]),
+    showBreakpoints: (marks) => seen.breakpoints.push([...marks].map(([line, { mark, words }]) => `${line} ${mark} ${words}`)),
     showAddresses: (addresses) => seen.addresses.push(addresses),
     reveal: (line) => seen.revealed.push(line),
   };
@@ -70,14 +70,32 @@ test("what is told again is not shown again", async () => {
 
 test("breakpoints are shown at their lines, and set and cleared there", async () => {
   const { sync, seen } = begin(TEXT, FITS);
-  sync.showBreakpoints(["001", "7FF"]);
+  sync.showBreakpoints(["000", "7FF"]);
   await sync.check();
-  assert.deepEqual(seen.breakpoints, [[], [2]]);
+  assert.deepEqual(seen.breakpoints, [[], ["2 \u25CF breakpoint"]]);
   await sync.toggleBreakpoint(4);
   await sync.toggleBreakpoint(2);
-  assert.deepEqual(seen.toggled, [[false, 2], [true, 1]]);
+  assert.deepEqual(seen.toggled, [[false, 2], [true, 0]]);
   await sync.toggleBreakpoint(3);
   assert.match(seen.refused[0], /^Line 3 puts no bytes into ROM/);
+});
+
+test("a breakpoint inside an instruction is no dot, and a click clears it", async () => {
+  const { sync, seen, now } = begin(TEXT, FITS);
+  await sync.check();
+  sync.showBreakpoints(["001"]);
+  const inside = "2 \u25CB breakpoint at 001, inside this instruction: a run that comes here does not stop; a click clears it";
+  assert.deepEqual(seen.breakpoints.pop(), [inside]);
+  await sync.toggleBreakpoint(2);
+  assert.deepEqual(seen.toggled, [[true, 1]]);
+  // Where a run stops at the line, too, that counts.
+  for (const breakpoints of [["001", "000"], ["000", "001"]]) sync.showBreakpoints(breakpoints);
+  assert.deepEqual(seen.breakpoints.slice(-2), [["2 \u25CF breakpoint"], ["2 \u25CF breakpoint"]]);
+  now.text = "go: DB 1, 2\n";
+  now.checked = { ...FITS, map: ["map lines 1 names 1", "line 1 000 2", "name go 000"] };
+  await sync.check();
+  sync.showBreakpoints(["001"]);
+  assert.deepEqual(seen.breakpoints.pop(), ["1 \u25CF breakpoint"]);
 });
 
 test("a text that differs from ROM says where, and takes no breakpoint", async () => {

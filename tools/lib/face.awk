@@ -14,6 +14,8 @@
 #     # test: button NAME           what is at the TEST pin, which is 0 while it is pressed; `to 1` after the name: 1. Or `switch NAME`
 #     # port rom0: WORDS            what is at a port, `rom0` or `ram0.0`, or at a chain, `chain0`
 #
+# All names, colours and places together are at most 1,000 words; from the line on that passes them nothing is read.
+#
 # read_face(file) fills key_row[name], key_column[name], key_name[row, column], lamp_name[n], lamp_number[name]; the displays, whose count
 # is display_count; lamp_colour[n]; the places on the grid, whose count is grid_count; the groups, whose count is group_count; face_title,
 # pin_kind, pin_name, pin_level, port_name[place]. face_faults tells what cannot be right with the names and the displays, a line
@@ -22,7 +24,7 @@
 
 function read_face(file,    line, number) {
     face_faults = face_notes = ""
-    display_count = grid_count = group_count = 0
+    display_count = grid_count = group_count = face_words = 0
     know_forms()
     number = ENVIRON["board_before"] + 0
     while ((getline line < file) > 0) {
@@ -58,7 +60,7 @@ function know_forms(    i, n, parts) {
 }
 
 function read_face_line(number, line,    head, words, count, kind, form) {
-    if (line !~ /^[ \t]*#[ \t]*[A-Za-z]+([ \t]+[^ \t:]+([ \t]+[Tt][Oo][ \t]+[^ \t:]+)?)?[ \t]*:/) return
+    if (face_words > 1000 || line !~ /^[ \t]*#[ \t]*[A-Za-z]+([ \t]+[^ \t:]+([ \t]+[Tt][Oo][ \t]+[^ \t:]+)?)?[ \t]*:/) return
     head = line
     sub(/:.*/, "", head)
     sub(/^[ \t]*#/, "", head)
@@ -68,6 +70,11 @@ function read_face_line(number, line,    head, words, count, kind, form) {
     sub(/s$/, "", kind)
     if (kind == "color") kind = "colour"
     if (!(kind in form_head)) return
+    if (kind ~ /^(row|lamp|colour|grid)$/) face_words += count_words(line)
+    if (face_words > 1000) {
+        face_note(number, "a face has at most 1,000 names, colours and places; from this line on it is not read")
+        return
+    }
     form = form_head[kind]
     if (!(form == "" ? count == 1 : form == "place" ? count == 2 && is_port_name(words[2]) : is_number(words[2]) && (count == 2 || (count == 4 && form == "N to N" && is_number(words[4]))))) {
         face_note(number, form_text[kind])
@@ -82,6 +89,12 @@ function read_face_line(number, line,    head, words, count, kind, form) {
     else if (kind == "test") read_test(number, line)
     else if (kind == "port") read_port(number, words[2], line)
     else read_group(number, kind, words[2] + 0, line)
+}
+
+# The words of a list, `_` left out.
+function count_words(text,    words, i, found) {
+    for (i = split(text, words); i > 0; i--) if (words[i] != "_") found++
+    return found + 0
 }
 
 function is_number(word) {

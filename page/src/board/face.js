@@ -1,7 +1,8 @@
 // The face of a board: what the comments of its text tell of names, colours and places. tools/lib/face.awk reads the same, and has the
 // grammar at its head; checks/faces has texts that both are tried with.
 
-import { COLOURS, FORMS, MOST_ROWS, NO_DISPLAY, NO_TEST, headOf, isNumber, sizeOf, wordsOf, isPlace } from "./face_words.js";
+import { COLOURS, FORMS, LISTS, MOST_ROWS, MOST_WORDS, NO_DISPLAY, NO_TEST, TOO_MANY } from "./face_words.js";
+import { headOf, isNumber, isPlace, sizeOf, wordsOf } from "./face_words.js";
 
 /**
  * @typedef {{ line: number, words: string }} Fault
@@ -21,6 +22,8 @@ export class Face {
     this.keys = new Map();
     /** @type {Map<number, Told>} */
     this.lamps = new Map();
+    /** @type {Map<string, number>} the lamps by their names */
+    this.lampNumbers = new Map();
     /** @type {Map<number, Told>} */
     this.colours = new Map();
     /** @type {GridPlace[]} */
@@ -39,6 +42,8 @@ export class Face {
     this.lines = new Map();
     /** @type {{ row: number, column: number, word: string, line: number }[]} */
     this.gridWords = [];
+    /** How many words of lists were read; from the line on that has too many nothing is read. */
+    this.wordCount = 0;
     text.split("\n").forEach((line, at) => this.read(line.replace(/\r$/, ""), at + 1));
     for (const place of this.gridWords) this.placeOnGrid(place);
   }
@@ -69,10 +74,15 @@ export class Face {
    * @param {number} line
    */
   read(text, line) {
-    const head = headOf(text);
+    const head = this.wordCount <= MOST_WORDS ? headOf(text) : null;
     if (!head) return;
     const { kind, place, last, words } = head;
     this.told += `${text}\n`;
+    if (LISTS.has(kind)) this.wordCount += wordsOf(words).filter((word) => word !== "_").length;
+    if (this.wordCount > MOST_WORDS) {
+      this.fault(line, TOO_MANY);
+      return;
+    }
     if (kind === "title" && place === undefined) this.readTitle(words, line);
     else if (kind === "test" && place === undefined) this.readTest(words, line);
     else if (kind === "port" && isPlace(place) && !last) this.readPort(place.toLowerCase(), words, line);
@@ -124,6 +134,7 @@ export class Face {
       else {
         this.lines.set(`lamp ${name}`, line);
         this.lamps.set(first + at, { text: name, line });
+        this.lampNumbers.set(name, first + at);
       }
     });
   }
@@ -149,24 +160,26 @@ export class Face {
   readRange(first, last, text, line) {
     const words = wordsOf(text.toLowerCase());
     if (words.length !== 1 || last < first) this.fault(line, FORMS.colour);
-    else this.colour(first, COLOURS.includes(words[0]) ? new Array(last - first + 1).fill(words[0]) : words, line);
+    else this.colour(first, COLOURS.includes(words[0]) ? repeated(words[0], last - first + 1) : words, line);
   }
 
   /**
    * @param {number} first
-   * @param {string[]} words
+   * @param {Iterable<string>} words
    * @param {number} line
    */
   colour(first, words, line) {
-    for (const [at, word] of words.entries()) {
-      const before = this.colours.get(first + at);
+    let lamp = first - 1;
+    for (const word of words) {
+      lamp += 1;
+      const before = this.colours.get(lamp);
       if (word === "_") continue;
       if (!COLOURS.includes(word)) {
         this.fault(line, `${word} is no colour; there are red, amber, yellow, green, blue and white`);
       } else if (before) {
-        this.fault(line, `lamp ${first + at} has its colour in line ${before.line}`);
+        this.fault(line, `lamp ${lamp} has its colour in line ${before.line}`);
         return;
-      } else this.colours.set(first + at, { text: word, line });
+      } else this.colours.set(lamp, { text: word, line });
     }
   }
 
@@ -189,8 +202,8 @@ export class Face {
    * @param {{ row: number, column: number, word: string, line: number }} place
    */
   placeOnGrid({ row, column, word, line }) {
-    const named = [...this.lamps].find(([, { text }]) => text === word);
-    if (named) this.grid.push({ row, column, lamp: named[0], line });
+    const named = this.lampNumbers.get(word);
+    if (named !== undefined) this.grid.push({ row, column, lamp: named, line });
     else if (isNumber(word)) this.grid.push({ row, column, lamp: Number(word), line });
     else this.fault(line, `no lamp has the name ${word}`);
   }
@@ -233,6 +246,14 @@ export class Face {
 }
 
 /**
+ * @param {string} word
+ * @param {number} count
+ */
+function* repeated(word, count) {
+  for (let at = 0; at < count; at++) yield word;
+}
+
+/**
  * The kinds whose head has a number.
  * @type {Record<string, (face: Face, number: number, text: string, line: number) => void>}
  */
@@ -256,7 +277,19 @@ export function faceFaults(text) {
   return sorted(new Face(text).faults);
 }
 
-/** @param {Fault[]} faults */
+/**
+ * What is said in the place of faults that are not told.
+ * @param {unknown[]} faults
+ * @param {number} most so many are told
+ */
+export function moreThan(faults, most) {
+  return faults.length > most ? `And ${(faults.length - most).toLocaleString("en")} more.` : "";
+}
+
+/**
+ * By rising line.
+ * @param {Fault[]} faults
+ */
 export function sorted(faults) {
   return [...faults].sort((one, other) => one.line - other.line);
 }

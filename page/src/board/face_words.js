@@ -2,6 +2,10 @@
 
 export const COLOURS = ["red", "amber", "yellow", "green", "blue", "white"];
 export const MOST_ROWS = 64;
+/** So many words all lists of names, colours and places have together: several times what a board has use for. */
+export const MOST_WORDS = 1000;
+export const LISTS = new Set(["row", "lamp", "colour", "grid"]);
+export const TOO_MANY = "a face has at most 1,000 names, colours and places; from this line on it is not read";
 const HEAD = /^[ \t]*#[ \t]*([A-Za-z]+)(?:[ \t]+([^ \t:]+)(?:[ \t]+to[ \t]+([^ \t:]+))?)?[ \t]*:(.*)$/i;
 const PLACE = /^(rom([0-9]|1[0-5])|ram[0-7]\.[0-3]|chain[0-3])$/i;
 

@@ -3,7 +3,7 @@
 import { hintOfKeys, keysOf } from "./board_keys.js";
 import { DisplayView } from "./display_view.js";
 import { block, button, element, oneStop, pressedSwitch, setStop } from "../dom.js";
-import { sorted } from "./face.js";
+import { moreThan, sorted } from "./face.js";
 import { missingOf } from "./face_board.js";
 import { LampsView } from "./lamps_view.js";
 
@@ -15,6 +15,8 @@ import { LampsView } from "./lamps_view.js";
  */
 
 const TITLE = "Lamps and keys";
+/** So many faults are told. */
+const MOST_FAULTS = 20;
 
 /**
  * Whether nothing is wired at all: what can be begun with is offered then.
@@ -91,7 +93,8 @@ export class FrontView {
   drawFaults(board, face) {
     const faults = sorted([...face.faults, ...missingOf(face, board)]);
     const root = block("face-faults");
-    root.replaceChildren(...faults.map(({ line, words }) => element("li", {}, `line ${line} of the board's text: ${words}`)));
+    const told = faults.slice(0, MOST_FAULTS).map(({ line, words }) => `line ${line} of the board's text: ${words}`);
+    root.replaceChildren(...[...told, moreThan(faults, MOST_FAULTS)].filter(Boolean).map((words) => element("li", {}, words)));
     root.hidden = faults.length === 0;
   }
 

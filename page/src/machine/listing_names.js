@@ -6,14 +6,16 @@ import { hex } from "../bench/numbers.js";
  * @typedef {import("../bench/answers.js").Listed} Listed
  * @typedef {import("./source_map.js").SourceMap} SourceMap
  *
- * What is shown of a line: its address as answers write it, address and bytes, the labels at it, its instruction, and its line of the
- * source in words ("" for none).
- * @typedef {{ address: number, place: string, bytes: string, labels: string, instruction: string, source: string }} NamedLine
+ * What is shown of a line: its address and that of its second byte ("" for none) as answers write them, address and bytes, the labels at
+ * it, its instruction, and its line of the source in words ("" for none).
+ * @typedef {{ address: number, place: string, second: string, bytes: string, labels: string, instruction: string, source: string }}
+ *   NamedLine
  */
 
 /** Instructions whose last operand is an address. */
 const HAS_TARGET = /^(JUN|JMS|JCN|ISZ) .*0x([0-9A-F]{3})$/;
 const BYTES_END = 9;
+const SECOND_BYTE = 7;
 const INSTRUCTION_AT = 10;
 const COLON = 1;
 
@@ -24,7 +26,8 @@ const COLON = 1;
  */
 export function namedLine({ address, line }, map) {
   const [bytes, instruction] = [line.slice(0, BYTES_END), line.slice(INSTRUCTION_AT)];
-  const named = { address, place: hex(address, 3), bytes, labels: "", instruction, source: "" };
+  const second = bytes.slice(SECOND_BYTE).trim() === "" ? "" : hex(address + 1, 3);
+  const named = { address, place: hex(address, 3), second, bytes, labels: "", instruction, source: "" };
   if (!map) return named;
   named.labels = map.labelsAt(address).map((label) => `${label}:`).join(" ");
   const number = map.lineOf(address);

@@ -1,11 +1,14 @@
 // The rows of the listing that are seen: as many buttons as have room, each for the line that it shows.
 
+import { markOf } from "./breakpoint_marks.js";
 import { Cell, Switch, element, onClick, pressedSwitch } from "../dom.js";
 
 /**
  * @typedef {import("./listing_names.js").NamedLine} NamedLine
- * @typedef {{ button: HTMLButtonElement, address: number, mark: Cell, bytes: Cell, labels: Cell, instruction: Cell, breakpoint: Switch,
- *   next: Switch }} Row
+ *
+ * A row; `breakpoints` are the addresses in its line that have one.
+ * @typedef {{ button: HTMLButtonElement, address: number, breakpoints: number[], mark: Cell, bytes: Cell, labels: Cell,
+ *   instruction: Cell, breakpoint: Switch, next: Switch }} Row
  */
 
 export class ListingRows {
@@ -48,9 +51,19 @@ export class ListingRows {
       if (isNext) button.setAttribute("aria-current", "true");
       else button.removeAttribute("aria-current");
     });
-    const row = { button, address: 0, mark, bytes, labels, instruction, breakpoint: pressedSwitch(button), next };
-    onClick(button, () => this.toggleBreakpoint(row.address, row.breakpoint.isOn, button));
+    /** @type {Row} */
+    const row = { button, address: 0, breakpoints: [], mark, bytes, labels, instruction, breakpoint: pressedSwitch(button), next };
+    onClick(button, () => this.toggle(row));
     return row;
+  }
+
+  /**
+   * Sets the breakpoint of a row, or clears all that are in its line.
+   * @param {Row} row
+   */
+  toggle({ address, breakpoints, button }) {
+    if (breakpoints.length === 0) this.toggleBreakpoint(address, false, button);
+    for (const each of breakpoints) this.toggleBreakpoint(each, true, button);
   }
 
   /**
@@ -72,15 +85,18 @@ export class ListingRows {
       const line = lines[at];
       row.button.hidden = line === undefined;
       if (!line) return;
-      const hasBreakpoint = breakpoints.has(line.place);
+      const [own, inside] = [line.place, line.second].map((place) => (breakpoints.has(place) ? place : ""));
+      const mark = markOf(own, inside);
+      const title = [mark && !own ? mark.words : "", line.source].filter(Boolean).join("; ");
       row.address = line.address;
+      row.breakpoints = [own, inside].filter(Boolean).map((place) => parseInt(place, 16));
       row.bytes.set(line.bytes);
       row.labels.set(line.labels);
       row.instruction.set(line.instruction);
-      if (row.button.title !== line.source) row.button.title = line.source;
-      row.mark.set(hasBreakpoint ? "\u25CF" : "");
+      if (row.button.title !== title) row.button.title = title;
+      row.mark.set(mark ? mark.mark : "");
       row.next.set(line.address === counter);
-      row.breakpoint.set(hasBreakpoint);
+      row.breakpoint.set(mark !== null);
     });
   }
 

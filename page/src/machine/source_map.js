@@ -102,6 +102,15 @@ export class SourceMap {
   }
 
   /**
+   * Whether an address is inside an instruction of the program: a run that comes to its line does not begin anything there.
+   * @param {number} address
+   */
+  isInside(address) {
+    const line = this.lineOf(address);
+    return line > 0 && this.addresses[line] !== address && !DATA.test(this.sources[line - 1]);
+  }
+
+  /**
    * The labels at an address, in the order of their lines.
    * @param {number} address
    */

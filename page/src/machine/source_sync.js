@@ -2,14 +2,16 @@
 // and addresses have names. Whether it is, the bench is asked anew where the text or ROM may have changed.
 
 import { hex } from "../bench/numbers.js";
+import { marksOf } from "./breakpoint_marks.js";
 import { SourceMap } from "./source_map.js";
 
 /**
+ * @typedef {import("./breakpoint_marks.js").BreakpointMark} BreakpointMark
  * @typedef {import("../worker/program_check.js").Checked} Checked
  *
- * What shows the program's text: the line that comes next (0 for none), the lines that have a breakpoint, and the address of each line
- * ("" where it has none to show); a line is brought into view.
- * @typedef {{ showNext: (line: number) => void, showBreakpoints: (lines: Set<number>) => void,
+ * What shows the program's text: the line that comes next (0 for none), the marks of the lines that have a breakpoint, and the address of
+ * each line ("" where it has none to show); a line is brought into view.
+ * @typedef {{ showNext: (line: number) => void, showBreakpoints: (marks: Map<number, BreakpointMark>) => void,
  *   showAddresses: (addresses: string[]) => void, reveal: (line: number) => void }} SourceEditor
  *
  * What it calls: the text that is shown; the bench looks at a text; a breakpoint is set or cleared; something is refused, in words; the
@@ -124,13 +126,11 @@ export class SourceSync {
   /** @param {string[]} breakpoints as answers write them */
   showBreakpoints(breakpoints) {
     this.breakpoints = breakpoints;
-    const { map } = this;
-    const lines = map ? breakpoints.map((place) => map.lineOf(parseInt(place, 16))) : [];
-    this.editor.showBreakpoints(new Set(lines.filter((line) => line > 0)));
+    this.editor.showBreakpoints(this.map ? marksOf(this.map, breakpoints) : new Map());
   }
 
   /**
-   * Sets or clears the breakpoint of a line, or says why there can be none.
+   * Sets the breakpoint of a line, or clears all that are in it; or says why there can be none.
    * @param {number} line
    */
   async toggleBreakpoint(line) {

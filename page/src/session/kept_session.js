@@ -1,5 +1,6 @@
 // A session that is open in this tab: its record, which is the newest that the bench has told, and how it is kept.
 
+import { shortName } from "./names.js";
 import { wordsOfStoreFault } from "./store.js";
 
 /**
@@ -20,7 +21,7 @@ let made = 0;
 export function newRecord(name, file, { boardText, programText }, runs = false) {
   made += 1;
   const id = `${Date.now().toString(36)}-${made}-${Math.floor(Math.random() * 1e9).toString(36)}`;
-  return { id, name, file, boardText, programText, runs, revision: 0, changed: Date.now() };
+  return { id, name: shortName(name) || "session", file, boardText, programText, runs, revision: 0, changed: Date.now() };
 }
 
 export class KeptSession {

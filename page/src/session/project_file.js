@@ -2,7 +2,9 @@
 // and puts it together, to the byte as here; the manual ("A project file") says what each line of it is.
 
 import { checksum } from "./checksum.js";
+import { shortName } from "./names.js";
 import { hex } from "../bench/numbers.js";
+import { LONGEST_TEXT, sizeOf } from "../text/text_fault.js";
 
 /**
  * @typedef {{ name: string, boardText: string, programText: string }} Texts
@@ -23,6 +25,19 @@ export const LONGEST_PROJECT = 4 << 20;
 
 /** Why bytes are no project, in words. */
 export class NotAProject extends Error {}
+
+/** One of its texts is longer than any that the bench takes. */
+export class TextTooLong extends NotAProject {}
+
+/**
+ * Which of two texts is too long for a project and for a link, in words; "" where neither is.
+ * @param {{ boardText: string, programText: string }} texts
+ */
+export function wordsOfLength({ boardText, programText }) {
+  const [what, text] = sizeOf(boardText) > LONGEST_TEXT ? ["the board's text", boardText] : ["the source", programText];
+  const [size, most] = [sizeOf(text), LONGEST_TEXT].map((count) => count.toLocaleString("en"));
+  return sizeOf(text) > LONGEST_TEXT ? `${what} has ${size} bytes, and ${most} is the most` : "";
+}
 
 // --- writing ---
 
@@ -166,7 +181,7 @@ function readHead(lines) {
   while (lines.next !== "wire") {
     const [isOfHead, word, rest] = /^(name|unended) (.+)$|^#/.exec(lines.next) || [];
     if (isOfHead === undefined) throw lines.fault("one of the head: `name`, `unended`, `#`, or `wire`, which begins the board's text");
-    if (word === "name") name = rest;
+    if (word === "name") name = shortName(rest);
     if (word === "unended") open.add(rest);
     lines.take();
   }
@@ -184,13 +199,16 @@ function readText(lines, word, open) {
 }
 
 /**
- * A name and two texts.
+ * A name and two texts. Texts that the bench would never take are not even looked at.
  * @param {Lines} lines
  * @returns {Texts}
  */
 export function readTexts(lines) {
   const { name, open } = readHead(lines);
-  return { name, boardText: readText(lines, "wire", open), programText: readText(lines, "asm", open) };
+  const texts = { name, boardText: readText(lines, "wire", open), programText: readText(lines, "asm", open) };
+  const words = wordsOfLength(texts);
+  if (words) throw new TextTooLong(words);
+  return texts;
 }
 
 /**

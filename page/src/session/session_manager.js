@@ -3,7 +3,7 @@
 import { download } from "./download.js";
 import { runsAtOnce } from "../worker/examples.js";
 import { newRecord } from "./kept_session.js";
-import { LONGEST_PROJECT, isProject, projectText, readProject } from "./project_file.js";
+import { LONGEST_PROJECT, isProject, projectText, readProject, wordsOfLength } from "./project_file.js";
 import { NotKept, wordsOfStoreFault } from "./store.js";
 
 /**
@@ -162,10 +162,13 @@ export class SessionManager {
     return newRecord(fileName.replace(/\.mcs$/i, ""), settled, texts);
   }
 
-  /** Saves the session that is shown with its texts, as a project. */
+  /** Saves the session that is shown with its texts, as a project; but not one that could not be opened. */
   save() {
     const session = this.calls.session();
-    if (session) download(session.record.name, ".mcsp", new Blob([projectText(session.record)], { type: "application/octet-stream" }));
+    if (!session) return;
+    const tooLong = wordsOfLength(session.record);
+    if (tooLong) this.refuse(`No project was saved: ${tooLong}. Shorten it first; "Save .mcs" saves the session without its texts.`);
+    else download(session.record.name, ".mcsp", new Blob([projectText(session.record)], { type: "application/octet-stream" }));
   }
 
   /** Saves the session alone, for the program. */

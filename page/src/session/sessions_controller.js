@@ -2,6 +2,8 @@
 
 import { readAddress } from "./address.js";
 import { Bin, namesOf } from "./bin.js";
+import { shortName } from "./names.js";
+import { Openings } from "./openings.js";
 import { SessionManager } from "./session_manager.js";
 import { FIRST_PROGRAM } from "../help/tour.js";
 import { OfferedLines } from "./offered_lines.js";
@@ -33,9 +35,12 @@ export class SessionsController {
   constructor({ bench, store, locks, words, notice, examples }, calls) {
     this.calls = calls;
     this.store = store;
+    this.locks = locks;
     this.notice = notice;
     this.examples = examples;
     this.persistence = new Persistence();
+    this.openings = new Openings();
+    addEventListener("pagehide", () => this.openings.leave());
     this.lines = new OfferedLines(notice);
     /** @type {(words: string) => void} */
     const refuse = (told) => notice.show(told, "session");
@@ -44,7 +49,7 @@ export class SessionsController {
       refuse,
       left: (record) => this.tellLeft(record),
       use: async (record, release, example) => {
-        await calls.use(record, release, example);
+        await this.openings.during(record.id, () => calls.use(record, release, example));
         notice.hide("left");
         this.lines.offer("");
       },
@@ -112,7 +117,7 @@ export class SessionsController {
   async beginNamed(name) {
     const example = [...this.examples, FIRST_PROGRAM].find((each) => each.name === name);
     if (example) return this.begin(example);
-    this.notice.show(`The address names an example, "${name}", that this page does not have.`, "session");
+    this.notice.show(`The address names an example, "${shortName(name)}", that this page does not have.`, "session");
     return false;
   }
 
@@ -123,6 +128,7 @@ export class SessionsController {
   async remove(records) {
     const done = await this.bin.remove(records);
     if (done.length === 0) return;
+    for (const { id } of done) this.openings.forget(id);
     this.notice.show(`Deleted ${namesOf(done)}.`, "undo", { word: "Undo", act: () => this.bringBack(done) });
   }
 
@@ -135,7 +141,8 @@ export class SessionsController {
   /** What the address names, else the session that was used last and is not open in another tab, else the first example. */
   async openFirst() {
     const { kind, value } = readAddress(location.hash);
-    if (!(await this.openNamed(kind, value))) await this.openLast(kind === "" || kind === "link");
+    const isQuiet = kind === "" || kind === "link" || (kind === "session" && this.openings.isUnended(value));
+    if (isQuiet || !(await this.openNamed(kind, value))) await this.openLast(isQuiet);
     if (kind === "link") await this.calls.link(value);
   }
 
@@ -150,11 +157,27 @@ export class SessionsController {
 
   /** @param {boolean} isQuiet whether sessions that are open in other tabs are passed over without a word */
   async openLast(isQuiet) {
-    for (const record of await this.manager.kept()) {
+    const records = await this.manager.kept();
+    const unended = records.filter(({ id }) => this.openings.isUnended(id));
+    for (const record of unended) await this.tellUnended(record);
+    for (const record of records.filter((each) => !unended.includes(each))) {
       if (await this.open(record.id)) return;
       if (isQuiet) this.notice.hide("session");
     }
     await this.begin(this.examples[0]);
+  }
+
+  /**
+   * A session has perhaps hung the page when it was opened last, so it is not opened by itself. Another tab may be just opening it.
+   * @param {SessionRecord} record
+   */
+  async tellUnended(record) {
+    const release = await this.locks.take(record.id);
+    if (!release) return;
+    release();
+    const words = `The session "${shortName(record.name)}" was not opened by itself: its last opening did not come to an end.`;
+    const remove = () => this.remove([record]);
+    this.notice.show(words, "unended", { word: "Open it", act: () => this.open(record.id) }, { word: "Delete it", act: remove });
   }
 
   /** The address is another one: what it names is shown, if it is not here already. */

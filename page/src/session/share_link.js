@@ -2,7 +2,7 @@
 // the way in which it is packed, 1 for deflate and 0 for none. Within stand the lines of a project up to its session, after their checksum.
 
 import { checksum } from "./checksum.js";
-import { Lines, linesOfTexts, readTexts } from "./project_file.js";
+import { Lines, TextTooLong, linesOfTexts, readTexts } from "./project_file.js";
 
 /**
  * @typedef {import("./project_file.js").Texts} Texts
@@ -128,7 +128,7 @@ export async function readLink(link) {
   if (sum !== String(checksum(new TextEncoder().encode(rest)))) throw new NotALink(DAMAGED);
   try {
     return readTexts(new Lines(rest));
-  } catch {
-    throw new NotALink(DAMAGED);
+  } catch (fault) {
+    throw new NotALink(fault instanceof TextTooLong ? fault.message : DAMAGED);
   }
 }

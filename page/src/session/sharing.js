@@ -4,6 +4,8 @@ import { addressOf } from "./address.js";
 import { readBoard, refusalOf } from "../bench/answers.js";
 import { titleOf, wordsOfBoard } from "./described.js";
 import { element } from "../dom.js";
+import { shortName } from "./names.js";
+import { wordsOfLength } from "./project_file.js";
 import { LONGEST_LINK, SAFE_LINK, linkOf, readLink } from "./share_link.js";
 import { wordsOfLines } from "./texts_controller.js";
 
@@ -46,6 +48,11 @@ export class Sharing {
   async share() {
     const texts = this.calls.shown();
     if (!texts) return;
+    const tooLong = wordsOfLength(texts);
+    if (tooLong) {
+      this.notice.show(`No link was made: ${tooLong}. Shorten it first.`, "share");
+      return;
+    }
     const address = location.href.replace(/#.*$/, "") + addressOf("link", await linkOf(texts));
     const size = `${address.length.toLocaleString("en")} characters`;
     if (address.length > LONGEST_LINK) {
@@ -120,7 +127,7 @@ export class Sharing {
    * @param {import("../worker/trying.js").Tried} tried
    */
   wordsOf({ boardText, programText }, { board, refused }) {
-    const title = titleOf(boardText, programText);
+    const title = shortName(titleOf(boardText, programText));
     const told = refused.map(({ word, answer }) => {
       const refusal = refusalOf(answer);
       const why = refusal ? `${answer}: ${this.words.ofRefusal(refusal.number)}` : answer;

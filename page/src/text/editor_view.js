@@ -8,6 +8,7 @@ import { TextEditor } from "./text_editor.js";
 import { LONGEST_TEXT, sentText, sizeOf } from "./text_fault.js";
 
 /**
+ * @typedef {import("../machine/breakpoint_marks.js").BreakpointMark} BreakpointMark
  * @typedef {import("./completion.js").Completion} Completion
  * @typedef {import("./text_fault.js").Fault} Fault
  * @typedef {import("codemirror").Position} Position
@@ -182,9 +183,10 @@ export class EditorView {
     this.editor.reveal(line);
   }
 
-  /** @param {Set<number>} lines that have a breakpoint */
-  showBreakpoints(lines) {
-    this.marks.showAt("breakpoints", (line) => (lines.has(line) ? "●" : ""), () => "breakpoint");
+  /** @param {Map<number, BreakpointMark>} marks of the lines that have a breakpoint */
+  showBreakpoints(marks) {
+    const none = { mark: "", words: "" };
+    this.marks.showAt("breakpoints", (line) => (marks.get(line) || none).mark, (line) => (marks.get(line) || none).words);
   }
 
   /** @param {string[]} addresses of the lines, "" for a line that has none to show */

@@ -7,10 +7,10 @@ import { faultsOfBoard } from "./board_words.js";
 import { completeBoard, completeProgram } from "./completion.js";
 import { block, button, onClick } from "../dom.js";
 import { EditorView } from "./editor_view.js";
-import { faceFaults } from "../board/face.js";
+import { faceFaults, moreThan } from "../board/face.js";
 import { LiveFaults } from "./live_faults.js";
 import { instructionsOf } from "../help/manual.js";
-import { findProgramFaults, lacksOfRom } from "./program_faults.js";
+import { MOST_FAULTS, findProgramFaults, lacksOfRom } from "./program_faults.js";
 import { SourceMap } from "../machine/source_map.js";
 import { faultsOfLines } from "./text_fault.js";
 import { boardTables, helpForBoard, helpForProgram } from "./text_help.js";
@@ -172,7 +172,8 @@ export class Editors {
    */
   show(name, { faults, areAll }) {
     const told = name === "board" ? [...faults, ...this.faultsOfFace()] : faults;
-    this[name].showFaults(told, areAll || faults.length < 2 ? "" : "There may be more.");
+    const more = areAll || faults.length < 2 ? "" : "There may be more.";
+    this[name].showFaults(told.slice(0, MOST_FAULTS), moreThan(told, MOST_FAULTS) || more);
     this.calls.hasFaults(name, told.length);
   }
 
