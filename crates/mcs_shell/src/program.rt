@@ -15,7 +15,7 @@ use crate::ends::{ShellEnd, status};
 use crate::refusal::Refusal;
 use crate::shell::run_shell;
 use crate::telling::{
-    tell_end, tell_no_memory, tell_no_stand_in, tell_refusal, tell_streams, tell_unstable_name,
+    tell_end, tell_no_memory, tell_no_stand_in, tell_opening, tell_refusal, tell_streams,
     tell_usage,
 };
 use mcs_disk::Disk;
@@ -135,11 +135,7 @@ pub fn session_in(rt: &HostRuntime, choice: &Choice) -> Result<Session<FileDisk>
     let alloc = rt.alloc();
     let make = matches!(choice, Choice::New(_));
     let opened = FileDisk::open_at(rt, alloc, choice.file(), make);
-    if let Ok(disk) = &opened {
-        if !disk.is_name_stable() {
-            tell_unstable_name(rt, choice.file());
-        }
-    }
+    tell_opening(rt, choice.file(), &opened);
     session_on(alloc, choice, opened)
 }
 
@@ -252,8 +248,28 @@ pub fn run_arguments<S: AsStr, R: Read, W: Write>(
     serve_begun(rt, reader, writer, &choice, begun)
 }
 
-/// Runs the bench by the arguments of the command line, over standard input and standard output. It
-/// hands the session back, so that nothing was done to it since its shell ended.
+/// Runs the bench by the arguments of the command line, over standard input and standard output.
+fn run_given_arguments(rt: &HostRuntime) -> Ended<FileDisk>
+    ensures served { IfSome result.session (λ after.
+        ServedBySomeArguments as_disk result.status after) }
+    ensures unserved { IfNone result.session (IfOk result.status (λ code.
+        (exit_status code ≡ 2) ⊎ (exit_status code ≡ 3))) }
+{
+    match given_arguments(rt) {
+        Ok(arguments) => {
+            let (input, output) = (&mut rt.stdin(), &mut rt.stdout());
+            run_arguments(rt, arguments.as_slice(), input, output)
+        }
+        Err(fault) => Ended {
+            status: refuse_arguments(rt, fault),
+            session: None,
+        },
+    }
+}
+
+/// Runs the bench by the arguments of the command line, over standard input and standard output,
+/// where each of the standard streams can be had and none goes into a session file. It hands the
+/// session back, so that nothing was done to it since its shell ended.
 pub fn run_program(rt: &HostRuntime) -> Ended<FileDisk>
     ensures served { IfSome result.session (λ after.
         ServedBySomeArguments as_disk result.status after) }
@@ -278,14 +294,5 @@ pub fn run_program(rt: &HostRuntime) -> Ended<FileDisk>
             session: None,
         };
     }
-    match given_arguments(rt) {
-        Ok(arguments) => {
-            let (input, output) = (&mut rt.stdin(), &mut rt.stdout());
-            run_arguments(rt, arguments.as_slice(), input, output)
-        }
-        Err(fault) => Ended {
-            status: refuse_arguments(rt, fault),
-            session: None,
-        },
-    }
+    run_given_arguments(rt)
 }

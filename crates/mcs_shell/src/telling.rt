@@ -3,7 +3,7 @@
 //! status are those without it.
 use crate::ends::ShellEnd;
 use crate::refusal::Refusal;
-use mcs_host::{Choice, FileFault, Streams};
+use mcs_host::{Choice, FileDisk, FileFault, Streams};
 use mcs_journal::{CreateFault, OpenFault};
 use std::io;
 
@@ -31,11 +31,15 @@ pub fn tell_no_stand_in(rt: &HostRuntime) {
     );
 }
 
-/// A line on a file whose name may not stay.
-pub fn tell_unstable_name(rt: &HostRuntime, file: &str) {
-    let _ = eprintln!(rt;
-        "mcs4: {file}: its folder cannot be synced; a power cut may undo a name that it was only just given"
-    );
+/// A line on a file that was opened and whose name may not stay; nothing on any other.
+pub fn tell_opening(rt: &HostRuntime, file: &str, opened: &Result<FileDisk, FileFault>) {
+    if let Ok(disk) = opened {
+        if !disk.is_name_stable() {
+            let _ = eprintln!(rt;
+                "mcs4: {file}: its folder cannot be synced; a power cut may undo a name that it was only just given"
+            );
+        }
+    }
 }
 
 /// A line on a refused session: what is wrong with its file, and what to do; nothing where standard
