@@ -3,6 +3,7 @@ ghost use Rattle.std.specs.Prelude.{◌≡◌, ◌↔◌, ◌<◌, ◌≤◌, �
 ghost use Rattle.mcs_disk.specs.Disk.{most_faults, part, IsCall, Reads, Torn, Writes};
 ghost use Rattle.mcs_disk.specs.Moments.{WritesNothing};
 ghost use Rattle.mcs_disk.specs.Calls.{bytes_after};
+ghost use Rattle.mcs_host.specs.FileDisk.{IsApart};
 
 use crate::ending::Ending;
 use crate::file_fault::FileFault;
@@ -30,7 +31,9 @@ pub struct FileDisk {
     faults: u64,
     history: CallRecord,
     end: Ending,
+    is_name_stable: bool,
     ghost kept: { bytes.items ≡ bytes_after history.start history.calls },
+    ghost apart: { IsApart file },
 }
 
 impl FileDisk {
@@ -39,10 +42,11 @@ impl FileDisk {
 
     /// Opens a file for reading and writing. Where `make` is true, the file is made where it is not
     /// there, and filled with [`FILE_SIZE`] zero bytes where it is empty. What it holds is on the
-    /// device by then.
+    /// device by then, and so is its name (but see `is_name_stable`).
     ///
-    /// `Device` comes where the host refuses the file, and `NoMemory` where there is no memory for
-    /// its bytes.
+    /// `NoMemory` comes where there is no memory for its bytes, or for the name that a link leads
+    /// to; `Stream` where standard streams are the file, and nothing was asked of it then; the other
+    /// faults where the host refuses it.
     pub fn open_at<R: Files<File = File>>(
         rt: &R,
         alloc: Global,
@@ -55,7 +59,7 @@ impl FileDisk {
     {
         // First, so that where there is no memory the host is asked for nothing.
         let mut bytes = zeros(alloc, MOST_BYTES)?;
-        let opened = open_and_read(rt, alloc, file, make, &mut bytes)?;
+        let (opened, is_name_stable) = open_and_read(rt, alloc, file, make, &mut bytes)?;
         let history = CallRecord::new(&bytes);
         let end = Ending::new(&bytes);
         Ok(FileDisk {
@@ -64,7 +68,16 @@ impl FileDisk {
             faults: 0,
             history,
             end,
+            is_name_stable,
         })
+    }
+
+    /// The file's name stays after a power cut too: its folder was synced. That is not so where the
+    /// folder of a file that was there may not be read, or the host syncs no folder.
+    pub fn is_name_stable(&self) -> bool
+        ensures { result ≡ self.now.is_name_stable }
+    {
+        self.is_name_stable
     }
 
     // The file holds these bytes from `at` on, as far as what was written to it tells.

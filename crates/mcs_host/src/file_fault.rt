@@ -2,6 +2,7 @@
 ghost use Rattle.std.specs.Prelude.{◌≡◌, ◌≢◌};
 ghost use Rattle.mcs_host.specs.declared.file_fault.FileFault.TheVariants.{NoLock, NoMemory};
 
+use crate::streams::Streams;
 use std::alloc::AllocError;
 use std::fs::TryLockError;
 use std::io::{self, ErrorKind};
@@ -32,6 +33,9 @@ pub enum FileFault {
     /// There is no space for it on the device.
     #[error("no space for it on the device; make room and try again")]
     NoSpace,
+    /// These standard streams of the program are this very file.
+    #[error("a standard stream of the program is this very file")]
+    Stream(Streams),
     /// The host refused it for another reason.
     #[error("the host refused it, or its device failed; try again")]
     Device,

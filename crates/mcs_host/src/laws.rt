@@ -3,7 +3,7 @@
 ghost use Rattle.std.specs.Prelude.{◌≡◌, ◌↔◌, ℕ, List};
 ghost use Rattle.mcs_disk.specs.PowerCut.{IsLeftByCut};
 ghost use Rattle.mcs_host.specs.Ending.{IsFoundAfterTheEnd, IsFoundWith, IsLeftSince, as_disk, found_in};
-ghost use Rattle.mcs_host.specs.FileDisk.{IsOpened};
+ghost use Rattle.mcs_host.specs.FileDisk.{IsApart, IsOpened};
 
 use crate::FileDisk;
 
@@ -36,4 +36,10 @@ pub fn honest_where_an_image_is_found()
 pub fn each_image_may_be_found()
     ensures { (file : FileDisk) (c : List ℕ) → (as_disk file).images c
         → (like : FileDisk) × (as_disk like).honest × IsFoundWith c file like }
+{}
+
+/// No file has the number of a standard stream, at any time: what the program writes to one of these
+/// goes to no file of a session.
+pub fn each_file_is_apart()
+    ensures { (file : FileDisk) → IsApart file.file }
 {}

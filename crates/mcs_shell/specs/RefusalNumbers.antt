@@ -2,6 +2,8 @@
 use Rattle.std.specs.Prelude.{ℕ}
 use Rattle.mcs_host.specs.declared.file_fault.FileFault.{FileFault}
 use Rattle.mcs_host.specs.declared.file_fault.FileFault.TheVariants as file_fault
+use Rattle.mcs_host.specs.Streams.{none_of_them}
+use Rattle.mcs_host.specs.declared.streams.Streams.{Streams}
 use Rattle.mcs_journal.specs.declared.fault.CreateFault.{CreateFault}
 use Rattle.mcs_journal.specs.declared.fault.CreateFault.TheVariants as create_fault
 use Rattle.mcs_journal.specs.declared.fault.OpenFault.{OpenFault}
@@ -50,6 +52,7 @@ file_fault_number file_fault.Denied = DEVICE
 file_fault_number file_fault.Folder = DEVICE
 file_fault_number file_fault.NotAFile = DEVICE
 file_fault_number file_fault.NoSpace = DEVICE
+file_fault_number (file_fault.Stream streams) = DEVICE
 file_fault_number file_fault.Device = DEVICE
 file_fault_number file_fault.NoMemory = NO_MEMORY
 
@@ -58,3 +61,8 @@ abbrev pub refusal_number : Refusal → ℕ
 refusal_number (refusal.File f) = file_fault_number f
 refusal_number (refusal.Create f) = create_fault_number f
 refusal_number (refusal.Open f) = open_fault_number f
+
+-- the standard streams that are the file of a refused session
+abbrev pub streams_of : Refusal → Streams
+streams_of (refusal.File (file_fault.Stream streams)) = streams
+streams_of refusal = none_of_them

@@ -14,9 +14,14 @@ ghost use Rattle.mcs_shell.specs.ShellState.{shell_state};
 use crate::ends::{ShellEnd, status};
 use crate::refusal::Refusal;
 use crate::shell::run_shell;
-use crate::telling::{tell_end, tell_no_memory, tell_refusal, tell_usage};
+use crate::telling::{
+    tell_end, tell_no_memory, tell_no_stand_in, tell_opening, tell_refusal, tell_streams,
+    tell_usage,
+};
 use mcs_disk::Disk;
-use mcs_host::{ArgumentsFault, Choice, FileDisk, FileFault, choice};
+use mcs_host::{
+    ArgumentsFault, Choice, FileDisk, FileFault, StandIns, Streams, choice, streams_into_sessions,
+};
 use mcs_model::refusal_numbers;
 use mcs_session::session::Session;
 use std::alloc::Global;
@@ -47,6 +52,26 @@ pub fn refuse(rt: &HostRuntime, number: u8) -> io::Result<ExitCode>
 {
     println!(rt; "no {number}")?;
     Ok(ExitCode::from(REFUSED))
+}
+
+/// Tells why there is no session, on standard output if that may be written.
+fn refuse_beside(rt: &HostRuntime, number: u8, unusable: Streams) -> io::Result<ExitCode>
+    ensures { IfOk result (λ code. exit_status code ≡ 3) }
+{
+    if unusable.output {
+        Ok(ExitCode::from(REFUSED))
+    } else {
+        refuse(rt, number)
+    }
+}
+
+/// Refuses all arguments where standard streams go into session files: these get nothing.
+pub fn refuse_streams(rt: &HostRuntime, into_sessions: Streams) -> io::Result<ExitCode>
+    ensures { IfOk result (λ code. exit_status code ≡ 3) }
+{
+    let refused = refuse_beside(rt, refusal_numbers::DEVICE, into_sessions);
+    tell_streams(rt, into_sessions);
+    refused
 }
 
 /// Tells that the arguments choose nothing, or that there was no memory to read them.
@@ -110,6 +135,7 @@ pub fn session_in(rt: &HostRuntime, choice: &Choice) -> Result<Session<FileDisk>
     let alloc = rt.alloc();
     let make = matches!(choice, Choice::New(_));
     let opened = FileDisk::open_at(rt, alloc, choice.file(), make);
+    tell_opening(rt, choice.file(), &opened);
     session_on(alloc, choice, opened)
 }
 
@@ -145,7 +171,7 @@ pub fn serve<R: Read, W: Write, D: Disk + Drop>(
 #[derive(Drop)]
 pub struct Ended<D: Disk + Drop> {
     /// The exit status. An `Err` comes where it could not be told what to do, or why there is no
-    /// session.
+    /// session, and where a standard stream is closed and nothing can take its place.
     pub status: io::Result<ExitCode>,
     /// The session that was served, as its shell left it.
     pub session: Option<Session<D>>,
@@ -176,7 +202,7 @@ pub fn serve_begun<R: Read, W: Write, D: Disk + Drop>(
             }
         }
         Err(refusal) => {
-            let status = refuse(rt, refusal.number());
+            let status = refuse_beside(rt, refusal.number(), refusal.streams());
             tell_refusal(rt, choice, refusal);
             Ended {
                 status,
@@ -222,9 +248,8 @@ pub fn run_arguments<S: AsStr, R: Read, W: Write>(
     serve_begun(rt, reader, writer, &choice, begun)
 }
 
-/// Runs the bench by the arguments of the command line, over standard input and standard output. It
-/// hands the session back, so that nothing was done to it since its shell ended.
-pub fn run_program(rt: &HostRuntime) -> Ended<FileDisk>
+/// Runs the bench by the arguments of the command line, over standard input and standard output.
+fn run_given_arguments(rt: &HostRuntime) -> Ended<FileDisk>
     ensures served { IfSome result.session (λ after.
         ServedBySomeArguments as_disk result.status after) }
     ensures unserved { IfNone result.session (IfOk result.status (λ code.
@@ -240,4 +265,34 @@ pub fn run_program(rt: &HostRuntime) -> Ended<FileDisk>
             session: None,
         },
     }
+}
+
+/// Runs the bench by the arguments of the command line, over standard input and standard output,
+/// where each of the standard streams can be had and none goes into a session file. It hands the
+/// session back, so that nothing was done to it since its shell ended.
+pub fn run_program(rt: &HostRuntime) -> Ended<FileDisk>
+    ensures served { IfSome result.session (λ after.
+        ServedBySomeArguments as_disk result.status after) }
+    ensures unserved { IfNone result.session (IfOk result.status (λ code.
+        (exit_status code ≡ 2) ⊎ (exit_status code ≡ 3))) }
+{
+    // They stay to the end of all that is read, written and opened here.
+    let _stand_ins = match StandIns::open(rt) {
+        Ok(stand_ins) => stand_ins,
+        Err(error) => {
+            tell_no_stand_in(rt);
+            return Ended {
+                status: Err(error),
+                session: None,
+            };
+        }
+    };
+    let into_sessions = streams_into_sessions(rt);
+    if into_sessions.any() {
+        return Ended {
+            status: refuse_streams(rt, into_sessions),
+            session: None,
+        };
+    }
+    run_given_arguments(rt)
 }

@@ -1,9 +1,9 @@
 //! Why there is no session.
 ghost use Rattle.std.specs.Prelude.{◌≡◌};
-ghost use Rattle.mcs_shell.specs.RefusalNumbers.{refusal_number};
+ghost use Rattle.mcs_shell.specs.RefusalNumbers.{refusal_number, streams_of};
 
 use crate::faults::{create_number, file_number, open_number};
-use mcs_host::FileFault;
+use mcs_host::{FileFault, Streams};
 use mcs_journal::{CreateFault, OpenFault};
 
 /// Why there is no session.
@@ -26,6 +26,16 @@ impl Refusal {
             Refusal::File(fault) => file_number(fault),
             Refusal::Create(fault) => create_number(fault),
             Refusal::Open(fault) => open_number(fault),
+        }
+    }
+
+    /// The standard streams that are its file.
+    pub fn streams(self) -> Streams
+        ensures { result ≡ streams_of self }
+    {
+        match self {
+            Refusal::File(FileFault::Stream(streams)) => streams,
+            _ => Streams::none(),
         }
     }
 }

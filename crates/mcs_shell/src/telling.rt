@@ -3,7 +3,7 @@
 //! status are those without it.
 use crate::ends::ShellEnd;
 use crate::refusal::Refusal;
-use mcs_host::{Choice, FileFault};
+use mcs_host::{Choice, FileDisk, FileFault, Streams};
 use mcs_journal::{CreateFault, OpenFault};
 use std::io;
 
@@ -17,8 +17,37 @@ pub fn tell_usage(rt: &HostRuntime) -> io::Result<()> {
     )
 }
 
-/// A line on a refused session: what is wrong with its file, and what to do.
+/// A line on standard streams that go into session files; nothing where standard error is one.
+pub fn tell_streams(rt: &HostRuntime, into_sessions: Streams) {
+    if !into_sessions.errors {
+        let _ = eprintln!(rt; "mcs4: standard output goes into a session file; send it elsewhere");
+    }
+}
+
+/// A line on a closed standard stream that nothing can take the place of.
+pub fn tell_no_stand_in(rt: &HostRuntime) {
+    let _ = eprintln!(rt;
+        "mcs4: standard input, output or error is closed, and /dev/null cannot be opened in its place"
+    );
+}
+
+/// A line on a file that was opened and whose name may not stay; nothing on any other.
+pub fn tell_opening(rt: &HostRuntime, file: &str, opened: &Result<FileDisk, FileFault>) {
+    if let Ok(disk) = opened {
+        if !disk.is_name_stable() {
+            let _ = eprintln!(rt;
+                "mcs4: {file}: its folder cannot be synced; a power cut may undo a name that it was only just given"
+            );
+        }
+    }
+}
+
+/// A line on a refused session: what is wrong with its file, and what to do; nothing where standard
+/// error is that file.
 pub fn tell_refusal(rt: &HostRuntime, choice: &Choice, refusal: Refusal) {
+    if refusal.streams().errors {
+        return;
+    }
     let file = choice.file();
     // Where standard error takes nothing, the number that standard output got has to do.
     let _ = match (choice, refusal) {
@@ -60,6 +89,9 @@ fn reason_of(refusal: Refusal) -> &'static str {
         Refusal::File(FileFault::Denied) => "no permission to read and write it",
         Refusal::File(FileFault::Folder) => "it is a folder; name a file in it",
         Refusal::File(FileFault::NotAFile) => "it is no regular file; name another",
+        Refusal::File(FileFault::Stream(_)) => {
+            "standard input or output is this very file; send that elsewhere"
+        }
         Refusal::File(FileFault::NoSpace) => {
             "no space for it on the device; make room and try again"
         }

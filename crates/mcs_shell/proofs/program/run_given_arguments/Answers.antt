@@ -1,5 +1,5 @@
 use Rattle.std.proofs.Common.{Option, None, Some, IfSome}
-use Rattle.mcs_shell.proofs.program.run_program.Goals as goal
+use Rattle.mcs_shell.proofs.program.run_given_arguments.Goals as goal
 
 if_some : {A : Type 0} (o : Option A) (P Q : A → Type 0) → ((a : A) → P a → Q a) → IfSome o P → IfSome o Q
 if_some (Some a) P Q f h = f a h
