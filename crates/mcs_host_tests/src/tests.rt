@@ -2,7 +2,9 @@
 use crate::checks::equal;
 use crate::files::{remove, write};
 use mcs_disk::{Disk, DiskFault};
-use mcs_host::{ArgumentsFault, Choice, FileDisk, FileFault, choice};
+use mcs_host::{
+    ArgumentsFault, Choice, FileDisk, FileFault, StandIns, Streams, choice, streams_into_sessions,
+};
 use std::alloc::Global;
 use std::fs::OpenOptions;
 use std::os::unix::fs::FileExt;
@@ -59,10 +61,12 @@ fn write_unlocked(rt: &HostRuntime, path: &str) -> bool {
     }
 }
 
-/// The disk of a new file is blank, and has these bytes at 2 then.
+/// The disk of a new file is blank, and has these bytes at 2 and at its end then.
 fn expect_blank(rt: &impl Abort, mut disk: FileDisk) {
+    equal(rt, disk.is_name_stable(), true);
     expect_bytes(rt, &mut disk, 163_852, &[0, 0, 0, 0]);
     keep(rt, &mut disk, 2, &[7, 8]);
+    keep(rt, &mut disk, 163_854, &[5, 6]);
 }
 
 #[test]
@@ -72,7 +76,9 @@ fn a_new_file_is_blank_and_keeps_what_is_written(rt: HostRuntime) {
     equal(&rt, fault_at(&rt, path, false), Some(FileFault::NotThere));
     expect_blank(&rt, of_size(&rt, disk_at(&rt, path, true), 163_856));
     let mut again = of_size(&rt, disk_at(&rt, path, true), 163_856);
+    equal(&rt, again.is_name_stable(), true);
     expect_bytes(&rt, &mut again, 0, &[0, 0, 7, 8]);
+    expect_bytes(&rt, &mut again, 163_852, &[0, 0, 5, 6]);
     // another program writes here without a lock, so what is read is not what was written
     equal(&rt, write_unlocked(&rt, path), true);
     equal(&rt, read(&rt, &mut again, 0, &mut [0u8; 4]), Err(DiskFault));
@@ -90,6 +96,12 @@ fn a_file_is_in_use_by_one_disk(rt: HostRuntime) {
     drop(disk);
     drop(of_size(&rt, disk_at(&rt, path, false), 163_856));
     equal(&rt, remove(&rt, path), true);
+}
+
+#[test]
+fn standard_streams_are_there(rt: HostRuntime) {
+    equal(&rt, StandIns::open(&rt).is_ok(), true);
+    equal(&rt, streams_into_sessions(&rt), Streams::none());
 }
 
 /// Names of what is no file, with the reason why each is refused.
