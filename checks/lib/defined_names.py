@@ -1,0 +1,62 @@
+"""What the crates define: the names that checks/documents looks for where a document says that something is a definition, a function or
+a module. A name that merely stands somewhere is not enough: of a definition that was renamed, comments and other languages may keep it.
+"""
+
+import functools
+import pathlib
+import re
+
+CRATES = pathlib.Path(__file__).resolve().parent.parent.parent / "crates"
+# How a source defines a name: an item, a clause, a field, a variant, a trait that a type gets.
+IN_SOURCES = (r"\b(?:fn|struct|enum|trait|const|static|mod|type|macro_rules!|ensures|invariant)\s+(\w+)", r"^\s+(?:pub(?:\(\w+\))? |ghost )?(\w+):",
+              r"^\s+([A-Z]\w*)", r"\bimpl\b[^{;]*?(\w+)(?:<[^<>]*>)?\s+for\s")
+# How a module of definitions does: at the head of a line, or as a field or a constructor below it.
+IN_SPECS = (r"^(?:(?:abbrev|unfoldable|pub|record|data|mod) )*([A-Za-z_]\w*)", r"^  (?:pub )?([A-Za-z_]\w*)(?: \w+)* :")
+# What a name of several words, or of a definition, looks like; an example of a text (`romC.K`) does not.
+NAME = r"\b(?:[a-z]\w*_\w+|[A-Z][a-z]\w+)\b"
+
+
+@functools.cache
+def files_of(crate):
+    """The files of a crate's sources and definitions."""
+    return [path for folder, suffix in (("src", "rt"), ("specs", "antt")) for path in sorted((CRATES / crate / folder).rglob(f"*.{suffix}"))]
+
+
+@functools.cache
+def names_of_file(path):
+    """The names that a file defines."""
+    text = path.read_text()
+    return {name for form in (IN_SOURCES if path.suffix == ".rt" else IN_SPECS) for name in re.findall(form, text, re.M)}
+
+
+def defined_in(crate, module=None):
+    """The names that a crate defines, its modules among them, or that one of its modules does."""
+    files = [path for path in files_of(crate) if module in (None, path.stem)]
+    own = {path.stem for path in files} if module is None else set()
+    return own.union(*(names_of_file(path) for path in files))
+
+
+def functions_of(crate, module=None):
+    """The functions of a crate, or of one of its modules."""
+    files = [path for path in files_of(crate) if path.suffix == ".rt" and module in (None, path.stem)]
+    return {name for path in files for name in re.findall(r"\bfn (\w+)", path.read_text())}
+
+
+def is_comment(line):
+    """Whether a line of a crate's file is a comment."""
+    return line.lstrip().startswith(("--", "//"))
+
+
+@functools.cache
+def crate_files():
+    """The sources, definitions and proofs of all crates."""
+    return [path for folder in ("src", "specs", "proofs") for path in sorted(CRATES.glob(f"*/{folder}/**/*")) if path.suffix in (".rt", ".antt")]
+
+
+def unknown_in_comments():
+    """Names in backticks in comments of the crates that stand nowhere outside of comments: the file, the line and the name."""
+    known = {word for path in crate_files() for line in path.read_text().splitlines() if not is_comment(line) for word in re.findall(r"\w+", line)}
+    for path in crate_files():
+        for number, line in enumerate(path.read_text().splitlines(), 1):
+            codes = re.findall(r"`([^`]+)`", line) if is_comment(line) else []
+            yield from ((path, number, name) for code in codes for name in re.findall(NAME, code) if name not in known)
