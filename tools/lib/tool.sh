@@ -67,11 +67,20 @@ need_file() {
 # A pipe or a device is written as it is.
 need_own_file() {
     if [ -d "$1" ]; then fail "$1 is a folder, not a file"; fi
-    if [ ! -d "$(dirname -- "$1")" ]; then fail "cannot write $1: its folder is not there"; fi
+    if [ ! -d "$(dirname -- "$1")" ] || [ ! -w "$(dirname -- "$1")" ]; then fail "cannot write $1: its folder is not there, or cannot be written"; fi
     if [ ! -f "$1" ] || [ ! -s "$1" ]; then return; fi
     if [ "$(head -c "${#2}" < "$1" | tr -d '\000')" != "$2" ]; then
         fail "$1 is there, and $3; name another file, or move it away"
     fi
+}
+
+# A file that a tool will write is none of those that it reads.
+need_no_input() {
+    output=$1
+    shift
+    for input in "$@"; do
+        if [ "$output" -ef "$input" ]; then fail "$output is read here, so it is not written; name another file"; fi
+    done
 }
 
 # Copies a file to a new one beside another, which has the number of this process behind its name.
