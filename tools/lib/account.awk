@@ -1,4 +1,4 @@
-# What tests and runs are counted for; tools/profile has its own of these.
+# Runs of tests of which nothing is counted; tools/cover and tools/profile have their own of these.
 
 function begin_account() {
 }
@@ -6,7 +6,8 @@ function begin_account() {
 function end_account() {
 }
 
-function profile_instruction(at, byte, turns, begun) {
+function run_counted(n) {
+    run(n)
 }
 
 function key_went_down(name) {

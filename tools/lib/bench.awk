@@ -157,10 +157,6 @@ function command(line) {
     done_cycles[done_count] = 0
 }
 
-function step() {
-    take_run(ask("step"))
-}
-
 # Runs for so many cycles, or up to an earlier stop.
 function run(n,    k) {
     stop = "end"
@@ -169,4 +165,16 @@ function run(n,    k) {
         take_run(ask("run " k))
         n -= took
     }
+}
+
+# Takes all breakpoints and watches out of a copy of a session.
+function clear_stops(    words, n, i, place) {
+    n = split(ask("breaks"), words)
+    for (i = 2; i <= n; i++) if (words[i] != "-") take_out("unbreak 0x" words[i])
+    n = split(ask("watches"), words)
+    for (i = 2; i <= n; i++) if (split(words[i], place, ".") == 2) take_out("unwatch " place[1] " 0x" place[2])
+}
+
+function take_out(line) {
+    if (ask(line) !~ /^ok /) die("the bench answered " reply " to: " line)
 }

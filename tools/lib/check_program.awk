@@ -8,7 +8,7 @@ function take_program(byte_at,    file, line, at, words) {
     while ((getline line < file) > 0) {
         split(line, words)
         at = hex_number(words[1])
-        if ((at in line_of) && byte_at[at] != words[2]) {
+        if ((at in line_of) && byte_at[at] "" != words[2] "") {
             die(sprintf("the session has another program than %s: at %s stands %s, and line %d makes %s", ENVIRON["program_name"], words[1], byte_at[at], line_of[at] + ENVIRON["program_before"], words[2]))
             break
         }

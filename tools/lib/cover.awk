@@ -1,5 +1,37 @@
-# What of a program was run. Needs names.awk, blocks.awk, and what has filled runs[], taken[] and not_taken[]. The environment has
-# `program_name`, `program_before` (the lines of the file before the text), and `lcov`, a file for LCOV's format, if it is wanted.
+# What of a program was run. Needs names.awk, code.awk, ahead.awk and counting.awk. The environment has `program_name` and
+# `program_before` (the lines of the file before the text).
+#
+# runs[at] is how often the instruction at an address was begun; of a conditional jump taken[at], how often it jumped.
+
+function begin_account() {
+}
+
+function end_account() {
+}
+
+function key_went_down(name) {
+}
+
+# Each run is counted before it is done.
+function run_counted(n,    k) {
+    stop = "end"
+    while (n > 0 && stop == "end") {
+        k = n < 100000 ? n : 100000
+        send("count " k "\nrun " k)
+        count_instructions()
+        take_run(receive())
+        n -= took
+    }
+}
+
+# Reads the answer to `count`. (In one loop, since this is most of the work.)
+function count_instructions(    words, lines) {
+    for (lines = take_head("count"); lines > 0; lines--) {
+        receive_row()
+        if (split(reply, words) > 2) taken[address_of[words[1]]] += words[3]
+        runs[address_of[words[1]]] += words[2]
+    }
+}
 
 # One line of the report for each line of the source: how often it was run; of a conditional jump, how often it was taken and not taken.
 function report(    i, n, count, text, ways, lines, never, first, last) {
@@ -15,9 +47,9 @@ function report(    i, n, count, text, ways, lines, never, first, last) {
             count = runs[map_at[i]] + 0
             ways = ""
             if (is_jump(i)) {
-                ways = (taken[map_at[i]] + 0) "/" (not_taken[map_at[i]] + 0)
+                ways = (taken[map_at[i]] + 0) "/" (count - taken[map_at[i]])
                 branches += 2
-                branches_run += (taken[map_at[i]] > 0) + (not_taken[map_at[i]] > 0)
+                branches_run += (taken[map_at[i]] > 0) + (count > taken[map_at[i]] + 0)
             }
             instructions++
             if (count > 0) instructions_run++
@@ -76,7 +108,7 @@ function only_one_way(    i, at, text) {
         if (!is_code(i) || !is_jump(i) || !(runs[map_at[i]] > 0)) continue
         at = map_at[i]
         if (taken[at] + 0 == 0) text = text (text == "" ? "" : ", ") line_number(i) " (never taken)"
-        else if (not_taken[at] + 0 == 0) text = text (text == "" ? "" : ", ") line_number(i) " (always taken)"
+        else if (taken[at] == runs[at]) text = text (text == "" ? "" : ", ") line_number(i) " (always taken)"
     }
     if (text != "") print "one way alone: line" (text ~ /,/ ? "s" : "") " " text
 }
@@ -86,7 +118,7 @@ function write_lcov(file, name,    i, j, at, byte, target, functions, functions_
     print "TN:\nSF:" name > file
     for (i = 1; i <= map_count; i++) {
         byte = code[map_at[i]]
-        if (is_code(i) && byte >= 80 && byte < 96) called[target_of(map_at[i], byte)] = 1
+        if (is_code(i) && is_call(byte)) called[target_of(map_at[i], byte)] = 1
     }
     functions = functions_run = 0
     for (j = 1; j <= label_count; j++) {
@@ -106,7 +138,7 @@ function write_lcov(file, name,    i, j, at, byte, target, functions, functions_
         if (!is_code(i) || !is_jump(i)) continue
         at = map_at[i]
         print "BRDA:" line_number(i) ",0,0," (runs[at] > 0 ? taken[at] + 0 : "-") > file
-        print "BRDA:" line_number(i) ",0,1," (runs[at] > 0 ? not_taken[at] + 0 : "-") > file
+        print "BRDA:" line_number(i) ",0,1," (runs[at] > 0 ? runs[at] - taken[at] : "-") > file
     }
     print "BRF:" branches "\nBRH:" branches_run > file
     for (i = 1; i <= map_count; i++) if (is_code(i)) print "DA:" line_number(i) "," runs[map_at[i]] + 0 > file

@@ -54,7 +54,7 @@ function tell_place(i,    words, word, at) {
 }
 
 # The status of a refusal stands in the first line of what is told; the lines at fault follow, `from` to `to` of the script.
-function tell(i, line,    words, count, from, to, where, n, at) {
+function tell(i, line,    words, count, from, to, where, n, at, meaning) {
     count = split(line, words)
     from = to = input_line[i]
     where = ""
@@ -74,12 +74,14 @@ function tell(i, line,    words, count, from, to, where, n, at) {
             where = part_from == part_to ? "line " part_from + before : "lines " part_from + before " to " part_to + before
         }
     }
+    meaning = refusal_words(words[2])
+    if (words[2] == 14) meaning = meaning foreign_character(script_line[from])
     if (name != "") {
-        print name ": " (where == "" ? "" : where ": ") "no " words[2] ": " refusal_words(words[2])
+        print name ": " (where == "" ? "" : where ": ") "no " words[2] ": " meaning
     } else if (where != "") {
-        print "line " input_line[i] ": no " words[2] ", " where " of the text: " refusal_words(words[2])
+        print "line " input_line[i] ": no " words[2] ", " where " of the text: " meaning
     } else {
-        print "line " input_line[i] ": no " words[2] ": " refusal_words(words[2])
+        print "line " input_line[i] ": no " words[2] ": " meaning
     }
     if (name == "" || where != "") {
         for (n = from; n <= to; n++) print "    " substr(script_line[n], 1, 120)
@@ -93,6 +95,15 @@ function line_that_fits(i, bytes,    n) {
         if (bytes ? script_line[n] ~ /[^\t -~]/ : length(script_line[n]) > 255) return n - text_from[i] + 1
     }
     return 0
+}
+
+# The character for which a line is refused; one beyond ASCII is several bytes of UTF-8.
+function foreign_character(line,    at, code) {
+    if (!(at = match(line, /[^\t -~]/))) return ""
+    line = substr(line, at)
+    if (match(line, /^[\300-\367][\200-\277]+/)) return ": `" substr(line, 1, RLENGTH) "`" (name == "" ? "" : ", which may stand in comments alone")
+    for (code = 255; code > 0 && sprintf("%c", code) != substr(line, 1, 1); code--) continue
+    return sprintf(": the byte %02X", code)
 }
 
 # The first line of a program whose bytes are in a ROM that the board lacks, as the bench maps it on that board; 0 where the board is not

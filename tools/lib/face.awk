@@ -107,7 +107,7 @@ function is_port_name(word) {
 
 # Whether a name is that of a key, or of what is at TEST.
 function has_key(name) {
-    return (name in key_row) || (pin_kind != "" && name == pin_name)
+    return (name in key_row) || (pin_kind != "" && name "" == pin_name "")
 }
 
 # The line that presses it (`press`), or lets it go (`release`).

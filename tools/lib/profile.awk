@@ -1,19 +1,12 @@
-# Where the cycles go. Needs names.awk, bench.awk and blocks.awk, which calls profile_instruction(), and takes the place of account.awk.
+# Where the cycles go. Needs names.awk, bench.awk, code.awk, ahead.awk and counting.awk.
 #
-# own[label] are the cycles from a label up to the next one; calls[label] how often a JMS went there, and with_calls[label] the cycles
+# own[label] are the cycles from a label up to the next one; calls[at] how often a JMS went to an address, and with_calls[at] the cycles
 # from there up to the BBL that came back, with all that was called. Of each key: how long it took from the press to the first lamp that
 # changed, and to the last one before the next key.
 
-BEGIN {
-    profiling = 1
-    watching_lamps = cut_ports = 1
-}
-
 function begin_account() {
     depth = 0
-    waiting = ""
-    know("state")
-    lamps_before = now["lamps"]
+    waiting = owing = ""
 }
 
 function end_account() {
@@ -22,19 +15,93 @@ function end_account() {
     total += elapsed
 }
 
-function profile_instruction(at, byte, turns, begun,    label, cycles, target) {
-    label = label_below(at)
-    cycles = cycles_of(byte) * turns
-    own[label] += cycles
-    counted_cycles += cycles
-    if (byte >= 80 && byte < 96) {
-        target = target_of(at, byte)
-        if (depth == 3) forget_oldest(begun)
-        routine[++depth] = target
-        entered[depth] = begun + cycles
-        calls[target]++
-    } else if (byte >= 192 && byte < 208 && depth > 0) leave_routine(begun + cycles)
-    else if ((byte == 225 || byte == 226) && waiting != "") look_for_lamps()
+# Each run is asked for before it is done.
+function run_counted(n,    end, k) {
+    end = elapsed + n
+    stop = "end"
+    while (elapsed < end && stop == "end") {
+        k = end - elapsed < 100000 ? end - elapsed : 100000
+        ask_run(k)
+        if (owes) run_inside(k)
+        else run(k)
+    }
+}
+
+function ask_run(n,    lines, links, are_told) {
+    send("regs\ncount " n "\ntrace " n " ret" (waiting == "" ? "" : "\ntrace " n " lamps"))
+    take_registers(receive())
+    take_count()
+    links = count_own()
+    lines = take_head("trace")
+    # A JMS or a BBL after which the return addresses are those of before is no line.
+    are_told = lines == links
+    follow_links(are_told ? lines : 0)
+    if (!are_told) while (lines-- > 0) receive_row()
+    if (waiting != "") follow_lamps(take_head("trace"))
+    if (are_told) return
+    send("trace " n)
+    follow_links(take_head("trace"))
+}
+
+# The cycles of each instruction, at its label; returns how often a JMS or a BBL is done. A cycle that is owed at the beginning is one of
+# the instruction before; `owes` is 1 where the last instruction owes one in the end.
+function count_own(    i, at, byte, cycles, sum, links) {
+    sum = links = 0
+    if (now["owed"] == "1") put_own(owing, 1)
+    for (i = 1; i <= begun_count; i++) {
+        at = address_of[begun_at[i]]
+        byte = code[at]
+        cycles = cycles_of(byte) * begun_times[i]
+        sum += cycles
+        put_own(at, cycles)
+        if (is_call(byte)) calls[target_of(at, byte)] += begun_times[i]
+        if (is_call(byte) || is_return(byte)) links += begun_times[i]
+    }
+    owes = sum - (ahead_ran - now["owed"])
+    return links
+}
+
+# Where a session begins within an instruction, its address is not known.
+function put_own(at, cycles) {
+    if (at == "") own_before += cycles
+    else own[label_below(at)] += cycles
+}
+
+# A run whose last instruction is not done in the end: its last cycle is one of the next run.
+function run_inside(n,    words) {
+    run(n - 1)
+    send("trace 1")
+    take_head("trace")
+    receive_row()
+    split(reply, words)
+    owing = address_of[words[2]]
+    put_own(owing, -1)
+    run(1)
+}
+
+# Rows of a trace: from one routine into another, and back.
+function follow_links(lines,    blank, begun, at, byte) {
+    while (lines-- > 0) {
+        receive_row()
+        blank = index(reply, " ")
+        begun = elapsed + substr(reply, 1, blank - 1)
+        at = address_of[substr(reply, blank + 1, 3)]
+        byte = code[at]
+        if (is_call(byte)) {
+            if (depth == 3) forget_oldest()
+            routine[++depth] = target_of(at, byte)
+            entered[depth] = begun + 2
+        } else if (is_return(byte) && depth > 0) leave_routine(begun + 1)
+    }
+}
+
+# Rows of a trace of the lamps; what writes a port takes one cycle.
+function follow_lamps(lines) {
+    while (lines-- > 0) {
+        receive_row()
+        last_change = elapsed + substr(reply, 1, index(reply, " ") - 1) + 1
+        if (!first_change) first_change = last_change
+    }
 }
 
 # A routine that is called within itself counts once.
@@ -49,7 +116,7 @@ function leave_routine(time,    i, at) {
 }
 
 # Of four calls one inside the other, the first one has no way back.
-function forget_oldest(time,    i) {
+function forget_oldest(    i) {
     for (i = 1; i < depth; i++) {
         routine[i] = routine[i + 1]
         entered[i] = entered[i + 1]
@@ -57,19 +124,8 @@ function forget_oldest(time,    i) {
     depth--
 }
 
-# A path ends with each instruction that writes a port, so what the lamps show now is what it has made.
-function look_for_lamps() {
-    know("state")
-    if (now["lamps"] == lamps_before) return
-    lamps_before = now["lamps"]
-    last_change = elapsed
-    if (!first_change) first_change = elapsed
-}
-
 function key_went_down(name) {
     key_is_over()
-    know("state")
-    lamps_before = now["lamps"]
     waiting = name
     pressed_at = elapsed
     first_change = last_change = 0
@@ -106,10 +162,11 @@ function print_profile(    i, n, at, order, j, label, key) {
     for (i = 1; i <= n; i++) {
         label = order[i]
         at = label == "" ? -1 : name_value[label]
-        printf "%-17s %-4s %10d %6.1f", label == "" ? "(no label)" : label, at < 0 ? "" : sprintf("%03X", at), own[label], 100 * own[label] / counted_cycles
+        printf "%-17s %-4s %10d %6.1f", label == "" ? "(no label)" : label, at < 0 ? "" : sprintf("%03X", at), own[label], 100 * own[label] / total
         if (calls[at] > 0) printf " %9d %10d %10d", calls[at], with_calls[at], longest_call[at]
         print ""
     }
+    if (own_before > 0) printf "%-22s %10d %6.1f\n", "(begun before)", own_before, 100 * own_before / total
     if (pressed_count == 0) return
     printf "\n%-17s %9s %9s %24s %24s\n", "key", "presses", "answered", "longest to a lamp", "to the last lamp"
     for (i = 1; i <= pressed_count; i++) {

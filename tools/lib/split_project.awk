@@ -22,7 +22,7 @@ NR == 1 {
     next
 }
 NR == 2 && /^cksum [0-9]+$/ {
-    if ($2 != ENVIRON["sum"]) is_damaged = 1
+    if ($2 "" != ENVIRON["sum"] "") is_damaged = 1
     next
 }
 

@@ -13,7 +13,7 @@ function read_tests(file,    line, words, count, any) {
     reading_line = 0
     any = 0
     while ((getline line < file) > 0) {
-        reading_line++
+        if (++reading_line == 1) sub(/^\357\273\277/, "", line)
         sub(/\r$/, "", line)
         gsub(/^[ \t]+|[ \t]+$/, "", line)
         if (line == "" || line ~ /^[#;]/) continue

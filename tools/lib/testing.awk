@@ -1,6 +1,6 @@
-# Runs tests. Needs numbers.awk, face.awk, board.awk, names.awk, known.awk, bench.awk, blocks.awk, trace.awk and test_text.awk. The
-# environment has the names of the texts, one a line (`tests`), and `counting`, where each instruction is counted (tools/cover, tools/
-# profile). The session with board and program is `base.mcs` in the folder; each test has a copy of it, or of the state that it is from.
+# Runs tests. Needs numbers.awk, face.awk, board.awk, names.awk, known.awk, bench.awk, code.awk, ahead.awk, trace.awk, test_text.awk, and
+# account.awk or what takes its place. The environment has the names of the texts, one a line (`tests`). The session with board and
+# program is `base.mcs` in the folder; each test has a copy of it, or of the state that it is from.
 
 # How long a key is down (43 ms) and up (173 ms) by `keys`, in cycles of 10.8 microseconds, as in tools/keys.
 BEGIN {
@@ -8,7 +8,6 @@ BEGIN {
     usual_up = 16000
     traced = 12
     names_known = 1
-    cut_at = -1
 }
 
 # Reads the texts; ends with their faults, if there are any.
@@ -58,23 +57,19 @@ function run_test(t,    file, i, wrong) {
     begun_with = file
     done_count = 0
     elapsed = marked = 0
-    jumped_to_itself = -1
     down = usual_down
     up = usual_up
     open_bench("open", "test.mcs")
     # Where a test puts bytes into ROM, others have another program.
     if (some_change_rom) code_is_read = 0
-    if (ENVIRON["counting"] && !code_is_read) {
-        read_code()
-        code_is_read = 1
-    }
+    if (counting) know_code()
     begin_account()
     for (i = first_step[t]; i <= last_step[t] && wrong == ""; i++) {
         wrong = do_step(i)
         if (wrong != "") tell_failure(t, i, wrong)
     }
-    close_bench()
     end_account()
+    close_bench()
     if (wrong == "" && !quiet) print "ok " t " - " described(t)
     fflush()
     return wrong == ""
@@ -100,12 +95,10 @@ function do_step(i,    kind) {
     if (kind == "expect") return holds(step_condition[i]) ? "" : told
     if (kind == "set") {
         command(step_lines[i])
-        if (step_changes_rom[i]) read_code()
-        outside_change()
-    } else if (kind == "reset") {
-        command("reset")
-        outside_change()
-    } else if (kind == "mark") marked = elapsed
+        if (step_changes_rom[i]) code_is_read = 0
+        if (counting) know_code()
+    } else if (kind == "reset") command("reset")
+    else if (kind == "mark") marked = elapsed
     else if (kind == "pace") {
         down = step_down[i]
         up = step_up[i]
@@ -119,13 +112,13 @@ function save_state(name) {
     copy_file("test.mcs", "state." made_count ".mcs")
 }
 
-function outside_change() {
-    jumped_to_itself = -1
+function know_code() {
+    if (!code_is_read) read_code()
+    code_is_read = 1
 }
 
 function advance(n) {
-    if (ENVIRON["counting"]) run_counted(n)
-    else run(n)
+    run_counted(n)
     if (stop == "code") {
         know("regs")
         return "the run stopped after " elapsed " cycles before a code that is no instruction, at " named_address(hex_number(now["pc"]))
@@ -138,10 +131,7 @@ function do_keys(i, kind,    names, count, k, wrong) {
     for (k = 1; k < count; k++) {
         if (kind != "release") press(names[k])
         if (kind == "keys" && (wrong = advance(down)) != "") return wrong
-        if (kind != "press") {
-            command(key_command("release", names[k]))
-            outside_change()
-        }
+        if (kind != "press") command(key_command("release", names[k]))
         if (kind == "keys" && (wrong = advance(up)) != "") return wrong
     }
     return ""
@@ -149,8 +139,7 @@ function do_keys(i, kind,    names, count, k, wrong) {
 
 function press(name) {
     command(key_command("press", name))
-    outside_change()
-    if (profiling) key_went_down(name)
+    key_went_down(name)
 }
 
 # Runs till the condition holds at the end of an instruction.
@@ -158,97 +147,91 @@ function do_until(i, c, limit,    begun, end, came) {
     begun = elapsed
     end = elapsed + limit
     # At a label a run goes on, to the next time that it is reached.
-    came = condition_class[c] == "pc" && !condition_not[c] ? 0 : holds(c)
-    if (!came) {
-        if (ENVIRON["counting"]) came = until_by_blocks(c, end)
-        else came = until_by_stops(c, end)
-    }
+    came = awaits_label(c) ? 0 : holds(c)
+    if (!came) came = awaits_label(c) ? until_label(c, end) : until_change(c, end)
     if (came) return ""
     if (stop == "code") return "the run stopped after " elapsed - begun " cycles before a code that is no instruction, at " named_address(hex_number(now["pc"])) "; " told
     return "it did not come within " limit " cycles: " told
 }
 
-# Breakpoints at all instructions that can make the condition true, and a step at each; where the bench has too few breakpoints, or a
-# register is waited for, block by block.
-function until_by_stops(c, end,    class, codes, n, i, places, came, at, count, lines) {
-    class = condition_class[c]
-    if (class == "pc") {
-        count = 1
-        places[1] = condition_number[c]
-    } else if (class == "lamps" || class == "ports") count = places_of("E1 E2", places)
-    else if (class == "ram") count = places_of("E0", places)
-    else if (class == "status") count = places_of("E4 E5 E6 E7", places)
-    else count = 33
-    if (condition_not[c] && class == "pc") count = 33
-    if (count > 32) {
-        if (!code_is_read) {
-            read_code()
-            code_is_read = 1
-        }
-        return until_by_blocks(c, end)
-    }
-    for (i = 1; i <= count; i++) if (ask(sprintf("break 0x%03X", places[i])) !~ /^ok /) die("the bench answered " reply " to a breakpoint")
-    came = 0
-    stop = "end"
-    while (elapsed < end && !came) {
-        if (stop == "break") step_for()
-        else {
-            know("regs")
-            if (class != "pc" && now["owed"] == "0" && is_place(hex_number(now["pc"]), places, count)) step_for()
-            else take_run(ask("run " (end - elapsed < 100000 ? end - elapsed : 100000)))
-        }
-        if (stop == "code") break
-        if (stop == "break" && class != "pc") continue
-        came = holds(c)
-    }
-    for (i = 1; i <= count; i++) ask(sprintf("unbreak 0x%03X", places[i]))
-    return came || holds(c)
+function awaits_label(c) {
+    return condition_kind[c] == "at" && !condition_not[c]
 }
 
-function is_place(at, places, count,    i) {
-    for (i = 1; i <= count; i++) if (places[i] == at) return 1
+# Up to a breakpoint.
+function until_label(c, end,    came) {
+    set_stop("break", condition_number[c])
+    came = 0
+    stop = "end"
+    while (elapsed < end && !came && stop != "code") {
+        run_counted(end - elapsed < 100000 ? end - elapsed : 100000)
+        came = holds(c)
+    }
+    set_stop("unbreak", condition_number[c])
+    return came
+}
+
+function set_stop(word, at) {
+    if (ask(sprintf("%s 0x%03X", word, at)) !~ /^ok /) die("the bench answered " reply " to a breakpoint")
+}
+
+# What the condition is about is traced; first for a short time, since it may come soon.
+function until_change(c, end,    n, k, cycle) {
+    know_code()
+    forget_places()
+    add_places_of(c)
+    stop = "end"
+    for (n = 1000; elapsed < end && stop == "end"; n = n < 10000 ? n * 10 : 100000) {
+        # What no trace tells (TEST, a cycle that is owed) can change with the first cycle alone.
+        if (place_count == 0 && n == 1000) n = 1
+        if (n > end - elapsed) n = end - elapsed
+        cycle = place_count ? cycle_of_change(c, n, end - elapsed) : 0
+        run_counted(cycle ? cycle : n)
+        if (cycle || (n == 1 && holds(c))) break
+    }
+    return holds(c)
+}
+
+# How long it takes, at most so many cycles, until the condition holds; 0 where it does not within n cycles.
+function cycle_of_change(c, n, most,    k, i, cycle) {
+    know("state")
+    if (condition_class[c] == "ram" || condition_class[c] == "status") know("ram " condition_bank[c])
+    ask_places(n)
+    for (k = 1; k <= event_count; k++) {
+        cycle = event_cycle[k]
+        take_event(cycle)
+        for (i = 1; i <= changed_count; i++) take_place(place_name[changed_place[i]], place_value[changed_place[i]])
+        # It holds at the end of an instruction, where no cycle is owed.
+        now["owed"] = "0"
+        if (!holds(c)) continue
+        cycle += cycles_of(code[address_of[event_address[cycle]]])
+        return cycle < most ? cycle : most
+    }
     return 0
 }
 
-# A step, and the state after it, in one go.
-function step_for() {
-    send("step\nstate")
-    take_run(receive())
-    take_state(receive())
-}
-
-# The addresses of all bytes with these codes.
-function places_of(codes, places,    words, count, n, i, at, lines, m) {
-    if (!code_is_read) {
-        read_code()
-        code_is_read = 1
+# The places that decide a condition; none for TEST, and for a cycle that is owed.
+function add_places_of(c,    kind, place, bank, bit, k) {
+    kind = condition_kind[c]
+    place = condition_place[c]
+    bank = condition_bank[c]
+    bit = condition_bit[c] + 0
+    if (condition_class[c] == "lamps") add_place("lamps")
+    else if (kind == "at") add_place("pc")
+    else if (kind == "ram") for (k = 0; k < bit; k++) add_place("ram." bank "." place + k)
+    else if (kind == "status") add_place("st." bank "." place "." bit)
+    else if (kind == "ram port") for (k = 0; k < 4; k++) add_place("ram" bank "." place "." k)
+    else if (kind == "ram line") add_place("ram" bank "." place "." bit)
+    else if (kind == "chain") {
+        for (k = 0; k < length(condition_want[c]); k++) if (substr(condition_want[c], k + 1, 1) != "?") add_place(place "." k)
+    } else if (kind == "register") {
+        if (place !~ /^(test|owed)$/) add_place(place)
+    } else {
+        # A ROM's port, `rom0 in` or `rom0 out`, or a line of it, or a bit of a chain.
+        sub(/ .*/, "", place)
+        if (kind == "port") for (k = 0; k < 4; k++) add_place(place "." k)
+        else add_place(place "." bit)
     }
-    count = split(codes, words, " ")
-    n = 0
-    for (i = 1; i <= count; i++) {
-        m = hex_number(words[i])
-        for (at = 0; at < 4096; at++) if (code[at] == m) places[++n] = at
-    }
-    return n
-}
-
-function until_by_blocks(c, end,    class, came) {
-    class = condition_class[c]
-    cut_ports = class == "lamps" || class == "ports" || watching_lamps
-    cut_ram = class == "ram"
-    cut_status = class == "status"
-    cut_all = class == "registers" || (class == "pc" && condition_not[c])
-    cut_at = class == "pc" && !condition_not[c] ? condition_number[c] : -1
-    came = 0
-    stop = "end"
-    while (elapsed < end && stop == "end" && !came) {
-        run_block(end - elapsed)
-        came = holds(c)
-    }
-    cut_ports = watching_lamps
-    cut_ram = cut_status = cut_all = 0
-    cut_at = -1
-    return came
 }
 
 # Whether a condition holds; where it does not, `told` tells what is and what has to be.
@@ -261,7 +244,7 @@ function holds(c,    is, yes, kind) {
         else if (condition_place[c] == "at least") yes = is >= condition_number[c]
         else yes = is == condition_number[c]
     } else if (kind == "at") yes = is == condition_number[c] && now["owed"] == "0"
-    else if (kind == "display" || kind == "lamp" || kind == "ram") yes = is == condition_want[c]
+    else if (kind == "display" || kind == "lamp" || kind == "ram") yes = is "" == condition_want[c] ""
     else yes = is + 0 == condition_number[c]
     if (condition_not[c]) yes = !yes
     if (yes) return 1
@@ -283,7 +266,7 @@ function named_lamps(is, want,    n, names) {
 
 function fits(text, pattern,    i, c) {
     if (length(text) != length(pattern)) return 0
-    if (text == pattern) return 1
+    if (text "" == pattern "") return 1
     for (i = 1; i <= length(text); i++) {
         c = substr(pattern, i, 1)
         if (c != "?" && c != substr(text, i, 1)) return 0
@@ -367,7 +350,7 @@ function tell_failure(t, i, wrong,    n, lines, k) {
 
 # The last instructions of what was done, on a session that does it once more; the last cycles are done by steps. Keys and settings among
 # them have lines of their own.
-function last_instructions(lines,    left, k, from, n, end, line, count, begun) {
+function last_instructions(lines,    left, k, from, n, count, begun) {
     close_bench()
     count = done_count
     left = 2 * traced + 2
@@ -395,24 +378,20 @@ function last_instructions(lines,    left, k, from, n, end, line, count, begun) 
     }
     if (past_line[begun] == "run") run(from)
     begin_trace()
-    n = 0
     for (k = begun; k <= count; k++) {
         if (past_line[k] != "run") {
             command(past_line[k])
-            lines[++n] = "          " past_line[k]
-            know("state")
+            traced_line[++traced_count] = "          " past_line[k]
             continue
         }
-        end = elapsed + past_cycles[k] - (k == begun ? from : 0)
-        while (elapsed < end && (line = trace_step()) != "") lines[++n] = line
+        n = past_cycles[k] - (k == begun ? from : 0)
+        trace_ahead(n)
+        run(n)
     }
-    lines[++n] = trace_line(elapsed, instruction_at(hex_number(now["pc"])), "comes next")
+    traced_line[++traced_count] = last_line("comes next")
     close_bench()
     # Only the last ones.
-    from = n - traced - 1
-    if (from > 0) {
-        for (k = 1; k <= n - from; k++) lines[k] = lines[k + from]
-        n -= from
-    }
-    return n
+    from = traced_count > traced + 1 ? traced_count - traced - 1 : 0
+    for (k = 1; k <= traced_count - from; k++) lines[k] = traced_line[k + from]
+    return traced_count - from
 }

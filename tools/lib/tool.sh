@@ -11,8 +11,9 @@ export LC_ALL lib mcs4
 longest_text=16384
 longest_script=16777216
 
+# A fault; where temporary files have no room, that is the fault, which is told at the end.
 fail() {
-    echo "$tool: $1" >&2
+    if ! is_full; then echo "$tool: $1" >&2; fi
     exit 1
 }
 
@@ -30,10 +31,27 @@ make_folder() {
     else
         place=/tmp
     fi
-    folder=$(mktemp -d "$place/$tool.XXXXXX") || fail "cannot make a folder in $place"
+    folder=$(mktemp -d "$place/$tool.XXXXXX") || fail "cannot make a folder in $place; TMPDIR names another place for temporary files"
     # A second signal must not end the removing.
-    trap 'trap "" HUP INT TERM; rm -rf -- "$folder"' EXIT
+    trap 'status=$?; trap "" HUP INT TERM; end_folder' EXIT
     trap 'trap "" HUP INT TERM; exit 1' HUP INT TERM
+}
+
+# Whether there is no room for a session among the temporary files.
+is_full() {
+    if [ -z "${folder:-}" ] || [ ! -d "$folder" ]; then return 1; fi
+    if head -c 163856 /dev/zero 2> /dev/null > "$folder/room"; then room=1; else room=0; fi
+    rm -f -- "$folder/room"
+    [ "$room" -eq 0 ]
+}
+
+# Removes the temporary folder, and ends with `status`.
+end_folder() {
+    if [ "$status" -eq 1 ] && is_full; then
+        echo "$tool: $place has no room for temporary files; make some, or name another place: TMPDIR" >&2
+    fi
+    rm -rf -- "$folder"
+    exit "$status"
 }
 
 # A file that is there and can be read, of 1 to so many bytes; `size` is how many.
@@ -45,25 +63,68 @@ need_file() {
     if [ "$size" -gt "$2" ]; then fail "$1 has $size bytes, more than $3 can have ($2)"; fi
 }
 
-# A text for the bench: a file that has no line which would end the text.
-need_text() {
-    need_file "$1" 1048576 "the text of a board or a program"
-    if ! awk '{ sub(/\r$/, "") } $0 == "." { found = 1 } END { exit found }' < "$1"; then
-        fail "$1 has a line '.', which would end its text"
+# A file that a tool will write: it is not there, or is empty, or begins as such a file does (a text, and what is told where it does not).
+# A pipe or a device is written as it is.
+need_own_file() {
+    if [ -d "$1" ]; then fail "$1 is a folder, not a file"; fi
+    if [ ! -d "$(dirname -- "$1")" ] || [ ! -w "$(dirname -- "$1")" ]; then fail "cannot write $1: its folder is not there, or cannot be written"; fi
+    if [ ! -f "$1" ] || [ ! -s "$1" ]; then return; fi
+    if [ "$(head -c "${#2}" < "$1" | tr -d '\000')" != "$2" ]; then
+        fail "$1 is there, and $3; name another file, or move it away"
     fi
+}
+
+# A file that a tool will write is none of those that it reads.
+need_no_input() {
+    output=$1
+    shift
+    for input in "$@"; do
+        if [ "$output" -ef "$input" ]; then fail "$output is read here, so it is not written; name another file"; fi
+    done
+}
+
+# Copies a file to a new one beside another, which has the number of this process behind its name.
+write_beside() {
+    (set -C && cat -- "$1" > "$2.$$") 2> "$folder/words"
+}
+
+# Puts a file in the place of another one, which is whole at each moment.
+write_file() {
+    if [ -e "$2" ] && [ ! -f "$2" ]; then
+        cat -- "$1" > "$2" || fail "cannot write $2"
+    elif ! { write_beside "$1" "$2" && mv -f -- "$2.$$" "$2"; }; then
+        rm -f -- "$2.$$"
+        fail "cannot write $2"
+    fi
+}
+
+# A text without its byte order mark.
+unmarked() {
+    awk 'NR == 1 { sub(/^\357\273\277/, "") } { print }' < "$1"
 }
 
 # The text of a board (`wire`) or of a program (`asm`), from a file that is one, or from a script of lines that has such a text: its
 # first one. It stands in a file of the folder then; `lines_before` is how many lines of the file stand before it.
 take_text() {
     need_file "$2" "$longest_script" "the text of a board or a program"
-    lines_before=$(awk -v word="$1" '{ sub(/\r$/, ""); sub(/[ \t]+$/, "") } $0 == word { print NR; found = 1; exit } END { if (!found) print 0 }' < "$2")
+    unmarked "$2" > "$folder/unmarked"
+    lines_before=$(awk -v word="$1" '{ sub(/\r$/, ""); sub(/[ \t]+$/, "") } $0 == word { print NR; found = 1; exit } END { if (!found) print 0 }' < "$folder/unmarked")
     if [ "$lines_before" -eq 0 ]; then
-        need_text "$2"
-        cp -- "$2" "$folder/$3"
+        need_file "$2" 1048576 "the text of a board or a program"
+        if ! awk '{ sub(/\r$/, "") } $0 == "." { found = 1 } END { exit found }' < "$folder/unmarked"; then
+            fail "$2 has a line '.', which would end its text"
+        fi
+        mv -- "$folder/unmarked" "$folder/$3"
     else
-        awk -v before="$lines_before" 'NR > before { line = $0; sub(/\r$/, "", line); if (line == ".") exit; print }' < "$2" > "$folder/$3"
+        awk -v before="$lines_before" 'NR > before { line = $0; sub(/\r$/, "", line); if (line == ".") exit; print }' < "$folder/unmarked" > "$folder/$3"
     fi
+}
+
+# Sends a file of the folder as the text after `wire`, `asm` or `map`; its comments are those of a board's text or of a program.
+send_text() {
+    echo "$1"
+    awk -v word="$1" -f "$lib/sent.awk" < "$folder/$2"
+    echo .
 }
 
 # The text of a board, in `board_text`, and that of a program, in `program_text`; the parts in awk find their names in the environment.
@@ -106,7 +167,7 @@ need_bench() {
 # A session's file, copied into the folder; the file itself is left alone. (A file that someone writes meanwhile has changed.)
 copy_session() {
     need_file "$1" 1048576 "a session"
-    cp -- "$1" "$folder/$2" || fail "cannot copy $1"
+    if ! { cp -- "$1" "$folder/$2" && chmod u+rw "$folder/$2"; }; then fail "cannot copy $1"; fi
     if ! cmp -s -- "$1" "$folder/$2"; then
         fail "$1 is in use: it changed while it was read; end the program that uses it, or try again"
     fi
@@ -158,17 +219,6 @@ BEGIN { print refusal_words(number) }
 words
 }
 
-# Tells what is wrong with a file that is the text of a board (`wire`) or of a program (`asm`), from the refusal that it got.
-explain_text() {
-    {
-        echo "$1"
-        awk 1 < "$2"
-        echo .
-    } > "$folder/explained"
-    printf 'session 0\n%s\n' "$3" > "$folder/refused"
-    explain_script "$folder/explained" "$folder/refused" "$2"
-}
-
 # Tells each refusal among the answers to a script, and the lines that were not answered. With a third word, which names a file, the
 # first refusal alone is told, and its line is that of a text which is this file. The status is 1 where there is anything to tell, 2
 # where these are not the answers to this script. Where `with_source` is 1 (know_source), addresses are told with their names and lines, too.
@@ -183,18 +233,14 @@ prepare() {
     take_board_text "$1"
     take_program_text "$2"
     {
-        echo wire
-        awk 1 < "$folder/board_text"
-        echo .
-        echo asm
-        awk 1 < "$folder/program_text"
-        echo .
+        send_text wire board_text
+        send_text asm program_text
     } > "$folder/begin"
     {
         cat "$folder/begin"
-        printf 'board\nseq\nmap\n'
-        awk 1 < "$folder/program_text"
-        printf '.\nseq\n'
+        printf 'board\nseq\n'
+        send_text map program_text
+        echo seq
     } > "$folder/script"
     serve new "$folder/base.mcs" answers < "$folder/script"
     accepted 2 "$1" "$board_before"
@@ -206,11 +252,7 @@ prepare() {
 # What the bench tells of a board alone, in `known_board`; it is refused with its lines and why, and the tool ends.
 know_board() {
     take_board_text "$1"
-    {
-        echo wire
-        awk 1 < "$folder/board_text"
-        echo .
-    } > "$folder/begin"
+    send_text wire board_text > "$folder/begin"
     {
         cat "$folder/begin"
         echo board
@@ -273,17 +315,12 @@ need_count() {
 # What the bench tells of a program alone: `known_map`, and its bytes, `known_bytes`, on a board with all ROMs.
 map_program() {
     take_program_text "$1"
-    {
-        echo asm
-        awk 1 < "$folder/program_text"
-        echo .
-    } > "$folder/begin"
+    send_text asm program_text > "$folder/begin"
     {
         awk 'BEGIN { print "wire"; for (i = 0; i < 16; i++) printf "[[rom]]\nchip = %d\nport = \"0000\"\n", i; print "." }'
         cat "$folder/begin"
-        echo map
-        awk 1 < "$folder/program_text"
-        printf '.\nseq\n'
+        send_text map program_text
+        echo seq
         awk 'BEGIN { for (at = 0; at < 4096; at += 256) print "list " at " 256" }'
     } > "$folder/script"
     serve new "$folder/mapping.mcs" answers < "$folder/script"
@@ -330,8 +367,8 @@ END {
 same
 }
 
-# An awk program, from standard input, that talks with the bench (bench.awk), with these parts of lib; its status. mawk has to be told
-# that its input comes line by line.
+# An awk program, from standard input, that talks with the bench (bench.awk), with these parts of lib; its status is 0 or 1, and 3 where
+# it has told a fault. mawk has to be told that its input comes line by line.
 dialogue() {
     cat > "$folder/program.awk"
     for part in numbers.awk face.awk board.awk names.awk bench.awk "$@"; do
@@ -345,6 +382,11 @@ dialogue() {
     status=0
     awk "$@" -f "$folder/program.awk" <> "$folder/pipe" || status=$?
     rm -f "$folder/pipe"
-    if [ "$status" -gt 1 ]; then exit 1; fi
-    return "$status"
+    case $status in
+    0 | 1) return "$status" ;;
+    3) exit 1 ;;
+    # Nobody reads on (SIGPIPE).
+    141) exit 141 ;;
+    *) fail "not all was written; is there room where it goes to?" ;;
+    esac
 }

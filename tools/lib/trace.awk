@@ -1,40 +1,53 @@
-# A trace: what an instruction does. Needs numbers.awk, bench.awk and names.awk. Names are said where `names_known`, and lines of the
-# source, with their numbers, where `source_known`.
+# A trace: a line for each instruction that a run begins. Needs numbers.awk, board.awk, bench.awk, names.awk, code.awk and ahead.awk.
+# Names are said where `names_known`, and lines of the source, with their numbers, where `source_known`.
 #
-# begin_trace() reads the listing and the state; trace_step() does one instruction, or the second cycle of one, and returns its line;
-# at_stop(why) is the line for an instruction that is not done.
+# begin_trace() makes known what the session is; trace_ahead(n) puts the lines of the next n cycles, at most 100,000, behind those in
+# traced_line[1] to traced_line[traced_count]. The session stays where it is, and `elapsed` are the cycles before that. last_line(rest)
+# is a line for the instruction at the counter, which is not done.
 
-function begin_trace(    at, n, i, lines) {
-    for (at = 0; at < 4096; at += 256) {
-        n = ask_all(sprintf("list 0x%03X 256", at), lines)
-        for (i = 1; i <= n; i++) take_listed(lines[i], trace_code)
-    }
+function begin_trace(    n, lines) {
+    n = ask_all("board", lines)
+    take_board(lines, n)
+    read_code()
     know("state")
+    split("", trace_text)
+    traced_count = 0
+    if (now["owed"] == "1") {
+        traced_line[++traced_count] = sprintf(source_known ? "%8d  %-42s  acc %s cy %s" : "%8d  %-25s  acc %s cy %s", elapsed, "(the second cycle)", now["acc"], now["cy"])
+    }
 }
 
-# The text of the instruction at an address, with the name of its target.
-function instruction_at(at,    place, text, target, second) {
-    place = sprintf("%03X", at)
-    if (!(at in trace_text)) {
-        text = ask("list 0x" place " 1")
-        # The second byte of an instruction at FFF stands at 000.
-        if (at == 4095 && trace_code[at] ~ /^([1457]|2[02468ACE])/) text = instruction_round_the_end(at)
-        if (names_known) {
-            second = substr(text, 8, 2)
-            if (second != "  " && substr(text, 11) ~ /^(JUN|JMS|JCN|ISZ) /) {
-                target = hex_number(substr(text, length(text) - 2))
-                if (target in label_at) text = substr(text, 1, length(text) - 5) label_at[target]
-            }
-        }
-        trace_text[at] = text
+# --- the text of an instruction, at an address in digits ---
+
+# Those of all instructions that a run begins.
+function know_texts(    i, from, count, wanted, lines) {
+    count = 0
+    for (i = 1; i <= begun_count; i++) if (!(begun_at[i] in trace_text)) wanted[++count] = begun_at[i]
+    for (from = 1; from <= count; from += 500) {
+        lines = ""
+        for (i = from; i < from + 500 && i <= count; i++) lines = lines (i > from ? "\n" : "") "list 0x" wanted[i] " 1"
+        send(lines)
+        for (i = from; i < from + 500 && i <= count; i++) take_text(wanted[i], receive())
     }
-    return trace_text[at]
+}
+
+# A label stands on a line of its own above its instruction, but for one that the instruction's line of the source has.
+function take_text(digits, text,    at) {
+    at = address_of[digits]
+    # The second byte of an instruction at FFF stands at 000.
+    if (at == 4095 && words_of(code[at]) == 2) text = instruction_round_the_end(at)
+    if (names_known) text = with_target(text)
+    trace_text[digits] = source_known ? sprintf("%-42s", by_source(text, at)) : sprintf("%-25s", text)
+    trace_label[digits] = ""
+    if (names_known && (at in label_at) && !(source_known && begins[at] == label_line[label_at[at]])) {
+        trace_label[digits] = "          " label_at[at] ":\n"
+    }
 }
 
 function instruction_round_the_end(at,    high, second, byte) {
-    byte = hex_number(trace_code[at])
+    byte = code[at]
     high = int(byte / 16)
-    second = trace_code[0]
+    second = code_digits[0]
     if (high == 1) return sprintf("FFF %02X %s JCN %d, 0x0%s", byte, second, byte % 16, second)
     if (high == 2) return sprintf("FFF %02X %s FIM P%d, 0x%s", byte, second, byte % 16 / 2, second)
     if (high == 4) return sprintf("FFF %02X %s JUN 0x%X%s", byte, second, byte % 16, second)
@@ -42,53 +55,11 @@ function instruction_round_the_end(at,    high, second, byte) {
     return sprintf("FFF %02X %s ISZ R%d, 0x0%s", byte, second, byte % 16, second)
 }
 
-# Whether an instruction writes the RAM of the designated bank.
-function writes_ram(byte) {
-    return byte ~ /^E[014567]$/
-}
-
-function trace_step(    before, name, at, byte, old, new, n, m, text, change, begun) {
-    for (name in now) before[name] = now[name]
-    at = hex_number(now["pc"])
-    byte = trace_code[at]
-    text = now["owed"] == "1" ? "(the second cycle)" : instruction_at(at)
-    begun = elapsed
-    n = 0
-    if (now["owed"] == "0" && writes_ram(byte)) n = ask_all("ram " now["dcl"], old)
-    send("step\nstate")
-    take_run(receive())
-    take_state(receive())
-    if (took == 0) return ""
-    if (n) m = ask_all("ram " before["dcl"], new)
-    change = ""
-    for (m = 0; m < 16; m++) {
-        if (substr(before["r"], m + 1, 1) != substr(now["r"], m + 1, 1)) change = change " r" m " " substr(now["r"], m + 1, 1)
-    }
-    if (before["dcl"] != now["dcl"]) change = change " dcl " now["dcl"]
-    if (before["ret"] != now["ret"]) change = change " ret " now["ret"]
-    if (n) change = change written(old, new, n)
-    for (m = 0; m < 16; m++) {
-        name = "rom" m " out"
-        if ((name in now) && before[name] != now[name]) change = change " " name " " now[name]
-    }
-    for (m = 0; m < 4; m++) {
-        name = "chain" m
-        if ((name in now) && before[name] != now[name]) change = change " " name " " now[name]
-    }
-    if (before["lamps"] != now["lamps"]) change = change " lamps " now["lamps"]
-    return trace_line(begun, text, "acc " now["acc"] " cy " now["cy"] " " change)
-}
-
-# A label stands on a line of its own above its instruction, but for one that the instruction's line of the source has.
-function trace_line(cycle, what, rest,    line, at) {
-    at = what ~ /^[0-9A-F]/ ? hex_number(substr(what, 1, 3)) : -1
-    if (source_known) line = sprintf("%8d  %-42s  %s", cycle, by_source(what, at), rest)
-    else line = sprintf("%8d  %-25s  %s", cycle, what, rest)
-    sub(/ +$/, "", line)
-    if (names_known && (at in label_at) && !(source_known && begins[at] == label_line[label_at[at]])) {
-        line = "          " label_at[at] ":\n" line
-    }
-    return line
+# The name of the target of a jump in the place of its address.
+function with_target(text,    target) {
+    if (substr(text, 8, 2) == "  " || substr(text, 11) !~ /^(JUN|JMS|JCN|ISZ) /) return text
+    target = hex_number(substr(text, length(text) - 2))
+    return (target in label_at) ? substr(text, 1, length(text) - 5) label_at[target] : text
 }
 
 # An instruction by its line of the source; one that begins where no line does stays as it is.
@@ -98,29 +69,113 @@ function by_source(what, at,    number) {
     return substr(what, 1, 9) number "  " ((at in begins) ? code_of_line(begins[at]) : substr(what, 11))
 }
 
-function at_stop(why) {
-    return trace_line(elapsed, instruction_at(hex_number(now["pc"])), "stops before it: " (why == "code" ? "no instruction" : why))
+# --- what instructions do ---
+
+# Asks for all that the next n cycles change.
+function trace_ahead(n,    lines, row, blank, cycle, due, i) {
+    know("state")
+    send("count " n)
+    take_count()
+    know_texts()
+    choose_places()
+    ask_places(n)
+    for (i = 1; i <= place_count; i++) take_place(place_name[i], place_value[i])
+    # The counter's row changes with each instruction but one that jumps to itself and changes nothing of it.
+    send("trace " n " pc acc cy r0 r1 r2 r3 r4 r5 r6 r7 r8 r9 r10 r11 r12")
+    lines = take_head("trace")
+    sub(/^trace ran [0-9]+ [a-z]+ lines [0-9]+ /, "", reply)
+    row = reply
+    shown_registers = substr(row, 9)
+    due = now["owed"] + 0
+    while (lines-- > 0) {
+        receive_row()
+        blank = index(reply, " ")
+        cycle = substr(reply, 1, blank - 1) + 0
+        if (due < cycle) trace_standing(due, cycle, row)
+        row = substr(reply, blank + 5)
+        trace_instruction(cycle, substr(reply, blank + 1, 3), row)
+        due = cycle + cycles_of(code[address_of[substr(reply, blank + 1, 3)]])
+    }
+    trace_standing(due, ahead_ran, row)
 }
 
-# What an instruction has written: the places that differ between two answers to `ram`, before and after it.
-function written(old_lines, new_lines, lines,    n, i, change, old, new, place) {
+# Instructions that jump to themselves, from one moment to another.
+function trace_standing(from, to, row,    digits) {
+    digits = substr(row, 1, 3)
+    for (from = from; from < to; from += cycles_of(code[address_of[digits]])) trace_instruction(from, digits, row)
+}
+
+function trace_instruction(cycle, digits, row,    change, registers) {
     change = ""
-    for (n = 2; n <= lines; n++) {
-        if (old_lines[n] == new_lines[n]) continue
-        split(old_lines[n], old, " ")
-        split(new_lines[n], new, " ")
-        split(new[1], place, ".")
-        if (new[2] == "out") change = change " out " new[1] " " new[3]
-        else {
-            for (i = 1; i <= 16; i++) {
-                if (substr(old[2], i, 1) == substr(new[2], i, 1)) continue
-                change = change sprintf(" ram.%d.0x%X%X %s", place[1], place[2] * 4 + place[3], i - 1, substr(new[2], i, 1))
-            }
-            for (i = 1; i <= 4; i++) {
-                if (substr(old[3], i, 1) == substr(new[3], i, 1)) continue
-                change = change sprintf(" st.%d.%d.%d %s", place[1], place[2] * 4 + place[3], i - 1, substr(new[3], i, 1))
-            }
-        }
+    registers = substr(row, 9)
+    if (registers != shown_registers) change = changed_registers(registers)
+    if (cycle in events) change = change changed_places(cycle)
+    traced_line[++traced_count] = trace_label[digits] sprintf("%8d  %s  acc %s cy %s%s", elapsed + cycle, trace_text[digits], \
+        substr(row, 5, 1), substr(row, 7, 1), change == "" ? "" : " " change)
+}
+
+# R0 to R12, whose digits stand with a blank between them.
+function changed_registers(registers,    k, change) {
+    change = ""
+    for (k = 0; k <= 12; k++) {
+        if (substr(registers, 2 * k + 1, 1) != substr(shown_registers, 2 * k + 1, 1)) change = change " r" k " " substr(registers, 2 * k + 1, 1)
     }
+    shown_registers = registers
     return change
+}
+
+# The places of a trace besides those, in the order in which they are told; only those that the instructions of a run write.
+function choose_places(    writes, i, b, c, k) {
+    for (i = 1; i <= begun_count; i++) writes[substr(code_digits[address_of[begun_at[i]]], 1, 2)] = 1
+    forget_places()
+    for (k = 13; k < 16; k++) add_place("r" k)
+    add_place("dcl")
+    add_place("ret")
+    for (b = 0; b < 8; b++) {
+        for (c = 0; c < ram_chips[b]; c++) choose_places_of_chip(b, c, writes)
+    }
+    if ("E2" in writes) {
+        for (c = 0; c < 16; c++) {
+            for (k = 0; (c in rom_port) && k < 4; k++) if (substr(rom_port[c], 4 - k, 1) != "i") add_place("rom" c "." k)
+        }
+        for (c = 0; c < chain_count; c++) for (k = 0; k < chain_bits[c]; k++) add_place("chain" c "." k)
+    }
+    add_place("lamps")
+}
+
+function choose_places_of_chip(b, c, writes,    i, k) {
+    if ("E0" in writes) for (i = 0; i < 64; i++) add_place("ram." b "." c * 64 + i)
+    for (k = 0; k < 4; k++) {
+        if (("E" (4 + k)) in writes) for (i = 0; i < 4; i++) add_place("st." b "." c * 4 + i "." k)
+    }
+    if ("E1" in writes) for (k = 0; k < 4; k++) add_place("ram" b "." c "." k)
+}
+
+# What an instruction changes of them; of a port or a chain the whole, once.
+function changed_places(cycle,    i, text, change) {
+    take_event(cycle)
+    change = told_place = ""
+    for (i = 1; i <= changed_count; i++) take_place(place_name[changed_place[i]], place_value[changed_place[i]])
+    for (i = 1; i <= changed_count; i++) change = change told_change(place_name[changed_place[i]])
+    return change
+}
+
+function told_change(name,    parts) {
+    split(name, parts, ".")
+    if (parts[1] == "ram") return sprintf(" ram.%d.0x%02X %s", parts[2], parts[3], ram[parts[2], parts[3]])
+    if (parts[1] == "st") return " " name " " status[parts[2], parts[3], parts[4]]
+    if (name ~ /^r[0-9]/) return " " name " " substr(now["r"], substr(name, 2) + 1, 1)
+    if (name !~ /^(rom|ram|chain)/) return " " name " " now[name]
+    name = name ~ /^ram/ ? substr(parts[1], 4) "." parts[2] : parts[1]
+    if (name == told_place) return ""
+    told_place = name
+    if (parts[1] ~ /^ram/) return " out " name " " ram_out[substr(parts[1], 4), parts[2]]
+    return " " name (parts[1] ~ /^rom/ ? " out " now[name " out"] : " " now[name])
+}
+
+function last_line(rest,    digits) {
+    know("regs")
+    digits = now["pc"]
+    if (!(digits in trace_text)) take_text(digits, ask("list 0x" digits " 1"))
+    return trace_label[digits] sprintf("%8d  %s  %s", elapsed, trace_text[digits], rest)
 }

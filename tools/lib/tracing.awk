@@ -10,11 +10,8 @@ function die(what) {
 }
 
 # Runs to the first stop; the trace begins so many instructions before it that those that are wanted are among them.
-function skipped_cycles(    last) {
-    last = ENVIRON["instructions"] + 0
-    if (last == 0) return 0
-    copy_start()
-    open_bench("open", "copy.mcs")
+function skipped_cycles(last) {
+    open_copy()
     run(cycles)
     close_bench()
     cycles = elapsed
@@ -23,42 +20,55 @@ function skipped_cycles(    last) {
     return cycles - 2 * last - 2 > 0 ? cycles - 2 * last - 2 : 0
 }
 
-function copy_start() {
+function open_copy() {
     if (system("cp \"$folder/start.mcs\" \"$folder/copy.mcs\"") != 0) die("cannot copy the session")
+    open_bench("open", "copy.mcs")
 }
 
 BEGIN {
     cycles = ENVIRON["cycles"] + 0
+    last = ENVIRON["instructions"] + 0
     why = "end"
-    skip = skipped_cycles()
+    skip = last ? skipped_cycles(last) : 0
     if (!ended) {
-        copy_start()
-        open_bench("open", "copy.mcs")
+        open_copy()
+        clear_stops()
         run(skip)
-        begin_trace()
         if (ENVIRON["program"] != "") {
-            take_program(trace_code)
             names_known = 1
             source_known = ENVIRON["with_source"] == 1
         }
-        if (!ended) print_trace()
+        begin_trace()
+        if (names_known) take_program(code_digits)
+        if (!ended) print_trace(last)
     }
 }
 
-function print_trace(    line, n, lines, from, last) {
-    last = ENVIRON["instructions"] + 0
-    n = 0
-    while (elapsed < cycles) {
-        line = trace_step()
-        if (line == "") {
-            why = stop
-            break
-        }
-        if (last) lines[++n] = line
-        else print line
-        if (last && n > last) delete lines[n - last]
+# The first lines come soon, however many cycles there are.
+function print_trace(last,    n) {
+    n = 500
+    while (elapsed < cycles && stop == "end") {
+        if (last || n > cycles - elapsed) n = cycles - elapsed
+        trace_ahead(n)
+        if (!last) print_lines(1)
+        run(n)
+        n = 10000
     }
-    for (from = n > last ? n - last + 1 : 1; from <= n; from++) print lines[from]
-    if (why != "end") print at_stop(why)
+    if (last) print_lines(traced_count > last ? traced_count - last + 1 : 1)
+    if (stop == "code" && elapsed < cycles) why = stop
+    if (why != "end") print last_line("stops before it: " (why == "code" ? "no instruction" : why))
     close_bench()
+}
+
+# The lines from one on, some at a time: each write takes its time.
+function print_lines(from,    text) {
+    text = ""
+    for (from = from; from <= traced_count; from++) {
+        text = text traced_line[from] "\n"
+        if (length(text) < 4000) continue
+        printf "%s", text
+        text = ""
+    }
+    printf "%s", text
+    traced_count = 0
 }

@@ -1,0 +1,42 @@
+# What stands in ROM. Needs numbers.awk and bench.awk.
+#
+# read_code() reads all of it: code[at], the byte at each address, and code_digits[at], its hexadecimal digits.
+
+function read_code(    at, n, i, lines) {
+    for (at = 0; at < 4096; at += 256) {
+        n = ask_all(sprintf("list 0x%03X 256", at), lines)
+        for (i = 1; i <= n; i++) take_listed(lines[i], code_digits)
+    }
+    know_addresses()
+    for (at = 0; at < 4096; at++) code[at] = hex_number(code_digits[at])
+}
+
+# The numbers of all addresses, by their digits.
+function know_addresses(    at) {
+    if ("000" in address_of) return
+    for (at = 0; at < 4096; at++) address_of[sprintf("%03X", at)] = at
+}
+
+# JUN, JMS, JCN, ISZ and FIM have two words.
+function words_of(byte,    high) {
+    high = int(byte / 16)
+    return (high == 1 || high == 4 || high == 5 || high == 7 || (high == 2 && byte % 2 == 0)) ? 2 : 1
+}
+
+# FIN has one, and takes two cycles, too.
+function cycles_of(byte) {
+    return words_of(byte) == 2 || (int(byte / 16) == 3 && byte % 2 == 0) ? 2 : 1
+}
+
+function is_call(byte) {
+    return byte >= 80 && byte < 96
+}
+
+function is_return(byte) {
+    return byte >= 192 && byte < 208
+}
+
+# Where JMS goes.
+function target_of(at, byte) {
+    return byte % 16 * 256 + code[(at + 1) % 4096]
+}
