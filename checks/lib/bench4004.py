@@ -7,11 +7,14 @@ for keys, places and ROMs that the board lacks.
 from __future__ import annotations
 
 import re
+from collections import Counter
 from collections.abc import Callable, Iterable, Iterator
 
 from assembler import ADDRESSES, ON_PAIR, ON_REGISTER, assemble
 from board4004 import CODES, TWO_WORDS, Board, line_of
 
+# The instructions that may jump.
+BRANCHES = ("JCN", "ISZ")
 # What `trace` looks at, by the form of its word, told in one word.
 PLACES: list[tuple[str, Callable[..., str]]] = [
     (r"acc", lambda board: f"{board.acc:X}"),
@@ -44,22 +47,29 @@ def reader_of(place: str) -> Callable[[Board], str]:
     raise ValueError(place)
 
 
-def count_answer(board: Board, most: int) -> list[str]:
-    """`count n`: at which addresses a run would begin instructions, how often, and how often JCN and ISZ would jump."""
-    ahead, runs, jumps = board.copy(), {}, {}
+def counted(board: Board, most: int) -> tuple[Counter[int], Counter[int], int, str]:
+    """A run: how often each address was begun at, and how often the counter went on elsewhere than behind two words; its cycles and end."""
+    runs: Counter[int] = Counter()
+    jumps: Counter[int] = Counter()
 
     def begun(_done: int, at: int) -> None:
-        runs[at] = runs.get(at, 0) + 1
-        jumps[at] = jumps.get(at, 0) + (ahead.pc != (at + 2) % ADDRESSES)
+        runs[at] += 1
+        jumps[at] += board.pc != (at + 2) % ADDRESSES
 
-    done, stop = ahead.run(most, begun)
-    lines = [f"{at:03X} {runs[at]}" + (f" {jumps[at]}" if CODES[board.rom[at]][0] in ("JCN", "ISZ") else "") for at in sorted(runs)]
+    return runs, jumps, *board.run(most, begun)
+
+
+def count_answer(board: Board, most: int) -> list[str]:
+    """`count n`: at which addresses a run would begin instructions, how often, and how often JCN and ISZ would jump."""
+    runs, jumps, done, stop = counted(board.copy(), most)
+    lines = [f"{at:03X} {runs[at]}" + (f" {jumps[at]}" if CODES[board.rom[at]][0] in BRANCHES else "") for at in sorted(runs)]
     return [f"count ran {done} {stop} lines {len(lines)}", *lines]
 
 
 def trace_answer(board: Board, most: int, places: list[str]) -> list[str]:
     """`trace n PLACE ..`: the instructions that a run would begin and that would change a row of places; without places, all of them."""
-    ahead, readers, lines = board.copy(), [reader_of(place) for place in places], []
+    ahead, readers = board.copy(), [reader_of(place) for place in places]
+    lines: list[str] = []
 
     def row() -> str:
         return "".join(f" {tell(ahead)}" for tell in readers)
@@ -148,8 +158,8 @@ class Bench:
         for line in lines:
             words = line.split()
             if words and words[0] in ("wire", "asm"):
-                words.append(list(iter(lines.__next__, ".")))
-            if words:
+                yield line, self.answer(words[0], list(iter(lines.__next__, ".")))
+            elif words:
                 yield line, self.answer(*words)
 
     def answer(self, word: str, *rest: object) -> list[str]:
@@ -196,7 +206,7 @@ def load(board: Board, text: list[str]) -> str:
 
 def put_key(board: Board, row: str, column: str, is_down: bool) -> str:
     """A key goes down or up, where the board has it."""
-    if board.chips.matrix is None or number(row) >= board.chips.matrix["rows"] or number(column) >= len(board.chips.columns):
+    if number(row) >= board.chips.keys["rows"] or number(column) >= len(board.chips.columns):
         return "no 41"
     (board.chips.down.add if is_down else board.chips.down.discard)((number(row), number(column)))
     return ""
@@ -235,7 +245,7 @@ def poke(board: Board, place: str, text: str) -> str:
         if kind == "ram":
             board.chips.write_character(bank, src, value)
         else:
-            board.chips.write_status(*numbers, value)
+            board.chips.write_status(bank, numbers[1], numbers[2], value)
     elif kind in ("acc", "cy", "pc", "dcl"):
         setattr(board, kind, value)
     else:

@@ -1,14 +1,13 @@
-"""A board of MCS-4 chips as a second reading, which shares no line with the bench: after the descriptions of the 45 instructions and of the
-4001, 4002, 4003 and 4004 in Intel's "MCS-4 Micro Computer Set, Users Manual" and the data sheets of these chips.
+"""A board of MCS-4 chips as a second reading, which shares no line with the bench.
 
-What Intel leaves open is as docs/MANUAL.md tells it: when a chain is clocked, which codes are not in the table, that an instruction of two
-cycles does all its work in the first, and what stops a run.
+The 45 instructions and the chips 4001, 4002, 4003 and 4004 are those of Intel's "MCS-4 Micro Computer Set, Users Manual" and data sheets, in
+the words in which docs/MANUAL.md tells of them again. What Intel leaves open is as told there, too: when a chain is clocked, which codes are
+not in the table, that an instruction of two cycles does all its work in the first, and what stops a run.
 """
 
 from __future__ import annotations
 
 import pickle
-import re
 import tomllib
 from collections.abc import Callable
 
@@ -36,8 +35,8 @@ CODES = table()
 
 def line_of(name: str) -> Line:
     """A line by its name: `rom0.1`, `ram0.1.3`, `chain0.79`."""
-    kind, numbers = re.fullmatch(r"(rom|ram|chain)([0-9.]+)", name).groups()
-    return kind, tuple(int(number) for number in numbers.split("."))
+    numbers = name.lstrip("abcdefghijklmnopqrstuvwxyz")
+    return name.removesuffix(numbers), tuple(int(number) for number in numbers.split("."))
 
 
 class Chips:
@@ -50,8 +49,9 @@ class Chips:
         self.chips = {part["bank"]: part["chips"] for part in wiring.get("ram", [])}
         self.clocks = [(line_of(part["clock"]), line_of(part["data"])) for part in wiring.get("chain", [])]
         self.chain_bits = [10 * part["chips"] for part in wiring.get("chain", [])]
-        self.matrix = wiring.get("keys")
-        self.columns = [line_of(name) for name in self.matrix["columns"]] if self.matrix else []
+        # Without keys there is no row and no column.
+        self.keys = wiring.get("keys", {"chain": 0, "first": 0, "rows": 0, "columns": []})
+        self.columns = [line_of(name) for name in self.keys["columns"]]
         self.lamps = [line_of(part["line"]) for part in wiring.get("lamp", [])]
         self.down: set[tuple[int, int]] = set()
         self.power_on()
@@ -87,16 +87,13 @@ class Chips:
         if kind == "chain":
             return self.chains[numbers[0]][numbers[1]]
         if kind == "ram":
-            return self.ram_latch[numbers[:2]] >> numbers[2] & 1
+            return self.ram_latch[numbers[0], numbers[1]] >> numbers[2] & 1
         chip, k = numbers
         return self.is_pulled(line) if self.masks[chip][k] == "i" else self.rom_latch[chip] >> k & 1
 
     def is_pulled(self, line: Line) -> int:
         """What an input line is at: 1 where it is the column of a key that is down and whose row is driven."""
-        if line not in self.columns:
-            return 0
-        rows = self.chains[self.matrix["chain"]][self.matrix["first"]:]
-        return int(any(self.columns[column] == line and rows[row] for row, column in self.down))
+        return int(any(self.columns[column] == line and self.chains[self.keys["chain"]][self.keys["first"] + row] for row, column in self.down))
 
     def marks(self) -> str:
         """A mark for each lamp."""

@@ -4,32 +4,31 @@ out by the board of board4004.py: `trace`, `wave`, `cover`, `profile` and `cycle
 
 from __future__ import annotations
 
-from dataclasses import dataclass, field
+from collections import Counter
 
 from assembler import ADDRESSES, assemble
-from bench4004 import instruction_text
-from board4004 import CODES, TWO_CYCLES, Board
+from bench4004 import BRANCHES, counted, instruction_text
+from board4004 import CODES, TWO_CYCLES, Board, Line
 
 # A time of a wave, and what changes then, by the names of lines.
 Changes = dict[int, dict[str, str]]
 
 
-@dataclass
 class Source:
-    """A program's text, and where it stands."""
+    """A program's text, where it stands, and its names."""
 
-    lines: list[str]
-    spans: list[tuple[int, int]] = field(init=False)
-    labels: dict[int, str] = field(init=False)
-
-    def __post_init__(self) -> None:
+    def __init__(self, lines: list[str]) -> None:
         """By the second assembler; of two labels at an address the first one counts."""
-        _image, self.spans, names = assemble(self.lines)
-        self.labels = {}
-        for line in self.lines:
+        self.lines = lines
+        _image, self.spans, names = assemble(lines)
+        self.labels: dict[int, str] = {}
+        self.label_lines: dict[str, int] = {}
+        for number, line in enumerate(lines):
             name = line.split(":")[0].strip() if ":" in line.split(";")[0] else ""
             if name:
                 self.labels.setdefault(names[name], name)
+                self.label_lines[name] = number
+        self.line_of = {at + i: number for number, (at, size) in enumerate(self.spans) for i in range(size)}
 
     def label_below(self, at: int) -> tuple[int, str]:
         """The label at an address or nearest below it, with its address; -1 where there is none."""
@@ -37,7 +36,23 @@ class Source:
 
     def is_data(self, number: int) -> bool:
         """Whether a line has bytes that are no instruction."""
-        return self.lines[number].split(";")[0].split(":")[-1].split()[:1] == ["DB"]
+        return self.code(number).split(":")[-1].split()[:1] == ["DB"]
+
+    def code(self, number: int) -> str:
+        """A line without its comment."""
+        return self.lines[number].split(";")[0].rstrip()
+
+    def begins(self, at: int) -> bool:
+        """Whether an instruction of the source begins at an address."""
+        return at in self.line_of and self.spans[self.line_of[at]][0] == at and not self.is_data(self.line_of[at])
+
+    def place(self, at: int) -> str:
+        """An address with its name and the line that fills it."""
+        if at not in self.line_of:
+            return f"{at:03X}, which the source does not fill"
+        there, name = self.label_below(at)
+        named = f" ({name}{f' + {at - there}' if at > there else ''})" if name else ""
+        return f"{at:03X}{named}, line {self.line_of[at] + 1}: {' '.join(self.code(self.line_of[at]).split())}"
 
 
 # ---- trace
@@ -62,20 +77,24 @@ def written(before: Board, after: Board) -> list[str]:
     return told + ([f"lamps {new.marks()}"] if old.marks() != new.marks() else [])
 
 
-def trace_row(board: Board, cycle: int, rest: str, labels: dict[int, str]) -> str:
-    """A row, with its label above it and that of its target, as far as there are any."""
-    text = "(the second cycle)"
-    if not board.owed:
-        text = instruction_text(board, board.pc)
-        if CODES.get(board.rom[board.pc], ("", 0))[0] in ("JUN", "JMS", "JCN", "ISZ") and int(text[-3:], 16) in labels:
-            text = text[:-5] + labels[int(text[-3:], 16)]
-    row = f"{cycle:8}  {text:<25}  {rest}".rstrip()
-    return f"          {labels[board.pc]}:\n{row}" if not board.owed and board.pc in labels else row
+def trace_row(board: Board, cycle: int, rest: str, source: Source | None, with_lines: bool) -> str:
+    """A row, with its label above it and that of its target, or with its line of the source, as far as there are any."""
+    at, text = board.pc, "(the second cycle)" if board.owed else instruction_text(board, board.pc)
+    if source is None or board.owed:
+        return f"{cycle:8}  {text:<{42 if with_lines else 25}}  {rest}".rstrip()
+    if CODES.get(board.rom[at], ("", 0))[0] in ("JUN", "JMS", "JCN", "ISZ") and int(text[-3:], 16) in source.labels:
+        text = text[:-5] + source.labels[int(text[-3:], 16)]
+    is_told = False
+    if with_lines and at in source.line_of:
+        line = source.line_of[at]
+        is_told = source.begins(at) and source.label_lines.get(source.labels.get(at, "")) == line
+        text = f"{text[:9]}{line + 1:5}  {source.code(line) if source.begins(at) else text[10:]}"
+    row = f"{cycle:8}  {text:<{42 if with_lines else 25}}  {rest}".rstrip()
+    return f"          {source.labels[at]}:\n{row}" if at in source.labels and not is_told else row
 
 
-def trace_told(start: Board, cycles: int, last: int = 0, labels: dict[int, str] | None = None) -> str:
+def trace_told(start: Board, cycles: int, last: int = 0, source: Source | None = None, with_lines: bool = False) -> str:
     """`tools/trace`: the next cycles, or the last instructions before the first stop."""
-    labels = labels or {}
     board, why, done, rows = start.copy(), "end", 0, []
     if last:
         cycles, why = start.copy().run(cycles)
@@ -86,45 +105,45 @@ def trace_told(start: Board, cycles: int, last: int = 0, labels: dict[int, str] 
         before = board.copy()
         took = board.step()[0]
         changes = "".join(f" {change}" for change in written(before, board))
-        rows.append(trace_row(before, done, f"acc {board.acc:X} cy {board.cy} {changes}", labels))
+        rows.append(trace_row(before, done, f"acc {board.acc:X} cy {board.cy} {changes}", source, with_lines))
         done += took
     rows = rows[-last:] if last else rows
     if why != "end":
-        rows.append(trace_row(board, done, "stops before it: " + ("no instruction" if why == "code" else why), labels))
+        rows.append(trace_row(board, done, "stops before it: " + ("no instruction" if why == "code" else why), source, with_lines))
     return "".join(f"{row}\n" for row in rows)
 
 
 # ---- wave
 
-def levels(board: Board) -> dict[str, str]:
+def levels(board: Board, source: Source) -> dict[str, str]:
     """All lines of a board and their levels, in the order of `tools/wave --lines`."""
     chips = board.chips
-    told = {f"rom{chip}.{k}": ("rom", (chip, k)) for chip in chips.rom_latch for k in range(4)}
+    told: dict[str, Line] = {f"rom{chip}.{k}": ("rom", (chip, k)) for chip in chips.rom_latch for k in range(4)}
     told |= {f"ram{bank}.{chip}.{k}": ("ram", (bank, chip, k)) for bank, chip in chips.ram_latch for k in range(4)}
     told |= {f"chain{n}.{bit}": ("chain", (n, bit)) for n, chain in enumerate(chips.chains) for bit in range(len(chain))}
     told |= {f"lamp{i}": line for i, line in enumerate(chips.lamps)}
-    keys = [(row, column) for row in range(chips.matrix["rows"] if chips.matrix else 0) for column in range(len(chips.columns))]
+    keys = [(row, column) for row in range(chips.keys["rows"]) for column in range(len(chips.columns))]
     return {name: str(chips.level(line)) for name, line in told.items()} | {
         **{f"key{row}.{column}": str(int((row, column) in chips.down)) for row, column in keys},
-        "test": str(board.test), "pc": f"{board.pc:012b}"}
+        "test": str(board.test), "pc": f"{board.pc:012b}", "label": source.label_below(board.pc)[1] or "-"}
 
 
-def wave_told(start: Board, cycles: int, names: list[str]) -> tuple[Changes, int]:
+def wave_told(start: Board, cycles: int, names: list[str], source: Source) -> tuple[Changes, int]:
     """`tools/wave`: what the lines with these names change at each cycle, from their levels at 0 on, and at which cycle it ends."""
     board = start.copy()
-    now = {name: level for name, level in levels(board).items() if name in names}
-    changes, done = {0: now}, 0
+    now = levels(board, source)
+    changes, done = {0: {name: now[name] for name in names}}, 0
     while done < cycles and (board.owed or not board.is_outside()):
         board.cycle()
         done += 1
-        before, now = now, {name: level for name, level in levels(board).items() if name in names}
-        if now != before:
-            changes[done] = {name: level for name, level in now.items() if before[name] != level}
+        before, now = now, levels(board, source)
+        if any(now[name] != before[name] for name in names):
+            changes[done] = {name: now[name] for name in names if before[name] != now[name]}
     return changes, done
 
 
 def read_vcd(text: str) -> tuple[list[str], Changes, int]:
-    """A VCD file: the names of its lines, their changes, and its end, in cycles."""
+    """A VCD file: the names of its lines, their changes, and its end, in cycles; -1 is a time within one."""
     names: dict[str, str] = {}
     changes: Changes = {}
     cycle = 0
@@ -133,7 +152,8 @@ def read_vcd(text: str) -> tuple[list[str], Changes, int]:
         if words[0] == "$var":
             names[words[3]] = words[4]
         elif line.startswith("#"):
-            cycle = int(line[1:]) / 108
+            cycle, rest = divmod(int(line[1:]), 108)
+            cycle = cycle if rest == 0 else -1
         elif line[0] in "01":
             changes.setdefault(cycle, {})[names[line[1:]]] = line[0]
         elif line[0] in "bs" and len(words) == 2:
@@ -163,32 +183,20 @@ def spans_of(lines: list[int], chosen: list[int]) -> str:
 
 def cover_told(start: Board, cycles: int, source: Source) -> str:
     """`tools/cover`: how often each line was run, which way its jump went, and what never was."""
-    board, runs, jumps = start.copy(), {}, {}
-
-    def begun(_done: int, at: int) -> None:
-        runs[at] = runs.get(at, 0) + 1
-        jumps[at] = jumps.get(at, 0) + (board.pc != (at + 2) % ADDRESSES)
-
-    run_free(board, cycles, begun)
-    rows, never, one_way, ways = [], [], [], []
-    lines = [i for i, (at, size) in enumerate(source.spans) if size and (not source.is_data(i) or at in runs)]
+    runs, jumps, _done, _stop = counted(unstopped(start), cycles)
+    lines = [i for i, (at, size) in enumerate(source.spans) if size and (not source.is_data(i) or runs[at])]
+    ways = {i: (jumps[at], runs[at] - jumps[at]) for i, (at, size) in enumerate(source.spans)
+            if i in lines and size == 2 and CODES[start.rom[at]][0] in BRANCHES}
+    rows = []
     for i, text in enumerate(source.lines):
-        count = way = ""
-        if i in lines:
-            at = source.spans[i][0]
-            count = runs.get(at) or "never"
-            never += [i] if count == "never" else []
-            if CODES[start.rom[at]][0] in ("JCN", "ISZ") and source.spans[i][1] == 2:
-                taken = jumps.get(at, 0)
-                both = [taken, runs.get(at, 0) - taken]
-                ways += both
-                way = f"{both[0]}/{both[1]}"
-                if count != "never" and 0 in both:
-                    one_way.append(f"{i + 1} ({'always' if taken else 'never'} taken)")
+        count = runs[source.spans[i][0]] or "never" if i in lines else ""
+        way = "{}/{}".format(*ways[i]) if i in ways else ""
         rows.append(f"{count:>10} {way:<13}  {text}".rstrip())
-    run, gone = len(lines) - len(never), sum(1 for way in ways if way)
-    rows += ["", f"{run} of {len(lines)} instructions were run{percent(run, len(lines))}, "
-             f"{gone} of {len(ways)} ways of conditional jumps{percent(gone, len(ways))}"]
+    never = [i for i in lines if not runs[source.spans[i][0]]]
+    gone = sum(1 for both in ways.values() for way in both if way)
+    rows += ["", f"{len(lines) - len(never)} of {len(lines)} instructions were run{percent(len(lines) - len(never), len(lines))}, "
+             f"{gone} of {2 * len(ways)} ways of conditional jumps{percent(gone, 2 * len(ways))}"]
+    one_way = [f"{i + 1} ({'always' if taken else 'never'} taken)" for i, (taken, not_taken) in ways.items() if (taken == 0) != (not_taken == 0)]
     if never:
         rows.append(f"never run: line{'s' if len(never) > 1 else ''} {spans_of(lines, never)}")
     if one_way:
@@ -196,10 +204,11 @@ def cover_told(start: Board, cycles: int, source: Source) -> str:
     return "".join(f"{row}\n" for row in rows)
 
 
-def run_free(board: Board, cycles: int, begun=None) -> tuple[int, str]:
-    """A run that no breakpoint and no watch stops."""
+def unstopped(start: Board) -> Board:
+    """A board that no breakpoint and no watch stops."""
+    board = start.copy()
     board.breaks, board.watches = set(), set()
-    return board.run(cycles, begun)
+    return board
 
 
 class Calls:
@@ -224,13 +233,14 @@ class Calls:
 
 def profile_told(start: Board, cycles: int, source: Source) -> str:
     """`tools/profile`: where the cycles go."""
-    board, own, calls, begins = start.copy(), {}, Calls(), []
-    total = run_free(board, cycles, lambda done, at: begins.append((done, at)))[0]
+    own: Counter[tuple[int, str]] = Counter()
+    calls = Calls()
+    begins: list[tuple[int, int]] = []
+    total = unstopped(start).run(cycles, lambda done, at: begins.append((done, at)))[0]
     for done, at in begins:
         name, low = CODES[start.rom[at]]
         end = min(done + 1 + (name in TWO_CYCLES), total)
-        place = source.label_below(at)
-        own[place] = own.get(place, 0) + end - done
+        own[source.label_below(at)] += end - done
         if name == "JMS":
             calls.enter(256 * low + start.rom[(at + 1) % ADDRESSES], end)
         elif name == "BBL" and calls.open:
@@ -253,3 +263,9 @@ def microseconds(cycles: int) -> str:
     """Cycles, and how long a 4004 takes for them."""
     tenths = 108 * cycles
     return f"{cycles} cycle{'' if cycles == 1 else 's'}, {tenths // 10}.{tenths % 10} microseconds"
+
+
+def cycles_told(runs: list[tuple[int, int]], source: Source | None) -> str:
+    """`tools/cycles`: of runs with their cycles and the counter after them."""
+    rows = [f"{microseconds(cycles)}, to {source.place(at)}" for cycles, at in runs] if source else []
+    return "".join(f"{row}\n" for row in [*rows, microseconds(sum(cycles for cycles, _at in runs))])

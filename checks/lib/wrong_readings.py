@@ -105,9 +105,9 @@ def written_by_number(before: Board, after: Board) -> list[str]:
             if not change.startswith("chain") or as_number(change.split()[1]) != as_number(chains[int(change[5])])]
 
 
-def levels_by_number(board: Board) -> dict[str, str]:
+def levels_by_number(board: Board, source: told_by_tools.Source) -> dict[str, str]:
     """A counter whose addresses are one where they are one number."""
-    return RIGHT_LEVELS(board) | {"pc": str(as_number(f"{board.pc:03X}"))}
+    return RIGHT_LEVELS(board, source) | {"pc": str(as_number(f"{board.pc:03X}"))}
 
 
 RIGHT_WRITTEN, RIGHT_LEVELS = told_by_tools.written, told_by_tools.levels
