@@ -1,0 +1,275 @@
+"""The answers of the bench to its lines, after docs/MANUAL.md ("Lines"), over the board of board4004.py: a second reading of commands, of
+`regs`, `state`, `lamps`, `ram`, `list`, `breaks` and `seq`, and of what is asked of a run that is not done, `count` and `trace`. Texts of
+boards are read by Python's own reader of TOML, programs by assembler.py. Lines that are refused are not its business, but those
+for keys, places and ROMs that the board lacks.
+"""
+
+from __future__ import annotations
+
+import re
+from collections import Counter
+from collections.abc import Callable, Iterable, Iterator
+
+from assembler import ADDRESSES, ON_PAIR, ON_REGISTER, assemble
+from board4004 import CODES, TWO_WORDS, Board, line_of
+
+# The instructions that may jump.
+BRANCHES = ("JCN", "ISZ")
+# What `trace` looks at, by the form of its word, told in one word.
+PLACES: list[tuple[str, Callable[..., str]]] = [
+    (r"acc", lambda board: f"{board.acc:X}"),
+    (r"cy", lambda board: f"{board.cy}"),
+    (r"pc", lambda board: f"{board.pc:03X}"),
+    (r"dcl", lambda board: f"{board.dcl}"),
+    (r"ret", lambda board: ",".join(f"{at:03X}" for at in board.ret)),
+    (r"lamps", lambda board: board.chips.marks() or "-"),
+    (r"r(\w+)", lambda board, k: f"{board.r[k]:X}"),
+    (r"rom\.(\w+)", lambda board, at: f"{board.rom[at]:02X}"),
+    (r"ram\.(\w+)\.(\w+)", lambda board, bank, src: f"{board.chips.ram[bank][src]:X}"),
+    (r"st\.(\w+)\.(\w+)\.(\w+)", lambda board, bank, high, k: f"{board.chips.status[bank][high][k]:X}"),
+]
+
+
+def number(word: str) -> int:
+    """A number as lines have it."""
+    return int(word, 16 if word.startswith("0x") else 10)
+
+
+def reader_of(place: str) -> Callable[[Board], str]:
+    """What tells of a place, or of a line of the board."""
+    if re.fullmatch(r"(rom|chain)\w+\.\w+|ram\w+\.\w+\.\w+", place):
+        line = line_of(place)
+        return lambda board: str(board.chips.level(line))
+    for form, tell in PLACES:
+        if found := re.fullmatch(form, place):
+            numbers = [number(word) for word in found.groups()]
+            return lambda board: tell(board, *numbers)
+    raise ValueError(place)
+
+
+def counted(board: Board, most: int) -> tuple[Counter[int], Counter[int], int, str]:
+    """A run: how often each address was begun at, and how often the counter went on elsewhere than behind two words; its cycles and end."""
+    runs: Counter[int] = Counter()
+    jumps: Counter[int] = Counter()
+
+    def begun(_done: int, at: int) -> None:
+        runs[at] += 1
+        jumps[at] += board.pc != (at + 2) % ADDRESSES
+
+    return runs, jumps, *board.run(most, begun)
+
+
+def count_answer(board: Board, most: int) -> list[str]:
+    """`count n`: at which addresses a run would begin instructions, how often, and how often JCN and ISZ would jump."""
+    runs, jumps, done, stop = counted(board.copy(), most)
+    lines = [f"{at:03X} {runs[at]}" + (f" {jumps[at]}" if CODES[board.rom[at]][0] in BRANCHES else "") for at in sorted(runs)]
+    return [f"count ran {done} {stop} lines {len(lines)}", *lines]
+
+
+def trace_answer(board: Board, most: int, places: list[str]) -> list[str]:
+    """`trace n PLACE ..`: the instructions that a run would begin and that would change a row of places; without places, all of them."""
+    ahead, readers = board.copy(), [reader_of(place) for place in places]
+    lines: list[str] = []
+
+    def row() -> str:
+        return "".join(f" {tell(ahead)}" for tell in readers)
+
+    first = last = row()
+
+    def begun(done: int, at: int) -> None:
+        nonlocal last
+        if not places or row() != last:
+            last = row()
+            lines.append(f"{done} {at:03X}{last}")
+
+    done, stop = ahead.run(most, begun)
+    return [f"trace ran {done} {stop} lines {len(lines)}{first}", *lines]
+
+
+def ram_answer(board: Board, bank: int) -> list[str]:
+    """`ram b`."""
+    chips = board.chips
+    told = [f"ram {bank} chips {chips.chips.get(bank, 0)}"]
+    for chip in range(chips.chips.get(bank, 0)):
+        for register in range(4 * chip, 4 * chip + 4):
+            characters = "".join(f"{value:X}" for value in chips.ram[bank][16 * register:16 * register + 16])
+            told.append(f"{bank}.{chip}.{register % 4} {characters} " + "".join(f"{value:X}" for value in chips.status[bank][register]))
+        told.append(f"{bank}.{chip} out {chips.ram_latch[bank, chip]:X}")
+    return told
+
+
+def instruction_text(board: Board, at: int) -> str:
+    """An instruction as `list` shows it: address, bytes and text."""
+    byte, second = board.rom[at], board.rom[(at + 1) % ADDRESSES]
+    if byte not in CODES:
+        return f"{at:03X} {byte:02X}    DB 0x{byte:02X}"
+    name, low = CODES[byte]
+    on_page = f"0x{(at + 2) % ADDRESSES & 0xF00 | second:03X}"
+    far = f" 0x{256 * low + second:03X}"
+    operands = {"JCN": f" {low}, {on_page}", "FIM": f" P{low}, 0x{second:02X}", "ISZ": f" R{low}, {on_page}", "JUN": far, "JMS": far,
+                "LDM": f" {low}", "BBL": f" {low}", **{name: f" P{low}" for name in ON_PAIR}, **{name: f" R{low}" for name in ON_REGISTER}}
+    return f"{at:03X} {byte:02X} {f'{second:02X}' if name in TWO_WORDS else '  '} {name}{operands.get(name, '')}"
+
+
+def list_answer(board: Board, at: int, most: int) -> list[str]:
+    """`list a n`. (The instruction of two words at FFF is not its business.)"""
+    lines: list[str] = []
+    while at < ADDRESSES and len(lines) < most:
+        lines.append(instruction_text(board, at))
+        at += 2 if CODES.get(board.rom[at], ("", 0))[0] in TWO_WORDS else 1
+    return lines
+
+
+def registers(board: Board, separator: str) -> str:
+    """What `regs` tells, and `state` of the same."""
+    ret = separator.join(f"{at:03X}" for at in board.ret)
+    return (f"acc {board.acc:X} cy {board.cy} pc {board.pc:03X} owed {board.owed} dcl {board.dcl} test {board.test} "
+            f"r {''.join(f'{value:X}' for value in board.r)} ret {ret}")
+
+
+def state_answer(board: Board, seq: int) -> str:
+    """`state`."""
+    chips = board.chips
+    lists = {
+        "banks": [f"{bank}.{chips.bank_src[bank]:02X}" for bank in sorted(chips.chips)],
+        "roms": [f"{chip}.{latch:X}.{chips.read_port(chip):X}" for chip, latch in chips.rom_latch.items()],
+        "rams": [f"{bank}.{chip}.{latch:X}" for (bank, chip), latch in chips.ram_latch.items()],
+        "chains": ["".join(str(bit) for bit in chain) for chain in chips.chains],
+        "keys": [f"{row}.{column}" for row, column in sorted(chips.down)],
+        "lamps": [chips.marks()] if chips.lamps else [],
+        "breaks": [f"{at:03X}" for at in sorted(board.breaks)],
+        "watches": [f"{bank}.{src:02X}" for bank, src in sorted(board.watches)],
+    }
+    told = " ".join(f"{name} {','.join(items) or '-'}" for name, items in lists.items())
+    return f"state seq {seq} {registers(board, ',')} src {chips.rom_src:02X} {told}"
+
+
+class Bench:
+    """A session: a board, and how many commands it has accepted."""
+
+    def __init__(self) -> None:
+        self.board = Board()
+        self.seq = 0
+
+    def dialogue(self, script: Iterable[str]) -> Iterator[tuple[str, list[str]]]:
+        """The lines of a script that are answered, each with its answer, from `session` on."""
+        yield "", [f"session {self.seq}"]
+        lines = iter(script)
+        for line in lines:
+            words = line.split()
+            if words and words[0] in ("wire", "asm"):
+                yield line, self.answer(words[0], list(iter(lines.__next__, ".")))
+            elif words:
+                yield line, self.answer(*words)
+
+    def answer(self, word: str, *rest: object) -> list[str]:
+        """The answer to a line, or to a word with a text."""
+        if word in QUERIES:
+            return QUERIES[word](self, *rest)
+        told = COMMANDS[word](self.board, *rest)
+        if told.startswith("no "):
+            return [told]
+        self.seq += 1
+        return [f"ok {self.seq}{told}"]
+
+
+QUERIES: dict[str, Callable[..., list[str]]] = {
+    "seq": lambda bench: [f"seq {bench.seq}"],
+    "lamps": lambda bench: [f"lamps {bench.board.chips.marks() or '-'}"],
+    "regs": lambda bench: [registers(bench.board, " ")],
+    "breaks": lambda bench: ["breaks " + (" ".join(f"{at:03X}" for at in sorted(bench.board.breaks)) or "-")],
+    "list": lambda bench, at, most: list_answer(bench.board, number(at), number(most)),
+    "state": lambda bench: [state_answer(bench.board, bench.seq)],
+    "ram": lambda bench, bank: ram_answer(bench.board, number(bank)),
+    "count": lambda bench, most: count_answer(bench.board, number(most)),
+    "trace": lambda bench, most, *places: trace_answer(bench.board, number(most), list(places)),
+}
+
+
+# ---- commands: what follows `ok N`, or a refusal
+
+def wire(board: Board, text: list[str]) -> str:
+    """Another board."""
+    board.wire("\n".join(text))
+    return ""
+
+
+def load(board: Board, text: list[str]) -> str:
+    """A program into ROM."""
+    image = assemble(text)[0]
+    if any(at >> 8 not in board.chips.masks for at in image):
+        return "no 42"
+    for at, byte in image.items():
+        board.rom[at] = byte
+    return f" bytes {len(image)}"
+
+
+def put_key(board: Board, row: str, column: str, is_down: bool) -> str:
+    """A key goes down or up, where the board has it."""
+    if number(row) >= board.chips.keys["rows"] or number(column) >= len(board.chips.columns):
+        return "no 41"
+    (board.chips.down.add if is_down else board.chips.down.discard)((number(row), number(column)))
+    return ""
+
+
+def put(items: set, item: object, is_there: bool) -> str:
+    """A breakpoint or a watch is set or taken away."""
+    (items.add if is_there else items.discard)(item)
+    return ""
+
+
+def power_cycle(board: Board) -> str:
+    """`reset`."""
+    board.power_on()
+    return ""
+
+
+def put_test(board: Board, level: str) -> str:
+    """The TEST pin."""
+    board.test = number(level)
+    return ""
+
+
+def poke(board: Board, place: str, text: str) -> str:
+    """A place gets a value."""
+    kind, *words = place.split(".")
+    numbers, value = [number(word) for word in words], number(text)
+    if kind == "rom":
+        if numbers[0] >> 8 not in board.chips.masks:
+            return "no 42"
+        board.rom[numbers[0]] = value
+    elif kind in ("ram", "st"):
+        bank, src = numbers[0], numbers[1] if kind == "ram" else 16 * numbers[1]
+        if not board.chips.has_ram(bank, src):
+            return "no 43"
+        if kind == "ram":
+            board.chips.write_character(bank, src, value)
+        else:
+            board.chips.write_status(bank, numbers[1], numbers[2], value)
+    elif kind in ("acc", "cy", "pc", "dcl"):
+        setattr(board, kind, value)
+    else:
+        board.r[number(kind[1:])] = value
+    return ""
+
+
+def ran(cycles_and_stop: tuple[int, str]) -> str:
+    """What is told of a run or a step."""
+    return " ran {} {}".format(*cycles_and_stop)
+
+
+COMMANDS: dict[str, Callable[..., str]] = {
+    "wire": wire,
+    "asm": load,
+    "press": lambda board, row, column: put_key(board, row, column, True),
+    "release": lambda board, row, column: put_key(board, row, column, False),
+    "run": lambda board, most: ran(board.run(number(most))),
+    "step": lambda board: ran(board.step()),
+    "poke": poke,
+    "test": put_test,
+    "reset": power_cycle,
+    "break": lambda board, at: put(board.breaks, number(at), True),
+    "unbreak": lambda board, at: put(board.breaks, number(at), False),
+    "watch": lambda board, bank, src: put(board.watches, (number(bank), number(src)), True),
+    "unwatch": lambda board, bank, src: put(board.watches, (number(bank), number(src)), False),
+}

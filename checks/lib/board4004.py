@@ -1,0 +1,415 @@
+"""A board of MCS-4 chips as a second reading, which shares no line with the bench.
+
+The 45 instructions and the chips 4001, 4002, 4003 and 4004 are those of Intel's "MCS-4 Micro Computer Set, Users Manual" and data sheets, in
+the words in which docs/MANUAL.md tells of them again. What Intel leaves open is as told there, too: when a chain is clocked, which codes are
+not in the table, that an instruction of two cycles does all its work in the first, and what stops a run.
+"""
+
+from __future__ import annotations
+
+import pickle
+import tomllib
+from collections.abc import Callable
+
+from assembler import ALONE, ON_PAIR, ON_REGISTER, WITH_VALUES
+
+ADDRESSES = 4096
+TWO_WORDS = {"JCN", "FIM", "JUN", "JMS", "ISZ"}
+TWO_CYCLES = TWO_WORDS | {"FIN"}
+# A line of the board: `rom` with chip and number, `ram` with bank, chip and number, `chain` with its number and a bit.
+Line = tuple[str, tuple[int, ...]]
+
+
+def table() -> dict[int, tuple[str, int]]:
+    """The instruction of each code that is one, with the number in its lower half: of a register, of a pair, or a value."""
+    codes = {code: (name, 0) for name, code in ALONE.items()}
+    for name, code in [*ON_REGISTER.items(), *((name, WITH_VALUES[name][1]) for name in ("JCN", "JUN", "JMS", "ISZ", "BBL", "LDM"))]:
+        codes.update({code + low: (name, low) for low in range(16)})
+    for name, code in [*ON_PAIR.items(), ("FIM", WITH_VALUES["FIM"][1])]:
+        codes.update({code + 2 * pair: (name, pair) for pair in range(8)})
+    return codes
+
+
+CODES = table()
+
+
+def line_of(name: str) -> Line:
+    """A line by its name: `rom0.1`, `ram0.1.3`, `chain0.79`."""
+    numbers = name.lstrip("abcdefghijklmnopqrstuvwxyz")
+    return name.removesuffix(numbers), tuple(int(number) for number in numbers.split("."))
+
+
+class Chips:
+    """The chips of a board, its keys and its lamps, by the text of the board."""
+
+    def __init__(self, text: str = "") -> None:
+        wiring = tomllib.loads(text)
+        # Line 0 first.
+        self.masks = {part["chip"]: part["port"][::-1] for part in wiring.get("rom", [])}
+        self.chips = {part["bank"]: part["chips"] for part in wiring.get("ram", [])}
+        self.clocks = [(line_of(part["clock"]), line_of(part["data"])) for part in wiring.get("chain", [])]
+        self.chain_bits = [10 * part["chips"] for part in wiring.get("chain", [])]
+        # Without keys there is no row and no column.
+        self.keys = wiring.get("keys", {"chain": 0, "first": 0, "rows": 0, "columns": []})
+        self.columns = [line_of(name) for name in self.keys["columns"]]
+        self.lamps = [line_of(part["line"]) for part in wiring.get("lamp", [])]
+        self.down: set[tuple[int, int]] = set()
+        self.power_on()
+
+    def power_on(self) -> None:
+        """RAM, latches, SRC bytes and chains are 0."""
+        self.ram = [bytearray(256) for _bank in range(8)]
+        self.status = [[bytearray(4) for _register in range(16)] for _bank in range(8)]
+        self.ram_latch = {(bank, chip): 0 for bank in sorted(self.chips) for chip in range(self.chips[bank])}
+        self.rom_latch = {chip: 0 for chip in sorted(self.masks)}
+        self.rom_src = 0
+        self.bank_src = [0] * 8
+        self.chains = [[0] * bits for bits in self.chain_bits]
+
+    def has_ram(self, bank: int, src: int) -> bool:
+        """Whether the chip that an SRC byte selects in a bank is there: the upper two bits are its number."""
+        return src >> 6 < self.chips.get(bank, 0)
+
+    def has_line(self, line: Line) -> bool:
+        """Whether the board has a line."""
+        kind, numbers = line
+        if kind == "rom":
+            return numbers[0] in self.masks
+        if kind == "ram":
+            return numbers[:2] in self.ram_latch
+        return numbers[0] < len(self.chains) and numbers[1] < len(self.chains[numbers[0]])
+
+    def level(self, line: Line) -> int:
+        """What a line is at; 0 where the board lacks it."""
+        kind, numbers = line
+        if not self.has_line(line):
+            return 0
+        if kind == "chain":
+            return self.chains[numbers[0]][numbers[1]]
+        if kind == "ram":
+            return self.ram_latch[numbers[0], numbers[1]] >> numbers[2] & 1
+        chip, k = numbers
+        return self.is_pulled(line) if self.masks[chip][k] == "i" else self.rom_latch[chip] >> k & 1
+
+    def is_pulled(self, line: Line) -> int:
+        """What an input line is at: 1 where it is the column of a key that is down and whose row is driven."""
+        return int(any(self.columns[column] == line and self.chains[self.keys["chain"]][self.keys["first"] + row] for row, column in self.down))
+
+    def marks(self) -> str:
+        """A mark for each lamp."""
+        return "".join("*" if self.level(lamp) else "." for lamp in self.lamps)
+
+    # ---- what the processor does with them
+
+    def send_src(self, bank: int, byte: int) -> None:
+        """SRC: all ROMs take the byte, and the designated bank, if it has chips."""
+        self.rom_src = byte
+        if bank in self.chips:
+            self.bank_src[bank] = byte
+
+    def read_port(self, chip: int) -> int:
+        """RDR: an input line by its keys, an output line as its mask says."""
+        mask = self.masks.get(chip, "0000")
+        return sum((self.is_pulled(("rom", (chip, k))) if mask[k] == "i" else int(mask[k])) << k for k in range(4))
+
+    def write_rom_port(self, value: int) -> None:
+        """WRR: the output lines of the selected ROM."""
+        chip = self.rom_src >> 4
+        if chip in self.masks:
+            outputs = sum(1 << k for k in range(4) if self.masks[chip][k] != "i")
+            self.write_latch(self.rom_latch, chip, value & outputs)
+
+    def write_ram_port(self, bank: int, value: int) -> None:
+        """WMP: the output lines of the selected RAM chip."""
+        if self.has_ram(bank, self.bank_src[bank]):
+            self.write_latch(self.ram_latch, (bank, self.bank_src[bank] >> 6), value)
+
+    def write_latch(self, latches: dict, port: object, value: int) -> None:
+        """A port write: each chain whose clock goes from 0 to 1 takes in its data line, as it is then."""
+        before = [self.level(clock) for clock, _data in self.clocks]
+        latches[port] = value
+        for n, (clock, data) in enumerate(self.clocks):
+            if not before[n] and self.level(clock):
+                self.chains[n] = [self.level(data), *self.chains[n][:-1]]
+
+    def character(self, bank: int) -> int:
+        """The selected RAM character."""
+        return self.ram[bank][self.bank_src[bank]]
+
+    def write_character(self, bank: int, src: int, value: int) -> None:
+        """A RAM character; one of an absent chip is lost."""
+        if self.has_ram(bank, src):
+            self.ram[bank][src] = value
+
+    def write_status(self, bank: int, register: int, k: int, value: int) -> None:
+        """A status character; the upper nibble of an SRC byte selects its register."""
+        if self.has_ram(bank, register << 4):
+            self.status[bank][register][k] = value
+
+
+class Board:
+    """A 4004 on a board, with what stops a run."""
+
+    def __init__(self) -> None:
+        self.chips = Chips()
+        self.rom = bytearray(ADDRESSES)
+        self.test = 1
+        self.breaks: set[int] = set()
+        self.watches: set[tuple[int, int]] = set()
+        self.power_on()
+
+    def power_on(self) -> None:
+        """The processor and the chips as after a power cycle."""
+        self.acc = self.cy = self.pc = self.dcl = self.owed = 0
+        self.r = [0] * 16
+        self.ret = [0, 0, 0]
+        self.chips.power_on()
+
+    def wire(self, text: str) -> None:
+        """Another board; ROM bytes of chips that it lacks are 0."""
+        self.chips = Chips(text)
+        self.power_on()
+        for page in range(16):
+            if page not in self.chips.masks:
+                self.rom[256 * page:256 * (page + 1)] = bytes(256)
+
+    def copy(self) -> Board:
+        """A board that goes on by itself; so it is made much faster than by `copy.deepcopy`."""
+        return pickle.loads(pickle.dumps(self))
+
+    def pair(self, k: int) -> int:
+        """A pair of registers, the even one in the upper half."""
+        return 16 * self.r[2 * k] + self.r[2 * k + 1]
+
+    def set_pair(self, k: int, byte: int) -> None:
+        """Puts a byte into a pair."""
+        self.r[2 * k:2 * k + 2] = divmod(byte, 16)
+
+    def put_sum(self, total: int) -> None:
+        """A sum goes to the accumulator, what is above 15 to the carry."""
+        self.cy, self.acc = divmod(total, 16)
+
+    # ---- cycles
+
+    def is_outside(self) -> bool:
+        """Whether the code at the counter is in no row of the table."""
+        return self.rom[self.pc] not in CODES
+
+    def cycle(self) -> None:
+        """One cycle: the work of an instruction, or the second cycle of one."""
+        if self.owed:
+            self.owed = 0
+            return
+        name, low = CODES[self.rom[self.pc]]
+        second = self.rom[(self.pc + 1) % ADDRESSES]
+        self.pc = (self.pc + (2 if name in TWO_WORDS else 1)) % ADDRESSES
+        self.owed = int(name in TWO_CYCLES)
+        WORK[name](self, low, second)
+
+    def step(self) -> tuple[int, str]:
+        """An instruction, or the second cycle of one: how many cycles, and why no more."""
+        if not self.owed and self.is_outside():
+            return 0, "code"
+        cycles = 1 if self.owed else 1 + (CODES[self.rom[self.pc]][0] in TWO_CYCLES)
+        for _cycle in range(cycles):
+            self.cycle()
+        return cycles, "end"
+
+    def stops(self, done: int, most: int, changed: bool) -> str:
+        """Why a run goes no further after so many cycles, the last of which has changed a watched character or not; "" where it does."""
+        if not self.owed and self.is_outside():
+            return "code"
+        if done and not self.owed and self.pc in self.breaks:
+            return "break"
+        if done and changed:
+            return "watch"
+        return "end" if done == most else ""
+
+    def watched(self) -> list[int]:
+        """The watched characters."""
+        return [self.chips.ram[bank][src] for bank, src in self.watches]
+
+    def run(self, most: int, begun: Callable[[int, int], None] | None = None) -> tuple[int, str]:
+        """At most so many cycles: how many, and why no more. `begun` hears of each instruction after its work: the cycles that were done
+        before it, and its address."""
+        done, changed = 0, False
+        while not (stop := self.stops(done, most, changed)):
+            at, begins, watched = self.pc, not self.owed, self.watched()
+            self.cycle()
+            changed = watched != self.watched()
+            if begins and begun:
+                begun(done, at)
+            done += 1
+        return done, stop
+
+
+# ---- what an instruction does; the counter stands behind its words already
+
+def jump_on_page(board: Board, low: int) -> None:
+    """To a word of the page at which the counter stands."""
+    board.pc = board.pc & 0xF00 | low
+
+
+def nop(_board: Board, _low: int, _second: int) -> None:
+    """No operation."""
+
+
+def jcn(board: Board, condition: int, second: int) -> None:
+    """Jump conditional: bit 2 asks for ACC 0, bit 1 for a carry, bit 0 for TEST 0; bit 3 inverts."""
+    holds = condition & 4 and board.acc == 0 or condition & 2 and board.cy == 1 or condition & 1 and board.test == 0
+    if bool(holds) != bool(condition & 8):
+        jump_on_page(board, second)
+
+
+def fim(board: Board, pair: int, second: int) -> None:
+    """Fetch immediate."""
+    board.set_pair(pair, second)
+
+
+def src(board: Board, pair: int, _second: int) -> None:
+    """Send register control."""
+    board.chips.send_src(board.dcl, board.pair(pair))
+
+
+def fin(board: Board, pair: int, _second: int) -> None:
+    """Fetch indirect, by pair 0."""
+    board.set_pair(pair, board.rom[board.pc & 0xF00 | board.pair(0)])
+
+
+def jin(board: Board, pair: int, _second: int) -> None:
+    """Jump indirect."""
+    jump_on_page(board, board.pair(pair))
+
+
+def jun(board: Board, high: int, second: int) -> None:
+    """Jump unconditional."""
+    board.pc = 256 * high + second
+
+
+def jms(board: Board, high: int, second: int) -> None:
+    """Jump to subroutine; the oldest of three return addresses is lost."""
+    board.ret = [board.pc, *board.ret[:2]]
+    board.pc = 256 * high + second
+
+
+def inc(board: Board, k: int, _second: int) -> None:
+    """Increment a register."""
+    board.r[k] = (board.r[k] + 1) % 16
+
+
+def isz(board: Board, k: int, second: int) -> None:
+    """Increment, and skip the jump if zero."""
+    inc(board, k, second)
+    if board.r[k]:
+        jump_on_page(board, second)
+
+
+def add(board: Board, k: int, _second: int) -> None:
+    """Add a register and the carry."""
+    board.put_sum(board.acc + board.r[k] + board.cy)
+
+
+def sub(board: Board, k: int, _second: int) -> None:
+    """Subtract: the complement of the register and of the carry are added."""
+    board.put_sum(board.acc + (15 - board.r[k]) + (1 - board.cy))
+
+
+def ld(board: Board, k: int, _second: int) -> None:
+    """Load a register."""
+    board.acc = board.r[k]
+
+
+def xch(board: Board, k: int, _second: int) -> None:
+    """Exchange."""
+    board.acc, board.r[k] = board.r[k], board.acc
+
+
+def bbl(board: Board, value: int, _second: int) -> None:
+    """Branch back and load; the place that becomes free is left with the address behind BBL."""
+    board.acc = value
+    board.pc, board.ret = board.ret[0], [*board.ret[1:], board.pc]
+
+
+def ldm(board: Board, value: int, _second: int) -> None:
+    """Load immediate."""
+    board.acc = value
+
+
+def wrm(board: Board, _low: int, _second: int) -> None:
+    """Write the RAM character."""
+    board.chips.write_character(board.dcl, board.chips.bank_src[board.dcl], board.acc)
+
+
+def wmp(board: Board, _low: int, _second: int) -> None:
+    """Write the port of the RAM chip."""
+    board.chips.write_ram_port(board.dcl, board.acc)
+
+
+def wrr(board: Board, _low: int, _second: int) -> None:
+    """Write the port of the ROM."""
+    board.chips.write_rom_port(board.acc)
+
+
+def write_status(k: int) -> Callable[[Board, int, int], None]:
+    """WR0 to WR3."""
+    return lambda board, _low, _second: board.chips.write_status(board.dcl, board.chips.bank_src[board.dcl] >> 4, k, board.acc)
+
+
+def read_status(k: int) -> Callable[[Board, int, int], None]:
+    """RD0 to RD3."""
+    def read(board: Board, _low: int, _second: int) -> None:
+        board.acc = board.chips.status[board.dcl][board.chips.bank_src[board.dcl] >> 4][k]
+    return read
+
+
+def sbm(board: Board, _low: int, _second: int) -> None:
+    """Subtract the RAM character."""
+    board.put_sum(board.acc + (15 - board.chips.character(board.dcl)) + (1 - board.cy))
+
+
+def rdm(board: Board, _low: int, _second: int) -> None:
+    """Read the RAM character."""
+    board.acc = board.chips.character(board.dcl)
+
+
+def rdr(board: Board, _low: int, _second: int) -> None:
+    """Read the port of the ROM."""
+    board.acc = board.chips.read_port(board.chips.rom_src >> 4)
+
+
+def adm(board: Board, _low: int, _second: int) -> None:
+    """Add the RAM character and the carry."""
+    board.put_sum(board.acc + board.chips.character(board.dcl) + board.cy)
+
+
+def accumulator(change: Callable[[int, int], tuple[int, int]]) -> Callable[[Board, int, int], None]:
+    """An instruction of accumulator and carry: what they become, carry first."""
+    def work(board: Board, _low: int, _second: int) -> None:
+        board.cy, board.acc = change(board.acc, board.cy)
+    return work
+
+
+def dcl(board: Board, _low: int, _second: int) -> None:
+    """Designate command line: the lower three bits."""
+    board.dcl = board.acc % 8
+
+
+WORK: dict[str, Callable[[Board, int, int], None]] = {
+    "NOP": nop, "JCN": jcn, "FIM": fim, "SRC": src, "FIN": fin, "JIN": jin, "JUN": jun, "JMS": jms, "INC": inc, "ISZ": isz, "ADD": add,
+    "SUB": sub, "LD": ld, "XCH": xch, "BBL": bbl, "LDM": ldm, "WRM": wrm, "WMP": wmp, "WRR": wrr, "SBM": sbm, "RDM": rdm, "RDR": rdr,
+    "ADM": adm, "DCL": dcl, **{f"WR{k}": write_status(k) for k in range(4)}, **{f"RD{k}": read_status(k) for k in range(4)},
+    "CLB": accumulator(lambda acc, cy: (0, 0)),
+    "CLC": accumulator(lambda acc, cy: (0, acc)),
+    "IAC": accumulator(lambda acc, cy: divmod(acc + 1, 16)),
+    "CMC": accumulator(lambda acc, cy: (1 - cy, acc)),
+    "CMA": accumulator(lambda acc, cy: (cy, 15 - acc)),
+    "RAL": accumulator(lambda acc, cy: divmod(2 * acc + cy, 16)),
+    "RAR": accumulator(lambda acc, cy: (acc % 2, 8 * cy + acc // 2)),
+    "TCC": accumulator(lambda acc, cy: (0, cy)),
+    "DAC": accumulator(lambda acc, cy: divmod(acc + 15, 16)),
+    "TCS": accumulator(lambda acc, cy: (0, 9 + cy)),
+    "STC": accumulator(lambda acc, cy: (1, acc)),
+    # The carry is set, never cleared.
+    "DAA": accumulator(lambda acc, cy: (cy | (acc + 6) // 16, (acc + 6) % 16) if cy or acc > 9 else (cy, acc)),
+    "KBP": accumulator(lambda acc, cy: (cy, {0: 0, 1: 1, 2: 2, 4: 3, 8: 4}.get(acc, 15))),
+}

@@ -1,0 +1,259 @@
+"""Boards, programs and what is done with them, by a generator: the same from the same number. All of it are texts, as a user types them.
+
+Many have what once was told wrongly: addresses such as 0E0 and 1E2, which are numbers to some readers, as the names `inf` and `nan` are;
+one chain alone, of up to 80 bits, that is clocked often.
+"""
+
+from __future__ import annotations
+
+import random
+
+from assembler import ADDRESSES, ALONE, ON_PAIR, ON_REGISTER
+from board4004 import Board
+
+OUTSIDE = [*range(1, 16), 0xE3, 0xFE, 0xFF]
+JUMPS = ("JUN", "JMS", "JCN", "ISZ")
+NAMES = ("inf", "nan", "INFINITY", "infinity", "NaN", "INF", "e0", "E1", "_0E0", "x1e2")
+ORIGINS = (0x00, 0x02, 0x1E, 0x40, 0xD9, 0xDE, 0xE0, 0xE1, 0xF0, 0xF9)
+# The texts of a board and of a program have at most so many bytes.
+LONGEST = 16384
+
+
+class Wiring:
+    """A board: its text, and what a program can use of it."""
+
+    def __init__(self, chance: random.Random) -> None:
+        self.chance = chance
+        pages = {0, *chance.choices([1, 1, 2, 14, 15, chance.randrange(16)], k=chance.randrange(1, 3))}
+        # The page after one, too, where instructions at its end go on.
+        self.pages = sorted(pages | {(page + 1) % 16 for page in pages if chance.random() < 0.4})
+        ports = {*self.pages, *chance.sample(range(16), chance.randrange(4))}
+        self.ports = {chip: chance.choice(["0000", "0000", "1111", "".join(chance.choices("i01", k=4)), "iiii"]) for chip in sorted(ports)}
+        self.banks = {bank: chance.randrange(1, 5) for bank in sorted(chance.sample(range(8), chance.choice([0, 1, 1, 2, 4])))}
+        outputs = [[f"rom{chip}.{3 - i}" for i in range(4) if port[i] != "i"] for chip, port in self.ports.items()]
+        outputs += [[f"ram{bank}.{chip}.{k}" for k in range(4)] for bank, chips in self.banks.items() for chip in range(chips)]
+        self.outputs = [lines for lines in outputs if lines]
+        self.inputs = [f"rom{chip}.{3 - i}" for chip, port in self.ports.items() for i in range(4) if port[i] == "i"]
+        self.chains = [self.chain() for _n in range(chance.choice([0, 1, 1, 1, 2, 4]))] if self.outputs else []
+        self.rows = self.first = self.driver = 0
+        self.columns: list[str] = []
+        if self.chains and self.inputs:
+            self.driver = chance.randrange(len(self.chains))
+            bits = 10 * self.chains[self.driver][2]
+            self.rows = chance.randrange(1, min(10, bits) + 1)
+            self.first = chance.randrange(min(20, bits - self.rows) + 1)
+            self.columns = chance.choices(self.inputs, k=chance.randrange(1, 9))
+        bits_of_chains = [f"chain{n}.{bit}" for n, chain in enumerate(self.chains) for bit in range(10 * chain[2])]
+        self.lines = [line for lines in self.outputs for line in lines] + bits_of_chains
+        self.lamps = chance.choices(self.lines, k=chance.choice([0, 3, 8, 20])) if self.lines else []
+
+    def chain(self) -> tuple[str, str, int]:
+        """A chain's clock and data, mostly of one port, and its chips."""
+        lines = self.chance.choice(self.outputs)
+        others = lines if self.chance.random() < 0.8 else self.chance.choice(self.outputs)
+        return self.chance.choice(lines), self.chance.choice(others), self.chance.choice([1, 2, 3, 8, 8])
+
+    def text(self) -> list[str]:
+        """The text of the board."""
+        told: list[str] = []
+        for chip, port in self.ports.items():
+            told += ["[[rom]]", f"chip = {chip}", f'port = "{port}"']
+        for bank, chips in self.banks.items():
+            told += ["[[ram]]", f"bank = {bank}", f"chips = {chips}"]
+        for clock, data, chips in self.chains:
+            told += ["[[chain]]", f'clock = "{clock}"', f'data = "{data}"', f"chips = {chips}"]
+        if self.columns:
+            columns = ", ".join(f'"{line}"' for line in self.columns)
+            told += ["[keys]", f"chain = {self.driver}", f"first = {self.first}", f"rows = {self.rows}", f"columns = [{columns}]"]
+        for line in self.lamps:
+            told += ["[[lamp]]", f'line = "{line}"']
+        return told
+
+
+class Program:
+    """A program for a board: instructions at some addresses, then targets for its jumps."""
+
+    def __init__(self, chance: random.Random, wiring: Wiring) -> None:
+        self.chance, self.wiring = chance, wiring
+        # Address and words of a statement; the target of a jump is not there yet.
+        self.statements: dict[int, str] = {}
+        self.loops: dict[int, int] = {}
+        self.free = set(range(ADDRESSES))
+        for page in wiring.pages:
+            for word in {0, *chance.sample(ORIGINS, 2)} if page == 0 else chance.sample(ORIGINS, chance.randrange(1, 4)):
+                self.put_part(256 * page + word, chance.randrange(4, 30))
+            if chance.random() < 0.5:
+                self.put_end_of_page(256 * page)
+        self.begins = [at for at, told in self.statements.items() if not told.startswith("DB")]
+        self.names = self.some_names()
+
+    def put_part(self, at: int, phrases: int) -> None:
+        """Some phrases from an address on, as far as there is room, and an end: a jump, a code that is no instruction, or what comes next."""
+        told = [word for _n in range(phrases) for word in self.phrase()]
+        self.put(at, told + self.chance.choice([["JUN"], ["JUN"], ["BBL 3"], [f"DB 0x{self.chance.choice(OUTSIDE):02X}"], []]))
+
+    def put(self, at: int, statements: list[str]) -> None:
+        """Statements from an address on, as far as there is room; `^4` goes back by four of them."""
+        put: list[int] = []
+        for statement in statements:
+            statement, _sign, back = statement.partition(" ^")
+            size = 2 if statement.split()[0] in (*JUMPS, "FIM") else 1
+            if not {at, at + size - 1} <= self.free or any(there >> 8 not in self.wiring.pages for there in (at, at + size - 1)):
+                return
+            self.free -= {at, at + size - 1}
+            self.statements[at] = statement
+            put.append(at)
+            if back and put[-int(back)] >> 8 == (at + 2) >> 8:
+                self.loops[at] = put[-int(back)]
+            at += size
+
+    def put_end_of_page(self, page: int) -> None:
+        """Instructions in the last words of a page, whose targets are on the next one."""
+        if (page >> 8) + 1 in self.wiring.pages and {page + 0xFC, page + 0xFD, page + 0xFE, page + 0xFF, page + 0x100} <= self.free:
+            names = ["ISZ R3", "JCN 12", "JCN 4", "JIN P2", "FIN P2"]
+            self.put(page + 0xFC, ["NOP", "NOP", self.chance.choice(names)] if self.chance.random() < 0.5 else ["NOP", "NOP", "NOP", self.chance.choice(names)])
+
+    def phrase(self) -> list[str]:
+        """A few instructions that do something together, or one of any kind."""
+        kind = self.chance.random()
+        value, pair = self.chance.randrange(16), self.chance.randrange(8)
+        if kind < 0.15:
+            return [f"FIM P{pair}, 0x{self.selected():02X}", f"SRC P{pair}"]
+        if kind < 0.20:
+            return [f"LDM {self.chance.choice([*self.wiring.banks, value])}", "DCL"]
+        if kind < 0.40 and self.wiring.chains:
+            return self.clocked(pair)
+        if kind < 0.45:
+            return [f"FIM P0, 0x{self.chance.randrange(256):02X}", f"FIN P{pair}"]
+        if kind < 0.48:
+            return [self.chance.choice(["STC", "CLC"]), f"LDM {value}", "DAA"]
+        if kind < 0.57:
+            return [f"LDM {value}", self.chance.choice(["WRM", "WMP", "WRR", f"WR{value % 4}"])]
+        return [self.any_instruction(value, pair)]
+
+    def selected(self) -> int:
+        """An SRC byte, mostly of a chip that is there."""
+        return self.chance.choice([16 * self.chance.choice([*self.wiring.ports]), self.chance.randrange(64), self.chance.randrange(256)])
+
+    def clocked(self, pair: int) -> list[str]:
+        """A chain is clocked some times."""
+        clock, data, _chips = self.chance.choice(self.wiring.chains)
+        numbers = [int(word) for word in clock[3:].split(".")]
+        up, down = (f"LDM {1 << numbers[-1] | self.chance.choice([0, 1 << int(data[-1])]) | self.chance.choice([0, 4])}", "LDM 0")
+        begin = [f"FIM P{pair}, 0x{16 * numbers[0] if clock.startswith('rom') else 64 * numbers[1]:02X}", f"SRC P{pair}"]
+        if clock.startswith("ram"):
+            begin = [f"LDM {numbers[0]}", "DCL", *begin]
+        write = "WRR" if clock.startswith("rom") else "WMP"
+        pulse = [up, write, down, write]
+        return begin + (self.chance.randrange(1, 6) * pulse if self.chance.random() < 0.5 else [*pulse, f"ISZ R{self.chance.randrange(16)} ^5"])
+
+    def any_instruction(self, value: int, pair: int) -> str:
+        """One of the 45."""
+        name = self.chance.choice([*ALONE, *ON_REGISTER, *ON_PAIR, *JUMPS, "FIM", "LDM", "BBL", "ISZ", "JMS"])
+        if name == "FIM":
+            return f"FIM P{pair}, 0x{self.chance.randrange(256):02X}"
+        operand = f" P{pair}" if name in ON_PAIR else f" R{value}" if name in (*ON_REGISTER, "ISZ") else ""
+        return name + (operand or (f" {value}" if name in ("LDM", "BBL", "JCN") else ""))
+
+    def some_names(self) -> dict[int, str]:
+        """Labels of some addresses: words that read as numbers among them."""
+        there = self.chance.sample(self.begins, min(len(self.begins), self.chance.choice([0, 2, 12])))
+        return {at: NAMES[i] if i < len(NAMES) else f"l{at:03X}" for i, at in enumerate(there)}
+
+    def target(self, at: int, name: str) -> str:
+        """Where a jump goes: mostly to an instruction."""
+        if at in self.loops:
+            return self.names.get(self.loops[at], f"0x{self.loops[at]:03X}")
+        page = (at + 2) % ADDRESSES >> 8 if name in ("JCN", "ISZ") else self.chance.choice(self.wiring.pages)
+        there = [other for other in self.begins if other >> 8 == page]
+        # A loop of a few instructions is left soon.
+        near = [other for other in there if at - 12 < other <= at]
+        if name == "ISZ" and near and self.chance.random() < 0.7:
+            there = near
+        goal = self.chance.choice(there) if there and self.chance.random() < 0.95 else 256 * page + self.chance.randrange(256)
+        return self.names.get(goal, f"0x{goal:03X}")
+
+    def text(self) -> list[str]:
+        """The text of the program."""
+        told, here = [], 0
+        for at in sorted(self.statements):
+            statement = self.statements[at]
+            name = statement.split()[0]
+            if name in JUMPS:
+                statement += (", " if name in ("JCN", "ISZ") else " ") + self.target(at, name)
+            if at != here:
+                told.append(f"        ORG 0x{at:03X}")
+            label = f"{self.names[at]}:" if at in self.names else ""
+            told.append(f"{label:<10}{statement}" + ("" if self.chance.random() < 0.9 else " ; a comment"))
+            here = at + (2 if name in (*JUMPS, "FIM") else 1)
+        return told
+
+
+class Seeded:
+    """A board, a program, and what is done before anything is asked."""
+
+    def __init__(self, seed: int) -> None:
+        self.chance = random.Random(seed)
+        self.wiring = Wiring(self.chance)
+        self.program = Program(self.chance, self.wiring)
+        self.board_text = self.wiring.text()
+        self.program_text = self.program.text()
+
+    def begun(self) -> list[str]:
+        """The lines that make the session."""
+        return ["wire", *self.board_text, ".", "asm", *self.program_text, "."]
+
+    def somewhere(self) -> int:
+        """An address, mostly one where an instruction begins; often before a loop that clocks a chain, or at
+        the end of a page."""
+        loops = [goal - 3 for goal in self.program.loops.values()]
+        if loops and self.chance.random() < 0.3:
+            return self.chance.choice(loops)
+        ends = [at for at in self.program.begins if at & 0xFC == 0xFC]
+        if ends and self.chance.random() < 0.2:
+            return self.chance.choice(ends)
+        return self.chance.choice(self.program.begins) if self.chance.random() < 0.95 else self.chance.randrange(ADDRESSES)
+
+    def character(self) -> tuple[int, int]:
+        """A RAM character, mostly of a chip that is there."""
+        bank = self.chance.choice([*self.wiring.banks, self.chance.randrange(8)])
+        return bank, self.chance.choice([self.program.selected(), self.chance.randrange(256)])
+
+    def change(self) -> str:
+        """A command that changes something; some are refused."""
+        chance = self.chance
+        bank, src = self.character()
+        value = chance.randrange(16)
+        kinds = [f"poke pc 0x{self.somewhere():03X}"] * 4 + [
+            f"poke acc {value}", f"poke cy {value % 2}", f"poke dcl {value % 8}", f"poke r{chance.randrange(16)} {value}",
+            f"poke ram.{bank}.{src} {value}", f"poke st.{bank}.{src >> 4}.{chance.randrange(4)} {value}", f"test {value % 2}"]
+        if self.wiring.columns:
+            key = f"{chance.randrange(self.wiring.rows)} {chance.randrange(len(self.wiring.columns))}"
+            kinds += [f"press {key}"] * 3 + [f"release {key}"]
+        return chance.choice(kinds)
+
+    def stop(self, board: Board) -> str:
+        """A breakpoint or a watch comes or goes: mostly one that the board comes to, or the one where it stands."""
+        ahead, visited, written = board.copy(), [board.pc], [self.character()]
+        ahead.breaks = set()
+
+        def begun(_done: int, at: int) -> None:
+            visited.append(at)
+            written.extend([(ahead.dcl, ahead.chips.bank_src[ahead.dcl])] if ahead.rom[at] == 0xE0 else [])
+
+        ahead.run(300, begun)
+        at, (bank, src) = self.chance.choice([board.pc, self.somewhere(), *visited[-20:]]), self.chance.choice(written)
+        return self.chance.choice([f"break {at}"] * 2 + [f"unbreak {at}"] + [f"watch {bank} {src}"] * 2 + [f"unwatch {bank} {src}"])
+
+    def place(self) -> str:
+        """What a trace looks at."""
+        chance = self.chance
+        bank, src = self.character()
+        line = chance.choice(self.wiring.lines + self.wiring.inputs + [f"chain{chance.randrange(4)}.{chance.randrange(80)}"])
+        other = f"ram{chance.randrange(8)}.{chance.randrange(4)}.{chance.randrange(4)}"
+        return chance.choice(["acc", "cy", "pc", "dcl", f"r{chance.randrange(16)}", f"rom.0x{self.somewhere():x}", f"ram.{bank}.{src}",
+                              f"st.{bank}.{src >> 4}.{chance.randrange(4)}", "ret", "lamps", line, line, line, other])
+
+    def cycles(self) -> int:
+        """How long something is run."""
+        return self.chance.choice([1, 2, 3, self.chance.randrange(1, 60), self.chance.randrange(1, 400), self.chance.randrange(1, 1500)])
