@@ -12,7 +12,9 @@ use std::os::unix::fs::{FileExt, MetadataExt};
 use std::rt::Files;
 
 const INPUT: &str = "/dev/stdin";
+
 const OUTPUT: &str = "/dev/stdout";
+
 const ERRORS: &str = "/dev/stderr";
 
 /// Some of the standard streams.
