@@ -5,3 +5,4 @@ pub mod PortTexts
 pub mod ListedWords
 pub mod RegisterTexts
 pub mod StateText
+pub mod AheadLines

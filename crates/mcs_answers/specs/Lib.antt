@@ -2,3 +2,5 @@ pub mod AnswerTexts
 pub mod Commas
 pub mod Keys
 pub mod Version1
+pub mod AheadTexts
+pub mod Traced

@@ -1,6 +1,8 @@
 //! The texts of answers.
 #![tactic(auto)]
 
+mod ahead;
+mod counts;
 mod digits;
 pub mod laws;
 mod lists;
@@ -12,7 +14,10 @@ mod registers;
 mod size;
 mod state;
 mod state_lists;
+mod traces;
 
+pub use counts::put_count;
 pub use numbers::{put_number, put_refusal_at, put_reply};
 pub use queries::{listing_answer, put_board, put_query};
 pub use size::ANSWER_BYTES;
+pub use traces::put_trace;

@@ -3,7 +3,7 @@ ghost use Rattle.std.specs.Prelude.{◌≡◌, ◌+◌, ◌*◌, ◌++◌, ◌�
 ghost use Rattle.std.specs.List.{flat_map};
 ghost use Rattle.arrayvec.specs.ArrayVec.{array_vec_len};
 ghost use Rattle.mcs_model.specs.Levels.{level};
-ghost use Rattle.mcs_model.specs.QueryText.{address_text, breaks_text, lamp_mark, lamps_text, watch_text, watches_text};
+ghost use Rattle.mcs_model.specs.QueryText.{address_text, breaks_text, lamp_mark, lamps_text, or_dash, watch_text, watches_text};
 ghost use Rattle.mcs_answers.specs.AnswerTexts.{line_feed};
 
 use crate::digits::{put, put_address, put_byte, put_digit};
@@ -34,6 +34,20 @@ fn put_marks(answer: &mut ArrayVec<u8, ANSWER_BYTES>, bench: &Bench)
     }
 }
 
+/// Adds a mark for each lamp of the board, in order, or a dash where there is none.
+pub(crate) fn put_lamp_marks(answer: &mut ArrayVec<u8, ANSWER_BYTES>, bench: &Bench)
+    requires { array_vec_len answer.old + LAMPS ≤ ANSWER_BYTES }
+    ensures text { answer.new.items ≡ answer.old.items
+        ++ or_dash (map (λ line. lamp_mark (level bench.now.bus line)) bench.now.bus.board.lamps.items) }
+    ensures count { length answer.new.items ≤ length answer.old.items + LAMPS }
+{
+    if bench.board().parts().lamps.is_empty() {
+        put(answer, b"-");
+    } else {
+        put_marks(answer, bench);
+    }
+}
+
 /// Adds the levels of the lamps.
 pub(crate) fn add_lamps(answer: &mut ArrayVec<u8, ANSWER_BYTES>, bench: &Bench)
     requires { array_vec_len answer.old + LAMP_BYTES ≤ ANSWER_BYTES }
@@ -41,11 +55,7 @@ pub(crate) fn add_lamps(answer: &mut ArrayVec<u8, ANSWER_BYTES>, bench: &Bench)
     ensures count { length answer.new.items ≤ length answer.old.items + LAMP_BYTES }
 {
     put(answer, b"lamps ");
-    if bench.board().parts().lamps.is_empty() {
-        put(answer, b"-");
-    } else {
-        put_marks(answer, bench);
-    }
+    put_lamp_marks(answer, bench);
 }
 
 /// Tells the levels of the lamps, in an empty answer.

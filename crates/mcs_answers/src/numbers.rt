@@ -43,7 +43,7 @@ pub fn put_refusal_at(answer: &mut ArrayVec<u8, ANSWER_BYTES>, number: u8, line:
 }
 
 /// The name of a reason to stop.
-fn stop_name(stop: Stop) -> &'static [u8]
+pub(crate) fn stop_name(stop: Stop) -> &'static [u8]
     ensures name { result.now ≡ stop_name stop }
     ensures short { length result.now ≤ 5 }
 {

@@ -1,7 +1,7 @@
 //! What a bench tells of its state.
-ghost use Rattle.std.specs.Prelude.{◌≡◌, ◌+◌, ◌*◌, ◌<◌, ◌≤◌, true, IfOk, length, option_map, slice_get, slice_index};
+ghost use Rattle.std.specs.Prelude.{◌≡◌, ◌+◌, ◌*◌, ◌<◌, ◌≤◌, true, IfOk, length, option_map, slice_get, slice_index, if◌then◌else◌};
 ghost use Rattle.std.specs.List.Sorted.{IsStrictlyIncreasing};
-ghost use Rattle.mcs_model.specs.Boards.{has_key, key_place};
+ghost use Rattle.mcs_model.specs.Boards.{exists_on, has_key, key_place};
 ghost use Rattle.mcs_model.specs.Levels.{chain_bit, level, port_at};
 ghost use Rattle.mcs_model.specs.Bus.{status_place};
 ghost use Rattle.mcs_model.specs.Validity.{AreWatches};
@@ -9,11 +9,25 @@ ghost use Rattle.mcs_bench.specs.ChipLists.{count_of, list_of};
 
 use crate::bench::Bench;
 use crate::chip_list::ChipList;
-use mcs_model::board::Board;
+use mcs_model::board::{Board, Line};
 use mcs_model::limits::BREAKPOINTS;
 use mcs_model::regs::Regs;
 use mcs_nibble::{Addr, Bit, Nibble};
 use std::alloc::{AllocError, Global};
+
+/// Whether a board has a line.
+fn has_line(board: &Board, line: Line) -> bool
+    ensures { result ≡ exists_on board.now line }
+{
+    match line {
+        Line::Rom(chip, k) => board.mask(chip).is_some() && k < 4,
+        Line::Ram(bank, chip, k) => chip < board.bank_chips(bank) && k < 4,
+        Line::Chain(n, i) => {
+            let n = usize::from(n);
+            n < board.chain_count() && u16::from(i) < board.chain(n).bits()
+        }
+    }
+}
 
 impl Bench {
     /// How many commands were accepted.
@@ -159,6 +173,17 @@ impl Bench {
         ensures { result ≡ self.now.bus.test }
     {
         self.rig.test_level()
+    }
+
+    /// The level of a line; 0 where the board has no such line.
+    pub fn level(&self, line: Line) -> Bit
+        ensures { result ≡ (if exists_on self.now.bus.board line then level self.now.bus line else 0) }
+    {
+        if has_line(self.rig.board(), line) {
+            self.rig.level(line)
+        } else {
+            Bit::ZERO
+        }
     }
 
     /// The level of the line that lamp `i`, counted from 0, is at; none beyond the board's lamps.

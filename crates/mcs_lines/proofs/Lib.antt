@@ -1,3 +1,4 @@
 pub mod Cutting
 pub mod LineWords
 pub mod WordParts
+pub mod ProbeLists

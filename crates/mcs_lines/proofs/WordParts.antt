@@ -4,6 +4,7 @@ use Rattle.std.proofs.lemmas.List.{drop_more, append-nil, take_all}
 use Rattle.mcs_lines.specs.declared.requests.Request.TheVariants.{Refused}
 use Rattle.mcs_lines.specs.declared.requests.LineFault.TheVariants.{NotACommand}
 use Rattle.mcs_lines.specs.Cutting.{HasNone, cut_at}
+use Rattle.mcs_lines.specs.ProbeWords.{probe_of, probe_parts, probe_whole}
 use Rattle.mcs_lines.specs.Requests.{poke_of, poke_parts}
 use Rattle.mcs_lines.specs.Words.{EndsAtDot, EndsPart, is_dot}
 use Rattle.mcs_lines.proofs.Cutting.{before, cut_at-append, cut_at-cut, cut_at-nothing, first_piece_of}
@@ -39,3 +40,15 @@ pub no_such_place : (place r1 r2 r3 r4 name a b k value : List ℕ)
     → Refused NotACommand ≡ poke_of place value
 no_such_place place r1 r2 r3 r4 name a b k value e1 e2 e3 e4 =
     sym (ap (λ v. poke_parts v value) (e1 ∙ ap (λ v. name ∷ v) (e2 ∙ ap (λ v. a ∷ v) (e3 ∙ ap (λ v. b ∷ v) e4))) ∙ many_parts name a b k r4 value)
+
+more_parts : (word name a b rest : List ℕ) → probe_parts word (name ∷ a ∷ b ∷ cut_at is_dot rest) ≡ probe_whole word
+more_parts word name a b rest = let f = first_piece_of is_dot rest in ap (λ v. probe_parts word (name ∷ a ∷ b ∷ v)) f.2
+
+-- a word of four parts or more is read whole
+pub read_whole_of : (word r1 r2 r3 name a b : List ℕ)
+    → cut_at is_dot word ≡ name ∷ cut_at is_dot r1
+    → cut_at is_dot r1 ≡ a ∷ cut_at is_dot r2
+    → cut_at is_dot r2 ≡ b ∷ cut_at is_dot r3
+    → probe_whole word ≡ probe_of word
+read_whole_of word r1 r2 r3 name a b e1 e2 e3 =
+    sym (ap (probe_parts word) (e1 ∙ ap (λ v. name ∷ v) (e2 ∙ ap (λ v. a ∷ v) e3)) ∙ more_parts word name a b r3)

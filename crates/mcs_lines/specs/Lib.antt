@@ -2,3 +2,5 @@ pub mod Cutting
 pub mod Words
 pub mod Requests
 pub mod RefusalNumbers
+pub mod ProbeWords
+pub mod LineRequests

@@ -1,18 +1,17 @@
 -- What a command line asks for: the table of lines. (Our own choice.)
-use Rattle.std.specs.Prelude.{◌==◌, ◌&&◌, Bool, ℕ, List, [], ◌∷◌, codes, length, nat_lt, is_some, if◌then◌else◌, Option, Some, None}
-use Rattle.std.specs.List.{list_all}
+use Rattle.std.specs.Prelude.{◌==◌, ◌&&◌, Bool, ℕ, List, [], ◌∷◌, codes, nat_lt, is_some, if◌then◌else◌, Option, Some, None}
 use Rattle.std.specs.Str.{bytes_eq}
 use Rattle.mcs_model.specs.Numerals.{number_written, number_up_to}
 use Rattle.mcs_model.specs.declared.command.Command.TheVariants.{Press, Release, Run, Step, Poke, Test, Reset, Break, Unbreak, Watch, Unwatch}
 use Rattle.mcs_model.specs.declared.command.Place.{Place}
 use Rattle.mcs_model.specs.declared.command.Place.TheVariants.{Acc, Cy, Pc, Register, Dcl, Rom, Ram, Status}
-use Rattle.mcs_model.specs.declared.limits.TheConstants.{LINE_BYTES, LISTING_LINES}
+use Rattle.mcs_model.specs.declared.limits.TheConstants.{LISTING_LINES, RUN_CYCLES}
 use Rattle.mcs_model.specs.declared.query.Query.TheVariants as query
 use Rattle.mcs_lines.specs.declared.requests.Request.{Request}
-use Rattle.mcs_lines.specs.declared.requests.Request.TheVariants.{Nothing, Refused, Ask, Listing, Board, Change, Begin}
+use Rattle.mcs_lines.specs.declared.requests.Request.TheVariants.{Refused, Ask, Listing, Board, Count, Change, Begin}
 use Rattle.mcs_lines.specs.declared.requests.TextKind.TheVariants.{Wire, Asm, Map}
-use Rattle.mcs_lines.specs.declared.requests.LineFault.TheVariants.{NotACommand, BadNumber, LineTooLong, NotAscii}
-use Rattle.mcs_lines.specs.Words.{is_plain_byte, parts_of_word, words_of}
+use Rattle.mcs_lines.specs.declared.requests.LineFault.TheVariants.{NotACommand, BadNumber}
+use Rattle.mcs_lines.specs.Words.{parts_of_word}
 
 abbrev pub is_number : List ℕ → Bool
 is_number word = is_some (number_written word)
@@ -104,6 +103,10 @@ request_alone word =
     else if bytes_eq word (codes "map") then Begin Map
     else Refused NotACommand
 
+-- `count`
+abbrev pub count_request : List ℕ → Request
+count_request n = with_number RUN_CYCLES n (λ n. if nat_lt 0 n then Count n else Refused BadNumber)
+
 -- a line of two words
 abbrev pub request_with_one : List ℕ → List ℕ → Request
 request_with_one word a =
@@ -112,6 +115,7 @@ request_with_one word a =
     else if bytes_eq word (codes "break") then with_number 4095 a (λ at. Change (Break at))
     else if bytes_eq word (codes "unbreak") then with_number 4095 a (λ at. Change (Unbreak at))
     else if bytes_eq word (codes "ram") then with_number 7 a (λ bank. Ask (query.Ram bank))
+    else if bytes_eq word (codes "count") then count_request a
     else Refused NotACommand
 
 -- a listing has at least one line
@@ -138,17 +142,8 @@ request_with_two word a b =
     else Refused NotACommand
 
 -- by the number of words
-abbrev pub request_of_words : List (List ℕ) → Request
-request_of_words [] = Nothing
-request_of_words (word ∷ []) = request_alone word
-request_of_words (word ∷ a ∷ []) = request_with_one word a
-request_of_words (word ∷ a ∷ b ∷ []) = request_with_two word a b
-request_of_words words = Refused NotACommand
-
--- What a line asks for. Too long (12) is judged first, then a byte that no command line may have (14);
--- only then is it read.
-unfoldable pub request_of : List ℕ → Request
-request_of line =
-    if nat_lt LINE_BYTES (length line) then Refused LineTooLong
-    else if list_all is_plain_byte line then request_of_words (words_of line)
-    else Refused NotAscii
+abbrev pub request_of_word : List ℕ → List (List ℕ) → Request
+request_of_word word [] = request_alone word
+request_of_word word (a ∷ []) = request_with_one word a
+request_of_word word (a ∷ b ∷ []) = request_with_two word a b
+request_of_word word words = Refused NotACommand

@@ -3,5 +3,6 @@
 
 pub mod numbers;
 pub mod places;
+mod probes;
 pub mod requests;
 pub mod words;

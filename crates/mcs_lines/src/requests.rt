@@ -2,14 +2,18 @@
 ghost use Rattle.std.specs.Prelude.{◌≡◌};
 ghost use Rattle.std.specs.List.{list_all};
 ghost use Rattle.mcs_lines.specs.RefusalNumbers.{line_fault_number};
-ghost use Rattle.mcs_lines.specs.Requests.{list_request, or_bad_number, request_alone, request_of, request_of_words, request_with_one, request_with_two};
+ghost use Rattle.mcs_lines.specs.LineRequests.{request_of, request_of_words, trace_request};
+ghost use Rattle.mcs_lines.specs.Requests.{count_request, list_request, or_bad_number, request_alone, request_of_word, request_with_one, request_with_two};
 ghost use Rattle.mcs_lines.specs.Words.{is_plain_byte, words_of};
 
 use crate::numbers::{address, bank, bit, byte};
 use crate::places::read_poke;
+use crate::probes::read_probes;
 use crate::words::{equals, is_plain_byte, next_word};
+use arrayvec::ArrayVec;
+use mcs_ahead::{PROBES, Probe};
 use mcs_model::command::Command;
-use mcs_model::limits::{LINE_BYTES, LISTING_LINES};
+use mcs_model::limits::{LINE_BYTES, LISTING_LINES, RUN_CYCLES};
 use mcs_model::numeral::number_within;
 use mcs_model::query::Query;
 use mcs_model::refusal_numbers;
@@ -71,6 +75,10 @@ pub enum Request {
     Listing(Addr, u16),
     /// The wiring of the board.
     Board,
+    /// How often each address would be begun at in a run of so many cycles.
+    Count(u32),
+    /// What a run of so many cycles would change at places.
+    Trace(u32, ArrayVec<Probe, PROBES>),
     /// A command on the bench.
     Change(Command),
     /// A text, which the next lines are.
@@ -122,6 +130,38 @@ pub(crate) fn or_bad_number(request: Option<Request>) -> Request
     }
 }
 
+/// What `count` with a number asks for; none where it is no number, or out of its range.
+fn read_count(n: &[u8]) -> Option<Request>
+    ensures { or_bad_number result ≡ count_request n.now }
+{
+    let n = number_within(n, RUN_CYCLES)?;
+    if n == 0 {
+        return None;
+    }
+    Some(Request::Count(n))
+}
+
+/// What `trace` with the words after it asks for.
+fn read_trace(line: &[u8]) -> Request
+    ensures { result ≡ trace_request (words_of line.now) }
+{
+    let Some((n, rest)) = next_word(line) else {
+        return Request::Refused(LineFault::NotACommand);
+    };
+    let Some(n) = number_within(n, RUN_CYCLES) else {
+        return Request::Refused(LineFault::BadNumber);
+    };
+    match read_probes(rest) {
+        Err(fault) => Request::Refused(fault),
+        Ok(probes) => {
+            if n == 0 {
+                return Request::Refused(LineFault::BadNumber);
+            }
+            Request::Trace(n, probes)
+        }
+    }
+}
+
 /// What a line of two words asks for; none where its number is none, or out of its range.
 fn read_with_one(word: &[u8], a: &[u8]) -> Option<Request>
     ensures { or_bad_number result ≡ request_with_one word.now a.now }
@@ -136,6 +176,8 @@ fn read_with_one(word: &[u8], a: &[u8]) -> Option<Request>
         Request::Change(Command::Unbreak(address(a)?))
     } else if equals(word, b"ram") {
         Request::Ask(Query::Ram(bank(a)?))
+    } else if equals(word, b"count") {
+        or_bad_number(read_count(a))
     } else {
         Request::Refused(LineFault::NotACommand)
     };
@@ -177,13 +219,10 @@ fn read_with_two(word: &[u8], a: &[u8], b: &[u8]) -> Option<Request>
     Some(request)
 }
 
-/// What the words of a line ask for.
-fn read_words(line: &[u8]) -> Request
-    ensures { result ≡ request_of_words (words_of line.now) }
+/// What a word and those after it ask for, but `trace`.
+fn read_word(word: &[u8], rest: &[u8]) -> Request
+    ensures { result ≡ request_of_word word.now (words_of rest.now) }
 {
-    let Some((word, rest)) = next_word(line) else {
-        return Request::Nothing;
-    };
     let Some((first, rest)) = next_word(rest) else {
         return read_alone(word);
     };
@@ -196,6 +235,20 @@ fn read_words(line: &[u8]) -> Request
     }
 }
 
+/// What the words of a line ask for.
+fn read_words(line: &[u8]) -> Request
+    ensures { result ≡ request_of_words (words_of line.now) }
+{
+    let Some((word, rest)) = next_word(line) else {
+        return Request::Nothing;
+    };
+    if equals(word, b"trace") {
+        read_trace(rest)
+    } else {
+        read_word(word, rest)
+    }
+}
+
 /// Whether a line has no byte that a line may not have.
 fn is_plain(line: &[u8]) -> bool
     ensures { result ≡ list_all is_plain_byte line.now }
@@ -204,7 +257,7 @@ fn is_plain(line: &[u8]) -> bool
 }
 
 /// What a line asks for. It is to come without its end.
-#[tactic(auto, unfolding(crate::specs::Requests::request_of))]
+#[tactic(auto, unfolding(crate::specs::LineRequests::request_of))]
 pub fn read_request(line: &[u8]) -> Request
     ensures { result ≡ request_of line.now }
 {

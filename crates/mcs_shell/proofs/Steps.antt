@@ -5,7 +5,7 @@ use Rattle.std.specs.Str.Lines.{strip_carriage_return}
 use Rattle.mcs_disk.specs.Disk.{most_faults}
 use Rattle.mcs_lines.specs.declared.requests.TextKind.{TextKind}
 use Rattle.mcs_lines.specs.declared.requests.Request.TheVariants.{Begin}
-use Rattle.mcs_lines.specs.Requests.{request_of}
+use Rattle.mcs_lines.specs.LineRequests.{request_of}
 use Rattle.mcs_model.specs.declared.command.Command.{Command}
 use Rattle.mcs_model.specs.BenchState.{BenchState}
 use Rattle.mcs_model.specs.Fold.{fold}

@@ -9,7 +9,7 @@ use Rattle.mcs_lines.specs.declared.requests.Request.TheVariants.{Begin}
 use Rattle.mcs_shell.specs.declared.texts.TextFault.{TextFault}
 use Rattle.mcs_shell.specs.declared.texts.TextFault.TheVariants.{NoEnd, TextTooLong, HasLongLine, HasBadByte}
 use Rattle.mcs_lines.specs.Cutting.{cut_at}
-use Rattle.mcs_lines.specs.Requests.{request_of}
+use Rattle.mcs_lines.specs.LineRequests.{request_of}
 use Rattle.mcs_lines.specs.Words.{is_plain_byte}
 use Rattle.mcs_model.specs.TextLines.{lines}
 use Rattle.mcs_shell.specs.LineFeeds.{is_line_feed}

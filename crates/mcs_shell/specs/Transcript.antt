@@ -8,8 +8,9 @@ use Rattle.mcs_model.specs.Fold.{fold}
 use Rattle.mcs_model.specs.RefusalNumbers.{bench_fault_number}
 use Rattle.mcs_model.specs.declared.refusal_numbers.TheConstants.{CLOSED, DEVICE, NO_MEMORY}
 use Rattle.mcs_lines.specs.RefusalNumbers.{line_fault_number}
-use Rattle.mcs_lines.specs.declared.requests.Request.TheVariants.{Nothing, Refused, Ask, Listing, Board, Change, Begin}
+use Rattle.mcs_lines.specs.declared.requests.Request.TheVariants.{Nothing, Refused, Ask, Listing, Board, Count, Trace, Change, Begin}
 use Rattle.mcs_answers.specs.AnswerTexts.{board_answer, listing_answer, no_text, ok_text, query_answer}
+use Rattle.mcs_answers.specs.AheadTexts.{count_answer, trace_answer}
 use Rattle.mcs_session.specs.SessionState.{SessionBench, bench_after}
 use Rattle.mcs_shell.specs.declared.ends.ShellEnd.{ShellEnd}
 use Rattle.mcs_shell.specs.declared.ends.ShellEnd.TheVariants.{WriteFault, DeviceFault}
@@ -38,11 +39,13 @@ abbrev pub accepted_commands : BenchState → Option Command → List Command
 accepted_commands s (Some c) = elim (refusal s c) [ None ↦ c ∷ [] | Some fault ↦ [] ]
 accepted_commands s None = []
 
--- whether an input takes memory, which may be refused: a text, `list` and `board`
+-- whether an input takes memory, which may be refused: a text, `list`, `board`, `count` and `trace`
 abbrev pub takes_memory : Input → Bool
 takes_memory (Text kind text) = true
 takes_memory (Line (Listing at lines)) = true
 takes_memory (Line Board) = true
+takes_memory (Line (Count n)) = true
+takes_memory (Line (Trace n probes)) = true
 takes_memory i = false
 
 -- What may come of an input: the state gave the answer, to a command on an open session alone; or
@@ -88,6 +91,8 @@ plain_answer s (Line (Refused fault)) = no_text (line_fault_number fault)
 plain_answer s (Line (Ask query)) = query_answer query s
 plain_answer s (Line (Listing at lines)) = listing_answer at lines s
 plain_answer s (Line Board) = board_answer s
+plain_answer s (Line (Count n)) = count_answer n s
+plain_answer s (Line (Trace n probes)) = trace_answer probes.items n s
 plain_answer s (Line (Change c)) = change_answer s c
 plain_answer s (Text kind text) = meaning_answer s (meaning_of_text kind text)
 plain_answer s (BadText fault) = no_text (text_fault_number fault)

@@ -3,14 +3,17 @@ ghost use Rattle.std.specs.Prelude.{◌≡◌, ◌≤◌, ◌++◌, [], length, 
 ghost use Rattle.std.specs.Io.KnownBytes.{Appends};
 ghost use Rattle.std.specs.Fmt.{decimal};
 ghost use Rattle.mcs_answers.specs.AnswerTexts.{board_answer, line_feed, listing_answer, no_text, ok_text, query_answer};
+ghost use Rattle.mcs_answers.specs.AheadTexts.{count_answer, trace_answer};
 ghost use Rattle.mcs_shell.specs.Serving.{GotFirstBytes};
 ghost use Rattle.mcs_shell.specs.Spelling.{text_refusal};
 
 use crate::sending::{WriteStopped, send, send_two};
 use crate::spelling::TextRefusal;
 use arrayvec::ArrayVec;
+use mcs_ahead::{PROBES, Probe};
 use mcs_answers::{
-    ANSWER_BYTES, listing_answer, put_board, put_number, put_query, put_refusal_at, put_reply,
+    ANSWER_BYTES, listing_answer, put_board, put_count, put_number, put_query, put_refusal_at,
+    put_reply, put_trace,
 };
 use mcs_bench::Bench;
 use mcs_model::command::Reply;
@@ -119,6 +122,38 @@ impl Answer {
     {
         self.short.clear();
         self.long = Some(put_board(alloc, &mut self.short, bench)?);
+        Ok(())
+    }
+
+    /// Tells how often each address would be begun at in a run of at most `n` cycles. It fails where memory is refused, and
+    /// then nothing is said of what is told.
+    pub(crate) fn tell_count(
+        &mut self,
+        alloc: Global,
+        n: u32,
+        bench: &Bench,
+    ) -> Result<(), AllocError>
+        ensures { OnOk result (self.new ≡ count_answer n bench.now) }
+    {
+        self.short.clear();
+        self.long = Some(put_count(alloc, &mut self.short, n, bench)?);
+        Ok(())
+    }
+
+    /// Tells what a run of at most `n` cycles would change at places. It fails where memory is refused, and then nothing is
+    /// said of what is told.
+    pub(crate) fn tell_trace(
+        &mut self,
+        alloc: Global,
+        n: u32,
+        probes: &[Probe],
+        bench: &Bench,
+    ) -> Result<(), AllocError>
+        requires { length probes.now ≤ PROBES }
+        ensures { OnOk result (self.new ≡ trace_answer probes.now n bench.now) }
+    {
+        self.short.clear();
+        self.long = Some(put_trace(alloc, &mut self.short, n, probes, bench)?);
         Ok(())
     }
 

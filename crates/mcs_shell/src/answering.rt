@@ -97,6 +97,14 @@ pub(crate) fn answer_request<D: Disk + Drop>(
             let told = answer.tell_board(alloc, session.bench());
             unless_refused(told, answer)
         }
+        Request::Count(n) => {
+            let told = answer.tell_count(alloc, *n, session.bench());
+            unless_refused(told, answer)
+        }
+        Request::Trace(n, probes) => {
+            let told = answer.tell_trace(alloc, *n, probes.as_slice(), session.bench());
+            unless_refused(told, answer)
+        }
         Request::Change(command) => answer_change(command, session, answer),
         Request::Begin(_) => Outcome::Plain,
     }

@@ -1,7 +1,7 @@
 //! Laws of inputs, as the contracts of functions that do nothing.
 ghost use Rattle.std.specs.Prelude.{◌≡◌, ◌↔◌, ◌∷◌, ◌++◌, [], ℕ, Bool, List, Err, None, codes, false, true};
 ghost use Rattle.std.specs.List.{flat_map, list_any};
-ghost use Rattle.mcs_lines.specs.Requests.{request_of};
+ghost use Rattle.mcs_lines.specs.LineRequests.{request_of};
 ghost use Rattle.mcs_lines.specs.declared.requests.Request.TheVariants.{Begin};
 ghost use Rattle.mcs_lines.specs.declared.requests.TextKind.{TextKind};
 ghost use Rattle.mcs_lines.specs.declared.requests.TextKind.TheVariants.{Asm, Map};

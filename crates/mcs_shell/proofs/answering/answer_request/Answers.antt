@@ -1,5 +1,5 @@
 use Rattle.std.proofs.Common.{rules, ap, refl}
-use Rattle.mcs_lines.specs.declared.requests.Request.TheVariants.{Ask, Begin, Board, Change, Listing, Nothing, Refused}
+use Rattle.mcs_lines.specs.declared.requests.Request.TheVariants.{Ask, Begin, Board, Change, Count, Listing, Nothing, Refused, Trace}
 use Rattle.mcs_shell.specs.Inputs.{Line}
 use Rattle.mcs_shell.proofs.Doing.{answered_as, answered_long, answered_plain}
 use Rattle.mcs_shell.proofs.answering.answer_request.Goals as goal
@@ -29,6 +29,18 @@ returns-in-Listing g c =
 pub returns-in-Board : goal.returns-in-Board
 returns-in-Board g c =
     answered_as _ _ _ (Line Board) _ _ (ap Line (search rules)) (answered_long c.tell_board-told.result _ (Line Board) _ c.tell_board-told.new.self _ refl refl (rw c.bench-in-Board.ensures.is at c.tell_board-told.ensures) c.unless_refused-in-Board.ensures.told c.unless_refused-in-Board.ensures.refused)
+
+pub returns-in-Count : goal.returns-in-Count
+returns-in-Count g c =
+    answered_as _ _ _ (Line (Count c.in-Count.n)) _ _ (ap Line (search rules))
+    (answered_long c.tell_count-told.result _ (Line (Count c.in-Count.n)) _ c.tell_count-told.new.self _ refl refl
+    (rw c.bench-in-Count.ensures.is at c.tell_count-told.ensures) c.unless_refused-in-Count.ensures.told c.unless_refused-in-Count.ensures.refused)
+
+pub returns-in-Trace : goal.returns-in-Trace
+returns-in-Trace g c =
+    answered_as _ _ _ (Line (Trace c.in-Trace.n c.in-Trace.probes)) _ _ (ap Line (search rules))
+    (answered_long c.tell_trace-told.result _ (Line (Trace c.in-Trace.n c.in-Trace.probes)) _ c.tell_trace-told.new.self _ refl refl
+    (rw (c.bench-in-Trace.ensures.is, c.as_slice.ensures.value) at c.tell_trace-told.ensures) c.unless_refused-in-Trace.ensures.told c.unless_refused-in-Trace.ensures.refused)
 
 pub returns-in-Change : goal.returns-in-Change
 returns-in-Change g c =

@@ -1,0 +1,33 @@
+-- What is told of the places that are looked at. (Our own choice.)
+use Rattle.std.specs.Prelude.{ℕ, List, ◌++◌, codes, map, slice_index, if◌then◌else◌}
+use Rattle.std.specs.List.{flat_map}
+use Rattle.mcs_model.specs.Running.{Machine}
+use Rattle.mcs_model.specs.declared.board.Line.{Line}
+use Rattle.mcs_model.specs.Boards.{exists_on}
+use Rattle.mcs_model.specs.Bus.{BusState, ram_place, status_place}
+use Rattle.mcs_model.specs.Levels.{level}
+use Rattle.mcs_model.specs.QueryText.{address_text, digit_text, hex_2, lamp_mark, one_word, or_dash}
+use Rattle.mcs_ahead.specs.declared.probe.Probe.{Probe}
+use Rattle.mcs_ahead.specs.declared.probe.Probe.TheVariants.{Acc, Cy, Pc, Register, Dcl, Rom, Ram, Status, Level, Lamps, Returns}
+
+-- the level of a line; 0 where the board has no such line
+abbrev pub level_on : BusState → Line → ℕ
+level_on s line = if exists_on s.board line then level s line else 0
+
+-- what stands at a place, in one word
+abbrev pub probe_text : Machine → Probe → List ℕ
+probe_text t Acc = digit_text t.0.acc
+probe_text t Cy = digit_text t.0.cy
+probe_text t Pc = address_text t.0.pc
+probe_text t (Register k) = digit_text (slice_index t.0.r k)
+probe_text t Dcl = digit_text t.0.dcl
+probe_text t (Rom at) = hex_2 (slice_index t.1.rom at)
+probe_text t (Ram bank src) = digit_text (slice_index t.1.ram (ram_place bank src))
+probe_text t (Status bank high k) = digit_text (slice_index t.1.status (status_place bank high k))
+probe_text t (Level line) = digit_text (level_on t.1 line)
+probe_text t Lamps = or_dash (map (λ line. lamp_mark (level t.1 line)) t.1.board.lamps.items)
+probe_text t Returns = one_word (map address_text t.0.ret)
+
+-- a row: what stands at each of the places, in turn, each after a space
+abbrev pub row : List Probe → Machine → List ℕ
+row probes t = flat_map (λ p. codes " " ++ probe_text t p) probes

@@ -1,0 +1,86 @@
+//! The answer to `count`.
+ghost use Rattle.std.specs.Prelude.{◌≡◌, ◌+◌, ◌<◌, ◌≤◌, ◌++◌, [], ◌∷◌, codes, length, nat_lt, IfOk, if◌then◌else◌, slice_index};
+ghost use Rattle.std.specs.Fmt.{decimal};
+ghost use Rattle.std.specs.List.{flat_map};
+ghost use Rattle.mcs_model.specs.Command.{machine_of};
+ghost use Rattle.mcs_model.specs.QueryText.{address_text, as_line};
+ghost use Rattle.mcs_ahead.specs.Ahead.{is_branch};
+ghost use Rattle.mcs_answers.specs.AheadTexts.{count_answer};
+
+use crate::ahead::put_head;
+use crate::digits::{put, put_address};
+use crate::numbers::put_counted;
+use crate::size::ANSWER_BYTES;
+use arrayvec::ArrayVec;
+use mcs_bench::Bench;
+use mcs_model::op::Op;
+use mcs_nibble::Addr;
+use mcs_trace::count_run;
+use std::alloc::{AllocError, Global};
+
+/// Whether JCN or ISZ stands at an address.
+#[tactic(auto, unfolding(mcs_model::specs::Bus::fetch_of))]
+fn is_branch(bench: &Bench, at: Addr) -> bool
+    ensures { result ≡ is_branch (machine_of bench.now) at }
+{
+    let second = at.plus(1);
+    match mcs_code::decode(bench.rom_byte(at), bench.rom_byte(second)) {
+        Some(Op::Jcn(_, _)) => true,
+        Some(Op::Isz(_, _)) => true,
+        _ => false,
+    }
+}
+
+/// The number of an address.
+fn number_at(numbers: &Vec<u32>, at: Addr) -> u32
+    requires { length numbers.now.items ≡ 4096 }
+    ensures { result ≡ slice_index numbers.now.items at }
+{
+    numbers[usize::from(at.get())]
+}
+
+/// Puts the line of an address into an empty one.
+fn put_line(line: &mut ArrayVec<u8, ANSWER_BYTES>, bench: &Bench, at: Addr, runs: u32, jumps: u32)
+    requires { line.old.items ≡ [] }
+    ensures { line.new.items ≡ as_line (address_text at ++ codes " " ++ decimal runs
+        ++ (if is_branch (machine_of bench.now) at then codes " " ++ decimal jumps else [])) }
+{
+    put_address(line, b"", at);
+    put_counted(line, b" ", u64::from(runs));
+    if is_branch(bench, at) {
+        put_counted(line, b" ", u64::from(jumps));
+    }
+    put(line, b"\n");
+}
+
+/// Tells how often instructions would be begun at each address in a run of at most `n` cycles: a head is put into an empty
+/// answer, and the lines after it, which take memory, are handed back. It fails where memory is refused, and then the head
+/// counts for nothing.
+pub fn put_count(
+    alloc: Global,
+    head: &mut ArrayVec<u8, ANSWER_BYTES>,
+    n: u32,
+    bench: &Bench,
+) -> Result<Vec<u8>, AllocError>
+    requires { head.old.items ≡ [] }
+    ensures { IfOk result (λ lines. head.new.items ++ lines.items ≡ count_answer n bench.now) }
+{
+    let counts = count_run(alloc, n, bench)?;
+    let mut text = Vec::new(alloc);
+    let mut lines = 0u32;
+    let mut line = ArrayVec::new();
+    for i in 0..4096u16 {
+        let at = Addr::ZERO.plus(i);
+        let runs = number_at(&counts.runs, at);
+        let jumps = number_at(&counts.jumps, at);
+        if runs > 0 {
+            line.clear();
+            put_line(&mut line, bench, at, runs, jumps);
+            text.extend_from_slice(line.as_slice())?;
+            lines += 1;
+        }
+    }
+    put_head(head, b"count", counts.cycles, counts.stop, lines);
+    put(head, b"\n");
+    Ok(text)
+}

@@ -1,0 +1,208 @@
+//! The answer to `trace`.
+ghost use Rattle.std.specs.Prelude.{◌≡◌, ◌+◌, ◌*◌, ◌<◌, ◌≤◌, ◌++◌, [], codes, length, IfOk};
+ghost use Rattle.std.specs.Fmt.{decimal};
+ghost use Rattle.arrayvec.specs.ArrayVec.{array_vec_len};
+ghost use Rattle.mcs_model.specs.Command.{machine_of};
+ghost use Rattle.mcs_model.specs.QueryText.{address_text, as_line};
+ghost use Rattle.mcs_ahead.specs.Probes.{probe_text, row};
+ghost use Rattle.mcs_answers.specs.AheadTexts.{is_told, trace_answer};
+ghost use Rattle.mcs_answers.specs.Traced.{IsTraced, cycle_lines, line_when};
+ghost use Rattle.std.specs.List.{flat_map};
+
+use crate::ahead::put_head;
+use crate::digits::{put, put_address, put_byte, put_digit};
+use crate::lists::put_lamp_marks;
+use crate::numbers::put_counted;
+use crate::size::{ANSWER_BYTES, PROBE_BYTES};
+use crate::state_lists::put_address_list;
+use arrayvec::ArrayVec;
+use mcs_ahead::{PROBES, Probe};
+use mcs_bench::Bench;
+use mcs_model::regs::Regs;
+use mcs_model::stop::Stop;
+use mcs_nibble::Addr;
+use mcs_trace::{copy_of, go_on, is_outside};
+use std::alloc::{AllocError, Global};
+
+/// Adds what stands at a place, after a space.
+fn put_probe(answer: &mut ArrayVec<u8, ANSWER_BYTES>, probe: Probe, bench: &Bench)
+    requires { array_vec_len answer.old + PROBE_BYTES ≤ ANSWER_BYTES }
+    ensures text { answer.new.items
+        ≡ answer.old.items ++ (codes " " ++ probe_text (machine_of bench.now) probe) }
+    ensures count { length answer.new.items ≤ length answer.old.items + PROBE_BYTES }
+{
+    let regs = bench.regs();
+    match probe {
+        Probe::Acc => put_digit(answer, b" ", regs.acc.get()),
+        Probe::Cy => put_digit(answer, b" ", regs.cy.get()),
+        Probe::Pc => put_address(answer, b" ", regs.pc),
+        Probe::Register(k) => put_digit(answer, b" ", regs.register(k).get()),
+        Probe::Dcl => put_digit(answer, b" ", regs.dcl),
+        Probe::Rom(at) => put_byte(answer, b" ", bench.rom_byte(at)),
+        Probe::Ram(bank, src) => put_digit(answer, b" ", bench.ram(bank.get(), src).get()),
+        Probe::Status(bank, high, k) => {
+            put_digit(answer, b" ", bench.status(bank.get(), high, k.get()).get());
+        }
+        Probe::Level(line) => put_digit(answer, b" ", bench.level(line).get()),
+        Probe::Lamps => {
+            put(answer, b" ");
+            put_lamp_marks(answer, bench);
+        }
+        Probe::Returns => put_address_list(answer, b" ", &regs.ret),
+    }
+}
+
+/// Adds what stands at each of the places.
+fn put_row(answer: &mut ArrayVec<u8, ANSWER_BYTES>, probes: &[Probe], bench: &Bench)
+    requires { array_vec_len answer.old + PROBE_BYTES * length probes.now ≤ ANSWER_BYTES }
+    ensures text { answer.new.items ≡ answer.old.items ++ row probes.now (machine_of bench.now) }
+    ensures count { length answer.new.items
+        ≤ length answer.old.items + PROBE_BYTES * length probes.now }
+{
+    for probe in probes {
+        put_probe(answer, *probe, bench);
+    }
+}
+
+/// Adds the line of an instruction: how many cycles were done before it, its address, and a row.
+fn add_line(text: &mut Vec<u8>, cycles: u32, at: Addr, row: &[u8]) -> Result<(), AllocError>
+    ensures { IfOk result (λ _. text.new.items
+        ≡ text.old.items ++ as_line (decimal cycles ++ codes " " ++ address_text at ++ row.now)) }
+{
+    let mut start = ArrayVec::new();
+    put_counted(&mut start, b"", u64::from(cycles));
+    put_address(&mut start, b" ", at);
+    text.extend_from_slice(start.as_slice())?;
+    text.extend_from_slice(row)?;
+    text.extend_from_slice(b"\n")
+}
+
+/// What a run would come to, and how many of its instructions are told.
+#[derive(Drop)]
+struct Traced {
+    cycles: u32,
+    stop: Stop,
+    lines: u32,
+}
+
+/// Adds the line of the instruction that the last cycle began, where it is told; whether it was. The row before it
+/// becomes the one after it.
+fn add_told(
+    text: &mut Vec<u8>,
+    before: &mut ArrayVec<u8, ANSWER_BYTES>,
+    cycles: u32,
+    at: Addr,
+    probes: &[Probe],
+    bench: &Bench,
+) -> Result<bool, AllocError>
+    requires { length probes.now ≤ PROBES }
+    ensures row { IfOk result (λ _. before.new.items ≡ row probes.now (machine_of bench.now)) }
+    ensures told { IfOk result (λ told. told
+        ≡ is_told probes.now before.old.items (row probes.now (machine_of bench.now))) }
+    ensures text { IfOk result (λ told. text.new.items ≡ text.old.items ++ flat_map as_line
+        (line_when told cycles at (row probes.now (machine_of bench.now)))) }
+{
+    let mut after = ArrayVec::new();
+    put_row(&mut after, probes, bench);
+    if probes.is_empty() || after.as_slice() != before.as_slice() {
+        add_line(text, cycles, at, after.as_slice())?;
+        before.clear();
+        put(before, after.as_slice());
+        return Ok(true);
+    }
+    Ok(false)
+}
+
+/// Adds the line of a cycle that led from these registers to a bench, where it has one; how many it added. The row before
+/// it becomes the one after it.
+fn add_cycle(
+    text: &mut Vec<u8>,
+    before: &mut ArrayVec<u8, ANSWER_BYTES>,
+    cycles: u32,
+    regs: &Regs,
+    probes: &[Probe],
+    bench: &Bench,
+) -> Result<u32, AllocError>
+    requires { length probes.now ≤ PROBES }
+    ensures row { IfOk result (λ _. before.new.items ≡ row probes.now (machine_of bench.now)) }
+    ensures lines { IfOk result (λ lines. lines ≡ length (cycle_lines probes.now regs.now.owed cycles
+        regs.now.pc before.old.items (row probes.now (machine_of bench.now)))) }
+    ensures text { IfOk result (λ _. text.new.items ≡ text.old.items ++ flat_map as_line
+        (cycle_lines probes.now regs.now.owed cycles regs.now.pc before.old.items
+        (row probes.now (machine_of bench.now)))) }
+{
+    if regs.owed == 0 {
+        if add_told(text, before, cycles, regs.pc, probes, bench)? {
+            return Ok(1);
+        }
+        return Ok(0);
+    }
+    before.clear();
+    put_row(before, probes, bench);
+    Ok(0)
+}
+
+/// Adds a line for each instruction of a run of at most `n` cycles after which another row stands at the places.
+fn add_lines(
+    alloc: Global,
+    text: &mut Vec<u8>,
+    n: u32,
+    probes: &[Probe],
+    bench: &Bench,
+) -> Result<Traced, AllocError>
+    requires empty { text.old.items ≡ [] }
+    requires room { length probes.now ≤ PROBES }
+    ensures { IfOk result (λ traced. IsTraced probes.now n bench.now traced text.new.items) }
+{
+    let mut lines = 0u32;
+    let mut before = ArrayVec::new();
+    put_row(&mut before, probes, bench);
+    let mut copy = copy_of(alloc, bench)?;
+    if is_outside(&copy) {
+        return Ok(Traced {
+            cycles: 0,
+            stop: Stop::Outside,
+            lines: 0,
+        });
+    }
+    for done in 0..n {
+        let regs = copy.regs();
+        let stop = go_on(&mut copy);
+        lines += add_cycle(text, &mut before, done, &regs, probes, &copy)?;
+        if let Some(why) = stop {
+            return Ok(Traced {
+                cycles: done + 1,
+                stop: why,
+                lines,
+            });
+        }
+    }
+    Ok(Traced {
+        cycles: n,
+        stop: Stop::Ended,
+        lines,
+    })
+}
+
+/// Tells what would happen in a run of at most `n` cycles: a head is put into an empty answer, and a line for each
+/// instruction after which another row stands at the places, which take memory, is handed back. It fails where memory is
+/// refused, and then the head counts for nothing.
+pub fn put_trace(
+    alloc: Global,
+    head: &mut ArrayVec<u8, ANSWER_BYTES>,
+    n: u32,
+    probes: &[Probe],
+    bench: &Bench,
+) -> Result<Vec<u8>, AllocError>
+    requires empty { head.old.items ≡ [] }
+    requires room { length probes.now ≤ PROBES }
+    ensures { IfOk result (λ lines. head.new.items ++ lines.items
+        ≡ trace_answer probes.now n bench.now) }
+{
+    let mut text = Vec::new(alloc);
+    let traced = add_lines(alloc, &mut text, n, probes, bench)?;
+    put_head(head, b"trace", traced.cycles, traced.stop, traced.lines);
+    put_row(head, probes, bench);
+    put(head, b"\n");
+    Ok(text)
+}

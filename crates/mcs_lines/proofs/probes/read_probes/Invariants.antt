@@ -1,0 +1,10 @@
+use Rattle.std.proofs.Common.{length}
+use Rattle.mcs_lines.specs.Words.{words_of}
+use Rattle.mcs_lines.proofs.ProbeLists.{IsRead}
+use Rattle.mcs_lines.proofs.probes.read_probes.Given as goal
+
+abbrev pub invariant-loop-word : goal.invariant-loop-word
+invariant-loop-word l = IsRead (words_of l.fn.line) (words_of l.rest) l.probes.items
+
+abbrev pub decreases-loop-word : goal.decreases-loop-word
+decreases-loop-word l = length (words_of l.rest)

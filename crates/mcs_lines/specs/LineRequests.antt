@@ -1,0 +1,37 @@
+-- What a command line asks for.
+use Rattle.std.specs.Prelude.{ℕ, List, [], ◌∷◌, codes, length, nat_lt, Result, Ok, Err, if◌then◌else◌}
+use Rattle.std.specs.List.{list_all}
+use Rattle.std.specs.Str.{bytes_eq}
+use Rattle.mcs_model.specs.declared.limits.TheConstants.{LINE_BYTES, RUN_CYCLES}
+use Rattle.mcs_ahead.specs.declared.probe.Probe.{Probe}
+use Rattle.mcs_ahead.specs.declared.probe.TheConstants.{PROBES}
+use Rattle.mcs_lines.specs.declared.requests.Request.{Request}
+use Rattle.mcs_lines.specs.declared.requests.Request.TheVariants.{Nothing, Refused, Trace}
+use Rattle.mcs_lines.specs.declared.requests.LineFault.{LineFault}
+use Rattle.mcs_lines.specs.declared.requests.LineFault.TheVariants.{NotACommand, BadNumber, LineTooLong, NotAscii}
+use Rattle.mcs_lines.specs.ProbeWords.{probes_within}
+use Rattle.mcs_lines.specs.Requests.{request_of_word, with_number}
+use Rattle.mcs_lines.specs.Words.{is_plain_byte, words_of}
+
+-- a number of cycles, and places
+abbrev pub traced : ℕ → Result (List Probe) LineFault → Request
+traced n (Ok probes) = if nat_lt 0 n then Trace n (record { items = probes }) else Refused BadNumber
+traced n (Err fault) = Refused fault
+
+-- `trace`
+abbrev pub trace_request : List (List ℕ) → Request
+trace_request [] = Refused NotACommand
+trace_request (n ∷ places) = with_number RUN_CYCLES n (λ n. traced n (probes_within PROBES places))
+
+abbrev pub request_of_words : List (List ℕ) → Request
+request_of_words [] = Nothing
+request_of_words (word ∷ words) =
+    if bytes_eq word (codes "trace") then trace_request words else request_of_word word words
+
+-- What a line asks for. Too long (12) is judged first, then a byte that no command line may have (14);
+-- only then is it read.
+unfoldable pub request_of : List ℕ → Request
+request_of line =
+    if nat_lt LINE_BYTES (length line) then Refused LineTooLong
+    else if list_all is_plain_byte line then request_of_words (words_of line)
+    else Refused NotAscii

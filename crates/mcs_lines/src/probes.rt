@@ -1,0 +1,193 @@
+//! The places that `trace` names.
+ghost use Rattle.std.specs.Prelude.{◌≡◌, ◌∷◌, [], Ok, Err, None, Some, MatchOption, MatchResult};
+ghost use Rattle.mcs_lines.specs.ProbeWords.{after_word, chain_line, numbered, or_bad_probe, poked, probe_at, probe_of, probe_of_poke, probe_three, probe_two, probe_whole, probes_within, ram_line, rom_line};
+ghost use Rattle.mcs_lines.specs.Words.{words_of};
+
+use crate::numbers::{bank, is_number, nibble, status};
+use crate::places::read_poke;
+use crate::requests::{LineFault, Request};
+use crate::words::{equals, next_part, next_word};
+use arrayvec::ArrayVec;
+use mcs_ahead::{PROBES, Probe};
+use mcs_model::board::Line;
+use mcs_model::command::{Command, Place};
+use mcs_model::numeral::number_within;
+
+/// The place alone.
+fn probe_at(place: Place) -> Probe
+    ensures { result ≡ probe_at place }
+{
+    match place {
+        Place::Acc(_) => Probe::Acc,
+        Place::Cy(_) => Probe::Cy,
+        Place::Pc(_) => Probe::Pc,
+        Place::Register(k, _) => Probe::Register(k),
+        Place::Dcl(_) => Probe::Dcl,
+        Place::Rom(at, _) => Probe::Rom(at),
+        Place::Ram(bank, src, _) => Probe::Ram(bank, src),
+        Place::Status(bank, high, k, _) => Probe::Status(bank, high, k),
+    }
+}
+
+/// The place of a `poke`.
+fn poked(command: &Command) -> Result<Probe, LineFault>
+    ensures { result ≡ poked command.now }
+{
+    match command {
+        Command::Poke(place) => Ok(probe_at(*place)),
+        _ => Err(LineFault::NotACommand),
+    }
+}
+
+/// A place of `poke`, as `poke` with the value 0 names it.
+fn read_place(word: &[u8]) -> Result<Probe, LineFault>
+    ensures { result ≡ probe_of_poke word.now }
+{
+    match read_poke(word, b"0") {
+        Request::Change(command) => poked(&command),
+        Request::Refused(fault) => Err(fault),
+        _ => Err(LineFault::NotACommand),
+    }
+}
+
+/// What was read, or the refusal of a number.
+fn or_bad_number(probe: Option<Probe>) -> Result<Probe, LineFault>
+    ensures { result ≡ or_bad_probe probe }
+{
+    match probe {
+        Some(probe) => Ok(probe),
+        None => Err(LineFault::BadNumber),
+    }
+}
+
+/// A line of a ROM.
+fn rom_line(c: &[u8], k: &[u8]) -> Option<Probe>
+    ensures { result ≡ rom_line c.now k.now }
+{
+    Some(Probe::Level(Line::Rom(nibble(c)?.get(), status(k)?.get())))
+}
+
+/// A line of a RAM chip.
+fn ram_line(b: &[u8], c: &[u8], k: &[u8]) -> Option<Probe>
+    ensures { result ≡ ram_line b.now c.now k.now }
+{
+    let bank = bank(b)?.get();
+    Some(Probe::Level(Line::Ram(bank, status(c)?.get(), status(k)?.get())))
+}
+
+/// A bit of a chain.
+fn chain_line(n: &[u8], i: &[u8]) -> Option<Probe>
+    ensures { result ≡ chain_line n.now i.now }
+{
+    let n = status(n)?.get();
+    Some(Probe::Level(Line::Chain(n, number_within(i, 79)? as u8)))
+}
+
+/// What follows a beginning.
+fn after_word<'a>(start: &[u8], name: &'a [u8]) -> Option<&'a [u8]>
+    ensures { MatchOption result (after_word start.now name.now ≡ None)
+        (λ rest. after_word start.now name.now ≡ Some rest.now) }
+{
+    let [p, start @ ..] = start else {
+        return Some(name);
+    };
+    let [b, name @ ..] = name else {
+        return None;
+    };
+    if *b == *p {
+        after_word(start, name)
+    } else {
+        None
+    }
+}
+
+/// The number that follows it, where another one follows after a dot.
+fn numbered<'a>(start: &[u8], name: &'a [u8], k: &[u8]) -> Option<&'a [u8]>
+    ensures { MatchOption result (numbered start.now name.now k.now ≡ None)
+        (λ n. numbered start.now name.now k.now ≡ Some n.now) }
+{
+    let n = after_word(start, name)?;
+    if is_number(n) && is_number(k) {
+        Some(n)
+    } else {
+        None
+    }
+}
+
+/// A place whose word has one part, or more than three.
+fn read_whole(word: &[u8]) -> Result<Probe, LineFault>
+    ensures { result ≡ probe_whole word.now }
+{
+    if equals(word, b"lamps") {
+        Ok(Probe::Lamps)
+    } else if equals(word, b"ret") {
+        Ok(Probe::Returns)
+    } else {
+        read_place(word)
+    }
+}
+
+/// A place whose word has two parts.
+fn read_two(word: &[u8], name: &[u8], k: &[u8]) -> Result<Probe, LineFault>
+    ensures { result ≡ probe_two word.now name.now k.now }
+{
+    if let Some(c) = numbered(b"rom", name, k) {
+        return or_bad_number(rom_line(c, k));
+    }
+    if let Some(n) = numbered(b"chain", name, k) {
+        return or_bad_number(chain_line(n, k));
+    }
+    read_place(word)
+}
+
+/// A place whose word has three parts.
+fn read_three(word: &[u8], name: &[u8], c: &[u8], k: &[u8]) -> Result<Probe, LineFault>
+    ensures { result ≡ probe_three word.now name.now c.now k.now }
+{
+    if let Some(b) = numbered(b"ram", name, k) {
+        if is_number(c) {
+            return or_bad_number(ram_line(b, c, k));
+        }
+    }
+    read_place(word)
+}
+
+/// The place that a word names.
+fn read_probe(word: &[u8]) -> Result<Probe, LineFault>
+    ensures { result ≡ probe_of word.now }
+{
+    let (name, after) = next_part(word);
+    let Some(rest) = after else {
+        return read_whole(word);
+    };
+    let (first, after) = next_part(rest);
+    let Some(rest) = after else {
+        return read_two(word, name, first);
+    };
+    let (second, after) = next_part(rest);
+    match after {
+        None => read_three(word, name, first, second),
+        Some(_) => read_whole(word),
+    }
+}
+
+/// The places that the words of a line name, at most 16.
+pub(crate) fn read_probes(line: &[u8]) -> Result<ArrayVec<Probe, PROBES>, LineFault>
+    ensures { MatchResult result
+        (λ probes. probes_within PROBES (words_of line.now) ≡ Ok probes.items)
+        (λ fault. probes_within PROBES (words_of line.now) ≡ Err fault) }
+{
+    let mut probes = ArrayVec::new();
+    let mut rest = line;
+    while let Some((word, others)) = next_word(rest) {
+        if probes.len() == PROBES {
+            return Err(LineFault::NotACommand);
+        }
+        match read_probe(word) {
+            Ok(probe) => probes.push(probe),
+            Err(fault) => return Err(fault),
+        }
+        rest = others;
+    }
+    Ok(probes)
+}

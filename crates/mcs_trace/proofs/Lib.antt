@@ -1,0 +1,4 @@
+pub mod Going
+pub mod Tallies
+pub mod CountLemmas
+pub mod NewLengths

@@ -1,0 +1,81 @@
+-- What is counted of the instructions that are begun.
+use Rattle.std.proofs.Common.{◌≡◌, ℕ, suc, ◌+◌, ◌<◌, ◌≤◌, ◌&&◌, Bool, true, false, cond, List, [], ◌∷◌, ◌++◌, length, map, get_or, inl, inr, refl, sym, ap, ◌∙◌, arith, eqb, eq-eqb}
+use Rattle.std.specs.List.{count_by, filter, range_with_len}
+use Rattle.std.proofs.lemmas.Bool.{cases_eq}
+use Rattle.std.proofs.lemmas.Bool.Decides.{nat_tests}
+use Rattle.std.proofs.lemmas.List.{length-map, length-set, get_or-set_same, get_or-set_other, map-append}
+use Rattle.std.proofs.lemmas.List.Elements.{filter-append}
+use Rattle.std.proofs.lemmas.List.FromFn.{length-range_with_len}
+use Rattle.std.proofs.lemmas.List.Sums.{sum_by-append, count_by-le-length}
+use Rattle.mcs_model.specs.Running.{Machine}
+use Rattle.mcs_model.proofs.ListLemmas.{range_more}
+use Rattle.mcs_ahead.specs.Ahead.{Begun, begins, begun_within, cycle_at}
+use Rattle.mcs_trace.specs.Counted.{IsTally, with_one}
+
+-- the instruction that a cycle begins, if it begins one
+abbrev pub begun_at : Machine → ℕ → List Begun
+begun_at s k = cond (begins (cycle_at s k)) (cycle_at s k ∷ []) []
+
+-- one cycle more
+pub begun-more : (k : ℕ) (s : Machine) → begun_within (k + 1) s ≡ begun_within k s ++ begun_at s k
+unfolding begun_within
+begun-more k s =
+    let more : range_with_len 0 (k + 1) ≡ range_with_len 0 k ++ k ∷ [] = (let one : k + 1 ≡ suc k = omega arith in let same : 0 + k ≡ k = omega arith in ap (range_with_len 0) one ∙ range_more 0 k ∙ ap (λ (j : ℕ). range_with_len 0 k ++ j ∷ []) same) in
+    ap (λ l. filter begins (map (cycle_at s) l)) more
+    ∙ ap (filter begins) (map-append (cycle_at s) (range_with_len 0 k) (k ∷ []))
+    ∙ filter-append begins (map (cycle_at s) (range_with_len 0 k)) (cycle_at s k ∷ [])
+
+length-filter : {X : Type 0} (p : X → Bool) (xs : List X) → length (filter p xs) ≤ length xs
+length-filter p [] = omega arith
+length-filter p (x ∷ xs) =
+    let h = length-filter p xs in
+    elim (p x) as (λ v. length (cond v (x ∷ filter p xs) (filter p xs)) ≤ length (x ∷ xs)) [ true ↦ omega arith | false ↦ omega arith ]
+
+-- no more are begun than cycles are done
+pub begun-few : (k : ℕ) (s : Machine) → length (begun_within k s) ≤ k
+unfolding begun_within
+begun-few k s =
+    let f = length-filter begins (map (cycle_at s) (range_with_len 0 k)) in
+    let m = length-map (range_with_len 0 k) (cycle_at s) in
+    let r = length-range_with_len 0 k in
+    omega arith
+
+-- how many of one cycle's instruction are counted
+abbrev pub one-when : Bool → ℕ
+one-when b = cond b 1 0
+
+and-one : (b x : Bool) (e : Begun) (p : Begun → Bool) → p e ≡ x → count_by p (cond b (e ∷ []) []) ≡ one-when (b && x)
+and-one true true e p h = rw h refl
+and-one true false e p h = rw h refl
+and-one false true e p h = refl
+and-one false false e p h = refl
+
+-- what is counted with one cycle more
+pub counted-more : (k : ℕ) (s : Machine) (p : Begun → Bool) → count_by p (begun_within (k + 1) s) ≡ count_by p (begun_within k s) + one-when (begins (cycle_at s k) && p (cycle_at s k))
+counted-more k s p =
+    ap (count_by p) (begun-more k s)
+    ∙ sum_by-append (λ x. cond (p x) 1 0) (begun_within k s) (begun_at s k)
+    ∙ ap (λ m. count_by p (begun_within k s) + m) (and-one (begins (cycle_at s k)) (p (cycle_at s k)) (cycle_at s k) p refl)
+
+pub counted-few : (k : ℕ) (s : Machine) (p : Begun → Bool) → count_by p (begun_within k s) ≤ k
+counted-few k s p = let a = count_by-le-length p (begun_within k s) in let b = begun-few k s in omega arith
+
+-- one more at a place
+with-one-at : (xs : List ℕ) (b : Bool) (place at : ℕ) → place < length xs → get_or (with_one xs b place) at 0 ≡ get_or xs at 0 + one-when (b && eqb place at)
+with-one-at xs false place at l = omega arith
+with-one-at xs true place at l =
+    elim (cases_eq at place) [
+      | inl e ↦ (let t : eqb place at ≡ true = eq-eqb place at (sym e) in rw (t, e) (get_or-set_same xs place (get_or xs place 0 + 1) 0 l))
+      | inr ne ↦ (let f : eqb place at ≡ false = grind (arith, nat_tests) in rw f (get_or-set_other xs place at (get_or xs place 0 + 1) 0 ne ∙ omega arith))
+    ]
+
+with-one-length : (xs : List ℕ) (b : Bool) (place : ℕ) → length (with_one xs b place) ≡ length xs
+with-one-length xs true place = length-set xs place (get_or xs place 0 + 1)
+with-one-length xs false place = refl
+
+-- a tally with one more
+pub tally-more : (xs : List ℕ) (b : Bool) (place : ℕ) (f g : ℕ → ℕ) → place < 4096 → IsTally xs f → ((at : ℕ) → at < 4096 → g at ≡ f at + one-when (b && eqb place at)) → IsTally (with_one xs b place) g
+tally-more xs b place f g l t more = record {
+  len = with-one-length xs b place ∙ t.len;
+  each = λ at h. with-one-at xs b place at (let len = t.len in omega arith) ∙ ap (λ m. m + one-when (b && eqb place at)) (t.each at h) ∙ sym (more at h);
+}

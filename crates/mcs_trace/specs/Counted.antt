@@ -1,0 +1,30 @@
+-- What a count tells of a run that is not done.
+use Rattle.std.specs.Prelude.{◌≡◌, ◌<◌, ◌+◌, ℕ, List, Bool, Option, Some, None, length, slice_index, slice_set, if◌then◌else◌}
+use Rattle.mcs_model.specs.declared.stop.Stop.{Stop}
+use Rattle.mcs_model.specs.declared.stop.Stop.TheVariants.{Outside, Breakpoint, Watched, Ended}
+use Rattle.mcs_model.specs.Running.{Machine, Stops, run_length, run_stop}
+use Rattle.mcs_ahead.specs.Ahead.{begun_in, runs_at, jumps_at}
+use Rattle.mcs_trace.specs.declared.counting.Counts.{Counts}
+
+-- a reason to stop, but for the end of a run
+abbrev pub but_end : Stop → Option Stop
+but_end Outside = Some Outside
+but_end Breakpoint = Some Breakpoint
+but_end Watched = Some Watched
+but_end Ended = None
+
+-- one more at a place, where it is to be counted
+abbrev pub with_one : List ℕ → Bool → ℕ → List ℕ
+with_one xs counts at = if counts then slice_set xs at (slice_index xs at + 1) else xs
+
+-- for each address what is counted of it
+pub record IsTally (xs : List ℕ) (count : ℕ → ℕ) : Type 0 where
+  pub len : length xs ≡ 4096
+  pub each : (at : ℕ) → at < 4096 → slice_index xs at ≡ count at
+
+-- what is counted of a run
+pub record IsCounted (stops : Stops) (n : ℕ) (s : Machine) (c : Counts) : Type 0 where
+  pub cycles : c.cycles ≡ run_length stops n s
+  pub stop : c.stop ≡ run_stop stops n s
+  pub runs : IsTally c.runs.items (runs_at (begun_in stops n s))
+  pub jumps : IsTally c.jumps.items (jumps_at (begun_in stops n s))

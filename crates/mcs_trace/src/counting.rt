@@ -1,0 +1,99 @@
+//! How often each address is begun at.
+ghost use Rattle.std.specs.Prelude.{◌≡◌, ◌<◌, ◌+◌, ◌%◌, ◌==◌, ◌&&◌, not, ℕ, IfOk, length, slice_index, slice_set, replicate};
+ghost use Rattle.mcs_model.specs.Command.{machine_of, stops_of};
+ghost use Rattle.mcs_trace.specs.Counted.{IsCounted, with_one};
+
+use crate::copying::copy_of;
+use crate::walking::{go_on, is_outside};
+use mcs_bench::Bench;
+use mcs_model::regs::Regs;
+use mcs_model::stop::Stop;
+use mcs_nibble::Addr;
+use std::alloc::{AllocError, Global};
+
+/// How long a run is, why it stops, and by address how often an instruction is begun there, and how often the counter goes
+/// on elsewhere than behind two words.
+#[derive(Drop)]
+pub struct Counts {
+    pub cycles: u32,
+    pub stop: Stop,
+    pub runs: Vec<u32>,
+    pub jumps: Vec<u32>,
+}
+
+/// A 0 for each address.
+fn zeros(alloc: Global) -> Result<Vec<u32>, AllocError>
+    ensures { IfOk result (λ numbers. numbers.items ≡ replicate 4096 0) }
+{
+    vec![in alloc; 0u32; 4096]
+}
+
+/// Counts one more at an address.
+fn add_one(numbers: &mut Vec<u32>, at: Addr)
+    requires len { length numbers.old.items ≡ 4096 }
+    requires few { slice_index numbers.old.items at < u32.MAX }
+    ensures { numbers.new.items
+        ≡ slice_set numbers.old.items at (slice_index numbers.old.items at + 1) }
+{
+    let i = usize::from(at.get());
+    numbers[i] += 1;
+}
+
+/// Counts the cycle that led from one to the other registers, where it begins an instruction.
+fn note(runs: &mut Vec<u32>, jumps: &mut Vec<u32>, before: &Regs, after: &Regs)
+    requires runs { length runs.old.items ≡ 4096 }
+    requires few_runs { slice_index runs.old.items before.now.pc < u32.MAX }
+    requires jumps { length jumps.old.items ≡ 4096 }
+    requires few_jumps { slice_index jumps.old.items before.now.pc < u32.MAX }
+    ensures runs { runs.new.items
+        ≡ with_one runs.old.items (before.now.owed == 0) before.now.pc }
+    ensures jumps { jumps.new.items
+        ≡ with_one jumps.old.items
+        (before.now.owed == 0 && not (after.now.pc == (before.now.pc + 2) % 4096)) before.now.pc }
+{
+    if before.owed != 0 {
+        return;
+    }
+    add_one(runs, before.pc);
+    if after.pc != before.pc.plus(2) {
+        add_one(jumps, before.pc);
+    }
+}
+
+/// Counts what a run of at most `n` cycles would begin.
+pub fn count_run(alloc: Global, n: u32, bench: &Bench) -> Result<Counts, AllocError>
+    ensures { IfOk result (λ counts. IsCounted (stops_of bench.now) n (machine_of bench.now) counts) }
+{
+    let mut runs = zeros(alloc)?;
+    let mut jumps = zeros(alloc)?;
+    let mut copy = copy_of(alloc, bench)?;
+    if is_outside(&copy) {
+        return Ok(Counts {
+            cycles: 0,
+            stop: Stop::Outside,
+            runs,
+            jumps,
+        });
+    }
+    for done in 0..n {
+        let before = copy.regs();
+        // (its range is a fact once it is read)
+        let _at = before.pc.get();
+        let stop = go_on(&mut copy);
+        note(&mut runs, &mut jumps, &before, &copy.regs());
+        if let Some(why) = stop {
+            return Ok(Counts {
+                cycles: done + 1,
+                stop: why,
+                runs,
+                jumps,
+            });
+        }
+    }
+    Ok(Counts {
+        cycles: n,
+        stop: Stop::Ended,
+        runs,
+        jumps,
+    })
+}

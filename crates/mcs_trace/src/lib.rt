@@ -1,0 +1,10 @@
+//! What would happen in a run: a copy of a bench goes on in its place, cycle by cycle.
+#![tactic(auto)]
+
+mod copying;
+mod counting;
+mod walking;
+
+pub use copying::copy_of;
+pub use counting::{Counts, count_run};
+pub use walking::{go_on, is_outside};
