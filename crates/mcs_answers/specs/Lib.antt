@@ -4,3 +4,4 @@ pub mod Keys
 pub mod Version1
 pub mod AheadTexts
 pub mod Traced
+pub mod Resting

@@ -1,4 +1,3 @@
-pub mod Going
+pub mod Steps
 pub mod Tallies
 pub mod CountLemmas
-pub mod NewLengths

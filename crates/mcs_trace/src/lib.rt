@@ -1,10 +1,6 @@
-//! What would happen in a run: a copy of a bench goes on in its place, cycle by cycle.
+//! What would happen in a run: a copy of a bench goes on in its place, instruction by instruction.
 #![tactic(auto)]
 
-mod copying;
 mod counting;
-mod walking;
 
-pub use copying::copy_of;
 pub use counting::{Counts, count_run};
-pub use walking::{go_on, is_outside};
