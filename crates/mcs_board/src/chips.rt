@@ -275,10 +275,7 @@ pub(crate) fn copied_roms(
 }
 
 /// Equal banks.
-pub(crate) fn copied_banks(
-    alloc: Global,
-    banks: &Vec<Bank<4>>,
-) -> Result<Vec<Bank<4>>, AllocError>
+pub(crate) fn copied_banks(alloc: Global, banks: &Vec<Bank<4>>) -> Result<Vec<Bank<4>>, AllocError>
     ensures { IfOk result (λ copy. copy.items ≡ banks.now.items) }
 {
     let mut copy = Vec::with_capacity(alloc, banks.len())?;
