@@ -289,7 +289,7 @@ pub(crate) fn go_on(
 ) -> Option<Went>
     requires { 0 < left }
     ensures { MatchOption result
-        ((is_outside (cpu.old, rig.old) ≡ true) × ((cpu.new, rig.new) ≡ (cpu.old, rig.old)))
+        ((is_outside (cpu.old, rig.old) ≡ true) × (cpu.new ≡ cpu.old) × (rig.new ≡ rig.old))
         (WentTo (record { breaks = breaks.now; watches = watches.now }) left (cpu.old, rig.old)
         (cpu.new, rig.new)) }
 {
