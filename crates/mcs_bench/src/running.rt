@@ -251,6 +251,7 @@ pub(crate) fn run(
 }
 
 /// What an instruction of a run did, or the second cycle of one.
+#[derive(Clone, Copy)]
 pub struct Went {
     /// How many cycles it did: at least one.
     pub cycles: u32,

@@ -1,5 +1,5 @@
 -- A run that is counted, instruction by instruction.
-use Rattle.std.proofs.Common.{◌≡◌, ℕ, ◌+◌, ◌-◌, ◌%◌, ◌<◌, ◌≤◌, ◌&&◌, ◌==◌, not, Bool, true, false, List, ◌++◌, slice_index, replicate, refl, sym, ap, ◌∙◌, subst, arith}
+use Rattle.std.proofs.Common.{◌≡◌, ℕ, ◌+◌, ◌%◌, ◌<◌, ◌≤◌, ◌&&◌, ◌==◌, not, Bool, true, false, List, ◌++◌, slice_index, replicate, refl, sym, ap, ◌∙◌, subst, arith}
 use Rattle.std.specs.List.{count_by}
 use Rattle.std.proofs.lemmas.List.{length-replicate, get_or-replicate}
 use Rattle.mcs_model.specs.declared.regs.Regs.{Regs}
@@ -64,7 +64,7 @@ runs-next left k d s t u before xs ys at ran some e l new told =
 pub jumps-next : (left k d : ℕ) (s t u : Machine) (before after : Regs) (xs ys : List ℕ) → t ≡ after_cycles k s → InstructionRan left t u d → 0 < d → before ≡ t.0 → after ≡ u.0 → before.pc < 4096 → ys ≡ with_one xs (before.owed == 0 && not (after.pc == (before.pc + 2) % 4096)) before.pc → IsTally xs (jumps_at (begun_within k s)) → IsTally ys (jumps_at (begun_within (k + d) s))
 jumps-next left k d s t u before after xs ys at ran some e f l new told =
     let same : before ≡ (after_cycles k s).0 = e ∙ ap (λ (m : Machine). m.0) at in
-    let later : after.pc ≡ (after_cycles (k + 1) s).0.pc = ap (λ (r : Regs). r.pc) f ∙ ap (λ (m : Machine). m.0.pc) (rests left d t u ran some ) ∙ ap (λ (m : Machine). m.0.pc) (one-behind k s t at) in
+    let later : after.pc ≡ (after_cycles (k + 1) s).0.pc = ap (λ (r : Regs). r.pc) f ∙ ap (λ (m : Machine). m.0.pc) (rests left d t u ran some) ∙ ap (λ (m : Machine). m.0.pc) (one-behind k s t at) in
     subst (λ v. IsTally v (jumps_at (begun_within (k + d) s))) (sym new)
     (jumps-more k (k + d) s xs (before.owed == 0 && not (after.pc == (before.pc + 2) % 4096)) before.pc l (begun-on left k d s t u at ran some)
     (ap (λ (r : Regs). r.owed == 0 && not (after.pc == (r.pc + 2) % 4096)) same ∙ ap (λ (p : ℕ). (after_cycles k s).0.owed == 0 && not (p == ((after_cycles k s).0.pc + 2) % 4096)) later)

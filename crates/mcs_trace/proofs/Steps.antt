@@ -1,11 +1,10 @@
 -- What an instruction of a run begins, and what its second cycle leaves as it is.
-use Rattle.std.proofs.Common.{◌≡◌, ℕ, suc, zero, ◌+◌, ◌<◌, ◌≤◌, cond, List, [], ◌∷◌, ◌++◌, refl, sym, ap, ◌∙◌, arith}
+use Rattle.std.proofs.Common.{◌≡◌, ℕ, suc, zero, ◌+◌, ◌<◌, ◌≤◌, [], ◌++◌, refl, sym, ap, ◌∙◌, arith}
 use Rattle.std.proofs.lemmas.List.{append-nil}
-use Rattle.mcs_model.specs.declared.regs.Regs.{Regs}
 use Rattle.mcs_model.specs.Effect.{cycle_of}
 use Rattle.mcs_model.specs.Running.{Machine, InstructionRan, after_cycles}
 use Rattle.mcs_model.proofs.RunLemmas.{cycled-add}
-use Rattle.mcs_ahead.specs.Ahead.{Begun, begins, begun_within, cycle_at}
+use Rattle.mcs_ahead.specs.Ahead.{begun_within}
 use Rattle.mcs_trace.proofs.Tallies.{begun-more, begun_at}
 
 -- a machine of which nothing but what is owed is another
