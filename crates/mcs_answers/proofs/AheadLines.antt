@@ -8,7 +8,7 @@ use Rattle.std.proofs.lemmas.List.{append-nil}
 use Rattle.mcs_model.specs.declared.stop.Stop.{Stop}
 use Rattle.mcs_model.specs.declared.regs.Regs.{Regs}
 use Rattle.mcs_model.specs.BenchState.{BenchState}
-use Rattle.mcs_model.specs.Command.{machine_of, stops_of, with_machine}
+use Rattle.mcs_model.specs.Command.{machine_of, stops_of}
 use Rattle.mcs_model.specs.QueryText.{address_text, as_line}
 use Rattle.mcs_model.specs.Running.{Machine, InstructionRan, after_cycles}
 use Rattle.mcs_model.proofs.ListLemmas.{range_more}

@@ -1,7 +1,6 @@
 -- What an instruction leaves as it is: what stands at lines, but for a write to a port; RAM and status characters, but for a
 -- write to these; the bytes of ROM.
-use Rattle.std.proofs.Common.{◌≡◌, ◌≢◌, ℕ, ◌+◌, ◌/◌, Bool, true, false, cond, List, [], ◌∷◌, ◌++◌, codes, map, Option, Some, None, inl, inr, refl, sym, ap, ◌∙◌, eqb, nat_lt, slice_index, if◌then◌else◌}
-use Rattle.std.specs.List.{flat_map}
+use Rattle.std.proofs.Common.{◌≡◌, ◌≢◌, ℕ, ◌/◌, Bool, true, false, cond, List, [], ◌∷◌, map, Option, Some, None, not, inl, inr, refl, sym, ap, ◌∙◌, eqb, nat_lt, slice_index, if◌then◌else◌}
 use Rattle.mcs_nibble.specs.declared.lines.LineMask.{LineMask}
 use Rattle.mcs_model.specs.declared.regs.Regs.{Regs}
 use Rattle.mcs_model.specs.declared.board.Line.{Line}
@@ -9,11 +8,11 @@ use Rattle.mcs_model.specs.declared.board.Line.TheVariants.{Rom, Ram, Chain}
 use Rattle.mcs_model.specs.declared.op.Op.{Op}
 use Rattle.mcs_model.specs.declared.op.Op.TheVariants.{Nop, Jcn, Fim, Src, Fin, Jin, Jun, Jms, Inc, Isz, Add, Sub, Ld, Xch, Bbl, Ldm, Wrm, Wmp, Wrr, Wr0, Wr1, Wr2, Wr3, Sbm, Rdm, Rdr, Adm, Rd0, Rd1, Rd2, Rd3, Clb, Clc, Iac, Cmc, Cma, Ral, Rar, Tcc, Dac, Tcs, Stc, Daa, Kbp, Dcl}
 use Rattle.mcs_model.specs.Boards.{exists_on, masks_on}
-use Rattle.mcs_model.specs.Bus.{BusState, after_src, after_ram, after_status, chips_of, has_chip, src_of, with_ram, with_status}
+use Rattle.mcs_model.specs.Bus.{BusState, after_src, after_ram, after_status, chips_of, has_chip, ram_place, src_of, status_place, with_ram, with_status}
 use Rattle.mcs_model.specs.Effect.{bus_after, cycle_of, effect, instruction_at}
 use Rattle.mcs_model.specs.Levels.{after_ram_port, after_rom_port, chains_clocked, is_pulled, latch_of, level}
 use Rattle.mcs_model.specs.Registers.{pair_of}
-use Rattle.mcs_model.specs.QueryText.{lamp_mark, or_dash}
+use Rattle.mcs_model.specs.QueryText.{address_text, digit_text, hex_2, lamp_mark, one_word, or_dash}
 use Rattle.mcs_model.specs.Running.{Machine, Stops, after_cycles}
 use Rattle.mcs_bench.specs.declared.running.Went.{Went}
 use Rattle.mcs_bench.specs.Runs.{WentTo}
@@ -21,7 +20,7 @@ use Rattle.mcs_ahead.specs.declared.probe.Probe.{Probe}
 use Rattle.mcs_ahead.specs.declared.probe.Probe.TheVariants as place
 use Rattle.mcs_ahead.specs.Probes.{level_on, probe_text, row}
 use Rattle.mcs_trace.proofs.Steps.{rests, with_owed}
-use Rattle.mcs_answers.specs.Resting.{RowRests, WritesPort, WritesStatus}
+use Rattle.mcs_answers.specs.Resting.{Rests, RowRests, WritesPort, WritesStatus}
 
 -- what holds of the bus that an instruction leaves, by what it does to it
 by-bus : (op : Op) (s : Regs) (m : BusState) (P : Op → BusState → Type 0)
@@ -30,7 +29,7 @@ by-bus : (op : Op) (s : Regs) (m : BusState) (P : Op → BusState → Type 0)
     → P Wrm (after_ram m s.dcl s.acc)
     → P Wmp (after_ram_port m s.dcl s.acc)
     → P Wrr (after_rom_port m s.acc)
-    → (P Wr0 (after_status m s.dcl 0 s.acc) × (P Wr1 (after_status m s.dcl 1 s.acc) × (P Wr2 (after_status m s.dcl 2 s.acc) × P Wr3 (after_status m s.dcl 3 s.acc))))
+    → (P Wr0 (after_status m s.dcl 0 s.acc) × P Wr1 (after_status m s.dcl 1 s.acc) × P Wr2 (after_status m s.dcl 2 s.acc) × P Wr3 (after_status m s.dcl 3 s.acc))
     → P op (bus_after op s m)
 by-bus Nop s m P none src ram ram_port rom_port status = none _
 by-bus (Jcn a b) s m P none src ram ram_port rom_port status = none _
@@ -52,9 +51,9 @@ by-bus Wrm s m P none src ram ram_port rom_port status = ram
 by-bus Wmp s m P none src ram ram_port rom_port status = ram_port
 by-bus Wrr s m P none src ram ram_port rom_port status = rom_port
 by-bus Wr0 s m P none src ram ram_port rom_port status = status.0
-by-bus Wr1 s m P none src ram ram_port rom_port status = status.1.0
-by-bus Wr2 s m P none src ram ram_port rom_port status = status.1.1.0
-by-bus Wr3 s m P none src ram ram_port rom_port status = status.1.1.1
+by-bus Wr1 s m P none src ram ram_port rom_port status = status.1
+by-bus Wr2 s m P none src ram ram_port rom_port status = status.2
+by-bus Wr3 s m P none src ram ram_port rom_port status = status.3
 by-bus Sbm s m P none src ram ram_port rom_port status = none _
 by-bus Rdm s m P none src ram ram_port rom_port status = none _
 by-bus Rdr s m P none src ram ram_port rom_port status = none _
@@ -194,7 +193,35 @@ went-leaves stops left t u w op h e =
     ap (λ (m : BusState). (u.0, m)) (ap (λ (v : Machine). v.1) rest ∙ ap (λ (v : Machine). v.1) (does op t is.0 is.1))
 
 -- a row that rests
-pub row-rests : (stops : Stops) (left : ℕ) (t u : Machine) (w : Went) (before after : Regs) (probes : List Probe) (op : Op) → WentTo stops left t u w → before ≡ t.0 → after ≡ u.0 → w.op ≡ Some op → RowRests w.op before after probes → row probes t ≡ row probes u
-row-rests stops left t u w before after probes op h e f is same =
+row-of : (stops : Stops) (left : ℕ) (t u : Machine) (w : Went) (before after : Regs) (probes : List Probe) (did : Option Op) → WentTo stops left t u w → before ≡ t.0 → after ≡ u.0 → w.op ≡ did → RowRests did before after probes → row probes t ≡ row probes u
+row-of stops left t u w before after probes None h e f is same = absurd same
+row-of stops left t u w before after probes (Some op) h e f is same =
     sym (ap (row probes) (went-leaves stops left t u w op h is ∙ ap (λ (r : Regs). (r, bus_after op t.0 t.1)) (sym f) ∙ ap (λ (r : Regs). (after, bus_after op r t.1)) (sym e))
-    ∙ same op t.1 is ∙ ap (λ (r : Regs). row probes (r, t.1)) e)
+    ∙ same t.1 ∙ ap (λ (r : Regs). row probes (r, t.1)) e)
+
+pub row-rests : (stops : Stops) (left : ℕ) (t u : Machine) (w : Went) (before after : Regs) (probes : List Probe) → WentTo stops left t u w → before ≡ t.0 → after ≡ u.0 → RowRests w.op before after probes → row probes t ≡ row probes u
+row-rests stops left t u w before after probes h e f same = row-of stops left t u w before after probes w.op h e f refl same
+
+-- ---- what is found of a place
+
+pub not-so : {A : Type 0} (r : Bool) → not r ≡ true → (A → r ≡ true) → A → ⊥
+not-so true off on a = absurd (cc)
+not-so false off on a = let e = on a in absurd (cc)
+
+pub rom-rests : (op : Op) (before after : Regs) (at : ℕ) → Rests op before after (place.Rom at)
+rom-rests op before after at m = ap (λ (xs : List ℕ). hex_2 (slice_index xs at)) (keeps-rom op before m)
+
+pub ram-rests : (op : Op) (before after : Regs) (bank src : ℕ) → op ≢ Wrm → Rests op before after (place.Ram bank src)
+ram-rests op before after bank src off m = ap (λ (xs : List ℕ). digit_text (slice_index xs (ram_place bank src))) (keeps-ram op before m off)
+
+pub status-rests : (op : Op) (before after : Regs) (bank high k : ℕ) → (WritesStatus op → ⊥) → Rests op before after (place.Status bank high k)
+status-rests op before after bank high k off m = ap (λ (xs : List ℕ). digit_text (slice_index xs (status_place bank high k))) (keeps-status op before m off)
+
+pub level-rests : (op : Op) (before after : Regs) (line : Line) → (WritesPort op → ⊥) → Rests op before after (place.Level line)
+level-rests op before after line off m = ap digit_text (keeps-level op before m line off)
+
+pub lamps-rest : (op : Op) (before after : Regs) → (WritesPort op → ⊥) → Rests op before after place.Lamps
+lamps-rest op before after off m = keeps-lamps op before after m off
+
+pub returns-rest : (op : Op) (before after : Regs) → before.ret ≡ after.ret → Rests op before after place.Returns
+returns-rest op before after e m = ap (λ (xs : List ℕ). one_word (map address_text xs)) (sym e)

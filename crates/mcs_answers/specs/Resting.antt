@@ -1,5 +1,5 @@
 -- Which instructions surely leave what stands at a place as it is.
-use Rattle.std.specs.Prelude.{◌≡◌, ◌⊎◌, List, Option, Some}
+use Rattle.std.specs.Prelude.{◌≡◌, ◌⊎◌, List, Option, Some, None}
 use Rattle.mcs_model.specs.declared.op.Op.{Op}
 use Rattle.mcs_model.specs.declared.op.Op.TheVariants.{Wmp, Wrr, Wr0, Wr1, Wr2, Wr3}
 use Rattle.mcs_model.specs.declared.regs.Regs.{Regs}
@@ -19,8 +19,8 @@ abbrev pub Rests : Op → Regs → Regs → Probe → Type 0
 Rests op before after probe =
     (m : BusState) → probe_text (after, bus_after op before m) probe ≡ probe_text (before, m) probe
 
--- the same of a row
+-- the same of a row; of none where no instruction was begun
 abbrev pub RowRests : Option Op → Regs → Regs → List Probe → Type 0
-RowRests did before after probes =
-    (op : Op) (m : BusState) → did ≡ Some op →
-    row probes (after, bus_after op before m) ≡ row probes (before, m)
+RowRests None before after probes = ⊥
+RowRests (Some op) before after probes =
+    (m : BusState) → row probes (after, bus_after op before m) ≡ row probes (before, m)

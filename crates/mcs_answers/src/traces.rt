@@ -121,7 +121,8 @@ fn rests(probe: Probe, op: &Op, before: &Regs, after: &Regs) -> bool
         Probe::Rom(_) => true,
         Probe::Ram(_, _) => !writes_ram(op),
         Probe::Status(_, _, _) => !writes_status(op),
-        Probe::Level(_) | Probe::Lamps => !writes_port(op),
+        Probe::Level(_) => !writes_port(op),
+        Probe::Lamps => !writes_port(op),
         Probe::Returns => before.ret == after.ret,
     }
 }
