@@ -18,6 +18,7 @@ fail() {
 }
 
 refuse_words() {
+    usage_told=1
     echo "usage: $usage" >&2
     exit 2
 }
@@ -47,8 +48,9 @@ is_full() {
 
 # Removes the temporary folder, and ends with `status`.
 end_folder() {
-    if [ "$status" -eq 1 ] && is_full; then
+    if [ "$status" -ne 0 ] && [ -z "${usage_told:-}" ] && is_full; then
         echo "$tool: $place has no room for temporary files; make some, or name another place: TMPDIR" >&2
+        status=1
     fi
     rm -rf -- "$folder"
     exit "$status"
