@@ -110,8 +110,8 @@ class Program:
     def put_end_of_page(self, page: int) -> None:
         """Instructions in the last words of a page, whose targets are on the next one."""
         if (page >> 8) + 1 in self.wiring.pages and {page + 0xFC, page + 0xFD, page + 0xFE, page + 0xFF, page + 0x100} <= self.free:
-            names = ["ISZ R3", "JCN 12", "JCN 4", "JIN P2", "FIN P2"]
-            self.put(page + 0xFC, ["NOP", "NOP", self.chance.choice(names)] if self.chance.random() < 0.5 else ["NOP", "NOP", "NOP", self.chance.choice(names)])
+            name = self.chance.choice(["ISZ R3", "JCN 12", "JCN 4", "JIN P2", "FIN P2"])
+            self.put(page + 0xFC, [*self.chance.randrange(2, 4) * ["NOP"], name])
 
     def phrase(self) -> list[str]:
         """A few instructions that do something together, or one of any kind."""

@@ -129,7 +129,8 @@ def levels(board: Board, source: Source) -> dict[str, str]:
 
 
 def wave_told(start: Board, cycles: int, names: list[str], source: Source) -> tuple[Changes, int]:
-    """`tools/wave`: what the lines with these names change at each cycle, from their levels at 0 on, and at which cycle it ends."""
+    """`tools/wave`: what the lines with these names change at each cycle, from their levels at 0 on, and at which cycle it ends. The counter
+    and its label change when an instruction is done."""
     board = start.copy()
     now = levels(board, source)
     changes, done = {0: {name: now[name] for name in names}}, 0
@@ -137,6 +138,8 @@ def wave_told(start: Board, cycles: int, names: list[str], source: Source) -> tu
         board.cycle()
         done += 1
         before, now = now, levels(board, source)
+        if board.owed:
+            now |= {name: before[name] for name in ("pc", "label")}
         if any(now[name] != before[name] for name in names):
             changes[done] = {name: now[name] for name in names if before[name] != now[name]}
     return changes, done
@@ -249,11 +252,13 @@ def profile_told(start: Board, cycles: int, source: Source) -> str:
         calls.leave(total)
     rows = [f"{total} cycles, {total * 0.0108:.1f} ms", "", "label             at          own  own %     calls with calls    longest"]
     for (at, label), cycles_there in sorted(own.items(), key=lambda item: (-item[1], item[0][0])):
-        row = f"{label or '(no label)':<17} {f'{at:03X}' if label else '':<4} {cycles_there:10} {100 * cycles_there / sum(own.values()):6.1f}"
+        row = f"{label or '(no label)':<17} {f'{at:03X}' if label else '':<4} {cycles_there:10} {100 * cycles_there / total:6.1f}"
         if calls.counts.get(at):
             times = calls.times.get(at, [0])
             row += f" {calls.counts[at]:9} {sum(times):10} {max(times):10}"
         rows.append(row)
+    if start.owed and total:
+        rows.append(f"{'(begun before)':<22} {1:10} {100 / total:6.1f}")
     return "".join(f"{row}\n" for row in rows)
 
 
