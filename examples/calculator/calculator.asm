@@ -449,7 +449,7 @@ each:	SRC P0
 ; before stays as it is. In what follows, up to `put`:
 ;   R4   the decimals of the outcome       R5   its sign
 ;   R13  1 where the signs differ (minus turns the one on the right)
-; All 16 characters of register 0 are used. 38 cycles up to the operator.
+; All 16 characters of register 0 are used. 36 cycles up to the operator.
 
 compute: FIM P1, before
 	SRC P1
