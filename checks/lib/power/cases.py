@@ -1,0 +1,170 @@
+"""What is tried: the file systems, what is done before a session is served on them, wrong programs, and which of them a run of the check tries.
+"""
+
+from __future__ import annotations
+
+from typing import NamedTuple
+
+# --- file systems
+
+
+class Kind(NamedTuple):
+    """A file system: MiB of its disk, what makes it and Debian's package of that, its type, options of the mount beside noatime, those with which it commits
+    each second, modules. `whole_blocks`: its blocks of 4 KiB have to be written whole. `shows_stale`: what a file holds where nothing was
+    written to it yet may be what the disk held before."""
+    name: str
+    size: int
+    make: tuple[str, ...]
+    package: str
+    type: str
+    options: str
+    often: str
+    modules: tuple[str, ...]
+    whole_blocks: bool = False
+    shows_stale: bool = False
+
+
+MAKE_EXT = ("mkfs.ext4", "-q", "-F", "-N", "1024", "-E", "nodiscard,lazy_itable_init=0,lazy_journal_init=0")
+MAKE_XFS = ("mkfs.xfs", "-q", "-f", "-K")
+MAKE_BTRFS = ("mkfs.btrfs", "-q", "-f", "-K")
+
+
+def ext(name: str, options: str = "", *more: str) -> Kind:
+    """ext4 with these options of the mount, made with more words."""
+    return Kind(name, 64, (*MAKE_EXT, *more), "e2fsprogs", "ext4", options, "commit=1", ("ext4",))
+
+
+def btrfs(name: str, options: str = "") -> Kind:
+    """btrfs with these options of the mount."""
+    return Kind(name, 128, MAKE_BTRFS, "btrfs-progs", "btrfs", options, "commit=1", ("btrfs",), whole_blocks=True)
+
+
+KINDS = {kind.name: kind for kind in (
+    ext("ext4"),
+    ext("ext4-writeback", "data=writeback"),
+    ext("ext4-journal", "data=journal"),
+    ext("ext4-fast", "", "-O", "fast_commit"),
+    ext("ext4-async", "journal_async_commit,data=writeback"),
+    ext("ext4-1k", "", "-b", "1024"),
+    Kind("xfs", 300, MAKE_XFS, "xfsprogs", "xfs", "", "", ("xfs",)),
+    btrfs("btrfs"),
+    btrfs("btrfs-nocow", "nodatacow"),
+    Kind("vfat", 32, ("mkfs.vfat",), "dosfstools", "vfat", "", "", ("vfat", "nls_cp437", "nls_ascii"), shows_stale=True),
+    Kind("exfat", 32, ("mkfs.exfat",), "exfatprogs", "exfat", "", "", ("exfat", "nls_utf8"), shows_stale=True),
+    # Linux before 6.5 does not always flush the disk when a file of it is synced.
+    ext("ext4-nojournal", "", "-O", "^has_journal")._replace(often="", shows_stale=True),
+    # This one loses what was acknowledged.
+    ext("ext4-nobarrier", "nobarrier"),
+)}
+
+# --- cases
+
+
+class Case(NamedTuple):
+    """What is done before and synced, what is done then and not synced, the words of the program, and the name under which its file is
+    looked for. `begins`: the number of commands in it by then. `is_kept`: it was there, durable, before. `has_room`: the case takes all
+    commands that there are."""
+    name: str
+    setup: str
+    before: str
+    words: str
+    file: str
+    begins: int = 0
+    is_kept: bool = False
+    takes_all: bool = False
+
+
+LONG = "a_session_with_a_long_name_that_takes_several_slots_of_a_folder_on_a_file_system_of_that_sort.mcs"
+SEED = "mcs4 new seed < /dev/null > /dev/null"
+OTHERS = "for i in 1 2 3 4 5 6 7 8 9 10; do : > f$i; done"
+# Sessions that are brought along: of so many commands, and of version 1.
+SERVED, FIRST = "served.mcs", "first.mcs"
+SERVED_COMMANDS, FIRST_COMMANDS = 60, 30
+
+CASES = {case.name: case for case in (
+    Case("new", "", "", "new s.mcs", "s.mcs", takes_all=True),
+    Case("new-long", "", "", f"new {LONG}", LONG),
+    Case("new-full", "mkdir d; for i in $(seq 1 250); do : > d/a_name_that_fills_the_folder_$i; done", "", "new d/s.mcs", "d/s.mcs"),
+    Case("new-empty", "", ": > s.mcs", "new s.mcs", "s.mcs"),
+    Case("new-folder", "", "mkdir d", "new d/s.mcs", "d/s.mcs"),
+    Case("new-link", "mkdir a b; ln -s ../b/real.mcs a/s.mcs", "", "new a/s.mcs", "a/s.mcs"),
+    Case("linked", SEED, "ln seed s.mcs || cp seed s.mcs", "open s.mcs", "s.mcs"),
+    Case("copied", SEED, "cp seed s.mcs", "open s.mcs", "s.mcs"),
+    Case("moved", SEED, "mv seed s.mcs", "open s.mcs", "s.mcs"),
+    Case("replaced", f"mcs4 new s.mcs < /dev/null > /dev/null; {SEED}", "mv seed s.mcs", "open s.mcs", "s.mcs"),
+    Case("long-copied", f"{SEED}; {OTHERS}", f"cp seed {LONG}", f"open {LONG}", LONG),
+    Case("long-moved", f"{SEED}; {OTHERS}", f"mv seed {LONG}", f"open {LONG}", LONG),
+    Case("folder-copied", SEED, "mkdir d; cp seed d/s.mcs", "open d/s.mcs", "d/s.mcs"),
+    Case("folder-moved", "mkdir d; mcs4 new d/s.mcs < /dev/null > /dev/null", "mv d e", "open e/s.mcs", "e/s.mcs"),
+    Case("served", f"cp /{SERVED} s.mcs", "", "open s.mcs", "s.mcs", begins=SERVED_COMMANDS, is_kept=True),
+    Case("carried", f"cp /{FIRST} s.mcs", "", "open s.mcs", "s.mcs", begins=FIRST_COMMANDS, is_kept=True),
+    Case("carried-copied", "", f"cp /{FIRST} s.mcs", "open s.mcs", "s.mcs", begins=FIRST_COMMANDS),
+    # Only the folder of FILE is synced: those above it, just made, may be gone.
+    Case("folders", "", "mkdir -p d/e", "new d/e/s.mcs", "d/e/s.mcs"),
+)}
+NEW = ("new-long", "new-full", "new-empty", "new-folder")
+OPENED = ("linked", "copied", "moved", "replaced", "long-copied", "long-moved", "folder-copied", "folder-moved", "carried-copied")
+
+# --- what a run tries
+
+# The commands of a session of its own, of one that goes on, and of one in a case of its name.
+ALL_COMMANDS, MORE_COMMANDS, FEW_COMMANDS = 110, 24, 12
+
+
+class Trial(NamedTuple):
+    """A case on a kind of file system: how many images of the first cut are looked at, and how many times one of them is taken for the disk
+    and the power is cut again. `is_busy`: something else happens in the file system meanwhile, and it commits each second. `wrong`: what the
+    program leaves out, or the mount; this has to be found out, and it is what is lost then."""
+    kind: str
+    case: str
+    images: int
+    generations: int = 0
+    is_busy: bool = False
+    wrong: str = ""
+
+    @property
+    def name(self) -> str:
+        """Its name, for people."""
+        return f"{self.kind}, {self.case}{', ' * bool(self.wrong)}{self.wrong}"
+
+
+NO_BARRIER = "no barrier"
+# What is to be found out, of which the second last is the fault of an `open` that does not sync FILE's folder.
+WRONG = (
+    Trial("ext4-nobarrier", "served", 60, wrong=NO_BARRIER),
+    Trial("ext4", "served", 60, wrong="no sync"),
+    Trial("ext4", "served", 200, wrong="no first sync"),
+    Trial("xfs", "served", 60, wrong="no second sync"),
+    Trial("ext4", "served", 120, wrong="no snapshot sync"),
+    Trial("vfat", "carried", 120, wrong="no snapshot sync"),
+    Trial("ext4", "served", 60, wrong="second sync first"),
+    Trial("xfs", "served", 60, wrong="answer first"),
+    Trial("ext4", "copied", 40, wrong="no opening sync"),
+    Trial("vfat", "long-copied", 40, wrong="no folder sync"),
+    Trial("vfat", "new-folder", 40, wrong="no folder sync"),
+)
+
+
+def cases_of(kind: str) -> list[str]:
+    """The short cases that a file system has: no links on FAT and exFAT."""
+    return [*NEW, *([] if KINDS[kind].shows_stale else ["new-link"]), *OPENED]
+
+
+def long_trials() -> list[Trial]:
+    """What `checks/power --long` tries."""
+    found = []
+    for kind in ("ext4", "ext4-writeback", "xfs", "btrfs", "vfat", "exfat"):
+        found.append(Trial(kind, "new", 150, 1, is_busy=True))
+        found.append(Trial(kind, "served", 60, 5, is_busy=True))
+        found.append(Trial(kind, "carried", 60, 5))
+    for kind in ("ext4", "xfs", "btrfs", "vfat"):
+        found += [Trial(kind, case, 20) for case in cases_of(kind)]
+    return [*found, *WRONG]
+
+
+def short_trials() -> list[Trial]:
+    """What `checks/power` tries: two file systems, each with what is most easily lost there."""
+    found = [Trial(kind, "new", 60, 1, is_busy=True) for kind in ("ext4", "vfat")]
+    found += [Trial(kind, "carried", 30, 2) for kind in ("ext4", "vfat")]
+    found += [Trial("vfat", case, 10) for case in ("new-folder", "long-copied", "folder-copied", "folder-moved")]
+    return [*found, *(trial for trial in WRONG if trial.wrong in ("no sync", "no second sync", "no folder sync") and trial.kind != "xfs")]

@@ -1,0 +1,184 @@
+"""A disk of a virtual machine that this process serves, and a list of what happened to it.
+
+QEMU reads and writes the disk as a client of NBD, over a Unix socket. So each write and each flush is seen twice, as it comes and as it is
+answered: what stands between the two may be lost by a power cut, whatever the machine believes.
+"""
+
+from __future__ import annotations
+
+import mmap
+import os
+import random
+import socket
+import struct
+from collections.abc import Callable
+from typing import NamedTuple
+
+MAGIC, OPTION_MAGIC, REPLY_MAGIC, REQUEST_ANSWER = 0x4E42444D41474943, 0x49484156454F5054, 0x3E889045565A9, 0x67446698
+FIXED_NEWSTYLE_NO_ZEROES = 3
+# Options, the kinds of their replies, and what a reply of information has.
+ABORT, INFO, GO = 2, 6, 7
+ACKNOWLEDGED, INFORMED, UNSUPPORTED = 1, 3, (1 << 31) + 1
+EXPORT, BLOCK_SIZE = 0, 3
+# Flags of the disk: it has flags, and takes flushes; and requests.
+HAS_FLAGS, SEND_FLUSH = 1, 4
+READ, WRITE, LEAVE, FLUSH = 0, 1, 2, 3
+OPTION_HEAD, REQUEST_HEAD = 16, 28
+
+
+class Fault(Exception):
+    """What keeps the check from going on: the machine, or the program in it, does something else than it has to do."""
+
+
+class Event(NamedTuple):
+    """What happened: of the disk a `write` came and was answered (`wrote`), a `flush` came and was answered (`flushed`), each pair with a
+    number of its own; of the program a command was `sent` or `answered`, by its number."""
+    what: str
+    number: int
+    place: int = 0
+    data: bytes = b""
+
+
+class Disk:
+    """Bytes that a machine reads and writes, in memory.
+
+    `events`, where it is a list, gets what happens. Where `late` is true, writes and flushes are answered late and out of order, as the
+    queue of a real disk does."""
+
+    def __init__(self, size: int, seed: int = 0) -> None:
+        self.memory = os.memfd_create("disk")
+        os.ftruncate(self.memory, size)
+        self.bytes = mmap.mmap(self.memory, size)
+        self.events: list[Event] | None = None
+        self.undo: list[tuple[int, bytes]] | None = None
+        self.late = False
+        self.count = 0
+        self.chance = random.Random(seed)
+
+    @property
+    def file(self) -> str:
+        """A name by which a program on this host finds the bytes."""
+        return f"/proc/{os.getpid()}/fd/{self.memory}"
+
+    def close(self) -> None:
+        """Gives the memory back."""
+        self.bytes.close()
+        os.close(self.memory)
+
+    def put(self, place: int, data: bytes) -> None:
+        """Writes bytes; `undo`, where it is a list, gets those that were there."""
+        if self.undo is not None:
+            self.undo.append((place, self.bytes[place:place + len(data)]))
+        self.bytes[place:place + len(data)] = data
+
+    def take_back(self) -> None:
+        """Takes back all that was put since `undo` was made a list."""
+        for place, data in reversed(self.undo or []):
+            self.bytes[place:place + len(data)] = data
+        self.undo = None
+
+    def happened(self, what: str, number: int, place: int = 0, data: bytes = b"") -> None:
+        """Adds to the list of events, if there is one."""
+        if self.events is not None:
+            self.events.append(Event(what, number, place, data))
+
+
+class Connection:
+    """QEMU's side of a disk: the handshake by which it names the disk, then its requests."""
+
+    def __init__(self, disks: dict[str, Disk], channel: socket.socket, leave: Callable[[socket.socket], None]) -> None:
+        self.disks, self.channel, self.leave = disks, channel, leave
+        self.input = bytearray()
+        self.disk: Disk | None = None
+        self.is_begun = False
+        self.waiting: list[tuple[str, int, int]] = []
+        channel.sendall(struct.pack(">QQH", MAGIC, OPTION_MAGIC, FIXED_NEWSTYLE_NO_ZEROES))
+
+    def is_ready(self) -> None:
+        """Serves what has come."""
+        found = self.channel.recv(1 << 20)
+        if not found:
+            self.leave(self.channel)
+            return
+        self.input += found
+        while self.disk is None and self.serve_option():
+            pass
+        while self.disk is not None and self.serve_request(self.disk):
+            pass
+
+    def reply(self, option: int, kind: int, data: bytes = b"") -> None:
+        """Answers an option."""
+        self.channel.sendall(struct.pack(">QIII", REPLY_MAGIC, option, kind, len(data)) + data)
+
+    def serve_option(self) -> bool:
+        """Serves an option of the handshake, if it has come whole."""
+        if not self.is_begun and len(self.input) >= 4:
+            del self.input[:4]
+            self.is_begun = True
+        if not self.is_begun or len(self.input) < OPTION_HEAD:
+            return False
+        _, option, length = struct.unpack(">QII", self.input[:OPTION_HEAD])
+        if len(self.input) < OPTION_HEAD + length:
+            return False
+        data = bytes(self.input[OPTION_HEAD:OPTION_HEAD + length])
+        del self.input[:OPTION_HEAD + length]
+        if option in (INFO, GO):
+            size, = struct.unpack(">I", data[:4])
+            disk = self.disks[data[4:4 + size].decode()]
+            self.reply(option, INFORMED, struct.pack(">HQH", EXPORT, len(disk.bytes), HAS_FLAGS | SEND_FLUSH))
+            self.reply(option, INFORMED, struct.pack(">HIII", BLOCK_SIZE, 512, 4096, 1 << 25))
+            self.reply(option, ACKNOWLEDGED)
+            self.disk = disk if option == GO else None
+        elif option == ABORT:
+            self.reply(option, ACKNOWLEDGED)
+            self.leave(self.channel)
+            return False
+        else:
+            self.reply(option, UNSUPPORTED)
+        return True
+
+    def serve_request(self, disk: Disk) -> bool:
+        """Serves a request, if it has come whole."""
+        if len(self.input) < REQUEST_HEAD:
+            return False
+        _, _, kind, handle, place, length = struct.unpack(">IHHQQI", self.input[:REQUEST_HEAD])
+        whole = REQUEST_HEAD + (length if kind == WRITE else 0)
+        if len(self.input) < whole:
+            return False
+        data = bytes(self.input[REQUEST_HEAD:whole])
+        del self.input[:whole]
+        if kind == READ:
+            self.answer(handle, disk.bytes[place:place + length])
+        elif kind == WRITE:
+            disk.count += 1
+            disk.happened("write", disk.count, place, data)
+            disk.put(place, data)
+            self.wait("wrote", handle, disk)
+        elif kind == FLUSH:
+            disk.count += 1
+            disk.happened("flush", disk.count)
+            self.wait("flushed", handle, disk)
+        elif kind == LEAVE:
+            self.leave(self.channel)
+            return False
+        else:
+            raise Fault(f"QEMU asks the disk for a request of kind {kind}")
+        return True
+
+    def answer(self, handle: int, data: bytes = b"") -> None:
+        """Answers a request."""
+        self.channel.setblocking(True)
+        self.channel.sendall(struct.pack(">IIQ", REQUEST_ANSWER, 0, handle) + data)
+
+    def wait(self, what: str, handle: int, disk: Disk) -> None:
+        """Answers a request later, or now."""
+        self.waiting.append((what, disk.count, handle))
+        if not disk.late:
+            self.answer_one()
+
+    def answer_one(self) -> None:
+        """Answers one of the requests that wait."""
+        assert self.disk is not None
+        what, number, handle = self.waiting.pop(self.disk.chance.randrange(len(self.waiting)))
+        self.disk.happened(what, number)
+        self.answer(handle)

@@ -1,0 +1,255 @@
+"""A virtual machine: QEMU without KVM, a kernel of Debian, and an initramfs of busybox, modules, the program and its libraries.
+
+Its first serial line goes to a file, the second one is a shell, and the third one the program's input and output; both end in this process,
+as its disks do (disk.py). All is one thread. So the list of events is in order: whatever the program acknowledges on its line, the disk
+had answered before.
+"""
+
+from __future__ import annotations
+
+import gzip
+import lzma
+import pathlib
+import re
+import selectors
+import shutil
+import signal
+import socket
+import subprocess
+import time
+from typing import NamedTuple
+
+from power.disk import Connection, Disk, Fault
+
+# What the machine does first: modules, quiet lines, and then each line that comes, with its status.
+FIRST = r"""#!/bin/busybox sh
+/bin/busybox --install -s /bin
+mount -t proc proc /proc
+mount -t sysfs sys /sys
+mount -t devtmpfs dev /dev
+exec 2> /dev/ttyS0
+for module in $(cat /modules/order); do insmod /modules/$module.ko; done
+stty raw -echo < /dev/ttyS1
+exec < /dev/ttyS1 > /dev/ttyS1 3<> /dev/vport0p1
+echo ready
+while read -r line; do eval "$line"; echo "done $?"; done
+"""
+# `clearcpuid=cx16`: Linux 6.12 meets a fault of CMPXCHG16B in QEMU 7.2 without KVM. `no_timer_check`: where the host is busy, the kernel would
+# find its timer dead. The default processor is too old for Debian's glibc.
+KERNEL_WORDS = "console=ttyS0 loglevel=5 panic=-1 mitigations=off random.trust_cpu=on clearcpuid=cx16 no_timer_check cryptomgr.notests"
+PROCESSOR = "Nehalem"
+MEMORY = 512
+BOOT_SECONDS = 900
+# How long a late answer of a disk waits for others.
+LATE = 0.0005
+
+
+class Kernel(NamedTuple):
+    """A kernel: its file, and the folder of its modules."""
+    image: pathlib.Path
+    modules: pathlib.Path
+
+    @property
+    def release(self) -> str:
+        """Its name, as `uname -r` has it."""
+        return self.image.name.removeprefix("vmlinuz-")
+
+    def has(self, module: str) -> bool:
+        """Whether a module is there, or part of the kernel."""
+        built_in = self.modules / "modules.builtin"
+        return module in self.module_files() or (built_in.exists() and f"/{module}.ko\n" in built_in.read_text())
+
+    def module_files(self) -> dict[str, pathlib.Path]:
+        """Its modules, by name."""
+        return {file.name.split(".ko")[0].replace("-", "_"): file for file in self.modules.rglob("*.ko*")}
+
+
+def module_bytes(file: pathlib.Path) -> bytes:
+    """A module, unpacked."""
+    data = file.read_bytes()
+    return lzma.decompress(data) if file.suffix == ".xz" else gzip.decompress(data) if file.suffix == ".gz" else data
+
+
+def modules_of(kernel: Kernel, names: list[str]) -> dict[str, bytes]:
+    """These modules and those that they need, in the order to load them. What is not there is part of the kernel."""
+    files = kernel.module_files()
+    order: dict[str, bytes] = {}
+
+    def need(name: str) -> None:
+        name = name.replace("-", "_")
+        if name not in files or name in order:
+            return
+        data = module_bytes(files[name])
+        wanted = re.findall(rb"\0depends=([^\0]*)\0", data) + re.findall(rb"\0softdep=pre: ([^\0]*)\0", data)
+        for other in re.split(r"[, ]+", " ".join(words.decode() for words in wanted)):
+            if other:
+                need(other)
+        order[name] = data
+
+    for name in names:
+        need(name)
+    return order
+
+
+def libraries_of(program: str) -> dict[str, str]:
+    """The shared libraries of a program, by their places in the machine; none where it is linked statically."""
+    told = subprocess.run(["ldd", program], stdout=subprocess.PIPE, stderr=subprocess.DEVNULL, text=True, check=False).stdout
+    return {place.lstrip("/"): place for place in re.findall(r"(/\S+) \(0x", told)}
+
+
+def initramfs(folder: pathlib.Path, kernel: Kernel, names: list[str], files: dict[str, str]) -> pathlib.Path:
+    """An archive of busybox, these modules, and files: of each its place in the machine and the one here."""
+    root = folder / "root"
+    shutil.rmtree(root, ignore_errors=True)
+    for name in ("bin", "dev", "proc", "sys", "mnt", "modules", "tmp"):
+        (root / name).mkdir(parents=True)
+    busybox = shutil.which("busybox") or "/bin/busybox"
+    files = {"bin/busybox": busybox, **libraries_of(busybox), **files}
+    order = modules_of(kernel, names)
+    for name, data in order.items():
+        (root / "modules" / f"{name}.ko").write_bytes(data)
+    (root / "modules/order").write_text(" ".join(order))
+    for place, file in files.items():
+        (root / place).parent.mkdir(parents=True, exist_ok=True)
+        shutil.copy(file, root / place)
+    (root / "init").write_text(FIRST)
+    (root / "init").chmod(0o755)
+    listed = "\n".join(sorted(str(path.relative_to(root)) for path in root.rglob("*")))
+    packed = subprocess.run(["cpio", "--quiet", "-o", "-H", "newc"], input=listed.encode(), cwd=root, stdout=subprocess.PIPE, check=True)
+    archive = folder / "initramfs"
+    archive.write_bytes(packed.stdout)
+    return archive
+
+
+class Line:
+    """A serial line: what the machine wrote, text by text."""
+
+    def __init__(self) -> None:
+        self.channel: socket.socket | None = None
+        self.texts: list[str] = []
+        self.rest = b""
+
+    def is_ready(self) -> None:
+        """Takes what has come."""
+        assert self.channel is not None
+        *texts, self.rest = (self.rest + self.channel.recv(1 << 16)).split(b"\n")
+        self.texts += [text.decode(errors="replace").rstrip("\r") for text in texts]
+
+    def say(self, text: str) -> None:
+        """Types a text and a line feed."""
+        assert self.channel is not None
+        self.channel.sendall(text.encode() + b"\n")
+
+
+class Machine:
+    """A machine that runs, with its disks and its two lines."""
+
+    def __init__(self, folder: pathlib.Path, kernel: Kernel, archive: pathlib.Path, disks: dict[str, Disk]) -> None:
+        self.disks, self.release = disks, kernel.release
+        self.console, self.errors = folder / "console", folder / "errors"
+        self.console.write_bytes(b"")
+        self.selector = selectors.DefaultSelector()
+        self.connections: list[Connection] = []
+        self.shell, self.program = Line(), Line()
+        for name in ("disk", "shell", "program"):
+            (folder / name).unlink(missing_ok=True)
+            listener = socket.socket(socket.AF_UNIX)
+            listener.bind(str(folder / name))
+            listener.listen()
+            self.selector.register(listener, selectors.EVENT_READ, name)
+        self.started = time.monotonic()
+        # It ends with this process, however that ends.
+        words = ["setpriv", "--pdeathsig", "KILL", *self.words(folder, kernel, archive)]
+        with open(self.errors, "wb") as errors:
+            self.process = subprocess.Popen(words, stdin=subprocess.DEVNULL, stderr=errors)
+
+    def words(self, folder: pathlib.Path, kernel: Kernel, archive: pathlib.Path) -> list[str]:
+        """The words that start QEMU."""
+        words = ["qemu-system-x86_64", "-accel", "tcg", "-cpu", PROCESSOR, "-m", str(MEMORY), "-smp", "1", "-nodefaults", "-no-user-config",
+                 "-display", "none", "-nic", "none", "-no-reboot", "-kernel", str(kernel.image), "-initrd", str(archive),
+                 "-append", KERNEL_WORDS, "-chardev", f"file,id=console,path={self.console}", "-serial", "chardev:console"]
+        words += ["-chardev", f"socket,id=shell,path={folder}/shell", "-serial", "chardev:shell", "-device", "virtio-serial-pci",
+                  "-chardev", f"socket,id=program,path={folder}/program", "-device", "virtserialport,chardev=program"]
+        for name in self.disks:
+            words += ["-blockdev", f"driver=nbd,node-name={name},server.type=unix,server.path={folder}/disk,export={name}",
+                      "-device", f"virtio-blk-pci,drive={name},write-cache=on"]
+        return words
+
+    def boot(self) -> float:
+        """Waits until the machine takes lines; the seconds since its start."""
+        if self.hear(self.shell, BOOT_SECONDS) != "ready":
+            raise Fault(f"the machine does not begin; its last lines:\n{self.last_lines()}")
+        return time.monotonic() - self.started
+
+    def last_lines(self) -> str:
+        """What the kernel and QEMU told last."""
+        told = self.console.read_bytes()[-4000:] + self.errors.read_bytes()[-1000:]
+        return "\n".join("    " + line for line in told.decode(errors="replace").splitlines()[-12:])
+
+    def joins(self, name: str, listener: socket.socket) -> None:
+        """QEMU has come for a line or a disk."""
+        channel, _ = listener.accept()
+        if name == "disk":
+            connection = Connection(self.disks, channel, self.leaves)
+            self.connections.append(connection)
+            self.selector.register(channel, selectors.EVENT_READ, connection)
+        else:
+            line = self.shell if name == "shell" else self.program
+            line.channel = channel
+            self.selector.register(channel, selectors.EVENT_READ, line)
+
+    def leaves(self, channel: socket.socket) -> None:
+        """QEMU has left a disk."""
+        self.connections = [connection for connection in self.connections if connection.channel is not channel]
+        self.selector.unregister(channel)
+        channel.close()
+
+    def turn(self, seconds: float) -> None:
+        """Serves what has come, or comes in so many seconds; where nothing comes, late answers go out."""
+        waiting = [connection for connection in self.connections if connection.waiting]
+        found = self.selector.select(LATE if waiting else seconds)
+        for key, _ in found:
+            if isinstance(key.data, str):
+                assert isinstance(key.fileobj, socket.socket)
+                self.joins(key.data, key.fileobj)
+            else:
+                key.data.is_ready()
+        if not found:
+            for connection in waiting:
+                connection.answer_one()
+        if self.process.poll() is not None:
+            raise Fault(f"QEMU has ended with status {self.process.returncode}; the last lines:\n{self.last_lines()}")
+
+    def hear(self, line: Line, seconds: float = 600) -> str:
+        """The next text on a line."""
+        end = time.monotonic() + seconds
+        while not line.texts:
+            if time.monotonic() > end:
+                raise Fault(f"the machine was silent for {seconds} seconds; its last lines:\n{self.last_lines()}")
+            self.turn(0.2)
+        return line.texts.pop(0)
+
+    def do(self, text: str) -> tuple[list[str], int]:
+        """Runs a line of shell: its lines of output, and its status."""
+        self.shell.say(text)
+        told: list[str] = []
+        while not re.fullmatch(r"done \d+", line := self.hear(self.shell)):
+            told.append(line)
+        return told, int(line.split()[1])
+
+    def must(self, text: str) -> list[str]:
+        """Runs a line of shell that has to answer 0."""
+        told, status = self.do(text)
+        if status:
+            raise Fault(f"{text}: status {status}, {told}; the machine's last lines:\n{self.last_lines()}")
+        return told
+
+    def off(self) -> None:
+        """Cuts the power."""
+        if self.process.poll() is None:
+            self.process.send_signal(signal.SIGKILL)
+        self.process.wait()
+        for key in list(self.selector.get_map().values()):
+            if isinstance(key.fileobj, socket.socket):
+                key.fileobj.close()
+        self.selector.close()

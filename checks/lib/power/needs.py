@@ -1,0 +1,91 @@
+"""What the check needs of this host, and of Debian: programs, a kernel, room."""
+
+from __future__ import annotations
+
+import os
+import pathlib
+import re
+import shutil
+import subprocess
+import sys
+
+from power.machine import MEMORY, Kernel
+
+# Programs that each machine needs, and Debian's packages of them.
+PROGRAMS = {"qemu-system-x86_64": "qemu-system-x86", "cpio": "cpio", "busybox": "busybox-static", "setpriv": "util-linux",
+            os.environ.get("CC", "cc"): "gcc libc6-dev"}
+ALL_PACKAGES = "qemu-system-x86 busybox-static cpio e2fsprogs xfsprogs btrfs-progs dosfstools exfatprogs"
+KERNEL_PACKAGE = "linux-image-cloud-amd64"
+# The folder that `checks/power --fetch` fills, and where it is looked for.
+FETCHED = pathlib.Path(os.environ.get("XDG_CACHE_HOME") or pathlib.Path.home() / ".cache") / "fethsaim/kernels"
+MEGA = 1 << 20
+
+
+def path_with_system() -> str:
+    """The PATH, with the folders in which Debian has what makes file systems."""
+    return os.environ.get("PATH", "") + ":/usr/sbin:/sbin"
+
+
+def memory_folder() -> str | None:
+    """A folder in memory, where there is one: the program syncs its file some thousand times."""
+    return "/dev/shm" if os.access("/dev/shm", os.W_OK) else None
+
+
+def lacking_packages(programs: dict[str, str]) -> list[str]:
+    """Debian's packages of those of these programs that are not there."""
+    return sorted({package for program, package in programs.items() if shutil.which(program, path=path_with_system()) is None})
+
+
+def kernels_in(folder: pathlib.Path) -> list[Kernel]:
+    """The kernels in a folder with `boot` and `lib/modules`, by name."""
+    found = []
+    for image in sorted(folder.glob("boot/vmlinuz-*")):
+        release = image.name.removeprefix("vmlinuz-")
+        modules = [place for top in ("lib", "usr/lib") if (place := folder / top / "modules" / release).is_dir()]
+        if modules and os.access(image, os.R_OK):
+            found.append(Kernel(image, modules[0]))
+    return found
+
+
+def find_kernels(folders: list[str]) -> list[Kernel]:
+    """The kernels in these folders; where none are named the newest one that was fetched, or else that is installed."""
+    if folders:
+        return [kernel for folder in folders for kernel in kernels_in(pathlib.Path(folder))]
+    fetched = [kernel for folder in sorted(FETCHED.glob("*")) for kernel in kernels_in(folder)]
+    return (fetched or kernels_in(pathlib.Path("/")))[-1:]
+
+
+def fetch_kernel() -> int:
+    """Downloads Debian's kernel for virtual machines, and unpacks it; nothing of it is installed. The status of the check."""
+    FETCHED.mkdir(parents=True, exist_ok=True)
+    told = subprocess.run(["apt-cache", "depends", KERNEL_PACKAGE], stdout=subprocess.PIPE, stderr=subprocess.PIPE, text=True, check=False)
+    found = re.search(r"Depends: (linux-image-\S+)", told.stdout)
+    if not found:
+        print(f"checks/power: apt knows no {KERNEL_PACKAGE}; try apt-get update first. {told.stderr.strip()}", file=sys.stderr)
+        return 1
+    folder = FETCHED / found[1]
+    ran = subprocess.run(["apt-get", "-o", "APT::Sandbox::User=root", "download", found[1]], cwd=FETCHED, stdout=subprocess.DEVNULL,
+                         stderr=subprocess.PIPE, text=True, check=False)
+    archives = sorted(FETCHED.glob(f"{found[1]}_*.deb"))
+    if ran.returncode or not archives:
+        print(f"checks/power: {found[1]} is not downloaded: {ran.stderr.strip()}", file=sys.stderr)
+        return 1
+    status = subprocess.run(["dpkg-deb", "-x", archives[-1], folder], check=False).returncode
+    for archive in archives:
+        archive.unlink()
+    if status == 0:
+        print(f"the kernel stands in {folder}")
+    return status
+
+
+def lack_of_room(folder: pathlib.Path, disk: int) -> str:
+    """What there is too little of, in words: memory for a machine and a disk of so many bytes, and room for images of it."""
+    needed = MEMORY * MEGA + 3 * disk
+    told = pathlib.Path("/proc/meminfo").read_text()
+    available = re.search(r"MemAvailable: +(\d+) kB", told)
+    if available and int(available[1]) * 1024 < needed:
+        return f"{needed // MEGA} MB of memory are needed, {int(available[1]) // 1024} are available"
+    free = shutil.disk_usage(folder).free
+    if free < 2 * disk:
+        return f"{2 * disk // MEGA} MB are needed in {folder}, {free // MEGA} are free"
+    return ""

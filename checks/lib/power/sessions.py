@@ -1,0 +1,144 @@
+"""The sessions that are served: their commands, the state after each of them, and which of these states a file holds.
+
+The program itself, run on this host, tells the states; what it answers is looked at by other checks.
+"""
+
+from __future__ import annotations
+
+import hashlib
+import pathlib
+import subprocess
+
+from power.cases import FIRST, FIRST_COMMANDS, SERVED, SERVED_COMMANDS
+from power.disk import Fault
+from session_file import LENGTH_BYTES, SLOTS, read
+
+ROMS = 16
+BOARD = "wire\n" + "".join(f'[[rom]]\nchip = {chip}\nport = "0000"\n' for chip in range(ROMS)) + "[[ram]]\nbank = 0\nchips = 4\n."
+# Counts in all characters of bank 0, so each run leaves another state.
+PROGRAM = """asm
+again:  FIM P0, 0x00
+next:   SRC P0
+        RDM
+        IAC
+        WRM
+        ISZ R1, next
+        INC R0
+        ISZ R4, next
+        JUN again
+."""
+# All that a board has: registers and chips, RAM, ROM.
+QUERIES = "state\nram 0\n" + "".join(f"list {256 * chip} 256\n" for chip in range(ROMS))
+# Before this command the log is full of cycles, later of bytes.
+SHORT_COMMANDS = 48
+# Of a long text of bytes.
+LINES, BYTES_OF_LINE = 37, 100
+# The fifth byte of a state of version 1 is none of its version.
+VERSION_PLACE, VERSION_2 = 4, 2
+
+
+def commands(count: int) -> list[str]:
+    """The texts of so many commands. A snapshot is written at the 49th, as the log is full of cycles, and then at each 20th, as it is full of
+    bytes: three of four have a record of two blocks, of 4,213 bytes."""
+    found = [BOARD, PROGRAM]
+    for number in range(len(found), count):
+        if number >= SHORT_COMMANDS and number % 4:
+            line = "DB " + ",".join([str(number % 10)] * BYTES_OF_LINE) + "\n"
+            found.append("asm\nORG 0x100\n" + line * LINES + ".")
+        elif number % 8 == 7:
+            found.append(f"poke ram.0.{number % 256} {number % 16}")
+        else:
+            found.append("run 100000")
+    return found[:count]
+
+
+def carried_back(data: bytes) -> bytes:
+    """The file of version 1 of a session whose snapshot, of version 2, has no watches: the byte of the version and their count are not there."""
+    slot = SLOTS[data[8] % 2]
+    begin = slot + LENGTH_BYTES
+    length = int.from_bytes(data[slot:begin], "big")
+    state = data[begin:begin + length]
+    assert state[VERSION_PLACE] == VERSION_2 and state[-1] == 0
+    first = state[:VERSION_PLACE] + state[VERSION_PLACE + 1:-1]
+    return data[:slot] + len(first).to_bytes(LENGTH_BYTES, "big") + first + bytes(2) + data[begin + length:]
+
+
+def is_first(data: bytes) -> bool:
+    """Whether a file holds a session of version 1."""
+    found = read(data)
+    return found is not None and found[0][VERSION_PLACE] != VERSION_2
+
+
+def digest(answers: bytes) -> str:
+    """A short name of a state, from the answers to QUERIES."""
+    return hashlib.sha256(answers).hexdigest()
+
+
+class Sessions:
+    """The sessions of so many commands, as the program has them, and the files that it finds."""
+
+    def __init__(self, program: str, folder: pathlib.Path, count: int) -> None:
+        self.program, self.folder = program, folder
+        self.commands = commands(count)
+        self.states: list[str] = []
+        self.snapshots: set[int] = set()
+        self.verdicts: dict[bytes, int | str] = {}
+        self.serve_all()
+
+    def run(self, words: list[str], text: str) -> tuple[str, bytes]:
+        """Runs the program to its end: its first answer, and the others."""
+        done = subprocess.run([self.program, *words], input=text.encode(), stdout=subprocess.PIPE, stderr=subprocess.DEVNULL, check=False)
+        first, _, others = done.stdout.partition(b"\n")
+        return first.decode(errors="replace"), others
+
+    def serve_all(self) -> None:
+        """Notes the state after each command, and by which of them a snapshot is written; makes the sessions that are brought along."""
+        file = self.folder / "model.mcs"
+        slot = 0
+        with subprocess.Popen([self.program, "new", str(file)], stdin=subprocess.PIPE, stdout=subprocess.PIPE) as served:
+            for number in range(len(self.commands) + 1):
+                begun, state = self.after(served, number)
+                if begun != ("ok" if number else "session"):
+                    raise Fault(f"the program does not serve command {number}: {begun}")
+                self.states.append(state)
+                data = file.read_bytes()
+                if data[8] != slot:
+                    self.snapshots.add(number)
+                slot = data[8]
+                if number == SERVED_COMMANDS:
+                    (self.folder / SERVED).write_bytes(data)
+                if number == FIRST_COMMANDS:
+                    (self.folder / FIRST).write_bytes(carried_back(data))
+        file.unlink()
+        if len(set(self.states)) != len(self.states):
+            raise Fault("two commands leave the same state")
+
+    def after(self, served: subprocess.Popen[bytes], number: int) -> tuple[str, str]:
+        """What a program that is served answers to a command, in one word, and the state after it."""
+        assert served.stdin is not None and served.stdout is not None
+        text = (self.commands[number - 1] + "\n" if number else "") + QUERIES + "seq\n"
+        served.stdin.write(text.encode())
+        served.stdin.flush()
+        answers, end = b"", f"\nseq {number}\n".encode()
+        while not answers.endswith(end) and (more := served.stdout.read1()):
+            answers += more
+        begun, _, state = answers.removesuffix(end[1:]).partition(b"\n")
+        return begun.decode().split(" ")[0], digest(state)
+
+    def found_in(self, data: bytes) -> int | str:
+        """The number of commands in the session of a file, if its state is the one after them; otherwise words."""
+        key = hashlib.sha256(data).digest()
+        if key not in self.verdicts:
+            self.verdicts[key] = self.opened(data)
+        return self.verdicts[key]
+
+    def opened(self, data: bytes) -> int | str:
+        """What the program says of a file."""
+        file = self.folder / "found.mcs"
+        file.write_bytes(data)
+        first, state = self.run(["open", str(file)], QUERIES)
+        if first.startswith("session "):
+            count = int(first.split()[1])
+            return count if count < len(self.states) and digest(state) == self.states[count] else f"session {count} of another state"
+        again, _ = self.run(["new", str(file)], "")
+        return "blank" if again == "session 0" else f"no session, and none is begun ({first}, {again})"

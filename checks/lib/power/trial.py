@@ -1,0 +1,298 @@
+"""A trial: a session is served in the machine, the images that a cut may leave are mounted there in turn, and what is found is judged.
+
+Then one of the images is taken for the disk, the session is opened there and goes on, and the power is cut again: while the file system
+recovers, while the session is opened, and later.
+"""
+
+from __future__ import annotations
+
+import collections
+import contextlib
+import dataclasses
+import json
+import pathlib
+import random
+import subprocess
+import time
+from collections.abc import Iterator
+from typing import NamedTuple
+
+from power.cases import (ALL_COMMANDS, CASES, FEW_COMMANDS, KINDS, MORE_COMMANDS, NO_BARRIER, Case, Kind, Trial)
+from power.disk import Disk, Event, Fault
+from power.images import Builder, History, Image, Phase
+from power.machine import Machine
+from power.sessions import Sessions, is_first
+from session_file import SIZE
+
+MEGA = 1 << 20
+# Another program that writes meanwhile, so that the file system's own commits come between.
+BUSY = "(while :; do echo noise >> noise/a; mv noise/a noise/b; sleep 0.3; mv noise/b noise/a; done) & busy=$!"
+# What `new` may leave before its first answer, where a file system shows nothing that it was not given.
+BEFORE_NEW = ("absent", "size 0", "blank", 0)
+# So many faults of a recording are told, and so many images kept in all.
+TOLD, KEPT = 2, 6
+
+# A count of commands, or what else is found.
+Found = int | str
+
+
+class Seen(NamedTuple):
+    """What was found on an image; `is_old`: in a file of version 1."""
+    image: Image
+    found: Found
+    is_old: bool
+
+
+@dataclasses.dataclass
+class Outcome:
+    """What came of a trial: images, faults among them, and the first of those in words."""
+    images: int = 0
+    faults: int = 0
+    first: str = ""
+
+    def add(self, other: Outcome) -> None:
+        """Adds another one."""
+        self.images += other.images
+        self.faults += other.faults
+        self.first = self.first or other.first
+
+
+@dataclasses.dataclass
+class Stage:
+    """A session that is served: the words for it, what is done just before, the number of the first answer, the last command, and the number
+    of commands in the session that is there, if one is."""
+    words: str
+    before: str
+    first: int
+    last: int
+    start: int | None
+    images: int
+
+
+class Runner:
+    """Makes trials on a machine whose disks are `disk` and `out`, the latter for files that are found."""
+
+    def __init__(self, machine: Machine, sessions: Sessions, keep: pathlib.Path, show: str, seed: int) -> None:
+        """Images with faults are kept in `keep`; `show` is the line that looks at one again, without its name."""
+        self.machine, self.sessions, self.keep, self.show = machine, sessions, keep, show
+        self.disk, self.out = machine.disks["disk"], machine.disks["out"]
+        self.chance = random.Random(seed)
+        self.junk = random.Random(1).randbytes(MEGA)
+        self.kept = 0
+
+    def run(self, trial: Trial) -> Outcome:
+        """Makes a trial, and tells what came of it."""
+        kind, case = KINDS[trial.kind], CASES[trial.case]
+        self.make(kind, trial, case)
+        last = ALL_COMMANDS if case.takes_all else case.begins + (MORE_COMMANDS if case.is_kept else FEW_COMMANDS)
+        stage = Stage(case.words, case.before, case.begins, last, case.begins if case.is_kept else None, trial.images)
+        outcome = Outcome()
+        for generation in range(trial.generations + 1):
+            began = time.monotonic()
+            history = self.record(kind, trial, case, stage)
+            builder = Builder(self.disk, history)
+            drawn = history.draw(history.all_images(), stage.images)
+            with self.looking():
+                seen = [self.look_at(builder, kind, trial, case, image) for image in drawn]
+            judged = self.judge(trial, generation, history, seen, builder, time.monotonic() - began)
+            outcome.add(judged)
+            if judged.faults or generation == trial.generations:
+                break
+            following = self.next_disk(trial, generation, seen)
+            builder.settle(following.image)
+            stage = self.next_stage(case, following.found, max(15, trial.images // 4))
+        return outcome
+
+    # --- a session is served
+
+    @staticmethod
+    def options(kind: Kind, trial: Trial) -> str:
+        """The options of the mount."""
+        return ",".join(filter(None, [kind.options, kind.often if trial.is_busy else ""]))
+
+    def mount(self, kind: Kind, trial: Trial) -> None:
+        """Mounts the disk."""
+        options = ",".join(filter(None, ["noatime", self.options(kind, trial)]))
+        self.machine.must(f"blockdev --flushbufs /dev/vda; mount -t {kind.type} -o {options} /dev/vda /mnt")
+
+    def make(self, kind: Kind, trial: Trial, case: Case) -> None:
+        """A new file system on the disk, whose free blocks hold what is no zero, and what the case has there."""
+        size = kind.size * MEGA
+        blank = Disk(size)
+        for place in range(0, size, MEGA):
+            blank.bytes[place:place + MEGA] = self.junk
+        words = [*kind.make, blank.file]
+        made = subprocess.run(words, stdout=subprocess.PIPE, stderr=subprocess.STDOUT, text=True, check=False)
+        if made.returncode:
+            raise Fault(f"{' '.join(words)}: {made.stdout}")
+        self.disk.bytes[:size] = blank.bytes[:]
+        blank.close()
+        if case.setup:
+            self.mount(kind, trial)
+            self.machine.must(f"cd /mnt; {case.setup}; cd /; umount /mnt")
+
+    def record(self, kind: Kind, trial: Trial, case: Case, stage: Stage) -> History:
+        """Serves a session; what happened to the disk meanwhile. The disk is as before then."""
+        self.disk.undo = []
+        self.disk.events = events = list[Event]()
+        self.disk.late = True
+        self.mount(kind, trial)
+        self.machine.must("cd /mnt; mkdir -p noise; busy=")
+        if trial.is_busy:
+            self.machine.must(BUSY)
+        if stage.before:
+            self.machine.must(stage.before)
+        wrong = f"LD_PRELOAD=/omit.so WRONG='{trial.wrong}' " if trial.wrong not in ("", NO_BARRIER) else ""
+        self.machine.must(f"{wrong}mcs4 {stage.words} <&3 >&3 & session=$!")
+        self.serve(events, stage)
+        self.disk.events = None
+        self.disk.late = False
+        self.machine.must("cd /; kill $busy $session; wait; umount /mnt")
+        self.disk.take_back()
+        snapshots = set() if case.name.startswith("carried") else self.sessions.snapshots
+        return History(events, stage.start, snapshots, kind.whole_blocks, self.chance)
+
+    def serve(self, events: list[Event], stage: Stage) -> None:
+        """Sends the commands of a session, one after another, and notes their answers."""
+        number, command = stage.first, ""
+        while True:
+            answer = self.machine.hear(self.machine.program)
+            if not f"{answer} ".startswith(f"{'ok' if command else 'session'} {number} "):
+                raise Fault(f"in place of answer {number}: {answer}")
+            events.append(Event("answered", number))
+            if number == stage.last:
+                return
+            command = self.sessions.commands[number]
+            number += 1
+            events.append(Event("sent", number))
+            self.machine.program.say(command)
+
+    # --- what is found
+
+    def look_at(self, builder: Builder, kind: Kind, trial: Trial, case: Case, image: Image) -> Seen:
+        """What is found on an image."""
+        builder.build(image)
+        found = self.found(kind, self.options(kind, trial), case.file)
+        self.disk.take_back()
+        return Seen(image, found, isinstance(found, int) and is_first(bytes(self.out.bytes[:SIZE])))
+
+    def found(self, kind: Kind, options: str, file: str) -> Found:
+        """What a machine that looks finds on its disk after a cut: a count of commands, or words."""
+        self.machine.shell.say(f"{kind.type} {file} {options}")
+        told = self.machine.hear(self.machine.shell)
+        if told != f"size {SIZE}":
+            return told
+        return self.sessions.found_in(bytes(self.out.bytes[:SIZE]))
+
+    @contextlib.contextmanager
+    def looking(self) -> Iterator[None]:
+        """Meanwhile the machine looks at disks (look.c)."""
+        self.machine.shell.say("look")
+        yield
+        self.machine.shell.say("")
+        end = self.machine.hear(self.machine.shell)
+        if end != "done 0":
+            raise Fault(f"the machine cannot look at disks: {end}; its last lines:\n{self.machine.last_lines()}")
+
+    @staticmethod
+    def verdict(trial: Trial, seen: Seen) -> str:
+        """`good`, a note in words, or nothing where it is a fault."""
+        kind, case = KINDS[trial.kind], CASES[trial.case]
+        image, found = seen.image, seen.found
+        if found == "not mounted" and image.is_torn:
+            return "not mounted, with a torn block"
+        if image.least is None:
+            is_good = found in BEFORE_NEW if case.words.startswith("new") and not kind.shows_stale else found != "not mounted"
+            return f"before the first answer {found}" if is_good else ""
+        return "good" if isinstance(found, int) and image.least <= found <= image.most else ""
+
+    def judge(self, trial: Trial, generation: int, history: History, seen: list[Seen], builder: Builder, seconds: float) -> Outcome:
+        """Tells what was found on the images of a recording; keeps some of those with faults."""
+        notes: collections.Counter[str] = collections.Counter()
+        wrong = []
+        for one in seen:
+            verdict = self.verdict(trial, one)
+            if verdict:
+                notes[verdict] += 1
+            else:
+                wrong.append(one)
+        phases = collections.Counter(one.image.phase for one in seen)
+        name = f"{trial.name}{f', opened again ({generation})' if generation else ''}"
+        print(f"{name}: {history.count('sent')} commands, {history.count('write')} writes, {history.count('flush')} flushes; "
+              f"{len(seen)} images ({', '.join(f'{number} {phase}' for phase, number in phases.items())}), {len(wrong)} faults; "
+              f"{seconds:.1f} s", flush=True)
+        del notes["good"]
+        if notes:
+            print("    " + "; ".join(f"{number} {note}" for note, number in sorted(notes.items())), flush=True)
+        told = [self.words_of_fault(one, len(history.events)) for one in wrong[:TOLD]]
+        for words, one in zip(told, wrong):
+            if not trial.wrong:
+                print(f"FAULT in {name}: {words}", flush=True)
+                if one.found == "not mounted":
+                    print(f"    the machine's last lines:\n{self.machine.last_lines()}", flush=True)
+                self.keep_image(trial, generation, builder, one.image)
+        return Outcome(len(seen), len(wrong), told[0] if told else "")
+
+    @staticmethod
+    def words_of_fault(seen: Seen, places: int) -> str:
+        """A fault, in words."""
+        image = seen.image
+        least = "nothing" if image.least is None else f"command {image.least}"
+        found = f"{seen.found} commands" if isinstance(seen.found, int) else seen.found
+        return (f"cut at {image.place} of {places} ({image.phase}): {least} acknowledged, command {image.most} sent, found: {found}; "
+                f"{image.durable} writes durable, of {len(image.kept)} others {image.how}")
+
+    # --- images that are kept, and the next disk
+
+    def keep_image(self, trial: Trial, generation: int, builder: Builder, image: Image) -> None:
+        """Keeps an image in a file, with what is to be found on it, and tells the line that looks at it again."""
+        kind, case = KINDS[trial.kind], CASES[trial.case]
+        if self.kept == KEPT:
+            return
+        self.kept += 1
+        self.keep.mkdir(parents=True, exist_ok=True)
+        name = self.keep / f"{trial.kind}-{trial.case}-{generation}-{image.place}.image"
+        builder.rewind()
+        builder.build(image)
+        name.write_bytes(self.disk.bytes[:kind.size * MEGA])
+        self.disk.take_back()
+        told = {"kind": trial.kind, "options": self.options(kind, trial), "file": case.file, "least": image.least, "most": image.most}
+        name.with_suffix(".json").write_text(json.dumps(told))
+        print(f"    look at it again: {self.show} --show {name}", flush=True)
+
+    def show_again(self, name: pathlib.Path) -> bool:
+        """Tells what is found on an image that was kept; whether that is as it has to be."""
+        told = json.loads(name.with_suffix(".json").read_text())
+        kind, image = KINDS[told["kind"]], name.read_bytes()
+        self.disk.bytes[:len(image)] = image
+        with self.looking():
+            found = self.found(kind, told["options"], told["file"])
+        least, most = told["least"], told["most"]
+        is_good = isinstance(found, int) and (least or 0) <= found <= most
+        print(f"{name}: {told['file']} on {kind.name}: {least} commands acknowledged, {most} sent, found: {found}")
+        return is_good
+
+    def next_disk(self, trial: Trial, generation: int, seen: list[Seen]) -> Seen:
+        """The image that is the disk of the next generation: by turns one that was cut while a snapshot was written and one that was cut while
+        the session was opened, where there is such a one; of a session of version 1 one that still is; first of a new one a blank file."""
+        case = CASES[trial.case]
+        is_carried = case.name.startswith("carried")
+        wanted: Phase = "opening" if is_carried or generation % 2 else "snapshot"
+        good = [one for one in seen if self.verdict(trial, one) == "good"]
+        if case.words.startswith("new") and generation == 0:
+            good = [one for one in seen if one.found == "blank"] or good
+        if not good:
+            raise Fault(f"{trial.name}: no image holds a session")
+
+        def worth(one: Seen) -> tuple[bool, bool, bool]:
+            return one.is_old, one.image.phase == wanted, one.image.how == "some"
+
+        best = max(map(worth, good))
+        return self.chance.choice([one for one in good if worth(one) == best])
+
+    @staticmethod
+    def next_stage(case: Case, found: Found, images: int) -> Stage:
+        """The session of the next generation: it goes on, or is begun where the file is blank."""
+        if not isinstance(found, int):
+            return Stage(case.words, "", 0, MORE_COMMANDS, None, images)
+        return Stage(f"open {case.file}", "", found, found + MORE_COMMANDS, found, images)
