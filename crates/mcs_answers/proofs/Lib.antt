@@ -6,3 +6,4 @@ pub mod ListedWords
 pub mod RegisterTexts
 pub mod StateText
 pub mod AheadLines
+pub mod AheadLaws

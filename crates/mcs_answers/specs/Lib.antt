@@ -3,4 +3,5 @@ pub mod Commas
 pub mod Keys
 pub mod Version1
 pub mod AheadTexts
+pub mod AheadLaws
 pub mod Traced

@@ -4,7 +4,8 @@ ghost use Rattle.std.specs.Fmt.{decimal};
 ghost use Rattle.arrayvec.specs.ArrayVec.{array_vec_len};
 ghost use Rattle.mcs_model.specs.Command.{machine_of};
 ghost use Rattle.mcs_model.specs.QueryText.{address_text, as_line};
-ghost use Rattle.mcs_ahead.specs.Probes.{probe_text, row};
+ghost use Rattle.mcs_model.specs.declared.board.Line.TheVariants as line;
+ghost use Rattle.mcs_ahead.specs.Probes.{levels_on, probe_text, row};
 ghost use Rattle.mcs_answers.specs.AheadTexts.{is_told, trace_answer};
 ghost use Rattle.mcs_answers.specs.Traced.{IsTraced, cycle_lines, line_when};
 ghost use Rattle.std.specs.List.{flat_map};
@@ -14,15 +15,38 @@ use crate::digits::{put, put_address, put_byte, put_digit};
 use crate::lists::put_lamp_marks;
 use crate::numbers::put_counted;
 use crate::size::{ANSWER_BYTES, PROBE_BYTES};
-use crate::state_lists::put_address_list;
+use crate::state_lists::{put_address_list, put_chain_bits};
 use arrayvec::ArrayVec;
 use mcs_ahead::{PROBES, Probe};
 use mcs_bench::Bench;
+use mcs_model::board::Line;
 use mcs_model::regs::Regs;
 use mcs_model::stop::Stop;
 use mcs_nibble::Addr;
 use mcs_trace::{copy_of, go_on, is_outside};
 use std::alloc::{AllocError, Global};
+
+/// The levels of the four lines of a ROM's port, as one number.
+fn rom_levels(bench: &Bench, chip: u8) -> u8
+    ensures value { result ≡ levels_on bench.now.bus (line.Rom chip) }
+    ensures digit { result < 16 }
+{
+    bench.level(Line::Rom(chip, 0)).get()
+        + 2 * bench.level(Line::Rom(chip, 1)).get()
+        + 4 * bench.level(Line::Rom(chip, 2)).get()
+        + 8 * bench.level(Line::Rom(chip, 3)).get()
+}
+
+/// The levels of the four lines of a RAM chip's port, as one number.
+fn ram_levels(bench: &Bench, bank: u8, chip: u8) -> u8
+    ensures value { result ≡ levels_on bench.now.bus (line.Ram bank chip) }
+    ensures digit { result < 16 }
+{
+    bench.level(Line::Ram(bank, chip, 0)).get()
+        + 2 * bench.level(Line::Ram(bank, chip, 1)).get()
+        + 4 * bench.level(Line::Ram(bank, chip, 2)).get()
+        + 8 * bench.level(Line::Ram(bank, chip, 3)).get()
+}
 
 /// Adds what stands at a place, after a space.
 fn put_probe(answer: &mut ArrayVec<u8, ANSWER_BYTES>, probe: Probe, bench: &Bench)
@@ -44,6 +68,13 @@ fn put_probe(answer: &mut ArrayVec<u8, ANSWER_BYTES>, probe: Probe, bench: &Benc
             put_digit(answer, b" ", bench.status(bank.get(), high, k.get()).get());
         }
         Probe::Level(line) => put_digit(answer, b" ", bench.level(line).get()),
+        Probe::RomPort(chip) => put_digit(answer, b" ", rom_levels(bench, chip)),
+        Probe::RamPort(bank, chip) => put_digit(answer, b" ", ram_levels(bench, bank, chip)),
+        Probe::Chain(n) => {
+            put(answer, b" ");
+            put_chain_bits(answer, bench, n);
+        }
+        Probe::Src => put_byte(answer, b" ", bench.rom_src()),
         Probe::Lamps => {
             put(answer, b" ");
             put_lamp_marks(answer, bench);

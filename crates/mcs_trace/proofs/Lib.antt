@@ -2,3 +2,4 @@ pub mod Going
 pub mod Tallies
 pub mod CountLemmas
 pub mod NewLengths
+pub mod Parts
