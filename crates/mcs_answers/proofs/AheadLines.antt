@@ -8,17 +8,18 @@ use Rattle.std.proofs.lemmas.List.{append-nil}
 use Rattle.mcs_model.specs.declared.stop.Stop.{Stop}
 use Rattle.mcs_model.specs.declared.regs.Regs.{Regs}
 use Rattle.mcs_model.specs.BenchState.{BenchState}
-use Rattle.mcs_model.specs.Command.{machine_of, stops_of, with_machine}
+use Rattle.mcs_model.specs.Command.{machine_of, stops_of}
 use Rattle.mcs_model.specs.QueryText.{address_text, as_line}
-use Rattle.mcs_model.specs.Running.{Machine, after_cycles}
+use Rattle.mcs_model.specs.Running.{Machine, InstructionRan, after_cycles}
 use Rattle.mcs_model.proofs.ListLemmas.{range_more}
 use Rattle.mcs_ahead.specs.Ahead.{Begun, begins, cycle_at, is_branch, jumps_at, runs_at}
 use Rattle.mcs_answers.specs.AnswerTexts.{stop_name}
 use Rattle.mcs_ahead.specs.declared.probe.Probe.{Probe}
 use Rattle.mcs_ahead.specs.Ahead.{begun_within}
 use Rattle.mcs_ahead.specs.Probes.{row}
-use Rattle.mcs_trace.proofs.CountLemmas.{next-machine}
-use Rattle.mcs_trace.proofs.Tallies.{begun-more, begun_at}
+use Rattle.mcs_trace.proofs.Steps.{begun-on, one-behind, rests}
+use Rattle.mcs_trace.proofs.Tallies.{begun_at}
+use Rattle.mcs_answers.proofs.Resting.{row-owed}
 use Rattle.mcs_answers.specs.AheadTexts.{addresses, count_line, is_told, trace_line}
 use Rattle.mcs_answers.specs.Traced.{IsTraced, cycle_lines, line_when}
 use Rattle.mcs_answers.specs.declared.traces.Traced.{Traced}
@@ -82,10 +83,10 @@ one-cycle : (probes : List Probe) (x : Begun) (b : Bool) → flat_map (trace_lin
 one-cycle probes x true = append-nil (trace_line probes x)
 one-cycle probes x false = refl
 
--- one cycle more
-pub within-more : (probes : List Probe) (k : ℕ) (s : Machine) → lines_within probes (k + 1) s ≡ lines_within probes k s ++ (if begins (cycle_at s k) then trace_line probes (cycle_at s k) else [])
-within-more probes k s =
-    ap (flat_map (trace_line probes)) (begun-more k s)
+-- one instruction more
+within-more : (probes : List Probe) (k m : ℕ) (s : Machine) → begun_within m s ≡ begun_within k s ++ begun_at s k → lines_within probes m s ≡ lines_within probes k s ++ (if begins (cycle_at s k) then trace_line probes (cycle_at s k) else [])
+within-more probes k m s e =
+    ap (flat_map (trace_line probes)) e
     ∙ flat_map-append (trace_line probes) (begun_within k s) (begun_at s k)
     ∙ ap (λ v. lines_within probes k s ++ v) (one-cycle probes (cycle_at s k) (begins (cycle_at s k)))
 
@@ -98,8 +99,8 @@ cycle-same probes k s owed pc before after e f g h =
     ∙ ap (λ r. cycle_lines probes (cycle_at s k).before.0.owed k (cycle_at s k).before.0.pc (row probes (cycle_at s k).before) r) h
 
 -- a run that was told for k cycles
-pub record Told (probes : List Probe) (k : ℕ) (s : Machine) (copy : BenchState) (before text : List ℕ) (lines : ℕ) : Type 0 where
-  pub row_now : before ≡ row probes (machine_of copy)
+pub record Told (probes : List Probe) (k : ℕ) (s t : Machine) (before text : List ℕ) (lines : ℕ) : Type 0 where
+  pub row_now : before ≡ row probes t
   pub so_far : text ≡ lines_text (lines_within probes k s)
   pub count : lines ≡ length (lines_within probes k s)
   pub few : lines ≤ k
@@ -124,21 +125,22 @@ few-of : (b : Bool) (lines : List (List ℕ)) → length lines ≤ 1 → length 
 few-of true lines l = l
 few-of false lines l = omega arith
 
--- one cycle more
-pub told-more : (probes : List Probe) (k : ℕ) (s : Machine) (copy next : BenchState) (regs : Regs) (before text later longer : List ℕ) (lines added : ℕ) → machine_of copy ≡ after_cycles k s → next ≡ record (with_machine copy (after_cycles 1 (machine_of copy))) { seq = copy.seq + 1 } → regs ≡ copy.processor → Told probes k s copy before text lines → later ≡ row probes (machine_of next) → added ≡ length (cycle_lines probes regs.owed k regs.pc before (row probes (machine_of next))) → longer ≡ text ++ lines_text (cycle_lines probes regs.owed k regs.pc before (row probes (machine_of next))) → Told probes (k + 1) s next later longer (lines + added)
-told-more probes k s copy next regs before text later longer lines added at is e t now count grown =
-    let more : List (List ℕ) = cycle_lines probes regs.owed k regs.pc before (row probes (machine_of next)) in
-    let same : more ≡ (if begins (cycle_at s k) then trace_line probes (cycle_at s k) else []) = cycle-same probes k s regs.owed regs.pc before (row probes (machine_of next))
+-- one instruction more
+pub told-more : (probes : List Probe) (left k d : ℕ) (s t u : Machine) (regs : Regs) (before text later longer : List ℕ) (lines added : ℕ) → t ≡ after_cycles k s → InstructionRan left t u d → 0 < d → regs ≡ t.0 → Told probes k s t before text lines → later ≡ row probes u → added ≡ length (cycle_lines probes regs.owed k regs.pc before (row probes u)) → longer ≡ text ++ lines_text (cycle_lines probes regs.owed k regs.pc before (row probes u)) → Told probes (k + d) s u later longer (lines + added)
+told-more probes left k d s t u regs before text later longer lines added at ran some e told now count grown =
+    let more : List (List ℕ) = cycle_lines probes regs.owed k regs.pc before (row probes u) in
+    let after : row probes u ≡ row probes (cycle_at s k).after = ap (row probes) (rests left d t u ran some) ∙ row-owed probes (after_cycles 1 t) u.0.owed ∙ ap (row probes) (one-behind k s t at) in
+    let same : more ≡ (if begins (cycle_at s k) then trace_line probes (cycle_at s k) else []) = cycle-same probes k s regs.owed regs.pc before (row probes u)
     (ap (λ (r : Regs). r.owed) e ∙ ap (λ (m : Machine). m.0.owed) at)
     (ap (λ (r : Regs). r.pc) e ∙ ap (λ (m : Machine). m.0.pc) at)
-    (t.row_now ∙ ap (row probes) at)
-    (ap (row probes) (ap machine_of is ∙ next-machine k s copy at)) in
-    let all : lines_within probes (k + 1) s ≡ lines_within probes k s ++ more = within-more probes k s ∙ ap (λ v. lines_within probes k s ++ v) (sym same) in
-    let few : length more ≤ 1 = few-of (regs.owed == 0) _ (few-when (is_told probes before (row probes (machine_of next))) k regs.pc (row probes (machine_of next))) in
-    let few_so_far = t.few in
+    (told.row_now ∙ ap (row probes) at)
+    after in
+    let all : lines_within probes (k + d) s ≡ lines_within probes k s ++ more = within-more probes k (k + d) s (begun-on left k d s t u at ran some) ∙ ap (λ v. lines_within probes k s ++ v) (sym same) in
+    let few : length more ≤ 1 = few-of (regs.owed == 0) _ (few-when (is_told probes before (row probes u)) k regs.pc (row probes u)) in
+    let few_so_far = told.few in
     record {
       row_now = now;
-      so_far = text-more (lines_within probes k s) more _ text longer all t.so_far grown;
-      count = length-more (lines_within probes k s) more _ lines (lines + added) all t.count (ap (λ m. lines + m) count);
+      so_far = text-more (lines_within probes k s) more _ text longer all told.so_far grown;
+      count = length-more (lines_within probes k s) more _ lines (lines + added) all told.count (ap (λ m. lines + m) count);
       few = omega arith;
     }

@@ -7,3 +7,4 @@ pub mod RegisterTexts
 pub mod StateText
 pub mod AheadLines
 pub mod AheadLaws
+pub mod Resting

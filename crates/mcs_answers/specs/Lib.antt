@@ -5,3 +5,4 @@ pub mod Version1
 pub mod AheadTexts
 pub mod AheadLaws
 pub mod Traced
+pub mod Resting

@@ -1,5 +1,5 @@
 //! The answer to `trace`.
-ghost use Rattle.std.specs.Prelude.{◌≡◌, ◌+◌, ◌*◌, ◌<◌, ◌≤◌, ◌++◌, [], codes, length, IfOk};
+ghost use Rattle.std.specs.Prelude.{◌≡◌, ℕ, ◌+◌, ◌*◌, ◌<◌, ◌≤◌, ◌++◌, ◌↔◌, [], codes, length, true, IfOk};
 ghost use Rattle.std.specs.Fmt.{decimal};
 ghost use Rattle.arrayvec.specs.ArrayVec.{array_vec_len};
 ghost use Rattle.mcs_model.specs.Command.{machine_of};
@@ -7,7 +7,9 @@ ghost use Rattle.mcs_model.specs.QueryText.{address_text, as_line};
 ghost use Rattle.mcs_model.specs.declared.board.Line.TheVariants as line;
 ghost use Rattle.mcs_ahead.specs.Probes.{levels_on, probe_text, row};
 ghost use Rattle.mcs_answers.specs.AheadTexts.{is_told, trace_answer};
+ghost use Rattle.mcs_answers.specs.Resting.{Rests, RowRests, WritesPort, WritesStatus};
 ghost use Rattle.mcs_answers.specs.Traced.{IsTraced, cycle_lines, line_when};
+ghost use Rattle.mcs_model.specs.declared.op.Op.TheVariants.{Src, Wrm};
 ghost use Rattle.std.specs.List.{flat_map};
 
 use crate::ahead::put_head;
@@ -20,10 +22,10 @@ use arrayvec::ArrayVec;
 use mcs_ahead::{PROBES, Probe};
 use mcs_bench::Bench;
 use mcs_model::board::Line;
+use mcs_model::op::Op;
 use mcs_model::regs::Regs;
 use mcs_model::stop::Stop;
 use mcs_nibble::Addr;
-use mcs_trace::{copy_of, go_on, is_outside};
 use std::alloc::{AllocError, Global};
 
 /// The levels of the four lines of a ROM's port, as one number.
@@ -108,6 +110,75 @@ fn add_line(text: &mut Vec<u8>, cycles: u32, at: Addr, row: &[u8]) -> Result<(),
     text.extend_from_slice(b"\n")
 }
 
+/// Whether an instruction is WMP or WRR, which alone change what stands at lines.
+fn writes_port(op: &Op) -> bool
+    ensures { result ≡ true ↔ WritesPort op.now }
+{
+    matches!(op, Op::Wmp | Op::Wrr)
+}
+
+/// Whether an instruction is WRM, which alone changes RAM characters.
+fn writes_ram(op: &Op) -> bool
+    ensures { result ≡ true ↔ op.now ≡ Wrm }
+{
+    matches!(op, Op::Wrm)
+}
+
+/// Whether an instruction is one of WR0 to WR3, which alone change status characters.
+fn writes_status(op: &Op) -> bool
+    ensures { result ≡ true ↔ WritesStatus op.now }
+{
+    matches!(op, Op::Wr0 | Op::Wr1 | Op::Wr2 | Op::Wr3)
+}
+
+/// Whether an instruction is SRC, which alone changes the SRC byte that the ROMs keep.
+fn writes_src(op: &Op) -> bool
+    ensures { (k : ℕ) → op.now ≡ Src k → result ≡ true }
+{
+    matches!(op, Op::Src(_))
+}
+
+/// Whether an instruction that led from some registers to others surely leaves what stands at a place as it is. No text is
+/// made of it.
+fn rests(probe: Probe, op: &Op, before: &Regs, after: &Regs) -> bool
+    ensures { result ≡ true → Rests op.now before.now after.now probe }
+{
+    match probe {
+        Probe::Acc => before.acc == after.acc,
+        Probe::Cy => before.cy == after.cy,
+        Probe::Pc => before.pc == after.pc,
+        Probe::Register(k) => before.register(k) == after.register(k),
+        Probe::Dcl => before.dcl == after.dcl,
+        Probe::Rom(_) => true,
+        Probe::Ram(_, _) => !writes_ram(op),
+        Probe::Status(_, _, _) => !writes_status(op),
+        Probe::Level(_) => !writes_port(op),
+        Probe::RomPort(_) => !writes_port(op),
+        Probe::RamPort(_, _) => !writes_port(op),
+        Probe::Chain(_) => !writes_port(op),
+        Probe::Src => !writes_src(op),
+        Probe::Lamps => !writes_port(op),
+        Probe::Returns => before.ret == after.ret,
+    }
+}
+
+/// The same of all places; no where no instruction was begun.
+fn all_rest(probes: &[Probe], op: Option<Op>, before: &Regs, after: &Regs) -> bool
+    ensures { result ≡ true → RowRests op before.now after.now probes.now }
+{
+    match op {
+        None => false,
+        Some(op) => {
+            for probe in probes {
+                if !rests(*probe, &op, before, after) {
+                    return false;
+                }
+            }
+            true
+        }
+    }
+}
+
 /// What a run would come to, and how many of its instructions are told.
 #[derive(Drop)]
 struct Traced {
@@ -144,17 +215,19 @@ fn add_told(
     Ok(false)
 }
 
-/// Adds the line of a cycle that led from these registers to a bench, where it has one; how many it added. The row before
-/// it becomes the one after it.
-fn add_cycle(
+/// Adds the line of an instruction that led from these registers to a bench, where it has one; how many it added. The row
+/// before it becomes the one after it. It may be told that they are the same.
+fn add_went(
     text: &mut Vec<u8>,
     before: &mut ArrayVec<u8, ANSWER_BYTES>,
     cycles: u32,
     regs: &Regs,
+    rests: bool,
     probes: &[Probe],
     bench: &Bench,
 ) -> Result<u32, AllocError>
-    requires { length probes.now ≤ PROBES }
+    requires room { length probes.now ≤ PROBES }
+    requires same { rests ≡ true → before.old.items ≡ row probes.now (machine_of bench.now) }
     ensures row { IfOk result (λ _. before.new.items ≡ row probes.now (machine_of bench.now)) }
     ensures lines { IfOk result (λ lines. lines ≡ length (cycle_lines probes.now regs.now.owed cycles
         regs.now.pc before.old.items (row probes.now (machine_of bench.now)))) }
@@ -162,14 +235,17 @@ fn add_cycle(
         (cycle_lines probes.now regs.now.owed cycles regs.now.pc before.old.items
         (row probes.now (machine_of bench.now)))) }
 {
-    if regs.owed == 0 {
-        if add_told(text, before, cycles, regs.pc, probes, bench)? {
-            return Ok(1);
-        }
+    if regs.owed != 0 {
+        before.clear();
+        put_row(before, probes, bench);
         return Ok(0);
     }
-    before.clear();
-    put_row(before, probes, bench);
+    if rests && !probes.is_empty() {
+        return Ok(0);
+    }
+    if add_told(text, before, cycles, regs.pc, probes, bench)? {
+        return Ok(1);
+    }
     Ok(0)
 }
 
@@ -188,29 +264,35 @@ fn add_lines(
     let mut lines = 0u32;
     let mut before = ArrayVec::new();
     put_row(&mut before, probes, bench);
-    let mut copy = copy_of(alloc, bench)?;
-    if is_outside(&copy) {
-        return Ok(Traced {
-            cycles: 0,
-            stop: Stop::Outside,
-            lines: 0,
-        });
-    }
-    for done in 0..n {
+    let mut copy = bench.copy(alloc)?;
+    let mut done = 0;
+    while done < n {
         let regs = copy.regs();
-        let stop = go_on(&mut copy);
-        lines += add_cycle(text, &mut before, done, &regs, probes, &copy)?;
-        if let Some(why) = stop {
-            return Ok(Traced {
-                cycles: done + 1,
-                stop: why,
-                lines,
-            });
+        match copy.go_on(n - done) {
+            None => {
+                return Ok(Traced {
+                    cycles: done,
+                    stop: copy.stop_by(None),
+                    lines,
+                });
+            }
+            Some(went) => {
+                let rests = all_rest(probes, went.op, &regs, &copy.regs());
+                lines += add_went(text, &mut before, done, &regs, rests, probes, &copy)?;
+                done += went.cycles;
+                if let Some(why) = went.mark {
+                    return Ok(Traced {
+                        cycles: done,
+                        stop: copy.stop_by(Some(why)),
+                        lines,
+                    });
+                }
+            }
         }
     }
     Ok(Traced {
         cycles: n,
-        stop: Stop::Ended,
+        stop: copy.stop_by(None),
         lines,
     })
 }

@@ -1,15 +1,16 @@
 -- What a run and a step of a bench answer.
-use Rattle.std.specs.Prelude.{◌≡◌, ◌≢◌, ◌⊎◌, ℕ, ◌+◌, ◌-◌, slice_index, ◌&&◌, ◌==◌, not, ◌<◌, ◌≤◌, false, Bool, Option, None, Some, List, [], if◌then◌else◌}
+use Rattle.std.specs.Prelude.{◌≡◌, ◌≢◌, ◌⊎◌, ℕ, ◌+◌, ◌-◌, slice_index, ◌&&◌, ◌==◌, not, ◌<◌, ◌≤◌, false, Bool, Option, None, Some, List, [], if◌then◌else◌, unwrap_or}
 use Rattle.mcs_model.specs.declared.command.Command.TheVariants.{Run}
 use Rattle.mcs_model.specs.declared.op.Op.TheVariants.{Wrm}
 use Rattle.mcs_model.specs.declared.stop.Stop.{Stop}
-use Rattle.mcs_model.specs.declared.stop.Stop.TheVariants.{Breakpoint, Watched}
+use Rattle.mcs_model.specs.declared.stop.Stop.TheVariants.{Outside, Breakpoint, Watched, Ended}
 use Rattle.mcs_model.specs.Command.{after_change}
 use Rattle.mcs_model.specs.BenchState.{BenchState}
 use Rattle.mcs_model.specs.Listed.{is_listed}
 use Rattle.mcs_model.specs.Bus.{src_of, ram_place, after_ram}
 use Rattle.mcs_model.specs.Effect.{instruction_at}
-use Rattle.mcs_model.specs.Running.{Machine, Stops, is_outside, after_cycles, at_break, has_changed, stop_after, run_length, after_run, run_stop, step_length, after_step, step_stop}
+use Rattle.mcs_bench.specs.declared.running.Went.{Went}
+use Rattle.mcs_model.specs.Running.{Machine, Stops, is_outside, after_cycles, InstructionRan, at_break, has_changed, stop_after, run_length, after_run, run_stop, step_length, after_step, step_stop}
 
 -- why a run stops after a cycle, except for a code outside and its end
 abbrev pub mark_of : Bool → Bool → Option Stop
@@ -55,6 +56,21 @@ pub record RanTo (stops : Stops) (n : ℕ) (s t : Machine) (k : ℕ) (why : Stop
   pub cycles : k ≡ run_length stops n s
   pub machine : t ≡ after_run stops n s
   pub stop : why ≡ run_stop stops n s
+
+-- why a run stops at the machine t, by what stopped it but for a code outside and its end
+abbrev pub stop_by : Machine → Option Stop → Stop
+stop_by t mark = if is_outside t then Outside else unwrap_or mark Ended
+
+-- an instruction of a run that is at the machine s with `left` cycles to go, or the second cycle of one: it comes to t
+pub record WentTo (stops : Stops) (left : ℕ) (s t : Machine) (w : Went) : Type 0 where
+  -- the cycles that it did
+  pub ran : InstructionRan left s t w.cycles
+  pub some : 0 < w.cycles
+  -- no watched character changed before the last of them
+  pub unchanged : (j : ℕ) → 0 < j → j < w.cycles →
+      has_changed stops.watches (after_cycles (j - 1) s) (after_cycles j s) ≡ false
+  pub mark : w.mark ≡ mark_at stops w.cycles (after_cycles (w.cycles - 1) s) t
+  pub op : w.op ≡ (if s.0.owed == 1 then None else instruction_at s.0 s.1)
 
 -- a step from s
 pub record SteppedTo (s t : Machine) (k : ℕ) (why : Stop) : Type 0 where

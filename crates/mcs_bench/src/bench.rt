@@ -44,4 +44,21 @@ impl Bench {
             seq: 0,
         })
     }
+
+    /// An equal bench, which goes its own way.
+    ///
+    /// # Errors
+    ///
+    /// Where memory is refused.
+    pub fn copy(&self, alloc: Global) -> Result<Bench, AllocError>
+        ensures { IfOk result (λ bench. bench ≡ self.now) }
+    {
+        Ok(Bench {
+            rig: self.rig.copy(alloc)?,
+            cpu: self.cpu,
+            breaks: self.breaks.copy(),
+            watches: self.watches.copy(),
+            seq: self.seq,
+        })
+    }
 }

@@ -55,6 +55,17 @@ fn others(list: &ArrayVec<Addr, BREAKPOINTS>, at: Addr) -> ArrayVec<Addr, BREAKP
     kept
 }
 
+/// The same addresses.
+fn copied(list: &ArrayVec<Addr, BREAKPOINTS>) -> ArrayVec<Addr, BREAKPOINTS>
+    ensures { result.items ≡ list.now.items }
+{
+    let mut copy = ArrayVec::new();
+    for address in list.as_slice() {
+        copy.push(*address);
+    }
+    copy
+}
+
 impl Breaks {
     /// No breakpoints.
     pub(crate) fn new() -> Breaks
@@ -63,6 +74,16 @@ impl Breaks {
         Breaks {
             list: ArrayVec::new(),
             marks: [false; 4096],
+        }
+    }
+
+    /// Equal breakpoints.
+    pub(crate) fn copy(&self) -> Breaks
+        ensures { result ≡ self.now }
+    {
+        Breaks {
+            list: copied(&self.list),
+            marks: self.marks,
         }
     }
 

@@ -14,9 +14,11 @@ mod reading;
 mod restoring;
 mod running;
 mod validity;
+mod walking;
 mod watches;
 
 pub use bench::Bench;
 pub use chip_list::ChipList;
 pub use flat::{Cells, Flat};
 pub use laws::runs_add_up;
+pub use running::Went;

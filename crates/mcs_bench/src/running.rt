@@ -5,7 +5,7 @@ ghost use Rattle.mcs_model.specs.Effect.{cycle_of, instruction_at};
 ghost use Rattle.mcs_model.specs.Running.{InstructionRan, is_outside};
 ghost use Rattle.mcs_model.specs.declared.op.Op.TheVariants.{Wrm};
 ghost use Rattle.mcs_model.specs.Listed.{is_listed};
-ghost use Rattle.mcs_bench.specs.Runs.{RanOn, RanTo, SteppedTo, WillChange, mark_of};
+ghost use Rattle.mcs_bench.specs.Runs.{RanOn, RanTo, SteppedTo, WentTo, WillChange, mark_of, stop_by};
 
 use crate::breaks::Breaks;
 use crate::watches::Watches;
@@ -82,6 +82,18 @@ fn foresees_change<const WATCHED: bool>(
     ensures { WillChange watches.now (record cpu.now { pc = at }, rig.now) result }
 {
     if !WATCHED {
+        return false;
+    }
+    will_change(cpu, rig, watches, op, at)
+}
+
+/// The same, which asks whether any character is watched.
+#[inline(always)]
+fn foresees(cpu: &Cpu, rig: &BenchRig, watches: &Watches, op: &Op, at: Addr) -> bool
+    requires { instruction_at (record cpu.now { pc = at }) rig.now ≡ Some op.now }
+    ensures { WillChange watches.now (record cpu.now { pc = at }, rig.now) result }
+{
+    if watches.is_empty() {
         return false;
     }
     will_change(cpu, rig, watches, op, at)
@@ -210,6 +222,19 @@ fn run_by(
     }
 }
 
+/// Why a run stops, by what stopped it but for a code outside and its end.
+pub(crate) fn stop_by(cpu: &Cpu, rig: &BenchRig, mark: Option<Stop>) -> Stop
+    ensures { result ≡ stop_by (cpu.now, rig.now) mark }
+{
+    if is_outside(cpu, rig) {
+        return Stop::Outside;
+    }
+    match mark {
+        Some(why) => why,
+        None => Stop::Ended,
+    }
+}
+
 /// A run of at most `n` cycles: how many it did, and why it stopped.
 pub(crate) fn run(
     cpu: &mut Cpu,
@@ -222,12 +247,70 @@ pub(crate) fn run(
         (cpu.new, rig.new) result.0 result.1 }
 {
     let (cycles, mark) = run_by(cpu, rig, breaks, watches, n);
-    if is_outside(cpu, rig) {
-        return (cycles, Stop::Outside);
+    (cycles, stop_by(cpu, rig, mark))
+}
+
+/// What an instruction of a run did, or the second cycle of one.
+#[derive(Clone, Copy)]
+pub struct Went {
+    /// How many cycles it did: at least one.
+    pub cycles: u32,
+    /// Why the run stops after them, but for a code outside and its end.
+    pub mark: Option<Stop>,
+    /// The instruction; none where it was begun before.
+    pub op: Option<Op>,
+}
+
+/// The second cycle of an instruction that was begun.
+fn finish(cpu: &mut Cpu, breaks: &Breaks) -> Went
+    requires { cpu.old.owed ≡ 1 }
+    ensures state { cpu.new ≡ record cpu.old { owed = 0 } }
+    ensures cycles { result.cycles ≡ 1 }
+    ensures mark { result.mark ≡ mark_of (is_listed breaks.now cpu.old.pc) false }
+    ensures op { result.op ≡ None }
+{
+    cpu.set_owed(0);
+    let at = cpu.regs().pc;
+    Went {
+        cycles: 1,
+        mark: mark_at(cpu, at, breaks, false),
+        op: None,
     }
-    match mark {
-        Some(why) => (cycles, why),
-        None => (cycles, Stop::Ended),
+}
+
+/// The instruction at the counter, or the second cycle of one that was begun, for at most `left` cycles, where one can
+/// follow.
+#[inline(always)]
+pub(crate) fn go_on(
+    cpu: &mut Cpu,
+    rig: &mut BenchRig,
+    breaks: &Breaks,
+    watches: &Watches,
+    left: u32,
+) -> Option<Went>
+    requires { 0 < left }
+    ensures { MatchOption result
+        ((is_outside (cpu.old, rig.old) ≡ true) × (cpu.new ≡ cpu.old) × (rig.new ≡ rig.old))
+        (WentTo (record { breaks = breaks.now; watches = watches.now }) left (cpu.old, rig.old)
+        (cpu.new, rig.new)) }
+{
+    let regs = cpu.regs();
+    if regs.owed == 1 {
+        return Some(finish(cpu, breaks));
+    }
+    let at = regs.pc;
+    match mcs_board::instruction(cpu, rig, at) {
+        None => None,
+        Some(op) => {
+            let changes = foresees(cpu, rig, watches, &op, at);
+            let (next, cycles) = mcs_board::run_instruction(cpu, rig, op, at, left);
+            cpu.set_pc(next);
+            Some(Went {
+                cycles,
+                mark: mark_at(cpu, next, breaks, changes),
+                op: Some(op),
+            })
+        }
     }
 }
 

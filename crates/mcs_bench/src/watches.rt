@@ -46,6 +46,15 @@ impl Watches {
         }
     }
 
+    /// Equal watches.
+    pub(crate) fn copy(&self) -> Watches
+        ensures { result ≡ self.now }
+    {
+        Watches {
+            places: self.places.copy(),
+        }
+    }
+
     /// The places, rising.
     pub(crate) fn list(&self) -> &[Addr]
         ensures same { result.now ≡ self.now }

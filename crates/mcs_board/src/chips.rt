@@ -250,6 +250,55 @@ pub(crate) fn clear_chains<const MAX: usize>(chains: &mut Vec<Chain<MAX>>)
     }
 }
 
+/// An equal place of a ROM.
+fn copied_rom(rom: &Option<Rom>) -> Option<Rom>
+    ensures { result ≡ rom.now }
+{
+    match rom {
+        Some(rom) => Some(rom.copy()),
+        None => None,
+    }
+}
+
+/// Equal places of the ROMs.
+pub(crate) fn copied_roms(
+    alloc: Global,
+    roms: &Vec<Option<Rom>>,
+) -> Result<Vec<Option<Rom>>, AllocError>
+    ensures { IfOk result (λ copy. copy.items ≡ roms.now.items) }
+{
+    let mut copy = Vec::with_capacity(alloc, roms.len())?;
+    for rom in roms {
+        copy.push(copied_rom(rom))?;
+    }
+    Ok(copy)
+}
+
+/// Equal banks.
+pub(crate) fn copied_banks(alloc: Global, banks: &Vec<Bank<4>>) -> Result<Vec<Bank<4>>, AllocError>
+    ensures { IfOk result (λ copy. copy.items ≡ banks.now.items) }
+{
+    let mut copy = Vec::with_capacity(alloc, banks.len())?;
+    for bank in banks {
+        copy.push(bank.copy())?;
+    }
+    Ok(copy)
+}
+
+/// Equal chains.
+pub(crate) fn copied_chains<const MAX: usize>(
+    alloc: Global,
+    chains: &Vec<Chain<MAX>>,
+) -> Result<Vec<Chain<MAX>>, AllocError>
+    ensures { IfOk result (λ copy. copy.items ≡ chains.now.items) }
+{
+    let mut copy = Vec::with_capacity(alloc, chains.len())?;
+    for chain in chains {
+        copy.push(chain.copy())?;
+    }
+    Ok(copy)
+}
+
 /// A law: a ROM's place is empty, or its ROM is valid.
 fn rom_is_valid(rom: &Option<Rom>)
     ensures { IfSome rom.now IsValidRom }

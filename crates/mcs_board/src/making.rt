@@ -8,8 +8,8 @@ ghost use Rattle.mcs_board.specs.Fitting.{FitsCounts};
 
 use crate::chips::{
     banks_are_valid, banks_fit, chains_fit, clear_absent, clear_banks, clear_chains, clear_ports,
-    keys_of, no_banks, no_chains, no_program, no_roms, rewire_banks, rewire_chains, rewire_roms,
-    roms_are_valid, roms_fit,
+    copied_banks, copied_chains, copied_roms, keys_of, no_banks, no_chains, no_program, no_roms,
+    rewire_banks, rewire_chains, rewire_roms, roms_are_valid, roms_fit,
 };
 use crate::rig::Rig;
 use mcs_keypad::KeyPad;
@@ -51,6 +51,30 @@ impl<const ROMS: usize, const BANKS: usize, const CHAINS: usize, const MAX: usiz
             keys: KeyPad::none(),
             rom_src: 0,
             test: Bit::ONE,
+        })
+    }
+
+    /// An equal rig.
+    ///
+    /// # Errors
+    ///
+    /// Where memory for the places of its chips and for their program is refused, or where one chain would not fit any
+    /// memory, of which no rig is made.
+    pub fn copy(&self, alloc: Global) -> Result<Self, AllocError>
+        ensures { IfOk result (λ rig. rig ≡ self.now) }
+    {
+        if MAX > MOST_BITS {
+            return Err(AllocError);
+        }
+        Ok(Rig {
+            board: self.board.copy(),
+            roms: copied_roms(alloc, &self.roms)?,
+            program: self.program.to_vec(alloc)?,
+            banks: copied_banks(alloc, &self.banks)?,
+            chains: copied_chains(alloc, &self.chains)?,
+            keys: self.keys.copy(),
+            rom_src: self.rom_src,
+            test: self.test,
         })
     }
 

@@ -150,6 +150,17 @@ fn up(rows: u8, columns: usize) -> ArrayVec<Bit, KEYS>
     down
 }
 
+/// The same keys.
+fn copied(down: &ArrayVec<Bit, KEYS>) -> ArrayVec<Bit, KEYS>
+    ensures { result.items ≡ down.now.items }
+{
+    let mut copy = ArrayVec::new();
+    for key in down.as_slice() {
+        copy.push(*key);
+    }
+    copy
+}
+
 impl KeyPad {
     /// The keys of a board without keys.
     pub fn none() -> KeyPad
@@ -181,6 +192,18 @@ impl KeyPad {
             down,
             rows,
             lines,
+        }
+    }
+
+    /// Equal keys.
+    pub fn copy(&self) -> KeyPad
+        ensures { result ≡ self.now }
+    {
+        KeyPad {
+            matrix: self.matrix.copy(),
+            down: copied(&self.down),
+            rows: self.rows,
+            lines: self.lines,
         }
     }
 

@@ -1,7 +1,7 @@
 //! The 4002: RAM chips, and the banks that they form. A chip keeps two characters a byte.
 #![tactic(auto)]
 
-ghost use Rattle.std.specs.Prelude.{◌≡◌, ℕ, ◌+◌, ◌-◌, ◌*◌, ◌/◌, ◌%◌, ◌<◌, ◌≤◌, All, slice_index};
+ghost use Rattle.std.specs.Prelude.{◌≡◌, ℕ, ◌+◌, ◌-◌, ◌*◌, ◌/◌, ◌%◌, ◌<◌, ◌≤◌, All, replicate, slice_index};
 ghost use Rattle.mcs_ram4002.specs.RamBank.{BankState, half_of, cells_of, main_cells_of, status_cells_of, status_cell, chip_of, chip_written, src_after, chip_after, after_write, blank_bank, IsInBank, IsSizedChip, IsValidChip, IsWhole, IsValidBank};
 
 use mcs_nibble::Nibble;
@@ -79,6 +79,17 @@ pub struct Chip {
 }
 
 impl Chip {
+    /// A chip of all 0.
+    fn blank() -> Chip
+        ensures { result ≡ record { main = replicate 32 0; status = replicate 8 0; port = 0 } }
+    {
+        Chip {
+            main: [0; 32],
+            status: [0; 8],
+            port: Nibble::ZERO,
+        }
+    }
+
     /// Main character `at`, which is register * 16 + character.
     fn character(&self, at: u8) -> Nibble
         requires { at < 64 }
@@ -141,6 +152,17 @@ fn are_valid(chips: &[Chip])
     }
 }
 
+/// The same chips.
+fn copied<const CHIPS: usize>(chips: &[Chip; CHIPS]) -> [Chip; CHIPS]
+    ensures { result ≡ chips.now }
+{
+    let mut copy = [Chip::blank(); CHIPS];
+    for i in 0..CHIPS {
+        copy[i] = chips[i];
+    }
+    copy
+}
+
 /// A bank of RAM chips, of which the first ones are there. Absent characters, status characters and ports
 /// read 0, and writes to them are lost. The bank keeps its own last SRC byte.
 ///
@@ -170,15 +192,21 @@ impl<const CHIPS: usize> Bank<CHIPS> {
         requires { wired ≤ CHIPS }
         ensures { result ≡ blank_bank wired }
     {
-        let blank = Chip {
-            main: [0; 32],
-            status: [0; 8],
-            port: Nibble::ZERO,
-        };
         Bank {
-            chips: [blank; CHIPS],
+            chips: [Chip::blank(); CHIPS],
             wired,
             src: 0,
+        }
+    }
+
+    /// An equal bank.
+    pub fn copy(&self) -> Self
+        ensures { result ≡ self.now }
+    {
+        Bank {
+            chips: copied(&self.chips),
+            wired: self.wired,
+            src: self.src,
         }
     }
 

@@ -100,6 +100,17 @@ impl Rom {
         }
     }
 
+    /// An equal ROM.
+    pub fn copy(&self) -> Rom
+        ensures { result ≡ self.now }
+    {
+        Rom {
+            mask: self.mask,
+            bytes: self.bytes,
+            port: self.port,
+        }
+    }
+
     /// The byte of word `at`.
     pub fn byte(&self, at: u8) -> u8
         ensures { result ≡ slice_index self.now.bytes at }

@@ -103,6 +103,17 @@ fn shift_bits(words: &mut [u16], bits: usize, level: Bit)
     }
 }
 
+/// The same words.
+fn copied<const MAX: usize>(words: &ArrayVec<u16, MAX>) -> ArrayVec<u16, MAX>
+    ensures { result.items ≡ words.now.items }
+{
+    let mut copy = ArrayVec::new();
+    for word in words.as_slice() {
+        copy.push(*word);
+    }
+    copy
+}
+
 /// Word `k`; 0 beyond the last one.
 fn word_at(words: &[u16], k: usize) -> u16
     ensures { result ≡ slice_index words.now k }
@@ -124,6 +135,16 @@ impl<const MAX: usize> Chain<MAX> {
             words.push(0);
         }
         Chain { bits, words }
+    }
+
+    /// An equal chain.
+    pub fn copy(&self) -> Self
+        ensures { result ≡ self.now }
+    {
+        Chain {
+            bits: self.bits,
+            words: copied(&self.words),
+        }
     }
 
     /// How many bits it has.

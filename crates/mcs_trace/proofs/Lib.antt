@@ -1,5 +1,5 @@
-pub mod Going
+pub mod Steps
 pub mod Tallies
 pub mod CountLemmas
-pub mod NewLengths
+pub mod Going
 pub mod Parts

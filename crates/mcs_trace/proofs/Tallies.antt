@@ -50,10 +50,10 @@ and-one true false e p h = rw h refl
 and-one false true e p h = refl
 and-one false false e p h = refl
 
--- what is counted with one cycle more
-pub counted-more : (k : ℕ) (s : Machine) (p : Begun → Bool) → count_by p (begun_within (k + 1) s) ≡ count_by p (begun_within k s) + one-when (begins (cycle_at s k) && p (cycle_at s k))
-counted-more k s p =
-    ap (count_by p) (begun-more k s)
+-- what is counted with one instruction more
+pub counted-more : (k m : ℕ) (s : Machine) (p : Begun → Bool) → begun_within m s ≡ begun_within k s ++ begun_at s k → count_by p (begun_within m s) ≡ count_by p (begun_within k s) + one-when (begins (cycle_at s k) && p (cycle_at s k))
+counted-more k m s p e =
+    ap (count_by p) e
     ∙ sum_by-append (λ x. cond (p x) 1 0) (begun_within k s) (begun_at s k)
     ∙ ap (λ m. count_by p (begun_within k s) + m) (and-one (begins (cycle_at s k)) (p (cycle_at s k)) (cycle_at s k) p refl)
 

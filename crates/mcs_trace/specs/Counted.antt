@@ -1,17 +1,8 @@
 -- What a count tells of a run that is not done.
-use Rattle.std.specs.Prelude.{◌≡◌, ◌<◌, ◌+◌, ℕ, List, Bool, Option, Some, None, length, slice_index, slice_set, if◌then◌else◌}
-use Rattle.mcs_model.specs.declared.stop.Stop.{Stop}
-use Rattle.mcs_model.specs.declared.stop.Stop.TheVariants.{Outside, Breakpoint, Watched, Ended}
+use Rattle.std.specs.Prelude.{◌≡◌, ◌<◌, ◌+◌, ℕ, List, Bool, length, slice_index, slice_set, if◌then◌else◌}
 use Rattle.mcs_model.specs.Running.{Machine, Stops, run_length, run_stop}
 use Rattle.mcs_ahead.specs.Ahead.{begun_in, runs_at, jumps_at}
 use Rattle.mcs_trace.specs.declared.counting.Counts.{Counts}
-
--- a reason to stop, but for the end of a run
-abbrev pub but_end : Stop → Option Stop
-but_end Outside = Some Outside
-but_end Breakpoint = Some Breakpoint
-but_end Watched = Some Watched
-but_end Ended = None
 
 -- one more at a place, where it is to be counted
 abbrev pub with_one : List ℕ → Bool → ℕ → List ℕ

@@ -3,8 +3,6 @@ ghost use Rattle.std.specs.Prelude.{◌≡◌, ◌<◌, ◌+◌, ◌%◌, ◌==�
 ghost use Rattle.mcs_model.specs.Command.{machine_of, stops_of};
 ghost use Rattle.mcs_trace.specs.Counted.{IsCounted, with_one};
 
-use crate::copying::copy_of;
-use crate::walking::{go_on, is_outside};
 use mcs_bench::Bench;
 use mcs_model::regs::Regs;
 use mcs_model::stop::Stop;
@@ -66,33 +64,38 @@ pub fn count_run(alloc: Global, n: u32, bench: &Bench) -> Result<Counts, AllocEr
 {
     let mut runs = zeros(alloc)?;
     let mut jumps = zeros(alloc)?;
-    let mut copy = copy_of(alloc, bench)?;
-    if is_outside(&copy) {
-        return Ok(Counts {
-            cycles: 0,
-            stop: Stop::Outside,
-            runs,
-            jumps,
-        });
-    }
-    for done in 0..n {
+    let mut copy = bench.copy(alloc)?;
+    let mut done = 0;
+    while done < n {
         let before = copy.regs();
         // (its range is a fact once it is read)
         let _at = before.pc.get();
-        let stop = go_on(&mut copy);
-        note(&mut runs, &mut jumps, &before, &copy.regs());
-        if let Some(why) = stop {
-            return Ok(Counts {
-                cycles: done + 1,
-                stop: why,
-                runs,
-                jumps,
-            });
+        match copy.go_on(n - done) {
+            None => {
+                return Ok(Counts {
+                    cycles: done,
+                    stop: copy.stop_by(None),
+                    runs,
+                    jumps,
+                });
+            }
+            Some(went) => {
+                note(&mut runs, &mut jumps, &before, &copy.regs());
+                done += went.cycles;
+                if let Some(why) = went.mark {
+                    return Ok(Counts {
+                        cycles: done,
+                        stop: copy.stop_by(Some(why)),
+                        runs,
+                        jumps,
+                    });
+                }
+            }
         }
     }
     Ok(Counts {
         cycles: n,
-        stop: Stop::Ended,
+        stop: copy.stop_by(None),
         runs,
         jumps,
     })

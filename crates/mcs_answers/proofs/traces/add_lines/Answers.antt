@@ -1,29 +1,24 @@
-use Rattle.std.proofs.Common.{◌≡◌, ◌∙◌, ◌+◌, ◌++◌, ℕ, true, false, refl, sym, ap, subst, arith, length}
+use Rattle.std.proofs.Common.{◌≡◌, ◌∙◌, ◌+◌, ◌-◌, ◌++◌, ℕ, None, refl, sym, ap, subst, arith, length}
 use Rattle.mcs_model.specs.BenchState.{BenchState}
 use Rattle.mcs_model.specs.Command.{machine_of, stops_of}
-use Rattle.mcs_model.specs.Running.{is_outside, after_cycles}
+use Rattle.mcs_model.specs.Running.{Machine, Stops}
+use Rattle.mcs_bench.specs.declared.running.Went.{Went}
+use Rattle.mcs_bench.specs.Runs.{WentTo, stop_by}
+use Rattle.mcs_bench.proofs.Runs.{GoesOn, begins, ends, goes-full, goes-out, went-goes, went-stops}
 use Rattle.mcs_ahead.specs.Probes.{row}
-use Rattle.mcs_trace.proofs.CountLemmas.{Going, going-none, going-more, going-stops, going-ends, outside-ends}
 use Rattle.mcs_answers.proofs.AheadLines.{lines_text, told-by, told-more, within-none}
+use Rattle.mcs_answers.proofs.Resting.{row-rests}
 use Rattle.mcs_answers.proofs.traces.add_lines.Goals as goal
-
-pub returns-then-is_outside : goal.returns-then-is_outside
-returns-then-is_outside c =
-    let b = c.args.bench.now in
-    let s = machine_of b in
-    let out : is_outside s ≡ true = sym (ap (λ (x : BenchState). is_outside (machine_of x)) c.in_ok-copy.ensures) ∙ sym c.is_outside.ensures ∙ c.if-is_outside.true in
-    let none = within-none c.args.probes.now s in
-    told-by c.args.probes.now c.args.n b s 0 _ c.args.text.now.items (outside-ends (stops_of b) c.args.n s out) refl (sym (ap length none)) (c.requires.empty ∙ sym (ap lines_text none))
 
 pub loop-done-init : goal.loop-done-init
 loop-done-init c =
     let b = c.args.bench.now in
-    let s = machine_of b in
+    let s : Machine = machine_of b in
     let probes = c.args.probes.now in
-    let inside : is_outside s ≡ false = sym (ap (λ (x : BenchState). is_outside (machine_of x)) c.in_ok-copy.ensures) ∙ sym c.is_outside.ensures ∙ c.if-is_outside.false in
     let none = within-none probes s in
     record {
-      going = subst (Going (stops_of b) c.args.n 0 s) (sym c.in_ok-copy.ensures) (going-none b c.args.n inside);
+      going = subst (λ (x : BenchState). GoesOn (stops_of b) c.args.n 0 s (machine_of x)) (sym c.in_ok-copy.ensures) (begins (stops_of b) c.args.n s);
+      stops = ap stops_of c.in_ok-copy.ensures;
       told = record {
         row_now = c.put_row.ensures.text ∙ ap (λ v. v ++ row probes s) c.new-before.ensures ∙ sym (ap (λ (x : BenchState). row probes (machine_of x)) c.in_ok-copy.ensures);
         so_far = c.requires.empty ∙ sym (ap lines_text none);
@@ -32,34 +27,71 @@ loop-done-init c =
       };
     }
 
-pub returns-in-Some : goal.returns-in-Some
-returns-in-Some c =
+pub returns-in-None : goal.returns-in-None
+returns-in-None c =
     let b = c.args.bench.now in
-    let s = machine_of b in
+    let s : Machine = machine_of b in
     let k : ℕ = c.loop-done.done in
+    let t : Machine = machine_of c.loop-done.copy in
     let going = c.loop-done.invariant.going in
-    let told = told-more c.args.probes.now k s c.loop-done.copy c.go_on-stop.new.bench c.regs-regs.result c.loop-done.before.items c.loop-done.text.items c.add_cycle.new.before.items c.add_cycle.new.text.items c.loop-done.lines c.in_ok-lines.field-0 going.machine c.go_on-stop.ensures.state c.regs-regs.ensures.same c.loop-done.invariant.told c.in_ok-lines.ensures.row c.in_ok-lines.ensures.lines c.in_ok-lines.ensures.text in
-    told-by c.args.probes.now c.args.n b (after_cycles (k + 1) s) (k + 1) _ c.add_cycle.new.text.items
-    (going-stops (stops_of b) c.args.n k s c.loop-done.copy c.go_on-stop.result c.in-Some.why c.loop-done-test.true going c.go_on-stop.ensures.stop c.in-Some.is) refl told.count told.so_far
+    let so_far = c.loop-done.invariant.told in
+    let told = c.in-None.ensures.went in
+    let stop = c.stop_by.ensures ∙ ap (λ (x : BenchState). stop_by (machine_of x) None) told.1 in
+    told-by c.args.probes.now c.args.n b t k _ c.loop-done.text.items
+    (ends (stops_of b) c.args.n k s t None c.stop_by.result (goes-out (stops_of b) c.args.n k s t going told.0) stop) refl so_far.count so_far.so_far
+
+pub add_went-requires-clause-same : goal.add_went-requires-clause-same
+add_went-requires-clause-same c =
+    let b = c.args.bench.now in
+    let n : ℕ = c.args.n in
+    let k : ℕ = c.loop-done.done in
+    let t : Machine = machine_of c.loop-done.copy in
+    let u : Machine = machine_of c.go_on.new.self in
+    λ on. c.loop-done.invariant.told.row_now ∙ row-rests (stops_of c.loop-done.copy) (n - k) t u c.in-Some.went c.regs-regs.result c.regs.result c.args.probes.now c.in-Some.ensures.went c.regs-regs.ensures.same c.regs.ensures.same (c.all_rest-rests.ensures on)
+
+pub returns-in-Some-mark : goal.returns-in-Some-mark
+returns-in-Some-mark c =
+    let b = c.args.bench.now in
+    let s : Machine = machine_of b in
+    let n : ℕ = c.args.n in
+    let k : ℕ = c.loop-done.done in
+    let t : Machine = machine_of c.loop-done.copy in
+    let u : Machine = machine_of c.go_on.new.self in
+    let w : Went = c.in-Some.went in
+    let going = c.loop-done.invariant.going in
+    let went : WentTo (stops_of b) (n - k) t u w = subst (λ (x : Stops). WentTo x (n - k) t u w) c.loop-done.invariant.stops c.in-Some.ensures.went in
+    let ran = went-stops (stops_of b) n k s t u w c.in-Some-mark.why going went c.loop-done-test.true c.in-Some-mark.is in
+    let told = told-more c.args.probes.now (n - k) k w.cycles s t u c.regs-regs.result c.loop-done.before.items c.loop-done.text.items c.add_went.new.before.items c.add_went.new.text.items c.loop-done.lines c.in_ok-lines-in-Some.field-0 going.at went.ran went.some c.regs-regs.ensures.same c.loop-done.invariant.told c.in_ok-lines-in-Some.ensures.row c.in_ok-lines-in-Some.ensures.lines c.in_ok-lines-in-Some.ensures.text in
+    told-by c.args.probes.now n b u (k + w.cycles) _ c.add_went.new.text.items
+    (ends (stops_of b) n (k + w.cycles) s u w.mark c.stop_by-in-Some-mark.result ran (c.stop_by-in-Some-mark.ensures ∙ ap (stop_by u) (sym c.in-Some-mark.is))) refl told.count told.so_far
 
 pub loop-done-preserved : goal.loop-done-preserved
 loop-done-preserved c =
     let b = c.args.bench.now in
-    let s = machine_of b in
+    let s : Machine = machine_of b in
+    let n : ℕ = c.args.n in
     let k : ℕ = c.loop-done.done in
+    let t : Machine = machine_of c.loop-done.copy in
+    let u : Machine = machine_of c.go_on.new.self in
+    let w : Went = c.in-Some.went in
     let going = c.loop-done.invariant.going in
+    let went : WentTo (stops_of b) (n - k) t u w = subst (λ (x : Stops). WentTo x (n - k) t u w) c.loop-done.invariant.stops c.in-Some.ensures.went in
     record {
-      going = going-more (stops_of b) c.args.n k s c.loop-done.copy c.go_on-stop.new.bench c.go_on-stop.result c.loop-done-test.true going c.go_on-stop.ensures.state c.go_on-stop.ensures.stop c.in_default.is;
-      told = told-more c.args.probes.now k s c.loop-done.copy c.go_on-stop.new.bench c.regs-regs.result c.loop-done.before.items c.loop-done.text.items c.add_cycle.new.before.items c.add_cycle.new.text.items c.loop-done.lines c.in_ok-lines.field-0 going.machine c.go_on-stop.ensures.state c.regs-regs.ensures.same c.loop-done.invariant.told c.in_ok-lines.ensures.row c.in_ok-lines.ensures.lines c.in_ok-lines.ensures.text;
+      going = went-goes (stops_of b) n k s t u w going went c.loop-done-test.true c.in_default.is;
+      stops = ap stops_of c.go_on.ensures.rest ∙ c.loop-done.invariant.stops;
+      told = told-more c.args.probes.now (n - k) k w.cycles s t u c.regs-regs.result c.loop-done.before.items c.loop-done.text.items c.add_went.new.before.items c.add_went.new.text.items c.loop-done.lines c.in_ok-lines-in-Some.field-0 going.at went.ran went.some c.regs-regs.ensures.same c.loop-done.invariant.told c.in_ok-lines-in-Some.ensures.row c.in_ok-lines-in-Some.ensures.lines c.in_ok-lines-in-Some.ensures.text;
     }
 
 pub returns : goal.returns
 returns c =
     let b = c.args.bench.now in
-    let s = machine_of b in
+    let s : Machine = machine_of b in
     let n : ℕ = c.args.n in
-    let full : n ≡ c.loop-done.done = omega arith in
+    let k : ℕ = c.loop-done.done in
+    let t : Machine = machine_of c.loop-done.copy in
+    let going = c.loop-done.invariant.going in
+    let within = going.within in
+    let full : n ≡ k = omega arith in
     let told = c.loop-done.invariant.told in
-    told-by c.args.probes.now n b (after_cycles n s) n _ c.loop-done.text.items
-    (going-ends (stops_of b) n c.loop-done.done s c.loop-done.copy full c.loop-done.invariant.going) refl
-    (rw full told.count) (rw full told.so_far)
+    told-by c.args.probes.now n b t k _ c.loop-done.text.items
+    (ends (stops_of b) n k s t None c.stop_by-2.result (goes-full (stops_of b) n k s t going (sym full)) c.stop_by-2.ensures) full told.count told.so_far

@@ -1,69 +1,94 @@
-use Rattle.std.proofs.Common.{◌≡◌, ◌∙◌, ◌+◌, ℕ, true, false, ◌&&◌, refl, sym, ap, subst, arith}
+use Rattle.std.proofs.Common.{◌≡◌, ◌∙◌, ◌+◌, ◌-◌, ℕ, ◌&&◌, None, refl, sym, ap, subst, arith}
 use Rattle.mcs_model.specs.BenchState.{BenchState}
 use Rattle.mcs_model.specs.Command.{machine_of, stops_of}
-use Rattle.mcs_model.specs.Running.{is_outside, after_cycles}
+use Rattle.mcs_model.specs.Running.{Machine, Stops}
+use Rattle.mcs_bench.specs.declared.running.Went.{Went}
+use Rattle.mcs_bench.specs.Runs.{WentTo, stop_by}
+use Rattle.mcs_bench.proofs.Runs.{GoesOn, begins, ends, goes-full, goes-out, went-goes, went-stops}
 use Rattle.mcs_ahead.specs.Ahead.{is_at, jumps}
-use Rattle.mcs_trace.proofs.CountLemmas.{Going, going-none, going-more, going-stops, going-ends, outside-ends, counted-by, tally-few, tally-none, runs-next, jumps-next}
+use Rattle.mcs_trace.proofs.CountLemmas.{counted-by, tally-few, tally-none, runs-next, jumps-next}
 use Rattle.mcs_trace.proofs.counting.count_run.Goals as goal
-
-pub returns-then-is_outside : goal.returns-then-is_outside
-returns-then-is_outside c =
-    let b = c.args.bench.now in
-    let s = machine_of b in
-    let out : is_outside s ≡ true = sym (ap (λ (x : BenchState). is_outside (machine_of x)) c.in_ok-copy.ensures) ∙ sym c.is_outside.ensures ∙ c.if-is_outside.true in
-    counted-by (stops_of b) c.args.n s s 0 _ (outside-ends (stops_of b) c.args.n s out) refl
-    (tally-none s (λ a. is_at a) _ c.in_ok-runs.ensures) (tally-none s (λ a x. is_at a x && jumps x) _ c.in_ok-jumps.ensures)
 
 pub loop-done-init : goal.loop-done-init
 loop-done-init c =
     let b = c.args.bench.now in
-    let s = machine_of b in
-    let inside : is_outside s ≡ false = sym (ap (λ (x : BenchState). is_outside (machine_of x)) c.in_ok-copy.ensures) ∙ sym c.is_outside.ensures ∙ c.if-is_outside.false in
+    let s : Machine = machine_of b in
     record {
-      going = subst (Going (stops_of b) c.args.n 0 s) (sym c.in_ok-copy.ensures) (going-none b c.args.n inside);
-      run_tally = tally-none s (λ a. is_at a) _ c.in_ok-runs.ensures;
-      jump_tally = tally-none s (λ a x. is_at a x && jumps x) _ c.in_ok-jumps.ensures;
+      counting = record {
+        going = subst (λ (x : BenchState). GoesOn (stops_of b) c.args.n 0 s (machine_of x)) (sym c.in_ok-copy.ensures) (begins (stops_of b) c.args.n s);
+        run_tally = tally-none s (λ a. is_at a) _ c.in_ok-runs.ensures;
+        jump_tally = tally-none s (λ a x. is_at a x && jumps x) _ c.in_ok-jumps.ensures;
+      };
+      stops = ap stops_of c.in_ok-copy.ensures;
     }
 
 pub note-requires-clause-few_runs : goal.note-requires-clause-few_runs
 note-requires-clause-few_runs c =
-    let few = tally-few c.loop-done.done (machine_of c.args.bench.now) c.loop-done.runs.items (λ a. is_at a) c.regs-before.result.pc (omega arith) c.loop-done.invariant.run_tally in
+    let few = tally-few c.loop-done.done (machine_of c.args.bench.now) c.loop-done.runs.items (λ a. is_at a) c.regs-before.result.pc (omega arith) c.loop-done.invariant.counting.run_tally in
     omega arith
 
 pub note-requires-clause-few_jumps : goal.note-requires-clause-few_jumps
 note-requires-clause-few_jumps c =
-    let few = tally-few c.loop-done.done (machine_of c.args.bench.now) c.loop-done.jumps.items (λ a x. is_at a x && jumps x) c.regs-before.result.pc (omega arith) c.loop-done.invariant.jump_tally in
+    let few = tally-few c.loop-done.done (machine_of c.args.bench.now) c.loop-done.jumps.items (λ a x. is_at a x && jumps x) c.regs-before.result.pc (omega arith) c.loop-done.invariant.counting.jump_tally in
     omega arith
 
-pub returns-in-Some : goal.returns-in-Some
-returns-in-Some c =
+pub returns-in-None : goal.returns-in-None
+returns-in-None c =
     let b = c.args.bench.now in
-    let s = machine_of b in
+    let s : Machine = machine_of b in
     let k : ℕ = c.loop-done.done in
-    let going = c.loop-done.invariant.going in
-    counted-by (stops_of b) c.args.n s (after_cycles (k + 1) s) (k + 1) _
-    (going-stops (stops_of b) c.args.n k s c.loop-done.copy c.go_on-stop.result c.in-Some.why c.loop-done-test.true going c.go_on-stop.ensures.stop c.in-Some.is) refl
-    (runs-next k s c.loop-done.copy c.regs-before.result c.loop-done.runs.items c.note.new.runs.items going.machine c.regs-before.ensures.same (omega arith) c.note.ensures.runs c.loop-done.invariant.run_tally)
-    (jumps-next k s c.loop-done.copy c.go_on-stop.new.bench c.regs-before.result c.regs.result c.loop-done.jumps.items c.note.new.jumps.items going.machine c.go_on-stop.ensures.state c.regs-before.ensures.same c.regs.ensures.same (omega arith) c.note.ensures.jumps c.loop-done.invariant.jump_tally)
+    let t : Machine = machine_of c.loop-done.copy in
+    let counting = c.loop-done.invariant.counting in
+    let told = c.in-None.ensures.went in
+    let stop = c.stop_by.ensures ∙ ap (λ (x : BenchState). stop_by (machine_of x) None) told.1 in
+    counted-by (stops_of b) c.args.n s t k _ (ends (stops_of b) c.args.n k s t None c.stop_by.result (goes-out (stops_of b) c.args.n k s t counting.going told.0) stop) refl
+    counting.run_tally counting.jump_tally
+
+pub returns-in-Some-mark : goal.returns-in-Some-mark
+returns-in-Some-mark c =
+    let b = c.args.bench.now in
+    let s : Machine = machine_of b in
+    let n : ℕ = c.args.n in
+    let k : ℕ = c.loop-done.done in
+    let t : Machine = machine_of c.loop-done.copy in
+    let u : Machine = machine_of c.go_on.new.self in
+    let w : Went = c.in-Some.went in
+    let counting = c.loop-done.invariant.counting in
+    let went : WentTo (stops_of b) (n - k) t u w = subst (λ (x : Stops). WentTo x (n - k) t u w) c.loop-done.invariant.stops c.in-Some.ensures.went in
+    let ran = went-stops (stops_of b) n k s t u w c.in-Some-mark.why counting.going went c.loop-done-test.true c.in-Some-mark.is in
+    counted-by (stops_of b) n s u (k + w.cycles) _ (ends (stops_of b) n (k + w.cycles) s u w.mark c.stop_by-in-Some-mark.result ran (c.stop_by-in-Some-mark.ensures ∙ ap (stop_by u) (sym c.in-Some-mark.is))) refl
+    (runs-next (n - k) k w.cycles s t u c.regs-before.result c.loop-done.runs.items c.note.new.runs.items counting.going.at went.ran went.some c.regs-before.ensures.same (omega arith) c.note.ensures.runs counting.run_tally)
+    (jumps-next (n - k) k w.cycles s t u c.regs-before.result c.regs.result c.loop-done.jumps.items c.note.new.jumps.items counting.going.at went.ran went.some c.regs-before.ensures.same c.regs.ensures.same (omega arith) c.note.ensures.jumps counting.jump_tally)
 
 pub loop-done-preserved : goal.loop-done-preserved
 loop-done-preserved c =
     let b = c.args.bench.now in
-    let s = machine_of b in
+    let s : Machine = machine_of b in
+    let n : ℕ = c.args.n in
     let k : ℕ = c.loop-done.done in
-    let going = c.loop-done.invariant.going in
+    let t : Machine = machine_of c.loop-done.copy in
+    let u : Machine = machine_of c.go_on.new.self in
+    let w : Went = c.in-Some.went in
+    let counting = c.loop-done.invariant.counting in
+    let went : WentTo (stops_of b) (n - k) t u w = subst (λ (x : Stops). WentTo x (n - k) t u w) c.loop-done.invariant.stops c.in-Some.ensures.went in
     record {
-      going = going-more (stops_of b) c.args.n k s c.loop-done.copy c.go_on-stop.new.bench c.go_on-stop.result c.loop-done-test.true going c.go_on-stop.ensures.state c.go_on-stop.ensures.stop c.in_default.is;
-      run_tally = runs-next k s c.loop-done.copy c.regs-before.result c.loop-done.runs.items c.note.new.runs.items going.machine c.regs-before.ensures.same (omega arith) c.note.ensures.runs c.loop-done.invariant.run_tally;
-      jump_tally = jumps-next k s c.loop-done.copy c.go_on-stop.new.bench c.regs-before.result c.regs.result c.loop-done.jumps.items c.note.new.jumps.items going.machine c.go_on-stop.ensures.state c.regs-before.ensures.same c.regs.ensures.same (omega arith) c.note.ensures.jumps c.loop-done.invariant.jump_tally;
+      counting = record {
+        going = went-goes (stops_of b) n k s t u w counting.going went c.loop-done-test.true c.in_default.is;
+        run_tally = runs-next (n - k) k w.cycles s t u c.regs-before.result c.loop-done.runs.items c.note.new.runs.items counting.going.at went.ran went.some c.regs-before.ensures.same (omega arith) c.note.ensures.runs counting.run_tally;
+        jump_tally = jumps-next (n - k) k w.cycles s t u c.regs-before.result c.regs.result c.loop-done.jumps.items c.note.new.jumps.items counting.going.at went.ran went.some c.regs-before.ensures.same c.regs.ensures.same (omega arith) c.note.ensures.jumps counting.jump_tally;
+      };
+      stops = ap stops_of c.go_on.ensures.rest ∙ c.loop-done.invariant.stops;
     }
 
 pub returns : goal.returns
 returns c =
     let b = c.args.bench.now in
-    let s = machine_of b in
+    let s : Machine = machine_of b in
     let n : ℕ = c.args.n in
-    let full : n ≡ c.loop-done.done = omega arith in
-    counted-by (stops_of b) n s (after_cycles n s) n _
-    (going-ends (stops_of b) n c.loop-done.done s c.loop-done.copy full c.loop-done.invariant.going) refl
-    (rw full c.loop-done.invariant.run_tally) (rw full c.loop-done.invariant.jump_tally)
+    let k : ℕ = c.loop-done.done in
+    let t : Machine = machine_of c.loop-done.copy in
+    let counting = c.loop-done.invariant.counting in
+    let within = counting.going.within in
+    let full : n ≡ k = omega arith in
+    counted-by (stops_of b) n s t k _ (ends (stops_of b) n k s t None c.stop_by-2.result (goes-full (stops_of b) n k s t counting.going (sym full)) c.stop_by-2.ensures) full
+    counting.run_tally counting.jump_tally

@@ -1,0 +1,254 @@
+-- What an instruction leaves as it is: what stands at lines, but for a write to a port; RAM and status characters, but for a
+-- write to these; the bytes of ROM.
+use Rattle.std.proofs.Common.{◌≡◌, ◌≢◌, ℕ, ◌/◌, Bool, true, false, cond, List, [], ◌∷◌, map, Option, Some, None, not, inl, inr, refl, sym, ap, ◌∙◌, eqb, nat_lt, slice_index, if◌then◌else◌}
+use Rattle.mcs_nibble.specs.declared.lines.LineMask.{LineMask}
+use Rattle.mcs_model.specs.declared.regs.Regs.{Regs}
+use Rattle.mcs_model.specs.declared.board.Line.{Line}
+use Rattle.mcs_model.specs.declared.board.Line.TheVariants.{Rom, Ram, Chain}
+use Rattle.mcs_model.specs.declared.op.Op.{Op}
+use Rattle.mcs_model.specs.declared.op.Op.TheVariants.{Nop, Jcn, Fim, Src, Fin, Jin, Jun, Jms, Inc, Isz, Add, Sub, Ld, Xch, Bbl, Ldm, Wrm, Wmp, Wrr, Wr0, Wr1, Wr2, Wr3, Sbm, Rdm, Rdr, Adm, Rd0, Rd1, Rd2, Rd3, Clb, Clc, Iac, Cmc, Cma, Ral, Rar, Tcc, Dac, Tcs, Stc, Daa, Kbp, Dcl}
+use Rattle.mcs_model.specs.Boards.{exists_on, masks_on}
+use Rattle.mcs_model.specs.Bus.{BusState, after_src, after_ram, after_status, chips_of, has_chip, ram_place, src_of, status_place, with_ram, with_status}
+use Rattle.mcs_model.specs.Effect.{bus_after, cycle_of, effect, instruction_at}
+use Rattle.mcs_model.specs.Levels.{after_ram_port, after_rom_port, chains_clocked, is_pulled, latch_of, level}
+use Rattle.mcs_model.specs.Registers.{pair_of}
+use Rattle.mcs_model.specs.QueryText.{address_text, digit_text, hex_2, lamp_mark, one_word, or_dash}
+use Rattle.mcs_model.specs.Running.{Machine, Stops, after_cycles}
+use Rattle.mcs_bench.specs.declared.running.Went.{Went}
+use Rattle.mcs_bench.specs.Runs.{WentTo}
+use Rattle.mcs_ahead.specs.declared.probe.Probe.{Probe}
+use Rattle.mcs_ahead.specs.declared.probe.Probe.TheVariants as place
+use Rattle.mcs_ahead.specs.Probes.{level_on, levels_on, probe_text, row}
+use Rattle.mcs_trace.proofs.Steps.{rests, with_owed}
+use Rattle.mcs_answers.specs.Resting.{Rests, RowRests, WritesPort, WritesStatus}
+
+-- what holds of the bus that an instruction leaves, by what it does to it
+by-bus : (op : Op) (s : Regs) (m : BusState) (P : Op → BusState → Type 0)
+    → ((o : Op) → P o m)
+    → ((k : ℕ) → P (Src k) (after_src m s.dcl (pair_of s k)))
+    → P Wrm (after_ram m s.dcl s.acc)
+    → P Wmp (after_ram_port m s.dcl s.acc)
+    → P Wrr (after_rom_port m s.acc)
+    → (P Wr0 (after_status m s.dcl 0 s.acc) × P Wr1 (after_status m s.dcl 1 s.acc) × P Wr2 (after_status m s.dcl 2 s.acc) × P Wr3 (after_status m s.dcl 3 s.acc))
+    → P op (bus_after op s m)
+by-bus Nop s m P none src ram ram_port rom_port status = none _
+by-bus (Jcn a b) s m P none src ram ram_port rom_port status = none _
+by-bus (Fim a b) s m P none src ram ram_port rom_port status = none _
+by-bus (Src a) s m P none src ram ram_port rom_port status = src a
+by-bus (Fin a) s m P none src ram ram_port rom_port status = none _
+by-bus (Jin a) s m P none src ram ram_port rom_port status = none _
+by-bus (Jun a b) s m P none src ram ram_port rom_port status = none _
+by-bus (Jms a b) s m P none src ram ram_port rom_port status = none _
+by-bus (Inc a) s m P none src ram ram_port rom_port status = none _
+by-bus (Isz a b) s m P none src ram ram_port rom_port status = none _
+by-bus (Add a) s m P none src ram ram_port rom_port status = none _
+by-bus (Sub a) s m P none src ram ram_port rom_port status = none _
+by-bus (Ld a) s m P none src ram ram_port rom_port status = none _
+by-bus (Xch a) s m P none src ram ram_port rom_port status = none _
+by-bus (Bbl a) s m P none src ram ram_port rom_port status = none _
+by-bus (Ldm a) s m P none src ram ram_port rom_port status = none _
+by-bus Wrm s m P none src ram ram_port rom_port status = ram
+by-bus Wmp s m P none src ram ram_port rom_port status = ram_port
+by-bus Wrr s m P none src ram ram_port rom_port status = rom_port
+by-bus Wr0 s m P none src ram ram_port rom_port status = status.0
+by-bus Wr1 s m P none src ram ram_port rom_port status = status.1
+by-bus Wr2 s m P none src ram ram_port rom_port status = status.2
+by-bus Wr3 s m P none src ram ram_port rom_port status = status.3
+by-bus Sbm s m P none src ram ram_port rom_port status = none _
+by-bus Rdm s m P none src ram ram_port rom_port status = none _
+by-bus Rdr s m P none src ram ram_port rom_port status = none _
+by-bus Adm s m P none src ram ram_port rom_port status = none _
+by-bus Rd0 s m P none src ram ram_port rom_port status = none _
+by-bus Rd1 s m P none src ram ram_port rom_port status = none _
+by-bus Rd2 s m P none src ram ram_port rom_port status = none _
+by-bus Rd3 s m P none src ram ram_port rom_port status = none _
+by-bus Clb s m P none src ram ram_port rom_port status = none _
+by-bus Clc s m P none src ram ram_port rom_port status = none _
+by-bus Iac s m P none src ram ram_port rom_port status = none _
+by-bus Cmc s m P none src ram ram_port rom_port status = none _
+by-bus Cma s m P none src ram ram_port rom_port status = none _
+by-bus Ral s m P none src ram ram_port rom_port status = none _
+by-bus Rar s m P none src ram ram_port rom_port status = none _
+by-bus Tcc s m P none src ram ram_port rom_port status = none _
+by-bus Dac s m P none src ram ram_port rom_port status = none _
+by-bus Tcs s m P none src ram ram_port rom_port status = none _
+by-bus Stc s m P none src ram ram_port rom_port status = none _
+by-bus Daa s m P none src ram ram_port rom_port status = none _
+by-bus Kbp s m P none src ram ram_port rom_port status = none _
+by-bus Dcl s m P none src ram ram_port rom_port status = none _
+
+either : (b : Bool) (x y : BusState) (P : BusState → Type 0) → P x → P y → P (cond b x y)
+either true x y P e f = e
+either false x y P e f = f
+
+chosen : (o : Option (List LineMask)) (m : BusState) (f : List LineMask → BusState) (P : BusState → Type 0) → ((mask : List LineMask) → P (f mask)) → P m → P (elim o as (λ _. BusState) [ Some mask ↦ f mask | None ↦ m ])
+chosen None m f P h k = k
+chosen (Some mask) m f P h k = h mask
+
+by-src : (m : BusState) (bank byte : ℕ) (P : BusState → Type 0) → ((src : ℕ) (srcs : List ℕ) → P (record m { rom_src = src; ram_src = srcs })) → P (after_src m bank byte)
+unfolding after_src
+by-src m bank byte P h = either (nat_lt 0 (chips_of m bank)) _ _ P (h _ _) (h _ _)
+
+by-ram : (m : BusState) (bank n : ℕ) (P : BusState → Type 0) → ((ram : List ℕ) → P (record m { ram = ram })) → P (after_ram m bank n)
+unfolding after_ram with_ram
+by-ram m bank n P h = either (has_chip m bank (src_of m bank)) _ _ P (h _) (h _)
+
+by-status : (m : BusState) (bank k n : ℕ) (P : BusState → Type 0) → ((status : List ℕ) → P (record m { status = status })) → P (after_status m bank k n)
+unfolding after_status with_status
+by-status m bank k n P h = either (nat_lt (src_of m bank / 16 / 4) (chips_of m bank)) _ _ P (h _) (h _)
+
+by-ram-port : (m : BusState) (bank n : ℕ) (P : BusState → Type 0) → ((ports : List ℕ) (chains : List (List ℕ)) → P (record m { ram_ports = ports; chains = chains })) → P (after_ram_port m bank n)
+unfolding after_ram_port chains_clocked
+by-ram-port m bank n P h = either (has_chip m bank (src_of m bank)) _ _ P (h _ _) (h _ _)
+
+by-rom-port : (m : BusState) (n : ℕ) (P : BusState → Type 0) → ((ports : List ℕ) (chains : List (List ℕ)) → P (record m { rom_ports = ports; chains = chains })) → P (after_rom_port m n)
+unfolding after_rom_port chains_clocked
+by-rom-port m n P h = chosen (masks_on m.board (m.rom_src / 16)) m _ P (λ mask. h _ _) (h _ _)
+
+-- ROM stays
+pub keeps-rom : (op : Op) (s : Regs) (m : BusState) → (bus_after op s m).rom ≡ m.rom
+keeps-rom op s m =
+    let P : Op → BusState → Type 0 = λ o n. n.rom ≡ m.rom in
+    let Q : BusState → Type 0 = λ n. n.rom ≡ m.rom in
+    by-bus op s m P (λ o. refl) (λ k. by-src m s.dcl _ Q (λ a b. refl)) (by-ram m s.dcl s.acc Q (λ a. refl)) (by-ram-port m s.dcl s.acc Q (λ a b. refl)) (by-rom-port m s.acc Q (λ a b. refl))
+    (by-status m s.dcl 0 s.acc Q (λ a. refl), by-status m s.dcl 1 s.acc Q (λ a. refl), by-status m s.dcl 2 s.acc Q (λ a. refl), by-status m s.dcl 3 s.acc Q (λ a. refl))
+
+-- RAM characters stay, but for WRM
+pub keeps-ram : (op : Op) (s : Regs) (m : BusState) → op ≢ Wrm → (bus_after op s m).ram ≡ m.ram
+keeps-ram op s m off =
+    let P : Op → BusState → Type 0 = λ o n. o ≢ Wrm → n.ram ≡ m.ram in
+    let Q : BusState → Type 0 = λ n. n.ram ≡ m.ram in
+    by-bus op s m P (λ o h. refl) (λ k h. by-src m s.dcl _ Q (λ a b. refl)) (λ h. absurd (h refl)) (λ h. by-ram-port m s.dcl s.acc Q (λ a b. refl)) (λ h. by-rom-port m s.acc Q (λ a b. refl))
+    ((λ h. by-status m s.dcl 0 s.acc Q (λ a. refl)), (λ h. by-status m s.dcl 1 s.acc Q (λ a. refl)), (λ h. by-status m s.dcl 2 s.acc Q (λ a. refl)), (λ h. by-status m s.dcl 3 s.acc Q (λ a. refl))) off
+
+-- status characters stay, but for WR0 to WR3
+pub keeps-status : (op : Op) (s : Regs) (m : BusState) → (WritesStatus op → ⊥) → (bus_after op s m).status ≡ m.status
+keeps-status op s m off =
+    let P : Op → BusState → Type 0 = λ o n. (WritesStatus o → ⊥) → n.status ≡ m.status in
+    let Q : BusState → Type 0 = λ n. n.status ≡ m.status in
+    by-bus op s m P (λ o h. refl) (λ k h. by-src m s.dcl _ Q (λ a b. refl)) (λ h. by-ram m s.dcl s.acc Q (λ a. refl)) (λ h. by-ram-port m s.dcl s.acc Q (λ a b. refl)) (λ h. by-rom-port m s.acc Q (λ a b. refl))
+    ((λ h. absurd (h (inl refl))), (λ h. absurd (h (inr (inl refl)))), (λ h. absurd (h (inr (inr (inl refl))))), (λ h. absurd (h (inr (inr (inr refl)))))) off
+
+-- what holds where RAM characters, status characters and SRC bytes are others holds after an instruction that writes no port
+keeps-but : (op : Op) (s : Regs) (m : BusState) → (WritesPort op → ⊥) → (Q : BusState → Type 0) → ((ram status srcs : List ℕ) (src : ℕ) → Q (record m { ram = ram; status = status; rom_src = src; ram_src = srcs })) → Q (bus_after op s m)
+keeps-but op s m off Q h =
+    let P : Op → BusState → Type 0 = λ o n. (WritesPort o → ⊥) → Q n in
+    by-bus op s m P (λ o h0. h _ _ _ _) (λ k h0. by-src m s.dcl _ Q (λ a b. h _ _ _ _)) (λ h0. by-ram m s.dcl s.acc Q (λ a. h _ _ _ _)) (λ h0. absurd (h0 (inl refl))) (λ h0. absurd (h0 (inr refl)))
+    ((λ h0. by-status m s.dcl 0 s.acc Q (λ a. h _ _ _ _)), (λ h0. by-status m s.dcl 1 s.acc Q (λ a. h _ _ _ _)), (λ h0. by-status m s.dcl 2 s.acc Q (λ a. h _ _ _ _)), (λ h0. by-status m s.dcl 3 s.acc Q (λ a. h _ _ _ _))) off
+
+level-same : (m : BusState) (ram status srcs : List ℕ) (src : ℕ) (line : Line) → level (record m { ram = ram; status = status; rom_src = src; ram_src = srcs }) line ≡ level m line
+unfolding level latch_of is_pulled
+level-same m ram status srcs src (Rom c k) = refl
+level-same m ram status srcs src (Ram b c k) = refl
+level-same m ram status srcs src (Chain n i) = refl
+
+map-same : {A : Type 0} (f g : A → ℕ) (xs : List A) → ((x : A) → f x ≡ g x) → map f xs ≡ map g xs
+map-same f g [] h = refl
+map-same f g (x ∷ xs) h = rw (h x, map-same f g xs h) refl
+
+-- lines and lamps stay, but for WMP and WRR
+pub keeps-level : (op : Op) (s : Regs) (m : BusState) (line : Line) → (WritesPort op → ⊥) → level_on (bus_after op s m) line ≡ level_on m line
+keeps-level op s m line off =
+    keeps-but op s m off (λ n. level_on n line ≡ level_on m line)
+    (λ ram status srcs src. ap (λ (v : ℕ). if exists_on m.board line then v else 0) (level-same m ram status srcs src line))
+
+pub keeps-lamps : (op : Op) (s after : Regs) (m : BusState) → (WritesPort op → ⊥) → probe_text (after, bus_after op s m) place.Lamps ≡ probe_text (s, m) place.Lamps
+keeps-lamps op s after m off =
+    keeps-but op s m off (λ n. probe_text (after, n) place.Lamps ≡ probe_text (s, m) place.Lamps)
+    (λ ram status srcs src. ap or_dash (map-same (λ (line : Line). lamp_mark (level (record m { ram = ram; status = status; rom_src = src; ram_src = srcs }) line)) (λ line. lamp_mark (level m line)) m.board.lamps.items (λ line. ap lamp_mark (level-same m ram status srcs src line))))
+
+keeps-src : (op : Op) (s : Regs) (m : BusState) → ((k : ℕ) → op ≢ Src k) → (bus_after op s m).rom_src ≡ m.rom_src
+keeps-src op s m off =
+    let P : Op → BusState → Type 0 = λ o n. ((k : ℕ) → o ≢ Src k) → n.rom_src ≡ m.rom_src in
+    let Q : BusState → Type 0 = λ n. n.rom_src ≡ m.rom_src in
+    by-bus op s m P (λ o h. refl) (λ k h. absurd (h k refl)) (λ h. by-ram m s.dcl s.acc Q (λ a. refl)) (λ h. by-ram-port m s.dcl s.acc Q (λ a b. refl)) (λ h. by-rom-port m s.acc Q (λ a b. refl))
+    ((λ h. by-status m s.dcl 0 s.acc Q (λ a. refl)), (λ h. by-status m s.dcl 1 s.acc Q (λ a. refl)), (λ h. by-status m s.dcl 2 s.acc Q (λ a. refl)), (λ h. by-status m s.dcl 3 s.acc Q (λ a. refl))) off
+
+levels-same : (m n : BusState) (f : ℕ → Line) → ((line : Line) → level_on n line ≡ level_on m line) → levels_on n f ≡ levels_on m f
+levels-same m n f h = rw (h (f 0), h (f 1), h (f 2), h (f 3)) refl
+
+-- ---- rows
+
+text-owed : (p : Probe) (t : Machine) (n : ℕ) → probe_text (with_owed t n) p ≡ probe_text t p
+text-owed place.Acc t n = refl
+text-owed place.Cy t n = refl
+text-owed place.Pc t n = refl
+text-owed (place.Register k) t n = refl
+text-owed place.Dcl t n = refl
+text-owed (place.Rom at) t n = refl
+text-owed (place.Ram bank src) t n = refl
+text-owed (place.Status bank high k) t n = refl
+text-owed (place.Level line) t n = refl
+text-owed (place.RomPort chip) t n = refl
+text-owed (place.RamPort bank chip) t n = refl
+text-owed (place.Chain k) t n = refl
+text-owed place.Src t n = refl
+text-owed place.Lamps t n = refl
+text-owed place.Returns t n = refl
+
+-- no place tells what is owed
+pub row-owed : (probes : List Probe) (t : Machine) (n : ℕ) → row probes (with_owed t n) ≡ row probes t
+row-owed [] t n = refl
+row-owed (p ∷ ps) t n = rw (text-owed p t n, row-owed ps t n) refl
+
+one-op : (owed : Bool) (op : Op) (at did : Option Op) → did ≡ Some op → did ≡ (if owed then None else at) → (owed ≡ false) × (at ≡ Some op)
+one-op true op at did e f = absurd (cc)
+one-op false op at did e f = (refl, sym f ∙ e)
+
+does : (op : Op) (t : Machine) → eqb t.0.owed 1 ≡ false → instruction_at t.0 t.1 ≡ Some op → after_cycles 1 t ≡ effect op t.0 t.1
+unfolding cycle_of
+does op t off at = rw (off, at) refl
+
+-- the bus that an instruction leaves
+pub went-leaves : (stops : Stops) (left : ℕ) (t u : Machine) (w : Went) (op : Op) → WentTo stops left t u w → w.op ≡ Some op → u ≡ (u.0, bus_after op t.0 t.1)
+went-leaves stops left t u w op h e =
+    let is = one-op (eqb t.0.owed 1) op (instruction_at t.0 t.1) w.op e h.op in
+    let rest = rests left w.cycles t u h.ran h.some in
+    ap (λ (m : BusState). (u.0, m)) (ap (λ (v : Machine). v.1) rest ∙ ap (λ (v : Machine). v.1) (does op t is.0 is.1))
+
+-- a row that rests
+row-of : (stops : Stops) (left : ℕ) (t u : Machine) (w : Went) (before after : Regs) (probes : List Probe) (did : Option Op) → WentTo stops left t u w → before ≡ t.0 → after ≡ u.0 → w.op ≡ did → RowRests did before after probes → row probes t ≡ row probes u
+row-of stops left t u w before after probes None h e f is same = absurd same
+row-of stops left t u w before after probes (Some op) h e f is same =
+    sym (ap (row probes) (went-leaves stops left t u w op h is ∙ ap (λ (r : Regs). (r, bus_after op t.0 t.1)) (sym f) ∙ ap (λ (r : Regs). (after, bus_after op r t.1)) (sym e))
+    ∙ same t.1 ∙ ap (λ (r : Regs). row probes (r, t.1)) e)
+
+pub row-rests : (stops : Stops) (left : ℕ) (t u : Machine) (w : Went) (before after : Regs) (probes : List Probe) → WentTo stops left t u w → before ≡ t.0 → after ≡ u.0 → RowRests w.op before after probes → row probes t ≡ row probes u
+row-rests stops left t u w before after probes h e f same = row-of stops left t u w before after probes w.op h e f refl same
+
+-- ---- what is found of a place
+
+pub not-so : {A : Type 0} (r : Bool) → not r ≡ true → (A → r ≡ true) → A → ⊥
+not-so true off on a = absurd (cc)
+not-so false off on a = let e = on a in absurd (cc)
+
+pub rom-rests : (op : Op) (before after : Regs) (at : ℕ) → Rests op before after (place.Rom at)
+rom-rests op before after at m = ap (λ (xs : List ℕ). hex_2 (slice_index xs at)) (keeps-rom op before m)
+
+pub ram-rests : (op : Op) (before after : Regs) (bank src : ℕ) → op ≢ Wrm → Rests op before after (place.Ram bank src)
+ram-rests op before after bank src off m = ap (λ (xs : List ℕ). digit_text (slice_index xs (ram_place bank src))) (keeps-ram op before m off)
+
+pub status-rests : (op : Op) (before after : Regs) (bank high k : ℕ) → (WritesStatus op → ⊥) → Rests op before after (place.Status bank high k)
+status-rests op before after bank high k off m = ap (λ (xs : List ℕ). digit_text (slice_index xs (status_place bank high k))) (keeps-status op before m off)
+
+pub level-rests : (op : Op) (before after : Regs) (line : Line) → (WritesPort op → ⊥) → Rests op before after (place.Level line)
+level-rests op before after line off m = ap digit_text (keeps-level op before m line off)
+
+pub rom-port-rests : (op : Op) (before after : Regs) (chip : ℕ) → (WritesPort op → ⊥) → Rests op before after (place.RomPort chip)
+rom-port-rests op before after chip off m = ap digit_text (levels-same m (bus_after op before m) (λ k. Rom chip k) (λ line. keeps-level op before m line off))
+
+pub ram-port-rests : (op : Op) (before after : Regs) (bank chip : ℕ) → (WritesPort op → ⊥) → Rests op before after (place.RamPort bank chip)
+ram-port-rests op before after bank chip off m = ap digit_text (levels-same m (bus_after op before m) (λ k. Ram bank chip k) (λ line. keeps-level op before m line off))
+
+pub chain-rests : (op : Op) (before after : Regs) (k : ℕ) → (WritesPort op → ⊥) → Rests op before after (place.Chain k)
+chain-rests op before after k off m =
+    keeps-but op before m off (λ n. probe_text (after, n) (place.Chain k) ≡ probe_text (before, m) (place.Chain k)) (λ ram status srcs src. refl)
+
+pub src-rests : (op : Op) (before after : Regs) → ((k : ℕ) → op ≢ Src k) → Rests op before after place.Src
+src-rests op before after off m = ap hex_2 (keeps-src op before m off)
+
+pub lamps-rest : (op : Op) (before after : Regs) → (WritesPort op → ⊥) → Rests op before after place.Lamps
+lamps-rest op before after off m = keeps-lamps op before after m off
+
+pub returns-rest : (op : Op) (before after : Regs) → before.ret ≡ after.ret → Rests op before after place.Returns
+returns-rest op before after e m = ap (λ (xs : List ℕ). one_word (map address_text xs)) (sym e)

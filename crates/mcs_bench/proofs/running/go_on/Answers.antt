@@ -1,0 +1,39 @@
+use Rattle.std.proofs.Common.{◌≡◌, ◌≢◌, ◌∙◌, ◌&&◌, Some, None, refl, sym, ap, eqb, subst}
+use Rattle.mcs_model.specs.declared.regs.Regs.{Regs}
+use Rattle.mcs_model.specs.Bus.{BusState}
+use Rattle.mcs_model.specs.Effect.{instruction_at}
+use Rattle.mcs_model.specs.Listed.{is_listed}
+use Rattle.mcs_model.specs.Running.{Machine, Stops, InstructionRan}
+use Rattle.mcs_bench.specs.Runs.{WillChange, mark_of}
+use Rattle.mcs_bench.proofs.Runs.{outside-at, went-idle, went-does}
+use Rattle.mcs_bench.proofs.running.go_on.Goals as goal
+
+pub returns-then-regs-eq1 : goal.returns-then-regs-eq1
+returns-then-regs-eq1 c =
+    let stops : Stops = record { breaks = c.args.breaks.now; watches = c.args.watches.now } in
+    let s : Machine = (c.args.cpu.now, c.args.rig.now) in
+    let owed : s.0.owed ≡ 1 = sym (ap (λ (r : Regs). r.owed) c.regs-regs.ensures.same) ∙ c.if-regs-eq1.true in
+    went-idle stops c.args.left s (c.finish.new.cpu, c.args.rig.now) c.finish.result c.requires owed (ap (λ (r : Regs). (r, c.args.rig.now)) c.finish.ensures.state) c.finish.ensures.cycles c.finish.ensures.mark c.finish.ensures.op
+
+pub returns-in-None : goal.returns-in-None
+returns-in-None c =
+    let s : Machine = (c.args.cpu.now, c.args.rig.now) in
+    let free : s.0.owed ≢ 1 = λ e. c.if-regs-eq1.false (ap (λ (r : Regs). r.owed) c.regs-regs.ensures.same ∙ e) in
+    let at : None ≡ instruction_at s.0 s.1 = sym c.in-None.is ∙ c.instruction.ensures ∙ ap (λ (r : Regs). instruction_at (record c.args.cpu.now { pc = r.pc }) c.args.rig.now) c.regs-regs.ensures.same in
+    (outside-at s free at, refl, refl)
+
+pub returns-in-Some : goal.returns-in-Some
+returns-in-Some c =
+    let stops : Stops = record { breaks = c.args.breaks.now; watches = c.args.watches.now } in
+    let s : Machine = (c.args.cpu.now, c.args.rig.now) in
+    let t : Machine = (c.set_pc.new.self, c.run_instruction-cycles.new.rig) in
+    let same = c.regs-regs.ensures.same in
+    let here : record c.args.cpu.now { pc = c.regs-regs.result.pc } ≡ c.args.cpu.now = ap (λ (r : Regs). record c.args.cpu.now { pc = r.pc }) same in
+    let free : s.0.owed ≢ 1 = λ e. c.if-regs-eq1.false (ap (λ (r : Regs). r.owed) same ∙ e) in
+    let at : instruction_at s.0 s.1 ≡ Some c.in-Some.op = sym (sym c.in-Some.is ∙ c.instruction.ensures ∙ ap (λ (r : Regs). instruction_at r c.args.rig.now) here) in
+    let ran : InstructionRan c.args.left s t c.run_instruction-cycles.result.1 =
+    subst (λ (r : Regs). InstructionRan c.args.left s (r, c.run_instruction-cycles.new.rig) c.run_instruction-cycles.result.1) (sym c.set_pc.ensures)
+    (subst (λ (r : Regs). InstructionRan c.args.left (r, c.args.rig.now) (record c.run_instruction-cycles.new.cpu { pc = c.run_instruction-cycles.result.0 }, c.run_instruction-cycles.new.rig) c.run_instruction-cycles.result.1) here c.run_instruction-cycles.ensures.ran) in
+    let told : WillChange c.args.watches.now s c.foresees-changes.result = subst (λ (r : Regs). WillChange c.args.watches.now (r, c.args.rig.now) c.foresees-changes.result) here c.foresees-changes.ensures in
+    let mark = c.mark_at.ensures.mark ∙ ap (λ p. mark_of (eqb c.set_pc.new.self.owed 0 && is_listed c.args.breaks.now p) c.foresees-changes.result) (sym (ap (λ (r : Regs). r.pc) c.set_pc.ensures)) in
+    went-does stops c.args.left s t c.in-Some.op c.foresees-changes.result _ free at ran c.run_instruction-cycles.ensures.goes told mark refl

@@ -1,0 +1,37 @@
+//! A bench that goes on as a run does, instruction by instruction.
+ghost use Rattle.std.specs.Prelude.{◌≡◌, ◌<◌, true, MatchOption};
+ghost use Rattle.mcs_model.specs.Command.{machine_of, stops_of, with_machine};
+ghost use Rattle.mcs_model.specs.Running.{is_outside};
+ghost use Rattle.mcs_bench.specs.Runs.{WentTo, stop_by};
+
+use crate::bench::Bench;
+use crate::running::{Went, go_on, stop_by};
+use mcs_model::stop::Stop;
+
+impl Bench {
+    /// The instruction at the counter, or the second cycle of one that was begun, for at most `left` cycles; none where
+    /// no cycle can follow, and then nothing changes. It is no command, and takes no memory.
+    #[inline(always)]
+    pub fn go_on(&mut self, left: u32) -> Option<Went>
+        requires { 0 < left }
+        ensures went { MatchOption result
+            ((is_outside (machine_of self.old) ≡ true) × (self.new ≡ self.old))
+            (WentTo (stops_of self.old) left (machine_of self.old) (machine_of self.new)) }
+        ensures rest { self.new ≡ with_machine self.old (machine_of self.new) }
+    {
+        go_on(
+            &mut self.cpu,
+            &mut self.rig,
+            &self.breaks,
+            &self.watches,
+            left,
+        )
+    }
+
+    /// Why a run stops here, by what stopped it but for a code outside and its end.
+    pub fn stop_by(&self, mark: Option<Stop>) -> Stop
+        ensures { result ≡ stop_by (machine_of self.now) mark }
+    {
+        stop_by(&self.cpu, &self.rig, mark)
+    }
+}
