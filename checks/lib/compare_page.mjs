@@ -40,6 +40,9 @@ const NAMES = ("NOP CLB CLC IAC CMC CMA RAL RAR TCC DAC TCS STC DAA KBP DCL WRM 
   + "RD0 RD1 RD2 RD3 WPM").split(" ");
 const PLACES = [() => "acc", () => "cy", () => "pc", () => "dcl", () => `r${below(17)}`, () => `rom.${below(4200)}`,
   () => `ram.${below(9)}.${below(260)}`, () => `st.${below(8)}.${below(16)}.${below(5)}`];
+const PROBES = PLACES.concat([() => "lamps", () => "ret", () => `rom${below(17)}.${below(4)}`,
+  () => `ram${below(8)}.${below(5)}.${below(4)}`, () => `chain${below(4)}.${below(81)}`, () => `rom${below(16)}`, () => `ram${below(8)}.${below(4)}`,
+  () => `chain${below(4)}`, () => "src"]);
 
 function program() {
   const lines = [];
@@ -62,6 +65,8 @@ function line() {
     () => `test ${below(3)}`, () => "reset", () => `break ${below(400)}`, () => `unbreak ${below(400)}`,
     () => `watch ${below(9)} ${below(3) ? below(64) : below(260)}`, () => `unwatch ${below(8)} ${below(64)}`,
     () => pick(["lamps", "regs", "breaks", "watches", "ports", "board", "seq", "state"]), () => pick(["ports", "watches", "regs"]),
+    () => `count ${1 + below(2000)}`,
+    () => `trace ${1 + below(300)} ${Array.from({ length: below(5) }, () => either(PROBES)).join(" ")}`,
     () => `ram ${below(9)}`, () => `list ${below(4200)} ${below(260)}`, () => `wire\n${pick(BOARDS)}.`, () => program().trimEnd(),
     () => `foo ${below(9)}`, () => "", () => "\tregs \r", () => "wire now", () => "x".repeat(250 + below(10)), () => "caf\u00e9"]);
 }
@@ -112,6 +117,7 @@ function settle(engine, file) {
 const BEGINNINGS = {
   regs: /^acc /, list: /^[0-9A-F]{3} /, lamps: /^lamps /, ram: /^ram /, board: /^board$/, ports: /^ports$/,
   map: /^map lines /, breaks: /^breaks /, watches: /^watches /, seq: /^seq /, state: /^state seq /,
+  count: /^count ran /, trace: /^trace ran /,
 };
 
 // Whether the page tells which answers belong to which input.

@@ -1,12 +1,12 @@
 -- What would happen in a run: the instructions that it would begin, each with the machine before it and after it. (Our own
 -- choice: an instruction of two cycles does all its work in the first, so the machine after that one is told.)
-use Rattle.std.specs.Prelude.{ℕ, ◌+◌, ◌%◌, Bool, true, false, not, ◌&&◌, ◌==◌, List, map, Option, Some}
+use Rattle.std.specs.Prelude.{◌≡◌, ℕ, ◌+◌, ◌%◌, ◌++◌, Bool, true, false, not, ◌&&◌, ◌==◌, List, map, Option, Some}
 use Rattle.std.specs.List.{count_by, filter, range_with_len}
 use Rattle.mcs_model.specs.declared.op.Op.{Op}
 use Rattle.mcs_model.specs.declared.op.Op.TheVariants.{Jcn, Isz}
 use Rattle.mcs_model.specs.declared.stop.Stop.{Stop}
 use Rattle.mcs_model.specs.Effect.{instruction_at}
-use Rattle.mcs_model.specs.Running.{Machine, Stops, after_cycles, run_length, stop_at}
+use Rattle.mcs_model.specs.Running.{Machine, Stops, after_cycles, after_run, run_length, stop_at}
 
 -- an instruction that is begun: how many cycles of the run were done before it, and the machine before and after its work
 pub record Begun : Type 0 where
@@ -36,7 +36,7 @@ begun_in stops n s = begun_within (run_length stops n s) s
 abbrev pub is_at : ℕ → Begun → Bool
 is_at at b = b.before.0.pc == at
 
--- whether the counter goes on elsewhere than behind two words
+-- whether the counter goes on elsewhere than behind two words: a JCN or an ISZ that would jump there is no jump
 abbrev pub jumps : Begun → Bool
 jumps b = not (b.after.0.pc == (b.before.0.pc + 2) % 4096)
 
@@ -63,3 +63,17 @@ is_branch s at = may_jump (instruction_at (record s.0 { pc = at }) s.1)
 -- why a run stops after a cycle from s to t, except for its end
 abbrev pub early_stop : Stops → Machine → Machine → Option Stop
 early_stop stops s t = stop_at stops 0 1 s t
+
+-- ---- a run in two parts
+
+-- the same instruction, of a run that began k cycles earlier
+abbrev pub later : ℕ → Begun → Begun
+later k b = record b { cycles = k + b.cycles }
+
+-- Where nothing stops a run of m + n cycles before its end, it begins what a run of m cycles begins, and then what a run of
+-- n cycles from there begins.
+abbrev pub BegunAddUp : Type 0
+BegunAddUp =
+    (stops : Stops) (m n : ℕ) (s : Machine) → run_length stops (m + n) s ≡ m + n →
+    begun_in stops (m + n) s
+    ≡ begun_in stops m s ++ map (later m) (begun_in stops n (after_run stops m s))

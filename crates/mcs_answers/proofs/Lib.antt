@@ -6,4 +6,5 @@ pub mod ListedWords
 pub mod RegisterTexts
 pub mod StateText
 pub mod AheadLines
+pub mod AheadLaws
 pub mod Resting

@@ -18,7 +18,7 @@ use Rattle.mcs_bench.specs.declared.running.Went.{Went}
 use Rattle.mcs_bench.specs.Runs.{WentTo}
 use Rattle.mcs_ahead.specs.declared.probe.Probe.{Probe}
 use Rattle.mcs_ahead.specs.declared.probe.Probe.TheVariants as place
-use Rattle.mcs_ahead.specs.Probes.{level_on, probe_text, row}
+use Rattle.mcs_ahead.specs.Probes.{level_on, levels_on, probe_text, row}
 use Rattle.mcs_trace.proofs.Steps.{rests, with_owed}
 use Rattle.mcs_answers.specs.Resting.{Rests, RowRests, WritesPort, WritesStatus}
 
@@ -157,6 +157,16 @@ keeps-lamps op s after m off =
     keeps-but op s m off (λ n. probe_text (after, n) place.Lamps ≡ probe_text (s, m) place.Lamps)
     (λ ram status srcs src. ap or_dash (map-same (λ (line : Line). lamp_mark (level (record m { ram = ram; status = status; rom_src = src; ram_src = srcs }) line)) (λ line. lamp_mark (level m line)) m.board.lamps.items (λ line. ap lamp_mark (level-same m ram status srcs src line))))
 
+keeps-src : (op : Op) (s : Regs) (m : BusState) → ((k : ℕ) → op ≢ Src k) → (bus_after op s m).rom_src ≡ m.rom_src
+keeps-src op s m off =
+    let P : Op → BusState → Type 0 = λ o n. ((k : ℕ) → o ≢ Src k) → n.rom_src ≡ m.rom_src in
+    let Q : BusState → Type 0 = λ n. n.rom_src ≡ m.rom_src in
+    by-bus op s m P (λ o h. refl) (λ k h. absurd (h k refl)) (λ h. by-ram m s.dcl s.acc Q (λ a. refl)) (λ h. by-ram-port m s.dcl s.acc Q (λ a b. refl)) (λ h. by-rom-port m s.acc Q (λ a b. refl))
+    ((λ h. by-status m s.dcl 0 s.acc Q (λ a. refl)), (λ h. by-status m s.dcl 1 s.acc Q (λ a. refl)), (λ h. by-status m s.dcl 2 s.acc Q (λ a. refl)), (λ h. by-status m s.dcl 3 s.acc Q (λ a. refl))) off
+
+levels-same : (m n : BusState) (f : ℕ → Line) → ((line : Line) → level_on n line ≡ level_on m line) → levels_on n f ≡ levels_on m f
+levels-same m n f h = rw (h (f 0), h (f 1), h (f 2), h (f 3)) refl
+
 -- ---- rows
 
 text-owed : (p : Probe) (t : Machine) (n : ℕ) → probe_text (with_owed t n) p ≡ probe_text t p
@@ -169,6 +179,10 @@ text-owed (place.Rom at) t n = refl
 text-owed (place.Ram bank src) t n = refl
 text-owed (place.Status bank high k) t n = refl
 text-owed (place.Level line) t n = refl
+text-owed (place.RomPort chip) t n = refl
+text-owed (place.RamPort bank chip) t n = refl
+text-owed (place.Chain k) t n = refl
+text-owed place.Src t n = refl
 text-owed place.Lamps t n = refl
 text-owed place.Returns t n = refl
 
@@ -219,6 +233,19 @@ status-rests op before after bank high k off m = ap (λ (xs : List ℕ). digit_t
 
 pub level-rests : (op : Op) (before after : Regs) (line : Line) → (WritesPort op → ⊥) → Rests op before after (place.Level line)
 level-rests op before after line off m = ap digit_text (keeps-level op before m line off)
+
+pub rom-port-rests : (op : Op) (before after : Regs) (chip : ℕ) → (WritesPort op → ⊥) → Rests op before after (place.RomPort chip)
+rom-port-rests op before after chip off m = ap digit_text (levels-same m (bus_after op before m) (λ k. Rom chip k) (λ line. keeps-level op before m line off))
+
+pub ram-port-rests : (op : Op) (before after : Regs) (bank chip : ℕ) → (WritesPort op → ⊥) → Rests op before after (place.RamPort bank chip)
+ram-port-rests op before after bank chip off m = ap digit_text (levels-same m (bus_after op before m) (λ k. Ram bank chip k) (λ line. keeps-level op before m line off))
+
+pub chain-rests : (op : Op) (before after : Regs) (k : ℕ) → (WritesPort op → ⊥) → Rests op before after (place.Chain k)
+chain-rests op before after k off m =
+    keeps-but op before m off (λ n. probe_text (after, n) (place.Chain k) ≡ probe_text (before, m) (place.Chain k)) (λ ram status srcs src. refl)
+
+pub src-rests : (op : Op) (before after : Regs) → ((k : ℕ) → op ≢ Src k) → Rests op before after place.Src
+src-rests op before after off m = ap hex_2 (keeps-src op before m off)
 
 pub lamps-rest : (op : Op) (before after : Regs) → (WritesPort op → ⊥) → Rests op before after place.Lamps
 lamps-rest op before after off m = keeps-lamps op before after m off

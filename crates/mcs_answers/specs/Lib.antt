@@ -3,5 +3,6 @@ pub mod Commas
 pub mod Keys
 pub mod Version1
 pub mod AheadTexts
+pub mod AheadLaws
 pub mod Traced
 pub mod Resting

@@ -62,8 +62,8 @@ const STATE_BYTES: usize = 30
     + (10 + 5 * WATCHES)
     + 1;
 
-/// Bytes of the longest place of `trace`, that of the lamps, after a space.
-pub(crate) const PROBE_BYTES: usize = 1 + LAMPS;
+/// Bytes of the longest place of `trace`, that of a chain, after a space; while it is put, a comma stands behind it.
+pub(crate) const PROBE_BYTES: usize = 1 + CHAIN_ITEM_BYTES;
 
 /// Bytes of the longest answer of several lines: that to `ram` or that to `ports`.
 const LINES_BYTES: usize = if RAM_BYTES < PORTS_BYTES {

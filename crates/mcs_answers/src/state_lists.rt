@@ -5,6 +5,7 @@ ghost use Rattle.std.specs.List.{flat_map, range_with_len};
 ghost use Rattle.arrayvec.specs.ArrayVec.{array_vec_len};
 ghost use Rattle.mcs_model.specs.Boards.{chain_count, has_key};
 ghost use Rattle.mcs_model.specs.QueryText.{address_text, bank_items, chain_item, key_item, key_items, one_word, ram_item, ram_items, rom_items, row_items, watch_text};
+ghost use Rattle.mcs_ahead.specs.Probes.{bits_text};
 ghost use Rattle.mcs_answers.specs.Commas.{with_comma, with_commas};
 
 use crate::digits::{put, put_address, put_byte, put_digit};
@@ -206,6 +207,20 @@ fn put_chain_item(answer: &mut ArrayVec<u8, ANSWER_BYTES>, bench: &Bench, n: u8)
         put_digit(answer, b"", bench.chain_bit(n, i).get());
     }
     put(answer, b",");
+}
+
+/// Adds the bits of a chain, or a dash where the board has no such chain.
+pub(crate) fn put_chain_bits(answer: &mut ArrayVec<u8, ANSWER_BYTES>, bench: &Bench, n: u8)
+    requires { array_vec_len answer.old + CHAIN_ITEM_BYTES ≤ ANSWER_BYTES }
+    ensures text { answer.new.items ≡ answer.old.items ++ bits_text bench.now.bus n }
+    ensures count { length answer.new.items ≤ length answer.old.items + CHAIN_ITEM_BYTES }
+{
+    if usize::from(n) < bench.board().chain_count() {
+        put_chain_item(answer, bench, n);
+        answer.pop();
+    } else {
+        put(answer, b"-");
+    }
 }
 
 /// Adds the list of the chains.

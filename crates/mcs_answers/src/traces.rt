@@ -1,14 +1,15 @@
 //! The answer to `trace`.
-ghost use Rattle.std.specs.Prelude.{◌≡◌, ◌+◌, ◌*◌, ◌<◌, ◌≤◌, ◌++◌, ◌↔◌, [], codes, length, true, IfOk};
+ghost use Rattle.std.specs.Prelude.{◌≡◌, ℕ, ◌+◌, ◌*◌, ◌<◌, ◌≤◌, ◌++◌, ◌↔◌, [], codes, length, true, IfOk};
 ghost use Rattle.std.specs.Fmt.{decimal};
 ghost use Rattle.arrayvec.specs.ArrayVec.{array_vec_len};
 ghost use Rattle.mcs_model.specs.Command.{machine_of};
 ghost use Rattle.mcs_model.specs.QueryText.{address_text, as_line};
-ghost use Rattle.mcs_ahead.specs.Probes.{probe_text, row};
+ghost use Rattle.mcs_model.specs.declared.board.Line.TheVariants as line;
+ghost use Rattle.mcs_ahead.specs.Probes.{levels_on, probe_text, row};
 ghost use Rattle.mcs_answers.specs.AheadTexts.{is_told, trace_answer};
 ghost use Rattle.mcs_answers.specs.Resting.{Rests, RowRests, WritesPort, WritesStatus};
 ghost use Rattle.mcs_answers.specs.Traced.{IsTraced, cycle_lines, line_when};
-ghost use Rattle.mcs_model.specs.declared.op.Op.TheVariants.{Wrm};
+ghost use Rattle.mcs_model.specs.declared.op.Op.TheVariants.{Src, Wrm};
 ghost use Rattle.std.specs.List.{flat_map};
 
 use crate::ahead::put_head;
@@ -16,15 +17,38 @@ use crate::digits::{put, put_address, put_byte, put_digit};
 use crate::lists::put_lamp_marks;
 use crate::numbers::put_counted;
 use crate::size::{ANSWER_BYTES, PROBE_BYTES};
-use crate::state_lists::put_address_list;
+use crate::state_lists::{put_address_list, put_chain_bits};
 use arrayvec::ArrayVec;
 use mcs_ahead::{PROBES, Probe};
 use mcs_bench::Bench;
+use mcs_model::board::Line;
 use mcs_model::op::Op;
 use mcs_model::regs::Regs;
 use mcs_model::stop::Stop;
 use mcs_nibble::Addr;
 use std::alloc::{AllocError, Global};
+
+/// The levels of the four lines of a ROM's port, as one number.
+fn rom_levels(bench: &Bench, chip: u8) -> u8
+    ensures value { result ≡ levels_on bench.now.bus (line.Rom chip) }
+    ensures digit { result < 16 }
+{
+    bench.level(Line::Rom(chip, 0)).get()
+        + 2 * bench.level(Line::Rom(chip, 1)).get()
+        + 4 * bench.level(Line::Rom(chip, 2)).get()
+        + 8 * bench.level(Line::Rom(chip, 3)).get()
+}
+
+/// The levels of the four lines of a RAM chip's port, as one number.
+fn ram_levels(bench: &Bench, bank: u8, chip: u8) -> u8
+    ensures value { result ≡ levels_on bench.now.bus (line.Ram bank chip) }
+    ensures digit { result < 16 }
+{
+    bench.level(Line::Ram(bank, chip, 0)).get()
+        + 2 * bench.level(Line::Ram(bank, chip, 1)).get()
+        + 4 * bench.level(Line::Ram(bank, chip, 2)).get()
+        + 8 * bench.level(Line::Ram(bank, chip, 3)).get()
+}
 
 /// Adds what stands at a place, after a space.
 fn put_probe(answer: &mut ArrayVec<u8, ANSWER_BYTES>, probe: Probe, bench: &Bench)
@@ -46,6 +70,13 @@ fn put_probe(answer: &mut ArrayVec<u8, ANSWER_BYTES>, probe: Probe, bench: &Benc
             put_digit(answer, b" ", bench.status(bank.get(), high, k.get()).get());
         }
         Probe::Level(line) => put_digit(answer, b" ", bench.level(line).get()),
+        Probe::RomPort(chip) => put_digit(answer, b" ", rom_levels(bench, chip)),
+        Probe::RamPort(bank, chip) => put_digit(answer, b" ", ram_levels(bench, bank, chip)),
+        Probe::Chain(n) => {
+            put(answer, b" ");
+            put_chain_bits(answer, bench, n);
+        }
+        Probe::Src => put_byte(answer, b" ", bench.rom_src()),
         Probe::Lamps => {
             put(answer, b" ");
             put_lamp_marks(answer, bench);
@@ -66,22 +97,15 @@ fn put_row(answer: &mut ArrayVec<u8, ANSWER_BYTES>, probes: &[Probe], bench: &Be
     }
 }
 
-/// Adds the line of an instruction: how many cycles were done before it, its address, and a row. What another one holds,
-/// in which it is begun, is lost.
-fn add_line(
-    text: &mut Vec<u8>,
-    line: &mut ArrayVec<u8, ANSWER_BYTES>,
-    cycles: u32,
-    at: Addr,
-    row: &[u8],
-) -> Result<(), AllocError>
+/// Adds the line of an instruction: how many cycles were done before it, its address, and a row.
+fn add_line(text: &mut Vec<u8>, cycles: u32, at: Addr, row: &[u8]) -> Result<(), AllocError>
     ensures { IfOk result (λ _. text.new.items
         ≡ text.old.items ++ as_line (decimal cycles ++ codes " " ++ address_text at ++ row.now)) }
 {
-    line.clear();
-    put_counted(line, b"", u64::from(cycles));
-    put_address(line, b" ", at);
-    text.extend_from_slice(line.as_slice())?;
+    let mut start = ArrayVec::new();
+    put_counted(&mut start, b"", u64::from(cycles));
+    put_address(&mut start, b" ", at);
+    text.extend_from_slice(start.as_slice())?;
     text.extend_from_slice(row)?;
     text.extend_from_slice(b"\n")
 }
@@ -107,6 +131,13 @@ fn writes_status(op: &Op) -> bool
     matches!(op, Op::Wr0 | Op::Wr1 | Op::Wr2 | Op::Wr3)
 }
 
+/// Whether an instruction is SRC, which alone changes the SRC byte that the ROMs keep.
+fn writes_src(op: &Op) -> bool
+    ensures { (k : ℕ) → op.now ≡ Src k → result ≡ true }
+{
+    matches!(op, Op::Src(_))
+}
+
 /// Whether an instruction that led from some registers to others surely leaves what stands at a place as it is. No text is
 /// made of it.
 fn rests(probe: Probe, op: &Op, before: &Regs, after: &Regs) -> bool
@@ -122,6 +153,10 @@ fn rests(probe: Probe, op: &Op, before: &Regs, after: &Regs) -> bool
         Probe::Ram(_, _) => !writes_ram(op),
         Probe::Status(_, _, _) => !writes_status(op),
         Probe::Level(_) => !writes_port(op),
+        Probe::RomPort(_) => !writes_port(op),
+        Probe::RamPort(_, _) => !writes_port(op),
+        Probe::Chain(_) => !writes_port(op),
+        Probe::Src => !writes_src(op),
         Probe::Lamps => !writes_port(op),
         Probe::Returns => before.ret == after.ret,
     }
@@ -156,7 +191,6 @@ struct Traced {
 /// becomes the one after it.
 fn add_told(
     text: &mut Vec<u8>,
-    line: &mut ArrayVec<u8, ANSWER_BYTES>,
     before: &mut ArrayVec<u8, ANSWER_BYTES>,
     cycles: u32,
     at: Addr,
@@ -173,7 +207,7 @@ fn add_told(
     let mut after = ArrayVec::new();
     put_row(&mut after, probes, bench);
     if probes.is_empty() || after.as_slice() != before.as_slice() {
-        add_line(text, line, cycles, at, after.as_slice())?;
+        add_line(text, cycles, at, after.as_slice())?;
         before.clear();
         put(before, after.as_slice());
         return Ok(true);
@@ -185,7 +219,6 @@ fn add_told(
 /// before it becomes the one after it. It may be told that they are the same.
 fn add_went(
     text: &mut Vec<u8>,
-    line: &mut ArrayVec<u8, ANSWER_BYTES>,
     before: &mut ArrayVec<u8, ANSWER_BYTES>,
     cycles: u32,
     regs: &Regs,
@@ -210,7 +243,7 @@ fn add_went(
     if rests && !probes.is_empty() {
         return Ok(0);
     }
-    if add_told(text, line, before, cycles, regs.pc, probes, bench)? {
+    if add_told(text, before, cycles, regs.pc, probes, bench)? {
         return Ok(1);
     }
     Ok(0)
@@ -229,7 +262,6 @@ fn add_lines(
     ensures { IfOk result (λ traced. IsTraced probes.now n bench.now traced text.new.items) }
 {
     let mut lines = 0u32;
-    let mut line = ArrayVec::new();
     let mut before = ArrayVec::new();
     put_row(&mut before, probes, bench);
     let mut copy = bench.copy(alloc)?;
@@ -246,16 +278,7 @@ fn add_lines(
             }
             Some(went) => {
                 let rests = all_rest(probes, went.op, &regs, &copy.regs());
-                lines += add_went(
-                    text,
-                    &mut line,
-                    &mut before,
-                    done,
-                    &regs,
-                    rests,
-                    probes,
-                    &copy,
-                )?;
+                lines += add_went(text, &mut before, done, &regs, rests, probes, &copy)?;
                 done += went.cycles;
                 if let Some(why) = went.mark {
                     return Ok(Traced {

@@ -8,7 +8,7 @@ mod files;
 #[cfg(test)]
 mod first_version;
 #[cfg(test)]
-mod maps;
+mod questions;
 #[cfg(test)]
 mod refused;
 #[cfg(test)]

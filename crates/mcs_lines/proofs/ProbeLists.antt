@@ -1,61 +1,89 @@
 -- The places that are read one after the other.
-use Rattle.std.proofs.Common.{◌≡◌, ℕ, zero, suc, ◌+◌, ◌-◌, ◌<◌, ◌≤◌, List, [], ◌∷◌, ◌++◌, length, Result, Ok, Err, refl, sym, ap, ◌∙◌, append_assoc, length-append, arith}
+use Rattle.std.proofs.Common.{◌≡◌, ℕ, zero, suc, ◌+◌, ◌≤◌, Bool, true, false, List, [], ◌∷◌, ◌++◌, length, Result, Ok, Err, refl, sym, ap, ◌∙◌, append_assoc, length-append, arith}
 use Rattle.mcs_ahead.specs.declared.probe.Probe.{Probe}
 use Rattle.mcs_lines.specs.declared.requests.LineFault.{LineFault}
-use Rattle.mcs_lines.specs.declared.requests.LineFault.TheVariants.{NotACommand}
-use Rattle.mcs_lines.specs.ProbeWords.{probe_of, probes_within, with_probe}
+use Rattle.mcs_lines.specs.declared.requests.LineFault.TheVariants.{NotACommand, BadNumber, LineTooLong, NotAscii}
+use Rattle.mcs_lines.specs.ProbeWords.{is_bad_number, probe_of, probes_within, with_probe}
 
--- places before what the rest comes to
-abbrev pub put_before : List Probe → Result (List Probe) LineFault → Result (List Probe) LineFault
-put_before ps (Ok qs) = Ok (ps ++ qs)
-put_before ps (Err fault) = Err fault
+-- what was read, places or a bad number, before what the rest comes to
+abbrev pub put_before : Bool → List Probe → Result (List Probe) LineFault → Result (List Probe) LineFault
+put_before false ps (Ok qs) = Ok (ps ++ qs)
+put_before true ps (Ok qs) = Err BadNumber
+put_before bad ps (Err fault) = Err fault
 
--- all words come to what those that were read and the rest come to
-pub record IsRead (all rest : List (List ℕ)) (ps : List Probe) : Type 0 where
-  pub few : length ps ≤ 16
-  pub so_far : probes_within 16 all ≡ put_before ps (probes_within (16 - length ps) rest)
+-- all words come to what those that were read and the rest come to, with room for so many more
+pub record IsRead (all rest : List (List ℕ)) (ps : List Probe) (room : ℕ) (bad : Bool) : Type 0 where
+  pub few : length ps + room ≤ 16
+  pub so_far : probes_within 16 all ≡ put_before bad ps (probes_within room rest)
 
-before-none : (r : Result (List Probe) LineFault) → r ≡ put_before [] r
+before-none : (r : Result (List Probe) LineFault) → r ≡ put_before false [] r
 before-none (Ok qs) = refl
 before-none (Err fault) = refl
 
-pub read-none : (all : List (List ℕ)) → IsRead all all []
+pub read-none : (all : List (List ℕ)) → IsRead all all [] 16 false
 read-none all = record { few = omega arith; so_far = before-none (probes_within 16 all) }
 
-before-one : (ps : List Probe) (p : Probe) (r : Result (List Probe) LineFault) → put_before ps (with_probe (Ok p) r) ≡ put_before (ps ++ p ∷ []) r
-before-one ps p (Ok qs) = ap Ok (sym (append_assoc ps (p ∷ []) qs))
-before-one ps p (Err fault) = refl
+before-one : (bad : Bool) (ps : List Probe) (p : Probe) (r : Result (List Probe) LineFault) → put_before bad ps (with_probe (Ok p) r) ≡ put_before bad (ps ++ p ∷ []) r
+before-one false ps p (Ok qs) = ap Ok (sym (append_assoc ps (p ∷ []) qs))
+before-one true ps p (Ok qs) = refl
+before-one false ps p (Err fault) = refl
+before-one true ps p (Err fault) = refl
+
+before-bad : (bad : Bool) (ps : List Probe) (r : Result (List Probe) LineFault) → put_before bad ps (with_probe (Err BadNumber) r) ≡ put_before true ps r
+before-bad false ps (Ok qs) = refl
+before-bad true ps (Ok qs) = refl
+before-bad false ps (Err fault) = refl
+before-bad true ps (Err fault) = refl
+
+-- whether it is more than a bad number
+abbrev pub Decides : LineFault → Type 0
+Decides fault = (r : Result (List Probe) LineFault) → with_probe (Err fault) r ≡ Err fault
+
+before-fault : (bad : Bool) (ps : List Probe) (fault : LineFault) → put_before bad ps (Err fault) ≡ Err fault
+before-fault false ps fault = refl
+before-fault true ps fault = refl
 
 -- what stands before a word more
-at-word : (all rest words : List (List ℕ)) (ps : List Probe) (word : List ℕ) → length ps < 16 → rest ≡ word ∷ words → IsRead all rest ps → probes_within 16 all ≡ put_before ps (with_probe (probe_of word) (probes_within (15 - length ps) words))
-at-word all rest words ps word l cut r =
-    let room : 16 - length ps ≡ suc (15 - length ps) = omega arith in
-    r.so_far ∙ ap (λ ws. put_before ps (probes_within (16 - length ps) ws)) cut ∙ ap (λ m. put_before ps (probes_within m (word ∷ words))) room
+at-word : (all rest words : List (List ℕ)) (ps : List Probe) (room less : ℕ) (bad : Bool) (word : List ℕ) → room ≡ suc less → rest ≡ word ∷ words → IsRead all rest ps room bad → probes_within 16 all ≡ put_before bad ps (with_probe (probe_of word) (probes_within less words))
+at-word all rest words ps room less bad word e cut r =
+    r.so_far ∙ ap (λ ws. put_before bad ps (probes_within room ws)) cut ∙ ap (λ m. put_before bad ps (probes_within m (word ∷ words))) e
 
-pub read-more : (all rest words : List (List ℕ)) (ps qs : List Probe) (word : List ℕ) (p : Probe) → length ps < 16 → rest ≡ word ∷ words → probe_of word ≡ Ok p → qs ≡ ps ++ p ∷ [] → IsRead all rest ps → IsRead all words qs
-read-more all rest words ps qs word p l cut read is r =
+-- a place more
+pub read-more : (all rest words : List (List ℕ)) (ps qs : List Probe) (room less : ℕ) (bad : Bool) (word : List ℕ) (p : Probe) → room ≡ suc less → rest ≡ word ∷ words → probe_of word ≡ Ok p → qs ≡ ps ++ p ∷ [] → IsRead all rest ps room bad → IsRead all words qs less bad
+read-more all rest words ps qs room less bad word p e cut read is r =
     let len : length qs ≡ length ps + 1 = ap length is ∙ length-append ps (p ∷ []) in
-    let room : 15 - length ps ≡ 16 - length qs = omega arith in
+    let few = r.few in
     record {
       few = omega arith;
-      so_far = at-word all rest words ps word l cut r
-          ∙ ap (λ o. put_before ps (with_probe o (probes_within (15 - length ps) words))) read
-          ∙ before-one ps p (probes_within (15 - length ps) words)
-          ∙ ap (λ v. put_before v (probes_within (15 - length ps) words)) (sym is)
-          ∙ ap (λ m. put_before qs (probes_within m words)) room;
+      so_far = at-word all rest words ps room less bad word e cut r
+          ∙ ap (λ o. put_before bad ps (with_probe o (probes_within less words))) read
+          ∙ before-one bad ps p (probes_within less words)
+          ∙ ap (λ v. put_before bad v (probes_within less words)) (sym is);
+    }
+
+-- a bad number
+pub read-bad : (all rest words : List (List ℕ)) (ps : List Probe) (room less : ℕ) (bad : Bool) (word : List ℕ) → room ≡ suc less → rest ≡ word ∷ words → probe_of word ≡ Err BadNumber → IsRead all rest ps room bad → IsRead all words ps less true
+read-bad all rest words ps room less bad word e cut read r =
+    let few = r.few in
+    record {
+      few = omega arith;
+      so_far = at-word all rest words ps room less bad word e cut r
+          ∙ ap (λ o. put_before bad ps (with_probe o (probes_within less words))) read
+          ∙ before-bad bad ps (probes_within less words);
     }
 
 -- a word that is no place
-pub read-refused : (all rest words : List (List ℕ)) (ps : List Probe) (word : List ℕ) (fault : LineFault) → length ps < 16 → rest ≡ word ∷ words → probe_of word ≡ Err fault → IsRead all rest ps → probes_within 16 all ≡ Err fault
-read-refused all rest words ps word fault l cut read r =
-    at-word all rest words ps word l cut r
-    ∙ ap (λ o. put_before ps (with_probe o (probes_within (15 - length ps) words))) read
+pub read-refused : (all rest words : List (List ℕ)) (ps : List Probe) (room less : ℕ) (bad : Bool) (word : List ℕ) (fault : LineFault) → Decides fault → room ≡ suc less → rest ≡ word ∷ words → probe_of word ≡ Err fault → IsRead all rest ps room bad → probes_within 16 all ≡ Err fault
+read-refused all rest words ps room less bad word fault d e cut read r =
+    at-word all rest words ps room less bad word e cut r
+    ∙ ap (λ o. put_before bad ps (with_probe o (probes_within less words))) read
+    ∙ ap (put_before bad ps) (d (probes_within less words))
+    ∙ before-fault bad ps fault
 
 -- one word too many
-pub read-full : (all rest words : List (List ℕ)) (ps : List Probe) (word : List ℕ) → length ps ≡ 16 → rest ≡ word ∷ words → IsRead all rest ps → probes_within 16 all ≡ Err NotACommand
-read-full all rest words ps word full cut r =
-    let room : 16 - length ps ≡ 0 = omega arith in
-    r.so_far ∙ ap (λ ws. put_before ps (probes_within (16 - length ps) ws)) cut ∙ ap (λ m. put_before ps (probes_within m (word ∷ words))) room
+pub read-full : (all rest words : List (List ℕ)) (ps : List Probe) (room : ℕ) (bad : Bool) (word : List ℕ) → room ≡ 0 → rest ≡ word ∷ words → IsRead all rest ps room bad → probes_within 16 all ≡ Err NotACommand
+read-full all rest words ps room bad word e cut r =
+    r.so_far ∙ ap (λ ws. put_before bad ps (probes_within room ws)) cut ∙ ap (λ m. put_before bad ps (probes_within m (word ∷ words))) e ∙ before-fault bad ps NotACommand
 
 none-within : (room : ℕ) → probes_within room [] ≡ Ok []
 none-within zero = refl
@@ -66,6 +94,25 @@ all-before [] = refl
 all-before (p ∷ ps) = ap (λ (l : List Probe). p ∷ l) (all-before ps)
 
 -- no word more
-pub read-all : (all rest : List (List ℕ)) (ps : List Probe) → rest ≡ [] → IsRead all rest ps → probes_within 16 all ≡ Ok ps
-read-all all rest ps none r =
-    r.so_far ∙ ap (λ ws. put_before ps (probes_within (16 - length ps) ws)) none ∙ ap (put_before ps) (none-within (16 - length ps)) ∙ ap Ok (all-before ps)
+at-end : (all rest : List (List ℕ)) (ps : List Probe) (room : ℕ) (bad : Bool) → rest ≡ [] → IsRead all rest ps room bad → probes_within 16 all ≡ put_before bad ps (Ok [])
+at-end all rest ps room bad none r =
+    r.so_far ∙ ap (λ ws. put_before bad ps (probes_within room ws)) none ∙ ap (put_before bad ps) (none-within room)
+
+pub read-all : (all rest : List (List ℕ)) (ps : List Probe) (room : ℕ) (bad : Bool) → bad ≡ false → rest ≡ [] → IsRead all rest ps room bad → probes_within 16 all ≡ Ok ps
+read-all all rest ps room bad good none r =
+    at-end all rest ps room bad none r ∙ ap (λ b. put_before b ps (Ok [])) good ∙ ap Ok (all-before ps)
+
+pub read-all-bad : (all rest : List (List ℕ)) (ps : List Probe) (room : ℕ) (bad : Bool) → bad ≡ true → rest ≡ [] → IsRead all rest ps room bad → probes_within 16 all ≡ Err BadNumber
+read-all-bad all rest ps room bad e none r =
+    at-end all rest ps room bad none r ∙ ap (λ b. put_before b ps (Ok [])) e
+
+-- what is no bad number is told whatever follows
+pub decides-other : (fault : LineFault) → is_bad_number fault ≡ false → Decides fault
+decides-other fault e (Ok ps) = refl
+decides-other fault e (Err other) = rw e refl
+
+pub bad-number : (fault : LineFault) → is_bad_number fault ≡ true → fault ≡ BadNumber
+bad-number BadNumber e = refl
+bad-number NotACommand e = absurd (cc)
+bad-number LineTooLong e = absurd (cc)
+bad-number NotAscii e = absurd (cc)

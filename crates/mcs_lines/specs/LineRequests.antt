@@ -1,8 +1,8 @@
 -- What a command line asks for.
-use Rattle.std.specs.Prelude.{ℕ, List, [], ◌∷◌, codes, length, nat_lt, Result, Ok, Err, if◌then◌else◌}
+use Rattle.std.specs.Prelude.{ℕ, List, [], ◌∷◌, codes, length, nat_lt, Option, Some, None, Result, Ok, Err, if◌then◌else◌}
 use Rattle.std.specs.List.{list_all}
 use Rattle.std.specs.Str.{bytes_eq}
-use Rattle.mcs_model.specs.declared.limits.TheConstants.{LINE_BYTES, RUN_CYCLES}
+use Rattle.mcs_model.specs.declared.limits.TheConstants.{LINE_BYTES}
 use Rattle.mcs_ahead.specs.declared.probe.Probe.{Probe}
 use Rattle.mcs_ahead.specs.declared.probe.TheConstants.{PROBES}
 use Rattle.mcs_lines.specs.declared.requests.Request.{Request}
@@ -10,19 +10,21 @@ use Rattle.mcs_lines.specs.declared.requests.Request.TheVariants.{Nothing, Refus
 use Rattle.mcs_lines.specs.declared.requests.LineFault.{LineFault}
 use Rattle.mcs_lines.specs.declared.requests.LineFault.TheVariants.{NotACommand, BadNumber, LineTooLong, NotAscii}
 use Rattle.mcs_lines.specs.ProbeWords.{probes_within}
-use Rattle.mcs_lines.specs.Requests.{request_of_word, with_number}
+use Rattle.mcs_lines.specs.Requests.{cycles_of, request_of_word}
 use Rattle.mcs_lines.specs.Words.{is_plain_byte, words_of}
 
--- a number of cycles, and places
-abbrev pub traced : ℕ → Result (List Probe) LineFault → Request
-traced n (Ok probes) = if nat_lt 0 n then Trace n (record { items = probes }) else Refused BadNumber
-traced n (Err fault) = Refused fault
+-- a number of cycles, if it is one, and places
+abbrev pub trace_of : Option ℕ → Result (List Probe) LineFault → Request
+trace_of n (Err fault) = Refused fault
+trace_of None (Ok probes) = Refused BadNumber
+trace_of (Some n) (Ok probes) = Trace n (record { items = probes })
 
--- `trace`
+-- `trace`, by the words after it
 abbrev pub trace_request : List (List ℕ) → Request
 trace_request [] = Refused NotACommand
-trace_request (n ∷ places) = with_number RUN_CYCLES n (λ n. traced n (probes_within PROBES places))
+trace_request (n ∷ places) = trace_of (cycles_of n) (probes_within PROBES places)
 
+-- by the words of the line
 abbrev pub request_of_words : List (List ℕ) → Request
 request_of_words [] = Nothing
 request_of_words (word ∷ words) =

@@ -1,5 +1,5 @@
 -- The places that `trace` names. (Our own choice.)
-use Rattle.std.specs.Prelude.{ℕ, zero, suc, ◌==◌, ◌&&◌, List, [], ◌∷◌, codes, Option, Some, None, Result, Ok, Err, if◌then◌else◌}
+use Rattle.std.specs.Prelude.{ℕ, zero, suc, ◌==◌, Bool, true, false, List, [], ◌∷◌, codes, Option, Some, None, Result, Ok, Err, if◌then◌else◌}
 use Rattle.std.specs.Str.{bytes_eq}
 use Rattle.mcs_model.specs.Numerals.{number_up_to}
 use Rattle.mcs_model.specs.declared.command.Command.{Command}
@@ -8,7 +8,7 @@ use Rattle.mcs_model.specs.declared.command.Place.{Place}
 use Rattle.mcs_model.specs.declared.command.Place.TheVariants as place
 use Rattle.mcs_model.specs.declared.board.Line.TheVariants as line
 use Rattle.mcs_ahead.specs.declared.probe.Probe.{Probe}
-use Rattle.mcs_ahead.specs.declared.probe.Probe.TheVariants.{Acc, Cy, Pc, Register, Dcl, Rom, Ram, Status, Level, Lamps, Returns}
+use Rattle.mcs_ahead.specs.declared.probe.Probe.TheVariants.{Acc, Cy, Pc, Register, Dcl, Rom, Ram, Status, Level, RomPort, RamPort, Chain, Src, Lamps, Returns}
 use Rattle.mcs_lines.specs.declared.requests.Request.{Request}
 use Rattle.mcs_lines.specs.declared.requests.Request.TheVariants.{Change, Refused}
 use Rattle.mcs_lines.specs.declared.requests.LineFault.{LineFault}
@@ -27,33 +27,35 @@ probe_at (place.Rom at byte) = Rom at
 probe_at (place.Ram bank src n) = Ram bank src
 probe_at (place.Status bank high k n) = Status bank high k
 
--- that of a `poke`
-abbrev pub poked : Command → Result Probe LineFault
-poked (Poke place) = Ok (probe_at place)
-poked _ = Err NotACommand
+-- the place that a `poke` fills, or why it is refused
+abbrev pub probe_of_command : Command → Result Probe LineFault
+probe_of_command (Poke place) = Ok (probe_at place)
+probe_of_command _ = Err NotACommand
 
-abbrev pub requested : Request → Result Probe LineFault
-requested (Change command) = poked command
-requested (Refused fault) = Err fault
-requested _ = Err NotACommand
+abbrev pub probe_of_request : Request → Result Probe LineFault
+probe_of_request (Change command) = probe_of_command command
+probe_of_request (Refused fault) = Err fault
+probe_of_request _ = Err NotACommand
 
--- a place of `poke`, as `poke` with the value 0 names it
+-- a place of `poke`, as `poke` with the value 0 names it: 0 can stand in each of them
 abbrev pub probe_of_poke : List ℕ → Result Probe LineFault
-probe_of_poke word = requested (poke_of word (codes "0"))
+probe_of_poke word = probe_of_request (poke_of word (codes "0"))
 
--- what was read, or the refusal of a number
+-- what was read, or the refusal of a number that is out of its range
 abbrev pub or_bad_probe : Option Probe → Result Probe LineFault
 or_bad_probe None = Err BadNumber
 or_bad_probe (Some p) = Ok p
 
--- ---- lines
+-- ---- the lines of a board, by their numbers
 
+-- `romC.K`
 abbrev pub rom_line : List ℕ → List ℕ → Option Probe
 rom_line c k = elim (number_up_to 15 c) [
   | None ↦ None
   | Some c ↦ elim (number_up_to 3 k) [ None ↦ None | Some k ↦ Some (Level (line.Rom c k)) ]
 ]
 
+-- `ramB.C.K`
 abbrev pub ram_line : List ℕ → List ℕ → List ℕ → Option Probe
 ram_line b c k = elim (number_up_to 7 b) [
   | None ↦ None
@@ -63,46 +65,89 @@ ram_line b c k = elim (number_up_to 7 b) [
   ]
 ]
 
+-- `chainN.I`
 abbrev pub chain_line : List ℕ → List ℕ → Option Probe
 chain_line n i = elim (number_up_to 3 n) [
   | None ↦ None
   | Some n ↦ elim (number_up_to 79 i) [ None ↦ None | Some i ↦ Some (Level (line.Chain n i)) ]
 ]
 
--- what follows a beginning
+-- ---- its ports and chains
+
+-- `romC`
+abbrev pub rom_port : List ℕ → Option Probe
+rom_port c = elim (number_up_to 15 c) [ None ↦ None | Some c ↦ Some (RomPort c) ]
+
+-- `ramB.C`
+abbrev pub ram_port : List ℕ → List ℕ → Option Probe
+ram_port b c = elim (number_up_to 7 b) [
+  | None ↦ None
+  | Some b ↦ elim (number_up_to 3 c) [ None ↦ None | Some c ↦ Some (RamPort b c) ]
+]
+
+-- `chainN`
+abbrev pub chain_bits : List ℕ → Option Probe
+chain_bits n = elim (number_up_to 3 n) [ None ↦ None | Some n ↦ Some (Chain n) ]
+
+-- ---- the parts of a word
+
+-- what follows the beginning of a word, if the word begins so
 abbrev pub after_word : List ℕ → List ℕ → Option (List ℕ)
 after_word [] bytes = Some bytes
 after_word (p ∷ ps) [] = None
 after_word (p ∷ ps) (b ∷ bytes) = if b == p then after_word ps bytes else None
 
--- the number that follows it, where another one follows after a dot
-abbrev pub numbered : List ℕ → List ℕ → List ℕ → Option (List ℕ)
-numbered start name k = elim (after_word start name) [
+-- the number that follows a beginning
+abbrev pub number_after : List ℕ → List ℕ → Option (List ℕ)
+number_after start name = elim (after_word start name) [
   | None ↦ None
-  | Some n ↦ if is_number n && is_number k then Some n else None
+  | Some n ↦ if is_number n then Some n else None
 ]
 
--- ---- by the parts of a word
+-- the same, where the part after the next dot is a number too
+abbrev pub number_before : List ℕ → List ℕ → List ℕ → Option (List ℕ)
+number_before start name k = if is_number k then number_after start name else None
 
-abbrev pub probe_whole : List ℕ → Result Probe LineFault
-probe_whole word =
-    if bytes_eq word (codes "lamps") then Ok Lamps
-    else if bytes_eq word (codes "ret") then Ok Returns
-    else probe_of_poke word
+-- ---- a word, by its parts between dots
 
--- `romC.K`, `chainN.I`
-abbrev pub probe_two : List ℕ → List ℕ → List ℕ → Result Probe LineFault
-probe_two word name k = elim (numbered (codes "rom") name k) [
-  | Some c ↦ or_bad_probe (rom_line c k)
-  | None ↦ elim (numbered (codes "chain") name k) [
-    | Some n ↦ or_bad_probe (chain_line n k)
+-- `romC`, `chainN`, and the places of `poke`
+abbrev pub probe_named : List ℕ → Result Probe LineFault
+probe_named word = elim (number_after (codes "rom") word) [
+  | Some c ↦ or_bad_probe (rom_port c)
+  | None ↦ elim (number_after (codes "chain") word) [
+    | Some n ↦ or_bad_probe (chain_bits n)
     | None ↦ probe_of_poke word
   ]
 ]
 
--- `ramB.C.K`
+-- of one part, or of more than three
+abbrev pub probe_whole : List ℕ → Result Probe LineFault
+probe_whole word =
+    if bytes_eq word (codes "lamps") then Ok Lamps
+    else if bytes_eq word (codes "ret") then Ok Returns
+    else if bytes_eq word (codes "src") then Ok Src
+    else probe_named word
+
+-- `ramB.C`, and the places of `poke`
+abbrev pub probe_in_bank : List ℕ → List ℕ → List ℕ → Result Probe LineFault
+probe_in_bank word name c = elim (number_before (codes "ram") name c) [
+  | Some b ↦ or_bad_probe (ram_port b c)
+  | None ↦ probe_of_poke word
+]
+
+-- of two parts
+abbrev pub probe_two : List ℕ → List ℕ → List ℕ → Result Probe LineFault
+probe_two word name k = elim (number_before (codes "rom") name k) [
+  | Some c ↦ or_bad_probe (rom_line c k)
+  | None ↦ elim (number_before (codes "chain") name k) [
+    | Some n ↦ or_bad_probe (chain_line n k)
+    | None ↦ probe_in_bank word name k
+  ]
+]
+
+-- of three parts
 abbrev pub probe_three : List ℕ → List ℕ → List ℕ → List ℕ → Result Probe LineFault
-probe_three word name c k = elim (numbered (codes "ram") name k) [
+probe_three word name c k = elim (number_before (codes "ram") name k) [
   | Some b ↦ if is_number c then or_bad_probe (ram_line b c k) else probe_of_poke word
   | None ↦ probe_of_poke word
 ]
@@ -112,17 +157,28 @@ probe_parts word (name ∷ k ∷ []) = probe_two word name k
 probe_parts word (name ∷ c ∷ k ∷ []) = probe_three word name c k
 probe_parts word parts = probe_whole word
 
+-- what is looked at by a word
 abbrev pub probe_of : List ℕ → Result Probe LineFault
 probe_of word = probe_parts word (parts_of_word word)
 
 -- ---- places in turn
 
-abbrev pub with_probe : Result Probe LineFault → Result (List Probe) LineFault → Result (List Probe) LineFault
-with_probe (Err fault) rest = Err fault
-with_probe (Ok p) (Err fault) = Err fault
-with_probe (Ok p) (Ok ps) = Ok (p ∷ ps)
+abbrev pub is_bad_number : LineFault → Bool
+is_bad_number BadNumber = true
+is_bad_number fault = false
 
--- at most that many places; the first word that is none, or is one too many, is refused
+-- of two words that are refused: a bad number gives way to the other
+abbrev pub first_fault : LineFault → LineFault → LineFault
+first_fault fault other = if is_bad_number fault then other else fault
+
+-- a place before others
+abbrev pub with_probe : Result Probe LineFault → Result (List Probe) LineFault → Result (List Probe) LineFault
+with_probe (Ok p) (Ok ps) = Ok (p ∷ ps)
+with_probe (Ok p) (Err fault) = Err fault
+with_probe (Err fault) (Ok ps) = Err fault
+with_probe (Err fault) (Err other) = Err (first_fault fault other)
+
+-- The places that words name, at most so many. Words that name none, or are too many, are refused before bad numbers.
 abbrev pub probes_within : ℕ → List (List ℕ) → Result (List Probe) LineFault
 probes_within room [] = Ok []
 probes_within zero (word ∷ words) = Err NotACommand

@@ -103,9 +103,16 @@ request_alone word =
     else if bytes_eq word (codes "map") then Begin Map
     else Refused NotACommand
 
+-- a number of cycles, as a run takes it: at least one
+abbrev pub cycles_of : List ℕ → Option ℕ
+cycles_of word = elim (number_up_to RUN_CYCLES word) [
+  | None ↦ None
+  | Some n ↦ if nat_lt 0 n then Some n else None
+]
+
 -- `count`
 abbrev pub count_request : List ℕ → Request
-count_request n = with_number RUN_CYCLES n (λ n. if nat_lt 0 n then Count n else Refused BadNumber)
+count_request n = elim (cycles_of n) [ None ↦ Refused BadNumber | Some n ↦ Count n ]
 
 -- a line of two words
 abbrev pub request_with_one : List ℕ → List ℕ → Request
@@ -141,7 +148,7 @@ request_with_two word a b =
     else if bytes_eq word (codes "list") then list_request a b
     else Refused NotACommand
 
--- by the number of words
+-- a word and those after it, by their number; but for `trace`
 abbrev pub request_of_word : List ℕ → List (List ℕ) → Request
 request_of_word word [] = request_alone word
 request_of_word word (a ∷ []) = request_with_one word a

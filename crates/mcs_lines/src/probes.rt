@@ -1,6 +1,6 @@
 //! The places that `trace` names.
 ghost use Rattle.std.specs.Prelude.{◌≡◌, ◌∷◌, [], Ok, Err, None, Some, MatchOption, MatchResult};
-ghost use Rattle.mcs_lines.specs.ProbeWords.{after_word, chain_line, numbered, or_bad_probe, poked, probe_at, probe_of, probe_of_poke, probe_three, probe_two, probe_whole, probes_within, ram_line, rom_line};
+ghost use Rattle.mcs_lines.specs.ProbeWords.{after_word, chain_bits, chain_line, is_bad_number, number_after, number_before, or_bad_probe, probe_at, probe_in_bank, probe_named, probe_of, probe_of_command, probe_of_poke, probe_three, probe_two, probe_whole, probes_within, ram_line, ram_port, rom_line, rom_port};
 ghost use Rattle.mcs_lines.specs.Words.{words_of};
 
 use crate::numbers::{bank, is_number, nibble, status};
@@ -29,9 +29,9 @@ fn probe_at(place: Place) -> Probe
     }
 }
 
-/// The place of a `poke`.
-fn poked(command: &Command) -> Result<Probe, LineFault>
-    ensures { result ≡ poked command.now }
+/// The place that a `poke` fills.
+fn probe_of_command(command: &Command) -> Result<Probe, LineFault>
+    ensures { result ≡ probe_of_command command.now }
 {
     match command {
         Command::Poke(place) => Ok(probe_at(*place)),
@@ -44,7 +44,7 @@ fn read_place(word: &[u8]) -> Result<Probe, LineFault>
     ensures { result ≡ probe_of_poke word.now }
 {
     match read_poke(word, b"0") {
-        Request::Change(command) => poked(&command),
+        Request::Change(command) => probe_of_command(&command),
         Request::Refused(fault) => Err(fault),
         _ => Err(LineFault::NotACommand),
     }
@@ -83,7 +83,28 @@ fn chain_line(n: &[u8], i: &[u8]) -> Option<Probe>
     Some(Probe::Level(Line::Chain(n, number_within(i, 79)? as u8)))
 }
 
-/// What follows a beginning.
+/// The port of a ROM.
+fn rom_port(c: &[u8]) -> Option<Probe>
+    ensures { result ≡ rom_port c.now }
+{
+    Some(Probe::RomPort(nibble(c)?.get()))
+}
+
+/// The port of a RAM chip.
+fn ram_port(b: &[u8], c: &[u8]) -> Option<Probe>
+    ensures { result ≡ ram_port b.now c.now }
+{
+    Some(Probe::RamPort(bank(b)?.get(), status(c)?.get()))
+}
+
+/// The bits of a chain.
+fn chain_bits(n: &[u8]) -> Option<Probe>
+    ensures { result ≡ chain_bits n.now }
+{
+    Some(Probe::Chain(status(n)?.get()))
+}
+
+/// What follows the beginning of a word, if the word begins so.
 fn after_word<'a>(start: &[u8], name: &'a [u8]) -> Option<&'a [u8]>
     ensures { MatchOption result (after_word start.now name.now ≡ None)
         (λ rest. after_word start.now name.now ≡ Some rest.now) }
@@ -101,17 +122,38 @@ fn after_word<'a>(start: &[u8], name: &'a [u8]) -> Option<&'a [u8]>
     }
 }
 
-/// The number that follows it, where another one follows after a dot.
-fn numbered<'a>(start: &[u8], name: &'a [u8], k: &[u8]) -> Option<&'a [u8]>
-    ensures { MatchOption result (numbered start.now name.now k.now ≡ None)
-        (λ n. numbered start.now name.now k.now ≡ Some n.now) }
+/// The number that follows a beginning.
+fn number_after<'a>(start: &[u8], name: &'a [u8]) -> Option<&'a [u8]>
+    ensures { MatchOption result (number_after start.now name.now ≡ None)
+        (λ n. number_after start.now name.now ≡ Some n.now) }
 {
     let n = after_word(start, name)?;
-    if is_number(n) && is_number(k) {
-        Some(n)
+    if is_number(n) { Some(n) } else { None }
+}
+
+/// The same, where the part after the next dot is a number too.
+fn number_before<'a>(start: &[u8], name: &'a [u8], k: &[u8]) -> Option<&'a [u8]>
+    ensures { MatchOption result (number_before start.now name.now k.now ≡ None)
+        (λ n. number_before start.now name.now k.now ≡ Some n.now) }
+{
+    if is_number(k) {
+        number_after(start, name)
     } else {
         None
     }
+}
+
+/// A whole port or chain of the board, or a place of `poke`.
+fn read_named(word: &[u8]) -> Result<Probe, LineFault>
+    ensures { result ≡ probe_named word.now }
+{
+    if let Some(c) = number_after(b"rom", word) {
+        return or_bad_number(rom_port(c));
+    }
+    if let Some(n) = number_after(b"chain", word) {
+        return or_bad_number(chain_bits(n));
+    }
+    read_place(word)
 }
 
 /// A place whose word has one part, or more than three.
@@ -122,29 +164,41 @@ fn read_whole(word: &[u8]) -> Result<Probe, LineFault>
         Ok(Probe::Lamps)
     } else if equals(word, b"ret") {
         Ok(Probe::Returns)
+    } else if equals(word, b"src") {
+        Ok(Probe::Src)
     } else {
-        read_place(word)
+        read_named(word)
     }
+}
+
+/// The port of a RAM chip, or a place of `poke` whose word has two parts.
+fn read_in_bank(word: &[u8], name: &[u8], c: &[u8]) -> Result<Probe, LineFault>
+    ensures { result ≡ probe_in_bank word.now name.now c.now }
+{
+    if let Some(b) = number_before(b"ram", name, c) {
+        return or_bad_number(ram_port(b, c));
+    }
+    read_place(word)
 }
 
 /// A place whose word has two parts.
 fn read_two(word: &[u8], name: &[u8], k: &[u8]) -> Result<Probe, LineFault>
     ensures { result ≡ probe_two word.now name.now k.now }
 {
-    if let Some(c) = numbered(b"rom", name, k) {
+    if let Some(c) = number_before(b"rom", name, k) {
         return or_bad_number(rom_line(c, k));
     }
-    if let Some(n) = numbered(b"chain", name, k) {
+    if let Some(n) = number_before(b"chain", name, k) {
         return or_bad_number(chain_line(n, k));
     }
-    read_place(word)
+    read_in_bank(word, name, k)
 }
 
 /// A place whose word has three parts.
 fn read_three(word: &[u8], name: &[u8], c: &[u8], k: &[u8]) -> Result<Probe, LineFault>
     ensures { result ≡ probe_three word.now name.now c.now k.now }
 {
-    if let Some(b) = numbered(b"ram", name, k) {
+    if let Some(b) = number_before(b"ram", name, k) {
         if is_number(c) {
             return or_bad_number(ram_line(b, c, k));
         }
@@ -171,23 +225,46 @@ fn read_probe(word: &[u8]) -> Result<Probe, LineFault>
     }
 }
 
-/// The places that the words of a line name, at most 16.
+/// Whether a refusal gives way to others.
+fn is_bad_number(fault: LineFault) -> bool
+    ensures { result ≡ is_bad_number fault }
+{
+    match fault {
+        LineFault::BadNumber => true,
+        LineFault::NotACommand | LineFault::LineTooLong | LineFault::NotAscii => false,
+    }
+}
+
+/// The places that the words of a line name, at most [`PROBES`]. Words that name none, or are too many, are refused before bad
+/// numbers.
 pub(crate) fn read_probes(line: &[u8]) -> Result<ArrayVec<Probe, PROBES>, LineFault>
     ensures { MatchResult result
         (λ probes. probes_within PROBES (words_of line.now) ≡ Ok probes.items)
         (λ fault. probes_within PROBES (words_of line.now) ≡ Err fault) }
 {
     let mut probes = ArrayVec::new();
+    let mut room = PROBES;
+    let mut has_bad_number = false;
     let mut rest = line;
     while let Some((word, others)) = next_word(rest) {
-        if probes.len() == PROBES {
+        if room == 0 {
             return Err(LineFault::NotACommand);
         }
+        room -= 1;
         match read_probe(word) {
             Ok(probe) => probes.push(probe),
-            Err(fault) => return Err(fault),
+            Err(fault) => {
+                if is_bad_number(fault) {
+                    has_bad_number = true;
+                } else {
+                    return Err(fault);
+                }
+            }
         }
         rest = others;
+    }
+    if has_bad_number {
+        return Err(LineFault::BadNumber);
     }
     Ok(probes)
 }

@@ -3,7 +3,7 @@ ghost use Rattle.std.specs.Prelude.{◌≡◌};
 ghost use Rattle.std.specs.List.{list_all};
 ghost use Rattle.mcs_lines.specs.RefusalNumbers.{line_fault_number};
 ghost use Rattle.mcs_lines.specs.LineRequests.{request_of, request_of_words, trace_request};
-ghost use Rattle.mcs_lines.specs.Requests.{count_request, list_request, or_bad_number, request_alone, request_of_word, request_with_one, request_with_two};
+ghost use Rattle.mcs_lines.specs.Requests.{cycles_of, list_request, or_bad_number, request_alone, request_of_word, request_with_one, request_with_two};
 ghost use Rattle.mcs_lines.specs.Words.{is_plain_byte, words_of};
 
 use crate::numbers::{address, bank, bit, byte};
@@ -75,9 +75,10 @@ pub enum Request {
     Listing(Addr, u16),
     /// The wiring of the board.
     Board,
-    /// How often each address would be begun at in a run of so many cycles.
+    /// How often an instruction would be begun at each address in a run of 1 to [`RUN_CYCLES`] cycles. Asking changes nothing.
     Count(u32),
-    /// What a run of so many cycles would change at places.
+    /// What a run of 1 to [`RUN_CYCLES`] cycles would change at places, of each instruction where there are none. Asking changes
+    /// nothing.
     Trace(u32, ArrayVec<Probe, PROBES>),
     /// A command on the bench.
     Change(Command),
@@ -130,35 +131,27 @@ pub(crate) fn or_bad_number(request: Option<Request>) -> Request
     }
 }
 
-/// What `count` with a number asks for; none where it is no number, or out of its range.
-fn read_count(n: &[u8]) -> Option<Request>
-    ensures { or_bad_number result ≡ count_request n.now }
+/// A number of cycles, 1 to [`RUN_CYCLES`].
+fn cycles(word: &[u8]) -> Option<u32>
+    ensures { result ≡ cycles_of word.now }
 {
-    let n = number_within(n, RUN_CYCLES)?;
-    if n == 0 {
-        return None;
-    }
-    Some(Request::Count(n))
+    let n = number_within(word, RUN_CYCLES)?;
+    if n == 0 { None } else { Some(n) }
 }
 
 /// What `trace` with the words after it asks for.
 fn read_trace(line: &[u8]) -> Request
     ensures { result ≡ trace_request (words_of line.now) }
 {
-    let Some((n, rest)) = next_word(line) else {
+    let Some((n, places)) = next_word(line) else {
         return Request::Refused(LineFault::NotACommand);
     };
-    let Some(n) = number_within(n, RUN_CYCLES) else {
-        return Request::Refused(LineFault::BadNumber);
-    };
-    match read_probes(rest) {
+    match read_probes(places) {
         Err(fault) => Request::Refused(fault),
-        Ok(probes) => {
-            if n == 0 {
-                return Request::Refused(LineFault::BadNumber);
-            }
-            Request::Trace(n, probes)
-        }
+        Ok(probes) => match cycles(n) {
+            None => Request::Refused(LineFault::BadNumber),
+            Some(n) => Request::Trace(n, probes),
+        },
     }
 }
 
@@ -177,7 +170,7 @@ fn read_with_one(word: &[u8], a: &[u8]) -> Option<Request>
     } else if equals(word, b"ram") {
         Request::Ask(Query::Ram(bank(a)?))
     } else if equals(word, b"count") {
-        or_bad_number(read_count(a))
+        Request::Count(cycles(a)?)
     } else {
         Request::Refused(LineFault::NotACommand)
     };

@@ -2,5 +2,7 @@
 #![tactic(auto)]
 
 mod counting;
+mod laws;
 
 pub use counting::{Counts, count_run};
+pub use laws::begun_add_up;

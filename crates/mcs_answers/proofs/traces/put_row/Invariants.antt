@@ -6,5 +6,5 @@ use Rattle.mcs_answers.proofs.traces.put_row.Given as goal
 abbrev pub invariant-loop-probe : goal.invariant-loop-probe
 invariant-loop-probe l = record {
   told : l.answer.items ≡ l.fn.answer.items ++ row (take l.probe-index l.probes) (machine_of l.bench);
-  count : length l.answer.items ≤ length l.fn.answer.items + 65 * l.probe-index;
+  count : length l.answer.items ≤ length l.fn.answer.items + 82 * l.probe-index;
 }

@@ -1,4 +1,5 @@
-//! One allocation that is refused while a program is mapped: `checks/allocations` refuses each in turn, the gate none.
+//! One allocation that is refused while questions are answered that take memory: maps, and what would happen. `checks/allocations`
+//! refuses each in turn, the gate none.
 use crate::sessions::{create, seq_of, serve};
 use mcs_disk::MemDisk;
 use mcs_journal::{CreateFault, FILE_SIZE};
@@ -7,18 +8,30 @@ use mcs_shell::ends::ShellEnd;
 use std::alloc::{AllocError, Global};
 use std::process::Abort;
 
-const SCRIPT: &[u8] = b"map\na: JUN a\nb = 0x2F\n.\nmap\nJUN c\n.\nseq\n";
+const SCRIPT: &[u8] =
+    b"map\na: JUN a\nb = 0x2F\n.\nmap\nJUN c\n.\ncount 2\ntrace 2 pc lamps\nseq\n";
 
-/// The answers with nothing refused, with the first program refused, and with the second one.
-const ANSWERS: [(&[u8], &str); 3] = [
+/// The answers with nothing refused, and with the first program, the second one, the count or the trace refused.
+const ANSWERS: [(&[u8], &str); 5] = [
     (
-        b"session 0\nmap lines 2 names 2\nline 1 000 2\nline 2 002 0\nname a 000\nname b 02F\nno 32 line 1\nseq 0\n",
+        b"session 0\nmap lines 2 names 2\nline 1 000 2\nline 2 002 0\nname a 000\nname b 02F\nno 32 line 1\ncount ran 2 end lines 2\n000 1\n001 1\ntrace ran 2 end lines 2 000 -\n0 000 001 -\n1 001 002 -\nseq 0\n",
         "nothing",
     ),
-    (b"session 0\nno 90\nno 32 line 1\nseq 0\n", "the map"),
     (
-        b"session 0\nmap lines 2 names 2\nline 1 000 2\nline 2 002 0\nname a 000\nname b 02F\nno 90\nseq 0\n",
+        b"session 0\nno 90\nno 32 line 1\ncount ran 2 end lines 2\n000 1\n001 1\ntrace ran 2 end lines 2 000 -\n0 000 001 -\n1 001 002 -\nseq 0\n",
+        "the map",
+    ),
+    (
+        b"session 0\nmap lines 2 names 2\nline 1 000 2\nline 2 002 0\nname a 000\nname b 02F\nno 90\ncount ran 2 end lines 2\n000 1\n001 1\ntrace ran 2 end lines 2 000 -\n0 000 001 -\n1 001 002 -\nseq 0\n",
         "the map that is refused",
+    ),
+    (
+        b"session 0\nmap lines 2 names 2\nline 1 000 2\nline 2 002 0\nname a 000\nname b 02F\nno 32 line 1\nno 90\ntrace ran 2 end lines 2 000 -\n0 000 001 -\n1 001 002 -\nseq 0\n",
+        "the count",
+    ),
+    (
+        b"session 0\nmap lines 2 names 2\nline 1 000 2\nline 2 002 0\nname a 000\nname b 02F\nno 32 line 1\ncount ran 2 end lines 2\n000 1\n001 1\nno 90\nseq 0\n",
+        "the trace",
     ),
 ];
 

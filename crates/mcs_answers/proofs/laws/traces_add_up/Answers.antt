@@ -1,0 +1,5 @@
+use Rattle.mcs_answers.proofs.AheadLaws.{traces-add}
+use Rattle.mcs_answers.proofs.laws.traces_add_up.Goals as goal
+
+pub returns : goal.returns
+returns c = λ probes b m n e. traces-add probes b m n e

@@ -1,0 +1,45 @@
+-- How the answers to `count` and `trace` go together, and with a run.
+use Rattle.std.specs.Prelude.{◌≡◌, ℕ, ◌+◌, ◌-◌, ◌++◌, Bool, List, [], codes, drop, length}
+use Rattle.std.specs.Fmt.{decimal}
+use Rattle.std.specs.List.{count_by, flat_map}
+use Rattle.std.specs.Str.{bytes_eq}
+use Rattle.mcs_model.specs.declared.command.Command.TheVariants.{Run}
+use Rattle.mcs_model.specs.BenchState.{BenchState}
+use Rattle.mcs_model.specs.Command.{after, machine_of, reply, stops_of}
+use Rattle.mcs_model.specs.QueryText.{address_text}
+use Rattle.mcs_model.specs.Running.{run_length}
+use Rattle.mcs_ahead.specs.declared.probe.Probe.{Probe}
+use Rattle.mcs_ahead.specs.Ahead.{begun_in, later, runs_at}
+use Rattle.mcs_answers.specs.AheadTexts.{ahead_head, trace_line, trace_lines}
+use Rattle.mcs_answers.specs.AnswerTexts.{reply_text}
+
+-- a head tells what `run n` would be answered: how many cycles, and why no more
+abbrev pub HeadsTellTheRun : Type 0
+HeadsTellTheRun =
+    (word : List ℕ) (b : BenchState) (n : ℕ) (lines : List (List ℕ)) →
+    ahead_head word b n lines
+    ≡ word ++ reply_text (reply b (Run n)) ++ codes " lines " ++ decimal (length lines)
+
+-- the lines of a trace of n cycles, of a run that began m cycles earlier
+abbrev pub later_lines : List Probe → ℕ → BenchState → ℕ → List (List ℕ)
+later_lines probes m b n =
+    flat_map (λ x. trace_line probes (later m x)) (begun_in (stops_of b) n (machine_of b))
+
+-- where nothing stops a run of m + n cycles before its end, its trace is that of m cycles, and then that of n cycles after `run m`
+abbrev pub TracesAddUp : Type 0
+TracesAddUp =
+    (probes : List Probe) (b : BenchState) (m n : ℕ) →
+    run_length (stops_of b) (m + n) (machine_of b) ≡ m + n →
+    trace_lines probes b (m + n)
+    ≡ trace_lines probes b m ++ later_lines probes m (after b (Run m)) n
+
+-- whether a line of a trace without places is of an instruction at an address: it ends with the address
+abbrev pub is_line_at : ℕ → List ℕ → Bool
+is_line_at at line = bytes_eq (drop (length line - 3) line) (address_text at)
+
+-- an address is counted as often as a trace without places has a line of it
+abbrev pub CountsAreOfTheTrace : Type 0
+CountsAreOfTheTrace =
+    (b : BenchState) (n at : ℕ) →
+    runs_at (begun_in (stops_of b) n (machine_of b)) at
+    ≡ count_by (is_line_at at) (trace_lines [] b n)

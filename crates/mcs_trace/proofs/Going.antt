@@ -1,0 +1,25 @@
+-- Why a run goes on at its start, and after a cycle.
+use Rattle.std.proofs.Common.{◌≡◌, ℕ, ◌<◌, Bool, true, false, cond, Option, Some, None, refl, arith, eqb, nat_lt}
+use Rattle.std.proofs.lemmas.Bool.Decides.{nat_tests}
+use Rattle.mcs_model.specs.declared.stop.Stop.TheVariants.{Outside, Breakpoint, Watched, Ended}
+use Rattle.mcs_model.specs.Running.{Machine, Stops, is_outside, at_break, has_changed, stop_at, stop_after}
+use Rattle.mcs_bench.proofs.Writes.{same-ram}
+use Rattle.mcs_ahead.specs.Ahead.{early_stop}
+
+-- at its start a run of some cycles goes on where a cycle can follow
+pub none-at-start : (stops : Stops) (n : ℕ) (s : Machine) → 0 < n → is_outside s ≡ false → stop_at stops n 0 s s ≡ None
+none-at-start stops n s l inside =
+    let same = same-ram stops.watches s s refl in
+    let ended : eqb 0 n ≡ false = grind (arith, nat_tests) in
+    rw (inside, same, ended) refl
+
+early-of : (out broken changed ended : Bool) → ended ≡ false → cond out (Some Outside) (cond broken (Some Breakpoint) (cond changed (Some Watched) (cond ended (Some Ended) None))) ≡ cond out (Some Outside) (cond broken (Some Breakpoint) (cond changed (Some Watched) None))
+early-of out broken changed true e = absurd (cc)
+early-of out broken changed false e = refl
+
+-- before its end a run stops for the same reason
+pub early-before : (stops : Stops) (n k : ℕ) (s t : Machine) → 0 < k → k < n → stop_at stops n k s t ≡ early_stop stops s t
+early-before stops n k s t some l =
+    let begun : nat_lt 0 k ≡ true = grind (arith, nat_tests) in
+    let ended : eqb k n ≡ false = grind (arith, nat_tests) in
+    rw (begun, ended) refl

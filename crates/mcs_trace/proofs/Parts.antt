@@ -1,0 +1,145 @@
+-- A run in two parts begins what a run of all its cycles begins.
+use Rattle.std.proofs.Common.{◌≡◌, ℕ, zero, suc, ◌+◌, ◌-◌, ◌<◌, ◌≤◌, Bool, true, false, cond, Option, Some, None, is_some, unwrap_or, List, [], ◌∷◌, ◌++◌, map, find, inl, inr, refl, sym, ap, ◌∙◌, subst, arith, eqb, eq-eqb, append_assoc}
+use Rattle.std.specs.List.{range_with_len}
+use Rattle.std.proofs.lemmas.Bool.{cases_eq}
+use Rattle.std.proofs.lemmas.List.{append-nil, map-append}
+use Rattle.mcs_model.specs.declared.stop.Stop.{Stop}
+use Rattle.mcs_model.specs.declared.stop.Stop.TheVariants.{Outside, Breakpoint, Watched, Ended}
+use Rattle.mcs_model.specs.Running.{Machine, Stops, is_outside, after_cycles, after_run, at_break, has_changed, stop_at, stop_after, run_length}
+use Rattle.mcs_model.proofs.ListLemmas.{find_at}
+use Rattle.mcs_model.proofs.RunLemmas.{cycled-add}
+use Rattle.mcs_ahead.specs.Ahead.{Begun, begins, begun_in, begun_within, cycle_at, early_stop, later}
+use Rattle.mcs_trace.proofs.Going.{early-before, none-at-start}
+use Rattle.mcs_trace.proofs.Tallies.{begun-more, begun_at}
+
+-- ---- what is begun
+
+abbrev begun-of : ℕ → Machine → Machine → Begun
+begun-of k s t = record { cycles = k; before = s; after = t }
+
+-- a cycle of the second part
+later-cycle : (m n : ℕ) (s : Machine) → cycle_at s (m + n) ≡ later m (cycle_at (after_cycles m s) n)
+later-cycle m n s =
+    let next : m + n + 1 ≡ m + (n + 1) = omega arith in
+    ap (λ (t : Machine). begun-of (m + n) t (after_cycles (m + n + 1) s)) (cycled-add m n s)
+    ∙ ap (λ (t : Machine). begun-of (m + n) (after_cycles n (after_cycles m s)) t) (ap (λ j. after_cycles j s) next ∙ cycled-add m (n + 1) s)
+
+later-one : (m : ℕ) (b : Bool) (x : Begun) → cond b (later m x ∷ []) [] ≡ map (later m) (cond b (x ∷ []) [])
+later-one m true x = refl
+later-one m false x = refl
+
+later-at : (m n : ℕ) (s : Machine) → begun_at s (m + n) ≡ map (later m) (begun_at (after_cycles m s) n)
+later-at m n s =
+    ap (λ (x : Begun). cond (begins x) (x ∷ []) []) (later-cycle m n s)
+    ∙ later-one m (begins (cycle_at (after_cycles m s) n)) (cycle_at (after_cycles m s) n)
+
+none-later : (m : ℕ) (s : Machine) → begun_within 0 s ≡ []
+unfolding begun_within
+none-later m s = refl
+
+pub within-adds : (m n : ℕ) (s : Machine) → begun_within (m + n) s ≡ begun_within m s ++ map (later m) (begun_within n (after_cycles m s))
+within-adds m zero s =
+    let same : m + 0 ≡ m = omega arith in
+    ap (λ k. begun_within k s) same ∙ sym (append-nil (begun_within m s)) ∙ ap (λ (l : List Begun). begun_within m s ++ map (later m) l) (sym (none-later m (after_cycles m s)))
+within-adds m (suc n) s =
+    let one : m + suc n ≡ m + n + 1 = omega arith in
+    let more : suc n ≡ n + 1 = omega arith in
+    let t = after_cycles m s in
+    let first = begun_within m s in
+    let second = map (later m) (begun_within n t) in
+    ap (λ k. begun_within k s) one ∙ begun-more (m + n) s
+    ∙ ap (λ (l : List Begun). l ++ begun_at s (m + n)) (within-adds m n s)
+    ∙ ap (λ (l : List Begun). (first ++ second) ++ l) (later-at m n s)
+    ∙ append_assoc first second (map (later m) (begun_at t n))
+    ∙ ap (λ (l : List Begun). first ++ l) (sym (map-append (later m) (begun_within n t) (begun_at t n)) ∙ ap (map (later m)) (sym (begun-more n t) ∙ ap (λ k. begun_within k t) (sym more)))
+
+-- ---- how long the parts are
+
+-- before the first number that passes none does
+none-before : (p : ℕ → Bool) (a k d j : ℕ) → a ≤ j → j < a + k → j < unwrap_or (find p (range_with_len a k)) d → p j ≡ false
+none-before p a zero d j l h e = absurd (omega arith)
+none-before p a (suc k) d j l h e =
+    elim (p a) as (λ v. p a ≡ v → j < unwrap_or (cond v (Some a) (find p (range_with_len (a + 1) k))) d → p j ≡ false) [
+      | true ↦ λ t less. absurd (omega arith)
+      | false ↦ λ f less. elim (cases_eq a j) [
+        | inl same ↦ ap p (sym same) ∙ f
+        | inr ne ↦ none-before p (a + 1) k d j (omega arith) (omega arith) less
+      ]
+    ] refl e
+
+none-of : (o : Option Stop) → is_some o ≡ false → o ≡ None
+none-of None e = refl
+none-of (Some why) e = absurd (cc)
+
+-- nothing stops a run before its end that is as long as it was asked for
+passed : (stops : Stops) (n : ℕ) (s : Machine) → run_length stops n s ≡ n → (j : ℕ) → j < n → stop_after stops n s j ≡ None
+passed stops n s e j l =
+    none-of (stop_after stops n s j) (none-before (λ k. is_some (stop_after stops n s k)) 0 (n + 1) n j (omega arith) (omega arith) (subst (λ k. j < k) (sym e) l))
+
+inside-of : (out broken changed ended : Bool) → cond out (Some Outside) (cond broken (Some Breakpoint) (cond changed (Some Watched) (cond ended (Some Ended) None))) ≡ None → out ≡ false
+inside-of true broken changed ended e = absurd (cc)
+inside-of false broken changed ended e = refl
+
+-- a run that goes on can
+inside-at : (stops : Stops) (n k : ℕ) (s t : Machine) → stop_at stops n k s t ≡ None → is_outside t ≡ false
+inside-at stops n k s t e = inside-of (is_outside t) (at_break stops.breaks k t) (has_changed stops.watches s t) (eqb k n) e
+
+some-at-end : (out broken changed ended : Bool) → ended ≡ true → is_some (cond out (Some Outside) (cond broken (Some Breakpoint) (cond changed (Some Watched) (cond ended (Some Ended) None)))) ≡ true
+some-at-end true broken changed ended e = refl
+some-at-end false true changed ended e = refl
+some-at-end false false true ended e = refl
+some-at-end false false false true e = refl
+some-at-end false false false false e = absurd (cc)
+
+-- a run of n cycles from s that nothing stops before its end
+record Whole (stops : Stops) (n : ℕ) (s : Machine) : Type 0 where
+  pub inside : 0 < n → is_outside s ≡ false
+  pub early : (j : ℕ) → 0 < j → j < n → early_stop stops (after_cycles (j - 1) s) (after_cycles j s) ≡ None
+
+whole-of : (stops : Stops) (n : ℕ) (s : Machine) → run_length stops n s ≡ n → Whole stops n s
+whole-of stops n s e = record {
+  inside = λ l. inside-at stops n 0 (after_cycles (0 - 1) s) (after_cycles 0 s) (passed stops n s e 0 l);
+  early = λ j some l. sym (early-before stops n j (after_cycles (j - 1) s) (after_cycles j s) some l) ∙ passed stops n s e j l;
+}
+
+whole-passes : (stops : Stops) (n : ℕ) (s : Machine) → Whole stops n s → (j : ℕ) → j < n → stop_after stops n s j ≡ None
+whole-passes stops n s w j l =
+    elim (cases_eq j 0) [
+      | inl e ↦ subst (λ i. stop_after stops n s i ≡ None) (sym e) (none-at-start stops n s (omega arith) (w.inside (omega arith)))
+      | inr ne ↦ early-before stops n j (after_cycles (j - 1) s) (after_cycles j s) (omega arith) l ∙ w.early j (omega arith) l
+    ]
+
+-- it takes n cycles
+whole-length : (stops : Stops) (n : ℕ) (s : Machine) → Whole stops n s → run_length stops n s ≡ n
+whole-length stops n s w =
+    let end : is_some (stop_after stops n s n) ≡ true = some-at-end (is_outside (after_cycles n s)) (at_break stops.breaks n (after_cycles n s)) (has_changed stops.watches (after_cycles (n - 1) s) (after_cycles n s)) (eqb n n) (eq-eqb n n refl) in
+    ap (λ o. unwrap_or o n) (find_at (λ k. is_some (stop_after stops n s k)) 0 (n + 1) n (omega arith) (omega arith) (λ j l. ap is_some (whole-passes stops n s w j l)) end)
+
+-- its first part
+whole-first : (stops : Stops) (m n : ℕ) (s : Machine) → Whole stops (m + n) s → Whole stops m s
+whole-first stops m n s w = record {
+  inside = λ l. w.inside (omega arith);
+  early = λ j some l. w.early j some (omega arith);
+}
+
+-- its second part
+whole-second : (stops : Stops) (m n : ℕ) (s : Machine) → run_length stops (m + n) s ≡ m + n → Whole stops n (after_cycles m s)
+whole-second stops m n s e = record {
+  inside = λ l. inside-at stops (m + n) m (after_cycles (m - 1) s) (after_cycles m s) (passed stops (m + n) s e m (omega arith));
+  early = λ j some l.
+      let back : m + j - 1 ≡ m + (j - 1) = omega arith in
+      let w = whole-of stops (m + n) s e in
+      ap (λ (t : Machine). early_stop stops t (after_cycles j (after_cycles m s))) (sym (ap (λ i. after_cycles i s) back ∙ cycled-add m (j - 1) s))
+      ∙ ap (λ (t : Machine). early_stop stops (after_cycles (m + j - 1) s) t) (sym (cycled-add m j s))
+      ∙ w.early (m + j) (omega arith) (omega arith);
+}
+
+pub begun-add-up : (stops : Stops) (m n : ℕ) (s : Machine) → run_length stops (m + n) s ≡ m + n → begun_in stops (m + n) s ≡ begun_in stops m s ++ map (later m) (begun_in stops n (after_run stops m s))
+begun-add-up stops m n s e =
+    let first : run_length stops m s ≡ m = whole-length stops m s (whole-first stops m n s (whole-of stops (m + n) s e)) in
+    let there : after_run stops m s ≡ after_cycles m s = ap (λ k. after_cycles k s) first in
+    let second : run_length stops n (after_cycles m s) ≡ n = whole-length stops n (after_cycles m s) (whole-second stops m n s e) in
+    ap (λ k. begun_within k s) e ∙ within-adds m n s
+    ∙ ap (λ k. begun_within k s ++ map (later m) (begun_within n (after_cycles m s))) (sym first)
+    ∙ ap (λ k. begun_in stops m s ++ map (later m) (begun_within k (after_cycles m s))) (sym second)
+    ∙ ap (λ (t : Machine). begun_in stops m s ++ map (later m) (begun_in stops n t)) (sym there)
