@@ -1,20 +1,19 @@
 # What stands in ROM. Needs numbers.awk and bench.awk.
 #
-# read_code() reads all of it: code[at], the byte at each address, and code_digits[at], its hexadecimal digits.
+# read_code() reads all of it: code[at], the byte at each address, and code_digits[at], its hexadecimal digits; by the digits of an
+# address, address_of[digits] and cycles_at[digits], how long an instruction there takes.
 
-function read_code(    at, n, i, lines) {
+function read_code(    at, n, i, lines, digits) {
     for (at = 0; at < 4096; at += 256) {
         n = ask_all(sprintf("list 0x%03X 256", at), lines)
         for (i = 1; i <= n; i++) take_listed(lines[i], code_digits)
     }
-    know_addresses()
-    for (at = 0; at < 4096; at++) code[at] = hex_number(code_digits[at])
-}
-
-# The numbers of all addresses, by their digits.
-function know_addresses(    at) {
-    if ("000" in address_of) return
-    for (at = 0; at < 4096; at++) address_of[sprintf("%03X", at)] = at
+    for (at = 0; at < 4096; at++) {
+        code[at] = hex_number(code_digits[at])
+        digits = sprintf("%03X", at)
+        address_of[digits] = at
+        cycles_at[digits] = cycles_of(code[at])
+    }
 }
 
 # JUN, JMS, JCN, ISZ and FIM have two words.

@@ -104,9 +104,10 @@ function follow_lamps(lines) {
     }
 }
 
-# A routine that is called within itself counts once.
+# A routine that is called within itself counts once. One that a session ends before is not entered.
 function leave_routine(time,    i, at) {
     at = routine[depth]
+    if (time < entered[depth]) time = entered[depth]
     for (i = 1; i < depth; i++) if (routine[i] == at) break
     if (i == depth) {
         with_calls[at] += time - entered[depth]

@@ -10,19 +10,19 @@ function begin_trace(    n, lines) {
     take_board(lines, n)
     read_code()
     know("state")
-    split("", trace_text)
+    split("", trace_head)
     traced_count = 0
     if (now["owed"] == "1") {
         traced_line[++traced_count] = sprintf(source_known ? "%8d  %-42s  acc %s cy %s" : "%8d  %-25s  acc %s cy %s", elapsed, "(the second cycle)", now["acc"], now["cy"])
     }
 }
 
-# --- the text of an instruction, at an address in digits ---
+# --- the text of an instruction, at an address in digits: trace_head has a place for its cycle, trace_form for what follows, too ---
 
 # Those of all instructions that a run begins.
 function know_texts(    i, from, count, wanted, lines) {
     count = 0
-    for (i = 1; i <= begun_count; i++) if (!(begun_at[i] in trace_text)) wanted[++count] = begun_at[i]
+    for (i = 1; i <= begun_count; i++) if (!(begun_at[i] in trace_head)) wanted[++count] = begun_at[i]
     for (from = 1; from <= count; from += 500) {
         lines = ""
         for (i = from; i < from + 500 && i <= count; i++) lines = lines (i > from ? "\n" : "") "list 0x" wanted[i] " 1"
@@ -37,11 +37,13 @@ function take_text(digits, text,    at) {
     # The second byte of an instruction at FFF stands at 000.
     if (at == 4095 && words_of(code[at]) == 2) text = instruction_round_the_end(at)
     if (names_known) text = with_target(text)
-    trace_text[digits] = source_known ? sprintf("%-42s", by_source(text, at)) : sprintf("%-25s", text)
-    trace_label[digits] = ""
+    text = source_known ? sprintf("%-42s", by_source(text, at)) : sprintf("%-25s", text)
+    gsub(/%/, "%%", text)
+    trace_head[digits] = "%8d  " text "  "
     if (names_known && (at in label_at) && !(source_known && begins[at] == label_line[label_at[at]])) {
-        trace_label[digits] = "          " label_at[at] ":\n"
+        trace_head[digits] = "          " label_at[at] ":\n" trace_head[digits]
     }
+    trace_form[digits] = trace_head[digits] "acc %s cy %s"
 }
 
 function instruction_round_the_end(at,    high, second, byte) {
@@ -72,7 +74,7 @@ function by_source(what, at,    number) {
 # --- what instructions do ---
 
 # Asks for all that the next n cycles change.
-function trace_ahead(n,    lines, row, blank, cycle, due, i) {
+function trace_ahead(n,    lines, row, blank, cycle, due, i, digits) {
     know("state")
     send("count " n)
     take_count()
@@ -90,11 +92,12 @@ function trace_ahead(n,    lines, row, blank, cycle, due, i) {
     while (lines-- > 0) {
         receive_row()
         blank = index(reply, " ")
-        cycle = substr(reply, 1, blank - 1) + 0
+        cycle = substr(reply, 1, blank) + 0
         if (due < cycle) trace_standing(due, cycle, row)
+        digits = substr(reply, blank + 1, 3)
         row = substr(reply, blank + 5)
-        trace_instruction(cycle, substr(reply, blank + 1, 3), row)
-        due = cycle + cycles_of(code[address_of[substr(reply, blank + 1, 3)]])
+        trace_instruction(cycle, digits, row)
+        due = cycle + cycles_at[digits]
     }
     trace_standing(due, ahead_ran, row)
 }
@@ -102,7 +105,7 @@ function trace_ahead(n,    lines, row, blank, cycle, due, i) {
 # Instructions that jump to themselves, from one moment to another.
 function trace_standing(from, to, row,    digits) {
     digits = substr(row, 1, 3)
-    for (from = from; from < to; from += cycles_of(code[address_of[digits]])) trace_instruction(from, digits, row)
+    for (from = from; from < to; from += cycles_at[digits]) trace_instruction(from, digits, row)
 }
 
 function trace_instruction(cycle, digits, row,    change, registers) {
@@ -110,8 +113,8 @@ function trace_instruction(cycle, digits, row,    change, registers) {
     registers = substr(row, 9)
     if (registers != shown_registers) change = changed_registers(registers)
     if (cycle in events) change = change changed_places(cycle)
-    traced_line[++traced_count] = trace_label[digits] sprintf("%8d  %s  acc %s cy %s%s", elapsed + cycle, trace_text[digits], \
-        substr(row, 5, 1), substr(row, 7, 1), change == "" ? "" : " " change)
+    if (change != "") change = " " change
+    traced_line[++traced_count] = sprintf(trace_form[digits], elapsed + cycle, substr(row, 5, 1), substr(row, 7, 1)) change
 }
 
 # R0 to R12, whose digits stand with a blank between them.
@@ -134,11 +137,12 @@ function choose_places(    writes, i, b, c, k) {
     for (b = 0; b < 8; b++) {
         for (c = 0; c < ram_chips[b]; c++) choose_places_of_chip(b, c, writes)
     }
-    if ("E2" in writes) {
-        for (c = 0; c < 16; c++) {
-            for (k = 0; (c in rom_port) && k < 4; k++) if (substr(rom_port[c], 4 - k, 1) != "i") add_place("rom" c "." k)
-        }
-        for (c = 0; c < chain_count; c++) for (k = 0; k < chain_bits[c]; k++) add_place("chain" c "." k)
+    for (c = 0; ("E2" in writes) && c < 16; c++) {
+        for (k = 0; (c in rom_port) && k < 4; k++) if (substr(rom_port[c], 4 - k, 1) != "i") add_place("rom" c "." k)
+    }
+    # Any port may clock a chain.
+    for (c = 0; (("E1" in writes) || ("E2" in writes)) && c < chain_count; c++) {
+        for (k = 0; k < chain_bits[c]; k++) add_place("chain" c "." k)
     }
     add_place("lamps")
 }
@@ -176,6 +180,6 @@ function told_change(name,    parts) {
 function last_line(rest,    digits) {
     know("regs")
     digits = now["pc"]
-    if (!(digits in trace_text)) take_text(digits, ask("list 0x" digits " 1"))
-    return trace_label[digits] sprintf("%8d  %s  %s", elapsed, trace_text[digits], rest)
+    if (!(digits in trace_head)) take_text(digits, ask("list 0x" digits " 1"))
+    return sprintf(trace_head[digits], elapsed) rest
 }

@@ -65,7 +65,7 @@ function print_lines(from,    text) {
     text = ""
     for (from = from; from <= traced_count; from++) {
         text = text traced_line[from] "\n"
-        if (length(text) < 4000) continue
+        if (length(text) < 1000) continue
         printf "%s", text
         text = ""
     }

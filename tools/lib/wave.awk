@@ -174,7 +174,7 @@ function print_changes(cycle,    i, n, c, k, place, value, news, count) {
 # Lines are written many at a time: each write takes its time.
 function put(line) {
     waiting = waiting line "\n"
-    if (length(waiting) < 4000) return
+    if (length(waiting) < 1000) return
     printf "%s", waiting
     waiting = ""
 }
