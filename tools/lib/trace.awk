@@ -138,6 +138,8 @@ function choose_places(    writes, i, b, c, k) {
         for (c = 0; c < 16; c++) {
             for (k = 0; (c in rom_port) && k < 4; k++) if (substr(rom_port[c], 4 - k, 1) != "i") add_place("rom" c "." k)
         }
+    }
+    if (("E1" in writes) || ("E2" in writes)) {
         for (c = 0; c < chain_count; c++) for (k = 0; k < chain_bits[c]; k++) add_place("chain" c "." k)
     }
     add_place("lamps")
