@@ -1,9 +1,9 @@
 """What a power cut may leave on a disk, from the list of what happened to it.
 
 A write is durable once a flush has been answered that came after the write was answered. Of all other writes an image holds nothing
-(`none`), everything (`all`), or of each write all, nothing or random sectors (`some`). The acknowledgements of the program stand in the same
-list, so at each place it is known what has to be found: at least the commands that were acknowledged, at most the one that was sent after
-them.
+(`none`), everything (`all`), or of each write all, nothing or random sectors (`some`). The acknowledgements of the program stand in the
+same list, so at each place it is known what has to be found: at least the commands that were acknowledged, at most the one that was sent
+after them.
 """
 
 from __future__ import annotations
@@ -30,8 +30,8 @@ Part = tuple[int, int] | None
 
 @dataclasses.dataclass
 class Image:
-    """What is on the disk after a cut at a place of the list. `least` and `most` bound the commands that may be found; before a first answer
-    there is no `least` where no session was there before."""
+    """What is on the disk after a cut at a place of the list. `least` and `most` bound the commands that may be found; before a first
+    answer there is no `least` where no session was there before."""
     place: int
     phase: Phase
     how: str

@@ -59,8 +59,8 @@ class Outcome:
 
 @dataclasses.dataclass
 class Stage:
-    """A session that is served: the words for it, what is done just before, the number of the first answer, the last command, and the number
-    of commands in the session that is there, if one is."""
+    """A session that is served: the words for it, what is done just before, the number of the first answer, the last command, and the
+    number of commands in the session that is there, if one is."""
     words: str
     before: str
     first: int
@@ -273,8 +273,9 @@ class Runner:
         return is_good
 
     def next_disk(self, trial: Trial, generation: int, seen: list[Seen]) -> Seen:
-        """The image that is the disk of the next generation: by turns one that was cut while a snapshot was written and one that was cut while
-        the session was opened, where there is such a one; of a session of version 1 one that still is; first of a new one a blank file."""
+        """The image that is the disk of the next generation: by turns one that was cut while a snapshot was written and one that was cut
+        while the session was opened, where there is such a one; of a session of version 1 one that still is; first of a new one a blank
+        file."""
         case = CASES[trial.case]
         is_carried = case.name.startswith("carried")
         wanted: Phase = "opening" if is_carried or generation % 2 else "snapshot"
