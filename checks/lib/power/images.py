@@ -17,7 +17,7 @@ from power.disk import Disk, Event, Fault
 
 SECTOR, BLOCK = 512, 4096
 # At a write, and at a flush, so many parts of what is not durable are drawn.
-PARTS = 3
+PARTS = 6
 # So many events after the first answer still count as its beginning.
 BEGINNING = 20
 
@@ -30,9 +30,10 @@ Part = tuple[int, int] | None
 
 @dataclasses.dataclass
 class Image:
-    """What is on the disk after a cut at a place of the list. `least` and `most` bound the commands that may be found; before a first
-    answer there is no `least` where no session was there before."""
+    """What may be on the disk after a cut at a place of the list, and at others up to `last`. `least` and `most` bound the commands that
+    may be found after all of them; before a first answer there is no `least` where no session was there before."""
     place: int
+    last: int
     phase: Phase
     how: str
     durable: int
@@ -45,8 +46,9 @@ class Image:
         """Whether a block of the file system may be half old and half new, which it need not bear."""
         return any(part is not None and part[0] < BLOCK for part in self.kept.values())
 
-    def tighten(self, least: int | None, most: int) -> None:
-        """The same image is left by a cut at another place, too."""
+    def tighten(self, place: int, least: int | None, most: int) -> None:
+        """The same image is left by a cut at this place, too."""
+        self.last = place
         if least is not None:
             self.least = least if self.least is None else max(self.least, least)
         self.most = min(self.most, most)
@@ -109,8 +111,8 @@ class History:
             phase = self.phase(place, first_answer, answered, sent)
             for how, kept in self.ways(event, pending):
                 key = hashlib.sha256(repr((durable, sorted(kept.items()))).encode()).digest()
-                image = found.setdefault(key, Image(place, phase, how, durable, kept, answered, sent))
-                image.tighten(answered, sent)
+                image = found.setdefault(key, Image(place, place, phase, how, durable, kept, answered, sent))
+                image.tighten(place, answered, sent)
         return list(found.values())
 
     def phase(self, place: int, first_answer: int, answered: int | None, sent: int) -> Phase:

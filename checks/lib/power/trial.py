@@ -239,8 +239,9 @@ class Runner:
         image = seen.image
         least = "nothing" if image.least is None else f"command {image.least}"
         found = f"{seen.found} commands" if isinstance(seen.found, int) else seen.found
-        return (f"cut at {image.place} of {places} ({image.phase}): {least} acknowledged, command {image.most} sent, found: {found}; "
-                f"{image.durable} writes durable, of {len(image.kept)} others {image.how}")
+        later = f" to {image.last}" if image.last > image.place else ""
+        return (f"cut at {image.place}{later} of {places} ({image.phase}): {least} acknowledged{' in the end' * bool(later)}, "
+                f"command {image.most} sent, found: {found}; {image.durable} writes durable, of {len(image.kept)} others {image.how}")
 
     # --- images that are kept, and the next disk
 
