@@ -16,8 +16,8 @@ from typing import Literal
 from power.disk import Disk, Event, Fault
 
 SECTOR, BLOCK = 512, 4096
-# At a write, and at a flush, so many parts of what is not durable are drawn.
-PARTS = 6
+# At a write, and at a flush, so many parts are drawn for each write that is not durable, of at most so many of these.
+PARTS, MOST_PENDING = 6, 4
 # So many events after the first answer still count as its beginning.
 BEGINNING = 20
 
@@ -127,7 +127,7 @@ class History:
         """What may be kept of the writes that are not durable after this event."""
         found: list[tuple[str, dict[int, Part]]] = [("none", {}), ("all", dict.fromkeys(pending))]
         if event.what in ("write", "flushed"):
-            found += [("some", self.part_of(pending)) for _ in range(PARTS)]
+            found += [("some", self.part_of(pending)) for _ in range(PARTS * min(len(pending), MOST_PENDING))]
         return found
 
     def part_of(self, pending: list[int]) -> dict[int, Part]:
