@@ -26,7 +26,9 @@ from session_file import SIZE
 
 MEGA = 1 << 20
 # Another program that writes meanwhile, so that the file system's own commits come between.
-BUSY = "(while :; do echo noise >> noise/a; mv noise/a noise/b; sleep 0.3; mv noise/b noise/a; done) & busy=$!"
+BUSY = "(cd /; n=/mnt/noise; while :; do echo noise >> $n/a; mv $n/a $n/b; sleep 0.3; mv $n/b $n/a; done) & busy=$!"
+# Ends the programs in the file system; what they started may still be there for a moment.
+END = "cd /; kill $busy $session; wait; umount /mnt || { sleep 1; umount /mnt; }"
 # What `new` may leave before its first answer, where a file system shows nothing that it was not given.
 BEFORE_NEW = ("absent", "size 0", "blank", 0)
 # So many faults of a recording are told, and so many images kept in all.
@@ -147,7 +149,7 @@ class Runner:
         self.serve(events, stage)
         self.disk.events = None
         self.disk.late = False
-        self.machine.must("cd /; kill $busy $session; wait; umount /mnt")
+        self.machine.must(END)
         self.disk.take_back()
         snapshots = set() if case.name.startswith("carried") else self.sessions.snapshots
         return History(events, stage.start, snapshots, kind.whole_blocks, self.chance)
