@@ -1,9 +1,9 @@
 """What a power cut may leave on a disk, from the list of what happened to it.
 
 A write is durable once a flush has been answered that came after the write was answered. Of all other writes an image holds nothing
-(`none`), everything (`all`), or of each write all, nothing or random sectors (`some`). The acknowledgements of the program stand in the same
-list, so at each place it is known what has to be found: at least the commands that were acknowledged, at most the one that was sent after
-them.
+(`none`), everything (`all`), or of each write all, nothing or random sectors (`some`). The acknowledgements of the program stand in the
+same list, so at each place it is known what has to be found: at least the commands that were acknowledged, at most the one that was sent
+after them.
 """
 
 from __future__ import annotations
@@ -16,8 +16,8 @@ from typing import Literal
 from power.disk import Disk, Event, Fault
 
 SECTOR, BLOCK = 512, 4096
-# At a write, and at a flush, so many parts of what is not durable are drawn.
-PARTS = 3
+# At a write, and at a flush, so many parts are drawn for each write that is not durable, of at most so many of these.
+PARTS, MOST_PENDING = 6, 4
 # So many events after the first answer still count as its beginning.
 BEGINNING = 20
 
@@ -30,9 +30,10 @@ Part = tuple[int, int] | None
 
 @dataclasses.dataclass
 class Image:
-    """What is on the disk after a cut at a place of the list. `least` and `most` bound the commands that may be found; before a first answer
-    there is no `least` where no session was there before."""
+    """What may be on the disk after a cut at a place of the list, and at others up to `last`. `least` and `most` bound the commands that
+    may be found after all of them; before a first answer there is no `least` where no session was there before."""
     place: int
+    last: int
     phase: Phase
     how: str
     durable: int
@@ -45,8 +46,9 @@ class Image:
         """Whether a block of the file system may be half old and half new, which it need not bear."""
         return any(part is not None and part[0] < BLOCK for part in self.kept.values())
 
-    def tighten(self, least: int | None, most: int) -> None:
-        """The same image is left by a cut at another place, too."""
+    def tighten(self, place: int, least: int | None, most: int) -> None:
+        """The same image is left by a cut at this place, too."""
+        self.last = place
         if least is not None:
             self.least = least if self.least is None else max(self.least, least)
         self.most = min(self.most, most)
@@ -109,8 +111,8 @@ class History:
             phase = self.phase(place, first_answer, answered, sent)
             for how, kept in self.ways(event, pending):
                 key = hashlib.sha256(repr((durable, sorted(kept.items()))).encode()).digest()
-                image = found.setdefault(key, Image(place, phase, how, durable, kept, answered, sent))
-                image.tighten(answered, sent)
+                image = found.setdefault(key, Image(place, place, phase, how, durable, kept, answered, sent))
+                image.tighten(place, answered, sent)
         return list(found.values())
 
     def phase(self, place: int, first_answer: int, answered: int | None, sent: int) -> Phase:
@@ -125,7 +127,7 @@ class History:
         """What may be kept of the writes that are not durable after this event."""
         found: list[tuple[str, dict[int, Part]]] = [("none", {}), ("all", dict.fromkeys(pending))]
         if event.what in ("write", "flushed"):
-            found += [("some", self.part_of(pending)) for _ in range(PARTS)]
+            found += [("some", self.part_of(pending)) for _ in range(PARTS * min(len(pending), MOST_PENDING))]
         return found
 
     def part_of(self, pending: list[int]) -> dict[int, Part]:

@@ -1,6 +1,6 @@
-/* Runs in the machine: for each line `TYPE FILE OPTIONS` mounts /dev/vda as a file system of that type at /mnt, copies FILE of it to /dev/vdb,
-   unmounts it, and answers a line: `size N`, `absent`, `unreadable` or `not mounted`. An empty line ends it. It is one program for all images,
-   since the start of one takes longer than all of this without KVM. */
+/* Runs in the machine: for each line `TYPE FILE OPTIONS` mounts /dev/vda as a file system of that type at /mnt, copies FILE of it to
+   /dev/vdb, unmounts it, and answers a line: `size N`, `absent`, `unreadable` or `not mounted`. An empty line ends it. It is one program
+   for all images, since the start of one takes longer than all of this without KVM. */
 #include <errno.h>
 #include <fcntl.h>
 #include <linux/fs.h>

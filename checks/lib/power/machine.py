@@ -34,8 +34,8 @@ exec < /dev/ttyS1 > /dev/ttyS1 3<> /dev/vport0p1
 echo ready
 while read -r line; do eval "$line"; echo "done $?"; done
 """
-# `clearcpuid=cx16`: Linux 6.12 meets a fault of CMPXCHG16B in QEMU 7.2 without KVM. `no_timer_check`: where the host is busy, the kernel would
-# find its timer dead. The default processor is too old for Debian's glibc.
+# `clearcpuid=cx16`: Linux 6.12 meets a fault of CMPXCHG16B in QEMU 7.2 without KVM. `no_timer_check`: where the host is busy, the kernel
+# would find its timer dead. The default processor is too old for Debian's glibc.
 KERNEL_WORDS = "console=ttyS0 loglevel=5 panic=-1 mitigations=off random.trust_cpu=on clearcpuid=cx16 no_timer_check cryptomgr.notests"
 PROCESSOR = "Nehalem"
 MEMORY = 512

@@ -6,6 +6,7 @@ The program itself, run on this host, tells the states; what it answers is looke
 from __future__ import annotations
 
 import hashlib
+import os
 import pathlib
 import subprocess
 
@@ -38,8 +39,8 @@ VERSION_PLACE, VERSION_2 = 4, 2
 
 
 def commands(count: int) -> list[str]:
-    """The texts of so many commands. A snapshot is written at the 49th, as the log is full of cycles, and then at each 20th, as it is full of
-    bytes: three of four have a record of two blocks, of 4,213 bytes."""
+    """The texts of so many commands. A snapshot is written at the 49th, as the log is full of cycles, and then at each 20th, as it is full
+    of bytes: three of four have a record of two blocks, of 4,213 bytes."""
     found = [BOARD, PROGRAM]
     for number in range(len(found), count):
         if number >= SHORT_COMMANDS and number % 4:
@@ -53,7 +54,8 @@ def commands(count: int) -> list[str]:
 
 
 def carried_back(data: bytes) -> bytes:
-    """The file of version 1 of a session whose snapshot, of version 2, has no watches: the byte of the version and their count are not there."""
+    """The file of version 1 of a session whose snapshot, of version 2, has no watches: the byte of the version and their count are not
+    there."""
     slot = SLOTS[data[8] % 2]
     begin = slot + LENGTH_BYTES
     length = int.from_bytes(data[slot:begin], "big")
@@ -120,7 +122,7 @@ class Sessions:
         served.stdin.write(text.encode())
         served.stdin.flush()
         answers, end = b"", f"\nseq {number}\n".encode()
-        while not answers.endswith(end) and (more := served.stdout.read1()):
+        while not answers.endswith(end) and (more := os.read(served.stdout.fileno(), 1 << 16)):
             answers += more
         begun, _, state = answers.removesuffix(end[1:]).partition(b"\n")
         return begun.decode().split(" ")[0], digest(state)

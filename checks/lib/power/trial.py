@@ -26,7 +26,9 @@ from session_file import SIZE
 
 MEGA = 1 << 20
 # Another program that writes meanwhile, so that the file system's own commits come between.
-BUSY = "(while :; do echo noise >> noise/a; mv noise/a noise/b; sleep 0.3; mv noise/b noise/a; done) & busy=$!"
+BUSY = "(cd /; n=/mnt/noise; while :; do echo noise >> $n/a; mv $n/a $n/b; sleep 0.3; mv $n/b $n/a; done) & busy=$!"
+# Ends the programs in the file system; what they started may still be there for a moment.
+END = "cd /; kill $busy $session; wait; umount /mnt || { sleep 1; umount /mnt; }"
 # What `new` may leave before its first answer, where a file system shows nothing that it was not given.
 BEFORE_NEW = ("absent", "size 0", "blank", 0)
 # So many faults of a recording are told, and so many images kept in all.
@@ -59,8 +61,8 @@ class Outcome:
 
 @dataclasses.dataclass
 class Stage:
-    """A session that is served: the words for it, what is done just before, the number of the first answer, the last command, and the number
-    of commands in the session that is there, if one is."""
+    """A session that is served: the words for it, what is done just before, the number of the first answer, the last command, and the
+    number of commands in the session that is there, if one is."""
     words: str
     before: str
     first: int
@@ -147,7 +149,7 @@ class Runner:
         self.serve(events, stage)
         self.disk.events = None
         self.disk.late = False
-        self.machine.must("cd /; kill $busy $session; wait; umount /mnt")
+        self.machine.must(END)
         self.disk.take_back()
         snapshots = set() if case.name.startswith("carried") else self.sessions.snapshots
         return History(events, stage.start, snapshots, kind.whole_blocks, self.chance)
@@ -239,8 +241,9 @@ class Runner:
         image = seen.image
         least = "nothing" if image.least is None else f"command {image.least}"
         found = f"{seen.found} commands" if isinstance(seen.found, int) else seen.found
-        return (f"cut at {image.place} of {places} ({image.phase}): {least} acknowledged, command {image.most} sent, found: {found}; "
-                f"{image.durable} writes durable, of {len(image.kept)} others {image.how}")
+        later = f" to {image.last}" if image.last > image.place else ""
+        return (f"cut at {image.place}{later} of {places} ({image.phase}): {least} acknowledged{' in the end' * bool(later)}, "
+                f"command {image.most} sent, found: {found}; {image.durable} writes durable, of {len(image.kept)} others {image.how}")
 
     # --- images that are kept, and the next disk
 
@@ -273,8 +276,9 @@ class Runner:
         return is_good
 
     def next_disk(self, trial: Trial, generation: int, seen: list[Seen]) -> Seen:
-        """The image that is the disk of the next generation: by turns one that was cut while a snapshot was written and one that was cut while
-        the session was opened, where there is such a one; of a session of version 1 one that still is; first of a new one a blank file."""
+        """The image that is the disk of the next generation: by turns one that was cut while a snapshot was written and one that was cut
+        while the session was opened, where there is such a one; of a session of version 1 one that still is; first of a new one a blank
+        file."""
         case = CASES[trial.case]
         is_carried = case.name.startswith("carried")
         wanted: Phase = "opening" if is_carried or generation % 2 else "snapshot"
