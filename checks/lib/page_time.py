@@ -165,6 +165,26 @@ def check_many(browser, program):
     comes(browser, "what is no number is refused in words", STATUS, re.compile("^Nothing was done: give a number"))
 
 
+def check_far(browser):
+    """Over a delay of 24 seconds, counted by hand, and back out of it; a change that does not come is not waited for for ever."""
+    choose_example(browser, "empty bench")
+    loops = "".join(f"ISZ R{each}, loop\n" for each in range(5))
+    lines_answered(browser, "wire\n[[rom]]\nchip = 0\nport = \"0000\"\n.\nasm\nJMS wait\nend: JUN end\n"
+                   f"wait: FIM P0, 0\nFIM P1, 0\nFIM P2, 0\nloop: {loops}BBL 0\n.")
+    # An ISZ takes two cycles, and each loop comes 16 times to its end.
+    cycles = 0
+    for _ in range(5):
+        cycles = 16 * (cycles + 2)
+    browser.click("#over")
+    comes(browser, "Over a delay", STATUS, f"Returned to 002, after {counted(cycles + 9)}.", 60)
+    browser.script(CHANGE, "#change-place", "r2")
+    browser.click("#back-change")
+    comes(browser, "back to the last change in it", STATUS, re.compile("^Back at .*: this instruction changes r2 from F to 0"), 60)
+    browser.script(CHANGE, "#change-place", "ram0.0")
+    browser.click("#until-change")
+    comes(browser, "what the board lacks", STATUS, "Nothing was done: this board has no ram0.0.")
+
+
 def check_stopwatch(browser):
     """A hundredth of a second of the stopwatch is 926 cycles, measured between two marks."""
     at_rest(browser, "stopwatch")
@@ -283,6 +303,7 @@ def check(browser, page, folder, mcs4):
     check_run_to_source(browser)
     check_many(browser, program)
     check_stopwatch(browser)
+    check_far(browser)
     check_back(browser)
     check_never(browser)
     check_slow(browser)

@@ -84,6 +84,15 @@ def check_stopwatch(browser):
     comes(browser, "the values at the cursors", "return document.getElementById('wave-table').textContent", re.compile("^lamp15[01][01]$"))
 
 
+def check_long(browser):
+    """A recording of half a minute: the last hundredth of a second is as long as the first."""
+    verdict("a long recording", record(browser, 3000000), "3,000,000 cycles recorded, 32,400,000.0 microseconds.")
+    browser.script(FOCUS)
+    browser.keys(["a", END, "p", "b", END, "p", "p"], 1, 1)
+    comes(browser, "its last hundredth of a second", BETWEEN, "A to B: 926 cycles, 10,000.8 microseconds")
+    comes(browser, "stands where it has to", FIRST, re.compile("^A: cycle 2,999,[0-9]{3}, "))
+
+
 def check_click(browser):
     """A click on the waves puts the cursor there."""
     browser.script(FOCUS)
@@ -146,16 +155,16 @@ def check_before(browser):
 
 
 def check_refusals(browser):
-    for words in ("0", "100001", "many", ""):
-        verdict(f"{words or 'nothing'} cycles are refused", record(browser, words), "How many cycles? A number from 1 to 100,000.")
+    for words in ("0", "10000001", "many", ""):
+        verdict(f"{words or 'nothing'} cycles are refused", record(browser, words), "How many cycles? A number from 1 to 10,000,000.")
     browser.script("document.getElementById('waves-none').click()")
     browser.click("#save-waves")
     comes(browser, "a file of no line is refused", TOLD, "No line is chosen: choose those that the file is to have.")
-    browser.script("document.getElementById('record-cycles').value = '100000'; document.getElementById('scope-told').textContent = ''")
+    browser.script("document.getElementById('record-cycles').value = '10000000'; document.getElementById('scope-told').textContent = ''")
     browser.click("#record")
     browser.until("return document.getElementById('work').hidden", False)
     browser.script("document.getElementById('cancel').click()")
-    verdict("a recording is cancelled", browser.until(TOLD, re.compile(".")), re.compile("cancelled, and nothing was recorded|100,000 cycles recorded"))
+    verdict("a recording is cancelled", browser.until(TOLD, re.compile(".")), re.compile("cancelled, and nothing was recorded|10,000,000 cycles recorded"))
     choose_example(browser, "empty bench")
     browser.click("#run")
     browser.until("return document.getElementById('status').textContent", "Stopped.")
@@ -169,6 +178,7 @@ def check(browser, page, folder, mcs4):
     comes(browser, "the page is ready", READY, True)
     check_stopwatch(browser)
     check_click(browser)
+    check_long(browser)
     check_file(browser, folder, mcs4)
     check_before(browser)
     check_refusals(browser)

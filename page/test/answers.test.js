@@ -2,7 +2,7 @@
 import assert from "node:assert/strict";
 import { test } from "node:test";
 import {
-  isStop, readBoard, readListing, readMarks, readPorts, readRam, readRegisters, readRun, refusalOf,
+  isStop, readBoard, readListing, readMarks, readRam, readRegisters, readRun, refusalOf,
 } from "../src/bench/answers.js";
 
 test("refusals, with a line and without", () => {
@@ -32,14 +32,6 @@ test("RAM", () => {
   assert.deepEqual([...told.registers], [
     ["0.0.0", { characters: "2000000000000000", status: "0000" }], ["0.0.1", { characters: "0000000000000000", status: "0020" }]]);
   assert.deepEqual([...told.ports], [["0.0", "1"]]);
-});
-
-test("ports, chains and keys", () => {
-  assert.deepEqual(readPorts(["ports", "src 00 0.00 1.00", "rom 0 out 3 in 0", "rom 1 out 0 in 6", "chain 0 1100000000", "keys 0.1 1.2"]), {
-    sources: ["00", "0.00", "1.00"], roms: [{ chip: "0", out: "3", in: "0" }, { chip: "1", out: "0", in: "6" }],
-    chains: ["1100000000"], keys: ["0.1", "1.2"],
-  });
-  assert.deepEqual(readPorts(["ports", "src 00", "keys -"]).keys, []);
 });
 
 test("marks", () => {

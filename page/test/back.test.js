@@ -77,6 +77,19 @@ test("back to the last change: before the instruction or the command that made i
   assert.equal((await calls.goBack({ kind: "change", place: "ram.7.0" })).why, "lacks");
 });
 
+test("back to a change far away, made by a command or by an instruction", async () => {
+  const calls = await begin("three lamps", `run 4000\npoke r9 5\n${"run 100000\n".repeat(30)}step\nrun 7\n`);
+  const { cycles } = await calls.goBack({ kind: "change", place: "r9" });
+  assert.ok(cycles > 3000007 && cycles < 3000010);
+  const [before, after] = [calls.ask("regs\n")[0], (await calls.serve("poke r9 5\n")).first];
+  assert.match(before, / r .{9}0/);
+  assert.match(after, /^ok/);
+  assert.equal((await calls.goBack({ kind: "change", place: "r9" })).line, "poke r9 5");
+  const reset = await begin("three lamps", "run 4000\nreset\nrun 3\n");
+  const told = await reset.goBack({ kind: "change", place: "ram0.0" });
+  assert.deepEqual([told.line, told.cycles, told.to], ["reset", 3, "0"]);
+});
+
 test("doing something else makes forward impossible; asking does not", async () => {
   const calls = await begin("three lamps", "run 100\n");
   assert.equal((await calls.goBack({ kind: "stop" })).future, 1);

@@ -2,6 +2,7 @@ import assert from "node:assert/strict";
 import { test } from "node:test";
 import { CycleCount, acceptedOf } from "../src/worker/accepted.js";
 import { Cycles, wordsOfCycles } from "../src/time/cycles.js";
+import { readBoard } from "../src/bench/answers.js";
 import { readInputs } from "../src/bench/inputs.js";
 import { placeOf } from "../src/bench/places.js";
 import { wordsOfReached } from "../src/time/reached.js";
@@ -48,14 +49,25 @@ test("marks: from one to here, between two, and then anew", () => {
 });
 
 test("places by their names", () => {
-  const regs = ["acc 6 cy 0 pc 00A owed 0 dcl 0 test 1 r 1000000000000009 ret 000 000 000"];
-  const ram = ["ram 0 chips 1", "0.0.0 2000000000000000 0000", "0.0.1 0000000000000000 0020", "0.0.2 0000000000000000 0000",
-    "0.0.3 000000000000000C 0000", "0.0 out 9"];
-  const ports = ["ports", "src 00 0.00", "rom 1 out 0 in 6", "chain 0 1100000000", "keys -"];
-  const values = { acc: regs, r15: regs, "ram.0.0x3F": ram, "st.0.1.2": ram, "ram0.0.3": ram, "ram0.0": ram, "rom1.2": ports,
-    rom1: ports, "chain0.1": ports, "lamp 1": ["lamps .*"], lamps: ["lamps .*"], "lamp 9": ["lamps .*"], "rom3.1": ports };
-  assert.deepEqual(Object.entries(values).map(([name, answers]) => placeOf(name).value(answers)),
-    ["6", "9", "C", "2", "1", "9", "01", "06", "1", "*", ".*", "", ""]);
+  const board = readBoard(["board", "[[rom]]", "chip = 1", 'port = "iiii"', "[[ram]]", "bank = 0", "chips = 1", "[[chain]]",
+    'clock = "ram0.0.0"', 'data = "ram0.0.1"', "chips = 2", "[[lamp]]", 'line = "ram0.0.3"', "[[lamp]]", 'line = "chain0.5"']);
+  /** By what `trace` tells a place, and its value where it tells these. */
+  const told = (name, ...values) => {
+    const place = placeOf(name);
+    return [place.name, place.probesOn(board).join(" "), place.value(values)];
+  };
+  assert.deepEqual([
+    told("acc", "6"), told("R15", "9"), told("ram.0.63", "C"), told("st.0.1.2", "2"), told("ram0.0.3", "1"), told("rom1.2", "0"),
+    told("rom1", "1", "0", "1", "1"), told("ram0.0", "0", "1", "0", "0"), told("chain0.19", "1"), told("lamp1", "1"), told("lamps", ".*"),
+  ], [
+    ["acc", "acc", "6"], ["r15", "r15", "9"], ["ram.0.0x3F", "ram.0.0x3F", "C"], ["st.0.1.2", "st.0.1.2", "2"],
+    ["ram0.0.3", "ram0.0.3", "1"], ["rom1.2", "rom1.2", "0"], ["rom1", "rom1.0 rom1.1 rom1.2 rom1.3", "D"],
+    ["ram0.0", "ram0.0.0 ram0.0.1 ram0.0.2 ram0.0.3", "2"], ["chain0.19", "chain0.19", "1"], ["lamp 1", "chain0.5", "*"],
+    ["lamps", "lamps", ".*"],
+  ]);
+  const lacking = ["ram.1.0", "ram.0.0x40", "st.0.4.0", "rom3.1", "rom0", "ram0.1", "ram1.0.0", "chain0.20", "chain1.0", "lamp 2"];
+  assert.deepEqual(lacking.map((name) => placeOf(name).probesOn(board)), lacking.map(() => []));
+  assert.deepEqual(placeOf("lamps").probesOn(readBoard(["board"])), []);
   const others = ["", "r16", "pc 4", "ram.8.0", "ram.0.256", "st.0.1.4", "rom16.0", "chain4.0", "key 3"];
   assert.deepEqual(others.map(placeOf), others.map(() => null));
 });

@@ -51,6 +51,46 @@ test("to an address that is far away, also where all breakpoints are taken", asy
   assert.deepEqual(other.found, (await calls.goOn({ kind: "here", address: 4 })).found);
 });
 
+/** A bench with one ROM and a program. */
+function bench(program) {
+  return begin("empty bench", `wire\n[[rom]]\nchip = 0\nport = "0000"\n.\nasm\n${program}.\n`);
+}
+
+/** Five loops in each other: an ISZ takes two cycles, and each loop comes 16 times to its end. */
+const DELAY = `FIM P0, 0\nFIM P1, 0\nFIM P2, 0\nloop: ${[0, 1, 2, 3, 4].map((each) => `ISZ R${each}, loop\n`).join("")}`;
+const DELAY_CYCLES = 6 + [0, 1, 2, 3, 4].reduce((cycles) => 16 * (cycles + 2), 0);
+
+test("over a delay of 24 seconds, and out of it", async () => {
+  const calls = await bench(`JMS wait\nend: JUN end\nwait: ${DELAY}BBL 0\n`);
+  assert.deepEqual((await calls.goOn({ kind: "over" })).found, { cycles: DELAY_CYCLES + 3, isReached: true, end: "" });
+  await calls.goBack({ kind: "stop" });
+  await calls.serve("run 1000\n");
+  const out = await calls.goOn({ kind: "out" });
+  assert.deepEqual([out.found, counterOf(calls)], [{ cycles: DELAY_CYCLES + 3 - 1000, isReached: true, end: "" }, "002"]);
+});
+
+test("a million instructions, from the middle of one on", async () => {
+  const calls = await bench("end: JUN end\n");
+  assert.equal((await calls.goOn({ kind: "count", count: 1000000 })).found.cycles, 2000000);
+  await calls.serve("run 1\n");
+  assert.equal((await calls.goOn({ kind: "count", count: 3 })).found.cycles, 5);
+  const mixed = await bench("go: NOP\nNOP\nJUN go\n");
+  assert.equal((await mixed.goOn({ kind: "count", count: 300000 })).found.cycles, 400000);
+});
+
+test("a change that is far away: a register, a whole port, a lamp, a character", async () => {
+  const told = async (program, place, lines = "") => {
+    const calls = await begin("three lamps", `asm\n${program}.\nreset\n${lines}`);
+    return (await calls.goOn({ kind: "change", place })).found;
+  };
+  const write = `${DELAY}SRC P0\nLDM 4\nWMP\nWRM\nend: JUN end\n`;
+  const cycles = DELAY_CYCLES;
+  for (const [place, after] of [["acc", 2], ["ram0.0", 3], ["ram0.0.2", 3], ["lamp 2", 3], ["lamps", 3], ["ram.0.0", 4]]) {
+    assert.deepEqual(await told(write, place), { cycles: cycles + after, isReached: true, end: "" }, place);
+  }
+  assert.deepEqual(await told(write, "acc", "break 9\n"), { cycles: 38, isReached: false, end: "break" });
+});
+
 test("a breakpoint and a watch of the user come first; a goal that never comes does nothing", async () => {
   const calls = await begin("three lamps", "run 7\nbreak 0x016\n");
   assert.deepEqual((await calls.goOn({ kind: "over" })).found, { cycles: 4, isReached: false, end: "break" });

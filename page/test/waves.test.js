@@ -2,8 +2,9 @@
 import assert from "node:assert/strict";
 import { test } from "node:test";
 import { readBoard } from "../src/bench/answers.js";
-import { vcdText } from "../src/waves/vcd.js";
-import { isHigh, linesOfBoard, readState } from "../src/waves/wave_lines.js";
+import { vcdParts } from "../src/waves/vcd.js";
+import { linesOfBoard } from "../src/waves/wave_lines.js";
+import { Answers } from "../src/worker/tracing.js";
 import { WaveTaking } from "../src/worker/wave_taking.js";
 import { Waves, countUpTo } from "../src/waves/waves.js";
 
@@ -24,7 +25,7 @@ function stateWith(changes) {
 }
 
 function linesWith(hasLabels = false) {
-  return linesOfBoard(BOARD, readState(STATE), TEXT, hasLabels);
+  return linesOfBoard(BOARD, TEXT, hasLabels);
 }
 
 function numberOf(lines, name) {
@@ -42,30 +43,65 @@ test("the lines of a board have the names of the manual, and those of the board'
   assert.equal(names.length, 12 + 8 + 10 + 3 + 80 + 3);
 });
 
-test("what each line is, by the answer to state", () => {
-  const state = readState(STATE);
-  const high = linesWith().filter((line) => line.field !== "pc" && isHigh(line, state[line.field])).map(({ name }) => name);
-  assert.deepEqual(high,
-    ["rom0.0", "rom0.1", "rom1.1", "rom1.2", "chain0.0", "chain0.1", "lamp0", "lamp.minus", "key.CE", "key1.2", "test"]);
+test("what each line is asked for by: a lamp by the line that it is at, a key by its place", () => {
+  const places = (wanted) => linesWith().filter(({ kind }) => kind === wanted).map(({ place }) => place);
+  assert.deepEqual(places("level").slice(-3), ["chain0.0", "chain0.1", "ram0.0.3"]);
+  assert.deepEqual(places("key").slice(0, 9), ["0.0", "0.1", "0.2", "0.3", "0.4", "0.5", "0.6", "0.7", "1.0"]);
+  const other = readBoard(["board", "[[rom]]", "chip = 12", 'port = "i0i1"', "[[rom]]", "chip = 3", 'port = "0000"']);
+  assert.deepEqual(linesOfBoard(other, "", false).map(({ name }) => name),
+    ["rom3.0", "rom3.1", "rom3.2", "rom3.3", "rom12.0", "rom12.1", "rom12.2", "rom12.3", "test", "pc"]);
 });
 
-test("an output line is what its latch holds, an input line what RDR would read", () => {
-  const mixed = readBoard(["board", "[[rom]]", "chip = 12", 'port = "i0i1"']);
-  const state = readState(stateWith({ roms: "12.F.4", rams: "-", chains: "-", keys: "-", lamps: "-" }));
-  const lines = linesOfBoard(mixed, state, "", false);
-  assert.deepEqual(lines.slice(0, 4).map((line) => [line.name, isHigh(line, state.roms)]),
-    [["rom12.0", true], ["rom12.1", false], ["rom12.2", true], ["rom12.3", false]]);
+test("places are asked for sixteen at once, each one once", () => {
+  const asked = new WaveTaking(linesWith()).questions(100).split("\n");
+  assert.equal(asked[0], "trace 100");
+  assert.deepEqual(asked.slice(1).map((line) => line.split(" ").length), [18, 16, 1]);
+  assert.equal(new Set(asked.join(" ").split(" ").filter((word) => word.includes("."))).size, 12 + 8 + 10);
 });
 
-/** Five instructions of which the third has two cycles. */
-function record(cycles) {
-  const taking = new WaveTaking(linesWith(), STATE, cycles);
-  taking.addStep("ok 9 ran 1 end", stateWith({ pc: "00B", roms: "0.1.0,1.0.6,2.0.0" }));
-  taking.addStep("ok 10 ran 1 end", stateWith({ pc: "00C", roms: "0.1.0,1.0.6,2.0.0", lamps: "***" }));
-  taking.addStep("ok 11 ran 2 end", stateWith({ pc: "00A", roms: "0.1.0,1.0.6,2.0.0", lamps: "***" }));
-  taking.addStep("ok 12 ran 1 end", stateWith({ pc: "00B", lamps: "***", test: "0" }));
-  taking.addStep("ok 13 ran 0 code", stateWith({ pc: "00B", lamps: "***", test: "0" }));
+/** What stands at places at the beginning; all others are 0. */
+const LEVELS = { "rom0.0": 1, "rom0.1": 1, "rom1.1": 1, "rom1.2": 1, "chain0.0": 1, "chain0.1": 1 };
+
+/**
+ * The answers to the questions of a recording: each instruction by the cycles before it, its address, and what it changes.
+ */
+function answersOf({ groups }, levels, instructions = []) {
+  const now = { ...levels };
+  const rowOf = ({ places }, values) => places.map((place) => ` ${values[place] || 0}`).join("");
+  const rows = instructions.map(([cycles, address, changes]) => {
+    const before = { ...now };
+    Object.assign(now, changes);
+    return { cycles, address, before, after: { ...now } };
+  });
+  const head = (lines, row) => [`trace ran 9 end lines ${lines.length}${row}`, ...lines];
+  const changed = (group) => rows.filter(({ before, after }) => rowOf(group, before) !== rowOf(group, after))
+    .map(({ cycles, address, after }) => `${cycles} ${address}${rowOf(group, after)}`);
+  return [...head(rows.map(({ cycles, address }) => `${cycles} ${address}`), ""),
+    ...groups.flatMap((group) => head(changed(group), rowOf(group, levels)))];
+}
+
+/** A recording that begins with a state. */
+function begin(state = STATE) {
+  const taking = new WaveTaking(linesWith());
+  taking.begin(new Answers([state, ...answersOf(taking, LEVELS)]));
   return taking;
+}
+
+/** A run, and the state after it. */
+function run(taking, levels, instructions, answer, changes) {
+  taking.takeRun(new Answers([...answersOf(taking, levels, instructions), answer]));
+  taking.takeState(stateWith(changes));
+  return taking;
+}
+
+const PROGRAM = [[0, "00A", { "rom0.1": 0 }], [1, "00B", { "ram0.0.3": 1 }], [2, "00C", {}], [4, "00A", { "rom0.1": 1 }]];
+
+/** Four instructions of which the third has two cycles; then comes a code that is none. */
+function record(cycles) {
+  const instructions = PROGRAM.filter(([before]) => before < cycles);
+  if (cycles > 5) return run(begin(), LEVELS, instructions, "ok 9 ran 5 code", { pc: "00B" });
+  const ends = { 3: { pc: "00E", owed: "1" }, 4: { pc: "00A" } };
+  return run(begin(), LEVELS, instructions, `ok 9 ran ${cycles} end`, ends[cycles]);
 }
 
 const LISTING = [[0x00a, "00A E2    WRR"], [0x00b, "00B E1    WMP"], [0x00c, "00C 40 0A JUN 0x00A"]];
@@ -77,7 +113,7 @@ function wavesOf(taking, program = null) {
 test("changes stand at the moment after their instruction", () => {
   const waves = wavesOf(record(100));
   const of = (name) => [...waves.changesOf(numberOf(waves.lines, name))];
-  assert.deepEqual([of("rom0.1"), of("lamp2"), of("test"), of("rom0.0")], [[1, 5], [2], [5], []]);
+  assert.deepEqual([of("rom0.1"), of("lamp2"), of("ram0.0.3"), of("test"), of("rom0.0")], [[1, 5], [2], [2], [], []]);
   assert.deepEqual(of("pc"), [1, 2, 4, 5]);
   assert.deepEqual([waves.cycles, waves.recorded.isStuck], [5, true]);
 });
@@ -90,23 +126,23 @@ test("a recording ends at its last cycle, inside an instruction too", () => {
 });
 
 test("a bench that refuses is told", () => {
-  const taking = new WaveTaking(linesWith(), STATE, 5);
-  assert.throws(() => taking.addStep("no 46", STATE), /no 46/);
+  assert.throws(() => begin().takeRun(new Answers(["no 90"])), /no 90/);
+  assert.throws(() => run(begin(), LEVELS, [], "no 46", {}), /no 46/);
 });
 
-test("cycle by cycle: an instruction of two cycles is one, and commands between cycles take no time", () => {
-  const taking = new WaveTaking(linesWith(), STATE, 3);
-  taking.add("ok 9 ran 1 end", stateWith({ pc: "020", owed: "1" }));
-  taking.add("ok 10", stateWith({ pc: "020", owed: "1", keys: "0.1" }));
-  taking.add("ok 11 ran 1 break", stateWith({ pc: "020", keys: "0.1" }));
-  taking.add("ok 12", stateWith({ pc: "020", keys: "0.1", test: "0" }));
-  taking.add("ok 13", stateWith({ pc: "020", keys: "0.1" }));
-  taking.add("ok 14", stateWith({ pc: "030", keys: "0.1" }));
-  taking.add("ok 15 ran 1 watch", stateWith({ pc: "031", keys: "0.1" }));
-  taking.add("ok 16", stateWith({ pc: "031", keys: "0.1", test: "0" }));
+test("an instruction of two cycles is one, and commands between cycles take no time", () => {
+  const taking = begin();
+  run(taking, LEVELS, [[0, "00A", {}]], "ok 9 ran 1 end", { pc: "020", owed: "1" });
+  taking.takeState(stateWith({ pc: "020", owed: "1", keys: "0.1" }));
+  run(taking, { ...LEVELS, "rom1.1": 0 }, [], "ok 11 ran 1 break", { pc: "020", keys: "0.1" });
+  taking.takeState(stateWith({ pc: "020", keys: "0.1", test: "0" }));
+  taking.takeState(stateWith({ pc: "020", keys: "0.1" }));
+  taking.takeState(stateWith({ pc: "030", keys: "0.1" }));
+  run(taking, { ...LEVELS, "rom1.1": 0 }, [[0, "030", { "rom0.0": 0 }]], "ok 15 ran 1 watch", { pc: "031", keys: "0.1" });
+  taking.takeState(stateWith({ pc: "031", keys: "0.1", test: "0" }));
   const waves = wavesOf(taking);
   const of = (name) => [...waves.changesOf(numberOf(waves.lines, name))];
-  assert.deepEqual([of("key1.2"), of("test"), of("pc")], [[1], [3], [2, 3]]);
+  assert.deepEqual([of("key1.2"), of("rom1.1"), of("rom0.0"), of("test"), of("pc")], [[1], [1], [3], [3], [2, 3]]);
   assert.deepEqual([0, 1, 2, 3].map((moment) => waves.counterAt(moment)), [0x00a, 0x00a, 0x030, 0x031]);
 });
 
@@ -135,14 +171,15 @@ test("the instruction at a moment, in both its cycles", () => {
 });
 
 test("the first sample may be the second cycle of an instruction", () => {
-  const taking = new WaveTaking(linesWith(), stateWith({ owed: "1" }), 1);
-  taking.addStep("ok 9 ran 1 end", STATE);
+  const taking = run(begin(stateWith({ owed: "1" })), LEVELS, [], "ok 9 ran 1 end", {});
   assert.deepEqual([wavesOf(taking).instructionAt(0).isSecond, wavesOf(taking).instructionAt(1).isSecond], [true, false]);
 });
 
+const textOf = (waves, chosen) => [...vcdParts(waves, chosen)].join("");
+
 test("a VCD file: a cycle is 108 units of 100 ns, lines in the order of the choice", () => {
   const waves = wavesOf(record(100));
-  const text = vcdText(waves, ["lamp2", "rom0.1", "pc"].map((name) => numberOf(waves.lines, name)));
+  const text = textOf(waves, ["lamp2", "rom0.1", "pc"].map((name) => numberOf(waves.lines, name)));
   assert.equal(text, `$version Fethsaim $end
 $comment 108 units of time are a cycle of the 4004, 10.8 microseconds $end
 $timescale 100 ns $end
@@ -174,14 +211,14 @@ b000000001011 D
 
 test("a VCD file ends with the end of the recording", () => {
   const waves = wavesOf(record(3));
-  const text = vcdText(waves, [numberOf(waves.lines, "test")]);
+  const text = textOf(waves, [numberOf(waves.lines, "test")]);
   assert.match(text, /#0\n\$dumpvars\n1A\n\$end\n#324\n$/);
 });
 
 test("the short names of lines in the file differ", () => {
   const waves = wavesOf(record(3));
   const all = waves.lines.map((_, line) => line);
-  const codes = vcdText(waves, all).split("\n").filter((line) => line.startsWith("$var")).map((line) => line.split(" ")[3]);
+  const codes = textOf(waves, all).split("\n").filter((line) => line.startsWith("$var")).map((line) => line.split(" ")[3]);
   assert.equal(new Set(codes).size, all.length);
   assert.deepEqual([codes[0], codes[21], codes[22], codes[43], codes[44]], ["A", "Y", "AA", "AY", "CA"]);
 });

@@ -3,7 +3,7 @@ import assert from "node:assert/strict";
 import { readFileSync } from "node:fs";
 import { test } from "node:test";
 import { BenchCalls } from "../src/worker/bench_calls.js";
-import { vcdText } from "../src/waves/vcd.js";
+import { vcdParts } from "../src/waves/vcd.js";
 import { Waves } from "../src/waves/waves.js";
 
 const page = readFileSync(new URL("../fethsaim.html", import.meta.url), "utf8");
@@ -24,7 +24,7 @@ function numberOf(waves, name) {
 }
 
 function wholeText(waves) {
-  return vcdText(waves, waves.lines.map((_, line) => line));
+  return [...vcdParts(waves, waves.lines.map((_, line) => line))].join("");
 }
 
 test("the stopwatch counts every 926 cycles, and its session is as it was", async () => {
@@ -68,7 +68,7 @@ test("keys that were pressed stand in the past, and it ends as it is here", asyn
   assert.deepEqual([up - down, waves.levelAt(key, down), others], [4000, 1, []]);
   assert.equal(waves.counterAt(5000), parseInt(/ pc (...)/.exec(calls.ask("regs\n")[0])[1], 16));
   const lamps = calls.ask("lamps\n")[0].slice("lamps ".length);
-  const shown = waves.lines.map((line, at) => [line, at]).filter(([line]) => line.field === "lamps")
+  const shown = waves.lines.map((line, at) => [line, at]).filter(([line]) => line.group === "lamps")
     .map(([, at]) => (waves.levelAt(at, 5000) ? "*" : ".")).join("");
   assert.equal(shown, lamps);
 });
@@ -88,6 +88,26 @@ test("a code that is no instruction ends a recording, and it is told", async () 
   const recorded = await calls.record(100, false, texts);
   assert.deepEqual([recorded.isStuck, recorded.program], [true, null]);
   assert.ok(recorded.cycles < 100);
+});
+
+test("a recording goes through breakpoints and watches, which stay", async () => {
+  const { calls, texts } = await begin("three lamps");
+  const plain = new Waves(await calls.record(3000, false, texts));
+  await calls.serve("break 0x016\nbreak 0\nwatch 0 0\n");
+  const waves = new Waves(await calls.record(3000, false, texts));
+  assert.deepEqual([waves.cycles, wholeText(waves)], [3000, wholeText(plain)]);
+  assert.deepEqual(calls.ask("breaks\nwatches\n"), ["breaks 000 016", "watches 0.00"]);
+});
+
+test("a long recording in both directions has the same edges", async () => {
+  const { calls, texts } = await begin("stopwatch");
+  await calls.serve("test 0\n");
+  const after = new Waves(await calls.record(300000, false, texts));
+  await calls.serve("run 100000\n".repeat(3));
+  const before = new Waves(await calls.record(300000, true, texts));
+  assert.equal(wholeText(after), wholeText(before));
+  const lamp = after.changesOf(numberOf(after, "lamp15"));
+  assert.deepEqual(new Set([...lamp].slice(2).map((moment, at) => moment - lamp[at + 1])), new Set([926]));
 });
 
 test("a recording is told how far it is, and cancelled", async () => {

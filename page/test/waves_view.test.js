@@ -110,6 +110,6 @@ test("what was recorded, in words", () => {
 });
 
 test("how many cycles are wanted", () => {
-  assert.deepEqual(["1", " 10,000 ", "100000"].map(readCycles), [1, 10000, 100000]);
-  assert.deepEqual(["0", "100001", "", "x", "1.5", "-1", "9999999"].map(readCycles), [0, 0, 0, 0, 0, 0, 0]);
+  assert.deepEqual(["1", " 10,000 ", "10,000,000"].map(readCycles), [1, 10000, 10000000]);
+  assert.deepEqual(["0", "10000001", "", "x", "1.5", "-1", "999999999"].map(readCycles), [0, 0, 0, 0, 0, 0, 0]);
 });

@@ -86,24 +86,6 @@ export function readRam(answers) {
 }
 
 /**
- * The answer to `ports`.
- * @param {string[]} answers
- * @returns {Ports}
- */
-export function readPorts(answers) {
-  /** @type {Ports} */
-  const told = { sources: [], roms: [], chains: [], keys: [] };
-  for (const answer of answers.slice(1)) {
-    const words = answer.split(" ");
-    if (words[0] === "src") told.sources = words.slice(1);
-    if (words[0] === "rom") told.roms.push({ chip: words[1], out: words[3], in: words[5] });
-    if (words[0] === "chain") told.chains.push(words.slice(2).join(""));
-    if (words[0] === "keys" && words[1] !== "-") told.keys = words.slice(1);
-  }
-  return told;
-}
-
-/**
  * `breaks 000 003`, `watches 0.00`, `lamps **.`: what stands after the first word.
  * @param {string} answer
  */

@@ -14,7 +14,7 @@ import { upTo } from "../bench/numbers.js";
  *   HistoryCalls
  */
 
-const MOST_INSTRUCTIONS = 1000000;
+const MOST_INSTRUCTIONS = 10000000;
 
 /**
  * The names of places that a board has, the most wanted ones first; others can be typed.

@@ -1,7 +1,6 @@
 // Why time stopped on its way to a goal, in words, and after how many cycles.
 
 import { wordsOfCycles } from "./cycles.js";
-import { MOST_BACK } from "../worker/going_back.js";
 import { hex } from "../bench/numbers.js";
 
 /**
@@ -44,7 +43,6 @@ function whyNot(goal, why) {
   if (goal.kind === "stop") return "the page remembers no stop before this one";
   if (goal.kind === "instruction") return "what the page remembers reaches no further back";
   if (why === "lacks") return `this board has no ${goal.place}`;
-  if (why === "unchanged") return `${goal.place} has not changed in the last ${wordsOfCycles(MOST_BACK)}`;
   return `${goal.place} has not changed as far back as the page remembers`;
 }
 

@@ -2,7 +2,7 @@
 
 import { Cell, block, button, byId, field, onClick } from "../dom.js";
 import { download } from "../session/download.js";
-import { vcdText } from "./vcd.js";
+import { vcdParts } from "./vcd.js";
 import { WaveChoice } from "./wave_choice.js";
 import { WaveView } from "./wave_view.js";
 import { MOST_CYCLES, readCycles, recordedText } from "./wave_words.js";
@@ -84,6 +84,6 @@ export class Scope {
       this.told.set("No line is chosen: choose those that the file is to have.");
       return;
     }
-    download(this.calls.name(), ".vcd", new Blob([vcdText(waves, rows)], { type: "text/plain" }));
+    download(this.calls.name(), ".vcd", new Blob([...vcdParts(waves, rows)], { type: "text/plain" }));
   }
 }

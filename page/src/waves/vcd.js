@@ -6,6 +6,8 @@
 const UNITS = 108;
 /** More lines than a recording can have: a change is one number, of its moment and its line. */
 const LINES = 1024;
+/** So many lines of the file are one part of it: a text has not room for all that a long recording has. */
+const LINES_OF_PART = 100000;
 /** Letters that begin no value in the file: a reader that does not know one kind of value takes nothing else for one then. */
 const LETTERS = "ACDEFGHIJKLMNOPQSTUVWY";
 
@@ -30,9 +32,9 @@ const KINDS = { pc: "wire 12", label: "string 1" };
  * @param {string} code
  */
 function changeText(waves, line, moment, code) {
-  const { field } = waves.lines[line];
-  if (field === "pc") return `b${waves.counterAt(moment).toString(2).padStart(12, "0")} ${code}`;
-  if (field === "label") return `s${waves.labelAt(moment) || "-"} ${code}`;
+  const { kind } = waves.lines[line];
+  if (kind === "pc") return `b${waves.counterAt(moment).toString(2).padStart(12, "0")} ${code}`;
+  if (kind === "label") return `s${waves.labelAt(moment) || "-"} ${code}`;
   return `${waves.levelAt(line, moment)}${code}`;
 }
 
@@ -47,7 +49,7 @@ function headerOf(waves, chosen, codes) {
     "$comment 108 units of time are a cycle of the 4004, 10.8 microseconds $end",
     "$timescale 100 ns $end",
     "$scope module board $end",
-    ...chosen.map((line, at) => `$var ${KINDS[waves.lines[line].field] || "wire 1"} ${codes[at]} ${waves.lines[line].name} $end`),
+    ...chosen.map((line, at) => `$var ${KINDS[waves.lines[line].kind] || "wire 1"} ${codes[at]} ${waves.lines[line].name} $end`),
     "$upscope $end",
     "$enddefinitions $end",
     "#0",
@@ -76,12 +78,13 @@ function changesOf(waves, chosen) {
 }
 
 /**
+ * The file, in parts.
  * @param {Waves} waves
  * @param {number[]} chosen the lines, by their numbers, in the order in which the file has them
  */
-export function vcdText(waves, chosen) {
+export function* vcdParts(waves, chosen) {
   const codes = chosen.map((_, at) => codeOf(at));
-  const text = headerOf(waves, chosen, codes);
+  let text = headerOf(waves, chosen, codes);
   let told = 0;
   for (const change of changesOf(waves, chosen)) {
     const moment = Math.floor(change / LINES);
@@ -89,7 +92,10 @@ export function vcdText(waves, chosen) {
     if (moment !== told) text.push(`#${moment * UNITS}`);
     told = moment;
     text.push(changeText(waves, chosen[place], moment, codes[place]));
+    if (text.length < LINES_OF_PART) continue;
+    yield `${text.join("\n")}\n`;
+    text = [];
   }
   if (waves.cycles > told) text.push(`#${waves.cycles * UNITS}`);
-  return `${text.join("\n")}\n`;
+  if (text.length > 0) yield `${text.join("\n")}\n`;
 }

@@ -122,7 +122,7 @@ function drawRow(context, picture, row, y) {
  * @param {number} line
  */
 function valueInGutter({ waves, view }, line) {
-  return waves.lines[line].field === "label" ? "" : waves.valueAt(line, view.moment);
+  return waves.lines[line].kind === "label" ? "" : waves.valueAt(line, view.moment);
 }
 
 /**

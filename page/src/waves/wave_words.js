@@ -6,7 +6,7 @@
  */
 
 /** The most cycles of a recording. */
-export const MOST_CYCLES = 100000;
+export const MOST_CYCLES = 10000000;
 
 /** @param {number} number */
 function grouped(number) {
@@ -77,12 +77,12 @@ export function recordedText({ cycles, recorded }, wanted, isBefore) {
 }
 
 /**
- * The number of cycles that a text tells, or 0 where it is not one from 1 to 100,000.
+ * The number of cycles that a text tells, or 0 where it is not one from 1 to the most.
  * @param {string} text
  */
 export function readCycles(text) {
   const plain = text.trim().replace(/,/g, "");
-  if (!/^[0-9]{1,6}$/.test(plain)) return 0;
+  if (!/^[0-9]{1,8}$/.test(plain)) return 0;
   const cycles = Number(plain);
   return cycles <= MOST_CYCLES ? cycles : 0;
 }

@@ -42,21 +42,22 @@ export class Waves {
    * @param {number} line
    */
   changesOf(line) {
-    const { field } = this.lines[line];
-    if (field === "pc") return (this.counterChanges = this.counterChanges || this.findChanges((moment) => this.counterAt(moment)));
-    if (field === "label") return (this.labelChanges = this.labelChanges || this.findChanges((moment) => this.labelAt(moment)));
+    const { kind } = this.lines[line];
+    if (kind === "pc") return (this.counterChanges = this.counterChanges || this.findChanges((counter) => counter));
+    if (kind === "label") return (this.labelChanges = this.labelChanges || this.findLabelChanges());
     return this.recorded.changes[line];
   }
 
-  /** @param {(moment: number) => number | string} valueAt */
-  findChanges(valueAt) {
-    let before = valueAt(0);
-    return this.recorded.moments.filter((moment) => {
-      const value = valueAt(moment);
-      const isOther = value !== before;
-      before = value;
-      return isOther;
-    });
+  findLabelChanges() {
+    /** @type {Map<number, string>} */
+    const labels = new Map([...this.listing.keys()].map((address) => [address, this.labelBelow(address)]));
+    return this.findChanges((counter) => labels.get(counter));
+  }
+
+  /** @param {(counter: number) => number | string | undefined} valueOf */
+  findChanges(valueOf) {
+    const { moments, counters } = this.recorded;
+    return moments.filter((_, at) => at > 0 && valueOf(counters[at]) !== valueOf(counters[at - 1]));
   }
 
   /**
@@ -105,9 +106,9 @@ export class Waves {
    * @param {number} moment
    */
   valueAt(line, moment) {
-    const { field } = this.lines[line];
-    if (field === "pc") return this.counterAt(moment).toString(16).toUpperCase().padStart(3, "0");
-    if (field === "label") return this.labelAt(moment) || "-";
+    const { kind } = this.lines[line];
+    if (kind === "pc") return this.counterAt(moment).toString(16).toUpperCase().padStart(3, "0");
+    if (kind === "label") return this.labelAt(moment) || "-";
     return String(this.levelAt(line, moment));
   }
 

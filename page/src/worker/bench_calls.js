@@ -7,10 +7,10 @@ import { findBoardFault } from "../bench/board_fault.js";
 import { Engine } from "./engine.js";
 import { linesOfExample } from "./examples.js";
 import { FullSpeed } from "./full_speed.js";
-import { MOST_PIECES, aimBack } from "./going_back.js";
+import { aimBack } from "./going_back.js";
 import { runLines } from "./key_queue.js";
 import { differenceOf, leftoversOf, readProgram } from "./program_check.js";
-import { mostCyclesTo, seek } from "./seek.js";
+import { MOST_CYCLES, seek } from "./seek.js";
 import { sourceOfRom, textsOfFile } from "./sources.js";
 import { tryTexts } from "./trying.js";
 import { recordedProgram } from "../waves/wave_program.js";
@@ -167,7 +167,7 @@ export class BenchCalls {
    * @param {number} [most] so many cycles are tried
    * @returns {Promise<ReachedLines>}
    */
-  async goOn(goal, most = mostCyclesTo(goal)) {
+  async goOn(goal, most = MOST_CYCLES) {
     const { session } = this;
     const found = await seek(this.engine, session.file, goal, (done) => this.goesOn(done, most), most);
     const lines = found.end === "bound" || found.end === "lacks" ? "" : runLines(Math.max(1, found.cycles));
@@ -182,8 +182,9 @@ export class BenchCalls {
    */
   async goBack(goal) {
     const { engine, session } = this;
-    let pieces = 0;
-    const goesOn = () => this.goesOn(pieces += 1, MOST_PIECES);
+    const all = session.timeline.cycles;
+    let done = 0;
+    const goesOn = (more = 0) => this.goesOn(done += more, all);
     const { moment, ...told } = await aimBack(engine, session, goal, goesOn);
     if (!moment) return this.gone("back", told, null);
     const present = await session.timeline.at(engine, moment, goesOn);

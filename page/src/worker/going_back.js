@@ -1,8 +1,10 @@
 // Where going back leads to: the last stop, the beginning of the last instruction, or before the last change of a place.
 
-import { readCounter } from "../bench/answers.js";
+import { readBoard, readCounter } from "../bench/answers.js";
 import { Cancelled } from "../bench/faults.js";
 import { placeOf } from "../bench/places.js";
+import { Answers, readTraced, valuesOf } from "./tracing.js";
+import { cyclesOf, piecesOf, unitsBetween } from "./units.js";
 
 /**
  * @typedef {import("./engine.js").Engine} Engine
@@ -10,22 +12,20 @@ import { placeOf } from "../bench/places.js";
  * @typedef {import("./timeline.js").GoesOn} GoesOn
  * @typedef {import("./timeline.js").Moment} Moment
  * @typedef {import("./timeline.js").Timeline} Timeline
+ * @typedef {import("./units.js").Unit} Unit
  * @typedef {{ kind: "stop" } | { kind: "instruction" } | { kind: "change", place: string }} BackGoal
  *
- * The moment, or null and why there is none: the past does not reach so far, the place has not changed in so many cycles, or the board
- * lacks it. Of a change, what it was from and to, and the command that made it, "" where an instruction did.
- * @typedef {{ moment: Moment | null, why: "" | "short" | "unchanged" | "lacks", from: string, to: string, line: string }} Aim
- *
- * A step on the way from one moment to another: a command, or a cycle; and where it begins.
- * @typedef {{ line: string, moment: Moment }} Unit
+ * The moment, or null and why there is none: the past does not reach so far, or the board lacks the place. Of a change, what it was from
+ * and to, and the command that made it, "" where an instruction did.
+ * @typedef {{ moment: Moment | null, why: "" | "short" | "lacks", from: string, to: string, line: string }} Aim
  */
 
-/** So many cycles are looked through for a change, which are so many pieces of steps that are done at once. */
-export const MOST_BACK = 2000000;
-const PIECE = 2000;
-export const MOST_PIECES = MOST_BACK / PIECE;
+/** The cycles before the present that are looked through first; each further stretch is twice as long. */
 const FIRST_BLOCK = 500;
-const LARGEST_BLOCK = 32000;
+const LARGEST_BLOCK = 4000000;
+/** So many cycles, and so many steps, are done at once. */
+const PIECE_CYCLES = 400000;
+const PIECE_UNITS = 500;
 
 /**
  * @param {Partial<Aim>} some
@@ -52,89 +52,49 @@ async function lastInstruction(engine, timeline, goesOn) {
 }
 
 /**
- * The steps from one moment to a later one of the same segment.
- * @param {Timeline} timeline
- * @param {Moment} from
- * @param {Moment} to
- */
-function unitsOf(timeline, from, to) {
-  const { entries } = timeline.segments[from.segment];
-  /** @type {Unit[]} */
-  const units = [];
-  for (let entry = from.entry; entry < entries.length && entry <= to.entry; entry++) {
-    const { line, cycles } = entries[entry];
-    const first = entry === from.entry ? from.cycles : 0;
-    const end = entry === to.entry ? to.cycles : cycles;
-    if (cycles === 0 && entry < to.entry) units.push({ line, moment: { ...from, entry, cycles: 0 } });
-    for (let cycle = first; cycle < end; cycle++) units.push({ line: "run 1", moment: { ...from, entry, cycles: cycle } });
-  }
-  return units;
-}
-
-/**
- * The values of a place after each of some steps, which are done on a file.
+ * The last change among some steps, which are done on a file, and asked about ahead; null where there is none.
  * @param {Engine} engine
  * @param {Uint8Array} file
  * @param {Unit[]} units
+ * @param {string[]} probes
  * @param {Place} place
  */
-function valuesAfter(engine, file, units, { question, value }) {
-  const lines = engine.ask(file, `${question}\n`).answers.length + 1;
-  const { answers } = engine.serve(file, units.map(({ line }) => `${line}\n${question}\n`).join(""), file);
-  return units.map((_, at) => value(answers.slice(at * lines + 1, (at + 1) * lines)));
-}
-
-/**
- * How many of the steps can be done at once: another board has other answers, so it is alone.
- * @param {Unit[]} units
- * @param {number} from
- */
-function pieceFrom(units, from) {
-  if (units[from].line.startsWith("wire")) return 1;
-  const wire = units.findIndex(({ line }, at) => at > from && line.startsWith("wire"));
-  return Math.min(PIECE, (wire < 0 ? units.length : wire) - from);
-}
-
-/**
- * The last change among some steps, which are done on a file; null where there is none.
- * @param {Engine} engine
- * @param {Uint8Array} file
- * @param {Unit[]} units
- * @param {Place} place
- * @param {GoesOn} goesOn
- */
-async function changeAmong(engine, file, units, place, goesOn) {
-  const ask = () => place.value(engine.ask(file, `${place.question}\n`).answers);
-  let before = ask();
+function changeAmong(engine, file, units, probes, place) {
+  /** @type {(cycles: number) => string} */
+  const ask = (cycles) => `trace ${cycles} ${probes.join(" ")}\n`;
+  const lines = units.map(({ line, cycles }) => `${ask(Math.max(1, cycles))}${line}\n`).join("");
+  const answers = new Answers(engine.serve(file, lines + ask(1), file).answers);
   /** @type {Aim | null} */
   let found = null;
-  for (let from = 0; from < units.length;) {
-    const piece = units.slice(from, from + pieceFrom(units, from));
-    const isWire = piece[0].line.startsWith("wire");
-    if (isWire) engine.serve(file, `${piece[0].line}\n`, file);
-    const values = isWire ? [ask()] : valuesAfter(engine, file, piece, place);
-    values.forEach((value, at) => {
-      const { line, moment } = piece[at];
-      if (value !== before) found = aim({ moment, from: before, to: value, line: line === "run 1" ? "" : line.split("\n")[0] });
-      before = value;
-    });
-    from += piece.length;
-    if (!(await goesOn())) throw new Cancelled();
+  let row = "";
+  /** @type {(after: string, moment: Moment, line: string) => void} */
+  const see = (after, moment, line) => {
+    if (row !== "" && after !== row) found = aim({ moment, line, from: place.value(valuesOf(row)), to: place.value(valuesOf(after)) });
+    row = after;
+  };
+  for (const { line, cycles, moment } of units) {
+    const trace = answers.takeTrace();
+    answers.take();
+    if (row === "") row = trace.row;
+    if (cycles === 0) see(answers.seeTrace().row, moment, line.split("\n")[0]);
+    for (const traced of cycles === 0 ? [] : trace.lines.map(readTraced)) {
+      see(traced.row, { ...moment, cycles: moment.cycles + traced.cycles }, "");
+    }
   }
   return found;
 }
 
 /**
- * Before the last change of a place: block by block from the present on, each one done again step by step.
+ * Before the last change of a place: block by block from the present on.
  * @param {Engine} engine
  * @param {Timeline} timeline
+ * @param {string[]} probes
  * @param {Place} place
  * @param {GoesOn} goesOn
  */
-async function lastChange(engine, timeline, place, goesOn) {
+async function lastChange(engine, timeline, probes, place, goesOn) {
   let to = timeline.end;
-  let size = FIRST_BLOCK;
-  for (let tried = 0; tried < MOST_BACK; tried += size, size = Math.min(LARGEST_BLOCK, size * 2)) {
+  for (let size = FIRST_BLOCK; ; size = Math.min(LARGEST_BLOCK, size * 2)) {
     // At the beginning of a segment goes on at the end of the one before it.
     if (to.entry === 0 && to.cycles === 0) {
       if (!timeline.segments[to.segment].follows) return aim({ why: "short" });
@@ -144,11 +104,15 @@ async function lastChange(engine, timeline, place, goesOn) {
     const wanted = timeline.before(size, to);
     const from = wanted && wanted.segment === to.segment ? wanted : { segment: to.segment, entry: 0, cycles: 0 };
     const { file } = await timeline.at(engine, from, goesOn);
-    const found = await changeAmong(engine, file, unitsOf(timeline, from, to), place, goesOn);
+    /** @type {Aim | null} */
+    let found = null;
+    for (const units of piecesOf(unitsBetween(timeline, from, to), PIECE_CYCLES, PIECE_UNITS)) {
+      found = changeAmong(engine, file, units, probes, place) || found;
+      if (!(await goesOn(cyclesOf(units)))) throw new Cancelled();
+    }
     if (found) return found;
     to = from;
   }
-  return aim({ why: "unchanged" });
 }
 
 /**
@@ -161,8 +125,8 @@ async function lastChange(engine, timeline, place, goesOn) {
 export async function aimBack(engine, { timeline, file }, goal, goesOn) {
   if (goal.kind === "change") {
     const place = placeOf(goal.place);
-    const isThere = place !== null && place.value(engine.ask(file, `${place.question}\n`).answers) !== "";
-    return isThere ? lastChange(engine, timeline, place, goesOn) : aim({ why: "lacks" });
+    const probes = place ? place.probesOn(readBoard(engine.ask(file, "board\n").answers)) : [];
+    return place && probes.length > 0 ? lastChange(engine, timeline, probes, place, goesOn) : aim({ why: "lacks" });
   }
   const moment = goal.kind === "stop" ? timeline.lastStop() : await lastInstruction(engine, timeline, goesOn);
   return aim({ moment, why: moment ? "" : "short" });

@@ -12,7 +12,7 @@ import { Cancelled } from "../bench/faults.js";
  *   the cycles that were counted up to it, and what came after it; `follows`: it is where the segment before it ends
  * @typedef {{ segment: number, entry: number, cycles: number }} Moment after so many entries of a segment, and so many cycles of the next
  * @typedef {{ file: Uint8Array, count: CycleCount }} Present
- * @typedef {() => Promise<boolean>} GoesOn says whether to go on
+ * @typedef {(done?: number) => Promise<boolean>} GoesOn is told how many cycles were looked through, and says whether to go on
  */
 
 /** A segment has at most about so many cycles, which are done again in a moment, so many entries, and so many letters in their lines. */
@@ -42,6 +42,11 @@ export class Timeline {
 
   get last() {
     return this.segments[this.segments.length - 1];
+  }
+
+  /** How many cycles it holds. */
+  get cycles() {
+    return this.segments.reduce((sum, { cycles }) => sum + cycles, 0);
   }
 
   /** Time stands still here. */

@@ -1,16 +1,21 @@
-// Records the lines of a board over time, in the worker: a copy of a session does one instruction or one cycle after the other, and after
-// each of them the bench tells its state.
+// Records the lines of a board over time, in the worker: a copy of a session is run, and before each run the bench is asked what it will
+// do.
 
-import { readBoard } from "../bench/answers.js";
+import { readBoard, readMarks } from "../bench/answers.js";
 import { Cancelled } from "../bench/faults.js";
 import { linesOf } from "../bench/inputs.js";
-import { linesOfBoard, readState } from "../waves/wave_lines.js";
+import { linesOfBoard } from "../waves/wave_lines.js";
+import { LONGEST_RUN } from "./key_queue.js";
+import { PieceSize } from "./pieces.js";
+import { Answers } from "./tracing.js";
+import { piecesOf, unitsBetween } from "./units.js";
 import { WaveTaking } from "./wave_taking.js";
 
 /**
  * @typedef {import("./engine.js").Engine} Engine
  * @typedef {import("./timeline.js").Moment} Moment
  * @typedef {import("./timeline.js").Timeline} Timeline
+ * @typedef {import("./units.js").Unit} Unit
  * @typedef {import("../waves/wave_lines.js").WaveLine} WaveLine
  *
  * The program in ROM: its text, the line of each address (0 for none), and its labels by rising address.
@@ -37,43 +42,47 @@ import { WaveTaking } from "./wave_taking.js";
  * @typedef {(done: number) => Promise<boolean>} GoesOn
  */
 
-/** A piece takes about so many milliseconds. */
-const PIECE_TIME = 40;
-const FIRST_PIECE = 200;
-const LARGEST_PIECE = 4000;
+const FIRST_PIECE = 1000;
+/** So many cycles, and so many steps, of the past are recorded at once. */
+const PIECE_CYCLES = 50000;
+const PIECE_UNITS = 200;
 
 class WaveRecorder {
   /**
    * @param {Engine} engine
    * @param {Uint8Array} file is changed
-   * @param {number} cycles
    * @param {Texts} texts
    */
-  constructor(engine, file, cycles, texts) {
+  constructor(engine, file, texts) {
     this.engine = engine;
     this.file = file;
     this.program = texts.program;
-    this.size = FIRST_PIECE;
-    const told = engine.ask(file, "board\nstate\n").answers;
-    const first = told[told.length - 1];
-    const lines = linesOfBoard(readBoard(told.slice(0, -1)), readState(first), texts.board, texts.program !== null);
-    this.taking = new WaveTaking(lines, first, cycles);
+    const board = readBoard(engine.ask(file, "board\n").answers);
+    this.taking = new WaveTaking(linesOfBoard(board, texts.board, texts.program !== null));
+    this.taking.begin(new Answers(engine.ask(file, `state\n${this.taking.questions(1)}`).answers));
   }
 
   /**
-   * Does commands, and gives the answers to them and to `state` after each.
-   * @param {string[]} commands
+   * Does steps.
+   * @param {Pick<Unit, "line" | "cycles">[]} units
    */
-  serve(commands) {
-    const begun = performance.now();
-    const { answers } = this.engine.serve(this.file, commands.map((line) => `${line}\nstate\n`).join(""), this.file);
-    const wanted = (commands.length * PIECE_TIME) / Math.max(1, performance.now() - begun);
-    this.size = Math.round(Math.min(LARGEST_PIECE, Math.max(FIRST_PIECE, wanted)));
-    return answers;
+  record(units) {
+    const { engine, file, taking } = this;
+    const lines = units.map(({ line, cycles }) => (cycles > 0 ? `${taking.questions(cycles)}${line}\n` : `${line}\nstate\n`)).join("");
+    const answers = new Answers(engine.serve(file, lines, file).answers);
+    for (const { cycles } of units) {
+      if (cycles > 0) {
+        taking.takeRun(answers);
+      } else {
+        answers.take();
+        taking.takeState(answers.take());
+      }
+    }
   }
 
   /** @returns {Recorded} */
   recorded() {
+    this.taking.takeState(this.engine.ask(this.file, "state\n").answers[0]);
     const taken = this.taking.taken();
     const addresses = [...new Set(taken.counters)];
     const { answers } = this.engine.ask(this.file, linesOf(addresses.map((address) => `list ${address} 1`)));
@@ -82,7 +91,16 @@ class WaveRecorder {
 }
 
 /**
- * Records so many cycles from here on; the file is left as it is.
+ * The lines that take away all breakpoints and watches.
+ * @param {string[]} told the answers to `breaks` and `watches`
+ */
+function linesWithoutStops([breaks, watches]) {
+  const places = readMarks(watches).map((place) => place.split(".")).map(([bank, source]) => `unwatch ${bank} 0x${source}`);
+  return linesOf([...readMarks(breaks).map((address) => `unbreak 0x${address}`), ...places]);
+}
+
+/**
+ * Records so many cycles from here on, whatever breakpoints and watches there are; the file is left as it is.
  * @param {Engine} engine
  * @param {Uint8Array} file
  * @param {number} cycles
@@ -90,12 +108,15 @@ class WaveRecorder {
  * @param {GoesOn} goesOn
  */
 export async function recordAfter(engine, file, cycles, texts, goesOn) {
-  const recorder = new WaveRecorder(engine, file.slice(), cycles, texts);
+  const copy = file.slice();
+  engine.serve(copy, linesWithoutStops(engine.ask(copy, "breaks\nwatches\n").answers), copy);
+  const recorder = new WaveRecorder(engine, copy, texts);
   const { taking } = recorder;
-  while (!taking.isDone) {
-    const answers = recorder.serve(Array(Math.min(recorder.size, cycles - taking.elapsed)).fill("step"));
-    for (let at = 0; at + 1 < answers.length; at += 2) taking.addStep(answers[at], answers[at + 1]);
-    if (!taking.isDone && !(await goesOn(taking.elapsed))) throw new Cancelled();
+  const piece = new PieceSize(FIRST_PIECE, FIRST_PIECE, LONGEST_RUN);
+  while (taking.elapsed < cycles && !taking.isStuck) {
+    const some = Math.min(piece.size, cycles - taking.elapsed);
+    piece.measure(() => recorder.record([{ line: `run ${some}`, cycles: some }]));
+    if (taking.elapsed < cycles && !(await goesOn(taking.elapsed))) throw new Cancelled();
   }
   return recorder.recorded();
 }
@@ -122,25 +143,16 @@ function beginningBefore(timeline, cycles) {
 }
 
 /**
- * What was done from a moment up to the present, cycle by cycle.
+ * What was done from a moment up to the present.
  * @param {Timeline} timeline
  * @param {Moment} from
  */
-function commandsFrom(timeline, from) {
-  /** @type {string[]} */
-  const commands = [];
-  let cycles = 0;
-  for (let segment = from.segment; segment < timeline.segments.length; segment++) {
-    const { entries } = timeline.segments[segment];
-    const first = segment === from.segment ? from.entry : 0;
-    for (let entry = first; entry < entries.length; entry++) {
-      const left = entries[entry].cycles - (segment === from.segment && entry === from.entry ? from.cycles : 0);
-      if (entries[entry].cycles === 0) commands.push(entries[entry].line);
-      for (let cycle = 0; cycle < left; cycle++) commands.push("run 1");
-      cycles += left;
-    }
-  }
-  return { commands, cycles };
+function unitsFrom(timeline, from) {
+  return timeline.segments.slice(from.segment).flatMap(({ entries }, at) => {
+    const segment = from.segment + at;
+    const begin = at === 0 ? from : { segment, entry: 0, cycles: 0 };
+    return unitsBetween(timeline, begin, { segment, entry: entries.length, cycles: 0 });
+  });
 }
 
 /**
@@ -154,14 +166,10 @@ function commandsFrom(timeline, from) {
 export async function recordBefore(engine, timeline, cycles, texts, goesOn) {
   const from = beginningBefore(timeline, cycles);
   const { file } = await timeline.at(engine, from, () => goesOn(0));
-  const done = commandsFrom(timeline, from);
-  const recorder = new WaveRecorder(engine, file, done.cycles, texts);
-  for (let at = 0; at < done.commands.length;) {
-    const piece = done.commands.slice(at, at + recorder.size);
-    const answers = recorder.serve(piece);
-    piece.forEach((_, each) => recorder.taking.add(answers[2 * each], answers[2 * each + 1]));
-    at += piece.length;
-    if (at < done.commands.length && !(await goesOn(recorder.taking.elapsed))) throw new Cancelled();
+  const recorder = new WaveRecorder(engine, file, texts);
+  for (const units of piecesOf(unitsFrom(timeline, from), PIECE_CYCLES, PIECE_UNITS)) {
+    recorder.record(units);
+    if (!(await goesOn(recorder.taking.elapsed))) throw new Cancelled();
   }
-  return recorder.recorded();
+  return { ...recorder.recorded(), isStuck: false };
 }

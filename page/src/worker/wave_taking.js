@@ -1,9 +1,16 @@
 // What is taken of the bench's answers for a recording: the moments at which each line changes, and those at which each instruction begins.
 
-import { readRun } from "../bench/answers.js";
-import { isHigh, isText, readState } from "../waves/wave_lines.js";
+import { readTraced } from "./tracing.js";
 
-/** @typedef {import("../waves/wave_lines.js").WaveLine} WaveLine */
+/**
+ * @typedef {import("./tracing.js").Answers} Answers
+ * @typedef {import("../waves/wave_lines.js").WaveLine} WaveLine
+ * @typedef {{ places: string[], members: number[][], row: string }} Group places that are asked for at once, the lines that are at each
+ *   of them, and their levels
+ */
+
+/** So many places one question takes. */
+const MOST_PLACES = 16;
 
 /** Numbers that become more. */
 class Growing {
@@ -41,101 +48,162 @@ class Growing {
   }
 }
 
-/** Takes the answers to a command and to `state`, one pair after the other. */
+/**
+ * The places of lines in groups, each place once.
+ * @param {WaveLine[]} lines
+ */
+function groupsOf(lines) {
+  /** @type {Map<string, number[]>} */
+  const places = new Map();
+  lines.forEach(({ kind, place }, member) => {
+    if (kind === "level") places.set(place, [...(places.get(place) || []), member]);
+  });
+  const all = [...places];
+  /** @type {Group[]} */
+  const groups = [];
+  for (let at = 0; at < all.length; at += MOST_PLACES) {
+    const some = all.slice(at, at + MOST_PLACES);
+    groups.push({ places: some.map(([place]) => place), members: some.map(([, members]) => members), row: "" });
+  }
+  return groups;
+}
+
+/**
+ * A value in the answer to `state`.
+ * @param {string} state
+ * @param {string} key
+ */
+function fieldOf(state, key) {
+  const words = state.split(" ");
+  return words[words.indexOf(key, 1) + 1];
+}
+
+/** Takes the answers to its questions and to runs, and those to other commands. */
 export class WaveTaking {
-  /**
-   * @param {WaveLine[]} lines
-   * @param {string} first the answer to `state` at the beginning
-   * @param {number} cycles
-   */
-  constructor(lines, first, cycles) {
+  /** @param {WaveLine[]} lines */
+  constructor(lines) {
     this.lines = lines;
-    this.cycles = cycles;
     this.elapsed = 0;
     /** Whether no instruction is at the counter. */
     this.isStuck = false;
-    this.words = first.split(" ");
-    this.isOwed = readState(first).owed === "1";
-    /** The lines of each field that can change, by the place of the field's value. */
-    this.fields = fieldsOf(lines, this.words);
-    this.counterAt = this.words.indexOf("pc") + 1;
-    this.owedAt = this.words.indexOf("owed") + 1;
-    this.firsts = Uint8Array.from(lines, (line) => Number(!isText(line) && isHigh(line, this.valueOf(line))));
-    this.levels = this.firsts.slice();
+    this.isOwed = false;
+    this.groups = groupsOf(lines);
+    this.firsts = new Uint8Array(lines.length);
+    this.levels = new Uint8Array(lines.length);
     this.changes = lines.map(() => new Growing());
     this.moments = new Growing();
     this.counters = new Growing();
-    this.take(first);
-  }
-
-  /** @param {WaveLine} line */
-  valueOf({ field }) {
-    return this.words[this.words.indexOf(field, 1) + 1];
-  }
-
-  get isDone() {
-    return this.isStuck || this.elapsed >= this.cycles;
   }
 
   /**
-   * The answers to an instruction; what comes after the end is left out.
-   * @param {string} answer to `step`
-   * @param {string} state
+   * What is asked before so many cycles are run: for each instruction where it stands, and for the lines when they change.
+   * @param {number} cycles
    */
-  addStep(answer, state) {
-    if (!this.isDone) this.add(answer, state);
+  questions(cycles) {
+    const groups = this.groups.map(({ places }) => `trace ${cycles} ${places.join(" ")}\n`);
+    return `trace ${cycles}\n${groups.join("")}`;
   }
 
   /**
-   * The answers to a command; where it is not a run, no cycle was done.
-   * @param {string} answer
-   * @param {string} state
+   * What is at the beginning: the answers to `state`, and to the questions.
+   * @param {Answers} answers
    */
-  add(answer, state) {
-    const run = readRun(answer);
-    if (!answer.startsWith("ok ")) throw new Error(`the bench answered a recording by: ${answer}`);
-    this.isStuck = run !== null && run.cycles === 0;
-    this.elapsed += run ? run.cycles : 0;
-    if (this.elapsed <= this.cycles) this.take(state);
+  begin(answers) {
+    const state = answers.take();
+    this.isOwed = fieldOf(state, "owed") === "1";
+    this.takeState(state);
+    answers.takeTrace();
+    for (const group of this.groups) this.takeRow(group, answers.takeTrace().row, 0);
+    this.firsts = this.levels.slice();
+    for (const each of this.changes) each.count = 0;
   }
 
-  /** @param {string} state */
-  take(state) {
-    const words = state.split(" ");
-    for (const { at, members } of this.fields) {
-      if (words[at] !== this.words[at]) this.compare(members, words[at]);
+  /**
+   * The answers to the questions, and to the run.
+   * @param {Answers} answers
+   */
+  takeRun(answers) {
+    for (const line of answers.takeTrace().lines) {
+      const { cycles, address } = readTraced(line);
+      this.takeInstruction(this.elapsed + cycles, address);
     }
-    this.words = words;
+    for (const group of this.groups) {
+      const trace = answers.takeTrace();
+      // A command may have changed it.
+      this.takeRow(group, trace.row, this.elapsed);
+      for (const line of trace.lines) {
+        const { cycles, row } = readTraced(line);
+        this.takeRow(group, row, this.elapsed + cycles + 1);
+      }
+    }
+    const { cycles, end } = answers.takeRun();
+    if (cycles === 0 && end !== "code") throw new Error(`the bench answered a recording by: ${end}`);
+    this.elapsed += cycles;
+    this.isStuck = end === "code";
+  }
+
+  /**
+   * The answer to `state` after a command, and where all is done.
+   * @param {string} state
+   */
+  takeState(state) {
+    const keys = `,${fieldOf(state, "keys")},`;
+    const test = Number(fieldOf(state, "test"));
+    this.lines.forEach(({ kind, place }, member) => {
+      if (kind === "key") this.set(member, Number(keys.includes(`,${place},`)), this.elapsed);
+      if (kind === "test") this.set(member, test, this.elapsed);
+    });
     // Inside an instruction the counter is that of the next one.
-    if (words[this.owedAt] === "1" && this.moments.count > 0) return;
-    const counter = parseInt(words[this.counterAt], 16);
-    if (this.moments.last === this.elapsed) {
+    if (fieldOf(state, "owed") === "0" || this.moments.count === 0) {
+      this.takeInstruction(this.elapsed, parseInt(fieldOf(state, "pc"), 16));
+    }
+  }
+
+  /**
+   * @param {number} moment
+   * @param {number} counter
+   */
+  takeInstruction(moment, counter) {
+    if (this.moments.last === moment) {
       this.counters.last = counter;
       return;
     }
-    this.moments.push(this.elapsed);
+    this.moments.push(moment);
     this.counters.push(counter);
   }
 
   /**
-   * @param {number[]} members
-   * @param {string} value
+   * @param {Group} group
+   * @param {string} row each level after a blank
+   * @param {number} moment
    */
-  compare(members, value) {
-    for (const member of members) {
-      const level = Number(isHigh(this.lines[member], value));
-      if (level === this.levels[member]) continue;
-      this.levels[member] = level;
-      // What was changed back at the same moment has not changed.
-      if (this.changes[member].last === this.elapsed) this.changes[member].pop();
-      else this.changes[member].push(this.elapsed);
-    }
+  takeRow(group, row, moment) {
+    if (row === group.row) return;
+    group.members.forEach((members, at) => {
+      const letter = 2 * at + 1;
+      if (row[letter] === group.row[letter]) return;
+      for (const member of members) this.set(member, Number(row[letter]), moment);
+    });
+    group.row = row;
+  }
+
+  /**
+   * @param {number} member
+   * @param {number} level
+   * @param {number} moment
+   */
+  set(member, level, moment) {
+    if (level === this.levels[member]) return;
+    this.levels[member] = level;
+    // What was changed back at the same moment has not changed.
+    if (this.changes[member].last === moment) this.changes[member].pop();
+    else this.changes[member].push(moment);
   }
 
   taken() {
     return {
-      cycles: Math.min(this.elapsed, this.cycles),
-      isStuck: this.isStuck && this.elapsed < this.cycles,
+      cycles: this.elapsed,
+      isStuck: this.isStuck,
       lines: this.lines,
       firsts: this.firsts,
       changes: this.changes.map((each) => each.taken()),
@@ -144,21 +212,4 @@ export class WaveTaking {
       isOwed: this.isOwed,
     };
   }
-}
-
-/**
- * @param {WaveLine[]} lines
- * @param {string[]} words of the answer to `state`
- */
-function fieldsOf(lines, words) {
-  /** @type {Map<string, { at: number, members: number[] }>} */
-  const fields = new Map();
-  lines.forEach((line, member) => {
-    if (isText(line)) return;
-    const { field } = line;
-    const known = fields.get(field) || { at: words.indexOf(field, 1) + 1, members: [] };
-    known.members.push(member);
-    fields.set(field, known);
-  });
-  return [...fields.values()];
 }

@@ -6,6 +6,7 @@ import { Cancelled } from "../bench/faults.js";
 import { endOfInputs, linesOf, matchAnswers, readInputs } from "../bench/inputs.js";
 import { KeyQueue } from "./key_queue.js";
 import { lookOf, questionsOf } from "../bench/look.js";
+import { PieceSize } from "./pieces.js";
 import { SEGMENT_ENTRIES, Timeline } from "./timeline.js";
 
 /**
@@ -25,9 +26,10 @@ import { SEGMENT_ENTRIES, Timeline } from "./timeline.js";
 
 /** So many of the inputs that were served are told. */
 export const MOST_ENTRIES = 400;
-/** A piece of long work takes about so many milliseconds. */
-const PIECE_TIME = 40;
+/** So many characters of lines are served at once. */
 const FIRST_PIECE = 4096;
+const LEAST_PIECE = 256;
+const LARGEST_PIECE = 1 << 20;
 
 /** @type {Record<string, true>} */
 const TOUCHES_ROM = { poke: true, wire: true, asm: true };
@@ -140,17 +142,18 @@ export class WorkerSession {
     const told = new Telling(this.count.copy());
     // `from` is the file that the next piece is served on; the session's own stays until all is done.
     let [from, to] = [this.file, this.next];
-    let size = FIRST_PIECE;
+    const size = new PieceSize(FIRST_PIECE, LEAST_PIECE, LARGEST_PIECE);
     for (let at = 0; at < lines.length;) {
-      const end = endOfInputs(lines, at, size);
-      const begun = performance.now();
+      const end = endOfInputs(lines, at, size.size);
       const piece = lines.slice(at, end);
-      const served = this.engine.serve(from, piece, to);
+      const served = size.measure(() => {
+        const done = this.engine.serve(from, piece, to);
+        told.add(piece, done);
+        return done;
+      });
       [from, to] = [to, from === this.file ? new Uint8Array(from.length) : from];
-      told.add(piece, served);
       at = end;
       if (served.status !== 0) break;
-      size = nextSize(size, performance.now() - begun);
       if (at < lines.length && !(await goesOn(at))) throw new Cancelled();
     }
     const lookQuestions = told.wires ? lookQuestionsOf(this.engine, from) : this.lookQuestions;
@@ -191,16 +194,6 @@ function lookQuestionsOf(engine, file) {
  */
 function lookAt(engine, file, { lines, inputs }) {
   return lookOf(inputs, engine.ask(file, lines).answers);
-}
-
-/**
- * The size of the next piece, by the time that this one took.
- * @param {number} size
- * @param {number} time
- */
-function nextSize(size, time) {
-  const wanted = size * Math.min(4, Math.max(0.25, PIECE_TIME / Math.max(1, time)));
-  return Math.round(Math.min(1 << 20, Math.max(256, wanted)));
 }
 
 /** Gathers what came of pieces. */

@@ -1,0 +1,80 @@
+// What the bench tells of a run that is not done: the answers to `trace` and `count`, among others that follow each other.
+
+import { readRun } from "../bench/answers.js";
+
+/**
+ * An instruction that is told: how many cycles are done before it, its address, and the row of what is looked at after it, each value
+ * after a blank.
+ * @typedef {{ cycles: number, address: number, row: string }} Traced
+ * @typedef {{ row: string, lines: string[] }} Trace the row before the run, and the lines of the instructions
+ * @typedef {{ cycles: number, end: string }} Ran how many cycles a run did, and what stopped it, "end" where nothing did
+ */
+
+const HEAD = /^(?:trace|count) ran \d+ \w+ lines (\d+)(.*)$/;
+
+/** @param {string} line */
+export function readTraced(line) {
+  const blank = line.indexOf(" ");
+  return { cycles: Number(line.slice(0, blank)), address: parseInt(line.slice(blank + 1, blank + 4), 16), row: line.slice(blank + 4) };
+}
+
+/**
+ * The values of a row.
+ * @param {string} row
+ */
+export function valuesOf(row) {
+  return row.slice(1).split(" ");
+}
+
+/** Answers that follow each other. */
+export class Answers {
+  /** @param {string[]} answers */
+  constructor(answers) {
+    this.answers = answers;
+    this.at = 0;
+  }
+
+  get isEmpty() {
+    return this.at === this.answers.length;
+  }
+
+  take() {
+    this.at += 1;
+    return this.answers[this.at - 1];
+  }
+
+  /** @returns {Trace} */
+  takeTrace() {
+    const answer = this.take();
+    const head = HEAD.exec(answer);
+    if (!head) throw new Error(`the bench answered a question by: ${answer}`);
+    const from = this.at;
+    this.at += Number(head[1]);
+    return { row: head[2], lines: this.answers.slice(from, this.at) };
+  }
+
+  /**
+   * The next answer, which stays to be taken.
+   * @returns {Trace}
+   */
+  seeTrace() {
+    const { at } = this;
+    const trace = this.takeTrace();
+    this.at = at;
+    return trace;
+  }
+
+  /** How many instructions a run begins, by the answer to `count`. */
+  takeCount() {
+    return this.takeTrace().lines.reduce((sum, line) => sum + Number(line.split(" ", 2)[1]), 0);
+  }
+
+  /**
+   * The answer to a run; a refusal is its end.
+   * @returns {Ran}
+   */
+  takeRun() {
+    const answer = this.take();
+    return readRun(answer) || { cycles: 0, end: answer };
+  }
+}

@@ -1,0 +1,51 @@
+// The past once more, in steps: the commands from one moment to a later one, and the cycles between them.
+
+/**
+ * @typedef {import("./timeline.js").Moment} Moment
+ * @typedef {import("./timeline.js").Timeline} Timeline
+ * @typedef {{ line: string, cycles: number, moment: Moment }} Unit a command, the cycles that it does, and where it begins
+ */
+
+/**
+ * The steps from one moment to a later one of the same segment.
+ * @param {Timeline} timeline
+ * @param {Moment} from
+ * @param {Moment} to
+ */
+export function unitsBetween(timeline, from, to) {
+  const { entries } = timeline.segments[from.segment];
+  /** @type {Unit[]} */
+  const units = [];
+  for (let entry = from.entry; entry < entries.length && entry <= to.entry; entry++) {
+    const { line, cycles } = entries[entry];
+    const first = entry === from.entry ? from.cycles : 0;
+    const end = entry === to.entry ? to.cycles : cycles;
+    const moment = { ...from, entry, cycles: first };
+    if (cycles === 0 && entry < to.entry) units.push({ line, cycles, moment });
+    else if (end > first) units.push({ line: end - first === cycles ? line : `run ${end - first}`, cycles: end - first, moment });
+  }
+  return units;
+}
+
+/** @param {Unit[]} units */
+export function cyclesOf(units) {
+  return units.reduce((sum, { cycles }) => sum + cycles, 0);
+}
+
+/**
+ * Steps in pieces of about so many cycles, and at most so many steps.
+ * @param {Unit[]} units
+ * @param {number} most
+ * @param {number} mostUnits
+ */
+export function* piecesOf(units, most, mostUnits) {
+  let from = 0;
+  let cycles = 0;
+  for (let at = 0; at < units.length; at++) {
+    cycles += units[at].cycles;
+    if (cycles < most && at + 1 - from < mostUnits && at + 1 < units.length) continue;
+    yield units.slice(from, at + 1);
+    from = at + 1;
+    cycles = 0;
+  }
+}
