@@ -86,8 +86,17 @@ goes_nowhere d e a = record {
   before = λ u image early now. inl ((a.since u image).0 now);
 }
 
-stays : (d : DiskState) → IsUntouched d d
+pub stays : (d : DiskState) → IsUntouched d d
 stays d = record { unwritten = refl; bytes = refl; clock = refl; images = λ image. (λ now. now, λ now. now); since = λ u image. (λ now. now, λ now. now) }
+
+stays_more : (d e f : DiskState) → IsUntouched d e → IsUntouched e f → IsUntouched d f
+stays_more d e f x y = record {
+  unwritten = y.unwritten ∙ x.unwritten;
+  bytes = y.bytes ∙ x.bytes;
+  clock = y.clock ∙ x.clock;
+  images = λ image. (λ now. (x.images image).0 ((y.images image).0 now), λ now. (y.images image).1 ((x.images image).1 now));
+  since = λ u image. (λ now. (x.since u image).0 ((y.since u image).0 now), λ now. (y.since u image).1 ((x.since u image).1 now));
+}
 
 pub stays_keeps : (d e : DiskState) (s : BenchState) → IsUntouched d e → IsIntactAt d s → IsLawful e → KeepsAllCommands d e s []
 stays_keeps d e s a h lawful = record {
@@ -118,7 +127,11 @@ settled_on a b cs x given = record {
 }
 
 pub carries_nothing : (a : SessionState) → RecordsCommands IsIntact a a []
-carries_nothing a = record { bench = refl; same_faults = refl; size = refl; honest = (λ h. h, λ h. h); kept = λ given. whole_nothing a.disk a.bench.state given.intact }
+carries_nothing a = record { bench = refl; same_faults = refl; size = refl; honest = (λ h. h, λ h. h); untouched = λ none. stays a.disk; kept = λ given. whole_nothing a.disk a.bench.state given.intact }
+
+none_of : (cs ds : List Command) → cs ++ ds ≡ [] → (cs ≡ []) × (ds ≡ [])
+none_of [] ds none = (refl, none)
+none_of (c ∷ cs) ds none = absurd (cc none)
 
 pub carries_more : (a b c : SessionState) (cs ds : List Command) → RecordsCommands IsIntact a b cs → RecordsCommands IsIntact b c ds → RecordsCommands IsIntact a c (cs ++ ds)
 carries_more a b c cs ds x y = record {
@@ -126,6 +139,7 @@ carries_more a b c cs ds x y = record {
   same_faults = y.same_faults ∙ x.same_faults;
   size = y.size ∙ x.size;
   honest = (λ h. x.honest.0 (y.honest.0 h), λ h. y.honest.1 (x.honest.1 h));
+  untouched = λ none. let both = none_of cs ds none in stays_more a.disk b.disk c.disk (x.untouched both.0) (y.untouched both.1);
   kept = λ given. whole_more a.disk b.disk c.disk a.bench.state b.bench.state cs ds (x.kept given) (ap (λ (m : SessionBench). m.state) x.bench) (y.kept (settled_on a b cs x given));
 }
 

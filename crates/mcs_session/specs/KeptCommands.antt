@@ -1,7 +1,7 @@
 -- What a disk keeps of a run of commands, wherever the power is cut.
 use Rattle.std.specs.Prelude.{◌≡◌, ◌⊎◌, ◌+◌, ◌≤◌, ◌↔◌, IsTrue, ℕ, List, [], ◌∷◌, count_by, length, nat_le, take}
 use Rattle.mcs_disk.specs.Disk.{DiskState, IsLawful}
-use Rattle.mcs_disk.specs.Moments.{KeepsEarlierImages}
+use Rattle.mcs_disk.specs.Moments.{IsUntouched, KeepsEarlierImages}
 use Rattle.mcs_disk.specs.PowerCut.{IsLeftByCut}
 use Rattle.mcs_model.specs.declared.command.Command.{Command}
 use Rattle.mcs_model.specs.BenchState.{BenchState}
@@ -92,6 +92,8 @@ pub record RecordsCommands (Given : Premise) (a b : SessionState) (cs : List Com
   pub same_faults : b.disk.faults ≡ a.disk.faults
   pub size : b.disk.size ≡ a.disk.size
   pub honest : b.disk.honest ↔ a.disk.honest
+  -- where there were none, no write was asked of the disk, whatever disk it is
+  pub untouched : cs ≡ [] → IsUntouched a.disk b.disk
   pub kept : Given a → KeepsAllCommands a.disk b.disk a.bench.state cs
 
 -- ---- reopening

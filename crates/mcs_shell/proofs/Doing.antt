@@ -1,6 +1,7 @@
 -- What an input leaves, by its answer.
-use Rattle.std.proofs.Common.{◌≡◌, ◌≢◌, ◌↔◌, ◌||◌, ◌++◌, ℕ, Bool, true, false, List, [], ◌∷◌, Option, Some, None, Result, Ok, Err, OnErr, OnOk, inl, inr, sym, ap, append-nil, ◌∙◌, refl, subst}
+use Rattle.std.proofs.Common.{◌≡◌, ◌≢◌, ◌↔◌, ◌||◌, ◌++◌, ℕ, Bool, true, false, List, [], ◌∷◌, Option, Some, None, Result, Ok, Err, IfErr, OnErr, OnOk, inl, inr, sym, ap, append-nil, ◌∙◌, refl, subst}
 use Rattle.mcs_disk.specs.Disk.{DiskState, IsLawful}
+use Rattle.mcs_disk.specs.Moments.{IsUntouched}
 use Rattle.mcs_model.specs.declared.command.Command.{Command}
 use Rattle.mcs_model.specs.declared.command.Reply.{Reply}
 use Rattle.mcs_model.specs.declared.refusals.BenchFault.{BenchFault}
@@ -27,7 +28,7 @@ use Rattle.mcs_answers.specs.AnswerTexts.{no_text, ok_text}
 use Rattle.mcs_shell.specs.Transcript.{IsPossibleOutcome, accepted_commands, answer, asked_command, change_answer, acknowledged_commands, halt_of, is_device_fault, plain_answer, reached_commands, takes_memory}
 use Rattle.mcs_session.specs.KeptCommands.{IsIntact}
 use Rattle.mcs_shell.specs.Serving.{AnsweredInput, LeavesSession, ServesInputs, ServesSteps, WroteBytes, outcome_of}
-use Rattle.mcs_session.proofs.Keeping.{acknowledged_keeps, carries_nothing, failed_keeps, stays_keeps}
+use Rattle.mcs_session.proofs.Keeping.{acknowledged_keeps, carries_nothing, failed_keeps, stays, stays_keeps}
 use Rattle.mcs_shell.proofs.StepLists.{or_no, or_none}
 
 abbrev pub at : Bool → BenchState → DiskState → SessionState
@@ -39,8 +40,14 @@ pub record Tried (live : Bool) (s : BenchState) (d : DiskState) (c : Command) (r
   pub closes : ClosesAtDeviceFault live d.faults result b.bench.live b.disk.faults
   pub size : b.disk.size ≡ d.size
   pub honest : b.disk.honest ↔ d.honest
+  pub untouched : IfErr result (λ f. f ≢ fault.Device → IsUntouched d b.disk)
   pub records : d.honest → RecordsOrFails result d b.disk s c
   pub lawful : b.disk.honest → IsLawful b.disk
+
+-- the very disk is untouched
+pub untouched_state : {D : Type 0} (state_of : D → DiskState) (new old : D) (r : Result Reply SessionFault) → IfErr r (λ f. f ≢ fault.Device → new ≡ old) → IfErr r (λ f. f ≢ fault.Device → IsUntouched (state_of old) (state_of new))
+untouched_state state_of new old (Ok x) h = tt
+untouched_state state_of new old (Err f) h = λ other. subst (λ disk. IsUntouched (state_of old) (state_of disk)) (sym (h other)) (stays (state_of old))
 
 -- what it says of a known result
 pub known : (q r : Result Reply SessionFault) (live : Bool) (s : BenchState) (d : DiskState) (b : SessionState) (c : Command) → q ≡ r → Tried live s d c q b → Tried live s d c r b
@@ -74,6 +81,7 @@ ok_changed r true s d b c told h k =
         same_faults = h.closes.1;
         size = h.size;
         honest = h.honest;
+        untouched = λ none. absurd (cc none);
         kept = λ given. acknowledged_keeps d b.disk s c (h.records given.honest.1) (h.lawful (h.honest.1 given.honest.1));
       });
     }
@@ -92,6 +100,7 @@ refused_changed f true s d b c told h k =
         same_faults = h.closes.1;
         size = h.size;
         honest = h.honest;
+        untouched = λ none. h.untouched (λ e. absurd (cc e));
         kept = λ given. stays_keeps d b.disk s (h.records given.honest.1) given.intact (h.lawful (h.honest.1 given.honest.1));
       });
     }
@@ -121,7 +130,7 @@ closed_changed true s d b c told h k = absurd (h.applied)
 closed_changed false s d b c told h k = record {
   may = (λ x. absurd (cc x), refl);
   told_is = k;
-  leaves = record { bench = λ k. record { live = h.closes.0 k; state = h.applied k }; same_faults = h.closes.1; size = h.size; honest = h.honest; kept = λ given. absurd (cc given.honest.0) };
+  leaves = record { bench = λ k. record { live = h.closes.0 k; state = h.applied k }; same_faults = h.closes.1; size = h.size; honest = h.honest; untouched = λ none. h.untouched (λ e. absurd (cc e)); kept = λ given. absurd (cc given.honest.0) };
 }
 
 -- it was not recorded

@@ -2,6 +2,7 @@
 use Rattle.std.proofs.Common.{◌≡◌, ℕ, ◌+◌, ◌<◌, ◌≤◌, List, [], ◌∷◌, ◌++◌, Bool, true, false, length, Option, None, Some, ◌⊎◌, inl, inr, ap, sym, append_assoc, append-nil, length-append, ◌∙◌, refl, subst, arith, codes}
 use Rattle.std.specs.Io.KnownBytes.{Appends, Consumes, IsAtEnd, Keeps}
 use Rattle.std.proofs.lemmas.List.{map-append, nil_from_length}
+use Rattle.std.proofs.lemmas.List.Elements.{filter-append}
 use Rattle.std.proofs.KnownBytes.{Appends-trans, Appends-nil, Consumes-kept, Consumes-trans, Consumes-nil}
 use Rattle.std.specs.Fmt.{decimal}
 use Rattle.std.specs.Option.{option_or}
@@ -23,9 +24,9 @@ use Rattle.mcs_shell.specs.Inputs.{Input, BadText, Commands, InText, Pending, no
 use Rattle.mcs_shell.specs.Serving.{ServesBytes, GotFirstBytes, LeavesSession, ServesInputs, WroteBytes}
 use Rattle.mcs_shell.specs.Shell.{EndsBy, ReadsLittleAhead, RanShellGiven, ReadBytes}
 use Rattle.mcs_shell.specs.ShellState.{KnownBytes, ShellState, with_written}
-use Rattle.mcs_shell.specs.Transcript.{Step, acknowledged_commands, halt_after, halt_of, in_turn, inputs_in, reached_commands}
+use Rattle.mcs_shell.specs.Transcript.{Step, acknowledged_commands, answered_steps, halt_after, halt_of, in_turn, inputs_in, reached_commands}
 use Rattle.mcs_shell.proofs.LineFeeds.{after-cut, after-empty, after-whole}
-use Rattle.mcs_shell.proofs.StepLists.{halt-append, has_failed, some_apart}
+use Rattle.mcs_shell.proofs.StepLists.{answered_all, halt-append, has_failed, some_apart}
 use Rattle.mcs_shell.proofs.Steps.{feeds_more, feeds_nothing, meets_nothing, serves_more}
 
 -- ---- inputs of the bytes that were read
@@ -96,19 +97,22 @@ from_fresh bytes whole = ap (λ v. inputs_after nothing_pending v whole) (sym (a
 cut_is_met : (a b : ShellState) (line : Pending) (bytes : List ℕ) (x : ServesBytes a b nothing_pending line bytes None) → inputs bytes false ≡ inputs_in x.met
 cut_is_met a b line bytes x = from_fresh bytes false ∙ x.spelled [] false ∙ ap (λ v. inputs_in x.met ++ v) (x.all_met refl [] false ∙ after-cut line (x.no_feed refl)) ∙ append-nil (inputs_in x.met)
 
--- what was met begins with what the bytes before those read ahead spell
-near_behind : (a b : ShellState) (line : Pending) (bytes ahead : List ℕ) (x : ServesBytes a b nothing_pending line bytes None) (ys : List Step) → length ahead ≤ CHUNK_BYTES → ReadsLittleAhead (bytes ++ ahead) (inputs_in (x.met ++ ys))
+-- what was answered begins with what the bytes before those read ahead spell
+near_behind : (a b : ShellState) (line : Pending) (bytes ahead : List ℕ) (x : ServesBytes a b nothing_pending line bytes None) (ys : List Step) → length ahead ≤ CHUNK_BYTES → ReadsLittleAhead (bytes ++ ahead) (inputs_in (answered_steps (x.met ++ ys)))
 near_behind a b line bytes ahead x ys few = record {
   before = bytes;
   ahead = ahead;
   parts = refl;
   few = few;
-  more = inputs_in ys;
-  answered_are = map-append (λ (z : Step). z.input) x.met ys ∙ ap (λ v. v ++ inputs_in ys) (sym (cut_is_met a b line bytes x));
+  more = inputs_in (answered_steps ys);
+  answered_are =
+      ap inputs_in (filter-append (λ (z : Step). z.whole) x.met ys ∙ ap (λ v. v ++ answered_steps ys) (answered_all x.met x.halts))
+      ∙ map-append (λ (z : Step). z.input) x.met (answered_steps ys)
+      ∙ ap (λ v. v ++ inputs_in (answered_steps ys)) (sym (cut_is_met a b line bytes x));
 }
 
-near_whole : (a b : ShellState) (line : Pending) (bytes : List ℕ) (x : ServesBytes a b nothing_pending line bytes None) (ys : List Step) → ReadsLittleAhead bytes (inputs_in (x.met ++ ys))
-near_whole a b line bytes x ys = let P : List ℕ → Type 0 = λ v. ReadsLittleAhead v (inputs_in (x.met ++ ys)) in subst P (append-nil bytes) (near_behind a b line bytes [] x ys (omega arith))
+near_whole : (a b : ShellState) (line : Pending) (bytes : List ℕ) (x : ServesBytes a b nothing_pending line bytes None) (ys : List Step) → ReadsLittleAhead bytes (inputs_in (answered_steps (x.met ++ ys)))
+near_whole a b line bytes x ys = let P : List ℕ → Type 0 = λ v. ReadsLittleAhead v (inputs_in (answered_steps (x.met ++ ys))) in subst P (append-nil bytes) (near_behind a b line bytes [] x ys (omega arith))
 
 -- a shell that had no memory did not begin
 begun_has_memory : (end : ShellEnd) (bytes : List ℕ) (whole : Bool) (met : List Step) (halted : Option ShellEnd) → EndsBy end true bytes whole met halted → end ≡ NoMemory → ⊥
@@ -116,7 +120,7 @@ begun_has_memory end bytes whole met halted ends is = let P : ShellEnd → Type 
 
 -- the loop has nothing to write first
 ran_loop : (end : ShellEnd) (whole : Bool) (r r' : KnownBytes) (a c : ShellState) (bytes : List ℕ) (halted : Option ShellEnd) → Consumes r r' bytes → length bytes ≤ INPUT_BYTES → (whole ≡ true → (length bytes < INPUT_BYTES) × IsAtEnd r')
-    → (m : ServesInputs IsIntact (inputs bytes whole) a c halted) → ReadsLittleAhead bytes (inputs_in m.met) → EndsBy end true bytes whole m.met halted → RanShellGiven IsIntact [] end r r' a c
+    → (m : ServesInputs IsIntact (inputs bytes whole) a c halted) → ReadsLittleAhead bytes (inputs_in (answered_steps m.met)) → EndsBy end true bytes whole m.met halted → RanShellGiven IsIntact [] end r r' a c
 ran_loop end whole r r' a c bytes halted consumed within ended m near ends = record {
   bytes = bytes;
   consumed = consumed;
@@ -198,7 +202,7 @@ ran_halt end r r' r'' a b c line new_line chunk total n most x small little y z 
 -- ---- the premise that callers see
 
 leaves_under : (failed : Bool) (a b : SessionState) (cs rs : List Command) → (IsOpenOnHonestDisk a → IsIntact a) → LeavesSession IsIntact failed a b cs rs → LeavesSession IsOpenOnHonestDisk failed a b cs rs
-leaves_under false a b cs rs settle x = record { bench = x.bench; same_faults = x.same_faults; size = x.size; honest = x.honest; kept = λ given. x.kept (settle given) }
+leaves_under false a b cs rs settle x = record { bench = x.bench; same_faults = x.same_faults; size = x.size; honest = x.honest; untouched = x.untouched; kept = λ given. x.kept (settle given) }
 leaves_under true a b cs rs settle x = record { closed = x.closed; state = x.state; faults = x.faults; size = x.size; honest = x.honest; kept = λ given. x.kept (settle given) }
 
 abbrev meets_under : (given : List Input) (a b : ShellState) (halted : Option ShellEnd) → (IsOpenOnHonestDisk a.session → IsIntact a.session) → ServesInputs IsIntact given a b halted → ServesInputs IsOpenOnHonestDisk given a b halted

@@ -5,6 +5,7 @@ use Rattle.mcs_host.specs.FileDisk.{IsOpened}
 use Rattle.mcs_host.specs.declared.file_disk.FileDisk.{FileDisk}
 use Rattle.mcs_host.specs.declared.arguments.Choice.TheVariants as choice
 use Rattle.mcs_session.specs.KeptCommands.{IsAfterPrefix, IsSpaced, acknowledged_by, last_moment}
+use Rattle.mcs_session.specs.LogUse.{LogUse, UsesLog, moments_of}
 use Rattle.mcs_session.specs.SessionState.{SessionView}
 use Rattle.mcs_shell.specs.Headline.{AnswersInTurn}
 use Rattle.mcs_shell.specs.Program.{IsBegunOn, IsRefusedWith}
@@ -33,6 +34,11 @@ pub record SurvivesInFile (run : ShellRun as_disk) : Type 0 where
   pub count : length moments
       ≡ length (in_turn acknowledged_commands run.before.state run.ran.served.met)
   pub spaced : IsSpaced (as_disk run.before.disk).clock moments
+  -- each is eight steps after the one before where the log, in use as it was then, had no room for
+  -- the record of the command, else four
+  pub timed : (log : LogUse) → UsesLog (as_disk run.before.disk).bytes log
+      → moments ≡ moments_of (as_disk run.before.disk).clock log
+      (in_turn acknowledged_commands run.before.state run.ran.served.met)
   pub within : last_moment (as_disk run.before.disk).clock moments
       ≤ (as_disk run.after.disk).clock
   pub reopened : (t : ℕ) (again : FileDisk) (name : List ℕ) (session : SessionView FileDisk)

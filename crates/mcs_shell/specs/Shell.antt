@@ -8,13 +8,13 @@ use Rattle.mcs_shell.specs.Inputs.{Input, inputs}
 use Rattle.mcs_disk.specs.Disk.{DiskState}
 use Rattle.mcs_session.specs.SessionState.{Premise, SessionView}
 use Rattle.mcs_shell.specs.ShellState.{KnownBytes, ShellState, shell_state, with_written}
-use Rattle.mcs_shell.specs.Transcript.{Step, inputs_in}
+use Rattle.mcs_shell.specs.Transcript.{Step, answered_steps, inputs_in}
 use Rattle.mcs_answers.specs.AnswerTexts.{session_text}
 use Rattle.mcs_session.specs.KeptCommands.{IsOpenOnHonestDisk}
 use Rattle.mcs_shell.specs.Serving.{ServesInputs, WroteBytes}
 
--- No more than 4,096 bytes were read ahead of the inputs that were met: these are those that the
--- bytes before spell, and maybe more. (A numeral, so that a shell with a larger chunk is
+-- No more than 4,096 bytes were read ahead of the inputs that were answered: these are those that
+-- the bytes before spell, and maybe more. (A numeral, so that a shell with a larger chunk is
 -- refused.)
 pub record ReadsLittleAhead (bytes : List ℕ) (answered : List Input) : Type 0 where
   pub before : List ℕ
@@ -57,7 +57,7 @@ pub record RanShellGiven
   pub untold : end ≡ NoMemory → b.out ≡ a.out
   pub halted : Option ShellEnd
   pub served : ServesInputs Given (inputs bytes whole) (with_written a started) b halted
-  pub near : ReadsLittleAhead bytes (inputs_in served.met)
+  pub near : ReadsLittleAhead bytes (inputs_in (answered_steps served.met))
   pub ends : EndsBy end begun bytes whole served.met halted
 
 -- a run whose first line is that of the session, under the premise that the session is open and its

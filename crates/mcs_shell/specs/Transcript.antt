@@ -1,5 +1,5 @@
 -- What is answered to inputs, and what they do.
-use Rattle.std.specs.Prelude.{◌≡◌, ◌≢◌, ◌⊎◌, Bool, true, false, ℕ, List, [], ◌∷◌, ◌++◌, map, Option, Some, None, Result, Ok, Err}
+use Rattle.std.specs.Prelude.{◌≡◌, ◌≢◌, ◌⊎◌, Bool, true, false, ℕ, List, [], ◌∷◌, ◌++◌, filter, map, Option, Some, None, Result, Ok, Err}
 use Rattle.std.specs.Option.{option_or}
 use Rattle.mcs_model.specs.declared.command.Command.{Command}
 use Rattle.mcs_model.specs.BenchState.{BenchState}
@@ -111,6 +111,10 @@ pub record Step : Type 0 where
   pub input : Input
   pub outcome : Outcome
   pub whole : Bool
+
+-- those whose answers went out whole
+abbrev pub answered_steps : List Step → List Step
+answered_steps met = filter (λ (x : Step). x.whole) met
 
 -- the inputs alone
 abbrev pub inputs_in : List Step → List Input

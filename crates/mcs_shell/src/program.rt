@@ -1,12 +1,12 @@
 //! The program: its arguments, its file, its session, its shell, its exit status.
-ghost use Rattle.std.specs.Prelude.{◌≡◌, ◌⊎◌, IfOk, IfErr, IfSome, IfNone, IsSomeAnd, OnErr, None, true, map};
+ghost use Rattle.std.specs.Prelude.{◌≡◌, ◌⊎◌, IfOk, IfErr, IfSome, IfNone, IsErrAnd, IsSomeAnd, OnErr, None, true, map};
 ghost use Rattle.std.specs.Process.{exit_status};
 ghost use Rattle.mcs_host.specs.CommandLine.{choice_in, takes_arguments};
 ghost use Rattle.mcs_host.specs.Ending.{as_disk};
 ghost use Rattle.mcs_host.specs.FileDisk.{IsOpened};
 ghost use Rattle.mcs_host.specs.declared.file_disk.FileDisk.{FileDisk};
 ghost use Rattle.mcs_host.specs.declared.file_fault.FileFault.{FileFault};
-ghost use Rattle.mcs_shell.specs.Program.{IsBegunOn, IsRefusedWith, RanWithStatus, ServedChosenSession, ServedBySomeArguments, ServedSession};
+ghost use Rattle.mcs_shell.specs.Program.{IsBegunOn, IsRefusedBy, RanWithStatus, ServedChosenSession, ServedBySomeArguments, ServedSession};
 ghost use Rattle.mcs_shell.specs.Shell.{RanShell};
 ghost use Rattle.mcs_shell.specs.RefusalNumbers.{refusal_number};
 ghost use Rattle.mcs_shell.specs.ShellState.{shell_state};
@@ -94,43 +94,66 @@ pub fn refuse_arguments(rt: &HostRuntime, fault: ArgumentsFault) -> io::Result<E
     }
 }
 
+/// Why there is no session.
+#[derive(Drop)]
+pub struct Refused<D: Disk + Drop> {
+    /// Why.
+    pub refusal: Refusal,
+    /// The disk that was opened for it, as the refusal left it; `None` where none was.
+    pub disk: Option<D>,
+}
+
 /// Begins the session that a choice asks for, on the disk that opening its file gave; or why there
 /// is none.
 pub fn session_on<D: Disk + Drop>(
     alloc: Global,
     choice: &Choice,
     opened: Result<D, FileFault>,
-) -> Result<Session<D>, Refusal>
+) -> Result<Session<D>, Refused<D>>
     ensures begun { IfOk opened (λ disk. IfOk result (λ session.
         IsBegunOn D.state choice.now disk session)) }
-    ensures refused { IfOk opened (λ disk. IfErr result (λ refusal.
-        IsRefusedWith D.state choice.now disk (refusal_number refusal))) }
-    ensures unopened { IfErr opened (λ fault. result ≡ Err (Refusal.File fault)) }
+    ensures refused { IfOk opened (λ disk. IfErr result (λ refused.
+        IsSomeAnd refused.disk (λ left. IsRefusedBy choice.now (D.state disk) (D.state left)
+        (refusal_number refused.refusal)))) }
+    ensures unopened { IfErr opened (λ fault.
+        IsErrAnd result (λ refused. refused.refusal ≡ Refusal.File fault)) }
 {
     let disk = match opened {
         Ok(disk) => disk,
-        Err(fault) => return Err(Refusal::File(fault)),
+        Err(fault) => {
+            return Err(Refused {
+                refusal: Refusal::File(fault),
+                disk: None,
+            });
+        }
     };
     match choice {
         Choice::New(_) => match Session::create(alloc, disk) {
             Ok(session) => Ok(session),
-            Err((fault, _disk)) => Err(Refusal::Create(fault)),
+            Err((fault, left)) => Err(Refused {
+                refusal: Refusal::Create(fault),
+                disk: Some(left),
+            }),
         },
         Choice::Open(_) => match Session::open(alloc, disk) {
             Ok(session) => Ok(session),
-            Err((fault, _disk)) => Err(Refusal::Open(fault)),
+            Err((fault, left)) => Err(Refused {
+                refusal: Refusal::Open(fault),
+                disk: Some(left),
+            }),
         },
     }
 }
 
 /// Makes or opens the session in a file, or tells why there is none.
-pub fn session_in(rt: &HostRuntime, choice: &Choice) -> Result<Session<FileDisk>, Refusal>
+pub fn session_in(rt: &HostRuntime, choice: &Choice) -> Result<Session<FileDisk>, Refused<FileDisk>>
     ensures begun { IfOk result (λ session. (disk : FileDisk) × IsOpened (as_disk disk)
         × IsBegunOn as_disk choice.now disk session) }
-    ensures refused { IfErr result (λ refusal.
-        ((fault : FileFault) × (refusal ≡ Refusal.File fault))
+    ensures refused { IfErr result (λ refused.
+        ((fault : FileFault) × (refused.refusal ≡ Refusal.File fault))
         ⊎ ((disk : FileDisk) × IsOpened (as_disk disk)
-        × IsRefusedWith as_disk choice.now disk (refusal_number refusal))) }
+        × IsSomeAnd refused.disk (λ left. IsRefusedBy choice.now (as_disk disk) (as_disk left)
+        (refusal_number refused.refusal)))) }
 {
     let alloc = rt.alloc();
     let make = matches!(choice, Choice::New(_));
@@ -183,7 +206,7 @@ pub fn serve_begun<R: Read, W: Write, D: Disk + Drop>(
     reader: &mut R,
     writer: &mut W,
     choice: &Choice,
-    begun: Result<Session<D>, Refusal>,
+    begun: Result<Session<D>, Refused<D>>,
 ) -> Ended<D>
     ensures served { IfOk begun (λ before. IsSomeAnd result.session (λ after.
         ServedSession D.state result.status (R.remaining reader.old) (R.remaining reader.new)
@@ -201,7 +224,8 @@ pub fn serve_begun<R: Read, W: Write, D: Disk + Drop>(
                 session: Some(session),
             }
         }
-        Err(refusal) => {
+        Err(refused) => {
+            let refusal = refused.refusal;
             let status = refuse_beside(rt, refusal.number(), refusal.streams());
             tell_refusal(rt, choice, refusal);
             Ended {

@@ -40,6 +40,7 @@ returns c = λ run given.
       moments = kept.moments;
       count = kept.count;
       spaced = kept.spaced;
+      timed = kept.timed;
       within = kept.within;
       reopened = λ t again name session late found begun.
           kept.reopened t again session.disk session.state late (record { cut = left_by_cut t run.after.disk again honest found; opens = begun.opens found.honest });

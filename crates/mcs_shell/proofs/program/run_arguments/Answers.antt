@@ -12,11 +12,10 @@ use Rattle.mcs_shell.specs.Shell.{exit_status_of}
 use Rattle.mcs_shell.specs.ShellState.{KnownBytes}
 use Rattle.mcs_shell.specs.declared.ends.ShellEnd.{ShellEnd}
 use Rattle.mcs_shell.specs.declared.ends.ShellEnd.TheVariants.{End}
-use Rattle.mcs_shell.specs.declared.refusal.Refusal.{Refusal}
 use Rattle.mcs_shell.proofs.program.run_arguments.Goals as goal
 
 -- what a choice began was served to what is handed back
-abbrev pub Serves : {E : Type 0} → Result (SessionView FileDisk) Refusal → Option (SessionView FileDisk) → Result ExitCode E
+abbrev pub Serves : {E F : Type 0} → Result (SessionView FileDisk) F → Option (SessionView FileDisk) → Result ExitCode E
     → KnownBytes → KnownBytes → KnownBytes → KnownBytes → Type 0
 Serves begun session status reader reader' out out' = IfOk begun (λ before. IsSomeAnd session (λ after.
     ServedSession as_disk status reader reader' out out' before after))
@@ -25,7 +24,7 @@ not_two : (end : ShellEnd) → exit_status_of end ≡ 2 → ⊥
 not_two End e = cc e
 not_two end e = cc e
 
-usage_of : {E : Type 0} (begun : Result (SessionView FileDisk) Refusal) (session : Option (SessionView FileDisk)) (status : Result ExitCode E)
+usage_of : {E F : Type 0} (begun : Result (SessionView FileDisk) F) (session : Option (SessionView FileDisk)) (status : Result ExitCode E)
     (reader reader' out out' : KnownBytes) (P : Type 0) → Serves begun session status reader reader' out out'
     → OnErr begun (IfOk status (λ code. exit_status code ≡ 3))
     → IfOk status (λ code. exit_status code ≡ 2 → P)
@@ -36,7 +35,7 @@ usage_of (Ok before) None (Ok code) reader reader' out out' P served refused = a
 usage_of (Err refusal) session (Ok code) reader reader' out out' P served refused =
     λ two. let e : 3 ≡ 2 = sym refused ∙ two in absurd (cc e)
 
-served_as_chosen : {E : Type 0} (entered : Option (List ℕ × List ℕ)) (choice : Choice) (begun : Result (SessionView FileDisk) Refusal)
+served_as_chosen : {E F : Type 0} (entered : Option (List ℕ × List ℕ)) (choice : Choice) (begun : Result (SessionView FileDisk) F)
     (session : Option (SessionView FileDisk)) (status : Result ExitCode E) (reader reader' out out' : KnownBytes)
     → entered ≡ Some (arguments_of_choice choice)
     → IfOk begun (λ before. (disk : FileDisk) × IsOpened (as_disk disk) × IsBegunOn as_disk choice disk before)
@@ -56,7 +55,7 @@ served_as_chosen entered choice (Ok before) None status reader reader' out out' 
 served_as_chosen entered choice (Err refusal) (Some after) status reader reader' out out' is found served none = absurd (cc none)
 served_as_chosen entered choice (Err refusal) None status reader reader' out out' is found served none = tt
 
-unserved_of : {E : Type 0} (begun : Result (SessionView FileDisk) Refusal) (session : Option (SessionView FileDisk)) (status : Result ExitCode E)
+unserved_of : {E F : Type 0} (begun : Result (SessionView FileDisk) F) (session : Option (SessionView FileDisk)) (status : Result ExitCode E)
     (reader reader' out out' : KnownBytes) → Serves begun session status reader reader' out out'
     → OnErr begun (IfOk status (λ code. exit_status code ≡ 3))
     → IfNone session (IfOk status (λ code. (exit_status code ≡ 2) ⊎ (exit_status code ≡ 3)))
@@ -65,7 +64,7 @@ unserved_of begun None (Err e) reader reader' out out' served refused = tt
 unserved_of (Ok before) None (Ok code) reader reader' out out' served refused = absurd served
 unserved_of (Err refusal) None (Ok code) reader reader' out out' served refused = inr refused
 
-untouched_of : {E : Type 0} (begun : Result (SessionView FileDisk) Refusal) (session : Option (SessionView FileDisk)) (status : Result ExitCode E)
+untouched_of : {E F : Type 0} (begun : Result (SessionView FileDisk) F) (session : Option (SessionView FileDisk)) (status : Result ExitCode E)
     (reader reader' out out' : KnownBytes) (P : Type 0) → Serves begun session status reader reader' out out' → OnErr begun P → IfNone session P
 untouched_of begun (Some after) status reader reader' out out' P served same = tt
 untouched_of (Ok before) None status reader reader' out out' P served same = absurd served

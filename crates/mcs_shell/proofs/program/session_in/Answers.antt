@@ -1,36 +1,37 @@
-use Rattle.std.proofs.Common.{◌≡◌, ◌⊎◌, Result, Ok, Err, IfOk, IfErr, inl, inr}
+use Rattle.std.proofs.Common.{◌≡◌, ◌⊎◌, Result, Ok, Err, IfOk, IfErr, IsErrAnd, IsSomeAnd, inl, inr}
 use Rattle.mcs_host.specs.Ending.{as_disk}
 use Rattle.mcs_host.specs.FileDisk.{IsOpened}
 use Rattle.mcs_host.specs.declared.file_disk.FileDisk.{FileDisk}
 use Rattle.mcs_host.specs.declared.file_fault.FileFault.{FileFault}
 use Rattle.mcs_host.specs.declared.arguments.Choice.{Choice}
 use Rattle.mcs_session.specs.SessionState.{SessionView}
-use Rattle.mcs_shell.specs.Program.{IsBegunOn, IsRefusedWith}
+use Rattle.mcs_shell.specs.Program.{IsBegunOn, IsRefusedBy}
 use Rattle.mcs_shell.specs.RefusalNumbers.{refusal_number}
+use Rattle.mcs_shell.specs.declared.program.Refused.{Refused}
 use Rattle.mcs_shell.specs.declared.refusal.Refusal.{Refusal}
 use Rattle.mcs_shell.specs.declared.refusal.Refusal.TheVariants as refusal
 use Rattle.mcs_shell.proofs.program.session_in.Goals as goal
 
-begun_on : (choice : Choice) (opened : Result FileDisk FileFault) (result : Result (SessionView FileDisk) Refusal)
+begun_on : (choice : Choice) (opened : Result FileDisk FileFault) (result : Result (SessionView FileDisk) (Refused FileDisk))
     → IfOk opened (λ disk. IsOpened (as_disk disk))
     → IfOk opened (λ disk. IfOk result (λ s. IsBegunOn as_disk choice disk s))
-    → IfErr opened (λ fault. result ≡ Err (refusal.File fault))
+    → IfErr opened (λ fault. IsErrAnd result (λ r. r.refusal ≡ refusal.File fault))
     → IfOk result (λ s. (disk : FileDisk) × IsOpened (as_disk disk) × IsBegunOn as_disk choice disk s)
 begun_on choice (Ok disk) (Ok s) is begun none = (disk, is, begun)
 begun_on choice (Ok disk) (Err r) is begun none = tt
-begun_on choice (Err fault) (Ok s) is begun none = absurd (cc none)
+begun_on choice (Err fault) (Ok s) is begun none = absurd none
 begun_on choice (Err fault) (Err r) is begun none = tt
 
-refused_on : (choice : Choice) (opened : Result FileDisk FileFault) (result : Result (SessionView FileDisk) Refusal)
+refused_on : (choice : Choice) (opened : Result FileDisk FileFault) (result : Result (SessionView FileDisk) (Refused FileDisk))
     → IfOk opened (λ disk. IsOpened (as_disk disk))
-    → IfOk opened (λ disk. IfErr result (λ r. IsRefusedWith as_disk choice disk (refusal_number r)))
-    → IfErr opened (λ fault. result ≡ Err (refusal.File fault))
-    → IfErr result (λ r. ((fault : FileFault) × (r ≡ refusal.File fault))
-    ⊎ ((disk : FileDisk) × IsOpened (as_disk disk) × IsRefusedWith as_disk choice disk (refusal_number r)))
+    → IfOk opened (λ disk. IfErr result (λ r. IsSomeAnd r.disk (λ left. IsRefusedBy choice (as_disk disk) (as_disk left) (refusal_number r.refusal))))
+    → IfErr opened (λ fault. IsErrAnd result (λ r. r.refusal ≡ refusal.File fault))
+    → IfErr result (λ r. ((fault : FileFault) × (r.refusal ≡ refusal.File fault))
+    ⊎ ((disk : FileDisk) × IsOpened (as_disk disk) × IsSomeAnd r.disk (λ left. IsRefusedBy choice (as_disk disk) (as_disk left) (refusal_number r.refusal))))
 refused_on choice (Ok disk) (Ok s) is refused none = tt
 refused_on choice (Ok disk) (Err r) is refused none = inr (disk, is, refused)
 refused_on choice (Err fault) (Ok s) is refused none = tt
-refused_on choice (Err fault) (Err r) is refused none = inl (fault, cc none)
+refused_on choice (Err fault) (Err r) is refused none = inl (fault, none)
 
 pub returns-clause-begun : goal.returns-clause-begun
 returns-clause-begun c = begun_on c.args.choice.now c.open_at-opened.result c.session_on.result c.open_at-opened.ensures.opened c.session_on.ensures.begun c.session_on.ensures.unopened

@@ -10,15 +10,12 @@ returns-in-Ok-create-clause-begun g c = rw (c.in-Ok.is, c.in-New.is) (record {
 })
 
 pub returns-in-Err-create-clause-refused : goal.returns-in-Err-create-clause-refused
-returns-in-Err-create-clause-refused g c = rw (c.in-Ok.is, c.in-New.is) (
-  c.in-Err-create._disk,
-  record {
-    fault = c.in-Err-create.fault;
-    told = refl;
-    counts = c.in-Err-create.ensures.refusal_counts;
-    refuses = c.in-Err-create.ensures.refused;
-  },
-)
+returns-in-Err-create-clause-refused g c = rw (c.in-Ok.is, c.in-New.is) (record {
+  fault = c.in-Err-create.fault;
+  told = refl;
+  counts = c.in-Err-create.ensures.refusal_counts;
+  refuses = c.in-Err-create.ensures.refused;
+})
 
 pub returns-in-Ok-open-clause-begun : goal.returns-in-Ok-open-clause-begun
 returns-in-Ok-open-clause-begun g c = rw (c.in-Ok.is, c.in-Open.is) (record {
@@ -28,12 +25,9 @@ returns-in-Ok-open-clause-begun g c = rw (c.in-Ok.is, c.in-Open.is) (record {
 })
 
 pub returns-in-Err-open-clause-refused : goal.returns-in-Err-open-clause-refused
-returns-in-Err-open-clause-refused g c = rw (c.in-Ok.is, c.in-Open.is) (
-  c.in-Err-open._disk,
-  record {
-    fault = c.in-Err-open.fault;
-    told = refl;
-    counts = c.in-Err-open.ensures.refusal_counts;
-    refuses = c.in-Err-open.ensures.refused;
-  },
-)
+returns-in-Err-open-clause-refused g c = rw (c.in-Ok.is, c.in-Open.is) (record {
+  fault = c.in-Err-open.fault;
+  told = refl;
+  counts = c.in-Err-open.ensures.refusal_counts;
+  refuses = c.in-Err-open.ensures.refused;
+})
