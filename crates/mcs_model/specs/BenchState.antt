@@ -10,7 +10,7 @@ pub record BenchState : Type 0 where
   pub bus : BusState
   -- the breakpoints, rising
   pub breakpoints : List ℕ
-  -- the watched RAM characters, each where `ram_at` says, rising
+  -- the watched RAM characters, each where `ram_place` says, rising
   pub watches : List ℕ
   -- how many commands were accepted
   pub seq : ℕ
