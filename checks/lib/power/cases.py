@@ -153,19 +153,17 @@ def cases_of(kind: str) -> list[str]:
 
 def long_trials() -> list[Trial]:
     """What `checks/power --long` tries."""
-    found = []
+    found = [Trial(kind, case, 20) for kind in ("ext4", "xfs", "btrfs", "vfat") for case in cases_of(kind)]
     for kind in ("ext4", "ext4-writeback", "xfs", "btrfs", "vfat", "exfat"):
         found.append(Trial(kind, "new", 150, 1, is_busy=True))
         found.append(Trial(kind, "served", 60, 5, is_busy=True))
         found.append(Trial(kind, "carried", 60, 5))
-    for kind in ("ext4", "xfs", "btrfs", "vfat"):
-        found += [Trial(kind, case, 20) for case in cases_of(kind)]
     return [*found, *WRONG]
 
 
 def short_trials() -> list[Trial]:
     """What `checks/power` tries: two file systems, each with what is most easily lost there."""
-    found = [Trial(kind, "new", 60, 1, is_busy=True) for kind in ("ext4", "vfat")]
+    found = [Trial("vfat", case, 10) for case in ("new-folder", "long-copied", "folder-copied", "folder-moved")]
     found += [Trial(kind, "carried", 30, 2) for kind in ("ext4", "vfat")]
-    found += [Trial("vfat", case, 10) for case in ("new-folder", "long-copied", "folder-copied", "folder-moved")]
+    found += [Trial(kind, "new", 60, 1, is_busy=True) for kind in ("ext4", "vfat")]
     return [*found, *(trial for trial in WRONG if trial.wrong in ("no sync", "no second sync", "no folder sync") and trial.kind != "xfs")]
