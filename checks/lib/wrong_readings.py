@@ -74,6 +74,9 @@ def ends_first(board: Board, done: int, most: int, changed: bool) -> str:
     return "end" if done == most else RIGHT_STOPS(board, done, most, changed)
 
 
+# Instructions that are left out, one in turn.
+NOTHING = ("JCN", "FIM", "SRC", "FIN", "JIN", "JUN", "JMS", "INC", "ISZ", "ADD", "SUB", "LD", "XCH", "BBL", "LDM", "WRM", "WMP", "WRR", "SBM", "RDM",
+           "RDR", "ADM", "DCL")
 RIGHT_STOPS = Board.stops
 WRONG_BOARDS: dict[str, Callable[[], AbstractContextManager]] = {
     "DAA clears the carry": instruction("DAA", without_carry),
@@ -88,6 +91,7 @@ WRONG_BOARDS: dict[str, Callable[[], AbstractContextManager]] = {
     "a breakpoint stops inside an instruction": method(Board, "stops", stops_inside),
     "the end comes first": method(Board, "stops", ends_first),
     "no watch stops": method(Board, "watched", lambda _board: []),
+    **{f"{name} does nothing": instruction(name, board4004.nop) for name in NOTHING},
 }
 
 
