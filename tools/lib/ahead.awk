@@ -1,7 +1,7 @@
 # What would happen, asked of the bench by `count` and `trace`, which change nothing. Needs numbers.awk, bench.awk and code.awk.
 #
 # take_count() reads the answer to `count`: begun_at[1] to begun_at[begun_count], the addresses of the instructions that the run begins,
-# in digits; begun_times[..] and taken_times[..], how often, and of a conditional jump how often it jumps.
+# in digits.
 #
 # Of places there may be any number: forget_places(), add_place(name) for each, ask_places(n). Then place_value[i] is what the place i
 # has now, event_cycle[1] to event_cycle[event_count] are the moments at which an instruction begins that changes one of them, and
@@ -25,13 +25,11 @@ function receive_row() {
     if ((getline reply) <= 0 || reply ~ /^e/) receive()
 }
 
-function take_count(    words, lines, i) {
-    begun_count = lines = take_head("count", words)
-    for (i = 1; i <= lines; i++) {
+function take_count(    i) {
+    begun_count = take_head("count")
+    for (i = 1; i <= begun_count; i++) {
         receive_row()
-        taken_times[i] = split(reply, words) > 2 ? words[3] + 0 : 0
-        begun_at[i] = words[1]
-        begun_times[i] = words[2] + 0
+        begun_at[i] = substr(reply, 1, 3)
     }
 }
 

@@ -1,7 +1,8 @@
 # What stands in ROM. Needs numbers.awk and bench.awk.
 #
 # read_code() reads all of it: code[at], the byte at each address, and code_digits[at], its hexadecimal digits; by the digits of an
-# address, address_of[digits] and cycles_at[digits], how long an instruction there takes.
+# address, address_of[digits], cycles_at[digits], how long an instruction there takes, and is_call_at[digits] and is_return_at[digits],
+# whether it is a JMS or a BBL.
 
 function read_code(    at, n, i, lines, digits) {
     for (at = 0; at < 4096; at += 256) {
@@ -13,6 +14,8 @@ function read_code(    at, n, i, lines, digits) {
         digits = sprintf("%03X", at)
         address_of[digits] = at
         cycles_at[digits] = cycles_of(code[at])
+        is_call_at[digits] = is_call(code[at])
+        is_return_at[digits] = code[at] >= 192 && code[at] < 208
     }
 }
 
@@ -29,10 +32,6 @@ function cycles_of(byte) {
 
 function is_call(byte) {
     return byte >= 80 && byte < 96
-}
-
-function is_return(byte) {
-    return byte >= 192 && byte < 208
 }
 
 # Where JMS goes.

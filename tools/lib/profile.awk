@@ -1,6 +1,6 @@
 # Where the cycles go. Needs names.awk, bench.awk, code.awk, ahead.awk and counting.awk.
 #
-# own[label] are the cycles from a label up to the next one; calls[at] how often a JMS went to an address, and with_calls[at] the cycles
+# own_at[digits] are the cycles of the instruction at an address, and own[label] those from a label up to the next one; calls[at] how often a JMS went to an address, and with_calls[at] the cycles
 # from there up to the BBL that came back, with all that was called. Of each key: how long it took from the press to the first lamp that
 # changed, and to the last one before the next key.
 
@@ -30,7 +30,6 @@ function run_counted(n,    end, k) {
 function ask_run(n,    lines, links, are_told) {
     send("regs\ncount " n "\ntrace " n " ret" (waiting == "" ? "" : "\ntrace " n " lamps"))
     take_registers(receive())
-    take_count()
     links = count_own()
     lines = take_head("trace")
     # A JMS or a BBL after which the return addresses are those of before is no line.
@@ -43,28 +42,24 @@ function ask_run(n,    lines, links, are_told) {
     follow_links(take_head("trace"))
 }
 
-# The cycles of each instruction, at its label; returns how often a JMS or a BBL is done. A cycle that is owed at the beginning is one of
-# the instruction before; `owes` is 1 where the last instruction owes one in the end.
-function count_own(    i, at, byte, cycles, sum, links) {
+# Reads the answer to `count`: the cycles of each instruction; returns how often a JMS or a BBL is done. A cycle that is owed at the
+# beginning is one of the instruction before, whose address is not known (`own_at[""]`) where a session begins within it; `owes` is 1
+# where the last instruction owes one in the end.
+function count_own(    words, lines, digits, cycles, sum, links) {
     sum = links = 0
-    if (now["owed"] == "1") put_own(owing, 1)
-    for (i = 1; i <= begun_count; i++) {
-        at = address_of[begun_at[i]]
-        byte = code[at]
-        cycles = cycles_of(byte) * begun_times[i]
+    if (now["owed"] == "1") own_at[owing]++
+    for (lines = take_head("count"); lines > 0; lines--) {
+        receive_row()
+        split(reply, words)
+        digits = words[1]
+        cycles = cycles_at[digits] * words[2]
         sum += cycles
-        put_own(at, cycles)
-        if (is_call(byte)) calls[target_of(at, byte)] += begun_times[i]
-        if (is_call(byte) || is_return(byte)) links += begun_times[i]
+        own_at[digits] += cycles
+        if (is_call_at[digits]) calls[target_of(address_of[digits], code[address_of[digits]])] += words[2]
+        if (is_call_at[digits] || is_return_at[digits]) links += words[2]
     }
     owes = sum - (ahead_ran - now["owed"])
     return links
-}
-
-# Where a session begins within an instruction, its address is not known.
-function put_own(at, cycles) {
-    if (at == "") own_before += cycles
-    else own[label_below(at)] += cycles
 }
 
 # A run whose last instruction is not done in the end: its last cycle is one of the next run.
@@ -74,24 +69,23 @@ function run_inside(n,    words) {
     take_head("trace")
     receive_row()
     split(reply, words)
-    owing = address_of[words[2]]
-    put_own(owing, -1)
+    owing = words[2]
+    own_at[owing]--
     run(1)
 }
 
 # Rows of a trace: from one routine into another, and back.
-function follow_links(lines,    blank, begun, at, byte) {
+function follow_links(lines,    blank, begun, digits) {
     while (lines-- > 0) {
         receive_row()
         blank = index(reply, " ")
         begun = elapsed + substr(reply, 1, blank - 1)
-        at = address_of[substr(reply, blank + 1, 3)]
-        byte = code[at]
-        if (is_call(byte)) {
+        digits = substr(reply, blank + 1, 3)
+        if (is_call_at[digits]) {
             if (depth == 3) forget_oldest()
-            routine[++depth] = target_of(at, byte)
+            routine[++depth] = target_of(address_of[digits], code[address_of[digits]])
             entered[depth] = begun + 2
-        } else if (is_return(byte) && depth > 0) leave_routine(begun + 1)
+        } else if (is_return_at[digits] && depth > 0) leave_routine(begun + 1)
     }
 }
 
@@ -148,7 +142,8 @@ function milliseconds(cycles) {
     return sprintf("%.1f ms", cycles * 0.0108)
 }
 
-function print_profile(    i, n, at, order, j, label, key) {
+function print_profile(    i, n, at, order, j, label, key, digits) {
+    for (digits in own_at) if (digits != "") own[label_below(address_of[digits])] += own_at[digits]
     printf "%d cycles, %s\n\n", total, milliseconds(total)
     printf "%-17s %-4s %10s %6s %9s %10s %10s\n", "label", "at", "own", "own %", "calls", "with calls", "longest"
     n = 0
@@ -167,7 +162,7 @@ function print_profile(    i, n, at, order, j, label, key) {
         if (calls[at] > 0) printf " %9d %10d %10d", calls[at], with_calls[at], longest_call[at]
         print ""
     }
-    if (own_before > 0) printf "%-22s %10d %6.1f\n", "(begun before)", own_before, 100 * own_before / total
+    if (own_at[""] > 0) printf "%-22s %10d %6.1f\n", "(begun before)", own_at[""], 100 * own_at[""] / total
     if (pressed_count == 0) return
     printf "\n%-17s %9s %9s %24s %24s\n", "key", "presses", "answered", "longest to a lamp", "to the last lamp"
     for (i = 1; i <= pressed_count; i++) {
