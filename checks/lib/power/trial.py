@@ -27,8 +27,10 @@ from session_file import SIZE
 MEGA = 1 << 20
 # Another program that writes meanwhile, so that the file system's own commits come between.
 BUSY = "(cd /; n=/mnt/noise; while :; do echo noise >> $n/a; mv $n/a $n/b; sleep 0.3; mv $n/b $n/a; done) & busy=$!"
-# Ends the programs in the file system; what they started may still be there for a moment.
-END = "cd /; kill $busy $session; wait; umount /mnt || { sleep 1; umount /mnt; }"
+# Begins the program on its line, which tells of an end that nobody asked for; and ends what is in the file system, where something that was
+# started may still be for a moment.
+BEGIN = "{{ {wrong} mcs4 {words} <&3 >&3; told=$?; [ -e /tmp/end ] || echo ended with status $told >&3; }} &"
+END = "cd /; : > /tmp/end; kill $busy; killall mcs4; wait; rm /tmp/end; umount /mnt || { sleep 1; umount /mnt; }"
 # What `new` may leave before its first answer, where a file system shows nothing that it was not given.
 BEFORE_NEW = ("absent", "size 0", "blank", 0)
 # So many faults of a recording are told, and so many images kept in all.
@@ -144,8 +146,8 @@ class Runner:
             self.machine.must(BUSY)
         if stage.before:
             self.machine.must(stage.before)
-        wrong = f"LD_PRELOAD=/omit.so WRONG='{trial.wrong}' " if trial.wrong not in ("", NO_BARRIER) else ""
-        self.machine.must(f"{wrong}mcs4 {stage.words} <&3 >&3 & session=$!")
+        wrong = f"LD_PRELOAD=/omit.so WRONG='{trial.wrong}'" if trial.wrong not in ("", NO_BARRIER) else ""
+        self.machine.must(BEGIN.format(wrong=wrong, words=stage.words))
         self.serve(events, stage)
         self.disk.events = None
         self.disk.late = False
@@ -160,7 +162,7 @@ class Runner:
         while True:
             answer = self.machine.hear(self.machine.program)
             if not f"{answer} ".startswith(f"{'ok' if command else 'session'} {number} "):
-                raise Fault(f"in place of answer {number}: {answer}")
+                raise Fault(f"in place of answer {number}: {answer}; the machine's last lines:\n{self.machine.last_lines()}")
             events.append(Event("answered", number))
             if number == stage.last:
                 return
