@@ -113,3 +113,19 @@ new MutationObserver((_, own) => {
   window.seen = performance.now() - window.went;
 }).observe(document.getElementById("digits"), { childList: true, characterData: true, subtree: true })"""
 KEY_TIME = "return window.seen"
+
+# Looks for what a button leads to, a place that rests where it is one of a change; `searched` gets the cycles a second.
+SEARCH = """
+window.searched = 0;
+document.getElementById("change-place").value = "st.0.3.3";
+const status = document.getElementById("status");
+status.textContent = "";
+const begun = performance.now();
+const cycles = arguments[1];
+new MutationObserver((_, own) => {
+  if (!/did not come in|Returned to/.test(status.textContent)) return;
+  own.disconnect();
+  window.searched = (cycles / (performance.now() - begun)) * 1000;
+}).observe(status, { childList: true, characterData: true, subtree: true });
+document.getElementById(arguments[0]).click();"""
+SEARCHED = "return window.searched"

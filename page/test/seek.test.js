@@ -56,17 +56,21 @@ function bench(program) {
   return begin("empty bench", `wire\n[[rom]]\nchip = 0\nport = "0000"\n.\nasm\n${program}.\n`);
 }
 
-/** Five loops in each other: an ISZ takes two cycles, and each loop comes 16 times to its end. */
-const DELAY = `FIM P0, 0\nFIM P1, 0\nFIM P2, 0\nloop: ${[0, 1, 2, 3, 4].map((each) => `ISZ R${each}, loop\n`).join("")}`;
-const DELAY_CYCLES = 6 + [0, 1, 2, 3, 4].reduce((cycles) => 16 * (cycles + 2), 0);
+/** Loops in each other: an ISZ takes two cycles, and each loop comes 16 times to its end. */
+function delay(loops) {
+  const all = [0, 1, 2, 3, 4].slice(0, loops);
+  const lines = `FIM P0, 0\nFIM P1, 0\nFIM P2, 0\nloop: ${all.map((each) => `ISZ R${each}, loop\n`).join("")}`;
+  return { lines, cycles: 6 + all.reduce((cycles) => 16 * (cycles + 2), 0) };
+}
 
 test("over a delay of 24 seconds, and out of it", async () => {
-  const calls = await bench(`JMS wait\nend: JUN end\nwait: ${DELAY}BBL 0\n`);
-  assert.deepEqual((await calls.goOn({ kind: "over" })).found, { cycles: DELAY_CYCLES + 3, isReached: true, end: "" });
+  const { lines, cycles } = delay(5);
+  const calls = await bench(`JMS wait\nend: JUN end\nwait: ${lines}BBL 0\n`);
+  assert.deepEqual((await calls.goOn({ kind: "over" })).found, { cycles: cycles + 3, isReached: true, end: "" });
   await calls.goBack({ kind: "stop" });
   await calls.serve("run 1000\n");
   const out = await calls.goOn({ kind: "out" });
-  assert.deepEqual([out.found, counterOf(calls)], [{ cycles: DELAY_CYCLES + 3 - 1000, isReached: true, end: "" }, "002"]);
+  assert.deepEqual([out.found, counterOf(calls)], [{ cycles: cycles + 3 - 1000, isReached: true, end: "" }, "002"]);
 });
 
 test("a million instructions, from the middle of one on", async () => {
@@ -83,12 +87,12 @@ test("a change that is far away: a register, a whole port, a lamp, a character",
     const calls = await begin("three lamps", `asm\n${program}.\nreset\n${lines}`);
     return (await calls.goOn({ kind: "change", place })).found;
   };
-  const write = `${DELAY}SRC P0\nLDM 4\nWMP\nWRM\nend: JUN end\n`;
-  const cycles = DELAY_CYCLES;
+  const { lines: wait, cycles } = delay(4);
+  const write = `${wait}SRC P0\nLDM 7\nWMP\nWRM\nend: JUN end\n`;
   for (const [place, after] of [["acc", 2], ["ram0.0", 3], ["ram0.0.2", 3], ["lamp 2", 3], ["lamps", 3], ["ram.0.0", 4]]) {
     assert.deepEqual(await told(write, place), { cycles: cycles + after, isReached: true, end: "" }, place);
   }
-  assert.deepEqual(await told(write, "acc", "break 9\n"), { cycles: 38, isReached: false, end: "break" });
+  assert.deepEqual(await told(write, "acc", "break 8\n"), { cycles: 38, isReached: false, end: "break" });
 });
 
 test("a breakpoint and a watch of the user come first; a goal that never comes does nothing", async () => {
