@@ -91,6 +91,10 @@ class Chips:
         chip, k = numbers
         return self.is_pulled(line) if self.masks[chip][k] == "i" else self.rom_latch[chip] >> k & 1
 
+    def levels(self, kind: str, *chip: int) -> int:
+        """What the four lines of a port are at, line k as bit k."""
+        return sum(self.level((kind, (*chip, k))) << k for k in range(4))
+
     def is_pulled(self, line: Line) -> int:
         """What an input line is at: 1 where it is the column of a key that is down and whose row is driven."""
         return int(any(self.columns[column] == line and self.chains[self.keys["chain"]][self.keys["first"] + row] for row, column in self.down))

@@ -252,7 +252,9 @@ class Seeded:
         line = chance.choice(self.wiring.lines + self.wiring.inputs + [f"chain{chance.randrange(4)}.{chance.randrange(80)}"])
         other = f"ram{chance.randrange(8)}.{chance.randrange(4)}.{chance.randrange(4)}"
         return chance.choice(["acc", "cy", "pc", "dcl", f"r{chance.randrange(16)}", f"rom.0x{self.somewhere():x}", f"ram.{bank}.{src}",
-                              f"st.{bank}.{src >> 4}.{chance.randrange(4)}", "ret", "lamps", line, line, line, other])
+                              f"st.{bank}.{src >> 4}.{chance.randrange(4)}", "ret", "lamps", "src", line, line, line, other,
+                              line.rpartition(".")[0], line.rpartition(".")[0], other.rpartition(".")[0], f"rom{chance.randrange(16)}",
+                              f"chain{chance.randrange(4)}"])
 
     def cycles(self) -> int:
         """How long something is run."""
