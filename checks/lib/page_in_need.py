@@ -118,6 +118,7 @@ if (location.search === "?hang") {
   addEventListener("pagehide", (event) => event.stopImmediatePropagation(), true);
 }"""
 FLAGS = "return Object.keys(localStorage).filter((key) => key.startsWith('fethsaim.opening')).length"
+LONG_AGO = "for (const key of Object.keys(localStorage)) if (key.startsWith('fethsaim.opening')) localStorage.setItem(key, '1')"
 UNENDED = 'The session "die" was not opened by itself: its last opening did not come to an end.'
 LAST_ENTRY = "return document.getElementById('log').lastElementChild.textContent"
 PROGRESS = "return document.querySelector('#work progress').value > 0"
@@ -132,6 +133,8 @@ def check_long_work(browser, page):
     choose_example(browser, "calculator")
     browser.click("#run")
     browser.until(STATUS, "Stopped.")
+    # The line of what ran comes into the log before the first of them.
+    lines_answered(browser, "seq")
     before = lines_answered(browser, "seq")
     browser.script(LONG_WORK)
     browser.script("document.getElementById('send').click()")
@@ -237,10 +240,11 @@ def reopen(browser, address):
 
 
 def hang(browser, address):
-    """A session is opened, and the tab is left while that is under way, as where the page hangs."""
+    """A session is opened, and the tab is left while that is under way, long ago, as where the page hangs."""
     browser.go("about:blank")
     browser.go(address.replace("html", "html?hang", 1))
     browser.until("return Boolean(window.hung)", True)
+    browser.script(LONG_AGO)
 
 
 def check_unended(browser, page, folder):

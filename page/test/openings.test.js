@@ -3,7 +3,7 @@ import assert from "node:assert/strict";
 import { test } from "node:test";
 import { Openings } from "../src/session/openings.js";
 
-/** A browser's store of words, and timers that fire when the test says so. */
+/** A browser's store of words, a clock, and timers that fire when the test says so. */
 function browser() {
   const words = new Map();
   const timers = [];
@@ -12,14 +12,19 @@ function browser() {
     setItem: (key, value) => words.set(key, value),
     removeItem: (key) => words.delete(key),
   };
-  const load = () => new Openings(store, (act) => timers.push(act));
-  return { load, words, settle: () => timers.splice(0).forEach((act) => act()) };
+  let time = 1e12;
+  const load = () => new Openings(store, (act) => timers.push(act), () => time);
+  const wait = (passed) => { time += passed; };
+  return { load, words, wait, settle: () => timers.splice(0).forEach((act) => act()) };
 }
 
 test("an opening that came to an end leaves nothing, also where it was refused", async () => {
-  const { load, words, settle } = browser();
+  const { load, words, wait, settle } = browser();
   const openings = load();
-  await openings.during("one", async () => assert.equal(load().isUnended("one"), true));
+  await openings.during("one", async () => {
+    wait(3000);
+    assert.equal(load().isUnended("one"), true);
+  });
   assert.equal(load().isUnended("one"), true);
   await assert.rejects(openings.during("two", async () => { throw new Error("no 51"); }), /no 51/);
   settle();
@@ -27,10 +32,11 @@ test("an opening that came to an end leaves nothing, also where it was refused",
 });
 
 test("one that did not is known at the next start, and forgotten once it did", async () => {
-  const { load, words, settle } = browser();
+  const { load, words, wait, settle } = browser();
   load().during("one", () => new Promise(() => {}));
   await load().during("two", async () => {});
   settle();
+  wait(3000);
   assert.deepEqual([load().isUnended("one"), load().isUnended("two")], [true, false]);
   await load().during("one", async () => {});
   settle();
@@ -38,23 +44,34 @@ test("one that did not is known at the next start, and forgotten once it did", a
 });
 
 test("a page that is left at once was not hung; one that is left later may have been", () => {
-  const { load } = browser();
+  const { load, wait } = browser();
   const openings = load();
   openings.during("one", () => new Promise(() => {}));
   openings.leave();
+  wait(3000);
   assert.equal(load().isUnended("one"), false);
   openings.during("two", () => new Promise(() => {}));
-  openings.begun.set("two", Date.now() - 3000);
+  wait(3000);
   openings.leave();
   assert.equal(load().isUnended("two"), true);
 });
 
+test("another tab may just be opening it", () => {
+  const { load, wait } = browser();
+  load().during("one", () => new Promise(() => {}));
+  wait(1999);
+  assert.equal(load().isUnended("one"), false);
+  wait(1);
+  assert.equal(load().isUnended("one"), true);
+});
+
 test("a session that is opened twice in a row is settled by its last opening", async () => {
-  const { load, settle } = browser();
+  const { load, wait, settle } = browser();
   const openings = load();
   await openings.during("one", async () => {});
   openings.begun.set("one", 0);
   settle();
+  wait(3000);
   assert.equal(load().isUnended("one"), true);
 });
 

@@ -8,17 +8,19 @@ import { ownStore } from "../choices.js";
 const KEY = "fethsaim.opening.";
 /** So many milliseconds after a session is shown its opening is at an end: what hangs the page does so by then. */
 const SETTLE_TIME = 1000;
-/** A page that is left so soon was not hung, but left. */
+/** A page that is left so soon was not hung, but left; and an opening that was begun so lately may be under way in another tab. */
 const SOON = 2000;
 
 export class Openings {
   /**
    * @param {FlagStore | null} store null where the browser keeps nothing
    * @param {(act: () => void, time: number) => void} later
+   * @param {() => number} now in milliseconds
    */
-  constructor(store = ownStore(), later = (act, time) => { setTimeout(act, time); }) {
+  constructor(store = ownStore(), later = (act, time) => { setTimeout(act, time); }, now = () => Date.now()) {
     this.store = store;
     this.later = later;
+    this.now = now;
     /** @type {Map<string, number>} when those that are under way were begun */
     this.begun = new Map();
   }
@@ -29,9 +31,9 @@ export class Openings {
    * @param {() => Promise<void>} open what it refuses has come to an end, too
    */
   async during(id, open) {
-    const time = Date.now();
+    const time = this.now();
     this.begun.set(id, time);
-    this.change((store) => store.setItem(KEY + id, "1"));
+    this.change((store) => store.setItem(KEY + id, String(time)));
     try {
       await open();
     } finally {
@@ -40,13 +42,23 @@ export class Openings {
     }
   }
 
-  /** @param {string} id */
+  /**
+   * Its last opening did not come to an end, as far as can be told so soon.
+   * @param {string} id
+   */
   isUnended(id) {
+    /** @type {string | null} */
     let found = null;
     this.change((store) => {
       found = store.getItem(KEY + id);
     });
-    return found !== null;
+    return found !== null && !this.isRecent(Number(found));
+  }
+
+  /** @param {number} time when something was begun */
+  isRecent(time) {
+    const age = this.now() - time;
+    return age >= 0 && age < SOON;
   }
 
   /** @param {string} id of a session whose opening came to an end, or that is gone */
@@ -57,7 +69,7 @@ export class Openings {
 
   /** The page is left: what was begun just now has not hung it. */
   leave() {
-    for (const [id, time] of this.begun) if (Date.now() - time < SOON) this.forget(id);
+    for (const [id, time] of this.begun) if (this.isRecent(time)) this.forget(id);
   }
 
   /** @param {(store: FlagStore) => void} act */
