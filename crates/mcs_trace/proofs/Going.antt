@@ -1,8 +1,8 @@
 -- Why a run goes on at its start, and after a cycle.
-use Rattle.std.proofs.Common.{◌≡◌, ℕ, ◌<◌, Bool, true, false, cond, Option, Some, None, refl, arith, eqb, nat_lt}
+use Rattle.std.proofs.Common.{◌≡◌, ℕ, ◌<◌, Bool, true, false, cond, Some, None, refl, arith, eqb, nat_lt}
 use Rattle.std.proofs.lemmas.Bool.Decides.{nat_tests}
 use Rattle.mcs_model.specs.declared.stop.Stop.TheVariants.{Outside, Breakpoint, Watched, Ended}
-use Rattle.mcs_model.specs.Running.{Machine, Stops, is_outside, at_break, has_changed, stop_at, stop_after}
+use Rattle.mcs_model.specs.Running.{Machine, Stops, is_outside, stop_at}
 use Rattle.mcs_bench.proofs.Writes.{same-ram}
 use Rattle.mcs_ahead.specs.Ahead.{early_stop}
 
