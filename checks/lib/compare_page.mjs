@@ -158,6 +158,12 @@ function asVersion1(file) {
   return old;
 }
 
+// The board is one that version 1 has: it has no more than two chains, and none of more than four 4003s.
+function isOfVersion1(engine, file) {
+  const chains = answersTo(engine, file, "board\n").join("\n").split("[[").filter((part) => part.startsWith("chain]]"));
+  return chains.length <= 2 && chains.every((chain) => !/^chips = [5-8]$/m.test(chain));
+}
+
 const QUESTIONS = "seq\nstate\nregs\nlamps\nports\nwatches\nbreaks\nboard\nram 0\nram 1\nram 7\nlist 0 256\n";
 
 const ALL_ROM = [...Array(16).keys()].map((page) => `list ${page * 256} 256\n`).join("");
@@ -219,7 +225,7 @@ function compareFiles(name, engine, file) {
   compare(`${name}, settled`, engine, settled, QUESTIONS);
   verdict(`${name}: settling changed an answer`, byPage(engine, settled, QUESTIONS).output === asked);
   const old = asVersion1(settled);
-  if (old) {
+  if (old && isOfVersion1(engine, settled)) {
     compare(`${name}, of version 1`, engine, old, QUESTIONS);
     verdictSettled(`${name}: settle of version 1`, settle(engine, Uint8Array.from(old)), seqOf(engine, old));
   }
