@@ -119,6 +119,8 @@ if (location.search === "?hang") {
 }"""
 FLAGS = "return Object.keys(localStorage).filter((key) => key.startsWith('fethsaim.opening')).length"
 LONG_AGO = "for (const key of Object.keys(localStorage)) if (key.startsWith('fethsaim.opening')) localStorage.setItem(key, '1')"
+# Pages that were left in the middle of something may have left some.
+WITHOUT_FLAGS = "for (const key of Object.keys(localStorage)) if (key.startsWith('fethsaim.opening')) localStorage.removeItem(key)"
 UNENDED = 'The session "die" was not opened by itself: its last opening did not come to an end.'
 LAST_ENTRY = "return document.getElementById('log').lastElementChild.textContent"
 PROGRESS = "return document.querySelector('#work progress').value > 0"
@@ -251,6 +253,7 @@ def check_unended(browser, page, folder):
     """A session whose opening hung the page is not opened by itself again; it is told, and can be opened or deleted."""
     hanging = altered(page, folder, HANG).as_uri()
     reopen(browser, hanging)
+    browser.script(WITHOUT_FLAGS)
     choose_example(browser, "die")
     browser.click("#step")
     session = browser.until("return location.hash", re.compile("^#session="))
