@@ -13,7 +13,7 @@ import hashlib
 import random
 from typing import Literal
 
-from power.disk import Disk, Event, Fault
+from power.disk import Disk, Event
 
 SECTOR, BLOCK = 512, 4096
 # At a write, and at a flush, so many parts are drawn for each write that is not durable, of at most so many of these.
@@ -88,8 +88,6 @@ class History:
                 answered = []
             elif event.what == "flushed":
                 at.update(dict.fromkeys(covered.pop(event.number), place))
-        if covered:
-            raise Fault("a flush was not answered")
         return at
 
     def all_images(self) -> list[Image]:
