@@ -11,9 +11,9 @@ A, B, C = b"a" * SECTOR, b"b" * SECTOR, b"c" * SECTOR
 OLD = bytes(SECTOR)
 
 
-def history(events: list[Event], whole_blocks: bool = False, seed: int = 0) -> History:
-    """A history of these events."""
-    return History(events, None, set(), whole_blocks, random.Random(seed))
+def history(events: list[Event], whole_blocks: bool = False, seed: int = 0, first: int = 0) -> History:
+    """A history of these events, of a session that was not there before."""
+    return History(events, first, False, set(), whole_blocks, random.Random(seed))
 
 
 def write(number: int, place: int, data: bytes) -> Event:
@@ -45,7 +45,8 @@ def durable_writes() -> bool:
     """A write is durable once a flush is answered that came after the write was answered; one that was answered later waits for the next."""
     first = [write(1, 0, A), done("wrote", 1), write(2, SECTOR, B), done("flush", 3), done("wrote", 2), done("flushed", 3)]
     then = [write(4, 0, C), done("flush", 5), done("flushed", 5)]
-    return history(first).durable_at() == {1: 6} and history(first + then).durable_at() == {1: 6, 2: 9}
+    is_at_the_end = history(first + then[:2]).durable_at() == {1: 6}
+    return is_at_the_end and history(first).durable_at() == {1: 6} and history(first + then).durable_at() == {1: 6, 2: 9}
 
 
 def parts_of_a_write() -> bool:
@@ -78,6 +79,12 @@ def bounds() -> bool:
     return found == {(0, 0): (0, 0), (0, 1): (0, 0), (0, 2): (0, 1), (1, 0): (1, 1), (1, 1): (1, 1)}
 
 
+def bounds_of_a_copy() -> bool:
+    """A session that was copied has the commands that it had, before its first answer too."""
+    found = history([write(1, 0, A), done("answered", 7)], first=7).all_images()
+    return {(image.least, image.most) for image in found if image.how != "some"} == {(7, 7)}
+
+
 def settled() -> bool:
     """An image that is settled is the disk from then on."""
     told = history([write(1, 0, A), done("wrote", 1), done("flush", 2), done("flushed", 2), write(3, 0, B)])
@@ -92,7 +99,7 @@ def settled() -> bool:
     return is_old and disk.bytes[:SECTOR] == B and disk.undo is None
 
 
-CHECKS = (durable_writes, parts_of_a_write, whole_blocks, writes_at_one_place, bounds, settled)
+CHECKS = (durable_writes, parts_of_a_write, whole_blocks, writes_at_one_place, bounds, bounds_of_a_copy, settled)
 
 
 def faults() -> list[str]:

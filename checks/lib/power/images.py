@@ -13,7 +13,7 @@ import hashlib
 import random
 from typing import Literal
 
-from power.disk import Disk, Event, Fault
+from power.disk import Disk, Event
 
 SECTOR, BLOCK = 512, 4096
 # At a write, and at a flush, so many parts are drawn for each write that is not durable, of at most so many of these.
@@ -57,10 +57,12 @@ class Image:
 class History:
     """What happened to a disk while a session was served on it."""
 
-    def __init__(self, events: list[Event], start: int | None, snapshots: set[int], whole_blocks: bool, chance: random.Random) -> None:
-        """`start` is the number of commands in a session that was there, durable, before; `snapshots` has the commands by which one is
-        written; where `whole_blocks` is true, a block of 4,096 bytes is never torn."""
-        self.events, self.start, self.snapshots, self.chance = events, start, snapshots, chance
+    def __init__(self, events: list[Event], first: int, is_kept: bool, snapshots: set[int], whole_blocks: bool,
+                 chance: random.Random) -> None:
+        """`first` is the number of commands in the session at the beginning; it was there, durable, before if `is_kept`. `snapshots` has
+        the commands by which one is written; where `whole_blocks` is true, a block of 4,096 bytes is never torn."""
+        self.events, self.first, self.snapshots, self.chance = events, first, snapshots, chance
+        self.start = first if is_kept else None
         self.whole_blocks = whole_blocks
         durable_at = self.durable_at()
         never = len(events) + 1
@@ -88,14 +90,12 @@ class History:
                 answered = []
             elif event.what == "flushed":
                 at.update(dict.fromkeys(covered.pop(event.number), place))
-        if covered:
-            raise Fault("a flush was not answered")
         return at
 
     def all_images(self) -> list[Image]:
         """All that is drawn from, each once, in the order of time."""
         found: dict[bytes, Image] = {}
-        answered, sent, first_answer = self.start, self.start or 0, 0
+        answered, sent, first_answer = self.start, self.first, 0
         durable, pending = 0, list[int]()
         for place, event in enumerate(self.events, 1):
             if event.what == "answered":

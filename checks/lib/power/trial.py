@@ -63,13 +63,13 @@ class Outcome:
 
 @dataclasses.dataclass
 class Stage:
-    """A session that is served: the words for it, what is done just before, the number of the first answer, the last command, and the
-    number of commands in the session that is there, if one is."""
+    """A session that is served: the words for it, what is done just before, the number of the first answer, the last command, and
+    whether the session was there, durable, before."""
     words: str
     before: str
     first: int
     last: int
-    start: int | None
+    is_kept: bool
     images: int
 
 
@@ -89,7 +89,7 @@ class Runner:
         kind, case = KINDS[trial.kind], CASES[trial.case]
         self.make(kind, trial, case)
         last = ALL_COMMANDS if case.takes_all else case.begins + (MORE_COMMANDS if case.is_kept else FEW_COMMANDS)
-        stage = Stage(case.words, case.before, case.begins, last, case.begins if case.is_kept else None, trial.images)
+        stage = Stage(case.words, case.before, case.begins, last, case.is_kept, trial.images)
         outcome = Outcome()
         for generation in range(trial.generations + 1):
             began = time.monotonic()
@@ -154,7 +154,7 @@ class Runner:
         self.machine.must(END)
         self.disk.take_back()
         snapshots = set() if case.name.startswith("carried") else self.sessions.snapshots
-        return History(events, stage.start, snapshots, kind.whole_blocks, self.chance)
+        return History(events, stage.first, stage.is_kept, snapshots, kind.whole_blocks, self.chance)
 
     def serve(self, events: list[Event], stage: Stage) -> None:
         """Sends the commands of a session, one after another, and notes their answers."""
@@ -300,5 +300,5 @@ class Runner:
     def next_stage(case: Case, found: Found, images: int) -> Stage:
         """The session of the next generation: it goes on, or is begun where the file is blank."""
         if not isinstance(found, int):
-            return Stage(case.words, "", 0, MORE_COMMANDS, None, images)
-        return Stage(f"open {case.file}", "", found, found + MORE_COMMANDS, found, images)
+            return Stage(case.words, "", 0, MORE_COMMANDS, False, images)
+        return Stage(f"open {case.file}", "", found, found + MORE_COMMANDS, True, images)
