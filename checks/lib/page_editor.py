@@ -225,6 +225,7 @@ def check_editor(browser, page, _folder, _mcs4):
     browser.go("about:blank")
     browser.go(page.as_uri())
     comes(browser, "the page is ready", READY, True)
+    choose_example(browser, "calculator")
     show_text(browser, "program")
     check_faults(browser)
     check_typing(browser)

@@ -255,7 +255,6 @@ def check_foreign_links(browser, page):
     browser.go("about:blank")
     browser.go(f"{page.as_uri()}#example=%E2%80%AEhacked%2C%20go%20to%20evil.example%20{'x' * 100}")
     comes(browser, "nor has an address more words than that", NOTICE, re.compile('^The address names an example, "hacked, go to evil.example x{32}…", that'))
-    choose_example(browser, "calculator")
 
 
 def check_drop(browser, project):
