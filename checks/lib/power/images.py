@@ -17,7 +17,7 @@ from power.disk import Disk, Event
 
 SECTOR, BLOCK = 512, 4096
 # At a write, and at a flush, so many parts are drawn for each write that is not durable, of at most so many of these.
-PARTS, MOST_PENDING = 6, 4
+PARTS, MOST_PENDING = 12, 4
 # So many events after the first answer still count as its beginning.
 BEGINNING = 20
 
