@@ -45,18 +45,21 @@ function ask_run(n,    lines, links, are_told) {
 # Reads the answer to `count`: the cycles of each instruction; returns how often a JMS or a BBL is done. A cycle that is owed at the
 # beginning is one of the instruction before, whose address is not known (`own_at[""]`) where a session begins within it; `owes` is 1
 # where the last instruction owes one in the end.
-function count_own(    words, lines, digits, cycles, sum, links) {
+function count_own(    lines, digits, times, cycles, sum, links) {
     sum = links = 0
     if (now["owed"] == "1") own_at[owing]++
     for (lines = take_head("count"); lines > 0; lines--) {
         receive_row()
-        split(reply, words)
-        digits = words[1]
-        cycles = cycles_at[digits] * words[2]
+        digits = substr(reply, 1, 3)
+        # (the number that the rest begins with)
+        times = substr(reply, 5) + 0
+        cycles = cycles_at[digits] * times
         sum += cycles
         own_at[digits] += cycles
-        if (is_call_at[digits]) calls[target_of(address_of[digits], code[address_of[digits]])] += words[2]
-        if (is_call_at[digits] || is_return_at[digits]) links += words[2]
+        if (is_call_at[digits]) {
+            calls[target_of(address_of[digits], code[address_of[digits]])] += times
+            links += times
+        } else if (is_return_at[digits]) links += times
     }
     owes = sum - (ahead_ran - now["owed"])
     return links
