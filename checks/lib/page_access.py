@@ -3,7 +3,8 @@ reader (its accessibility tree), the way of the Tab key, and the contrast of all
 
 import re
 
-from page_in_browser import AT_COUNTER, ESCAPE, READY, STATUS, TAB, TEXT_OF_EDITOR, choose_example, lines_answered, show_text
+from page_in_browser import (AT_COUNTER, ESCAPE, PUT_INTO_EDITOR, STATUS, TAB, TEXT_OF_EDITOR, choose_example, lines_answered, show_text,
+                             until_ready)
 from verdicts import comes, verdict
 from web_driver import Chromium
 
@@ -19,7 +20,7 @@ SIGNS = re.compile("[\u25b2-\u25cf\u2713]")
 def check(browser, page, _folder, _mcs4):
     browser.go("about:blank")
     browser.go(page.as_uri())
-    browser.until(READY, True)
+    until_ready(browser)
     check_answers_told(browser)
     check_tab_key(browser)
     if isinstance(browser, Chromium):
@@ -30,7 +31,7 @@ def check_answers_told(browser):
     """The answer to a line that was sent is said, and a refusal with its words; what time does is not."""
     choose_example(browser, "three lamps")
     browser.click("#run")
-    browser.until(STATUS, "Stopped.")
+    browser.until(STATUS, re.compile("^Stopped"))
     told = "return document.getElementById('answer-told').textContent"
     lines_answered(browser, "poke acc 5")
     comes(browser, "an answer is said", told, re.compile(r"^ok \d+$"))
@@ -41,10 +42,10 @@ def check_answers_told(browser):
 # What the Tab key stops at, from the session's name on, as the panel that it is in; a text is left by Escape and then Tab.
 PLACE = """
 const at = document.activeElement;
-const place = at.closest("#session-bar, #clock, #history, #front, #texts, #processor, #listing, #memory, #ports, #talk, #scope, #notice");
+const place = at.closest("#session-bar, #clock, #history, #front, #texts, #processor, #listing, #breakpoints, #watched, #memory, #ports, #talk, #notice");
 return place ? place.id : ''"""
 IN_EDITOR = "return document.activeElement.closest('.CodeMirror') !== null"
-ORDER = ["session-bar", "clock", "history", "front", "texts", "processor", "listing", "memory", "ports", "talk", "scope"]
+ORDER = ["session-bar", "clock", "history", "front", "texts", "processor", "listing", "breakpoints", "watched", "memory", "ports", "talk"]
 
 
 def check_tab_key(browser):
@@ -53,11 +54,11 @@ def check_tab_key(browser):
     browser.script("document.getElementById('name').focus()")
     seen = []
     stops = 0
-    while stops < 90 and browser.script(PLACE) in ORDER:
+    while stops < 110 and browser.script(PLACE) in ORDER:
         place = browser.script(PLACE)
         if place not in seen[-1:]:
             seen.append(place)
-        if place == "scope":
+        if place == "talk" and browser.script("return document.activeElement.id === 'send'"):
             break
         browser.keys([ESCAPE, TAB] if browser.script(IN_EDITOR) else [TAB], 1, 1)
         stops += 1
@@ -129,7 +130,7 @@ def check_board(browser):
     choose_example(browser, "traffic light")
     comes(browser, "a lamp is lit", "return document.querySelectorAll('.bulb.lit').length > 0", True)
     browser.click("#run")
-    browser.until(STATUS, "Stopped.")
+    browser.until(STATUS, re.compile("^Stopped"))
     browser.click("#step")
     comes(browser, "a step leaves marks", "return document.querySelectorAll('.changed').length > 0", True)
     comes(browser, "the listing is at the counter", AT_COUNTER, True)
@@ -142,8 +143,8 @@ def check_board(browser):
     verdict("there is one main part, one banner and one foot", [roles.count(each) for each in ("main", "banner", "contentinfo")], [1, 1, 1])
     levels = [told.get("level") for role, _, told in nodes if role == "heading"]
     verdict("one heading is the page's, all others are of its parts", (levels[0], set(levels[1:])), (1, {2}))
-    folds = [told for role, name, told in nodes if role == "button" and name in ("Processor", "RAM", "Waves")]
-    verdict("what folds says so", [told.get("expanded") for told in folds], [True, True, True])
+    folds = [told for role, name, told in nodes if role == "button" and name in ("Processor", "RAM")]
+    verdict("what folds says so", [told.get("expanded") for told in folds], [True, True])
     verdict("tabs say which one is in front", [told.get("selected") for role, _, told in nodes if role == "tab"].count(True), 1)
     lamps = [name for role, name, _ in nodes if role == "image" and re.search(", (lit|dark)$", name)]
     verdict("each lamp says whether it is lit", len(lamps), browser.script("return document.querySelectorAll('.bulb').length"))
@@ -152,19 +153,50 @@ def check_board(browser):
 def check_other_views(browser):
     choose_example(browser, "calculator")
     browser.click("#run")
-    browser.until(STATUS, "Stopped.")
+    browser.until(STATUS, re.compile("^Stopped"))
     for name in ("board", "wiring"):
         show_text(browser, name)
         browser.script(OPEN_ALL, "#wiring")
         look_at(browser, f"the view {name}")
+    check_tests(browser)
     show_text(browser, "program")
     browser.type_into("#step-count", "x\ue007")
     wrong = [name for role, name, told in nodes_of(browser) if told.get("invalid") == "true"]
     verdict("a field with a wrong value says so", wrong, ["How many instructions to do"])
+    show_text(browser, "waves")
     browser.click("#record")
     comes(browser, "waves are there", "return document.getElementById('waves').hidden", False)
     browser.script(OPEN_ALL, "#scope")
     look_at(browser, "the waves")
+    show_text(browser, "program")
+
+
+def check_tests(browser):
+    """Results of tests, one of which fails, with their counts beside the source."""
+    show_text(browser, "tests")
+    browser.script(PUT_INTO_EDITOR, "#tests-editor", "test it is dark\n  expect display 0\n  keys 5\n  expect display 6\n")
+    browser.click("#tests-editor .send")
+    comes(browser, "a test fails", "return document.querySelectorAll('#test-list .not-ok').length", 1)
+    browser.script(OPEN_ALL, "#test-results")
+    look_at(browser, "the tests")
+    check_properties(browser)
+    show_text(browser, "program")
+    browser.script("document.querySelector('#program-editor .CodeMirror').CodeMirror.scrollIntoView({ line: 480, ch: 0 })")
+    comes(browser, "counts stand beside the source", "return document.querySelectorAll('.lacking .mark-counts').length > 0", True)
+    look_at(browser, "the source with its counts")
+
+
+def check_properties(browser):
+    """Rows of properties, one of which is broken, with what was run."""
+    show_text(browser, "properties")
+    browser.script(PUT_INTO_EDITOR, "#properties-editor", "press 1\nwait 10 ms to 40 ms\nnever display 1\nreach display 8\n")
+    browser.script("document.getElementById('explore-seconds').value = '4'")
+    browser.click("#explore")
+    comes(browser, "a property is broken", "return document.querySelectorAll('#property-list details').length > 0", True)
+    look_at(browser, "properties while they are looked at")
+    comes(browser, "the search ends", "return document.getElementById('explore').textContent", "Explore")
+    browser.script(OPEN_ALL, "#explore-results")
+    look_at(browser, "the properties")
 
 
 def check_dialogs(browser):

@@ -3,14 +3,14 @@
 import re
 import time
 
-from page_in_browser import NOTICE, PUT_INTO_EDITOR, READY, STATUS, TEXT_OF_EDITOR, choose_example, show_text
+from page_in_browser import NOTICE, PUT_INTO_EDITOR, STATUS, TEXT_OF_EDITOR, choose_example, show_text, until_ready
 from verdicts import comes, verdict
 
 CONTROL, SHIFT, ENTER, ESCAPE, TAB = "\ue009", "\ue008", "\ue007", "\ue00c", "\ue004"
-END, DOWN, F9 = "\ue010", "\ue015", "\ue039"
+END, DOWN, F2, F9, F12, BACKSPACE = "\ue010", "\ue015", "\ue032", "\ue039", "\ue03c", "\ue003"
 PROGRAM, BOARD = "#program-editor", "#board-editor"
-# A text that could be sent, of 16,383 bytes.
-LONGEST = "; a line of a comment, with words in it, and then some more of them\n" * 240 + "\tNOP\n" * 12 + ";\n"
+# A text that could be sent, of 16,381 bytes without its comments and indentation, and of 36,497 with them.
+LONGEST = "; a line of a comment, with words in it, and then some more of them\n" * 240 + "\tNOP\n" * 4035 + ";\n"
 
 EDITOR = "const editor = document.querySelector(`${arguments[0]} .CodeMirror`).CodeMirror; "
 CARET = f"{EDITOR}const at = editor.getCursor(); return [at.line, at.ch, editor.getSelection()]"
@@ -113,13 +113,48 @@ def check_typing(browser):
           "loop:\tNOP\n\tLDM 5\n\tJUN loop")
     browser.script(SET_CARET, PROGRAM, 1, 2)
     comes(browser, "the instruction at the caret is explained", MEANING.format(PROGRAM),
-          "LDM d: 1 word, 1 cycle. Load immediate: d into ACC. The carry stays.")
+          re.compile(r"^(acc 0, cy 0\. )?LDM d: 1 word, 1 cycle\. Load immediate: d into ACC\. The carry stays\.$"))
     browser.chord(CONTROL, "f")
     browser.keys([*"jun", ENTER, ESCAPE], 5, 5)
     comes(browser, "what is sought is selected", CARET.replace("arguments[0]", f"'{PROGRAM}'"), [2, 4, "JUN"])
     browser.keys([ESCAPE, TAB], 5, 5)
     verdict("Escape, then Tab leaves the text", browser.script(INSIDE), False)
     verdict("and the text stays", browser.script(TEXT_OF_EDITOR, PROGRAM), "loop:\tNOP\n\tLDM 5\n\tJUN loop")
+
+
+def check_names(browser):
+    """To where a name is defined, all its places, another name; a line by its number; replacing; comments."""
+    text = TEXT_OF_EDITOR.replace("arguments[0]", f"'{PROGRAM}'")
+    caret = CARET.replace("arguments[0]", f"'{PROGRAM}'")
+    put(browser, PROGRAM, "loop:\tNOP ; loop\n\tFIM P0, loop\n\tJUN loop")
+    browser.script(SET_CARET, PROGRAM, 2, 7)
+    browser.keys([F12], 5, 5)
+    comes(browser, "F12 leads to where a name is defined", caret, [0, 4, "loop"])
+    browser.chord(SHIFT, F12)
+    comes(browser, "its places are listed", "return [...document.querySelectorAll('#program-editor .places li')].map((each) => each.textContent).join('|')",
+          "loop stands at 3 places Close|line 1, where it is defined loop:\tNOP ; loop|line 2 FIM P0, loop|line 3 JUN loop")
+    browser.click(f"{PROGRAM} .places li:nth-child(3) button")
+    comes(browser, "one of them is shown", caret, [1, 13, "loop"])
+    browser.keys([F2], 5, 5)
+    browser.keys([*"jun", ENTER], 5, 5)
+    comes(browser, "a name that is none is refused in words", "return document.querySelector('#program-editor .search:not([hidden]) p').textContent",
+          "jun is an instruction.")
+    browser.keys([BACKSPACE, BACKSPACE, BACKSPACE, *"again", ENTER], 5, 5)
+    comes(browser, "another name stands at all places", text, "again:\tNOP ; loop\n\tFIM P0, again\n\tJUN again")
+    browser.chord(CONTROL, "g")
+    browser.keys(["3", ENTER], 5, 5)
+    comes(browser, "a line is gone to by its number", caret, [2, 0, ""])
+    browser.chord(CONTROL, "/")
+    comes(browser, "a line becomes a comment", text, "again:\tNOP ; loop\n\tFIM P0, again\n; \tJUN again")
+    browser.chord(CONTROL, "/")
+    comes(browser, "and a line again", text, "again:\tNOP ; loop\n\tFIM P0, again\n\tJUN again")
+    browser.script(SET_CARET, PROGRAM, 0, 0)
+    browser.chord(CONTROL, "h")
+    browser.keys([*"again"], 5, 5)
+    browser.script(f"document.querySelector('{PROGRAM} [aria-label=\"Replace by\"]').value = 'loop'")
+    browser.script(f"[...document.querySelectorAll('{PROGRAM} .search button')].find((each) => each.textContent === 'Replace all').click()")
+    comes(browser, "all are replaced", text, "loop:\tNOP ; loop\n\tFIM P0, loop\n\tJUN loop")
+    browser.keys([ESCAPE], 5, 5)
 
 
 def check_numbers(browser):
@@ -133,14 +168,14 @@ def check_numbers(browser):
 def check_limits(browser):
     """The longest text: typing stays quick; more is refused in words."""
     put(browser, PROGRAM, LONGEST)
-    verdict("the counter", browser.text(f"{PROGRAM} .size"), "16,382 of 16,384 bytes")
+    comes(browser, "the counter", f"return document.querySelector('{PROGRAM} .size').textContent", "16,381 of 16,384 bytes")
     time_of_key, slowness = browser.script(KEY_TIMES, PROGRAM, 120), browser.script(SLOWNESS)
     print(f"a key at the longest text takes {time_of_key:.1f} ms in {browser.name}, which others make {slowness:.1f} times as slow meanwhile")
     verdict("a key takes less than 16 ms", time_of_key / slowness < 16, True)
     put(browser, PROGRAM, "\tNOP\n")
     browser.script(SET_CARET, PROGRAM, 1, 0)
     browser.script(PASTE, PROGRAM, "\tNOP\n", 1_000_000)
-    comes(browser, "5 MB pasted are refused in words", TOLD.format(PROGRAM), re.compile("^It was not put in: the text would have 5,000,005 bytes"))
+    comes(browser, "5 MB pasted are refused in words", TOLD.format(PROGRAM), re.compile("^It was not put in: the text would have 5,000,005 characters"))
     verdict("and the text is as it was", browser.script(TEXT_OF_EDITOR, PROGRAM), "\tNOP\n")
 
 
@@ -216,6 +251,16 @@ def check_board(browser):
     verdict("with what is at fault underlined", browser.script(UNDERLINED.format(BOARD)), "77 size [[lamp]] lime")
     put(browser, BOARD, FAULTY_BOARD.replace("77", "7").replace("size = 3\n", "").replace("lime", "line"))
     comes(browser, "a lamp at a ROM that the board lacks", FAULTS.format(BOARD), "line 6: rom0.0: the board has no ROM 0")
+    put(browser, BOARD, "")
+    browser.script(SET_CARET, BOARD, 0, 0)
+    for text in ("[[rom]]\nchip = 0\nport = \"0000\"", "[[lamp]]\nline = \"rom0.0\""):
+        browser.chord(CONTROL, " ")
+        browser.until("return document.querySelectorAll('.CodeMirror-hint').length", 5)
+        browser.script("[...document.querySelectorAll('.CodeMirror-hint')].find((each) => each.textContent.startsWith(arguments[0])).click()",
+                       text.split("\n")[0])
+        verdict("an empty line becomes a part", browser.script(TEXT_OF_EDITOR, BOARD).endswith(text), True)
+        browser.keys([ENTER])
+    comes(browser, "and a board of such parts has no fault", FAULTS.format(BOARD), "")
     put(browser, BOARD, "[[rom]]\nchip = 0\nport = 0000\n")
     comes(browser, "what is no TOML", FAULTS.format(BOARD), 'line 3: a number has no 0 before it; a text stands in quotes: "0000"')
     show_text(browser, "program")
@@ -224,11 +269,13 @@ def check_board(browser):
 def check_editor(browser, page, _folder, _mcs4):
     browser.go("about:blank")
     browser.go(page.as_uri())
-    comes(browser, "the page is ready", READY, True)
+    until_ready(browser)
+    browser.script("for (const each of document.querySelectorAll('#notice .dismiss')) each.click()")
     choose_example(browser, "calculator")
     show_text(browser, "program")
     check_faults(browser)
     check_typing(browser)
+    check_names(browser)
     check_numbers(browser)
     check_limits(browser)
     check_sessions(browser)

@@ -4,7 +4,7 @@ import base64
 import re
 import time
 
-from page_in_browser import (DIGITS, PUT_INTO_EDITOR, READY, STATUS, TOP, choose_example, focused, key, show_text, told_of)
+from page_in_browser import DIGITS, PUT_INTO_EDITOR, STATUS, TOP, choose_example, focused, key, show_text, told_of, until_ready
 from picture import write_picture
 from verdicts import comes, verdict
 
@@ -210,7 +210,7 @@ def check_three_lamps(browser):
 
 def check(browser, page, _folder, _mcs4):
     browser.go(page.as_uri())
-    comes(browser, "the page is ready", READY, True)
+    until_ready(browser)
     check_traffic_light(browser)
     check_stopwatch(browser)
     check_die(browser)
@@ -226,7 +226,7 @@ def check(browser, page, _folder, _mcs4):
 def take_pictures(browser, page, folder):
     """Three boards as the page shows them, for the documents."""
     browser.go(page.as_uri())
-    browser.until(READY, True)
+    until_ready(browser)
     browser.command("Emulation.setDeviceMetricsOverride", width=1280, height=1400, deviceScaleFactor=1, mobile=False)
     for name, typed in (("traffic light", ""), ("calculator", "22/7="), ("stacker", "ddd")):
         choose_example(browser, name)

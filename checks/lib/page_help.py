@@ -3,7 +3,7 @@
 import re
 import time
 
-from page_in_browser import ENTER, ESCAPE, READY, STATUS, choose_example, key
+from page_in_browser import ENTER, ESCAPE, STATUS, choose_example, key, until_ready
 from verdicts import comes, verdict
 
 F1, UP, DOWN, CONTROL = "\ue031", "\ue013", "\ue015", "\ue009"
@@ -123,7 +123,7 @@ def check_hints(browser):
 
 def check(browser, page, _folder, _mcs4):
     browser.go(page.as_uri())
-    browser.until(READY, True)
+    until_ready(browser)
     choose_example(browser, "calculator")
     check_help(browser)
     check_hints(browser)

@@ -12,7 +12,10 @@ from verdicts import comes, verdict
 
 TOP = pathlib.Path(__file__).resolve().parent.parent.parent
 DIGITS = "return document.getElementById('digits').textContent"
-STATUS = "return document.getElementById('status').textContent"
+# What the status says; where it has names of the program behind an address, without them.
+STATUS = "return document.getElementById('status').textContent.replace(/ \\([^()]*line \\d+\\)/g, '')"
+WHOLE_STATUS = "return document.getElementById('status').textContent"
+STEPPED = re.compile("^At [0-9A-F]{3}, after [12] cycles?, ")
 NOTICE = "return [...document.querySelectorAll('#notice p')].map((told) => told.textContent).join(' ')"
 READY = "return Boolean(document.body.dataset.ready)"
 KEYS_DOWN = "return document.querySelectorAll(\"#keys [aria-pressed='true']\").length"
@@ -71,6 +74,12 @@ try {
 """
 VIOLATIONS = "return [...window.violations].sort().join(' ') + (window.injected ? ', but the script ran' : '')"
 
+
+def until_ready(browser):
+    """Waits for the page, which other work on the machine may make slow by far."""
+    comes(browser, "the page is ready", READY, True, 90)
+
+
 def key(legend):
     """The selector of a key of the board."""
     return f"#keys button[aria-label^='key {legend},']"
@@ -90,7 +99,7 @@ def check_calculator(browser):
         time.sleep(0.08)
     comes(browser, "1 2 + 3 0 = by the pointer", DIGITS, "42")
     browser.reload()
-    browser.until(READY, True)
+    until_ready(browser)
     comes(browser, "the display after a reload", DIGITS, "42")
     browser.keys([ESCAPE, "7", "-", "9", ENTER])
     comes(browser, "7 - 9 by the keyboard", DIGITS, "-2")
@@ -131,7 +140,7 @@ def check_files(browser, folder, mcs4):
     # A key that was typed stays down for a moment; one that is down as time stops is down in the file.
     browser.until(KEYS_DOWN, 0)
     browser.click("#run")
-    browser.until(STATUS, "Stopped.")
+    browser.until(STATUS, re.compile("^Stopped"))
     browser.click("#save-session-button")
     saved = folder / "downloads/calculator.mcs"
     end = time.monotonic() + 20
@@ -166,7 +175,7 @@ def check_files(browser, folder, mcs4):
 
 def check_stops(browser):
     browser.click("#step")
-    browser.until(STATUS, "One instruction was done.")
+    browser.until(STATUS, STEPPED)
     line = "#lines-of-program button.next"
     comes(browser, "the listing is at the counter", AT_COUNTER, True)
     address = browser.text(f"{line} span")[:3]
@@ -204,7 +213,7 @@ def check_keyboard_alone(browser):
     browser.script("document.getElementById('name').focus()")
     verdict("Tab comes to Step", focused(browser, TAB, "e.id === 'step'"), True)
     browser.keys([ENTER])
-    comes(browser, "Enter steps", STATUS, "One instruction was done.")
+    comes(browser, "Enter steps", STATUS, STEPPED)
     verdict("Tab comes to the listing", focused(browser, TAB, "e.closest('#lines-of-program') !== null"), True)
     browser.keys([DOWN, DOWN, ENTER])
     comes(browser, "arrows and Enter set a breakpoint", "return document.activeElement.getAttribute('aria-pressed')", "true")
@@ -259,11 +268,13 @@ def check_speed_field(browser):
     for what, come_again in {"a reload": lambda: browser.script("setTimeout(() => location.reload(), 50)"),
                              "coming back": lambda: (browser.go("about:blank"), browser.script("history.back()"))}.items():
         browser.type_into("#speed", "full")
-        browser.script("delete document.body.dataset.ready")
+        # A page that the browser has kept whole is ready as it is shown again.
+        browser.script("const { dataset } = document.body; delete dataset.ready; addEventListener('pageshow', () => { dataset.ready = 'again'; })")
         come_again()
-        browser.until(READY, True)
-        is_full = browser.script("return document.getElementById('speed').value") == "full"
-        verdict(f"the speed after {what} is the one in its field", browser.until(RATE, re.compile("[1-9]")) > 200000, is_full)
+        until_ready(browser)
+        is_full = browser.until("const field = document.getElementById('speed'); return field ? field.value : ''", re.compile("^(full|real)$")) == "full"
+        # The first rate that is told at full speed may still be a low one.
+        comes(browser, f"the speed after {what} is the one in its field", RATE, re.compile("^[2-9].{5}$|^.{7,}$" if is_full else "^[1-9].{4}$"))
     browser.script(SPEED, "real")
 
 
@@ -300,7 +311,8 @@ def check_texts(browser):
 def lines_answered(browser, lines):
     browser.script("document.getElementById('lines').value = arguments[0]", lines)
     before = len(browser.text("#log"))
-    browser.click("#send")
+    # A notice may lie over the button.
+    browser.script("document.getElementById('send').click()")
     browser.until("return document.getElementById('lines').value", "")
     return browser.text("#log")[before:]
 
@@ -310,7 +322,7 @@ def check_two_tabs(browser):
     first = browser.tab()
     browser.new_tab()
     browser.go(address)
-    browser.until(READY, True)
+    until_ready(browser)
     verdict("a second tab on the session is told so", browser.script(NOTICE), re.compile("open in another tab"))
     verdict("and shows another session", browser.script("return location.href") != address, True)
     browser.close_tab(first)
@@ -319,7 +331,7 @@ def check_two_tabs(browser):
 def check_use(browser, page, folder, mcs4):
     """What the page does in a browser that has all."""
     browser.go(page.as_uri())
-    comes(browser, "the page is ready", READY, True)
+    until_ready(browser)
     verdict("without a notice", browser.script(NOTICE), "")
     check_calculator(browser)
     if browser.has_fingers:
@@ -338,7 +350,7 @@ def check_use(browser, page, folder, mcs4):
 def check_by_chromium(browser, page):
     """What Chromium's driver alone can show."""
     browser.go(page.as_uri())
-    browser.until(READY, True)
+    until_ready(browser)
     check_narrow(browser)
     # A script of a check that waits may fail until what it waits for is there; such a line is not the page's.
     own = ("javascript ", "Script error", "favicon")
@@ -347,7 +359,7 @@ def check_by_chromium(browser, page):
 
 def check_policy(browser, page):
     browser.go(page.as_uri())
-    browser.until(READY, True)
+    until_ready(browser)
     browser.script(FORBIDDEN)
     comes(browser, "what the policy forbids", VIOLATIONS, "base-uri form-action img-src script-src-elem style-src-elem")
 
@@ -356,14 +368,14 @@ def figures(browser, page):
     """What the page takes, for the documents."""
     browser.go("about:blank")
     browser.go(page.as_uri())
-    browser.until(READY, True)
+    until_ready(browser)
     start = browser.script("return Number(document.body.dataset.ready)")
     return f"the page has {page.stat().st_size} bytes, its module {len(module_of_page(page))}; it starts in {start} ms in {browser.name}"
 
 
 def take_picture(browser, page, path):
     browser.go(page.as_uri())
-    browser.until(READY, True)
+    until_ready(browser)
     choose_example(browser, "calculator")
     browser.command("Emulation.setDeviceMetricsOverride", width=1280, height=800, deviceScaleFactor=1, mobile=False)
     for legend in "22/7=":
@@ -372,7 +384,7 @@ def take_picture(browser, page, path):
     browser.until(DIGITS, "3.1428571")
     browser.click("#run")
     browser.click("#step")
-    browser.until(STATUS, "One instruction was done.")
+    browser.until(STATUS, STEPPED)
     browser.click_at_rest("#lines-of-program button.next + button")
     browser.click(".ram button")
     browser.until("return document.querySelectorAll('#lines-of-program [aria-pressed=true], .ram [aria-pressed=true]').length", 2)

@@ -3,7 +3,7 @@
 import re
 
 from page_altered import FAULT, FAULTS, SHOW_WORKER, altered
-from page_in_browser import DIGITS, ENTER, ESCAPE, NOTICE, READY, STATUS, choose_example, lines_answered
+from page_in_browser import DIGITS, ENTER, ESCAPE, NOTICE, READY, STATUS, choose_example, lines_answered, until_ready
 from verdicts import comes, verdict
 from web_driver import Chromium
 
@@ -38,7 +38,7 @@ def dismiss(browser):
 def check_failures(browser, page, folder):
     """A trap, no memory, a worker that dies or hangs, and a store without space; the session stays."""
     browser.go(altered(page, folder, SHOW_WORKER, FAULTS).as_uri())
-    browser.until(READY, True)
+    until_ready(browser)
     choose_example(browser, "calculator")
     browser.keys([ESCAPE, "1", "2"])
     browser.until(DIGITS, "12")
@@ -83,7 +83,7 @@ def check_worker(browser):
     browser.keys(["4"])
     comes(browser, "and goes on in another worker", DIGITS, "1234")
     browser.click("#run")
-    browser.until(STATUS, "Stopped.")
+    browser.until(STATUS, re.compile("^Stopped"))
     before = lines_answered(browser, "seq")
     fail(browser, "hang")
     browser.script("document.getElementById('lines').value = 'poke r5 9'")
@@ -131,10 +131,10 @@ def check_long_work(browser, page):
     """Long work shows how far it is, leaves the page alive, and can be cancelled: then nothing of it is done."""
     browser.go("about:blank")
     browser.go(page.as_uri())
-    browser.until(READY, True)
+    until_ready(browser)
     choose_example(browser, "calculator")
     browser.click("#run")
-    browser.until(STATUS, "Stopped.")
+    browser.until(STATUS, re.compile("^Stopped"))
     # The line of what ran comes into the log before the first of them.
     lines_answered(browser, "seq")
     before = lines_answered(browser, "seq")
@@ -193,15 +193,15 @@ def check_no_locks(browser, page, folder):
     address = browser.script("return location.href")
     first = browser.tab()
     browser.click("#run")
-    browser.until(STATUS, "Stopped.")
+    browser.until(STATUS, re.compile("^Stopped"))
     browser.new_tab()
     browser.go(address)
-    browser.until(READY, True)
+    until_ready(browser)
     verdict("the second tab keeps its line", lines_answered(browser, "poke r5 9"), re.compile(r"poke r5 9ok \d+"))
     browser.close_tab(first)
     verdict("the first one is told", lines_answered(browser, "poke r5 3"), re.compile("not kept: another tab has changed"))
     browser.reload()
-    browser.until(READY, True)
+    until_ready(browser)
     verdict("and what the second one wrote is there", lines_answered(browser, "regs"), re.compile(" r .{5}9"))
 
 
@@ -220,9 +220,9 @@ def check_little_memory(page, folder):
     browser = Chromium(folder / "little", str(folder / "downloads"), ["--js-flags=--wasm-max-mem-pages=80"])
     try:
         browser.go(page.as_uri())
-        browser.until(READY, True)
+        until_ready(browser)
         browser.click("#run")
-        browser.until(STATUS, "Stopped.")
+        browser.until(STATUS, re.compile("^Stopped"))
         before = lines_answered(browser, "seq")
         browser.script("document.getElementById('lines').value = 'poke r5 9\\nasm\\n' + '; a comment of so many letters\\n'.repeat(150000)")
         browser.click("#send")
@@ -237,7 +237,7 @@ def reopen(browser, address):
     """The page, left and opened again; gives what it says then."""
     browser.go("about:blank")
     browser.go(address)
-    browser.until(READY, True)
+    until_ready(browser)
     return browser.script(NOTICE)
 
 

@@ -3,7 +3,7 @@
 import re
 import time
 
-from page_in_browser import AT_COUNTER, ENTER, ESCAPE, READY, STATUS, choose_example, key, lines_answered, show_text
+from page_in_browser import AT_COUNTER, ENTER, ESCAPE, STATUS, STEPPED, choose_example, key, lines_answered, show_text, until_ready
 from verdicts import comes, verdict
 from web_driver import Chromium
 
@@ -14,7 +14,7 @@ F2 = "\ue032"
 def check(browser, page, _folder, _mcs4):
     browser.go("about:blank")
     browser.go(page.as_uri())
-    browser.until(READY, True)
+    until_ready(browser)
     choose_example(browser, "calculator")
     check_tabs(browser)
     check_folds(browser)
@@ -59,7 +59,7 @@ def check_folds(browser):
     verdict("a panel folds", browser.script(folded), "falsefalse")
     show_text(browser, "board")
     browser.reload()
-    browser.until(READY, True)
+    until_ready(browser)
     verdict("and is folded after a reload", browser.script(folded), "falsefalse")
     verdict("the tab is kept, too", browser.script(FRONT), "board-tab")
     browser.click("#talk .fold")
@@ -85,7 +85,7 @@ def focus_row(browser, at):
 def check_listing(browser):
     """All 4,096 bytes can be gone through, by keys, wheel and scroll bar."""
     browser.click("#run")
-    browser.until(STATUS, "Stopped.")
+    browser.until(STATUS, re.compile("^Stopped"))
     focus_row(browser, 3)
     browser.keys([HOME])
     comes(browser, "Home goes to 000", FOCUSED, "000")
@@ -151,7 +151,7 @@ def check_follow(browser):
     browser.click("#run")
     comes(browser, "while time runs it follows, too", NEXT, re.compile("."))
     browser.click("#run")
-    browser.until(STATUS, "Stopped.")
+    browser.until(STATUS, re.compile("^Stopped"))
 
 
 def text_of(browser, name):
@@ -173,7 +173,7 @@ def check_marks(browser):
     """What is marked at a stop is what differs from the stop before, however long ago it changed."""
     choose_example(browser, "three lamps")
     browser.click("#run")
-    browser.until(STATUS, "Stopped.")
+    browser.until(STATUS, re.compile("^Stopped"))
     lines_answered(browser, f"asm\n{SLOW}.\nreset\nbreak 12".replace("\\n", "\n"))
     comes(browser, "after a reset the status is true", STATUS, "The board was reset; it stands at 000.")
     browser.script(COUNT_MARKS)
@@ -183,7 +183,7 @@ def check_marks(browser):
     verdict("what changed at its start is marked", "R5" in browser.script(MARKED).split(), True)
     verdict("what came back to what it was is not", "R0" in browser.script(MARKED).split(), False)
     browser.click("#step")
-    browser.until(STATUS, "One instruction was done.")
+    browser.until(STATUS, STEPPED)
     verdict("the next stop marks what it changed alone", "R5" in browser.script(MARKED).split(), False)
     browser.click("#reset")
     comes(browser, "Reset says where the board stands", STATUS, "The board was reset; it stands at 000.")
@@ -298,7 +298,7 @@ def check_swipe(browser):
         time.sleep(0.5)
         verdict(f"after a {what} swipe no key is down", browser.script(DOWN_KEYS), 0)
     browser.click("#run")
-    browser.until(STATUS, "Stopped.")
+    browser.until(STATUS, re.compile("^Stopped"))
     for what, wait in (("quick", 20), ("slow", 200)):
         browser.script(SWIPE, key("7"), wait)
         time.sleep(0.5)
@@ -334,7 +334,7 @@ def at_size(browser, width, height, mobile=False):
 
 
 BOXES = """
-return Object.fromEntries(["clock", "front", "groups", "keys", "texts", "program-editor", "listing", "memory", "scope"].map((id) => {
+return Object.fromEntries(["clock", "front", "groups", "keys", "texts", "program-editor", "listing", "memory"].map((id) => {
   const box = document.getElementById(id).getBoundingClientRect();
   return [id, { left: box.left, right: box.right, top: box.top, bottom: box.bottom }];
 }))"""
@@ -405,12 +405,15 @@ def check_phone(browser):
     at_size(browser, 375, 667, True)
     browser.command("Emulation.setTouchEmulationEnabled", enabled=True)
     browser.reload()
-    browser.until(READY, True)
+    until_ready(browser)
     check_menu(browser)
-    for width, height in ((390, 844), (360, 640), (375, 667)):
+    for width, height in ((390, 844), (360, 640), (320, 640), (375, 667)):
         at_size(browser, width, height, True)
         told = browser.script(BOXES)
         verdict(f"at {width} a phone does not scroll sideways", browser.script(SIDEWAYS), 0)
+        verdict(f"nor does RAM at {width}", browser.script("const box = document.getElementById('banks'); return box.scrollWidth - box.clientWidth"), 0)
+        verdict(f"going back stands below the keys at {width}", browser.script(
+            "return document.getElementById('front').nextElementSibling.id"), "history")
         verdict(f"lamps and keys are above the bar of time at {width}", told["keys"]["bottom"] < told["clock"]["top"], True)
         verdict(f"which is small at {width}", told["clock"]["bottom"] - told["clock"]["top"] < 116, True)
     browser.script("document.getElementById('program-editor').scrollIntoView({ block: 'end' })")
@@ -418,7 +421,7 @@ def check_phone(browser):
         verdict(f"{what} is in view beside the text on a phone", browser.script(SEEN, what), True)
     browser.script("scrollTo(0, 0)")
     browser.click("#run")
-    browser.until(STATUS, "Stopped.")
+    browser.until(STATUS, re.compile("^Stopped"))
     browser.script("scrollTo(0, 0)")
     box = browser.script("const box = document.querySelector('.key').getBoundingClientRect(); return [box.x + 20, box.y + 15]")
     swipe_up(browser, *box)
@@ -444,7 +447,7 @@ def check_forced_colours(browser):
     choose_example(browser, "traffic light")
     comes(browser, "a lamp is lit", "return document.querySelectorAll('.bulb.lit').length > 0", True)
     browser.click("#run")
-    browser.until(STATUS, "Stopped.")
+    browser.until(STATUS, re.compile("^Stopped"))
     browser.click("#step")
     comes(browser, "a step leaves marks", "return document.querySelectorAll('.changed').length > 0", True)
     emulate(browser, forced_colors="active")

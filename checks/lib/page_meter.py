@@ -123,7 +123,7 @@ status.textContent = "";
 const begun = performance.now();
 const cycles = arguments[1];
 new MutationObserver((_, own) => {
-  if (!/did not come in|Returned to/.test(status.textContent)) return;
+  if (!/up to a change|Returned to/.test(status.textContent)) return;
   own.disconnect();
   window.searched = (cycles / (performance.now() - begun)) * 1000;
 }).observe(status, { childList: true, characterData: true, subtree: true });

@@ -5,7 +5,7 @@ import pathlib
 import re
 import subprocess
 
-from page_in_browser import ENTER, NOTICE, PUT_INTO_EDITOR, READY, STATUS, choose_example, lines_answered, show_text
+from page_in_browser import ENTER, NOTICE, PUT_INTO_EDITOR, STATUS, choose_example, lines_answered, show_text, until_ready
 from verdicts import comes, verdict
 
 TOP = pathlib.Path(__file__).resolve().parent.parent.parent
@@ -34,13 +34,19 @@ return lines.join(" ")"""
 
 # Steps so many times; after each step the counter, and the source line that is marked and seen, with its number in the margin.
 STEP_THROUGH = """
+// What a line has changed stands behind it, and is no part of it.
+const textOf = (line) => {
+  const copy = line.cloneNode(true);
+  for (const values of copy.querySelectorAll(".line-values")) values.remove();
+  return copy.textContent;
+};
 const shown = () => document.querySelector("#log").textContent;
 const marked = () => [...document.querySelectorAll("#program-editor .CodeMirror-code .next")].map((line) => {
   const seen = line.getBoundingClientRect();
   const box = document.querySelector("#program-editor .CodeMirror-scroll").getBoundingClientRect();
   const isSeen = seen.top >= box.top - 1 && seen.bottom <= box.bottom + 1;
   const number = line.querySelector(".CodeMirror-linenumber").textContent;
-  return isSeen ? `${number} ${line.querySelector(".CodeMirror-line").textContent}` : "not seen";
+  return isSeen ? `${number} ${textOf(line.querySelector(".CodeMirror-line"))}` : "not seen";
 });
 const frame = () => new Promise((done) => setTimeout(done, 5));
 return (async () => {
@@ -107,7 +113,7 @@ def go_to(browser, text):
 
 def check_steps(browser, source):
     browser.click("#run")
-    browser.until(STATUS, "Stopped.")
+    browser.until(STATUS, re.compile("^Stopped"))
     lines_answered(browser, "reset")
     told = []
     for chunk in range(STEPS // STEPS_AT_ONCE):
@@ -146,27 +152,28 @@ def check_margin(browser, source, values):
     browser.script(CLICK_MARGIN, show)
     comes(browser, "another click clears it", MARGIN, "")
     browser.script(CLICK_MARGIN, 1)
-    comes(browser, "a line without bytes takes none, in words", TOLD_AT, re.compile("^Line 1 puts no bytes into ROM"))
+    comes(browser, "at a line without bytes it goes to the next instruction, in words", TOLD_AT,
+          re.compile("^Line 1 puts no bytes into ROM: its breakpoint is at the next instruction, line "))
+    first = browser.until(MARGIN, re.compile("[0-9]"))
+    browser.script(CLICK_MARGIN, int(first))
+    comes(browser, "which a click there takes away", MARGIN, "")
 
 
 def check_inside(browser, source, values, lines):
-    """A breakpoint inside an instruction has no mark of one that a run stops at, and no run stops there."""
+    """A breakpoint inside an instruction goes to the next one, where a run stops."""
     call = next(number for number, text in enumerate(lines, 1) if "JMS scan" in text.expandtabs(1))
     address = next(place for place, (number, _) in source.items() if number == call)
-    inside = f"{int(address, 16) + 1:03X}"
+    inside, behind = (f"{int(address, 16) + more:03X}" for more in (1, 2))
     go_to(browser, address)
     lines_answered(browser, f"break 0x{inside}")
     browser.script(SHOW_MARGIN, call)
-    comes(browser, "a breakpoint inside an instruction has a hollow mark, in the listing, too", MARKS,
-          [f"\u25cb breakpoint at {inside}, inside this instruction: a run that comes here does not stop; a click clears it", "\u25cb"])
-    lines_answered(browser, f"break 0x{values['scan']}")
-    browser.click("#run")
-    comes(browser, "a run goes through it", STATUS, f"Stopped at {values['scan']}, at a breakpoint.")
-    lines_answered(browser, f"unbreak 0x{values['scan']}")
-    browser.script(CLICK_MARGIN, call)
+    comes(browser, "a breakpoint inside an instruction goes to the next one", MARGIN, str(source[behind][0]))
+    comes(browser, "in the listing, too", MARKS, ["\u25cf breakpoint", "\u25cf"])
+    verdict("and in the bench", lines_answered(browser, "breaks"), re.compile(f"breaks {behind}$"))
+    browser.script(CLICK_MARGIN, source[behind][0])
     comes(browser, "a click in the margin clears it", MARGIN, "")
     verdict("no breakpoint is left", lines_answered(browser, "breaks"), re.compile("breaks -$"))
-    lines_answered(browser, f"break 0x{inside}")
+    lines_answered(browser, f"break 0x{address}")
     browser.until(MARGIN, str(call))
     browser.script("document.querySelector('#lines-of-program button[aria-pressed=true]').click()")
     comes(browser, "and so does one on its row of the listing", MARGIN, "")
@@ -186,8 +193,8 @@ def check_pointing(browser, source, values, lines):
     for word, words in {
         "scan": f"scan: address 0x{values['scan']}, line {source[values['scan']][0]}",
         "JMS": re.compile(r"^JMS t: 2 words, 2 cycles\. .*The carry stays\.$"),
-        "nonzero": f"nonzero = 0x{values['nonzero'][-2:]}, {int(values['nonzero'], 16)}",
-        "P1": "P1: the pair of R2, its upper four bits, and R3, its lower ones.",
+        "nonzero": re.compile(f"^nonzero = 0x{values['nonzero'][-2:]}, {int(values['nonzero'], 16)}(, {int(values['nonzero'], 16):04b})?$"),
+        "P1": re.compile(r"^(?:P1 = ([0-9A-F])([0-9A-F]): R2 \1, R3 \2\. )?P1: the pair of R2, its upper four bits, and R3, its lower ones\.$"),
     }.items():
         point_at(browser, line_of[word], word)
         comes(browser, f"the pointer on {word} shows what it is", MEANING, words)
@@ -227,7 +234,9 @@ def check_difference(browser, source, lines):
     comes(browser, "a text that is not in ROM says where it differs", SOURCE_TOLD, differs)
     comes(browser, "and names nothing", LABELS, "")
     browser.script(CLICK_MARGIN, line)
-    comes(browser, "nor takes it a breakpoint", TOLD_AT, differs)
+    comes(browser, "a breakpoint in it stops nothing yet, in words", TOLD_AT, f"{differs} Until then this breakpoint stops nothing.")
+    browser.script(CLICK_MARGIN, line)
+    comes(browser, "a second click takes it away", MARGIN, "")
     put(browser, "\n".join(["; one line more", *lines]) + "\n")
     comes(browser, "another comment alone makes no difference", SOURCE_TOLD, "")
     comes(browser, "and names are there", LABELS, re.compile("scan:"))
@@ -245,7 +254,7 @@ def check(browser, page, _folder, mcs4):
     source, values = listed(mcs4)
     lines = PROGRAM.read_text().splitlines()
     browser.go(page.as_uri())
-    browser.until(READY, True)
+    until_ready(browser)
     choose_example(browser, "calculator")
     show_text(browser, "program")
     check_steps(browser, source)

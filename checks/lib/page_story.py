@@ -6,7 +6,7 @@ import re
 import time
 
 from page_editor import CARET, FAULTS, PROGRAM, SET_CARET, TOLD
-from page_in_browser import ENTER, ESCAPE, NOTICE, READY, STATUS, TAB, TEXT_OF_EDITOR, focused, lines_answered
+from page_in_browser import ENTER, ESCAPE, NOTICE, STATUS, STEPPED, TAB, TEXT_OF_EDITOR, focused, lines_answered, until_ready
 from page_names import MARGIN, SOURCE_TOLD
 from page_texts import ASKED, NAME, PROGRAM_TEXT, TEXTS, kept_download
 from verdicts import comes, verdict
@@ -102,7 +102,7 @@ def check_keys(browser):
 def check_stop(browser):
     """Stopped, with a breakpoint in the source, and stepped."""
     browser.keys([F8])
-    browser.until(STATUS, "Stopped.")
+    browser.until(STATUS, re.compile("^Stopped"))
     go_to_source(browser)
     browser.script(SET_CARET, PROGRAM, 3, 0)
     browser.keys([F9])
@@ -110,7 +110,7 @@ def check_stop(browser):
     browser.keys([F8])
     comes(browser, "a run stops there", STATUS, re.compile("^Stopped at 002, at a breakpoint"))
     browser.keys([F11])
-    comes(browser, "F11 does one instruction", STATUS, "One instruction was done.")
+    comes(browser, "F11 does one instruction", STATUS, STEPPED)
     verdict("the next one is WMP", browser.script(REGISTERS), re.compile("pc003"))
     browser.keys([F9])
     comes(browser, "F9 clears it", MARGIN, "")
@@ -136,13 +136,13 @@ def check_file(browser, folder):
     texts = browser.script(TEXTS)
     browser.script("document.getElementById('save-button').focus()")
     browser.keys([ENTER])
-    saved = kept_download(folder, "empty bench.mcsp")
+    saved = kept_download(folder, "My first board.mcsp")
     whole = saved.read_bytes()
     saved.unlink()
     verdict("a project has the text as it is", all(line in whole.decode() for line in ("; my first program", "read: RDR")), True)
     browser.script(DROP, "holiday.jpg", "no session at all")
     comes(browser, "a wrong file that is dropped is refused in words", NOTICE,
-          re.compile(r"holiday\.jpg was not opened: no 50: not a session file.*The session that is shown is as it was"))
+          re.compile(r"holiday\.jpg was not opened: not a kind of text that the bench has; the page opens .*The session that is shown is as it was"))
     verdict("and the texts are as they were", browser.script(TEXTS), texts)
     go_to_source(browser)
     browser.script(SET_CARET, PROGRAM, 0, 0)
@@ -150,10 +150,10 @@ def check_file(browser, folder):
     comes(browser, "something else is typed", TEXT_OF_EDITOR.replace("arguments[0]", f"'{PROGRAM}'"), re.compile("^; not this"))
     browser.script(DROP, "mine.mcsp", whole.decode())
     comes(browser, "the project is opened again", TEXTS, texts)
-    comes(browser, "what was left for it can be come back to", NOTICE, re.compile('The session "empty bench" is kept, as you left it'))
+    comes(browser, "what was left for it can be come back to", NOTICE, re.compile('The session "My first board" is kept, as you left it'))
     browser.script("document.getElementById('save-button').focus()")
     browser.keys([ENTER])
-    verdict("and saved again it is the same, to the byte", kept_download(folder, "empty bench.mcsp").read_bytes() == whole, True)
+    verdict("and saved again it is the same, to the byte", kept_download(folder, "My first board.mcsp").read_bytes() == whole, True)
     browser.script("document.querySelector(\"#notice button[aria-label^='Back to it']\").focus()")
     browser.keys([ENTER])
     comes(browser, "back to the other one", PROGRAM_TEXT, re.compile("^; not this"))
@@ -161,6 +161,7 @@ def check_file(browser, folder):
 
 def check_example(browser):
     """An example that is a project: its texts have their comments, and its session stands where they say."""
+    browser.script("for (const each of document.querySelectorAll('#notice .dismiss')) each.click()")
     choose_by_keyboard(browser, "a fault to find")
     verdict("its source has its comments", browser.script(PROGRAM_TEXT), re.compile("^; Four lamps should count from 0 to 9"))
     comes(browser, "it is what is in ROM", SOURCE_TOLD, "")
@@ -184,7 +185,7 @@ def check_example(browser):
 def check(browser, page, folder, _mcs4):
     browser.go("about:blank")
     browser.go(page.as_uri())
-    comes(browser, "the page is ready", READY, True)
+    until_ready(browser)
     check_board(browser)
     check_program(browser)
     check_keys(browser)

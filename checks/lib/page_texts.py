@@ -7,7 +7,7 @@ import subprocess
 import time
 import zlib
 
-from page_in_browser import NOTICE, READY, STATUS, choose_example, lines_answered, show_text, told_of
+from page_in_browser import NOTICE, STATUS, choose_example, lines_answered, show_text, told_of, until_ready
 from verdicts import comes, verdict
 
 TOP = pathlib.Path(__file__).resolve().parent.parent.parent
@@ -73,7 +73,7 @@ def check_damaged(browser, folder, whole):
     foreign = folder / "foreign.png"
     foreign.write_bytes(b"\x89PNG\r\n\x1a\n" + bytes(100))
     for path, words in ((cut, "cut off: its last line"), (changed, "damaged, or was changed by hand"), (newer, "of version 2"),
-                        (foreign, "no 50: not a session file")):
+                        (foreign, "not a text, a session or a project; the page opens projects")):
         browser.type_into("#file", str(path))
         comes(browser, f"{path.name} is refused in words", NOTICE,
               re.compile(f"{path.name} was not opened: .*{words}.*The session that is shown is as it was"))
@@ -103,7 +103,7 @@ def check_undo(browser):
     browser.click("#notice .dismiss")
     time.sleep(1)
     browser.reload()
-    browser.until(READY, True)
+    until_ready(browser)
     verdict("the texts are kept", browser.script(PROGRAM_TEXT), mine)
 
 
@@ -161,7 +161,7 @@ def check_notices(browser, folder):
     """Each kind of notice stays by itself; the status is true after a reset."""
     choose_example(browser, "calculator")
     browser.click("#run")
-    browser.until(STATUS, "Stopped.")
+    browser.until(STATUS, re.compile("^Stopped"))
     browser.type_into("#file", str(folder / "cut.mcsp"))
     browser.until(NOTICE, re.compile("cut off"))
     told_of(browser, "#program-editor", "\tNOP\n")
@@ -185,7 +185,8 @@ def open_link(browser, page, link):
     """The page, opened by an address with a link in it."""
     browser.go("about:blank")
     browser.go(f"{page.as_uri()}#{link}")
-    browser.until(READY, True)
+    # It is not ready before what it asks is answered.
+    browser.until("return Boolean(document.body.dataset.ready) || document.getElementById('ask').open", True, 90)
 
 
 def check_link(browser, page):
@@ -217,6 +218,7 @@ def check_link(browser, page):
     browser.click("#ask .bar button:first-child")
     comes(browser, "it becomes a session", NAME, "my light")
     verdict("with its texts", browser.script(TEXTS), [BOARD, PROGRAM])
+    until_ready(browser)
     verdict("which is kept", count_kept(browser), kept + 1)
     browser.click("#close-sessions")
     for what, made in (("a cut link", link[:-9]), ("a link that is made by hand", "link=1.aGVsbG8"), ("another one", "link=hello")):
@@ -242,7 +244,7 @@ def check_foreign_links(browser, page):
     shown = browser.script(TEXTS)
     open_link(browser, page, link_of("a clock", hanging, ""))
     comes(browser, "a link with a text that is too long is refused in words", NOTICE, re.compile(
-        rf"^The link was not opened: the board's text has {len(hanging):,} bytes, and 16,384 is the most\. What was here stays as it was\.$"))
+        rf"^The link was not opened: the board's text has {len(hanging):,} characters, and 65,536 is the most\. What was here stays as it was\.$"))
     verdict("and the bench is as it was", browser.script(TEXTS), shown)
     board = f"# title: {'long words ' * 20}\n# lamp 0: {' '.join(names[:400])}\n# grid 0: {' '.join(f'-{at}' for at in range(600))}\n"
     open_link(browser, page, link_of("\u202etxe\u2066\t" + "name " * 900, board, ""))
@@ -264,6 +266,82 @@ const data = new DataTransfer();
 data.items.add(new File([arguments[0]], "dropped.mcsp"));
 document.body.dispatchEvent(new DragEvent("drop", { dataTransfer: data, bubbles: true, cancelable: true }))""", project.decode())
     comes(browser, "a project that is dropped is opened", TEXTS, [BOARD, PROGRAM])
+    # A script cannot drop a folder; the files of one come to the same.
+    drop = """
+const data = new DataTransfer();
+for (const [name, text] of arguments[0]) data.items.add(new File([text], name));
+document.body.dispatchEvent(new DragEvent("drop", { dataTransfer: data, bubbles: true, cancelable: true }))"""
+    names = 'board = "own.toml"\nprogram = "own.asm"\nspeed = "tenth"\n'
+    files = [["own.toml", BOARD], ["own.asm", "; my own\n" + PROGRAM], ["mcs4.toml", names]]
+    browser.script(drop, files)
+    comes(browser, "the files of a project are opened by its mcs4.toml", TEXTS, [BOARD, "; my own\n" + PROGRAM])
+    comes(browser, "at the speed that it names", "return document.getElementById('speed').value", "tenth")
+    browser.script(drop, [*files[:2], ["mcs4.toml", names + "lamps = 1\n"]])
+    comes(browser, "what is wrong in it is told with its line", NOTICE, re.compile(
+        r"^the folder was not opened: mcs4\.toml: line 4: a project has no key lamps; .*The session that is shown is as it was"))
+    browser.script(drop, files[2:])
+    comes(browser, "alone it is refused", NOTICE, re.compile(r"^mcs4\.toml was not opened: it names files of a project: drop its folder"))
+    browser.script("document.getElementById('speed').value = 'real'; document.getElementById('speed').dispatchEvent(new Event('change'))")
+
+
+def saved_as(browser, folder, ending):
+    """A file of the dialog Export."""
+    browser.click("#export-button")
+    number = [".asm", ".toml", ".hex", ".bin"].index(ending) + 1
+    browser.click(f"#export li:nth-child({number}) button")
+    saved = kept_download(folder, f"my light{ending}")
+    found = saved.read_bytes()
+    saved.unlink()
+    return found
+
+
+def asked_of_bench(mcs4, session, lines):
+    """What the program answers to lines, on a copy of a session."""
+    copy = session.with_suffix(".copy.mcs")
+    copy.write_bytes(session.read_bytes())
+    return subprocess.run([mcs4, "open", copy], input=lines, stdout=subprocess.PIPE, check=True, text=True).stdout
+
+
+def check_files(browser, folder, mcs4):
+    """Programs, boards, lines and images of ROM are opened and saved, as tools/rom reads and writes them."""
+    example = TOP / "examples/three_lamps"
+    for name in ("board.toml", "three_lamps.asm"):
+        browser.type_into("#file", str(example / name))
+        comes(browser, f"{name} is opened", NOTICE, re.compile(f"^{name} stands in (Board|Source)"))
+    comes(browser, "their texts are in the editors", TEXTS, [(example / "board.toml").read_text(), (example / "three_lamps.asm").read_text()])
+    browser.click("#board-tab")
+    browser.click("#board-editor .send")
+    browser.until("return document.querySelector('#board-editor .told').textContent", "The board is wired.")
+    browser.click("#program-tab")
+    browser.click("#assemble-only")
+    browser.until("return document.querySelector('#program-editor .told').textContent", re.compile("assembled"))
+    rename(browser, "my light")
+    verdict("the source is exported", saved_as(browser, folder, ".asm"), (example / "three_lamps.asm").read_bytes())
+    verdict("and the board", saved_as(browser, folder, ".toml"), (example / "board.toml").read_bytes())
+    image = saved_as(browser, folder, ".bin")
+    browser.click("#save-session-button")
+    session = kept_download(folder, "my light.mcs")
+    rom, size = TOP / "tools/rom", str(len(image))
+    questions = subprocess.run([rom, "ask", "0", size], stdout=subprocess.PIPE, check=True, text=True).stdout
+    answers = asked_of_bench(mcs4, session, questions)
+    for words, ending, expected in ((["save"], ".bin", image), (["save", "--hex"], ".hex", None)):
+        told = subprocess.run([rom, *words, "0", size], input=answers.encode(), stdout=subprocess.PIPE, check=True).stdout
+        verdict(f"ROM is exported as {ending} as tools/rom has it", expected or saved_as(browser, folder, ending), told)
+    check_image(browser, folder, image)
+
+
+def check_image(browser, folder, image):
+    """An image comes into ROM; one with bytes where the board has no ROM does not."""
+    other = folder / "other.bin"
+    other.write_bytes(bytes(byte ^ 0x80 if at < 4 else byte for at, byte in enumerate(image)))
+    browser.type_into("#file", str(other))
+    comes(browser, "an image is opened", NOTICE, re.compile(f"^{len(image):,} bytes of other.bin stand in ROM, from 000 on; nothing was reset\\."))
+    verdict("it stands in ROM", saved_as(browser, folder, ".bin"), other.read_bytes())
+    large = folder / "large.hex"
+    large.write_text(":010F0000D11F\n:00000001FF\n")
+    browser.type_into("#file", str(large))
+    comes(browser, "an image for a ROM that is not there is refused in words", NOTICE, re.compile("^large.hex was not opened: the board has no ROM 15"))
+    browser.script("for (const each of document.querySelectorAll('#notice .dismiss')) each.click()")
 
 
 def check_tool(folder, project):
@@ -277,12 +355,12 @@ def check_tool(folder, project):
     verdict("and puts the project together to the byte", again.read_bytes() == project.read_bytes(), True)
 
 
-def check_texts(browser, page, folder, _mcs4):
+def check_texts(browser, page, folder, mcs4):
     browser.go("about:blank")
     browser.go(page.as_uri())
-    comes(browser, "the page is ready", READY, True)
+    until_ready(browser)
     browser.click("#run")
-    browser.until(STATUS, "Stopped.")
+    browser.until(STATUS, re.compile("^Stopped"))
     project = check_project(browser, folder)
     check_damaged(browser, folder, project.read_bytes())
     check_tool(folder, project)
@@ -290,5 +368,6 @@ def check_texts(browser, page, folder, _mcs4):
     check_deleting(browser, check_examples(browser))
     check_notices(browser, folder)
     check_drop(browser, project.read_bytes())
+    check_files(browser, folder, mcs4)
     check_link(browser, page)
     check_foreign_links(browser, page)

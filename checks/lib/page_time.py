@@ -6,7 +6,7 @@ import pathlib
 import re
 import subprocess
 
-from page_in_browser import DIGITS, NOTICE, RATE, READY, SPEED, STATUS, choose_example, key, lines_answered
+from page_in_browser import DIGITS, NOTICE, RATE, SPEED, STATUS, STEPPED, choose_example, key, lines_answered, until_ready
 from verdicts import comes, verdict
 
 TOP = pathlib.Path(__file__).resolve().parent.parent.parent
@@ -82,7 +82,7 @@ def stand(browser):
     """Stops the time that runs."""
     if browser.script("return document.getElementById('run').textContent") == "Stop":
         browser.click("#run")
-        browser.until(STATUS, "Stopped.")
+        browser.until(STATUS, re.compile("^Stopped"))
 
 
 def at_rest(browser, name):
@@ -121,7 +121,7 @@ def check_over(browser, program, name, example):
 
 def into_and_out(browser):
     browser.script(PRESS, "F11", False)
-    browser.until(STATUS, "One instruction was done.")
+    browser.until(STATUS, STEPPED)
     browser.script(PRESS, "F11", True)
 
 
@@ -175,8 +175,10 @@ def check_far(browser):
     cycles = 0
     for _ in range(5):
         cycles = 16 * (cycles + 2)
+    browser.script(SPEED, "full")
     browser.click("#over")
     comes(browser, "Over a delay", STATUS, f"Returned to 002, after {counted(cycles + 9)}.", 60)
+    browser.script(SPEED, "real")
     browser.script(CHANGE, "#change-place", "r2")
     browser.click("#back-change")
     comes(browser, "back to the last change in it", STATUS, re.compile("^Back at .*: this instruction changes r2 from F to 0"), 60)
@@ -201,7 +203,7 @@ def check_stopwatch(browser):
     comes(browser, "back to the change of the lamps", STATUS, re.compile("^Back at ..., 1 cycle, 0.011 ms before: this instruction changes lamps"))
     verdict("it is not done yet", lines_answered(browser, "lamps") != lamps, True)
     browser.click("#step")
-    browser.until(STATUS, "One instruction was done.")
+    browser.until(STATUS, STEPPED)
     verdict("and it does it", lines_answered(browser, "lamps"), lamps)
     browser.script(CHANGE, "#change-place", "chain2.0")
     browser.click("#until-change")
@@ -245,28 +247,67 @@ def check_back(browser):
     lines_answered(browser, "poke r5 9")
     comes(browser, "once something else is done, there is no forward", "return document.getElementById('forward').disabled", True)
     browser.reload()
-    browser.until(READY, True)
+    until_ready(browser)
     verdict("the present is what is kept", re.search("r [0-9A-F]{5}9", lines_answered(browser, "regs")) is not None, True)
     browser.click("#back-stop")
-    comes(browser, "a page that was loaded anew remembers nothing", STATUS, "Nothing was done: the page remembers no stop before this one.")
+    comes(browser, "a page that was loaded anew remembers nothing", STATUS, "Nothing was done: no stop before this one is remembered.")
 
 
 def check_never(browser):
-    """A goal that never comes: cancelled, or left by a reload, the session is as it was."""
+    """A goal that never comes is time that runs: Stop and F8 end it, a reload too, and no more than runs is left of it."""
     choose_example(browser, "empty bench")
     lines_answered(browser, 'wire\n[[rom]]\nchip = 0\nport = "0000"\n.\nasm\nround: JUN round\n.')
-    before = state(browser)
+    for what, stop in {"F8": lambda: browser.script(PRESS, "F8", False), "Stop": lambda: browser.click("#run")}.items():
+        browser.click("#out")
+        comes(browser, f"what never comes is time that runs, before {what}", STATUS, "Time runs, up to the return from the subroutine.")
+        browser.until(RATE, re.compile("^[0-9,]+ cycles"))
+        stop()
+        comes(browser, f"{what} ends it", STATUS,
+              re.compile("^Stopped at 000, after [0-9,]+ cycles, .*; the return from the subroutine was not reached.$"))
     browser.click("#out")
-    browser.until("return document.getElementById('work').hidden", False)
-    browser.click("#cancel")
-    comes(browser, "what never comes is cancelled", NOTICE, re.compile("^It was cancelled. The session is as it was before.$"))
-    verdict("nothing was done", state(browser), before)
-    browser.click("#notice button")
-    browser.click("#out")
-    browser.until("return document.getElementById('work').hidden", False)
+    browser.until(STATUS, re.compile("^Time runs, up to"))
     browser.reload()
-    browser.until(READY, True)
-    verdict("nor is anything left of it by a page that goes in the middle", state(browser), before)
+    until_ready(browser)
+    stand(browser)
+    verdict("no breakpoint and no watch is left", state(browser)[-len("breaksbreaks -watcheswatches -"):], "breaksbreaks -watcheswatches -")
+
+
+# A program with a subroutine that waits for the second key of the first board.
+WAITS = """asm
+FIM P0, 0
+SRC P0
+LDM 2
+WRR
+LDM 3
+WRR
+LDM 9
+JMS getkey
+WMP
+round: JUN round
+getkey: RDR
+RAL
+JCN 10, getkey
+BBL 6
+."""
+
+
+def check_waiting(browser):
+    """Over a subroutine that waits for a key: time runs, and the key is pressed; a plain instruction returns from nothing."""
+    choose_example(browser, "empty bench")
+    browser.click("#first-board")
+    browser.until("return document.querySelectorAll('#keys button').length", 2)
+    lines_answered(browser, f"{WAITS}\nrun 8")
+    browser.script(PRESS, "F10", False)
+    comes(browser, "Over a subroutine that waits for a key is time that runs", STATUS, "Time runs, up to the return from the subroutine.")
+    browser.until(RATE, re.compile("^9[0-4],"))
+    browser.fingers([key("right")], 60)
+    comes(browser, "it returns once the key is pressed", STATUS, re.compile("^Returned to 00A, after [0-9,]+ cycles, "))
+    verdict("no breakpoint and no watch stays", state(browser)[-len("breaksbreaks -watcheswatches -"):], "breaksbreaks -watcheswatches -")
+    browser.script(PRESS, "F10", False)
+    comes(browser, "Over a plain instruction says where it is", STATUS, "At 00B, after 1 cycle, 0.011 ms.")
+    browser.script(PRESS, "F10", False)
+    comes(browser, "and so at one that jumps to itself", STATUS, "At 00B, after 2 cycles, 0.022 ms.")
+    verdict("the lamps have what it gave", lines_answered(browser, "lamps"), re.compile(r"lamps \.\*\*\."))
 
 
 def check_slow(browser):
@@ -296,7 +337,7 @@ def check_slow(browser):
 def check(browser, page, folder, mcs4):
     program = Program(folder, mcs4)
     browser.go(page.as_uri())
-    browser.until(READY, True)
+    until_ready(browser)
     check_over(browser, program, "three lamps", "three_lamps")
     check_over(browser, program, "calculator", "calculator")
     check_run_to(browser)
@@ -306,4 +347,5 @@ def check(browser, page, folder, mcs4):
     check_far(browser)
     check_back(browser)
     check_never(browser)
+    check_waiting(browser)
     check_slow(browser)

@@ -8,7 +8,7 @@ import re
 import subprocess
 import time
 
-from page_in_browser import NOTICE, READY, choose_example, lines_answered
+from page_in_browser import NOTICE, STATUS, choose_example, lines_answered, show_text, until_ready
 from picture import write_picture
 from verdicts import comes, verdict
 
@@ -22,8 +22,10 @@ LEFT, RIGHT, DOWN, HOME, END, ENTER = "\ue012", "\ue014", "\ue015", "\ue011", "\
 
 # Ticks the boxes of these lines alone.
 CHOOSE = """
+document.getElementById("wave-choice").open = true;
+document.getElementById("wave-choice").dispatchEvent(new Event("toggle"));
 document.getElementById("waves-none").click();
-for (const label of document.querySelectorAll("#wave-boxes label")) if (arguments[0].includes(label.textContent)) label.click();"""
+for (const box of document.querySelectorAll("#wave-boxes input")) if (arguments[0].includes(box.name)) box.click();"""
 FOCUS = "document.getElementById('wave-canvas').focus({ preventScroll: true })"
 # The colours that the canvas has, apart from what is clear.
 PAINTED = """
@@ -34,11 +36,18 @@ for (let at = 0; at < data.length; at += 4) if (data[at + 3] > 200) found.add(`$
 return found.size"""
 
 
-def record(browser, cycles):
+def record(browser, cycles, where="after"):
+    show_text(browser, "waves")
+    browser.script("const w = document.getElementById('record-where'); w.value = arguments[0]; w.dispatchEvent(new Event('change'))", where)
     browser.script("document.getElementById('record-cycles').value = arguments[0]; document.getElementById('scope-told').textContent = ''",
                    str(cycles))
     browser.click("#record")
     return browser.until(TOLD, re.compile("."), 60)
+
+
+def look_for(browser, words):
+    """Looks for lines by words."""
+    browser.script("const f = document.getElementById('signal-search'); f.value = arguments[0]; f.dispatchEvent(new Event('input'))", words)
 
 
 def saved(browser, folder, selector, name):
@@ -101,10 +110,11 @@ def check_click(browser):
     box = browser.script("const b = document.getElementById('wave-canvas').getBoundingClientRect(); return [b.width, b.height]")
     browser.show("#wave-canvas")
     browser.click("#wave-canvas")
-    # A click on an element is one on its middle; the names of the lines have 150 pixels, and an edge may be meant that is near.
-    middle = 30000 * (box[0] / 2 - 150) / (box[0] - 150)
+    # A click on an element is one on its middle; the names of the lines have so many pixels, and an edge may be meant that is near.
+    gutter = 150 if box[0] >= 600 else 112
+    middle = 30000 * (box[0] / 2 - gutter) / (box[0] - gutter)
     found = int(browser.until("return document.getElementById('wave-canvas').getAttribute('aria-valuenow')", re.compile("[1-9]")))
-    verdict("a click puts the cursor", abs(found - middle) < 30000 * 9 / box[0], True)
+    verdict("a click puts the cursor", abs(found - middle) < 30000 * 12 / (box[0] - gutter), True)
     comes(browser, "and shows the instruction there", "return document.getElementById('wave-second').textContent",
           re.compile(rf"^B: cycle {found:,}, [0-9,.]+ microseconds: [0-9A-F]{{3}} .*line \d+ of the source: "))
     address = browser.text("#wave-second").split("microseconds: ")[1][:3]
@@ -117,19 +127,28 @@ def check_file(browser, folder, mcs4):
     """The saved recording is, to the byte, what tools/wave writes of the saved session."""
     choose_example(browser, "calculator")
     browser.click("#run")
-    browser.until("return document.getElementById('status').textContent", "Stopped.")
+    browser.until(STATUS, re.compile("^Stopped"))
     session = folder / "waves.mcs"
     session.write_bytes(saved(browser, folder, "#save-session-button", "calculator.mcs"))
     board, program = TOP / "examples/calculator/board.toml", TOP / "examples/calculator/calculator.asm"
     verdict("the calculator is recorded", record(browser, 3000), re.compile("^3,000 cycles recorded"))
     verdict("the lines that change are shown", browser.script(NAMES), re.compile(r"^rom0\.0 rom0\.1 chain0\.0 .*pc label$"))
-    browser.click("#wave-choice summary")
-    browser.click("#waves-all")
+    browser.script(CHOOSE, ["acc", "cy", "r5", "p2", "dcl", "src"])
+    for name in ("ram 0 0x12", "st 0 1 2"):
+        look_for(browser, name)
+        browser.script("document.querySelector('#wave-boxes input').click()")
+    look_for(browser, "")
+    comes(browser, "values are recorded from the next recording on", "return document.getElementById('signals-told').textContent",
+          "acc, cy, r5 .. are recorded from the next recording on.")
+    verdict("they are recorded", record(browser, 3000), re.compile("^3,000 cycles recorded"))
+    browser.script("document.getElementById('waves-all').click()")
     names = browser.script(NAMES).split(" ")
+    values = {"acc", "cy", "r5", "p2", "dcl", "src", "ram.0.0x12", "st.0.1.2", "rom0[3:0]", "ram0.0[3:0]", "chain1[39:0]"}
+    verdict("values can be chosen", values <= set(names), True)
     verdict("all lines can be chosen", {"rom1.3", "ram0.0.3", "chain1.39", "lamp.minus", "lamp42", "key.CE", "key3.3", "test"} <= set(names), True)
     written = saved(browser, folder, "#save-waves", "calculator.vcd")
     verdict("the file has what tools/wave writes", written == wave(mcs4, "--board", board, "--names", program, session, "3000", *names), True)
-    chosen = ["rom0.0", "chain0.4", "key.CE", "pc"]
+    chosen = ["rom0.0", "chain0.4", "key.CE", "rom0[3:0]", "p2", "pc"]
     browser.script(CHOOSE, chosen)
     written = saved(browser, folder, "#save-waves", "calculator.vcd")
     verdict("the same for some lines", written == wave(mcs4, "--board", board, session, "3000", *chosen), True)
@@ -140,10 +159,9 @@ def check_before(browser):
     """The last cycles before a stop: they are done again, with the keys that were pressed."""
     choose_example(browser, "calculator")
     browser.click("#run")
-    browser.until("return document.getElementById('status').textContent", "Stopped.")
-    lines_answered(browser, "press 0 0\nrun 5000\nrelease 0 0\nrun 3000")
-    browser.type_into("#record-where", "up to here")
-    verdict("what was before this stop", record(browser, 8200), "8,200 cycles recorded, 88,560.0 microseconds.")
+    browser.until(STATUS, re.compile("^Stopped"))
+    lines_answered(browser, "run 300\npress 0 0\nrun 5000\nrelease 0 0\nrun 3000")
+    verdict("what was before this stop", record(browser, 8200, "before"), "8,200 cycles recorded, 88,560.0 microseconds.")
     browser.script(CHOOSE, ["key.7", "pc"])
     browser.script(FOCUS)
     browser.keys(["a", HOME, "n"], 1, 1)
@@ -151,7 +169,141 @@ def check_before(browser):
     browser.keys(["b", HOME, "n", "n"], 1, 1)
     comes(browser, "and up again", SPOKEN, re.compile("^key.7 is 0, cycle [1-9]"))
     verdict("after 5,000 cycles", browser.script(BETWEEN), "A to B: 5,000 cycles, 54,000.0 microseconds")
-    browser.script("document.getElementById('record-where').value = 'after'")
+
+
+# Puts values into fields of the waves, by their names.
+FILL = "for (const [id, value] of Object.entries(arguments[0])) document.getElementById(id).value = value"
+COUNT = "return document.getElementById('scope-count').textContent"
+
+
+def check_live(browser, folder, mcs4):
+    """While time runs it is recorded, keys work, and what was recorded is what tools/wave writes of the session from where it began."""
+    choose_example(browser, "calculator")
+    browser.click("#run")
+    browser.until(STATUS, re.compile("^Stopped"))
+    session = folder / "live.mcs"
+    session.write_bytes(saved(browser, folder, "#save-session-button", "calculator.mcs"))
+    browser.script(FILL, {"trigger": "", "behind": "500"})
+    verdict("before time runs", record(browser, 1000000, "live"), "It records as soon as time runs.")
+    browser.click("#run")
+    comes(browser, "it records", TOLD, "It records.")
+    comes(browser, "and counts what it has", COUNT, re.compile(r"^[0-9,]{4,} cycles, [0-9,.]+ microseconds$"))
+    comes(browser, "time runs on", STATUS, "Time runs.")
+    comes(browser, "the tab says so", "return document.getElementById('waves-tab').textContent", "Wavesrecords")
+    browser.click("#keys button")
+    comes(browser, "keys work", "return document.getElementById('digits').textContent", re.compile("7"))
+    browser.click("#run")
+    comes(browser, "so does Stop", STATUS, re.compile("^Stopped"))
+    browser.click("#record")
+    told = browser.until(TOLD, re.compile(r"^Recorded: ([0-9,]+) cycles, .*\. It was stopped\.$"))
+    count = re.match(r"Recorded: ([0-9,]+) ", told)[1].replace(",", "")
+    browser.script(CHOOSE, ["key.7"])
+    browser.script(FOCUS)
+    browser.keys(["a", HOME, "n", "b", HOME, "n", "n"], 1, 1)
+    comes(browser, "the key is there, down for 4,000 cycles at least", BETWEEN, re.compile(r"^A to B: ([4-9],|[0-9]+[0-9],)[0-9]{3} cycles"))
+    down, up = (int(browser.script(f"return document.getElementById('{id}').textContent").split("cycle ")[1].split(", ")[0].replace(",", ""))
+                for id in ("wave-first", "wave-second"))
+    names = ["rom0.0", "rom0[3:0]", "chain0[9:0]", "chain1.39", "lamp.minus", "pc"]
+    browser.script(CHOOSE, names)
+    names = browser.script(NAMES).split(" ")
+    written = saved(browser, folder, "#save-waves", "calculator.vcd")
+    board = TOP / "examples/calculator/board.toml"
+    begun = wave(mcs4, "--board", board, session, count, *names)
+    verdict("the file of what was recorded live is that of tools/wave, up to the key",
+            difference([each for each in changes_after(written, 0) if each[0] <= down],
+                       [each for each in changes_after(begun, 0) if each[0] <= down]), "")
+    lines = f"run {down}\npress 0 0\nrun {up - down}\nrelease 0 0\n" if down <= 100000 else ""
+    if lines and up - down <= 100000:
+        subprocess.run([mcs4, "open", session], input=lines, text=True, stdout=subprocess.PIPE, check=True)
+        rest = wave(mcs4, "--board", board, session, str(int(count) - up), *names)
+        # Where it begins inside an instruction, the counter is that of the next one already.
+        verdict("and behind it", difference([each for each in changes_after(written, up) if each[0] > 1],
+                                            [each for each in changes_after(rest, 0) if each[0] > 1]), "")
+
+
+def changes_after(file, cycle):
+    """The changes behind a cycle, with the cycles from there on; of a number the code alone comes after its value."""
+    lines = file.decode().split("$enddefinitions $end\n")[1].split("\n")
+    found, now = [], 0
+    for line in lines:
+        if line.startswith("#"):
+            now = int(line[1:]) // 108
+        elif now > cycle:
+            found.append((now - cycle, line))
+    return found
+
+
+def difference(some, others):
+    """The first difference of two lists, in words; of empty ones, that they are so."""
+    if not some or not others:
+        return f"{len(some)} and {len(others)} changes"
+    for one, other in zip(some, others):
+        if one != other:
+            return f"{one} and {other}"
+    return "" if len(some) == len(others) else f"{len(some)} and {len(others)} changes"
+
+
+def check_triggers(browser):
+    """A trigger ends a recording with cycles before and behind it, and stops time if that is wanted."""
+    choose_example(browser, "stopwatch")
+    lines_answered(browser, "test 0")
+    browser.click("#run")
+    browser.until(STATUS, re.compile("^Stopped"))
+    browser.script(FILL, {"trigger": "lamp15 rises", "behind": "1000"})
+    browser.script("document.getElementById('stops-time').checked = true")
+    verdict("it waits for its trigger", record(browser, 3000, "live"), "It records as soon as time runs. It waits for lamp15 rises.")
+    browser.click("#run")
+    told = browser.until(TOLD, re.compile(r"^Recorded: [0-9,]+ cycles, .*\. The trigger came at cycle [0-9,]+\.$"))
+    comes(browser, "time stops with it", STATUS, re.compile(r"^Stopped at .*, where the waves behind the trigger are recorded\.$"))
+    browser.script(CHOOSE, ["lamp15"])
+    at = re.search(r"at cycle ([0-9,]+)", told)[1]
+    comes(browser, "the cursor stands at the trigger", FIRST, re.compile(f"^A: cycle {at}, "))
+    comes(browser, "where the lamp has become lit", SPOKEN, re.compile(f"^lamp15 is 1, cycle {at}, "))
+    browser.script(FOCUS)
+    browser.keys(["b", END], 1, 1)
+    comes(browser, "a thousand cycles before the end", BETWEEN, "A to B: 1,000 cycles, 10,800.0 microseconds")
+    browser.keys(["a", LEFT], 1, 1)
+    comes(browser, "and was dark before", SPOKEN, re.compile("^lamp15 is 0, "))
+    for words, fault in (("lamp77 rises", "The trigger is not understood: nothing here is called lamp77"),
+                         ("r5 = 16", "The trigger is not understood: "), ("@nowhere", "The trigger is not understood: ")):
+        browser.script(FILL, {"trigger": words})
+        verdict(f"the trigger {words} is told", record(browser, 3000, "live"), re.compile(f"^{re.escape(fault)}"))
+        verdict(f"at its field, {words}", browser.script("return document.getElementById('trigger').getAttribute('aria-invalid')"), "true")
+    browser.script(FILL, {"trigger": "lamp15 rises", "behind": "4000"})
+    verdict("more behind than is kept", record(browser, 3000, "live"), "3,000 cycles are kept: no more of them can come behind the trigger.")
+    browser.script(FILL, {"trigger": "", "behind": "500"})
+    browser.script("document.getElementById('stops-time').checked = false")
+
+
+def check_search(browser):
+    """A value is looked for by hand of the keyboard, in both directions, and what cannot be found is told."""
+    found = "return document.getElementById('wave-search-told').textContent"
+    choose_example(browser, "stopwatch")
+    lines_answered(browser, "test 0")
+    browser.script(CHOOSE, ["r3"])
+    verdict("a register is recorded", record(browser, 30000), re.compile("^30,000 cycles recorded"))
+    browser.script(FOCUS)
+    browser.keys(["a", HOME, "/"], 1, 1)
+    comes(browser, "a key goes to the search", "return document.activeElement.id", "wave-search")
+    browser.script(FILL, {"wave-search": ""})
+    browser.type_into("#wave-search", "r3 = 9" + ENTER)
+    comes(browser, "the value is found", SPOKEN, re.compile("^r3 is 9, cycle [1-9]"))
+    first = browser.text("#wave-first")
+    browser.type_into("#wave-search", ENTER)
+    comes(browser, "the next one is another", f"return document.getElementById('wave-first').textContent === {first!r}", False)
+    browser.click("#find-before")
+    comes(browser, "and back to the first", FIRST, first)
+    for words, fault in (("r77 = 3", "Nothing that was recorded is called r77: choose it, and record again."),
+                         ("r3 = 16", "r3 has 4 bits: it is 15 at most."), ("cy = 1", "Nothing that was recorded is called cy"),
+                         ("@nowhere", "The program of this recording has no label nowhere.")):
+        browser.script(FILL, {"wave-search": words})
+        browser.click("#find-after")
+        comes(browser, f"{words} is told", found, re.compile(f"^{re.escape(fault)}"))
+    browser.script(FILL, {"wave-search": "lamp0 = 1"})
+    browser.script(FOCUS)
+    browser.keys([END], 1, 1)
+    browser.click("#find-after")
+    comes(browser, "what does not come is told", found, "lamp0 = 1: not behind cycle 30,000 of this recording.")
 
 
 def check_refusals(browser):
@@ -161,13 +313,14 @@ def check_refusals(browser):
     browser.click("#save-waves")
     comes(browser, "a file of no line is refused", TOLD, "No line is chosen: choose those that the file is to have.")
     browser.script("document.getElementById('record-cycles').value = '10000000'; document.getElementById('scope-told').textContent = ''")
+    browser.script("document.getElementById('record-where').value = 'after'")
     browser.click("#record")
     browser.until("return document.getElementById('work').hidden", False)
     browser.script("document.getElementById('cancel').click()")
     verdict("a recording is cancelled", browser.until(TOLD, re.compile(".")), re.compile("cancelled, and nothing was recorded|10,000,000 cycles recorded"))
     choose_example(browser, "empty bench")
     browser.click("#run")
-    browser.until("return document.getElementById('status').textContent", "Stopped.")
+    browser.until(STATUS, re.compile("^Stopped"))
     verdict("another session has no recording", browser.script("return document.getElementById('waves').hidden"), True)
     verdict("a bench without a program", record(browser, 10), re.compile("^10 cycles recorded"))
     verdict("no notice", browser.script(NOTICE), "")
@@ -175,24 +328,29 @@ def check_refusals(browser):
 
 def check(browser, page, folder, mcs4):
     browser.go(page.as_uri())
-    comes(browser, "the page is ready", READY, True)
+    until_ready(browser)
     check_stopwatch(browser)
     check_click(browser)
     check_long(browser)
     check_file(browser, folder, mcs4)
     check_before(browser)
+    check_live(browser, folder, mcs4)
+    check_triggers(browser)
+    check_search(browser)
     check_refusals(browser)
+    show_text(browser, "program")
 
 
 def take_picture(browser, page, path):
     """The stopwatch, with a hundredth of a second between the cursors."""
     browser.command("Emulation.setDeviceMetricsOverride", width=1000, height=900, deviceScaleFactor=1, mobile=False)
     browser.go(page.as_uri())
-    browser.until(READY, True)
+    until_ready(browser)
     choose_example(browser, "stopwatch")
     lines_answered(browser, "test 0")
     record(browser, 5000)
     browser.script(CHOOSE, ["lamp12", "lamp13", "lamp14", "lamp15", "label"])
+    browser.script("document.getElementById('wave-choice').open = false")
     browser.script(FOCUS)
     browser.keys(["0", "a", HOME, *[DOWN] * 3, "n", "n", "b", HOME, "n", "n", "n"], 1, 1)
     browser.until(BETWEEN, re.compile("926 cycles"))

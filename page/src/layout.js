@@ -5,26 +5,34 @@ import { block } from "./dom.js";
 import { NARROW, makeFolds } from "./folds.js";
 import { Menu } from "./menu.js";
 import { PrintView } from "./print_view.js";
+import { Splitter } from "./splitter.js";
 import { Tabs } from "./tabs.js";
 
 /** @typedef {import("./print_view.js").Printed} Printed */
+
+/** The tabs of the texts, in their order. */
+const TEXTS = ["program", "board", "tests", "properties", "wiring", "waves"];
 
 export class Layout {
   /** @param {() => Printed} printed what is to be printed */
   constructor(printed) {
     this.choices = new Choices();
-    this.tabs = new Tabs(["program", "board", "wiring"], this.choices.get("text"), (name) => this.choices.set("text", name));
+    this.tabs = new Tabs(TEXTS, this.choices.get("text"), (name) => this.choices.set("text", name));
     this.print = new PrintView(printed);
     this.menu = new Menu();
+    this.splitter = new Splitter(this.choices);
     makeFolds(this.choices);
-    this.placeCycles();
+    this.placeFurther();
     this.measureAgain();
   }
 
-  /** The counter of cycles stands in the clock's bar; on a phone that has no room for it, and it stands with the further steps. */
-  placeCycles() {
+  /** Below the clock's bar stands what goes back and further, and in it the counter of cycles. A phone has both below lamps and keys. */
+  placeFurther() {
     const narrow = matchMedia(NARROW);
-    const place = () => block(narrow.matches ? "history" : "clock").append(block("cycles"));
+    const place = () => {
+      block(narrow.matches ? "front" : "clock").after(block("history"));
+      block(narrow.matches ? "history" : "clock").append(block("cycles"));
+    };
     narrow.addEventListener("change", place);
     place();
   }
@@ -32,7 +40,7 @@ export class Layout {
   /** What is observed does not depend on what is measured (the scroll bar is always there), so that this comes to an end. */
   measureAgain() {
     const observer = new ResizeObserver(() => this.measure());
-    for (const each of document.querySelectorAll("header, #clock, #history, #tour")) observer.observe(each);
+    for (const each of document.querySelectorAll("header, #clock, #history, #usual, #tour")) observer.observe(each);
   }
 
   /** Texts and listing fill the window below what stands above them; what sticks stands below the clock's bar. */

@@ -20,6 +20,8 @@ export class LogView {
     this.block = block("log");
     /** What time that runs has done since the last keeping. */
     this.waiting = new Ran();
+    /** @type {{ entry: RanEntry, node: HTMLElement } | null} the runs that stand last in the log, which further ones are counted to */
+    this.runs = null;
   }
 
   /**
@@ -40,7 +42,20 @@ export class LogView {
    * @param {string} fault why they are not kept, "" where they are
    */
   showRan(entries, fault) {
-    this.add(entries.map((entry) => this.entry(wordsOfRan(entry), [entry.answer], fault)));
+    if (entries.length === 0) return;
+    const shown = new Ran();
+    const { runs } = this;
+    // Runs go on in the entry of the runs before them.
+    if (runs && entries[0].runs > 0 && fault === "" && runs.node === this.block.lastElementChild) {
+      shown.add([runs.entry]);
+      runs.node.remove();
+    }
+    shown.add(entries);
+    const all = shown.take();
+    this.add(all.map((entry) => this.entry(wordsOfRan(entry), [entry.answer], fault)));
+    const last = all[all.length - 1];
+    const node = this.block.lastElementChild;
+    this.runs = last.runs > 0 && fault === "" && node instanceof HTMLElement ? { entry: last, node } : null;
   }
 
   /**

@@ -9,7 +9,7 @@ import { Notice } from "./notice.js";
 import { Page } from "./page.js";
 import { SPEEDS, speedOf } from "./time/speeds.js";
 import { Stepping } from "./time/stepping.js";
-import { MemoryStore, Store } from "./session/store.js";
+import { inTime, MemoryStore, Store } from "./session/store.js";
 import { Words } from "./words.js";
 
 /**
@@ -21,9 +21,6 @@ import { Words } from "./words.js";
 
 const NO_STORE = "This browser keeps nothing for this page: its store (IndexedDB) is missing, is blocked by the settings, or does not "
   + "answer. All works, but save the session to a file before you leave.";
-/** A store that does not answer in so many milliseconds counts as none. */
-const TIME_OF_STORE = 10000;
-
 /** A module that fills memory at once (bulk memory), which the bench's own does: a memory, and a function with `memory.fill`. */
 const BULK_MEMORY_TRIAL = Uint8Array.of(0, 97, 115, 109, 1, 0, 0, 0, 1, 4, 1, 96, 0, 0, 3, 2, 1, 0, 5, 3, 1, 0, 1, 10, 13, 1, 11, 0,
   65, 0, 65, 0, 65, 0, 252, 11, 0, 11);
@@ -42,9 +39,8 @@ function lackOfBrowser() {
  * @returns {Promise<SessionStore>}
  */
 async function openStore(hasLocks) {
-  const late = new Promise((_, fail) => setTimeout(fail, TIME_OF_STORE));
   try {
-    return /** @type {Store} */ (await Promise.race([Store.open(hasLocks), late]));
+    return await inTime(Store.open(hasLocks));
   } catch {
     return new MemoryStore();
   }
@@ -59,15 +55,13 @@ function textOf(id) {
 }
 
 /**
- * Starts the bench in a worker that is made of the page's own text.
+ * What makes benches, each in a worker that is made of the page's own text.
  * @param {Example[]} examples
  */
-async function startBench(examples) {
+function benchMaker(examples) {
   const address = URL.createObjectURL(new Blob([textOf("worker")], { type: "text/javascript" }));
   const module = Uint8Array.from(atob(textOf("module")), (letter) => letter.charCodeAt(0)).buffer;
-  const bench = new Bench(() => startWorker(address), module, examples);
-  await bench.start();
-  return bench;
+  return () => new Bench(() => startWorker(address), module, examples);
 }
 
 /** @param {Page} page */
@@ -90,12 +84,18 @@ function listenToButtons(page) {
 function listenToChoices(page) {
   const speed = byId("speed", HTMLSelectElement);
   const typing = field("typing");
+  const { choices } = page.layout;
+  const chosen = SPEEDS.find(({ id }) => id === choices.get("speed"));
+  if (chosen) page.running.clock.setSpeed(chosen);
   const show = () => {
     speed.value = page.running.clock.speed.id;
     typing.checked = page.types;
   };
   speed.replaceChildren(...SPEEDS.map(({ id, words }) => element("option", { value: id }, words)));
-  speed.addEventListener("change", () => page.running.setSpeed(speedOf(speed.value)).catch((fault) => page.recovery.failed(fault)));
+  speed.addEventListener("change", () => {
+    choices.set("speed", speed.value);
+    page.running.setSpeed(speedOf(speed.value)).catch((fault) => page.recovery.failed(fault));
+  });
   typing.addEventListener("change", () => {
     page.types = typing.checked;
   });
@@ -131,8 +131,10 @@ function listenToLeaving(page) {
  */
 async function start(words, notice, { examples, manual }) {
   const locks = await Locks.find();
-  const [bench, store] = await Promise.all([startBench(examples), openStore(locks.areThere)]);
-  const page = new Page({ bench, store, locks, words, notice, examples, manual });
+  const makeBench = benchMaker(examples);
+  const bench = makeBench();
+  const [store] = await Promise.all([openStore(locks.areThere), bench.start()]);
+  const page = new Page({ bench, makeBench, store, locks, words, notice, examples, manual });
   if (!store.keeps) notice.show(NO_STORE, "store");
   new Guide(page, manual);
   page.pressing.listenToKeyboard();

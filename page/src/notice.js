@@ -5,9 +5,10 @@
 import { block, element } from "./dom.js";
 
 /**
- * What stays wrong while it lasts (`kept`, `store`), what was refused (`session`, `refusal`), a link that was copied (`share`), the session
- * that was left for a new one (`left`), one that was not opened by itself (`unended`), any other fault (""), and `undo`.
- * @typedef {"" | "kept" | "session" | "store" | "refusal" | "share" | "left" | "unended" | "undo"} NoticeKind
+ * What stays wrong while it lasts (`kept`, `store`), what was refused (`session`, `refusal`), a link that was copied (`share`), a file
+ * whose texts or bytes were taken (`file`), the session that was left for a new one (`left`), one that was not opened by itself
+ * (`unended`), any other fault (""), and `undo`.
+ * @typedef {"" | "kept" | "session" | "store" | "refusal" | "share" | "file" | "left" | "unended" | "undo"} NoticeKind
  * @typedef {{ word: string, act: () => void }} NoticeAction a button beside the words
  * @typedef {{ kind: NoticeKind, words: string, node: HTMLElement }} Row
  */

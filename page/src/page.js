@@ -2,15 +2,23 @@
 
 import { AskView } from "./ask_view.js";
 import { Face } from "./board/face.js";
+import { exploreOf } from "./explore/explore_of_page.js";
 import { lampNames } from "./board/face_board.js";
 import { cellWords } from "./help/manual.js";
+import { BreakpointsOfPage } from "./machine/breakpoints_of_page.js";
 import { Layout } from "./layout.js";
 import { LogView } from "./log_view.js";
+import { usualOf } from "./machine/usual_of_page.js";
 import { Recovery } from "./recovery.js";
 import { Serving } from "./serving.js";
 import { CurrentSession } from "./session/current_session.js";
-import { boardViewOf, editorsOf, historyOf, pressingOf, sessionsControllerOf, sharingOf, sourceOf, textsOf, travelOf } from "./ties.js";
+import {
+  boardViewOf, editorsOf, exportOf, historyOf, pressingOf, romFilesOf, sessionsControllerOf, sharingOf, sourceOf, textsOf, travelOf,
+  valuesOf, watchedOf,
+} from "./ties.js";
 import { CyclesView } from "./time/cycles_view.js";
+import { testsOf } from "./testing/tests_of_page.js";
+import { TextLooks } from "./text/text_looks.js";
 import { Running } from "./time/running.js";
 import { scopeOf } from "./waves/scope_of_page.js";
 import { WorkView } from "./work_view.js";
@@ -25,14 +33,14 @@ import { WorkView } from "./work_view.js";
  * @typedef {import("./session/store.js").SessionRecord} SessionRecord
  * @typedef {import("./session/store.js").SessionStore} SessionStore
  * @typedef {import("./words.js").Words} Words
- * @typedef {{ bench: Bench, store: SessionStore, locks: Locks, words: Words, notice: Notice, examples: Example[],
- *   manual: ManualSection[] }} Parts
+ * @typedef {{ bench: Bench, makeBench: () => Bench, store: SessionStore, locks: Locks, words: Words, notice: Notice, examples: Example[],
+ *   manual: ManualSection[] }} Parts `makeBench` makes another bench, in a worker of its own
  */
 
 export class Page {
   /** @param {Parts} parts */
   constructor(parts) {
-    const { bench, store, words, notice, manual } = parts;
+    const { bench, makeBench, store, words, notice, manual } = parts;
     this.cellWords = cellWords(manual);
     this.bench = bench;
     this.store = store;
@@ -52,18 +60,38 @@ export class Page {
     this.editors = editorsOf(this, manual);
     this.boardEditor = this.editors.board;
     this.programEditor = this.editors.program;
+    this.breakpoints = new BreakpointsOfPage(this);
     this.source = sourceOf(this);
-    this.source.editor = this.programEditor;
+    this.values = valuesOf(this);
+    this.watched = watchedOf(this);
     this.cycles = new CyclesView(() => this.current.keep());
     this.travel = travelOf(this);
     this.history = historyOf(this);
     this.ask = new AskView();
+    this.tests = testsOf(this, manual);
+    this.explore = exploreOf(this, manual, makeBench);
+    this.looks = new TextLooks(this.layout.choices, this.textEditors.map(({ editor }) => editor.editor));
+    this.usual = usualOf(this);
     this.texts = textsOf(this);
+    this.rom = romFilesOf(this);
+    this.export = exportOf(this);
     this.sessionsController = sessionsControllerOf(this, parts);
     this.sharing = sharingOf(this);
-    this.sessions = this.sessionsController.view;
     this.scope = scopeOf(this);
-    bench.listener = {
+    bench.listener = this.listener();
+  }
+
+  get textEditors() {
+    return [this.boardEditor, this.programEditor, this.tests.editor, this.explore.editor];
+  }
+
+  get sessions() {
+    return this.sessionsController.view;
+  }
+
+  /** @returns {import("./bench/bench.js").Listener} */
+  listener() {
+    return {
       frame: (frame) => this.running.ran(frame),
       failed: (fault) => this.recovery.failed(fault),
       died: () => this.recovery.restart(),
@@ -88,9 +116,15 @@ export class Page {
    * @param {SessionRecord} record
    */
   begin(record) {
+    this.breakpoints.open(record);
     this.pressing.forget();
     this.scope.forget();
+    this.tests.forget();
+    this.usual.clear();
+    this.values.forget();
+    this.watched.open(record.watched);
     this.texts.show(record);
+    this.explore.begin(record.id);
     this.source.forget();
     this.log.clear();
     this.cycles.open(record.cycles);
@@ -101,7 +135,7 @@ export class Page {
    * @param {Shown} shown
    * @param {boolean} [isPassing] whether time has come here and goes on
    */
-  show({ look, file, board, total, reset, future }, isPassing = false) {
+  show({ look, file, board, total, reset, future, waves }, isPassing = false) {
     const { session } = this.current;
     if (!session) return;
     this.bench.giveBack(session.take(file));
@@ -114,5 +148,7 @@ export class Page {
       this.editors.look(board.length === 1);
     }
     this.machine.show(look, isPassing);
+    this.values.looked(total);
+    this.scope.take(waves);
   }
 }

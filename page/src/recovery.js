@@ -37,6 +37,7 @@ export class Recovery {
       notice.show("The bench's worker has stopped and was started anew. The session is as it was before.");
       if (!current.session) return;
       this.page.show(await current.callOpen(current.session.record));
+      this.page.breakpoints.keeper.again();
       this.isRestarting = false;
       running.halted("Stopped.");
     } catch (fault) {

@@ -85,6 +85,7 @@ export class Serving {
     const { counter } = machine;
     const isReset = entries.some(({ line, answers }) => line.trim() === "reset" && refusalOf(answers[0]) === null);
     const { isRunning } = running.clock;
+    if (isReset) running.goal = null;
     if (isReset) running.tell(isRunning ? "Time runs. The board was reset." : `The board was reset; it stands at ${counter}.`);
     else if (counter !== before && !isRunning) running.tell(`Stopped at ${counter}.`);
   }

@@ -3,11 +3,19 @@
 import { keyOfKeyboard } from "./board/board_keys.js";
 import { BoardView } from "./board/board_view.js";
 import { Pressing, wantsKey } from "./board/pressing.js";
-import { block, isDialogOpen } from "./dom.js";
+import { Cancelled, WorkerDied } from "./bench/faults.js";
+import { wordsOfLastChange } from "./debug/stop_words.js";
+import { block, byId, isDialogOpen } from "./dom.js";
 import { wordsOfCell } from "./help/manual.js";
+import { LastChangeView } from "./machine/last_change_view.js";
 import { listenToCaret, listenToHere } from "./machine/run_to.js";
 import { SourceSync } from "./machine/source_sync.js";
+import { ValuesOfPage } from "./machine/values_of_page.js";
+import { WatchedView } from "./machine/watched_view.js";
+import { titleOf } from "./session/described.js";
+import { ExportView } from "./session/export_view.js";
 import { newRecord } from "./session/kept_session.js";
+import { RomFiles } from "./session/rom_files.js";
 import { SessionsController } from "./session/sessions_controller.js";
 import { Sharing } from "./session/sharing.js";
 import { TextsController } from "./session/texts_controller.js";
@@ -37,7 +45,8 @@ export function boardViewOf(page) {
     wordsOfRefusal: (number) => page.words.ofRefusal(number),
     explain: (name) => wordsOfCell(page.cellWords, name),
     isAt: (counter) => page.source.showNext(counter, running.isFast),
-    breakAt: (breakpoints) => page.source.showBreakpoints(breakpoints),
+    breakAt: (breakpoints) => page.breakpoints.keeper.take(breakpoints),
+    toggleBreakpoint: (address) => page.breakpoints.keeper.toggleAddress(address),
     wentTo: (address) => page.source.reveal(address),
     failed: (fault) => page.recovery.failed(fault),
   });
@@ -73,13 +82,17 @@ export function travelOf(page) {
       if (running.clock.isRunning) await running.stop();
     },
     change: (words, work) => page.serving.change(words, work),
-    counter: () => page.machine.counter,
+    runTo: (goal) => running.run(goal),
+    counted: (tally) => page.breakpoints.count(tally),
+    reasonOf: (stop, goal) => running.reasonOf(stop, goal),
+    place: () => running.place,
     tell: (words) => running.tell(words),
   });
 }
 
 /** @param {Page} page */
-export function historyOf({ travel, machine, source, programEditor, running }) {
+export function historyOf(page) {
+  const { travel, machine, source, programEditor, running } = page;
   /** @type {(address: number) => void} */
   const runTo = (address) => {
     travel.goOn({ kind: "here", address });
@@ -91,11 +104,28 @@ export function historyOf({ travel, machine, source, programEditor, running }) {
   };
   listenToHere(machine.listing.block, (node) => machine.listing.rows.addressAt(node), runTo);
   listenToCaret(block("program-editor"), addressOfCaret, runTo, (words) => running.tell(words));
+  tellLastChanges(page);
   return new HistoryView({
     goOn: (goal) => travel.goOn(goal),
     goBack: (goal) => travel.goBack(goal),
     goForward: () => travel.goForward(),
     tell: (words) => running.tell(words),
+  });
+}
+
+/** @param {Page} page */
+function tellLastChanges({ bench, machine, source, running, recovery }) {
+  return new LastChangeView([block("processor"), block("watched"), block("memory")], {
+    isRunning: () => running.clock.isRunning,
+    pokedAt: (cell) => machine.editor.poked.get(cell),
+    wordsOf: async ({ place, name }, signal) => {
+      try {
+        return wordsOfLastChange(name, await bench.call("lastChange", [place], { signal }), source.map);
+      } catch (fault) {
+        if (!(fault instanceof Cancelled) && !(fault instanceof WorkerDied)) recovery.failed(fault);
+        return "";
+      }
+    },
   });
 }
 
@@ -106,13 +136,20 @@ export function historyOf({ travel, machine, source, programEditor, running }) {
 export function editorsOf(page, manual) {
   const { running } = page;
   return new Editors(page.bench, page.words, manual, {
-    edited: () => page.texts.edited(),
+    edited: (edits) => {
+      page.breakpoints.keeper.edited(edits);
+      page.texts.edited();
+    },
+    assembled: (isBegun) => page.breakpoints.assembled(isBegun),
     act: (lines) => page.serving.act(lines),
     stop: async () => (running.clock.isRunning ? running.stop() : undefined),
     run: () => running.run(),
     counter: () => page.machine.counter,
-    toggleBreakpoint: (line) => page.source.toggleBreakpoint(line).catch((fault) => page.recovery.failed(fault)),
+    toggleBreakpoint: (line) => page.breakpoints.toggleLine(line).catch((fault) => page.recovery.failed(fault)),
+    editBreakpoint: (line) => page.breakpoints.editLine(line).catch((fault) => page.recovery.failed(fault)),
     meaningOf: (name) => page.source.meaningOf(name),
+    valuesAt: (text, at) => page.values.at(text, at),
+    offer: (cell, { place, name }) => page.machine.editor.offer(cell, { place, name, digits: 1 }),
     replaceBoard: (text, words) => page.texts.replace("board", text, words),
     hasFaults: (name, count) => page.layout.tabs.mark(name, count > 0 ? `${count} fault${count > 1 ? "s" : ""}` : ""),
     failed: (fault) => page.recovery.failed(fault),
@@ -124,13 +161,54 @@ export function editorsOf(page, manual) {
  * @returns {SourceSync}
  */
 export function sourceOf(page) {
-  return new SourceSync({
+  const source = new SourceSync({
     text: () => page.programEditor.sent,
     check: (text) => page.bench.call("checkProgram", [text]),
-    toggle: (isSet, address) => page.machine.toggle(isSet, "break", String(address)),
-    refuse: (words) => page.machine.told.show(words),
-    changed: (map, words) => page.machine.nameLines(map, words),
+    changed: (map, words) => {
+      page.machine.nameLines(map, words);
+      page.breakpoints.keeper.takeMap(map, words);
+    },
     wordsOfRefusal: (number) => page.words.ofRefusal(number),
+  });
+  source.editor = page.programEditor;
+  return source;
+}
+
+/**
+ * @param {Page} page
+ * @returns {ValuesOfPage}
+ */
+export function valuesOf(page) {
+  const { machine, running, source, editors } = page;
+  return new ValuesOfPage({
+    look: () => machine.reader.look,
+    isRunning: () => running.clock.isRunning,
+    nameOf: (word) => {
+      const name = source.map && source.map.names.get(word);
+      return name ? { ...name, words: source.meaningOf(word) } : undefined;
+    },
+    doesOf: (word) => (editors.instructions.get(word) || { does: "" }).does,
+    map: () => source.map,
+    showWatched: () => page.watched.show(),
+    showLines: (lines) => editors.program.lineValues.show(lines),
+    changed: () => editors.program.moved(),
+  });
+}
+
+/**
+ * @param {Page} page
+ * @returns {WatchedView}
+ */
+export function watchedOf(page) {
+  const { current, machine } = page;
+  return new WatchedView({
+    offer: (cell, { place, name }) => machine.editor.offer(cell, { place, name, digits: 1 }),
+    standing: () => page.values.standing,
+    keep: (texts) => {
+      if (!current.session) return;
+      current.session.record.watched = texts;
+      current.keep();
+    },
   });
 }
 
@@ -140,15 +218,20 @@ export function sourceOf(page) {
  */
 export function textsOf(page) {
   const { current } = page;
-  return new TextsController(page.boardEditor, page.programEditor, page.ask, page.notice, {
+  return new TextsController(page.boardEditor, page.programEditor, page.tests.editor, page.explore.editor, page.ask, page.notice, {
     session: () => current.session,
     touch: () => current.touch(),
     keep: () => current.keep(),
     named: (boardText) => {
       page.machine.readFace(boardText);
+      current.takeTitle(titleOf(boardText, page.programEditor.text));
       page.checkSource();
     },
     source: () => page.bench.call("source", []),
+    took: (seen, lines) => {
+      page.layout.tabs.choose(seen);
+      page.sessionsController.lines.offer(lines);
+    },
     failed: (fault) => page.recovery.failed(fault),
   });
 }
@@ -165,6 +248,41 @@ export function sessionsControllerOf(page, parts) {
     use: (record, release, example) => current.use(record, release, example),
     rename: (name) => current.rename(name),
     link: (link) => page.sharing.open(link),
+    texts: (name, texts) => page.texts.take(name, texts),
+    speed: (id) => {
+      const speeds = byId("speed", HTMLSelectElement);
+      speeds.value = id;
+      speeds.dispatchEvent(new Event("change"));
+    },
+    image: async (name, bytes) => {
+      const words = await page.rom.load(name, bytes);
+      if (words) page.notice.show(words, "file", { word: "Take it from ROM", act: () => page.texts.takeFromRom() });
+    },
+  });
+}
+
+/**
+ * @param {Page} page
+ * @returns {RomFiles}
+ */
+export function romFilesOf(page) {
+  const { running } = page;
+  return new RomFiles({
+    ask: async (lines) => page.bench.call("ask", [lines]),
+    act: (lines) => page.serving.act(lines),
+    stop: async () => (running.clock.isRunning ? running.stop() : undefined),
+  });
+}
+
+/** @param {Page} page */
+export function exportOf(page) {
+  return new ExportView({
+    name: () => page.current.name,
+    board: () => page.boardEditor.text,
+    program: () => page.programEditor.text,
+    hex: () => page.rom.hex(),
+    image: () => page.rom.image(),
+    failed: (fault) => page.recovery.failed(fault),
   });
 }
 

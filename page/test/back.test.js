@@ -32,6 +32,21 @@ test("one stop back undoes what was done last, and forward does it again, to the
   assert.deepEqual([calls.session.count.total, calls.session.count.reset], [total, reset]);
 });
 
+test("the last change of a place is told without going there: where going back to it leads", async () => {
+  const calls = await begin("three lamps");
+  await calls.serve("run 5000\npoke r9 3\nrun 100\n");
+  const before = calls.ask(ALL);
+  const { line, cycles, address } = await calls.lastChange("r9");
+  assert.deepEqual([line, cycles, address], ["poke r9 3", 100, -1]);
+  const lamps = await calls.lastChange("lamps");
+  assert.equal((await calls.lastChange("r15")).isFound, false);
+  assert.equal((await calls.lastChange("ram.7.0")).why, "lacks");
+  assert.deepEqual(calls.ask(ALL), before);
+  const gone = await calls.goBack({ kind: "change", place: "lamps" });
+  assert.deepEqual([lamps.from, lamps.to, lamps.cycles], [gone.from, gone.to, gone.cycles]);
+  assert.equal(lamps.address, parseInt(counterOf(calls), 16));
+});
+
 test("keys that were pressed while time ran are pressed again", async () => {
   const calls = await begin("calculator");
   calls.advance(20000);

@@ -4,7 +4,7 @@ import { readFileSync } from "node:fs";
 import { test } from "node:test";
 import { readBoardText } from "../src/text/board_reader.js";
 import { faultsOfBoard } from "../src/text/board_words.js";
-import { completeBoard } from "../src/text/completion.js";
+import { completeBoard } from "../src/text/board_completion.js";
 import { commentAt } from "../src/text/text_fault.js";
 import { boardTables, helpForBoard, tableAt } from "../src/text/text_help.js";
 
@@ -69,5 +69,20 @@ test("the keys of a board's tables are those of the manual", () => {
   const texts = (lines, line, at) => completeBoard(lines, line, at, tables).list.map(({ text }) => text);
   assert.deepEqual(texts(["[[rom]]", "p"], 1, 1), ["port"]);
   assert.deepEqual(texts(["[[r"], 0, 3), ["rom", "ram"]);
-  assert.deepEqual(texts(["[[rom]]", 'port = "i'], 1, 9), []);
+  assert.deepEqual(texts(["[[rom]]", 'port = "i'], 1, 9), ['iiii"']);
+});
+
+test("values are completed by the lines that the board has so far, and an empty line by whole parts", () => {
+  const board = ["[[rom]]", "chip = 0", 'port = "i000"', "[[ram]]", "bank = 0", "chips = 1", "[[chain]]", "clock = ", "data = \"rom0.1\"",
+    "chips = 1", "[keys]", "chain = ", "columns = [", "  ", "]", "[[lamp]]", 'line = "chain0.', ""];
+  const texts = (line) => completeBoard(board, line, board[line].length, tables).list.map(({ text }) => text);
+  assert.deepEqual(texts(7), ['"rom0.0"', '"rom0.1"', '"rom0.2"', '"ram0.0.0"', '"ram0.0.1"', '"ram0.0.2"', '"ram0.0.3"']);
+  assert.deepEqual(texts(11), ["0"]);
+  assert.deepEqual(texts(13), ['"rom0.3"']);
+  assert.deepEqual(texts(16), [...Array(10).keys()].map((bit) => `chain0.${bit}"`));
+  assert.equal(completeBoard(['[[lamp]]', 'line = "rom"'], 1, 11, tables).list.length, 0);
+  const offered = texts(17);
+  assert.ok(offered.includes('[[rom]]\nchip = 1\nport = "0000"') && offered.includes('[[lamp]]\nline = "rom0.0"'));
+  const [first] = completeBoard([""], 0, 0, tables).list;
+  assert.equal(first.text, '[[rom]]\nchip = 0\nport = "0000"');
 });

@@ -5,7 +5,8 @@ import { Cycles, wordsOfCycles } from "../src/time/cycles.js";
 import { readBoard } from "../src/bench/answers.js";
 import { readInputs } from "../src/bench/inputs.js";
 import { placeOf } from "../src/bench/places.js";
-import { wordsOfReached } from "../src/time/reached.js";
+import { SourceMap } from "../src/machine/source_map.js";
+import { wordsOfHalt, wordsOfMove, wordsOfPlace, wordsOfStop } from "../src/debug/stop_words.js";
 
 test("cycles in words: 10.8 microseconds each", () => {
   assert.deepEqual([1, 926, 92593, 1000000].map(wordsOfCycles),
@@ -73,11 +74,19 @@ test("places by their names", () => {
 });
 
 test("why time stopped, in words", () => {
-  const reached = { cycles: 538, isReached: true, end: "" };
-  assert.equal(wordsOfReached({ kind: "over" }, reached, "009"), "Returned to 009, after 538 cycles, 5.810 ms.");
-  assert.equal(wordsOfReached({ kind: "here", address: 20 }, reached, "014"), "Stopped at 014, as wanted, after 538 cycles, 5.810 ms.");
-  assert.equal(wordsOfReached({ kind: "out" }, { cycles: 4, isReached: false, end: "break" }, "016"),
+  const reached = { cycles: 538, why: "goal", returns: false };
+  assert.equal(wordsOfStop({ kind: "over" }, { ...reached, returns: true }, "009"), "Returned to 009, after 538 cycles, 5.810 ms.");
+  assert.equal(wordsOfStop({ kind: "over" }, { ...reached, cycles: 1 }, "00D"), "At 00D, after 1 cycle, 0.011 ms.");
+  assert.equal(wordsOfStop({ kind: "here", address: 20 }, reached, "014"), "Stopped at 014, as wanted, after 538 cycles, 5.810 ms.");
+  assert.equal(wordsOfStop({ kind: "out" }, { cycles: 4, why: "break", returns: true }, "016"),
     "Stopped at 016, at a breakpoint, after 4 cycles, 0.043 ms; the return from the subroutine was not reached.");
-  assert.equal(wordsOfReached({ kind: "change", place: "r4" }, { cycles: 10000000, isReached: false, end: "bound" }, "000"),
-    "Nothing was done: a change of r4 did not come in 10,000,000 cycles, 108.000 s.");
+  assert.equal(wordsOfStop(null, { cycles: 4, why: "break", returns: false }, "016"), "Stopped at 016, at a breakpoint.");
+  assert.equal(wordsOfStop({ kind: "change", place: "rom3" }, { cycles: 0, why: "lacks", returns: false }, "000"),
+    "Nothing was done: this board has no rom3.");
+  assert.equal(wordsOfMove({ kind: "change", place: "r4" }), "Time runs, up to a change of r4.");
+  assert.equal(wordsOfHalt({ kind: "out" }, 4, "016"),
+    "Stopped at 016, after 4 cycles, 0.043 ms; the return from the subroutine was not reached.");
+  assert.equal(wordsOfHalt(null, 4, "016"), "Stopped at 016.");
+  const map = new SourceMap(["map lines 2 names 1", "line 1 000 2", "line 2 002 1", "name go 000"], "go: JUN go\nNOP\n");
+  assert.deepEqual(["000", "002", "003"].map((place) => wordsOfPlace(place, map)), ["000 (go, line 1)", "002 (go + 2, line 2)", "003"]);
 });

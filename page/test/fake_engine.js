@@ -9,6 +9,8 @@ const QUESTIONS = {
   board: () => ["board", "[[ram]]", "bank = 0", "chips = 1"],
   state: (count) => [`state seq ${count} acc 0 cy 0 pc ${hex(count, 3)} owed 0 dcl 0 test 0 r 0000000000000000 ret 000,000,000 src 00 `
     + `banks 0.00 roms - rams 0.0.0 chains - keys - lamps ${count % 2 ? "*" : "."} breaks - watches -`],
+  trace: () => ["trace ran 0 end lines 0"],
+  list: () => [],
   ram: () => ["ram 0 chips 1", "0.0.0 0000000000000000 0000"],
 };
 

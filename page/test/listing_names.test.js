@@ -34,14 +34,15 @@ test("the width of the labels", () => {
 });
 
 test("go to: names, addresses of listings, numbers of lines", () => {
-  const addresses = ["put", " on ", "01E", "01e", "0x1E", "0x01e", "30", "100", "4095", "0", "0xFFF", "0030"];
-  assert.deepEqual(addresses.map((text) => goalOf(text, MAP)), [2, 12, 30, 30, 30, 30, 30, 256, 4095, 0, 4095, 30]
+  const addresses = ["put", " on ", "PUT", "put + 7", "put+0x07", "01E", "01e", "0x1E", "0x01e", "30", "100", "4095", "0", "0xFFF", "0030"];
+  assert.deepEqual(addresses.map((text) => goalOf(text, MAP)), [2, 12, 2, 9, 9, 30, 30, 30, 30, 30, 256, 4095, 0, 4095, 30]
     .map((address) => ({ address, words: "" })));
 });
 
 test("go to: what is no address is refused in words", () => {
   for (const [text, words] of [["4096", /^4096 is no address: the last one is FFF/], ["0x1000", /the last one/],
-    ["put2", /^put2 is neither/], ["", /^Nothing to go to/], ["1E", /^1E is neither/], ["-1", /neither/], ["01E0", /neither/]]) {
+    ["put2", /^put2 is neither/], ["put + 4095", /^put \+ 4095 is neither/],
+    ["", /^Nothing to go to/], ["1E", /^1E is neither/], ["-1", /neither/], ["01E0", /neither/]]) {
     assert.match(goalOf(text, MAP).words, words);
   }
   assert.match(goalOf("put", null).words, /^put is no address: .* Names are known while/);

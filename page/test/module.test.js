@@ -92,9 +92,12 @@ test("a breakpoint ends a frame, and what came after it is not done", async () =
 test("a file of an example gets the texts of the example, and another one what the bench says", async () => {
   const { calls } = await begin(calculator);
   const texts = calls.texts(calls.make(calculator));
-  assert.deepEqual(texts, { boardText: calculator.board, programText: calculator.program });
+  const { board, program, tests = "", properties = "" } = calculator;
+  assert.deepEqual(texts, { boardText: board, programText: program, testText: tests, propertiesText: properties });
   const own = calls.make({ ...calculator, board: '[[rom]]\nchip = 0\nport = "0000"\n', program: "\tLDM 5\n\tJUN 0\n" });
-  assert.deepEqual(calls.texts(own), { boardText: '[[rom]]\nchip = 0\nport = "0000"\n', programText: "\tLDM 5\n\tJUN 0x000\n" });
+  assert.deepEqual(calls.texts(own), {
+    boardText: '[[rom]]\nchip = 0\nport = "0000"\n', programText: "\tLDM 5\n\tJUN 0x000\n", testText: "", propertiesText: "",
+  });
 });
 
 test("the line of a board that is at fault is found", async () => {

@@ -56,6 +56,14 @@ test("a page that is left at once was not hung; one that is left later may have 
   assert.equal(load().isUnended("two"), true);
 });
 
+test("a page that is left while it shows a session was not hung by it, however long the opening took", async () => {
+  const { load, wait } = browser();
+  const openings = load();
+  await openings.during("one", async () => wait(3000));
+  openings.leave();
+  assert.equal(load().isUnended("one"), false);
+});
+
 test("another tab may just be opening it", () => {
   const { load, wait } = browser();
   load().during("one", () => new Promise(() => {}));
@@ -69,7 +77,7 @@ test("a session that is opened twice in a row is settled by its last opening", a
   const { load, wait, settle } = browser();
   const openings = load();
   await openings.during("one", async () => {});
-  openings.begun.set("one", 0);
+  openings.begun.set("one", { time: 0, isEnded: false });
   settle();
   wait(3000);
   assert.equal(load().isUnended("one"), true);

@@ -4,13 +4,14 @@ import { BenchCalls } from "../src/worker/bench_calls.js";
 
 const page = readFileSync(new URL("../fethsaim.html", import.meta.url), "utf8");
 const partOf = (id) => new RegExp(`id="${id}">([^<]*)<`).exec(page)[1];
-const module = Buffer.from(partOf("module"), "base64");
+export const moduleOfPage = Buffer.from(partOf("module"), "base64");
 const { examples } = JSON.parse(partOf("data"));
+export const examplesOfPage = examples;
 
 /** A session from an example, after some lines. */
 export async function begin(name, lines = "") {
   const calls = new BenchCalls(async () => true);
-  await calls.load(module, examples);
+  await calls.load(moduleOfPage, examples);
   calls.open(calls.make(examples.find((each) => each.name === name)));
   if (lines) await calls.serve(lines);
   return calls;

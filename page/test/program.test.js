@@ -9,7 +9,7 @@ import { completeProgram } from "../src/text/completion.js";
 import { instructionsOf } from "../src/help/manual.js";
 import { findProgramFaults } from "../src/text/program_faults.js";
 import { wordsOfProgramLine } from "../src/text/program_words.js";
-import { LONGEST_TEXT, faultsOfLines, sentText, sizeOf } from "../src/text/text_fault.js";
+import { LONGEST_TEXT, faultsOfLines, sentText } from "../src/text/text_fault.js";
 import { helpForProgram } from "../src/text/text_help.js";
 
 // The table of the manual, as page/build reads it.
@@ -50,6 +50,8 @@ test("what is no instruction, and what may be meant", () => {
   assert.match(wordsOf("LDX 5"), /^LDX is no instruction; .*LDM\?$/);
   assert.equal(wordsOf("JMP there"), "JMP is no instruction; JUN?");
   assert.equal(wordsOf("begin"), "begin is no instruction; a label has a colon: begin:");
+  assert.equal(wordsOf("zero EQU 4"), "a name gets its number by =: zero = 4");
+  assert.equal(wordsOf("zero  set 0x10"), "a name gets its number by =: zero = 0x10");
 });
 
 test("what an instruction takes", () => {
@@ -102,21 +104,34 @@ test("all faults are found, one after the other, and a blanked line keeps what i
   const told = found.faults.map(({ line, words }) => [line, words.split(";")[0]]);
   assert.deepEqual(told, [[1, "LDX is no instruction"], [2, "strat is not defined"]]);
   assert.equal(found.areAll, true);
-  assert.equal(seen[2], "start: \nDB 0,0\n");
+  assert.equal(seen[2], "start:\nDB 0,0\n");
 });
 
 test("a search for faults that is not wanted any more ends", async () => {
   assert.equal(await findProgramFaults("LDX\n", instructions, () => "", async () => undefined), undefined);
 });
 
-test("characters beyond ASCII are sent as blanks in comments, and are faults elsewhere", () => {
-  assert.equal(sentText("NOP ; f\u00fcr\nNOP", ";"), "NOP ; f r\nNOP\n");
-  assert.equal(sentText('a = "#" # \u00e9\n', "#"), 'a = "#" #  \n');
-  assert.deepEqual(faultsOfLines("caf\u00e9: NOP\n").map(({ line, from, to, number }) => [line, from, to, number]), [[1, 3, 4, 14]]);
-  assert.deepEqual(faultsOfLines("NOP\n.\nNOP\n").map(({ line, number }) => [line, number]), [[2, 0]]);
-  assert.deepEqual(faultsOfLines(`NOP\n${"x".repeat(256)}\n`).map(({ line, number }) => [line, number]), [[2, 12]]);
-  assert.equal(faultsOfLines("NOP\n".repeat(4097))[0].number, 13);
-  assert.deepEqual([sizeOf(""), sizeOf("NOP"), sizeOf("NOP\n")], [0, 4, 4]);
+test("a text is sent line for line, without comments and indentation", () => {
+  assert.equal(sentText("; f\u00fcr\r\n loop: NOP\t; on\n\tJUN loop ", ";"), "\nloop: NOP\nJUN loop\n");
+  assert.equal(sentText('  a = "#" # \u00e9\n', "#"), 'a = "#"\n');
+  assert.equal(sentText("a = \"\"\"\n  b # \u00e9\n\"\"\"\n", "#"), "a = \"\"\"\n  b #  \n\"\"\"\n");
+  assert.equal(sentText("", ";"), "");
+  assert.equal(sentText("NOP\n\t", ";"), "NOP\n\n");
+  assert.deepEqual(faultsOfLines("NOP\n\t", ";"), []);
+  assert.equal(sentText("NOP\n . ; no end\n.\n", ";"), "NOP\n .\n.\n");
+});
+
+test("lines that cannot be sent, at their places in the text", () => {
+  /** @type {(text: string) => (number | string)[][]} */
+  const faults = (text) => faultsOfLines(text, ";").map(({ line, from, to, number }) => [line, from, to, number]);
+  assert.deepEqual(faults("  caf\u00e9: NOP ; \u00e9\n"), [[1, 5, 6, 14]]);
+  assert.deepEqual(faults("NOP\n.\nNOP\n"), [[2, 0, 1, 0]]);
+  assert.equal(faultsOfLines("\ufeffNOP\n", ";")[0].words, "a character that is not to be seen (U+FEFF); delete it");
+  assert.deepEqual(faults("NOP\n . ; no end\n"), []);
+  assert.deepEqual(faults(`NOP\n  ${"x".repeat(256)}\n`), [[2, 257, 258, 12]]);
+  assert.deepEqual(faults(`NOP ;${"x".repeat(256)}\n`), []);
+  assert.deepEqual(faults(`${"NOP\n".repeat(4097)}`), [[4097, 0, 3, 13]]);
+  assert.deepEqual(faults(`${"\tNOP ; a comment\n".repeat(4096)}`), []);
 });
 
 test("what a word can become", () => {

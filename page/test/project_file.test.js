@@ -10,7 +10,7 @@ function project(texts = {}) {
   const file = new Uint8Array(SIZE);
   file.set(encode("MCS4BEN1"));
   file[SIZE - 1] = 0xfe;
-  return { name: "a lock", boardText: "# b\n", programText: "; p\n", file, ...texts };
+  return { name: "a lock", boardText: "# b\n", programText: "; p\n", testText: "", propertiesText: "", file, ...texts };
 }
 
 function read(text) {
@@ -34,9 +34,19 @@ test("a project is a text that people can read", () => {
     "00000 4d43533442454e310000000000000000", "28000 000000000000000000000000000000fe", ".", "end", ""]);
 });
 
+test("a text of tests stands behind the program, where there is one", () => {
+  const text = projectText(project({ testText: "test one\n  run 1" }));
+  const lines = text.split("\n");
+  const wanted = ["name a lock", "unended test", "wire", "# b", ".", "asm", "; p", ".", "test", "test one", "  run 1"];
+  assert.deepEqual(lines.slice(3, 14), wanted);
+  assert.equal(read(text).testText, "test one\n  run 1");
+  assert.equal(read(text.replace(/^cksum.*\n/m, "").replace("\ntest one", "\ntest two")).testText, "test two\n  run 1");
+});
+
 test("what goes in comes out, whatever the texts are", () => {
   for (const text of ["", "\n", "NOP", "NOP\n", "a\n\n", ".\n..\n...", ".", "\tx \n.y\n", "wire\n.\nasm\n", "; f\u00fcr \u{1f600}\n"]) {
-    for (const texts of [{ boardText: text }, { programText: text }, { boardText: text, programText: text }]) {
+    const all = { boardText: text, programText: text, testText: text, propertiesText: text };
+    for (const texts of [{ boardText: text }, { programText: text }, { testText: text }, { propertiesText: text }, all]) {
       const one = project(texts);
       assert.deepEqual(read(projectText(one)), one);
     }
@@ -57,13 +67,13 @@ test("bytes that are a project are told from others", () => {
   assert.equal(isProject(Uint8Array.of(255, 254, 0, 200)), false);
 });
 
-test("a text that the bench would not take is refused, and its project is not saved", () => {
-  const boardText = `#${" ".repeat(16384)}\n`;
-  const words = "the board's text has 16,386 bytes, and 16,384 is the most";
+test("a text that the editors would not take is refused, and its project is not saved", () => {
+  const boardText = `#${" ".repeat(65535)}\n`;
+  const words = "the board's text has 65,537 characters, and 65,536 is the most";
   assert.throws(() => read(projectText(project({ boardText }))), { message: words });
   assert.equal(wordsOfLength({ boardText, programText: "" }), words);
-  assert.equal(wordsOfLength({ boardText: boardText.slice(2), programText: "x".repeat(16383) }), "");
-  assert.match(wordsOfLength({ boardText: "", programText: "x".repeat(16384) }), /^the source has 16,385 bytes/);
+  assert.equal(wordsOfLength({ boardText: boardText.slice(1), programText: "x".repeat(65536) }), "");
+  assert.match(wordsOfLength({ boardText: "", programText: "x".repeat(65537) }), /^the source has 65,537 characters/);
 });
 
 test("each cut of a project is refused in words", () => {
@@ -104,4 +114,22 @@ test("what is wrong in a project without a sum is told with its line", () => {
   for (const [from, to, words] of faults) assert.throws(() => read(text.replace(from, to)), words);
   assert.throws(() => readProject(Uint8Array.of(...encode("fethsaim project 1\n"), 255), SIZE), /UTF-8/);
   assert.throws(() => readProject(new Uint8Array((4 << 20) + 1), SIZE), /more bytes/);
+});
+
+test("breakpoints of the source stand in the head, and come back as they were", () => {
+  const breakpoints = [
+    { line: 14, address: 15, isOn: false, condition: 'r4 = 7 and lamp "a\\b" on', from: 5, note: "R4 is {r4}" },
+    { line: 0, address: 0x7FF, isOn: true, condition: "", from: 1, note: "" },
+    { line: 3, address: -1, isOn: true, condition: "", from: 1, note: "here" },
+  ];
+  const text = projectText(project({ breakpoints }));
+  assert.deepEqual(text.split("\n").filter((line) => line.startsWith("break")), [
+    'break line 14 at 0x00F off from 5 if "r4 = 7 and lamp \\"a\\\\b\\" on" log "R4 is {r4}"', "break at 0x7FF", 'break line 3 log "here"',
+  ]);
+  assert.deepEqual(read(text).breakpoints, breakpoints);
+  assert.equal(read(projectText(project({ breakpoints: [] }))).breakpoints, undefined);
+  for (const wrong of ["break", "break here", "break line x", "break line 3 if r4", "break at 0x12"]) {
+    const changed = text.replace(/\ncksum .*/, "").replace("break at 0x7FF", wrong);
+    assert.throws(() => read(changed), /has to be one of the head: `name`, `unended`, `break`/);
+  }
 });

@@ -87,7 +87,7 @@ function controller(answers, programText, found) {
   const notice = { show: (words, kind, action) => told.notices.push({ words, kind, action }) };
   const ask = { ask: async () => { told.asked += 1; return answers.shift(); } };
   const editor = (text) => ({ text, open(_id, shownText) { this.text = shownText; }, replaceText(other) { this.text = other; } });
-  const made = new TextsController(editor("# b"), editor(programText), ask, notice, {
+  const made = new TextsController(editor("# b"), editor(programText), editor(""), editor(""), ask, notice, {
     session: () => shown.session, touch: () => {}, keep: async () => "", named: () => {}, source: async () => found,
     failed: (fault) => { throw fault; },
   });

@@ -3,11 +3,12 @@ import { readFileSync } from "node:fs";
 import { test } from "node:test";
 import { deflateRawSync } from "node:zlib";
 import { LONGEST_LINK, NotALink, SAFE_LINK, linkOf, readLink } from "../src/session/share_link.js";
-import { LONGEST_TEXT } from "../src/text/text_fault.js";
+import { LONGEST_KEPT } from "../src/text/text_fault.js";
 
 const file = (name) => readFileSync(new URL(`../../examples/${name}`, import.meta.url), "utf8");
 const calculator = {
-  name: "calculator", boardText: file("calculator/board.toml"), programText: file("calculator/calculator.asm"),
+  name: "calculator", boardText: file("calculator/board.toml"), programText: file("calculator/calculator.asm"), testText: "",
+  propertiesText: "",
 };
 
 /** A browser without streams that compress. */
@@ -22,8 +23,9 @@ async function without(names, act) {
 }
 
 test("what goes into a link comes out", async () => {
-  const few = { name: "a lock", boardText: "", programText: "; f\u00fcr\n.\nNOP" };
-  for (const texts of [calculator, few, { name: "x", boardText: "\n", programText: "wire\n.\n" }]) {
+  const few = { name: "a lock", boardText: "", programText: "; f\u00fcr\n.\nNOP", testText: "", propertiesText: "" };
+  for (const texts of [calculator, few, { name: "x", boardText: "\n", programText: "wire\n.\n", testText: "test one\n.\n run 1",
+    propertiesText: "never lamp 0 on\n.." }]) {
     const link = await linkOf(texts);
     assert.match(link, /^1\.[\w-]+$/);
     assert.deepEqual(await readLink(link), texts);
@@ -62,14 +64,14 @@ test("links that are made by hand", async () => {
   await assert.rejects(readLink("2.QQ"), /newer page/);
 });
 
-test("texts that the bench would not take are refused before anything reads them", async () => {
-  const texts = (size) => ({ name: "x", boardText: "", programText: `${";".repeat(size - 1)}\n` });
-  assert.deepEqual(await readLink(await linkOf(texts(LONGEST_TEXT))), texts(LONGEST_TEXT));
-  const words = /^the source has 16,385 bytes, and 16,384 is the most$/;
-  await assert.rejects(readLink(await linkOf(texts(LONGEST_TEXT + 1))), (fault) => fault instanceof NotALink && words.test(fault.message));
+test("texts that the editors would not take are refused before anything reads them", async () => {
+  const texts = (size) => ({ name: "x", boardText: "", programText: `${";".repeat(size - 1)}\n`, testText: "", propertiesText: "" });
+  assert.deepEqual(await readLink(await linkOf(texts(LONGEST_KEPT))), texts(LONGEST_KEPT));
+  const words = /^the source has 65,537 characters, and 65,536 is the most$/;
+  await assert.rejects(readLink(await linkOf(texts(LONGEST_KEPT + 1))), (fault) => fault instanceof NotALink && words.test(fault.message));
   const { programText: boardText } = texts(900000);
   await assert.rejects(readLink(await linkOf({ name: "x", boardText, programText: "" })), {
-    message: "the board's text has 900,000 bytes, and 16,384 is the most",
+    message: "the board's text has 900,000 characters, and 65,536 is the most",
   });
 });
 

@@ -9,7 +9,7 @@ const FITS = { map: MAP, refusal: null, difference: null };
 
 /** A source over an editor and a bench that do as they are told by the test. */
 function begin(text, checked) {
-  const seen = { next: [], breakpoints: [], addresses: [], revealed: [], toggled: [], refused: [], changed: [], checks: 0 };
+  const seen = { next: [], addresses: [], revealed: [], changed: [], checks: 0 };
   const now = { text, checked };
   const sync = new SourceSync({
     text: () => now.text,
@@ -17,14 +17,11 @@ function begin(text, checked) {
       seen.checks += 1;
       return now.checked;
     },
-    toggle: (isSet, address) => seen.toggled.push([isSet, address]),
-    refuse: (words) => seen.refused.push(words),
     changed: (map, words) => seen.changed.push([map !== null, words]),
     wordsOfRefusal: (number) => `words of ${number}`,
   });
   sync.editor = {
     showNext: (line) => seen.next.push(line),
-    showBreakpoints: (marks) => seen.breakpoints.push([...marks].map(([line, { mark, words }]) => `${line} ${mark} ${words}`)),
     showAddresses: (addresses) => seen.addresses.push(addresses),
     reveal: (line) => seen.revealed.push(line),
   };
@@ -68,45 +65,13 @@ test("what is told again is not shown again", async () => {
   assert.equal(seen.changed.length, 1);
 });
 
-test("breakpoints are shown at their lines, and set and cleared there", async () => {
-  const { sync, seen } = begin(TEXT, FITS);
-  sync.showBreakpoints(["000", "7FF"]);
-  await sync.check();
-  assert.deepEqual(seen.breakpoints, [[], ["2 \u25CF breakpoint"]]);
-  await sync.toggleBreakpoint(4);
-  await sync.toggleBreakpoint(2);
-  assert.deepEqual(seen.toggled, [[false, 2], [true, 0]]);
-  await sync.toggleBreakpoint(3);
-  assert.match(seen.refused[0], /^Line 3 puts no bytes into ROM/);
-});
-
-test("a breakpoint inside an instruction is no dot, and a click clears it", async () => {
-  const { sync, seen, now } = begin(TEXT, FITS);
-  await sync.check();
-  sync.showBreakpoints(["001"]);
-  const inside = "2 \u25CB breakpoint at 001, inside this instruction: a run that comes here does not stop; a click clears it";
-  assert.deepEqual(seen.breakpoints.pop(), [inside]);
-  await sync.toggleBreakpoint(2);
-  assert.deepEqual(seen.toggled, [[true, 1]]);
-  // Where a run stops at the line, too, that counts.
-  for (const breakpoints of [["001", "000"], ["000", "001"]]) sync.showBreakpoints(breakpoints);
-  assert.deepEqual(seen.breakpoints.slice(-2), [["2 \u25CF breakpoint"], ["2 \u25CF breakpoint"]]);
-  now.text = "go: DB 1, 2\n";
-  now.checked = { ...FITS, map: ["map lines 1 names 1", "line 1 000 2", "name go 000"] };
-  await sync.check();
-  sync.showBreakpoints(["001"]);
-  assert.deepEqual(seen.breakpoints.pop(), ["1 \u25CF breakpoint"]);
-});
-
-test("a text that differs from ROM says where, and takes no breakpoint", async () => {
+test("a text that differs from ROM says where", async () => {
   const { sync, seen } = begin(TEXT, { map: MAP, refusal: null, difference: { address: 2, hasRom: true } });
   await sync.check();
   const words = "The source differs from ROM at 0x002, line 4: assemble it.";
   assert.deepEqual(seen.changed, [[false, words]]);
   sync.showNext(0, false);
   assert.deepEqual(seen.next, []);
-  await sync.toggleBreakpoint(2);
-  assert.deepEqual([seen.refused, seen.toggled], [[words], []]);
 });
 
 test("a text that is refused, or has no ROM to stand in, says so", async () => {
@@ -124,19 +89,20 @@ test("a text that is refused, or has no ROM to stand in, says so", async () => {
     "The board has no ROM at 0x002, where line 4 of the source stands."]);
 });
 
-test("a text that was edited is looked at before a breakpoint is set in it", async () => {
+test("a text that was edited is looked at where that is wanted", async () => {
   const { sync, seen, now } = begin(TEXT, FITS);
-  await sync.check();
+  await sync.fresh();
+  await sync.fresh();
   now.text = `\n${TEXT}`;
   now.checked = { ...FITS, map: ["map lines 5 names 0", "line 1 000 0", "line 2 000 0", "line 3 000 2", "line 4 002 0", "line 5 002 1"] };
-  await sync.toggleBreakpoint(5);
-  assert.deepEqual([seen.checks, seen.toggled], [2, [[false, 2]]]);
+  await sync.fresh();
+  assert.deepEqual([seen.checks, sync.map.addressOf(5)], [2, 2]);
 });
 
 test("an empty text is no program", async () => {
   const { sync, seen } = begin("", { map: ["map lines 0 names 0"], refusal: null, difference: null });
-  await sync.toggleBreakpoint(1);
-  assert.deepEqual([seen.changed, seen.refused.length], [[[false, ""]], 1]);
+  await sync.check();
+  assert.deepEqual(seen.changed, [[false, ""]]);
 });
 
 test("what names mean", async () => {

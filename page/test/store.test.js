@@ -102,6 +102,18 @@ test("a store that refuses: in words, and the session is as it was", async () =>
   assert.deepEqual([...base.records.get(session.record.id).file], [1, 2]);
 });
 
+test("a store that does not answer is told after a while, and no page waits for it", async (context) => {
+  context.mock.timers.enable({ apis: ["setTimeout"] });
+  const base = new FakeBase();
+  base.transaction = () => ({ objectStore: () => ({ put: () => {}, getAll: () => ({}), get: () => ({}) }), commit: () => {} });
+  const store = new Store(base, true);
+  const session = new KeptSession(store, newRecord("one", Uint8Array.of(1), { boardText: "", programText: "" }), () => {});
+  const told = [session.keep(), session.keep(), store.all().catch(wordsOfStoreFault), store.get("one").catch(wordsOfStoreFault)];
+  for (let turns = 0; turns < 5; turns++) await Promise.resolve();
+  context.mock.timers.tick(10000);
+  assert.deepEqual(new Set(await Promise.all(told)), new Set(["the browser's store does not answer"]));
+});
+
 test("a page that goes away writes at once, but where a write needs the answer to the one before", async () => {
   const base = new FakeBase();
   const session = new KeptSession(new Store(base, true), record(), () => {});

@@ -65,11 +65,11 @@ test("keys that were pressed stand in the past, and it ends as it is here", asyn
   const waves = new Waves(await calls.record(5000, true, texts));
   const key = numberOf(waves, "key.1");
   const [down, up, ...others] = waves.changesOf(key);
-  assert.deepEqual([up - down, waves.levelAt(key, down), others], [4000, 1, []]);
+  assert.deepEqual([up - down, waves.numberAt(key, down), others], [4000, 1, []]);
   assert.equal(waves.counterAt(5000), parseInt(/ pc (...)/.exec(calls.ask("regs\n")[0])[1], 16));
   const lamps = calls.ask("lamps\n")[0].slice("lamps ".length);
   const shown = waves.lines.map((line, at) => [line, at]).filter(([line]) => line.group === "lamps")
-    .map(([, at]) => (waves.levelAt(at, 5000) ? "*" : ".")).join("");
+    .map(([, at]) => (waves.numberAt(at, 5000) ? "*" : ".")).join("");
   assert.equal(shown, lamps);
 });
 
@@ -78,7 +78,7 @@ test("the past begins with the board, and where nothing was done nothing is reco
   assert.equal((await calls.record(100, true, texts)).cycles, 0);
   await calls.serve("run 500\nwire\n[[rom]]\nchip = 0\nport = \"0000\"\n.\nrun 30\n");
   const recorded = await calls.record(100, true, texts);
-  const names = ["rom0.0", "rom0.1", "rom0.2", "rom0.3", "test", "pc", "label"];
+  const names = ["rom0.0", "rom0.1", "rom0.2", "rom0.3", "test", "rom0[3:0]", "pc", "label"];
   assert.deepEqual([recorded.cycles, recorded.lines.map(({ name }) => name)], [30, names]);
 });
 
@@ -113,4 +113,23 @@ test("a long recording in both directions has the same edges", async () => {
 test("a recording is told how far it is, and cancelled", async () => {
   const { calls, texts } = await begin("calculator", async () => false);
   await assert.rejects(calls.record(100000, false, texts), /cancelled/);
+});
+
+test("registers, pairs, characters and ports are what the bench tells at each cycle", async () => {
+  const { calls, texts } = await begin("calculator");
+  await calls.serve("run 30000\npress 2 0\n");
+  const values = ["acc", "cy", "r5", "p2", "src", "dcl", "ram.0.0x12", "st.0.1.2"];
+  const waves = new Waves(await calls.record(700, false, { ...texts, values }));
+  const at = (name, moment) => waves.valueAt(numberOf(waves, name), moment);
+  let state = "";
+  for (let moment = 0; moment <= 700; moment += 7) {
+    [state] = moment === 0 ? calls.ask("state\n") : calls.ask(`run ${moment}\nstate\n`).slice(-1);
+    const field = (key) => new RegExp(` ${key} (\\S+)`).exec(state)[1];
+    const registers = field("r");
+    assert.deepEqual([at("acc", moment), at("cy", moment), at("r5", moment), at("p2", moment), at("src", moment), at("dcl", moment)],
+      [field("acc"), field("cy"), registers[5], registers.slice(4, 6), field("src"), field("dcl")], `cycle ${moment}`);
+    const roms = field("roms").split(",").map((each) => each.split("."));
+    for (const [chip, out] of roms) if (chip === "0") assert.equal(at("rom0[3:0]", moment), out, `cycle ${moment}`);
+  }
+  assert.equal(at("ram.0.0x12", 700), calls.ask("run 700\nram 0\n")[3].split(" ")[1][2]);
 });

@@ -3,15 +3,17 @@ import assert from "node:assert/strict";
 import { test } from "node:test";
 import { WaveWindow, ticksOf } from "../src/waves/wave_window.js";
 import {
-  betweenText, cursorText, cyclesText, instructionText, microseconds, readCycles, recordedText, spokenText,
+  betweenText, cursorText, cyclesText, instructionText, microseconds, readCycles, recordedText, spokenText, valueText,
 } from "../src/waves/wave_words.js";
 import { Waves } from "../src/waves/waves.js";
 
 /** A line that changes at some moments. */
 function wavesWith(changes, cycles) {
   return new Waves({
-    cycles, isStuck: false, lines: [{ name: "test", group: "test", field: "test", at: 0, bit: 0, key: "" }], firsts: Uint8Array.of(1),
-    changes: [Uint32Array.from(changes)], moments: Uint32Array.of(0, 1, 3), counters: Uint16Array.of(0, 1, 2), isOwed: false,
+    from: 0, cycles, isStuck: false,
+    lines: [{ name: "test", title: "", group: "test", kind: "test", places: [], members: [], width: 1 }],
+    tracks: [{ first: 1, moments: Uint32Array.from(changes), values: null }],
+    moments: Uint32Array.of(0, 1, 3), counters: Uint16Array.of(0, 1, 2), isOwed: false,
     listing: [[0, "000 D5    LDM 5"], [1, "001 40 00 JUN 0x000"], [2, "002 00    NOP"]], program: null,
   });
 }
@@ -68,6 +70,30 @@ test("a click means an edge that is near, else the cycle that is there", () => {
   assert.deepEqual([0, 49, 50, 499].map((x) => view.momentAt(x, waves, -1)), [0, 0, 1, 9]);
 });
 
+test("a window goes along with the end of a recording, where that was seen", () => {
+  const view = windowOf(1000, 500);
+  view.zoom(4, 1000);
+  view.stretch(500, 2000);
+  assert.deepEqual([view.from, view.to, view.cursors], [1750, 2000, [500, 500]]);
+  view.goTo(600);
+  view.stretch(700, 2500);
+  assert.deepEqual([view.from, view.span], [700, 250]);
+});
+
+test("a recording that goes on is seen whole as long as it is short, then its last part", () => {
+  const view = windowOf(0, 500);
+  view.stretch(0, 3000);
+  assert.deepEqual([view.from, view.to, view.cursors], [0, 3000, [3000, 3000]]);
+  view.move(100);
+  view.stretch(0, 50000);
+  assert.deepEqual([view.from, view.to, view.cursors], [30000, 50000, [100, 50000]]);
+  view.showAll();
+  view.stretch(10000, 90000);
+  assert.deepEqual([view.from, view.to, view.cursors], [40000, 90000, [10000, 90000]]);
+  view.showAround(20000);
+  assert.deepEqual([view.from, view.to, view.cursors[0]], [10000, 30000, 20000]);
+});
+
 test("a recording of no cycle has a window, too", () => {
   const view = windowOf(0, 500);
   view.zoom(2, 0);
@@ -104,9 +130,15 @@ test("what was recorded, in words", () => {
   const waves = wavesWith([2], 3);
   assert.equal(recordedText(waves, 3, false), "3 cycles recorded, 32.4 microseconds.");
   assert.equal(recordedText(waves, 9, true), "3 cycles recorded, 32.4 microseconds. The past reaches no further back.");
-  waves.recorded.isStuck = true;
+  waves.isStuck = true;
   assert.match(recordedText(waves, 9, false), /Then comes a code that is no instruction\.$/);
   assert.match(recordedText(wavesWith([], 0), 9, true), /^Nothing was recorded/);
+});
+
+test("a value in three ways", () => {
+  assert.deepEqual(["hex", "decimal", "binary"].map((base) => valueText(10, 4, base)), ["A", "10", "1010"]);
+  assert.deepEqual(["hex", "decimal", "binary"].map((base) => valueText(1, 1, base)), ["1", "1", "1"]);
+  assert.equal(valueText(3, 10, "hex"), "003");
 });
 
 test("how many cycles are wanted", () => {

@@ -1,5 +1,6 @@
 import assert from "node:assert/strict";
 import { test } from "node:test";
+import { Debugger } from "../src/debug/debugger.js";
 import { WorkerSession, MOST_ENTRIES } from "../src/worker/worker_session.js";
 import { FullSpeed } from "../src/worker/full_speed.js";
 import { FakeEngine } from "./fake_engine.js";
@@ -81,18 +82,19 @@ test("what lines may have changed is told", async () => {
 
 test("full speed: batches are told together, where the page has taken the last ones", () => {
   const { engine, session } = begin();
+  const machine = new Debugger(session);
   const fullSpeed = new FullSpeed();
   fullSpeed.start(false);
-  fullSpeed.batch(session);
+  fullSpeed.batch(machine);
   assert.equal(fullSpeed.isToBeTold(false), false);
-  fullSpeed.batch(session);
+  fullSpeed.batch(machine);
   assert.equal(fullSpeed.isToBeTold(true), true);
   const told = fullSpeed.take();
   assert.equal(told.ran.length, 1);
   assert.equal(told.ran[0].cycles, told.cycles);
   assert.equal(fullSpeed.take().cycles, 0);
   engine.stopAt = session.file[0] + 1;
-  fullSpeed.batch(session);
+  fullSpeed.batch(machine);
   assert.equal(fullSpeed.isOn, false);
   assert.equal(fullSpeed.isToBeTold(false), true);
   assert.match(fullSpeed.take().end, /break$/);
@@ -100,11 +102,12 @@ test("full speed: batches are told together, where the page has taken the last o
 
 test("a hidden page is told once a second, and of keys at once", () => {
   const { session } = begin();
+  const machine = new Debugger(session);
   const fullSpeed = new FullSpeed();
   fullSpeed.start(true);
-  fullSpeed.batch(session);
+  fullSpeed.batch(machine);
   assert.equal(fullSpeed.isToBeTold(true), false);
   session.queue.press("0 1");
-  fullSpeed.batch(session);
+  fullSpeed.batch(machine);
   assert.equal(fullSpeed.isToBeTold(true), true);
 });

@@ -22,7 +22,7 @@ function take_head(query, words) {
 
 # A further line of an answer.
 function receive_row() {
-    if ((getline reply) <= 0 || reply ~ /^e/) receive()
+    if ((getline reply) <= 0 || reply ~ /^e/) has_ended()
 }
 
 function take_count(    i) {

@@ -27,12 +27,14 @@ function send(lines) {
 
 # One line of an answer.
 function receive() {
-    if (lost != "" || (getline reply) <= 0 || reply ~ /^ended /) {
-        lost = lost == "" ? "the program has ended: " reply : lost
-        reply = "ended"
-        die("the session has ended; the program said: " program_words())
-    }
+    if (lost != "" || (getline reply) <= 0 || reply ~ /^ended /) has_ended()
     return reply
+}
+
+function has_ended() {
+    lost = lost == "" ? "the program has ended: " reply : lost
+    reply = "ended "
+    die("the session has ended; the program said: " program_words())
 }
 
 function program_words(    line, words) {
@@ -177,4 +179,16 @@ function clear_stops(    words, n, i, place) {
 
 function take_out(line) {
     if (ask(line) !~ /^ok /) die("the bench answered " reply " to: " line)
+}
+
+# --- what a tool prints: some lines at a time, since mawk, which reads line by line here, makes a call of each piece ---
+
+function put_text(text) {
+    kept_text = kept_text text
+    if (length(kept_text) > 1000) put_rest()
+}
+
+function put_rest() {
+    printf "%s", kept_text
+    kept_text = ""
 }

@@ -1,7 +1,7 @@
 # A board as the bench tells it: reads the lines of the answer to `board`. Needs face.awk.
 #
-# take_board(lines, n) fills rom_port[c], ram_chips[b], chain_bits[k], key_rows, key_columns, and lamp_count; check_face() adds to
-# face_faults and face_notes what the comments name and the board has not.
+# take_board(lines, n) fills rom_port[c], ram_chips[b], chain_bits[k], chain_clock[k], key_rows, key_columns, lamp_count and
+# line_of_lamp[i]; check_face() adds to face_faults and face_notes what the comments name and the board has not.
 
 function take_board(lines, n,    i, words, table, rom, bank, marks) {
     key_rows = key_columns = lamp_count = chain_count = 0
@@ -10,7 +10,9 @@ function take_board(lines, n,    i, words, table, rom, bank, marks) {
         if (words[1] ~ /^\[/) {
             table = words[1]
             if (table == "[[lamp]]") lamp_count++
-        } else if (table == "[[rom]]" && words[1] == "chip") rom = words[3]
+        } else if (table == "[[lamp]]" && words[1] == "line") line_of_lamp[lamp_count - 1] = unquoted(words[3])
+        else if (table == "[[chain]]" && words[1] == "clock") chain_clock[chain_count] = unquoted(words[3])
+        else if (table == "[[rom]]" && words[1] == "chip") rom = words[3]
         else if (table == "[[rom]]" && words[1] == "port") rom_port[rom] = substr(words[3], 2, 4)
         else if (table == "[[ram]]" && words[1] == "bank") bank = words[3]
         else if (table == "[[ram]]" && words[1] == "chips") ram_chips[bank] = words[3]
@@ -21,6 +23,10 @@ function take_board(lines, n,    i, words, table, rom, bank, marks) {
             key_columns = gsub(/,/, "", marks) + 1
         }
     }
+}
+
+function unquoted(word) {
+    return substr(word, 2, length(word) - 2)
 }
 
 function check_face(    i, name, d) {

@@ -1,5 +1,5 @@
-# Reads the answers to `list`, and prints the bytes of a range, from `first` on, `count` of them: with `form` hex, as Intel HEX; else as
-# lines of octal escapes. Where two answers tell one byte, the later one holds. Needs numbers.awk.
+# Reads the answers to `list`, and prints the bytes of a range, from `first` on, `count` of them: with `form` hex, as Intel HEX, with bnpf
+# as BNPF; else as lines of octal escapes. Where two answers tell one byte, the later one holds. Needs numbers.awk.
 
 { sub(/\r$/, "") }
 
@@ -27,6 +27,15 @@ END {
             exit 1
         }
     }
+    if (form == "bnpf") {
+        # Four words a line, behind the address of the first one, as a remark.
+        for (at = first; at < first + count; at++) {
+            if ((at - first) % 4 == 0) printf "%s%4d", (at > first ? "\n" : ""), at
+            printf " %s", word_of(byte[at])
+        }
+        print ""
+        exit
+    }
     for (at = first; at < first + count; at += held) {
         held = first + count - at
         if (held > 16) held = 16
@@ -40,4 +49,10 @@ END {
         else print text
     }
     if (form == "hex") print ":00000001FF"
+}
+
+function word_of(value,    bit, text) {
+    text = "B"
+    for (bit = 128; bit >= 1; bit /= 2) text = text (int(value / bit) % 2 ? "P" : "N")
+    return text "F"
 }

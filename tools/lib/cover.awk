@@ -24,12 +24,19 @@ function run_counted(n,    k) {
     }
 }
 
-# Reads the answer to `count`. (In one loop, since this is most of the work.)
-function count_instructions(    words, lines) {
+# Reads the answer to `count`: how often each of its rows comes. (Most come often.)
+function count_instructions(    lines) {
     for (lines = take_head("count"); lines > 0; lines--) {
         receive_row()
-        if (split(reply, words) > 2) taken[address_of[words[1]]] += words[3]
-        runs[address_of[words[1]]] += words[2]
+        row_times[reply]++
+    }
+}
+
+# Adds up what the rows have told.
+function add_rows(    row, words) {
+    for (row in row_times) {
+        if (split(row, words) > 2) taken[address_of[words[1]]] += row_times[row] * words[3]
+        runs[address_of[words[1]]] += row_times[row] * words[2]
     }
 }
 
@@ -38,9 +45,10 @@ function report(    i, n, count, text, ways, lines, never, first, last) {
     instructions = instructions_run = branches = branches_run = 0
     never = ""
     first = 0
+    add_rows()
     for (i = 1; i <= map_count + 1; i++) {
         if (i <= map_count && !is_code(i)) {
-            print source_row("", "", source_line[i])
+            put_text(source_row("", "", source_line[i]) "\n")
             continue
         }
         if (i <= map_count) {
@@ -53,7 +61,7 @@ function report(    i, n, count, text, ways, lines, never, first, last) {
             }
             instructions++
             if (count > 0) instructions_run++
-            print source_row(count > 0 ? count : "never", ways, source_line[i])
+            put_text(source_row(count > 0 ? count : "never", ways, source_line[i]) "\n")
         }
         # Lines one below the other that were never run are told together.
         if (i <= map_count && count == 0) {
@@ -64,8 +72,8 @@ function report(    i, n, count, text, ways, lines, never, first, last) {
             first = 0
         }
     }
-    print ""
-    print summary()
+    put_text("\n" summary() "\n")
+    put_rest()
     if (never != "") print "never run: line" (never ~ /[, ]/ ? "s" : "") " " never
     only_one_way()
 }

@@ -1,6 +1,6 @@
 # Tells each refusal among the answers to a script. Needs refusals.awk, numbers.awk, inputs.awk and names.awk. The environment has
-# `script`, `answers`, `text_name`, `text_before` and `with_source` (see explain_script in tool.sh), `folder`, `mcs4` and `board_fault`, the
-# program that finds the part of a board.
+# `script`, `answers`, `text_name`, `shown`, `text_before` and `with_source` (see explain_script in tool.sh), `folder`, `mcs4` and
+# `board_fault`, the program that finds the part of a board.
 
 BEGIN {
     read_inputs(ENVIRON["script"])
@@ -13,6 +13,7 @@ BEGIN {
     if (ENVIRON["with_source"] == 1) take_known_map()
     name = ENVIRON["text_name"]
     before = ENVIRON["text_before"] + 0
+    if (ENVIRON["shown"] != "") while ((getline line < ENVIRON["shown"]) > 0) shown[++shown_count] = line
     refused = 0
     if (answer[1] ~ /^no /) {
         refused = 1
@@ -76,6 +77,7 @@ function tell(i, line,    words, count, from, to, where, n, at, meaning) {
     }
     meaning = refusal_words(words[2])
     if (words[2] == 14) meaning = meaning foreign_character(script_line[from])
+    if (words[2] == 30 && at) meaning = meaning other_spelling(script_line[from])
     if (name != "") {
         print name ": " (where == "" ? "" : where ": ") "no " words[2] ": " meaning
     } else if (where != "") {
@@ -84,7 +86,7 @@ function tell(i, line,    words, count, from, to, where, n, at, meaning) {
         print "line " input_line[i] ": no " words[2] ": " meaning
     }
     if (name == "" || where != "") {
-        for (n = from; n <= to; n++) print "    " substr(script_line[n], 1, 120)
+        for (n = from; n <= to; n++) print "    " substr(shown_count ? shown[n] : script_line[n], 1, 120)
         tell_place(i)
     }
 }
@@ -95,6 +97,15 @@ function line_that_fits(i, bytes,    n) {
         if (bytes ? script_line[n] ~ /[^\t -~]/ : length(script_line[n]) > 255) return n - text_from[i] + 1
     }
     return 0
+}
+
+# What helps with a line in the spelling of another assembler.
+function other_spelling(line,    words) {
+    sub(/;.*/, "", line)
+    split(line, words)
+    if (toupper(words[2]) ~ /^(EQU|SET)$/ && words[3] != "") return "; a name gets its number by =: " words[1] " = " words[3]
+    if (toupper(line) !~ /[ \t,][0-7]P([ \t,]|$)|[0-9]<|[ \t,][0-9][0-9A-F]*H([ \t,]|$)|[ \t,][$][0-9A-F]|^[A-Z_][A-Z0-9_]*,|[ \t]\/|[ \t](TZ|TN|CZ|CN|AZ|AN)[ \t,]/) return ""
+    return "; tools/import takes programs in Intel's and AS's spelling"
 }
 
 # The character for which a line is refused; one beyond ASCII is several bytes of UTF-8.

@@ -1,5 +1,6 @@
 # Reads an image as the numbers of its bytes, and prints the lines for the bench that put it into ROM: texts of `DB`, each as long as a
-# text can be. `form` is `hex` or `binary`; the environment has `image`, the name of the file, and `address`. Needs numbers.awk.
+# text can be. `form` is `hex`, `srec`, `bnpf` or `binary`; the environment has `image`, the name of the file, and `address`. Needs
+# numbers.awk.
 
 {
     for (i = 1; i <= NF; i++) {
@@ -10,9 +11,11 @@
 }
 
 END {
-    if (!failed && form == "hex") {
+    if (!failed && form != "binary") {
         if (record != "") end_of_line()
-        if (!failed && !ended) tell("it has no last record (:00000001FF), so a part of it is missing")
+        if (!failed && form == "bnpf" && word != "") tell_line("a word without its end, `F`: " word)
+        if (!failed && form == "hex" && !ended) tell("it has no last record (:00000001FF), so a part of it is missing")
+        if (!failed && form == "srec" && !ended) tell("it has no last record (S9), so a part of it is missing")
         if (!failed && count == 0) tell("it has no byte")
     }
     if (failed) exit 1
@@ -42,7 +45,7 @@ function character(code) {
     } else record = record sprintf("%c", code >= 32 && code < 127 ? code : code == 13 ? 13 : 127)
 }
 
-function digits(from) {
+function pair_at(from) {
     return hex_number(substr(record, from, 2))
 }
 
@@ -51,19 +54,21 @@ function end_of_line(    length_told, at, type, sum, i) {
     sub(/\r$/, "", record)
     gsub(/^[ \t]+|[ \t]+$/, "", record)
     if (record == "") return
+    if (form == "bnpf") return words_of_line()
+    if (form == "srec") return end_of_srecord()
     if (ended) return tell_line("a record after the last one (type 01)")
     record = toupper(record)
     if (substr(record, 1, 1) != ":") return tell_line("a record of Intel HEX begins with `:`" hint())
     if (record !~ /^:[0-9A-F]+$/) return tell_line("a character that is no hexadecimal digit" hint())
     if (length(record) < 11 || length(record) % 2 == 0) return tell_line("cut off: a record has `:`, ten digits and two for each byte" hint())
-    length_told = digits(2)
+    length_told = pair_at(2)
     if (length(record) != 11 + 2 * length_told) {
         return tell_line("it tells of " length_told " bytes and has " (length(record) - 11) / 2 hint())
     }
     sum = 0
-    for (i = 2; i < length(record) - 1; i += 2) sum += digits(i)
+    for (i = 2; i < length(record) - 1; i += 2) sum += pair_at(i)
     sum = (256 - sum % 256) % 256
-    if (sum != digits(length(record) - 1)) {
+    if (sum != pair_at(length(record) - 1)) {
         return tell_line(sprintf("the checksum is %s, and %02X would be right", substr(record, length(record) - 1), sum))
     }
     at = hex_number(substr(record, 4, 4)) + ENVIRON["address"]
@@ -78,7 +83,7 @@ function end_of_line(    length_told, at, type, sum, i) {
         if (at + length_told > 4096) return tell_line("past the last address, FFF")
         for (i = 0; i < length_told; i++) {
             if ((at + i) in byte) return tell_line(sprintf("the address %03X, which an earlier line has", at + i))
-            put(at + i, digits(10 + 2 * i))
+            put(at + i, pair_at(10 + 2 * i))
             count++
         }
     } else if (type == "01") {
@@ -86,10 +91,59 @@ function end_of_line(    length_told, at, type, sum, i) {
         ended = 1
     } else if (type == "02" || type == "04") {
         if (length_told != 2) return tell_line("a record of type " type " has two bytes")
-        if (digits(10) + digits(12) != 0) return tell_line("type " type " with another value than 0: an address past FFF")
+        if (pair_at(10) + pair_at(12) != 0) return tell_line("type " type " with another value than 0: an address past FFF")
     } else {
         return tell_line("type " type ", which has no meaning for a 4004; only 00, 01, 03, 05, and 02 and 04 with 0 are taken")
     }
+    record = ""
+}
+
+# A word of BNPF is `B`, eight of `P` (1) and `N` (0), the highest bit first, and `F`; what stands between words counts for nothing. It
+# may go over lines.
+function words_of_line(    i, c, k, value) {
+    for (i = 1; i <= length(record); i++) {
+        c = toupper(substr(record, i, 1))
+        if (word == "") {
+            # Letters of a remark, as `BNPF`, begin no word.
+            if (c == "B" && (i == 1 || substr(record, i - 1, 1) !~ /[A-EG-Za-eg-z]/) && \
+                toupper(substr(record, i + 1)) ~ /^[ \t]*([NP][ \t]*[NP][ \t]*[NP]|([NP][ \t]*)?([NP][ \t]*)?$)/) word = "B"
+        } else if (c ~ /[NP]/ && length(word) < 9) word = word c
+        else if (c == "F" && length(word) == 9) {
+            value = 0
+            for (k = 2; k <= 9; k++) value = 2 * value + (substr(word, k, 1) == "P")
+            if (ENVIRON["address"] + count > 4095) return tell_line("past the last address, FFF")
+            put(ENVIRON["address"] + count++, value)
+            word = ""
+        } else if (c !~ /[ \t]/) return tell_line("a word of BNPF is B, eight of P and N, and F, as BNNNPNPNNF; this is " word c)
+    }
+    record = ""
+}
+
+# A record of Motorola: its type, how many bytes follow, an address of two to four bytes, bytes, and a checksum.
+function end_of_srecord(    length_told, type, wide, at, sum, i) {
+    record = toupper(record)
+    if (ended) return tell_line("a record after the last one (S9)")
+    if (record !~ /^S[0-9][0-9A-F]+$/ || length(record) < 10 || length(record) % 2) return tell_line("no record of Motorola: `S`, a digit, and two digits for each byte")
+    length_told = pair_at(3)
+    if (length(record) != 4 + 2 * length_told) return tell_line("it tells of " length_told " bytes and has " (length(record) - 4) / 2)
+    sum = 0
+    for (i = 3; i < length(record) - 1; i += 2) sum += pair_at(i)
+    sum = 255 - sum % 256
+    if (sum != pair_at(length(record) - 1)) {
+        return tell_line(sprintf("the checksum is %s, and %02X would be right", substr(record, length(record) - 1), sum))
+    }
+    type = substr(record, 2, 1)
+    if (type ~ /[123]/) {
+        wide = type + 1
+        if (length_told < wide + 1) return tell_line("too short for its address")
+        at = hex_number(substr(record, 5, 2 * wide)) + ENVIRON["address"]
+        if (at + length_told - wide - 1 > 4096) return tell_line("past the last address, FFF")
+        for (i = 0; i < length_told - wide - 1; i++) {
+            if ((at + i) in byte) return tell_line(sprintf("the address %03X, which an earlier line has", at + i))
+            put(at + i, pair_at(5 + 2 * wide + 2 * i))
+            count++
+        }
+    } else if (type ~ /[789]/) ended = 1
     record = ""
 }
 

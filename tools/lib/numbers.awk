@@ -31,9 +31,8 @@ function is_listed(line) {
     return line ~ /^[0-9A-F][0-9A-F][0-9A-F] [0-9A-F][0-9A-F] ([0-9A-F][0-9A-F]|  ) /
 }
 
-# The bytes of a line of a listing, in hexadecimal digits, at their addresses.
-function take_listed(line, byte_at,    at) {
-    at = hex_number(substr(line, 1, 3))
+# The bytes of a line of a listing, which begins with an address, in hexadecimal digits, at their addresses.
+function take_listed(line, at, byte_at) {
     byte_at[at] = substr(line, 5, 2)
     if (substr(line, 8, 1) != " ") byte_at[at + 1] = substr(line, 8, 2)
 }

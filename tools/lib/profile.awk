@@ -11,6 +11,7 @@ function begin_account() {
 
 function end_account() {
     while (depth > 0) leave_routine(elapsed)
+    add_calls()
     key_is_over()
     total += elapsed
 }
@@ -27,19 +28,45 @@ function run_counted(n,    end, k) {
     }
 }
 
-function ask_run(n,    lines, links, are_told) {
-    send("regs\ncount " n "\ntrace " n " ret" (waiting == "" ? "" : "\ntrace " n " lamps"))
+function ask_run(n,    links) {
+    if (!lamps_known) know_lamps()
+    send("regs\ncount " n "\ntrace " n " ret" (waiting == "" ? "" : lamp_places))
     take_registers(receive())
     links = count_own()
-    lines = take_head("trace")
-    # A JMS or a BBL after which the return addresses are those of before is no line.
-    are_told = lines == links
-    follow_links(are_told ? lines : 0)
-    if (!are_told) while (lines-- > 0) receive_row()
-    if (waiting != "") follow_lamps(take_head("trace"))
-    if (are_told) return
-    send("trace " n)
-    follow_links(take_head("trace"))
+    keep_routines()
+    links -= follow_links(take_head("trace"))
+    if (other_cycle != "") {
+        send("trace " other_cycle + 1 " lamps")
+        follow_lamps(take_head("trace"))
+    }
+    # A JMS or a BBL after which the return addresses are those of before has no row.
+    if (links > 0) {
+        send("trace " n)
+        bring_back_routines()
+        follow_links(take_head("trace"))
+    }
+    add_calls()
+}
+
+# Places of which one changes wherever a lamp does: the lines of ports that lamps are at, and the clocks of chains, of a port with more
+# than two of them the port; all lamps where these are too many for a query.
+function know_lamps(    i, line, count, is_among, lines_at, is_place) {
+    lamps_known = 1
+    for (i = 0; i < lamp_count; i++) {
+        line = line_of_lamp[i]
+        if (line ~ /^chain/) line = chain_clock[substr(line, 6, 1)]
+        if (!(line in is_among)) lines_at[port_of(line)]++
+        is_among[line] = 1
+    }
+    for (line in is_among) is_place[lines_at[port_of(line)] > 2 ? port_of(line) : line] = 1
+    lamp_places = ""
+    count = 0
+    for (line in is_place) lamp_places = ++count > 15 ? " lamps" : lamp_places " " line
+}
+
+function port_of(line) {
+    sub(/\.[0-9]+$/, "", line)
+    return line
 }
 
 # Reads the answer to `count`: the cycles of each instruction; returns how often a JMS or a BBL is done. A cycle that is owed at the
@@ -56,10 +83,9 @@ function count_own(    lines, digits, times, cycles, sum, links) {
         cycles = cycles_at[digits] * times
         sum += cycles
         own_at[digits] += cycles
-        if (is_call_at[digits]) {
-            calls[target_of(address_of[digits], code[address_of[digits]])] += times
-            links += times
-        } else if (is_return_at[digits]) links += times
+        if (!(digits in link_at)) continue
+        links += times
+        if (link_at[digits] != "back") calls[link_at[digits]] += times
     }
     owes = sum - (ahead_ran - now["owed"])
     return links
@@ -77,28 +103,68 @@ function run_inside(n,    words) {
     run(1)
 }
 
-# Rows of a trace: from one routine into another, and back.
-function follow_links(lines,    blank, begun, digits) {
+# Rows of a trace, from one routine into another, and back; returns how many are those of a JMS or a BBL. `other_cycle` is the last other
+# one's. (In one loop, since this is most of the work.)
+function follow_links(lines,    digits, links, other) {
+    links = 0
+    other = ""
     while (lines-- > 0) {
         receive_row()
-        blank = index(reply, " ")
-        begun = elapsed + substr(reply, 1, blank - 1)
-        digits = substr(reply, blank + 1, 3)
-        if (is_call_at[digits]) {
+        digits = substr(reply, index(reply, " ") + 1, 3)
+        if (!(digits in link_at)) {
+            other = reply
+            continue
+        }
+        links++
+        # (the number that the row begins with)
+        if (link_at[digits] != "back") {
             if (depth == 3) forget_oldest()
-            routine[++depth] = target_of(address_of[digits], code[address_of[digits]])
-            entered[depth] = begun + 2
-        } else if (is_return_at[digits] && depth > 0) leave_routine(begun + 1)
+            routine[++depth] = link_at[digits]
+            entered[depth] = elapsed + reply + 2
+        } else if (depth > 0) leave_routine(elapsed + reply + 1)
+    }
+    other_cycle = other == "" ? "" : other + 0
+    return links
+}
+
+# The routines that a run begins within, which are brought back where its rows have to be read once more.
+function keep_routines(    i) {
+    kept_depth = depth
+    for (i = 1; i <= depth; i++) {
+        kept_routine[i] = routine[i]
+        kept_entered[i] = entered[i]
     }
 }
 
-# Rows of a trace of the lamps; what writes a port takes one cycle.
+function bring_back_routines(    i) {
+    depth = kept_depth
+    for (i = 1; i <= depth; i++) {
+        routine[i] = kept_routine[i]
+        entered[i] = kept_entered[i]
+    }
+    split("", spent)
+    split("", longest)
+}
+
+# What the calls that a run came back from have taken.
+function add_calls(    at) {
+    for (at in spent) {
+        with_calls[at] += spent[at]
+        if (longest[at] > longest_call[at]) longest_call[at] = longest[at]
+    }
+    split("", spent)
+    split("", longest)
+}
+
+# Rows of a trace of the lamps: the first and the last one count. What writes a port takes one cycle.
 function follow_lamps(lines) {
+    if (lines == 0) return
     while (lines-- > 0) {
         receive_row()
-        last_change = elapsed + substr(reply, 1, index(reply, " ") - 1) + 1
-        if (!first_change) first_change = last_change
+        # (the number that the row begins with)
+        if (!first_change) first_change = elapsed + reply + 1
     }
+    last_change = elapsed + reply + 1
 }
 
 # A routine that is called within itself counts once. One that a session ends before is not entered.
@@ -107,8 +173,9 @@ function leave_routine(time,    i, at) {
     if (time < entered[depth]) time = entered[depth]
     for (i = 1; i < depth; i++) if (routine[i] == at) break
     if (i == depth) {
-        with_calls[at] += time - entered[depth]
-        if (time - entered[depth] > longest_call[at]) longest_call[at] = time - entered[depth]
+        time -= entered[depth]
+        spent[at] += time
+        if (time > longest[at]) longest[at] = time
     }
     depth--
 }
@@ -145,10 +212,10 @@ function milliseconds(cycles) {
     return sprintf("%.1f ms", cycles * 0.0108)
 }
 
-function print_profile(    i, n, at, order, j, label, key, digits) {
+function print_profile(    i, n, at, order, j, label, digits) {
     for (digits in own_at) if (digits != "") own[label_below(address_of[digits])] += own_at[digits]
-    printf "%d cycles, %s\n\n", total, milliseconds(total)
-    printf "%-17s %-4s %10s %6s %9s %10s %10s\n", "label", "at", "own", "own %", "calls", "with calls", "longest"
+    put_text(sprintf("%d cycles, %s\n\n", total, milliseconds(total)))
+    put_text(sprintf("%-17s %-4s %10s %6s %9s %10s %10s\n", "label", "at", "own", "own %", "calls", "with calls", "longest"))
     n = 0
     for (i = 0; i <= label_count; i++) {
         at = i ? label_place[i] : -1
@@ -161,17 +228,21 @@ function print_profile(    i, n, at, order, j, label, key, digits) {
     for (i = 1; i <= n; i++) {
         label = order[i]
         at = label == "" ? -1 : name_value[label]
-        printf "%-17s %-4s %10d %6.1f", label == "" ? "(no label)" : label, at < 0 ? "" : sprintf("%03X", at), own[label], 100 * own[label] / total
-        if (calls[at] > 0) printf " %9d %10d %10d", calls[at], with_calls[at], longest_call[at]
-        print ""
+        put_text(sprintf("%-17s %-4s %10d %6.1f", (label == "" ? "(no label)" : label), (at < 0 ? "" : sprintf("%03X", at)), own[label], 100 * own[label] / total))
+        if (calls[at] > 0) put_text(sprintf(" %9d %10d %10d", calls[at], with_calls[at], longest_call[at]))
+        put_text("\n")
     }
-    if (own_at[""] > 0) printf "%-22s %10d %6.1f\n", "(begun before)", own_at[""], 100 * own_at[""] / total
-    if (pressed_count == 0) return
-    printf "\n%-17s %9s %9s %24s %24s\n", "key", "presses", "answered", "longest to a lamp", "to the last lamp"
+    if (own_at[""] > 0) put_text(sprintf("%-22s %10d %6.1f\n", "(begun before)", own_at[""], 100 * own_at[""] / total))
+    if (pressed_count > 0) print_keys()
+    put_rest()
+}
+
+function print_keys(    i, key) {
+    put_text(sprintf("\n%-17s %9s %9s %24s %24s\n", "key", "presses", "answered", "longest to a lamp", "to the last lamp"))
     for (i = 1; i <= pressed_count; i++) {
         key = pressed_key[i]
-        printf "%-17s %9d %9d", key, presses[key], answered[key]
-        if (answered[key] > 0) printf " %10d, %12s %10d, %12s", longest_first[key], milliseconds(longest_first[key]), longest_last[key], milliseconds(longest_last[key])
-        print ""
+        put_text(sprintf("%-17s %9d %9d", key, presses[key], answered[key]))
+        if (answered[key] > 0) put_text(sprintf(" %10d, %12s %10d, %12s", longest_first[key], milliseconds(longest_first[key]), longest_last[key], milliseconds(longest_last[key])))
+        put_text("\n")
     }
 }

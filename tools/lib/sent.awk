@@ -1,6 +1,7 @@
-# The text of a board (`word` is `wire`) or of a program (`asm`) as it is sent to the bench: what is no printing character of ASCII is a
-# blank in comments, as in what the page sends (page/src/text/text_fault.js), and stays elsewhere, where the bench refuses it. The
-# last line has an end.
+# The text of a board (`word` is `wire`) or of a program (`asm`, `map`) as it is sent to the bench: line for line, without comments and
+# indentation, as the page sends it (page/src/text/text_fault.js). Blanks may belong to a string of TOML that goes over several lines; such
+# a text, and each one where `whole` is 1, keeps them and its comments, in which a blank stands for what is no printing character of ASCII.
+# Such a character elsewhere stays, and the bench refuses it. The last line has an end.
 
 # Where the comment of a line begins, or 0. In a board's text the mark may stand in a string.
 function comment_at(line,    mark, rest) {
@@ -18,8 +19,25 @@ function blanked(comment) {
     return comment
 }
 
+function aligned(line,    at) {
+    at = line ~ /[^\t -~]/ ? comment_at(line) : 0
+    return at ? substr(line, 1, at - 1) blanked(substr(line, at)) : line
+}
+
+# What is left of a line is never a dot alone, which would end the text.
+function bare(line,    at, left) {
+    at = comment_at(line)
+    left = at ? substr(line, 1, at - 1) : line
+    gsub(/^[ \t]+|[ \t]+$/, "", left)
+    return left == "." && line != "." ? " ." : left
+}
+
 {
-    end = sub(/\r$/, "") ? "\r" : ""
-    at = $0 ~ /[^\t -~]/ ? comment_at($0) : 0
-    print (at ? substr($0, 1, at - 1) blanked(substr($0, at)) : $0) end
+    sub(/\r$/, "")
+    line[NR] = $0
+    if (word == "wire" && /"""|'''/) whole = 1
+}
+
+END {
+    for (n = 1; n <= NR; n++) print whole ? aligned(line[n]) : bare(line[n])
 }

@@ -1,13 +1,15 @@
 # Reads a project whose lines are plain, and writes what is in it into the folder: `board.toml`, `program.asm`, `name`, the bytes of the
-# session as `bytes` (`\ooo` each), and for a text whose last line has no end `unended.board.toml` or `unended.program.asm`. What is
-# wrong is printed, and the status is 1. The environment has `folder`, `size`, how many bytes a session has, and `sum`, the checksum of
-# the lines from the third one on.
+# session as `bytes` (`\ooo` each), `program.test` and `program.props` where it has tests and properties, `breakpoints` where it has some, and
+# for a text whose last line has no end `unended.` with the name of its file. What is wrong is printed, and the status is 1. The environment has `folder`, `size`, how
+# many bytes a session has, and `sum`, the checksum of the lines from the third one on. Comes after breakpoint_line.awk.
 
 BEGIN {
     folder = ENVIRON["folder"] "/"
     size = ENVIRON["size"]
     text["wire"] = "board.toml"
     text["asm"] = "program.asm"
+    text["test"] = "program.test"
+    text["properties"] = "program.props"
     part = "head"
     for (i = 0; i < 256; i++) octal[sprintf("%02x", i)] = sprintf("\\%03o", i)
     for (i = 0; i < 16; i++) number[sprintf("%x", i)] = i
@@ -32,11 +34,12 @@ fault { next }
 part == "head" {
     if ($0 == "wire") begin_text("wire")
     else if (/^name /) name = substr($0, 6)
-    else if ($0 == "unended wire" || $0 == "unended asm") is_unended[$2] = 1
-    else if (!/^#/) wrong("has to be one of the head: `name`, `unended`, `#`, or `wire`, which begins the board's text")
+    else if ($0 ~ /^unended (wire|asm|test|properties)$/) is_unended[$2] = 1
+    else if (is_breakpoint($0)) print > (folder "breakpoints")
+    else if (!/^#/) wrong("has to be one of the head: `name`, `unended`, `break`, `#`, or `wire`, which begins the board's text")
     next
 }
-part == "wire" || part == "asm" {
+part in text {
     if ($0 == ".") part = part == "wire" ? "before asm" : "before session"
     else print (/^\.\.+$/ ? substr($0, 2) : $0) > (folder text[part])
     next
@@ -48,6 +51,8 @@ part == "before asm" {
 }
 part == "before session" {
     if ($0 == "session " size) part = "session"
+    else if ($0 == "test" && !had["test"]++ && !had["properties"]) begin_text("test")
+    else if ($0 == "properties" && !had["properties"]++) begin_text("properties")
     else wrong("has to be `session " size "`")
     next
 }

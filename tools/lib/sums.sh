@@ -1,5 +1,5 @@
-# Checksums of the sources that the program and the page are made from, and which program is started. A script reads it by `.`, after it
-# has set `top`, the folder of the repository. It needs sha256sum (Debian's package coreutils).
+# Checksums of the sources that the program and the page are made from. A script reads it by `.`, after it has set `top`, the folder of
+# the repository. It needs sha256sum (Debian's package coreutils).
 # shellcheck shell=sh disable=SC2034
 
 if ! command -v sha256sum > /dev/null; then
@@ -7,13 +7,7 @@ if ! command -v sha256sum > /dev/null; then
     exit 1
 fi
 
-# The program that was proved and built here, and a line with the checksums of its sources and its bytes.
-built=$top/crates/mcs4/out/mcs4
-built_from=$top/crates/mcs4/out/mcs4.from
-# The program that is shipped, its checksums, and a file that is there once ./mcs4 has told of it.
-shipped=$top/shipped/mcs4
-sums=$top/shipped/SUMS
-told=$top/crates/mcs4/out/shipped.told
+. "$top/tools/lib/start.sh"
 # The page, and what else in its folder is no source of it.
 page=$top/page/fethsaim.html
 page_made='page/(fethsaim\.(html|png)|test/.*|check|package\.json|tsconfig\.json|\.eslintrc\.json)'
@@ -53,23 +47,59 @@ sums_of_files() {
     LC_ALL=C sort | (cd "$top" && xargs sha256sum)
 }
 
+# The names of code, definitions and proofs (files, `f`, or folders, `d`) of the crates whose lines these are.
+names_of_crates() {
+    (cd "$top" && find crates -name out -prune -o -type "$2" -print) | lines=$1 awk -F / '
+        BEGIN {
+            count = split(ENVIRON["lines"], lines, "\n")
+            for (i = 1; i <= count; i++) {
+                split(lines[i], head, /[ :]/)
+                taken[head[1]] = 1
+            }
+        }
+        $2 in taken && $3 ~ /^(src|specs|proofs)$/
+    '
+}
+
+# What makes the program for aarch64 of the crate mcs4.
+made_for_aarch64='tools/aarch64 tools/lib/aarch64.c'
+
 # The checksum of what a crate is made from: its line of crates.txt and those of the crates below, and their code, definitions and
 # proofs. Tests and must-fail edits are no part of it.
 sum_of_crate() {
     lines=$(lines_of "$1")
     {
         echo "$lines"
-        (cd "$top" && find crates -name out -prune -o -type f -print) | lines=$lines awk -F / '
-            BEGIN {
-                count = split(ENVIRON["lines"], lines, "\n")
-                for (i = 1; i <= count; i++) {
-                    split(lines[i], head, /[ :]/)
-                    taken[head[1]] = 1
-                }
-            }
-            $2 in taken && $3 ~ /^(src|specs|proofs)$/
-        ' | sums_of_files
+        names_of_crates "$lines" f | sums_of_files
     } | sum_of_input
+}
+
+# The checksum of what the program for aarch64 is made from, over sources of the crate mcs4 of this checksum.
+sum_of_aarch64() {
+    {
+        echo "$1"
+        # shellcheck disable=SC2086
+        printf '%s\n' $made_for_aarch64 | sums_of_files
+    } | sum_of_input
+}
+
+# The packages of Debian that make it, with their versions, as one word.
+packages_for_aarch64() {
+    dpkg-query -W -f '${Package}=${Version},' libc6-dev-arm64-cross 'gcc-[0-9]*-aarch64-linux-gnu' binutils-aarch64-linux-gnu 2> /dev/null || echo unknown
+}
+
+# All that is looked at before a program is started, by names with a zero byte behind each: what is compared, and the folders in which
+# something may come to stand beside it.
+names_of_start() {
+    lines=$(lines_of mcs4)
+    {
+        # shellcheck disable=SC2086
+        printf '%s\n' crates.txt "${built#"$top/"}" "${built_from#"$top/"}" "${shipped#"$top/"}" "${static#"$top/"}" "${aarch64#"$top/"}" "${sums#"$top/"}" \
+            tools/lib/sums.sh tools/lib/start.sh $made_for_aarch64 /lib64/ld-linux-x86-64.so.2
+        echo "$lines" | sed 's|[ :].*||; s|^|crates/|'
+        names_of_crates "$lines" d
+        names_of_crates "$lines" f
+    } | tr '\n' '\000'
 }
 
 # The word after a name in shipped/SUMS.
@@ -79,7 +109,8 @@ shipped_sum() {
 
 # Takes note of the program that was just built from sources of this checksum.
 note_built() {
-    echo "$1 $(sum_of_input < "$built")" > "$built_from"
+    echo "$1 $(sum_of_input < "$built")" > "$built_from.new"
+    mv "$built_from.new" "$built_from"
 }
 
 # There is a program here that was built from sources of this checksum.
@@ -87,21 +118,19 @@ is_built() {
     [ -x "$built" ] && [ -f "$built_from" ] && [ "$(cat "$built_from")" = "$1 $(sum_of_input < "$built")" ]
 }
 
-# Why the shipped program is not to be started on this system over sources of this checksum; nothing where it is.
+# Why a shipped program is not to be started on this system over sources of this checksum; nothing where it is. Its file, its name in
+# shipped/SUMS, and the machine that it is for, as `uname -m` names it.
 fault_of_shipped() {
-    if [ "$(uname -s) $(uname -m)" != "Linux x86_64" ]; then
-        echo "it is for Linux on x86-64, and this is $(uname -s) on $(uname -m)"
-    elif [ ! -f "$shipped" ] || [ ! -f "$sums" ]; then
+    if [ "$(uname -s) $(uname -m)" != "Linux $4" ]; then
+        echo "it is for Linux on $(echo "$4" | tr _ -), and this is $(uname -s) on $(uname -m)"
+    elif [ ! -f "$2" ] || [ ! -f "$sums" ]; then
         echo "it is not there"
-    elif [ "$(shipped_sum sources)" != "$1" ]; then
+    elif [ "$(shipped_sum "$(echo "$3-sources" | sed 's/^program-//')")" != "$1" ]; then
         echo "it was built from other sources than these"
-    elif [ "$(sum_of_input < "$shipped")" != "$(shipped_sum program)" ]; then
+    elif [ "$(sum_of_input < "$2")" != "$(shipped_sum "$3")" ]; then
         echo "it is damaged, since its checksum is not the one in shipped/SUMS"
-    else
-        # Without words it tells its usage, with status 2.
-        status=0
-        said=$({ "$shipped" < /dev/null; } 2>&1) || status=$?
-        if [ "$status" -ne 2 ]; then echo "it does not run on this system ($(echo "$said" | tail -n 1))"; fi
+    elif ! runs_here "$2"; then
+        echo "it does not run on this system ($(echo "$said" | tail -n 1))"
     fi
 }
 

@@ -1,22 +1,24 @@
 # Reads texts of tests. Needs numbers.awk, face.awk, board.awk and names.awk, which have read the board and the map of the program.
 #
-# read_tests(file) adds to: test_name[t], t from 1 to test_count, with its file, test_file[t]; from_state[t], the state that it begins
-# with, if any; its steps, first_step[t] to last_step[t]; of a step, step_kind, step_line (its number), step_text, and what it needs.
+# read_tests(file, name), of a file that is told by this name, adds to: test_name[t], t from 1 to test_count, with its file's name,
+# test_file[t]; from_state[t], the state that it begins with, if any (of its own file: state_word tells its name); its steps, first_step[t] to last_step[t]; of a step, step_kind, step_line (its number), step_text, and what it needs.
 # Conditions have numbers: condition_kind[c] and so on. test_faults tells what is wrong, a line each.
 
 function test_fault(what) {
     if (++fault_count <= 20) test_faults = test_faults reading ":" reading_line ": " what "\n"
 }
 
-function read_tests(file,    line, words, count, any) {
-    reading = file
+function read_tests(file, name,    line, words, count, any) {
+    reading = name
+    reading_count++
     reading_line = 0
     any = 0
     while ((getline line < file) > 0) {
         if (++reading_line == 1) sub(/^\357\273\277/, "", line)
         sub(/\r$/, "", line)
         gsub(/^[ \t]+|[ \t]+$/, "", line)
-        if (line == "" || line ~ /^[#;]/) continue
+        line = without_comment(line)
+        if (line == "") continue
         if (line ~ /[^\t -~]/) {
             test_fault("a byte that is neither a tab nor a printing character of ASCII")
             continue
@@ -24,7 +26,7 @@ function read_tests(file,    line, words, count, any) {
         count = split(line, words, /[ \t]+/)
         if (words[1] == "test") {
             any = 1
-            begin_test(file, line)
+            begin_test(name, line)
         } else if (!any) {
             test_fault("a text of tests begins with `test NAME`, and this is: " substr(line, 1, 60))
             break
@@ -35,6 +37,20 @@ function read_tests(file,    line, words, count, any) {
         reading_line = 1
         test_fault("there is no line `test NAME`")
     }
+}
+
+# A line without its comment: from a mark with a blank on both sides on, but in a name, and where a key has the mark as its name.
+function without_comment(line,    from, mark) {
+    if (line ~ /^[#;]/) return ""
+    if (line ~ /^test[ \t]/) return line
+    for (from = 1; match(substr(line, from), /[ \t][#;]([ \t]|$)/); from += RSTART) {
+        mark = substr(line, from + RSTART, 1)
+        if (line ~ /^(press|release|keys)[ \t]/ && has_key(mark)) continue
+        line = substr(line, 1, from + RSTART - 2)
+        sub(/[ \t]+$/, "", line)
+        return line
+    }
+    return line
 }
 
 function begin_test(file, line) {
@@ -48,7 +64,7 @@ function begin_test(file, line) {
     last_step[test_count] = step_count
 }
 
-function read_step(words, count, line,    kind, i) {
+function read_step(words, count, line,    kind, i, name) {
     kind = words[1]
     i = ++step_count
     step_kind[i] = kind
@@ -57,15 +73,15 @@ function read_step(words, count, line,    kind, i) {
     last_step[test_count] = i
     if (kind == "from" || kind == "save") {
         if (count != 2) return test_fault("it is written as `" kind " STATE`, a word")
-        step_name[i] = words[2]
+        name = step_name[i] = reading_count ":" words[2]
         if (kind == "save") {
-            if (words[2] in saved_by) return test_fault("the state " words[2] " is saved by the test before, `" test_name[saved_by[words[2]]] "`")
-            saved_by[words[2]] = test_count
+            if (name in saved_by) return test_fault("the state " words[2] " is saved by the test before, `" test_name[saved_by[name]] "`")
+            saved_by[name] = test_count
         } else {
             if (i != first_step[test_count]) return test_fault("`from` stands right below `test`")
-            if (!(words[2] in saved_by)) return test_fault("no test before it saves a state " words[2] states())
-            if (saved_by[words[2]] == test_count) return test_fault("a test cannot begin with a state of its own")
-            from_state[test_count] = words[2]
+            if (!(name in saved_by)) return test_fault("no test before it saves a state " words[2] states())
+            if (saved_by[name] == test_count) return test_fault("a test cannot begin with a state of its own")
+            from_state[test_count] = name
         }
     } else if (kind == "press" || kind == "release") {
         if (count < 2) return test_fault("it is written as `" kind " KEY ..`")
@@ -91,8 +107,14 @@ function read_step(words, count, line,    kind, i) {
 
 function states(    name, text) {
     text = ""
-    for (name in saved_by) text = text " " name
+    for (name in saved_by) if (index(name, reading_count ":") == 1) text = text " " state_word(name)
     return text == "" ? "" : "; there is:" text
+}
+
+# The name of a state: without the number of its file.
+function state_word(name) {
+    sub(/^[0-9]+:/, "", name)
+    return name
 }
 
 function read_until(i, words, count,    k, within) {
@@ -121,16 +143,16 @@ function time_of(words, from, count,    word, unit, joined) {
     word = words[from]
     unit = from < count ? words[from + 1] : ""
     # `20ms` is `20 ms`.
-    joined = word ~ /^[0-9.]+(ms|s)$/
+    joined = word ~ /^[0-9.]+(us|ms|s)$/
     if (joined) {
         unit = word
         sub(/^[0-9.]+/, "", unit)
         sub(/[a-z]+$/, "", word)
     }
     if (word !~ /^[0-9]+(\.[0-9]+)?$/ || length(word) > 12) time_words = 0
-    else if (unit == "ms" || unit == "s") {
+    else if (unit == "us" || unit == "ms" || unit == "s") {
         time_words = joined ? 1 : 2
-        word = int(word * (unit == "s" ? 1000 : 1) / 0.0108 + 0.5)
+        word = int(word * (unit == "s" ? 1000 : unit == "us" ? 0.001 : 1) / 0.0108 + 0.5)
     } else {
         if (unit == "cycles" || unit == "cycle") time_words = 2
         if (word ~ /\./) time_words = 0
@@ -285,7 +307,8 @@ function lamp_at(name,    n, text) {
     return 1
 }
 
-# `lamps` with a pattern, of `*`, `.` and `?` for any, or with the names of all lamps that are lit.
+# `lamps` with a pattern, of `*`, `.` and `?` for any, or with the names of all lamps that are lit; those of a display that have no name do
+# not matter then.
 function lamps_condition(c, words, from, to,    i, pattern, n) {
     condition_class[c] = "lamps"
     condition_kind[c] = "lamps"
@@ -294,7 +317,7 @@ function lamps_condition(c, words, from, to,    i, pattern, n) {
     for (i = from; i <= to; i++) pattern = pattern words[i]
     if (pattern !~ /^[*.?]+$/) {
         pattern = ""
-        for (n = 0; n < lamp_count; n++) pattern = pattern "."
+        for (n = 0; n < lamp_count; n++) pattern = pattern (is_of_display(n) ? "?" : ".")
         if (!(to == from && words[from] == "none")) {
             for (i = from; i <= to; i++) {
                 if (!lamp_at(words[i])) return 0
@@ -305,6 +328,11 @@ function lamps_condition(c, words, from, to,    i, pattern, n) {
     if (length(pattern) != lamp_count) return bad_condition("a pattern of " length(pattern) " lamps; the board has " lamp_count)
     condition_want[c] = pattern
     return c
+}
+
+function is_of_display(n,    d) {
+    for (d = 1; d <= display_count; d++) if (n >= display_first[d] && n < display_end(d) && !(n in lamp_name)) return 1
+    return 0
 }
 
 function cycles_condition(c, words, from, to,    cycles) {

@@ -1,6 +1,6 @@
 # Runs tests. Needs numbers.awk, face.awk, board.awk, names.awk, known.awk, bench.awk, code.awk, ahead.awk, trace.awk, test_text.awk, and
-# account.awk or what takes its place. The environment has the names of the texts, one a line (`tests`). The session with board and
-# program is `base.mcs` in the folder; each test has a copy of it, or of the state that it is from.
+# account.awk or what takes its place. The environment has the files of the texts, one a line (`tests`), and their names (`tests_named`).
+# The session with board and program is `base.mcs` in the folder; each test has a copy of it, or of the state that it is from.
 
 # How long a key is down (43 ms) and up (173 ms) by `keys`, in cycles of 10.8 microseconds, as in tools/keys.
 BEGIN {
@@ -11,11 +11,12 @@ BEGIN {
 }
 
 # Reads the texts; ends with their faults, if there are any.
-function read_all_tests(    files, count, i) {
+function read_all_tests(    files, names, count, i) {
     read_known()
     if (face_faults != "") end_with(prefixed(face_faults, ENVIRON["board_name"] ": "))
     count = split(ENVIRON["tests"], files, "\n")
-    for (i = 1; i <= count; i++) if (files[i] != "") read_tests(files[i])
+    split(ENVIRON["tests_named"], names, "\n")
+    for (i = 1; i <= count; i++) if (files[i] != "") read_tests(files[i], names[i])
     if (fault_count > 20) test_faults = test_faults "and " fault_count - 20 " more\n"
     if (test_faults != "") end_with(test_faults)
 }
@@ -48,7 +49,7 @@ function run_all_tests(    t, failed) {
 function run_test(t,    file, i, wrong) {
     wrong = ""
     if (from_state[t] != "" && !(from_state[t] in made_state)) {
-        wrong = "the state " from_state[t] " is not there, since the test `" test_name[saved_by[from_state[t]]] "` did not come to save it"
+        wrong = "the state " state_word(from_state[t]) " is not there, since the test `" test_name[saved_by[from_state[t]]] "` did not come to save it"
         tell_failure(t, first_step[t], wrong)
         return 0
     }

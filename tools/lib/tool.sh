@@ -1,11 +1,20 @@
-# What the tools of the workbench share; a tool reads it by `.`, after it has set `tool` (its name) and `usage` (its words).
+# What the tools of the workbench share; a tool reads it by `.`, after it has set `tool` (its name), `usage` (its words) and `self`, its own
+# place, where no link leads further.
 # shellcheck shell=sh
 
-tools=$(CDPATH= cd -- "$(dirname -- "$0")" && pwd -P)
+self=${self:-$(readlink -f -- "$0")}
+tools=${self%/*}
 lib=$tools/lib
-mcs4=${MCS4:-$(dirname -- "$tools")/mcs4}
+# The program: need_bench finds it, where MCS4 does not name it.
+mcs4=${MCS4:-}
 LC_ALL=C
 export LC_ALL lib mcs4
+
+# Its use, from its head, where that is all that is asked for.
+if [ $# -eq 1 ] && [ "$1" = --help ]; then
+    awk -v by="${called_as_mcs4:+mcs4}" -v commands="$lib/commands.txt" -f "$lib/help.awk" < "$self"
+    exit 0
+fi
 
 # The longest text that the bench takes, and the longest input of a session.
 longest_text=16384
@@ -19,8 +28,19 @@ fail() {
 
 refuse_words() {
     usage_told=1
-    echo "usage: $usage" >&2
+    if [ -n "${called_as_mcs4:-}" ]; then
+        echo "usage: $usage" | sed "s/^usage: /&mcs4 /; s/, $tool /, mcs4 $tool /g" >&2
+    else
+        echo "usage: $usage" >&2
+    fi
     exit 2
+}
+
+# What a tool in JavaScript runs by.
+need_node() {
+    if ! command -v node > /dev/null; then fail "it needs node, 18 or later, which is not found; on Debian: apt-get install nodejs"; fi
+    node_version=$(node --version 2> /dev/null | sed -n 's/^v\([0-9]*\)\..*/\1/p')
+    if [ "${node_version:-0}" -lt 18 ]; then fail "it needs node 18 or later, and this is $(node --version 2> /dev/null || echo none)"; fi
 }
 
 # Makes a temporary folder, in memory where the host has a place for it, that is removed when the tool ends.
@@ -35,7 +55,16 @@ make_folder() {
     folder=$(mktemp -d "$place/$tool.XXXXXX") || fail "cannot make a folder in $place; TMPDIR names another place for temporary files"
     # A second signal must not end the removing.
     trap 'status=$?; trap "" HUP INT TERM; end_folder' EXIT
-    trap 'trap "" HUP INT TERM; exit 1' HUP INT TERM
+    trap 'end_by_signal 129' HUP
+    trap 'end_by_signal 130' INT
+    trap 'end_by_signal 143' TERM
+}
+
+# Ends as shells tell of one that a signal has ended.
+end_by_signal() {
+    trap "" HUP INT TERM
+    usage_told=1
+    exit "$1"
 }
 
 # Whether there is no room for a session among the temporary files.
@@ -60,15 +89,44 @@ end_folder() {
 need_file() {
     if [ -d "$1" ]; then fail "$1 is a folder, not a file"; fi
     if [ ! -f "$1" ] || [ ! -r "$1" ]; then fail "cannot read $1"; fi
+    need_size "$1" "$@"
+}
+
+need_size() {
     size=$(($(wc -c < "$1")))
-    if [ "$size" -eq 0 ]; then fail "$1 is empty"; fi
-    if [ "$size" -gt "$2" ]; then fail "$1 has $size bytes, more than $3 can have ($2)"; fi
+    if [ "$size" -eq 0 ]; then fail "$2 is empty"; fi
+    if [ "$size" -gt "$3" ]; then fail "$2 has $size bytes, more than $4 can have ($3)"; fi
+}
+
+# The same of what can be read once alone: a pipe, or `-`, standard input. It is read into the folder; `file` is what there is to read.
+take_file() {
+    file=$1
+    if [ "$1" = - ] && [ -n "${standard_input:-}" ]; then
+        file=$standard_input
+    elif [ "$1" = - ] || [ -p "$1" ] || [ -c "$1" ]; then
+        taken=$((${taken:-0} + 1))
+        file=$folder/taken.$taken
+        if [ "$1" = - ]; then
+            standard_input=$file
+            head -c "$(($2 + 1))" > "$file"
+        else
+            head -c "$(($2 + 1))" < "$1" > "$file" || fail "cannot read $1"
+        fi
+    else
+        need_file "$@"
+        return
+    fi
+    need_size "$file" "$@"
 }
 
 # A file that a tool will write: it is not there, or is empty, or begins as such a file does (a text, and what is told where it does not).
 # A pipe or a device is written as it is.
 need_own_file() {
     if [ -d "$1" ]; then fail "$1 is a folder, not a file"; fi
+    if [ -e "$1" ] && [ ! -f "$1" ]; then
+        if [ ! -w "$1" ]; then fail "cannot write $1"; fi
+        return
+    fi
     if [ ! -d "$(dirname -- "$1")" ] || [ ! -w "$(dirname -- "$1")" ]; then fail "cannot write $1: its folder is not there, or cannot be written"; fi
     if [ ! -f "$1" ] || [ ! -s "$1" ]; then return; fi
     if [ "$(head -c "${#2}" < "$1" | tr -d '\000')" != "$2" ]; then
@@ -108,11 +166,11 @@ unmarked() {
 # The text of a board (`wire`) or of a program (`asm`), from a file that is one, or from a script of lines that has such a text: its
 # first one. It stands in a file of the folder then; `lines_before` is how many lines of the file stand before it.
 take_text() {
-    need_file "$2" "$longest_script" "the text of a board or a program"
-    unmarked "$2" > "$folder/unmarked"
+    take_file "$2" "$longest_script" "the text of a board or a program"
+    unmarked "$file" > "$folder/unmarked"
     lines_before=$(awk -v word="$1" '{ sub(/\r$/, ""); sub(/[ \t]+$/, "") } $0 == word { print NR; found = 1; exit } END { if (!found) print 0 }' < "$folder/unmarked")
     if [ "$lines_before" -eq 0 ]; then
-        need_file "$2" 1048576 "the text of a board or a program"
+        need_size "$file" "$2" 1048576 "the text of a board or a program"
         if ! awk '{ sub(/\r$/, "") } $0 == "." { found = 1 } END { exit found }' < "$folder/unmarked"; then
             fail "$2 has a line '.', which would end its text"
         fi
@@ -129,10 +187,26 @@ send_text() {
     echo .
 }
 
+# The same lines as they stand in the file: what is told of a fault.
+show_text() {
+    echo "$1"
+    awk '{ sub(/\r$/, ""); print }' < "$folder/$2"
+    echo .
+}
+
+# What the bench takes of a text, which a file has (its name).
+need_length() {
+    size=$(($(awk -v word="$1" -f "$lib/sent.awk" < "$folder/$2" | wc -c)))
+    if [ "$size" -gt "$longest_text" ]; then
+        fail "$3: no 13: $(refusal 13); without its comments and indentation it has $size"
+    fi
+}
+
 # The text of a board, in `board_text`, and that of a program, in `program_text`; the parts in awk find their names in the environment.
 take_board_text() {
     board_name=$1
     take_text wire "$1" board_text
+    need_length wire board_text "$1"
     board_before=$lines_before
     export board_name board_before
 }
@@ -140,28 +214,36 @@ take_board_text() {
 take_program_text() {
     program_name=$1
     take_text asm "$1" program_text
+    need_length asm program_text "$1"
     program_before=$lines_before
     export program_name program_before
 }
 
 # The program is there, and built: where it has to be built first, its words tell how far it is, before anything is asked of it.
 need_bench() {
+    if [ -n "${bench_found:-}" ]; then return; fi
+    bench_found=1
+    if [ -z "$mcs4" ]; then
+        top=${tools%/*}
+        . "$lib/start.sh"
+        need_program
+        mcs4=$program
+        return
+    fi
     : > "$folder/version"
-    "$mcs4" --version < /dev/null > "$folder/version" 2>&1 &
-    child=$!
-    told=0
-    while kill -0 "$child" 2> /dev/null; do
-        sleep 0.02 2> /dev/null || sleep 1
-        lines=$(($(wc -l < "$folder/version")))
-        if [ "$lines" -gt "$told" ]; then
-            sed -n "$((told + 1)),$lines{/^mcs4: .*built/p;}" "$folder/version" >&2
-            told=$lines
-        fi
+    {
+        status=0
+        "$mcs4" --version < /dev/null 2>&1 || status=$?
+        echo "status $status"
+    } | while IFS= read -r line; do
+        case $line in
+        mcs4:*built*) echo "$line" >&2 ;;
+        *) echo "$line" >> "$folder/version" ;;
+        esac
     done
-    status=0
-    wait "$child" || status=$?
+    status=$(sed -n '$s/^status //p' "$folder/version")
     if [ "$status" -eq 1 ] || [ "$status" -ge 126 ]; then
-        sed '/^mcs4: .*built/d' "$folder/version" >&2
+        sed '$d' "$folder/version" >&2
         fail "$mcs4 cannot be started; MCS4 names the program where it is not the mcs4 at the top"
     fi
 }
@@ -177,6 +259,7 @@ copy_session() {
 
 # A session that the program opens; a copy of it stands in `start.mcs`.
 need_session() {
+    need_bench
     cp -- "$folder/start.mcs" "$folder/tried.mcs"
     echo seq | serve open "$folder/tried.mcs" tried "$1"
     rm -f "$folder/tried.mcs"
@@ -199,7 +282,7 @@ keep_answers() {
 # session's name.
 serve() {
     status=0
-    if [ ! -e "$folder/version" ]; then need_bench; fi
+    need_bench
     "$mcs4" "$1" "$2" > "$folder/$3" 2> "$folder/words" || status=$?
     grep -vF -- "$folder" "$folder/words" >&2 || :
     case $(sed 1q "$folder/$3") in
@@ -222,10 +305,11 @@ words
 }
 
 # Tells each refusal among the answers to a script, and the lines that were not answered. With a third word, which names a file, the
-# first refusal alone is told, and its line is that of a text which is this file. The status is 1 where there is anything to tell, 2
-# where these are not the answers to this script. Where `with_source` is 1 (know_source), addresses are told with their names and lines, too.
+# first refusal alone is told, and its line is that of a text which is this file; a fourth names a file in which the lines of the script
+# stand as they are shown. The status is 1 where there is anything to tell, 2 where these are not the answers to this script. Where
+# `with_source` is 1 (know_source), addresses are told with their names and lines, too.
 explain_script() {
-    script=$1 answers=$2 folder=$folder text_name=${3-} text_before=${text_before:-0} board_fault="$lib/board_fault.awk" \
+    script=$1 answers=$2 folder=$folder text_name=${3-} shown=${4-} text_before=${text_before:-0} board_fault="$lib/board_fault.awk" \
         awk -f "$lib/refusals.awk" -f "$lib/numbers.awk" -f "$lib/inputs.awk" -f "$lib/names.awk" -f "$lib/explain.awk" < /dev/null
 }
 
@@ -238,6 +322,10 @@ prepare() {
         send_text wire board_text
         send_text asm program_text
     } > "$folder/begin"
+    {
+        show_text wire board_text
+        show_text asm program_text
+    } > "$folder/shown"
     {
         cat "$folder/begin"
         printf 'board\nseq\n'
@@ -255,6 +343,7 @@ prepare() {
 know_board() {
     take_board_text "$1"
     send_text wire board_text > "$folder/begin"
+    show_text wire board_text > "$folder/shown"
     {
         cat "$folder/begin"
         echo board
@@ -270,22 +359,25 @@ accepted() {
     ok\ *) ;;
     *)
         sed "$1q" "$folder/answers" > "$folder/first_answers"
-        text_before=$3 explain_script "$folder/begin" "$folder/first_answers" "$2" > "$folder/told" || true
+        text_before=$3 explain_script "$folder/begin" "$folder/first_answers" "$2" "$folder/shown" > "$folder/told" || true
         sed "s/^/$tool: /" "$folder/told" >&2
         exit 1
         ;;
     esac
 }
 
-# Texts of tests, whose names stand in `tests` then, one a line.
+# Texts of tests, which stand in the files `tests` then, one a line; `tests_named` are their names.
 need_tests() {
     tests=
+    tests_named=
     for text in "$@"; do
-        need_file "$text" 1048576 "a text of tests"
-        tests="$tests$text
+        take_file "$text" 1048576 "a text of tests"
+        tests="$tests$file
+"
+        tests_named="$tests_named$text
 "
     done
-    export tests
+    export tests tests_named
 }
 
 # What a tool counts, by its words: `BOARD PROGRAM TEST ..`, or `--session SESSION CYCLES PROGRAM`, with `cycles` then.
@@ -300,7 +392,7 @@ counted() {
         map_program "$4"
     else
         if [ $# -lt 3 ]; then refuse_words; fi
-        case $1 in -*) refuse_words ;; esac
+        case $1 in -?*) refuse_words ;; esac
         prepare "$1" "$2"
         shift 2
         need_tests "$@"
@@ -318,6 +410,7 @@ need_count() {
 map_program() {
     take_program_text "$1"
     send_text asm program_text > "$folder/begin"
+    show_text asm program_text > "$folder/shown"
     {
         awk 'BEGIN { print "wire"; for (i = 0; i < 16; i++) printf "[[rom]]\nchip = %d\nport = \"0000\"\n", i; print "." }'
         cat "$folder/begin"
@@ -333,7 +426,7 @@ map_program() {
             echo "session 0"
             sed -n 3p "$folder/answers"
         } > "$folder/first_answers"
-        text_before=$program_before explain_script "$folder/begin" "$folder/first_answers" "$1" > "$folder/told" || true
+        text_before=$program_before explain_script "$folder/begin" "$folder/first_answers" "$1" "$folder/shown" > "$folder/told" || true
         sed "s/^/$tool: /" "$folder/told" >&2
         exit 1
         ;;
@@ -361,7 +454,7 @@ function die(what) {
     close("cat 1>&2")
     differs = 1
 }
-is_listed($0) { take_listed($0, byte_at) }
+is_listed($0) { take_listed($0, hex_number($1), byte_at) }
 END {
     take_program(byte_at)
     exit differs
@@ -392,3 +485,77 @@ dialogue() {
     *) fail "not all was written; is there room where it goes to?" ;;
     esac
 }
+
+# --- the project file ---
+
+# Whether the texts stand in a project file: a folder is named (-C), or there are fewer words than so many, and this folder has a project.
+# Then `project_texts`, `project_board`, `project_program`, `project_tests` and `project_properties` are its paths, quoted for eval.
+from_project() {
+    if [ -z "$project" ]; then
+        if [ "$2" -ge "$1" ] || [ ! -e mcs4.toml ]; then return 1; fi
+        project=.
+    fi
+    case $project in
+    .) project_file=mcs4.toml ;;
+    *) project_file=${project%/}/mcs4.toml ;;
+    esac
+    read_project
+}
+
+read_project() {
+    if [ ! -e "$project_file" ]; then fail "$project_file: there is no such file; it names the files of a project"; fi
+    if [ ! -f "$project_file" ] || [ ! -r "$project_file" ]; then fail "$project_file: it is no file"; fi
+    size=$(($(wc -c < "$project_file")))
+    if [ "$size" -eq 0 ]; then fail "$project_file: it is empty; it names the files of the project, as board = \"board.toml\""; fi
+    if [ "$size" -gt 16384 ]; then fail "$project_file: it has $size bytes, more than a project file can have (16384)"; fi
+    if [ "$(($(tr -d '\000' < "$project_file" | wc -c)))" -ne "$size" ]; then fail "$project_file: it has zero bytes; it is not a text"; fi
+    told=$(awk -f "$lib/project_toml.awk" < "$project_file")
+    project_board='' project_program='' project_tests='' project_properties=''
+    while IFS='	' read -r line key value; do
+        case $key in
+        board | program | tests | properties) take_named ;;
+        speed) ;;
+        *) fail "$project_file: line $key: $value" ;;
+        esac
+    done <<told
+$told
+told
+    project_texts="$project_board $project_program"
+}
+
+# A file that the project names, `value`, in its line `line` at `key`.
+take_named() {
+    place=${project_file%mcs4.toml}$value
+    if [ ! -e "$place" ]; then fail "$project_file: line $line: $key: there is no file $value"; fi
+    if [ -d "$place" ]; then fail "$project_file: line $line: $key: $value is a folder, not a file"; fi
+    inside=$(readlink -f -- "$project")
+    case $(readlink -f -- "$place") in
+    "${inside%/}"/*) ;;
+    *) fail "$project_file: line $line: $key: $value is a link that leads out of the project's folder" ;;
+    esac
+    case $place in -*) place=./$place ;; esac
+    quoted="'$(printf '%s' "$place" | sed "s/'/'\\\\''/g")'"
+    case $key in
+    board) project_board=$quoted ;;
+    program) project_program=$quoted ;;
+    tests) project_tests="$project_tests $quoted" ;;
+    properties) project_properties="$project_properties $quoted" ;;
+    esac
+}
+
+# What a tool needs of a project, and that names none of it.
+need_named() {
+    if [ -z "$2" ]; then fail "$project_file names no $1; name some there, or behind the command"; fi
+}
+
+# The folder of the project that is named.
+project=
+case $usage in
+*"[-C FOLDER]"*)
+    if [ "${1-}" = -C ]; then
+        if [ -z "${2-}" ]; then refuse_words; fi
+        project=$2
+        shift 2
+    fi
+    ;;
+esac

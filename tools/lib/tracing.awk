@@ -60,15 +60,9 @@ function print_trace(last,    n) {
     close_bench()
 }
 
-# The lines from one on, some at a time: each write takes its time.
-function print_lines(from,    text) {
-    text = ""
-    for (from = from; from <= traced_count; from++) {
-        text = text traced_line[from] "\n"
-        if (length(text) < 1000) continue
-        printf "%s", text
-        text = ""
-    }
-    printf "%s", text
+# The lines from one on.
+function print_lines(from) {
+    for (from = from; from <= traced_count; from++) put_text(traced_line[from] "\n")
+    put_rest()
     traced_count = 0
 }

@@ -2,7 +2,8 @@
 # check_program.awk. `start.mcs` in the folder is a copy of the session. The environment has `cycles`, `wanted` (names of lines, "" for
 # all), `lines_alone`, `board_name` and `program_name` ("" where none is given).
 #
-# A line has a name, a place of a trace (line_place), none where it stands still, and among the lamps its number (line_lamp).
+# A line has a name, a place of a trace (line_place), none where it stands still, and among the lamps its number (line_lamp). A value has so
+# many bits (line_width), and a pair the place of its lower register (line_low).
 
 function die(what) {
     print "wave: " what | "cat 1>&2"
@@ -47,6 +48,53 @@ function find_lines(    i, j, name) {
     if (ENVIRON["program_name"] != "") add_line("label", "label", "label", "pc", 0)
 }
 
+# --- values: registers, pairs, characters, and ports as numbers ---
+
+function add_value(name, group, place, width) {
+    add_line(name, name, group, place, 0)
+    line_width[line_count] = width
+    return 1
+}
+
+# A character or a status character that the board has: its number is told as the bench writes it.
+function add_character(name, parts, count,    bank, at) {
+    bank = number_of(parts[2])
+    at = number_of(parts[3])
+    if (bank < 0 || bank > 7 || at < 0) return 0
+    if (parts[1] == "ram" && count == 3 && at < 64 * ram_chips[bank]) {
+        name = sprintf("ram.%d.0x%02X", bank, at)
+        return name in line_number ? 0 : add_value(name, "value", name, 4)
+    }
+    if (parts[1] != "st" || count != 4 || at >= 4 * ram_chips[bank] || parts[4] !~ /^[0-3]$/) return 0
+    return add_value(name, "value", name, 4)
+}
+
+# `rom0[3:0]`, `ram0.1[3:0]`, `chain0[19:0]`: all lines of a port as one number.
+function add_port(name,    group, last) {
+    group = name
+    sub(/\[.*/, "", group)
+    last = substr(name, length(group) + 2) + 0
+    if (name != group "[" last ":0]" || !((group "." last) in line_number) || ((group "." (last + 1)) in line_number)) return 0
+    if (last > 49) return 0
+    return add_value(name, group ~ /^chain/ ? "bits" : "value", group, last + 1)
+}
+
+# Adds the line of a value by its name; whether there is one.
+function add_named(name,    parts, count) {
+    if (name == "cy") return add_value(name, "value", name, 1)
+    if (name == "dcl") return add_value(name, "value", name, 3)
+    if (name == "src") return add_value(name, "value", name, 8)
+    if (name ~ /^(acc|r[0-9]|r1[0-5])$/) return add_value(name, "value", name, 4)
+    if (name ~ /^p[0-7]$/) {
+        add_value(name, "pair", "r" 2 * substr(name, 2), 8)
+        line_low[line_count] = "r" (2 * substr(name, 2) + 1)
+        return 1
+    }
+    if (name ~ /^(rom|ram|chain)[0-9.]+\[/) return add_port(name)
+    count = split(name, parts, ".")
+    return add_character(name, parts, count)
+}
+
 # --- the lines that are wanted: chosen[1] to chosen[chosen_count] ---
 
 function choose(i) {
@@ -69,6 +117,10 @@ function choose_lines(    n, words, w, i, before) {
         if (words[w] in line_number) choose(line_number[words[w]])
         else for (i = 1; i <= line_count && !ended; i++) if (line_group[i] "" == words[w] "") choose(i)
         if (chosen_count > before || ended) continue
+        if (add_named(words[w])) {
+            choose(line_count)
+            continue
+        }
         if (words[w] == "label") die("`label` needs the program that is in ROM: --names PROGRAM")
         else die("the board has no line " words[w] "; tools/wave --lines prints the names of those that it has")
     }
@@ -84,8 +136,18 @@ function bits_of(value, count,    text) {
     return text
 }
 
+# The bits of a chain, which are told from bit 0 on, as a number.
+function reversed(bits,    text, k) {
+    text = ""
+    for (k = length(bits); k > 0; k--) text = text substr(bits, k, 1)
+    return text
+}
+
 # What a line is by the value of its place; a line that has none stays as it is in `state`.
 function value_of(i, value) {
+    if (line_group[i] == "value") return bits_of(hex_number(value), line_width[i])
+    if (line_group[i] == "bits") return reversed(value)
+    if (line_group[i] == "pair") return bits_of(hex_number(place_value[place_of[line_place[i]]] place_value[place_of[line_low[i]]]), 8)
     if (line_group[i] == "lamps") return substr(value, line_lamp[i] + 1, 1) == "*" ? 1 : 0
     if (line_group[i] == "keys") return index("," now["keys"] ",", line_key[i]) > 0 ? 1 : 0
     if (line_group[i] == "test") return now["test"]
@@ -111,24 +173,28 @@ function code_of(n,    text) {
 
 function change_text(c,    value) {
     value = now_value[c]
-    if (line_group[chosen[c]] == "pc") return "b" value " " code_name[c]
+    if (length(value) > 1 && line_group[chosen[c]] != "label") return "b" value " " code_name[c]
     if (line_group[chosen[c]] == "label") return "s" value " " code_name[c]
     return value code_name[c]
 }
 
 # The places of the chosen lines: of each the lines that it decides, chosen_at[place, 1] to chosen_at[place, lines_at[place]].
-function choose_places(    c, name, place) {
+function choose_places(    c) {
     forget_places()
     for (c = 1; c <= chosen_count; c++) {
-        name = line_place[chosen[c]]
-        if (name == "") continue
-        if (!(name in place_of)) {
-            add_place(name)
-            place_of[name] = place_count
-        }
-        place = place_of[name]
-        chosen_at[place, ++lines_at[place]] = c
+        choose_place(c, line_place[chosen[c]])
+        choose_place(c, line_low[chosen[c]])
     }
+}
+
+function choose_place(c, name,    place) {
+    if (name == "") return
+    if (!(name in place_of)) {
+        add_place(name)
+        place_of[name] = place_count
+    }
+    place = place_of[name]
+    chosen_at[place, ++lines_at[place]] = c
 }
 
 function print_header(    c, kind, name) {
@@ -139,7 +205,7 @@ function print_header(    c, kind, name) {
     for (c = 1; c <= chosen_count; c++) {
         code_name[c] = code_of(c)
         kind = line_group[chosen[c]]
-        kind = kind == "pc" ? "wire 12" : kind == "label" ? "string 1" : "wire 1"
+        kind = kind == "pc" ? "wire 12" : kind == "label" ? "string 1" : "wire " (line_width[chosen[c]] ? line_width[chosen[c]] : 1)
         print "$var " kind " " code_name[c] " " line_name[chosen[c]] " $end"
     }
     print "$upscope $end\n$enddefinitions $end\n#0\n$dumpvars"
@@ -151,13 +217,19 @@ function print_header(    c, kind, name) {
     print "$end"
 }
 
-# The changes by one instruction, in the order of the lines.
-function print_changes(cycle,    i, n, c, k, place, value, news, count) {
+# Whether a line changes when an instruction is done, as the counter does, and not in its first cycle.
+function is_late(i) {
+    return line_group[i] == "pc" || line_group[i] == "label"
+}
+
+# The changes by one instruction, in the order of the lines: of all of them, or of those alone that are late, or are not (`which`).
+function print_changes(cycle, which,    i, n, c, k, place, value, news, count) {
     count = 0
     for (i = 1; i <= changed_count; i++) {
         place = changed_place[i]
         for (n = 1; n <= lines_at[place]; n++) {
             c = chosen_at[place, n]
+            if (which != "all" && (which == "late") != is_late(chosen[c])) continue
             value = value_of(chosen[c], place_value[place])
             if (value "" == now_value[c] "") continue
             now_value[c] = value
@@ -214,8 +286,11 @@ function print_recording(    cycles, n, k, cycle, at) {
             cycle = event_cycle[k]
             take_event(cycle)
             at = address_of[event_address[cycle]]
-            cycle += elapsed + cycles_of(code[at])
-            if (cycle <= cycles) print_changes(cycle)
+            if (cycles_of(code[at]) == 1) print_changes(elapsed + cycle + 1, "all")
+            else {
+                print_changes(elapsed + cycle + 1, "early")
+                if (elapsed + cycle + 2 <= cycles) print_changes(elapsed + cycle + 2, "late")
+            }
         }
         run(n)
     }

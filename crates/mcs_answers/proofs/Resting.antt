@@ -1,6 +1,6 @@
 -- What an instruction leaves as it is: what stands at lines, but for a write to a port; RAM and status characters, but for a
 -- write to these; the bytes of ROM.
-use Rattle.std.proofs.Common.{◌≡◌, ◌≢◌, ℕ, ◌/◌, Bool, true, false, cond, List, [], ◌∷◌, map, Option, Some, None, not, inl, inr, refl, sym, ap, ◌∙◌, eqb, nat_lt, slice_index, if◌then◌else◌}
+use Rattle.std.proofs.Common.{◌≡◌, ◌≢◌, ℕ, ◌/◌, Bool, true, false, cond, List, [], ◌∷◌, map, Option, Some, None, not, ◌⊎◌, inl, inr, refl, sym, ap, ◌∙◌, eqb, nat_lt, slice_index, if◌then◌else◌}
 use Rattle.mcs_nibble.specs.declared.lines.LineMask.{LineMask}
 use Rattle.mcs_model.specs.declared.regs.Regs.{Regs}
 use Rattle.mcs_model.specs.declared.board.Line.{Line}
@@ -9,7 +9,7 @@ use Rattle.mcs_model.specs.declared.op.Op.{Op}
 use Rattle.mcs_model.specs.declared.op.Op.TheVariants.{Nop, Jcn, Fim, Src, Fin, Jin, Jun, Jms, Inc, Isz, Add, Sub, Ld, Xch, Bbl, Ldm, Wrm, Wmp, Wrr, Wr0, Wr1, Wr2, Wr3, Sbm, Rdm, Rdr, Adm, Rd0, Rd1, Rd2, Rd3, Clb, Clc, Iac, Cmc, Cma, Ral, Rar, Tcc, Dac, Tcs, Stc, Daa, Kbp, Dcl}
 use Rattle.mcs_model.specs.Boards.{exists_on, masks_on}
 use Rattle.mcs_model.specs.Bus.{BusState, after_src, after_ram, after_status, chips_of, has_chip, ram_place, src_of, status_place, with_ram, with_status}
-use Rattle.mcs_model.specs.Effect.{bus_after, cycle_of, effect, instruction_at}
+use Rattle.mcs_model.specs.Effect.{after_words, bus_after, cycle_of, effect, instruction_at, registers_after}
 use Rattle.mcs_model.specs.Levels.{after_ram_port, after_rom_port, chains_clocked, is_pulled, latch_of, level}
 use Rattle.mcs_model.specs.Registers.{pair_of}
 use Rattle.mcs_model.specs.QueryText.{address_text, digit_text, hex_2, lamp_mark, one_word, or_dash}
@@ -20,7 +20,7 @@ use Rattle.mcs_ahead.specs.declared.probe.Probe.{Probe}
 use Rattle.mcs_ahead.specs.declared.probe.Probe.TheVariants as place
 use Rattle.mcs_ahead.specs.Probes.{level_on, levels_on, probe_text, row}
 use Rattle.mcs_trace.proofs.Steps.{rests, with_owed}
-use Rattle.mcs_answers.specs.Resting.{Rests, RowRests, WritesPort, WritesStatus}
+use Rattle.mcs_answers.specs.Resting.{Keeps, Rests, RowKeeps, RowRests, WritesPort, WritesStatus}
 
 -- what holds of the bus that an instruction leaves, by what it does to it
 by-bus : (op : Op) (s : Regs) (m : BusState) (P : Op → BusState → Type 0)
@@ -213,9 +213,6 @@ row-of stops left t u w before after probes (Some op) h e f is same =
     sym (ap (row probes) (went-leaves stops left t u w op h is ∙ ap (λ (r : Regs). (r, bus_after op t.0 t.1)) (sym f) ∙ ap (λ (r : Regs). (after, bus_after op r t.1)) (sym e))
     ∙ same t.1 ∙ ap (λ (r : Regs). row probes (r, t.1)) e)
 
-pub row-rests : (stops : Stops) (left : ℕ) (t u : Machine) (w : Went) (before after : Regs) (probes : List Probe) → WentTo stops left t u w → before ≡ t.0 → after ≡ u.0 → RowRests w.op before after probes → row probes t ≡ row probes u
-row-rests stops left t u w before after probes h e f same = row-of stops left t u w before after probes w.op h e f refl same
-
 -- ---- what is found of a place
 
 pub not-so : {A : Type 0} (r : Bool) → not r ≡ true → (A → r ≡ true) → A → ⊥
@@ -252,3 +249,75 @@ lamps-rest op before after off m = keeps-lamps op before after m off
 
 pub returns-rest : (op : Op) (before after : Regs) → before.ret ≡ after.ret → Rests op before after place.Returns
 returns-rest op before after e m = ap (λ (xs : List ℕ). one_word (map address_text xs)) (sym e)
+
+-- ---- what an instruction alone tells
+
+either-returns : (b : Bool) (x y : Regs) (ret : List ℕ) → x.ret ≡ ret → y.ret ≡ ret → (cond b x y).ret ≡ ret
+either-returns true x y ret e f = e
+either-returns false x y ret e f = f
+
+-- the return addresses stay, but for JMS and BBL
+keeps-returns : (op : Op) (s : Regs) (m : BusState) → ((high low : ℕ) → op ≢ Jms high low) → ((digit : ℕ) → op ≢ Bbl digit) → (registers_after op s m).ret ≡ s.ret
+keeps-returns Nop s m jms bbl = refl
+keeps-returns (Jcn a b) s m jms bbl = either-returns _ _ _ s.ret refl refl
+keeps-returns (Fim a b) s m jms bbl = refl
+keeps-returns (Src a) s m jms bbl = refl
+keeps-returns (Fin a) s m jms bbl = refl
+keeps-returns (Jin a) s m jms bbl = refl
+keeps-returns (Jun a b) s m jms bbl = refl
+keeps-returns (Jms a b) s m jms bbl = absurd (jms a b refl)
+keeps-returns (Inc a) s m jms bbl = refl
+keeps-returns (Isz a b) s m jms bbl = either-returns _ _ _ s.ret refl refl
+keeps-returns (Add a) s m jms bbl = refl
+keeps-returns (Sub a) s m jms bbl = refl
+keeps-returns (Ld a) s m jms bbl = refl
+keeps-returns (Xch a) s m jms bbl = refl
+keeps-returns (Bbl a) s m jms bbl = absurd (bbl a refl)
+keeps-returns (Ldm a) s m jms bbl = refl
+keeps-returns Wrm s m jms bbl = refl
+keeps-returns Wmp s m jms bbl = refl
+keeps-returns Wrr s m jms bbl = refl
+keeps-returns Wr0 s m jms bbl = refl
+keeps-returns Wr1 s m jms bbl = refl
+keeps-returns Wr2 s m jms bbl = refl
+keeps-returns Wr3 s m jms bbl = refl
+keeps-returns Sbm s m jms bbl = refl
+keeps-returns Rdm s m jms bbl = refl
+keeps-returns Rdr s m jms bbl = refl
+keeps-returns Adm s m jms bbl = refl
+keeps-returns Rd0 s m jms bbl = refl
+keeps-returns Rd1 s m jms bbl = refl
+keeps-returns Rd2 s m jms bbl = refl
+keeps-returns Rd3 s m jms bbl = refl
+keeps-returns Clb s m jms bbl = refl
+keeps-returns Clc s m jms bbl = refl
+keeps-returns Iac s m jms bbl = refl
+keeps-returns Cmc s m jms bbl = refl
+keeps-returns Cma s m jms bbl = refl
+keeps-returns Ral s m jms bbl = refl
+keeps-returns Rar s m jms bbl = refl
+keeps-returns Tcc s m jms bbl = refl
+keeps-returns Dac s m jms bbl = refl
+keeps-returns Tcs s m jms bbl = refl
+keeps-returns Stc s m jms bbl = refl
+keeps-returns Daa s m jms bbl = either-returns _ _ _ s.ret refl refl
+keeps-returns Kbp s m jms bbl = refl
+keeps-returns Dcl s m jms bbl = refl
+
+pub returns-keep : (op : Op) → ((high low : ℕ) → op ≢ Jms high low) → ((digit : ℕ) → op ≢ Bbl digit) → Keeps op place.Returns
+returns-keep op jms bbl s m = ap (λ (xs : List ℕ). one_word (map address_text xs)) (keeps-returns op (after_words op s) m jms bbl)
+
+-- a place that rests whatever the registers are
+pub outside-keeps : (op : Op) (p : Probe) → ((before after : Regs) → Rests op before after p) → Keeps op p
+outside-keeps op p h s m = h s (registers_after op (after_words op s) m) m
+
+-- a row that is kept
+kept-of : (stops : Stops) (left : ℕ) (t u : Machine) (w : Went) (probes : List Probe) (did : Option Op) → WentTo stops left t u w → w.op ≡ did → RowKeeps did probes → row probes t ≡ row probes u
+kept-of stops left t u w probes None h is same = absurd same
+kept-of stops left t u w probes (Some op) h is same =
+    let at = one-op (eqb t.0.owed 1) op (instruction_at t.0 t.1) w.op is h.op in
+    sym (ap (row probes) (rests left w.cycles t u h.ran h.some) ∙ row-owed probes (after_cycles 1 t) u.0.owed ∙ ap (row probes) (does op t at.0 at.1) ∙ same t.0 t.1)
+
+pub row-stays : (stops : Stops) (left : ℕ) (t u : Machine) (w : Went) (before after : Regs) (probes : List Probe) → WentTo stops left t u w → before ≡ t.0 → after ≡ u.0 → RowRests w.op before after probes ⊎ RowKeeps w.op probes → row probes t ≡ row probes u
+row-stays stops left t u w before after probes h e f (inl same) = row-of stops left t u w before after probes w.op h e f refl same
+row-stays stops left t u w before after probes h e f (inr same) = kept-of stops left t u w probes w.op h refl same

@@ -4,7 +4,7 @@ use Rattle.mcs_model.specs.declared.op.Op.{Op}
 use Rattle.mcs_model.specs.declared.op.Op.TheVariants.{Wmp, Wrr, Wr0, Wr1, Wr2, Wr3}
 use Rattle.mcs_model.specs.declared.regs.Regs.{Regs}
 use Rattle.mcs_model.specs.Bus.{BusState}
-use Rattle.mcs_model.specs.Effect.{bus_after}
+use Rattle.mcs_model.specs.Effect.{bus_after, effect}
 use Rattle.mcs_ahead.specs.declared.probe.Probe.{Probe}
 use Rattle.mcs_ahead.specs.Probes.{probe_text, row}
 
@@ -24,3 +24,14 @@ abbrev pub RowRests : Option Op → Regs → Regs → List Probe → Type 0
 RowRests None before after probes = ⊥
 RowRests (Some op) before after probes =
     (m : BusState) → row probes (after, bus_after op before m) ≡ row probes (before, m)
+
+-- whether a place tells the same before an instruction and after it, whatever stood in registers and on the bus
+abbrev pub Keeps : Op → Probe → Type 0
+Keeps op probe =
+    (regs : Regs) (m : BusState) → probe_text (effect op regs m) probe ≡ probe_text (regs, m) probe
+
+-- the same of a row; of none where no instruction was begun
+abbrev pub RowKeeps : Option Op → List Probe → Type 0
+RowKeeps None probes = ⊥
+RowKeeps (Some op) probes =
+    (regs : Regs) (m : BusState) → row probes (effect op regs m) ≡ row probes (regs, m)

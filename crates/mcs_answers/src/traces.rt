@@ -1,15 +1,17 @@
 //! The answer to `trace`.
-ghost use Rattle.std.specs.Prelude.{◌≡◌, ℕ, ◌+◌, ◌*◌, ◌<◌, ◌≤◌, ◌++◌, ◌↔◌, [], codes, length, true, IfOk};
+ghost use Rattle.std.specs.Prelude.{◌≡◌, ◌⊎◌, ℕ, ◌+◌, ◌*◌, ◌<◌, ◌≤◌, ◌++◌, ◌↔◌, [], codes, length, true, IfOk};
 ghost use Rattle.std.specs.Fmt.{decimal};
 ghost use Rattle.arrayvec.specs.ArrayVec.{array_vec_len};
 ghost use Rattle.mcs_model.specs.Command.{machine_of};
 ghost use Rattle.mcs_model.specs.QueryText.{address_text, as_line};
 ghost use Rattle.mcs_model.specs.declared.board.Line.TheVariants as line;
+ghost use Rattle.mcs_bench.specs.Runs.{stop_by};
 ghost use Rattle.mcs_ahead.specs.Probes.{levels_on, probe_text, row};
 ghost use Rattle.mcs_answers.specs.AheadTexts.{is_told, trace_answer};
-ghost use Rattle.mcs_answers.specs.Resting.{Rests, RowRests, WritesPort, WritesStatus};
+ghost use Rattle.mcs_answers.specs.Resting.{Keeps, Rests, RowKeeps, RowRests, WritesPort, WritesStatus};
 ghost use Rattle.mcs_answers.specs.Traced.{IsTraced, cycle_lines, line_when};
-ghost use Rattle.mcs_model.specs.declared.op.Op.TheVariants.{Src, Wrm};
+ghost use Rattle.mcs_model.specs.declared.op.Op.TheVariants.{Bbl, Jms, Src, Wrm};
+ghost use Rattle.mcs_model.specs.declared.regs.Regs.{Regs};
 ghost use Rattle.std.specs.List.{flat_map};
 
 use crate::ahead::put_head;
@@ -97,14 +99,21 @@ fn put_row(answer: &mut ArrayVec<u8, ANSWER_BYTES>, probes: &[Probe], bench: &Be
     }
 }
 
-/// Adds the line of an instruction: how many cycles were done before it, its address, and a row.
-fn add_line(text: &mut Vec<u8>, cycles: u32, at: Addr, row: &[u8]) -> Result<(), AllocError>
+/// Adds the line of an instruction: how many cycles were done before it, its address, and a row. What stood in `start` is
+/// lost.
+fn add_line(
+    text: &mut Vec<u8>,
+    start: &mut ArrayVec<u8, ANSWER_BYTES>,
+    cycles: u32,
+    at: Addr,
+    row: &[u8],
+) -> Result<(), AllocError>
     ensures { IfOk result (λ _. text.new.items
         ≡ text.old.items ++ as_line (decimal cycles ++ codes " " ++ address_text at ++ row.now)) }
 {
-    let mut start = ArrayVec::new();
-    put_counted(&mut start, b"", u64::from(cycles));
-    put_address(&mut start, b" ", at);
+    start.clear();
+    put_counted(start, b"", u64::from(cycles));
+    put_address(start, b" ", at);
     text.extend_from_slice(start.as_slice())?;
     text.extend_from_slice(row)?;
     text.extend_from_slice(b"\n")
@@ -138,6 +147,62 @@ fn writes_src(op: &Op) -> bool
     matches!(op, Op::Src(_))
 }
 
+/// Whether an instruction is JMS or BBL, which alone change the return addresses.
+fn moves_returns(op: &Op) -> bool
+    ensures jms { (high low : ℕ) → op.now ≡ Jms high low → result ≡ true }
+    ensures bbl { (digit : ℕ) → op.now ≡ Bbl digit → result ≡ true }
+{
+    matches!(op, Op::Jms(_, _) | Op::Bbl(_))
+}
+
+/// Whether an instruction surely leaves what stands at a place outside the processor as it is; no of any other place.
+#[inline(always)]
+fn keeps_outside(probe: Probe, op: &Op) -> bool
+    ensures { result ≡ true → (before after : Regs) → Rests op.now before after probe }
+{
+    match probe {
+        Probe::Rom(_) => true,
+        Probe::Ram(_, _) => !writes_ram(op),
+        Probe::Status(_, _, _) => !writes_status(op),
+        Probe::Level(_) => !writes_port(op),
+        Probe::RomPort(_) => !writes_port(op),
+        Probe::RamPort(_, _) => !writes_port(op),
+        Probe::Chain(_) => !writes_port(op),
+        Probe::Src => !writes_src(op),
+        Probe::Lamps => !writes_port(op),
+        _ => false,
+    }
+}
+
+/// Whether an instruction alone tells that it leaves what stands at a place as it is; of a register it tells nothing.
+#[inline(always)]
+fn keeps(probe: Probe, op: &Op) -> bool
+    ensures { result ≡ true → Keeps op.now probe }
+{
+    match probe {
+        Probe::Returns => !moves_returns(op),
+        _ => keeps_outside(probe, op),
+    }
+}
+
+/// The same of all places; no where no instruction was begun.
+#[inline(always)]
+fn all_keep(probes: &[Probe], op: Option<Op>) -> bool
+    ensures { result ≡ true → RowKeeps op probes.now }
+{
+    match op {
+        None => false,
+        Some(op) => {
+            for probe in probes {
+                if !keeps(*probe, &op) {
+                    return false;
+                }
+            }
+            true
+        }
+    }
+}
+
 /// Whether an instruction that led from some registers to others surely leaves what stands at a place as it is. No text is
 /// made of it.
 fn rests(probe: Probe, op: &Op, before: &Regs, after: &Regs) -> bool
@@ -149,16 +214,8 @@ fn rests(probe: Probe, op: &Op, before: &Regs, after: &Regs) -> bool
         Probe::Pc => before.pc == after.pc,
         Probe::Register(k) => before.register(k) == after.register(k),
         Probe::Dcl => before.dcl == after.dcl,
-        Probe::Rom(_) => true,
-        Probe::Ram(_, _) => !writes_ram(op),
-        Probe::Status(_, _, _) => !writes_status(op),
-        Probe::Level(_) => !writes_port(op),
-        Probe::RomPort(_) => !writes_port(op),
-        Probe::RamPort(_, _) => !writes_port(op),
-        Probe::Chain(_) => !writes_port(op),
-        Probe::Src => !writes_src(op),
-        Probe::Lamps => !writes_port(op),
         Probe::Returns => before.ret == after.ret,
+        _ => keeps_outside(probe, op),
     }
 }
 
@@ -179,6 +236,37 @@ fn all_rest(probes: &[Probe], op: Option<Op>, before: &Regs, after: &Regs) -> bo
     }
 }
 
+/// Whether an instruction that led from some registers to others surely leaves a row as it is. Where no place is a
+/// register, nothing is looked at but the instruction.
+#[inline(always)]
+fn row_stays<const REGISTERS: bool>(
+    probes: &[Probe],
+    op: Option<Op>,
+    before: &Regs,
+    after: &Regs,
+) -> bool
+    ensures { result ≡ true → RowRests op before.now after.now probes.now ⊎ RowKeeps op probes.now }
+{
+    if REGISTERS {
+        all_rest(probes, op, before, after)
+    } else {
+        all_keep(probes, op)
+    }
+}
+
+/// Whether any of the places is a register.
+fn has_register(probes: &[Probe]) -> bool {
+    for probe in probes {
+        if matches!(
+            probe,
+            Probe::Acc | Probe::Cy | Probe::Pc | Probe::Register(_) | Probe::Dcl
+        ) {
+            return true;
+        }
+    }
+    false
+}
+
 /// What a run would come to, and how many of its instructions are told.
 #[derive(Drop)]
 struct Traced {
@@ -187,11 +275,25 @@ struct Traced {
     lines: u32,
 }
 
+/// What a run came to that led to this bench, by what stopped it but for a code outside and its end.
+fn came_to(bench: &Bench, cycles: u32, mark: Option<Stop>, lines: u32) -> Traced
+    ensures cycles { result.cycles ≡ cycles }
+    ensures stop { result.stop ≡ stop_by (machine_of bench.now) mark }
+    ensures lines { result.lines ≡ lines }
+{
+    Traced {
+        cycles,
+        stop: bench.stop_by(mark),
+        lines,
+    }
+}
+
 /// Adds the line of the instruction that the last cycle began, where it is told; whether it was. The row before it
-/// becomes the one after it.
+/// becomes the one after it. What stood in `spare` is lost.
 fn add_told(
     text: &mut Vec<u8>,
     before: &mut ArrayVec<u8, ANSWER_BYTES>,
+    spare: &mut ArrayVec<u8, ANSWER_BYTES>,
     cycles: u32,
     at: Addr,
     probes: &[Probe],
@@ -204,22 +306,56 @@ fn add_told(
     ensures text { IfOk result (λ told. text.new.items ≡ text.old.items ++ flat_map as_line
         (line_when told cycles at (row probes.now (machine_of bench.now)))) }
 {
-    let mut after = ArrayVec::new();
-    put_row(&mut after, probes, bench);
-    if probes.is_empty() || after.as_slice() != before.as_slice() {
-        add_line(text, cycles, at, after.as_slice())?;
+    spare.clear();
+    put_row(spare, probes, bench);
+    if probes.is_empty() || spare.as_slice() != before.as_slice() {
+        add_line(text, before, cycles, at, spare.as_slice())?;
         before.clear();
-        put(before, after.as_slice());
+        put(before, spare.as_slice());
         return Ok(true);
     }
     Ok(false)
 }
 
+/// Adds the line of a cycle that was begun at an address, where it has one; how many it added: none where a cycle was owed.
+/// The row before it becomes the one after it. A call, since a row is seldom made.
+#[inline(never)]
+fn add_began(
+    text: &mut Vec<u8>,
+    before: &mut ArrayVec<u8, ANSWER_BYTES>,
+    spare: &mut ArrayVec<u8, ANSWER_BYTES>,
+    cycles: u32,
+    owed: u8,
+    at: Addr,
+    probes: &[Probe],
+    bench: &Bench,
+) -> Result<u32, AllocError>
+    requires { length probes.now ≤ PROBES }
+    ensures row { IfOk result (λ _. before.new.items ≡ row probes.now (machine_of bench.now)) }
+    ensures lines { IfOk result (λ lines. lines ≡ length (cycle_lines probes.now owed cycles
+        at before.old.items (row probes.now (machine_of bench.now)))) }
+    ensures text { IfOk result (λ _. text.new.items ≡ text.old.items ++ flat_map as_line
+        (cycle_lines probes.now owed cycles at before.old.items
+        (row probes.now (machine_of bench.now)))) }
+{
+    if owed != 0 {
+        before.clear();
+        put_row(before, probes, bench);
+        return Ok(0);
+    }
+    if add_told(text, before, spare, cycles, at, probes, bench)? {
+        return Ok(1);
+    }
+    Ok(0)
+}
+
 /// Adds the line of an instruction that led from these registers to a bench, where it has one; how many it added. The row
 /// before it becomes the one after it. It may be told that they are the same.
+#[inline(always)]
 fn add_went(
     text: &mut Vec<u8>,
     before: &mut ArrayVec<u8, ANSWER_BYTES>,
+    spare: &mut ArrayVec<u8, ANSWER_BYTES>,
     cycles: u32,
     regs: &Regs,
     rests: bool,
@@ -235,22 +371,17 @@ fn add_went(
         (cycle_lines probes.now regs.now.owed cycles regs.now.pc before.old.items
         (row probes.now (machine_of bench.now)))) }
 {
-    if regs.owed != 0 {
-        before.clear();
-        put_row(before, probes, bench);
-        return Ok(0);
-    }
     if rests && !probes.is_empty() {
         return Ok(0);
     }
-    if add_told(text, before, cycles, regs.pc, probes, bench)? {
-        return Ok(1);
-    }
-    Ok(0)
+    add_began(
+        text, before, spare, cycles, regs.owed, regs.pc, probes, bench,
+    )
 }
 
-/// Adds a line for each instruction of a run of at most `n` cycles after which another row stands at the places.
-fn add_lines(
+/// Adds a line for each instruction of a run of at most `n` cycles after which another row stands at the places. It is told
+/// whether any of them is a register.
+fn add_lines<const REGISTERS: bool>(
     alloc: Global,
     text: &mut Vec<u8>,
     n: u32,
@@ -263,6 +394,7 @@ fn add_lines(
 {
     let mut lines = 0u32;
     let mut before = ArrayVec::new();
+    let mut spare = ArrayVec::new();
     put_row(&mut before, probes, bench);
     let mut copy = bench.copy(alloc)?;
     let mut done = 0;
@@ -270,31 +402,47 @@ fn add_lines(
         let regs = copy.regs();
         match copy.go_on(n - done) {
             None => {
-                return Ok(Traced {
-                    cycles: done,
-                    stop: copy.stop_by(None),
-                    lines,
-                });
+                return Ok(came_to(&copy, done, None, lines));
             }
             Some(went) => {
-                let rests = all_rest(probes, went.op, &regs, &copy.regs());
-                lines += add_went(text, &mut before, done, &regs, rests, probes, &copy)?;
+                let rests = row_stays::<REGISTERS>(probes, went.op, &regs, &copy.regs());
+                lines += add_went(
+                    text,
+                    &mut before,
+                    &mut spare,
+                    done,
+                    &regs,
+                    rests,
+                    probes,
+                    &copy,
+                )?;
                 done += went.cycles;
                 if let Some(why) = went.mark {
-                    return Ok(Traced {
-                        cycles: done,
-                        stop: copy.stop_by(Some(why)),
-                        lines,
-                    });
+                    return Ok(came_to(&copy, done, Some(why), lines));
                 }
             }
         }
     }
-    Ok(Traced {
-        cycles: n,
-        stop: copy.stop_by(None),
-        lines,
-    })
+    Ok(came_to(&copy, n, None, lines))
+}
+
+/// The same, by the loop that copies no registers where no place is one.
+fn add_lines_of(
+    alloc: Global,
+    text: &mut Vec<u8>,
+    n: u32,
+    probes: &[Probe],
+    bench: &Bench,
+) -> Result<Traced, AllocError>
+    requires empty { text.old.items ≡ [] }
+    requires room { length probes.now ≤ PROBES }
+    ensures { IfOk result (λ traced. IsTraced probes.now n bench.now traced text.new.items) }
+{
+    if has_register(probes) {
+        add_lines::<true>(alloc, text, n, probes, bench)
+    } else {
+        add_lines::<false>(alloc, text, n, probes, bench)
+    }
 }
 
 /// Tells what would happen in a run of at most `n` cycles: a head is put into an empty answer, and a line for each
@@ -313,7 +461,7 @@ pub fn put_trace(
         ≡ trace_answer probes.now n bench.now) }
 {
     let mut text = Vec::new(alloc);
-    let traced = add_lines(alloc, &mut text, n, probes, bench)?;
+    let traced = add_lines_of(alloc, &mut text, n, probes, bench)?;
     put_head(head, b"trace", traced.cycles, traced.stop, traced.lines);
     put_row(head, probes, bench);
     put(head, b"\n");

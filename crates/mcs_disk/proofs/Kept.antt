@@ -1,5 +1,5 @@
 -- One more call joins those on a disk.
-use Rattle.std.proofs.Common.{◌≡◌, ◌⊎◌, inl, inr, ⊎_elim, ℕ, zero, suc, ◌+◌, ◌≤◌, List, [], ◌∷◌, ◌++◌, length, take, drop, refl, sym, ◌∙◌, ap, subst, arith, length-take, Ok}
+use Rattle.std.proofs.Common.{◌≡◌, inl, inr, ⊎_elim, ℕ, zero, suc, ◌+◌, ◌≤◌, List, [], ◌∷◌, ◌++◌, length, take, drop, refl, sym, ◌∙◌, ap, subst, arith, length-take, Ok}
 use Rattle.std.proofs.lemmas.List.{drop_at, take_at}
 use Rattle.mcs_disk.specs.Disk.{StepsClock, Syncs, Writes, Torn, part, put}
 use Rattle.mcs_disk.specs.Calls.{DiskCall, Wrote, Synced, bytes_after, images_after, clock_of, called_disk}

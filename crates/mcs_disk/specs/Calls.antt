@@ -3,18 +3,7 @@
 -- that was written and not synced.)
 use Rattle.std.specs.Prelude.{◌≡◌, ◌⊎◌, ℕ, ◌+◌, ◌≤◌, List, [], ◌∷◌, length}
 use Rattle.mcs_disk.specs.Disk.{DiskState, Torn, put}
-
--- a call on a disk, with its answer
-pub data DiskCall : Type 0 where
-  -- a read, which gave the bytes that the disk holds
-  WasRead : DiskCall
-  -- these bytes were written from this offset on
-  Wrote : ℕ → List ℕ → DiskCall
-  -- a write of these bytes from this offset on failed, or was cut off, and any bytes may have come
-  -- into its range
-  Failed : ℕ → List ℕ → DiskCall
-  -- all that the disk holds was made stable
-  Synced : DiskCall
+pub use Rattle.mcs_disk.specs.CallList.{DiskCall, WasRead, Wrote, Failed, Synced}
 
 -- what a read gives after these calls on a disk that held `start`
 abbrev pub bytes_after : List ℕ → List DiskCall → List ℕ
@@ -42,14 +31,6 @@ clock_of (Wrote at from ∷ calls) = clock_of calls + 1
 clock_of (Failed at from ∷ calls) = clock_of calls
 clock_of (Synced ∷ calls) = clock_of calls + 1
 
--- how many of these calls are writes
-abbrev pub writes_of : List DiskCall → ℕ
-writes_of [] = 0
-writes_of (WasRead ∷ calls) = writes_of calls
-writes_of (Wrote at from ∷ calls) = writes_of calls + 1
-writes_of (Failed at from ∷ calls) = writes_of calls + 1
-writes_of (Synced ∷ calls) = writes_of calls
-
 -- what a power cut after these calls, or when t or more of them had answered Ok, may leave
 abbrev pub since_after : List ℕ → List DiskCall → ℕ → List ℕ → Type 0
 since_after start [] t c = images_after start [] c
@@ -62,7 +43,7 @@ abbrev pub called_disk : Type 0 → ℕ → List ℕ → List ℕ → List DiskC
 called_disk honest faults bytes start calls = record {
   size = length bytes;
   faults = faults;
-  writes = writes_of calls;
+  calls = calls;
   honest = honest;
   bytes = bytes;
   clock = clock_of calls;

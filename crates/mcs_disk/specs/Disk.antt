@@ -1,14 +1,15 @@
 -- What the calls of a disk do to its bytes, and what a power cut may leave. (Our own choice: a
 -- device that writes in ranges and promises nothing before a sync.)
 use Rattle.std.specs.Prelude.{◌<◌, ◌≡◌, ◌⊎◌, ◌↔◌, ℕ, zero, suc, ◌+◌, ◌-◌, ◌^◌, ◌≤◌, min, List, [], ◌∷◌, length, take, drop, slice_index, Result, OnOk, OnErr}
+use Rattle.mcs_disk.specs.CallList.{DiskCall}
 
 -- all that a contract sees of a disk
 pub record DiskState : Type 1 where
   pub size : ℕ
   -- how many calls have failed; it stays at its greatest value
   pub faults : ℕ
-  -- how many writes were asked of it, also those that have failed
-  pub writes : ℕ
+  -- the calls on it, the newest first
+  pub calls : List DiskCall
   -- the premise that the rest stands under
   pub honest : Type 0
   -- the bytes that a read gives

@@ -1,3 +1,4 @@
+pub mod CallList
 pub mod CallLaws
 pub mod Calls
 pub mod Disk

@@ -1,6 +1,7 @@
 -- Stretches of calls on a disk, from one of its states to a later one: what stays, what a power cut
 -- at any moment may leave, and what is safe after them. (Our own choice.)
-use Rattle.std.specs.Prelude.{◌≡◌, ◌⊎◌, ◌↔◌, ℕ, ◌+◌, ◌≤◌, min, List, replicate, Result, OnOk}
+use Rattle.std.specs.Prelude.{◌≡◌, ◌⊎◌, ◌↔◌, ℕ, ◌+◌, ◌≤◌, min, List, [], replicate, Result, OnOk}
+use Rattle.mcs_disk.specs.CallList.{writes_of}
 use Rattle.mcs_disk.specs.Disk.{DiskState, IsLater, Only, most_faults}
 
 -- all that is there is on the disk: a power cut now leaves the current bytes, and since this moment
@@ -19,11 +20,12 @@ pub record CountsFault (old new : DiskState) (failed : Type 0) : Type 0 where
 
 -- no write was asked of the disk, honest or not
 abbrev pub WritesNothing : DiskState → DiskState → Type 0
-WritesNothing old new = new.writes ≡ old.writes
+WritesNothing old new = writes_of new.calls ≡ writes_of old.calls
 
--- no byte has changed, nor what a power cut may leave (of size, faults and honesty this is silent)
+-- no call was added, no byte has changed, nor what a power cut may leave (of size, faults and honesty
+-- this is silent)
 pub record IsUntouched (old new : DiskState) : Type 0 where
-  pub unwritten : WritesNothing old new
+  pub calls : new.calls ≡ old.calls
   pub bytes : new.bytes ≡ old.bytes
   pub clock : new.clock ≡ old.clock
   pub images : (c : List ℕ) → new.images c ↔ old.images c
@@ -41,6 +43,7 @@ pub record IsNew (n : ℕ) (disk : DiskState) : Type 0 where
   pub honest : disk.honest
   pub size : disk.size ≡ n
   pub faults : disk.faults ≡ 0
+  pub calls : disk.calls ≡ []
   pub bytes : disk.bytes ≡ replicate n 0
   pub clock : disk.clock ≡ 0
   pub durable : IsDurable disk
@@ -51,6 +54,7 @@ pub record IsFresh (file : List ℕ) (disk : DiskState) : Type 0 where
   pub honest : disk.honest
   pub bytes : disk.bytes ≡ file
   pub faults : disk.faults ≡ 0
+  pub calls : disk.calls ≡ []
   pub clock : disk.clock ≡ 0
   pub durable : IsDurable disk
 

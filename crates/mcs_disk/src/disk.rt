@@ -1,7 +1,7 @@
 //! A disk of a fixed size, honest or not.
-ghost use Rattle.std.specs.Prelude.{◌≡◌, ◌≤◌, ◌+◌, length, OnOk};
+ghost use Rattle.std.specs.Prelude.{◌≡◌, ◌≤◌, ◌+◌, [], ◌∷◌, length};
 ghost use Rattle.mcs_disk.specs.Disk.{DiskState, put, IsCall, Reads, Writes, Syncs, IsLawful};
-ghost use Rattle.mcs_disk.specs.Moments.{WritesNothing};
+ghost use Rattle.mcs_disk.specs.CallList.{WasRead, Wrote, Synced, Makes};
 
 use thiserror::Error;
 
@@ -12,8 +12,8 @@ pub struct DiskFault;
 
 /// A device of bytes that can be read and written in ranges, and synced.
 ///
-/// Every disk owes its size, the count of faults and that of writes. The rest is owed by an honest
-/// disk alone: between two syncs a power cut may leave any bytes in a written range, and after a good sync it
+/// Every disk owes its size, the count of faults and the list of the calls on it. The rest is owed by
+/// an honest disk alone: between two syncs a power cut may leave any bytes in a written range, and after a good sync it
 /// leaves the current bytes.
 pub trait Disk {
     /// What contracts see.
@@ -27,7 +27,7 @@ pub trait Disk {
     fn read(&mut self, at: usize, into: &mut [u8]) -> Result<(), DiskFault>
         requires { at + length into.old ≤ (state self.old).size }
         ensures call { IsCall (state self.old) (state self.new) result }
-        ensures unwritten { WritesNothing (state self.old) (state self.new) }
+        ensures noted { Makes (WasRead ∷ []) (state self.old).calls (state self.new).calls result }
         ensures honest { (state self.old).honest
             → Reads at into.old into.new (state self.old) (state self.new) result };
 
@@ -36,14 +36,15 @@ pub trait Disk {
     fn write(&mut self, at: usize, from: &[u8]) -> Result<(), DiskFault>
         requires { at + length from.now ≤ (state self.old).size }
         ensures call { IsCall (state self.old) (state self.new) result }
-        ensures counted { OnOk result ((state self.new).writes ≡ (state self.old).writes + 1) }
+        ensures noted { Makes (Wrote at from.now ∷ []) (state self.old).calls
+            (state self.new).calls result }
         ensures honest { (state self.old).honest
             → Writes at from.now (state self.old) (state self.new) result };
 
     /// Makes what was written stable: after an Ok, a power cut leaves what a read gives.
     fn sync(&mut self) -> Result<(), DiskFault>
         ensures call { IsCall (state self.old) (state self.new) result }
-        ensures unwritten { WritesNothing (state self.old) (state self.new) }
+        ensures noted { Makes (Synced ∷ []) (state self.old).calls (state self.new).calls result }
         ensures honest { (state self.old).honest → Syncs (state self.old) (state self.new) result };
 
     /// What holds of an honest disk at each moment.

@@ -1,7 +1,8 @@
 //! A disk in memory that fails chosen calls.
-ghost use Rattle.std.specs.Prelude.{◌≡◌, ◌≤◌, ◌+◌, ◌↔◌, ℕ, length, min, OnErr, OnOk, IsTrue};
+ghost use Rattle.std.specs.Prelude.{◌≡◌, ◌≤◌, ◌+◌, ◌↔◌, ℕ, [], ◌∷◌, length, min, OnErr, OnOk, IsTrue};
 ghost use Rattle.mcs_disk.specs.Disk.{most_faults, IsCall, Reads, Writes, Syncs};
-ghost use Rattle.mcs_disk.specs.Moments.{IsSame, IsUntouched, WritesNothing};
+ghost use Rattle.mcs_disk.specs.Moments.{IsSame, IsUntouched};
+ghost use Rattle.mcs_disk.specs.CallList.{WasRead, Wrote, Synced, Makes};
 ghost use Rattle.mcs_disk.specs.CallLaws.{lawful};
 
 use crate::{Disk, DiskFault, MemDisk};
@@ -122,7 +123,8 @@ impl Disk for FuseDisk {
     fn read(&mut self, at: usize, into: &mut [u8]) -> Result<(), DiskFault>
         requires { at + length into.old ≤ (fuse_disk_state self.old).size }
         ensures call { IsCall (fuse_disk_state self.old) (fuse_disk_state self.new) result }
-        ensures unwritten { WritesNothing (fuse_disk_state self.old) (fuse_disk_state self.new) }
+        ensures noted { Makes (WasRead ∷ []) (fuse_disk_state self.old).calls
+            (fuse_disk_state self.new).calls result }
         ensures honest { (fuse_disk_state self.old).honest
             → Reads at into.old into.new (fuse_disk_state self.old) (fuse_disk_state self.new)
             result }
@@ -139,8 +141,8 @@ impl Disk for FuseDisk {
     fn write(&mut self, at: usize, from: &[u8]) -> Result<(), DiskFault>
         requires { at + length from.now ≤ (fuse_disk_state self.old).size }
         ensures call { IsCall (fuse_disk_state self.old) (fuse_disk_state self.new) result }
-        ensures counted { OnOk result
-            ((fuse_disk_state self.new).writes ≡ (fuse_disk_state self.old).writes + 1) }
+        ensures noted { Makes (Wrote at from.now ∷ []) (fuse_disk_state self.old).calls
+            (fuse_disk_state self.new).calls result }
         ensures honest { (fuse_disk_state self.old).honest
             → Writes at from.now (fuse_disk_state self.old) (fuse_disk_state self.new) result }
         ensures refused { OnErr result
@@ -155,7 +157,8 @@ impl Disk for FuseDisk {
 
     fn sync(&mut self) -> Result<(), DiskFault>
         ensures call { IsCall (fuse_disk_state self.old) (fuse_disk_state self.new) result }
-        ensures unwritten { WritesNothing (fuse_disk_state self.old) (fuse_disk_state self.new) }
+        ensures noted { Makes (Synced ∷ []) (fuse_disk_state self.old).calls
+            (fuse_disk_state self.new).calls result }
         ensures honest { (fuse_disk_state self.old).honest
             → Syncs (fuse_disk_state self.old) (fuse_disk_state self.new) result }
         ensures refused { OnErr result

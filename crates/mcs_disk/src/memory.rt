@@ -1,8 +1,9 @@
 //! A disk in memory.
-ghost use Rattle.std.specs.Prelude.{◌≡◌, ◌+◌, ◌≤◌, length, IfOk, IsOk, OnOk};
+ghost use Rattle.std.specs.Prelude.{◌≡◌, ◌+◌, ◌≤◌, [], ◌∷◌, length, IfOk, IsOk, OnOk};
 ghost use Rattle.mcs_disk.specs.Disk.{IsCall, Reads, Writes, Syncs};
-ghost use Rattle.mcs_disk.specs.Moments.{IsFresh, IsNew, WritesNothing};
+ghost use Rattle.mcs_disk.specs.Moments.{IsFresh, IsNew};
 ghost use Rattle.mcs_disk.specs.Calls.{bytes_after};
+ghost use Rattle.mcs_disk.specs.CallList.{WasRead, Wrote, Synced, Makes};
 ghost use Rattle.mcs_disk.specs.CallLaws.{lawful};
 
 use crate::call_record::{Call, CallRecord};
@@ -60,7 +61,8 @@ impl Disk for MemDisk {
     fn read(&mut self, at: usize, into: &mut [u8]) -> Result<(), DiskFault>
         requires { at + length into.old ≤ (mem_disk_state self.old).size }
         ensures call { IsCall (mem_disk_state self.old) (mem_disk_state self.new) result }
-        ensures unwritten { WritesNothing (mem_disk_state self.old) (mem_disk_state self.new) }
+        ensures noted { Makes (WasRead ∷ []) (mem_disk_state self.old).calls
+            (mem_disk_state self.new).calls result }
         ensures honest { (mem_disk_state self.old).honest
             → Reads at into.old into.new (mem_disk_state self.old) (mem_disk_state self.new)
             result }
@@ -74,8 +76,8 @@ impl Disk for MemDisk {
     fn write(&mut self, at: usize, from: &[u8]) -> Result<(), DiskFault>
         requires { at + length from.now ≤ (mem_disk_state self.old).size }
         ensures call { IsCall (mem_disk_state self.old) (mem_disk_state self.new) result }
-        ensures counted { OnOk result
-            ((mem_disk_state self.new).writes ≡ (mem_disk_state self.old).writes + 1) }
+        ensures noted { Makes (Wrote at from.now ∷ []) (mem_disk_state self.old).calls
+            (mem_disk_state self.new).calls result }
         ensures honest { (mem_disk_state self.old).honest
             → Writes at from.now (mem_disk_state self.old) (mem_disk_state self.new) result }
         ensures answered { IsOk result }
@@ -87,7 +89,8 @@ impl Disk for MemDisk {
 
     fn sync(&mut self) -> Result<(), DiskFault>
         ensures call { IsCall (mem_disk_state self.old) (mem_disk_state self.new) result }
-        ensures unwritten { WritesNothing (mem_disk_state self.old) (mem_disk_state self.new) }
+        ensures noted { Makes (Synced ∷ []) (mem_disk_state self.old).calls
+            (mem_disk_state self.new).calls result }
         ensures honest { (mem_disk_state self.old).honest
             → Syncs (mem_disk_state self.old) (mem_disk_state self.new) result }
         ensures answered { IsOk result }

@@ -1,2 +1,4 @@
 pub mod Leaving
 pub mod ArgumentsGiven
+pub mod OpenedFile
+pub mod ZeroBytes

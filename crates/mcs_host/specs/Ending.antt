@@ -2,16 +2,22 @@
 use Rattle.std.specs.Prelude.{◌≡◌, ◌⊎◌, ℕ, ◌≤◌, List, ◌∷◌, ◌++◌}
 use Rattle.mcs_disk.specs.Calls.{DiskCall, Wrote, Failed, clock_of, images_after}
 use Rattle.mcs_disk.specs.Disk.{DiskState}
-use Rattle.mcs_host.specs.FileDisk.{file_state}
+use Rattle.mcs_host.specs.HostCalls.{HostState}
+use Rattle.mcs_host.specs.HostDisk.{host_disk}
+use Rattle.mcs_host.specs.SystemFile.{system_state}
 use Rattle.mcs_host.specs.declared.file_disk.FileDisk.{FileDisk}
 
 -- what contracts see of a file as a disk
 abbrev pub as_disk : FileDisk → DiskState
-as_disk file = file_state file.faults file.bytes.items file.history file.end
+as_disk file = host_disk file.on
+
+-- what they see of it as an open file of the host
+abbrev pub as_host_file : FileDisk → HostState
+as_host_file file = system_state file.on.file
 
 -- what the next one to open the file finds, after a close, a kill or a power cut
 abbrev pub found_in : FileDisk → List ℕ
-found_in file = file.end.found
+found_in file = file.on.end.found
 
 -- the newest of these calls is a write, and it was cut off
 pub record IsCutInWrite (calls cut : List DiskCall) : Type 0 where
@@ -27,22 +33,23 @@ pub record IsCutInWrite (calls cut : List DiskCall) : Type 0 where
 pub record IsLeftSince (t : ℕ) (file : FileDisk) : Type 0 where
   pub never_made : List DiskCall
   pub made : List DiskCall
-  pub all : file.history.calls ≡ never_made ++ made
-  pub by_the_end : (file.end.calls_by_the_end ≡ made)
-      ⊎ IsCutInWrite made file.end.calls_by_the_end
-  pub late : t ≤ clock_of file.end.calls_by_the_end
+  pub all : file.on.history.calls ≡ never_made ++ made
+  pub by_the_end : (file.on.end.calls_by_the_end ≡ made)
+      ⊎ IsCutInWrite made file.on.end.calls_by_the_end
+  pub late : t ≤ clock_of file.on.end.calls_by_the_end
 
 -- what is found after the end is an image after the calls by then
 abbrev pub IsFoundAfterTheEnd : FileDisk → Type 0
 IsFoundAfterTheEnd file =
-    images_after file.history.start file.end.calls_by_the_end (found_in file)
+    images_after file.on.history.start file.on.end.calls_by_the_end (found_in file)
 
 -- This file is like that one in all that any call has told of it, it was left after all of its
 -- calls, and these bytes are found in it.
 pub record IsFoundWith (c : List ℕ) (file like : FileDisk) : Type 0 where
-  pub faults : like.faults ≡ file.faults
-  pub bytes : like.bytes.items ≡ file.bytes.items
-  pub start : like.history.start ≡ file.history.start
-  pub calls : like.history.calls ≡ file.history.calls
-  pub by_the_end : like.end.calls_by_the_end ≡ file.history.calls
+  pub faults : like.on.faults ≡ file.on.faults
+  pub bytes : like.on.bytes.items ≡ file.on.bytes.items
+  pub start : like.on.history.start ≡ file.on.history.start
+  pub calls : like.on.history.calls ≡ file.on.history.calls
+  pub asked : as_host_file like ≡ as_host_file file
+  pub by_the_end : like.on.end.calls_by_the_end ≡ file.on.history.calls
   pub found : found_in like ≡ c

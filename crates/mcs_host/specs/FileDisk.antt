@@ -1,7 +1,5 @@
 -- What contracts see of a file of the host as a disk. (Our own choice.)
-use Rattle.std.specs.Prelude.{◌≡◌, ◌<ℤ◌, ℕ, List, pos}
-use Rattle.std.specs.Fd.{file_raw_fd}
-use Rattle.std.specs.declared.fs.File.{File}
+use Rattle.std.specs.Prelude.{◌≡◌, ◌<ℤ◌, ℕ, ℤ, List, [], pos}
 use Rattle.mcs_disk.specs.Disk.{DiskState}
 use Rattle.mcs_disk.specs.Moments.{IsDurable}
 use Rattle.mcs_disk.specs.Calls.{called_disk, images_after}
@@ -20,12 +18,13 @@ abbrev pub file_state : ℕ → List ℕ → CallRecord → Ending → DiskState
 file_state faults bytes history end =
     called_disk (IsHonest history end) faults bytes history.start history.calls
 
--- the host's number of this file is that of no standard stream: not 0, 1 or 2
-abbrev pub IsApart : File → Type 0
-IsApart file = pos 2 <ℤ file_raw_fd file
+-- the host's number of a file that has none of a standard stream: not 0, 1 or 2
+abbrev pub IsApart : ℤ → Type 0
+IsApart number = pos 2 <ℤ number
 
 -- a disk that no call has reached, all of whose bytes are there after a power cut
 pub record IsOpened (disk : DiskState) : Type 0 where
   pub faults : disk.faults ≡ 0
+  pub calls : disk.calls ≡ []
   pub clock : disk.clock ≡ 0
   pub durable : IsDurable disk

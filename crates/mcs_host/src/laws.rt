@@ -2,7 +2,7 @@
 //! contract of each call is the law; the call does nothing.
 ghost use Rattle.std.specs.Prelude.{◌≡◌, ◌↔◌, ℕ, List};
 ghost use Rattle.mcs_disk.specs.PowerCut.{IsLeftByCut};
-ghost use Rattle.mcs_host.specs.Ending.{IsFoundAfterTheEnd, IsFoundWith, IsLeftSince, as_disk, found_in};
+ghost use Rattle.mcs_host.specs.Ending.{IsFoundAfterTheEnd, IsFoundWith, IsLeftSince, as_disk, as_host_file, found_in};
 ghost use Rattle.mcs_host.specs.FileDisk.{IsApart, IsOpened};
 
 use crate::FileDisk;
@@ -41,5 +41,5 @@ pub fn each_image_may_be_found()
 /// No file has the number of a standard stream, at any time: what the program writes to one of these
 /// goes to no file of a session.
 pub fn each_file_is_apart()
-    ensures { (file : FileDisk) → IsApart file.file }
+    ensures { (file : FileDisk) → IsApart (as_host_file file).number }
 {}

@@ -11,16 +11,23 @@ mod command_line;
 mod ending;
 mod file_disk;
 mod file_fault;
+mod host_disk;
+mod host_file;
+mod host_record;
 mod laws;
 mod opening;
 mod streams;
+mod system_file;
 
 pub use arguments::{ArgumentsFault, Choice, FileName};
 pub use command_line::choice;
 pub use file_disk::FileDisk;
 pub use file_fault::FileFault;
+pub use host_disk::HostDisk;
+pub use host_file::{Host, HostFile};
 pub use laws::{
     each_file_is_apart, each_image_may_be_found, honest_where_an_image_is_found,
     opened_again_is_left_by_cut, what_is_found_is_an_image,
 };
 pub use streams::{StandIns, Streams, streams_into_sessions};
+pub use system_file::SystemFile;

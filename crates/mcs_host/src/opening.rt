@@ -1,17 +1,16 @@
 //! A file of the host, opened and locked, and made and filled where that is asked for.
-ghost use Rattle.std.specs.Prelude.{◌≡◌, ◌<◌, ◌≤◌, IfOk, IsTrue, vec_len};
+ghost use Rattle.std.specs.Prelude.{◌≡◌, ◌==◌, ◌↔◌, ◌<◌, ◌≤◌, [], ◌∷◌, IfOk, OnOk, IsTrue, is_ok, true, vec_len};
+ghost use Rattle.std.specs.List.{list_all};
 ghost use Rattle.mcs_host.specs.FileDisk.{IsApart};
+ghost use Rattle.mcs_host.specs.HostCalls.{HasCalls, IsSame, Made, SyncAll};
+ghost use Rattle.mcs_host.specs.Opening.{AreZeros, FolderCalls, IsBegun, IsBlank, IsFilledAfter, IsOpening, IsReadAfter, IsWrittenAfter, folder_of, locking_calls};
 
 use crate::file_fault::FileFault;
-use crate::streams::{is_same_file, streams_that_are};
+use crate::host_file::{Host, HostFile};
 use mcs_journal::FILE_SIZE;
 use std::alloc::Global;
-use std::fs::{self, File, OpenOptions};
 use std::io::{self, ErrorKind};
-use std::os::fd::AsRawFd;
-use std::os::unix::fs::FileExt;
 use std::path::Path;
-use std::rt::Files;
 
 /// So much is seen of a longer file: one byte more than a session file has, so that its size tells
 /// that it is none.
@@ -25,29 +24,32 @@ const STANDARD_ERROR: i32 = 2;
 /// it is not there, and filled with [`FILE_SIZE`] zero bytes where it is empty; a file that cannot
 /// be filled is empty again, and one that was made for nothing is removed. A file that a standard
 /// stream is too is not opened.
-pub(crate) fn open_and_read<R: Files<File = File>>(
-    rt: &R,
+pub(crate) fn open_and_read<N: Host>(
+    host: &N,
     alloc: Global,
     file: &str,
     make: bool,
     bytes: &mut Vec<u8>,
-) -> Result<(File, bool), FileFault>
-    requires { vec_len bytes.old ≡ MOST_BYTES }
-    ensures apart { IfOk result (λ opened. IsApart opened.0) }
+) -> Result<(N::File, bool), FileFault>
+    requires len { vec_len bytes.old ≡ MOST_BYTES }
+    requires zeros { AreZeros bytes.old.items }
+    ensures apart { IfOk result (λ opened. IsApart (N.File.state opened.0).number) }
     ensures at_most { vec_len bytes.new ≤ MOST_BYTES }
     ensures not_empty { IsTrue make → IfOk result (λ _. 0 < vec_len bytes.new) }
+    ensures asked { IfOk result (λ opened. IsOpening make file.now bytes.new.items opened.1
+        (N.File.state opened.0)) }
 {
-    let streams = streams_that_are(rt, file);
+    let streams = host.streams_that_are(file);
     if streams.any() {
         return Err(FileFault::Stream(streams));
     }
-    let (opened, is_made) = open_or_make(rt, file, make)?;
-    match lock_and_read(rt, alloc, &opened, file, make, bytes) {
+    let (mut opened, is_made) = open_or_make(host, file, make)?;
+    match lock_and_read(host, alloc, &mut opened, file, make, bytes) {
         Ok(is_name_stable) => Ok((opened, is_name_stable)),
         Err(fault) => {
             if is_made && fault != FileFault::InUse {
                 // what was refused is told, and not that an empty file could not be removed
-                let _ = remove_empty(rt, alloc, &opened, file);
+                let _ = remove_empty(host, alloc, &mut opened, file);
             }
             Err(fault)
         }
@@ -55,63 +57,125 @@ pub(crate) fn open_and_read<R: Files<File = File>>(
 }
 
 // Opens a file, and tells whether it was made.
-fn open_or_make<R: Files<File = File>>(rt: &R, file: &str, make: bool) -> io::Result<(File, bool)> {
-    let mut options = OpenOptions::new();
-    options.read(true).write(true);
-    match options.open(rt, file) {
+fn open_or_make<N: Host>(host: &N, file: &str, make: bool) -> io::Result<(N::File, bool)>
+    ensures named { IfOk result (λ opened. (N.File.state opened.0).name ≡ file.now) }
+    ensures begun { IfOk result (λ opened. IsBegun make (N.File.state opened.0).calls) }
+{
+    match host.open(file) {
         Ok(opened) => Ok((opened, false)),
         Err(error) if make && error.kind() == ErrorKind::NotFound => {
-            Ok((options.create(true).open(rt, file)?, true))
+            Ok((host.open_or_make(file)?, true))
         }
         Err(error) => Err(error),
     }
 }
 
 // Locks a file before anything else is asked of it, fills it where it is to be filled, and reads
-// it. What it holds is on the device by then, and so is its name, where that is answered. A file
-// with the number of a standard stream would get what the program writes to that: it is refused.
-fn lock_and_read<R: Files<File = File>>(
-    rt: &R,
+// it. What it holds is on the device by then, and so is its name, where that is answered.
+fn lock_and_read<N: Host>(
+    host: &N,
     alloc: Global,
-    opened: &File,
+    opened: &mut N::File,
     file: &str,
     make: bool,
     bytes: &mut Vec<u8>,
 ) -> Result<bool, FileFault>
-    requires { vec_len bytes.old ≡ MOST_BYTES }
-    ensures apart { IfOk result (λ _. IsApart opened.now) }
+    requires len { vec_len bytes.old ≡ MOST_BYTES }
+    requires zeros { AreZeros bytes.old.items }
+    requires named { (N.File.state opened.old).name ≡ file.now }
+    requires begun { IsBegun make (N.File.state opened.old).calls }
+    ensures apart { OnOk result (IsApart (N.File.state opened.new).number) }
     ensures at_most { vec_len bytes.new ≤ MOST_BYTES }
-    ensures not_empty { IsTrue make → IfOk result (λ _. 0 < vec_len bytes.new) }
+    ensures not_empty { IsTrue make → OnOk result (0 < vec_len bytes.new) }
+    ensures asked { IfOk result (λ is_name_stable. IsOpening make file.now bytes.new.items
+        is_name_stable (N.File.state opened.new)) }
 {
-    if opened.as_raw_fd() <= STANDARD_ERROR {
-        return Err(FileFault::Device);
-    }
-    opened.try_lock()?;
-    if !is_named(rt, opened, file)? {
-        return Err(FileFault::InUse);
-    }
-    let found = opened.metadata()?.len().min(MOST_BYTES as u64) as usize;
+    lock(host, opened, file)?;
+    let found = opened.length()?;
     if make && found == 0 {
         bytes.truncate(FILE_SIZE);
-        fill(rt, alloc, opened, file, bytes).map_err(writing_fault)?;
-        opened.read_exact_at(bytes, 0)?;
+        fill_and_read(host, alloc, opened, file, bytes)?;
         return Ok(true);
     }
-    bytes.truncate(found);
-    opened.sync_all()?;
-    let is_name_stable = sync_folder_if_it_may_be(rt, alloc, file).map_err(writing_fault)?;
-    opened.read_exact_at(bytes, 0)?;
-    if make && found == FILE_SIZE && bytes.iter().all(|byte| *byte == 0) {
+    bytes.truncate(found.min(MOST_BYTES as u64) as usize);
+    let is_name_stable = sync_and_read(host, alloc, opened, file, bytes)?;
+    if make && is_blank(bytes) {
         // It may have holes, as where an earlier fill was cut off.
-        write_whole(rt, alloc, opened, file, bytes).map_err(writing_fault)?;
+        write_whole(host, alloc, opened, file, bytes).map_err(writing_fault)?;
     }
     Ok(is_name_stable)
 }
 
-// The name still stands for the file that was opened. Another program may have removed it before
-// the lock was had.
-fn is_named<R: Files<File = File>>(rt: &R, opened: &File, file: &str) -> io::Result<bool> {
-    Ok(is_same_file(&fs::metadata(rt, file)?, &opened.metadata()?))
+// Takes the lock of a file whose name still stands for it: another program may have removed the file
+// before the lock was had. A file with the number of a standard stream would get what the program
+// writes to that: it is refused.
+fn lock<N: Host>(host: &N, opened: &mut N::File, file: &str) -> Result<(), FileFault>
+    ensures apart { OnOk result (IsApart (N.File.state opened.new).number) }
+    ensures same { OnOk result (IsSame (N.File.state opened.old) (N.File.state opened.new)) }
+    ensures asked { OnOk result ((N.File.state opened.new).calls
+        ≡ locking_calls file.now (N.File.state opened.old).calls) }
+{
+    if opened.number() <= STANDARD_ERROR {
+        return Err(FileFault::Device);
+    }
+    opened.try_lock()?;
+    if !host.is_named(opened, file)? {
+        return Err(FileFault::InUse);
+    }
+    Ok(())
+}
+
+// Fills an empty file with these bytes, which are zeros, and reads it back.
+fn fill_and_read<N: Host>(
+    host: &N,
+    alloc: Global,
+    opened: &mut N::File,
+    file: &str,
+    bytes: &mut Vec<u8>,
+) -> Result<(), FileFault>
+    ensures len { vec_len bytes.new ≡ vec_len bytes.old }
+    ensures same { OnOk result (IsSame (N.File.state opened.old) (N.File.state opened.new)) }
+    ensures asked { OnOk result (IsFilledAfter file.now bytes.old.items bytes.new.items
+        (N.File.state opened.old).calls (N.File.state opened.new).calls) }
+{
+    fill(host, alloc, opened, file, bytes).map_err(writing_fault)?;
+    opened.read_at(0, bytes)?;
+    Ok(())
+}
+
+// Makes a file that was there stable, and then reads as many of its bytes; and whether its name is
+// stable too.
+fn sync_and_read<N: Host>(
+    host: &N,
+    alloc: Global,
+    opened: &mut N::File,
+    file: &str,
+    bytes: &mut Vec<u8>,
+) -> Result<bool, FileFault>
+    ensures len { vec_len bytes.new ≡ vec_len bytes.old }
+    ensures same { OnOk result (IsSame (N.File.state opened.old) (N.File.state opened.new)) }
+    ensures asked { IfOk result (λ is_name_stable. IsReadAfter file.now bytes.new.items
+        is_name_stable (N.File.state opened.old).calls (N.File.state opened.new).calls) }
+{
+    opened.sync_all()?;
+    let is_name_stable = sync_folder_if_it_may_be(host, alloc, opened, file).map_err(
+        writing_fault,
+    )?;
+    opened.read_at(0, bytes)?;
+    Ok(is_name_stable)
+}
+
+// The bytes are those of a blank file.
+fn is_blank(bytes: &[u8]) -> bool
+    ensures { IsTrue result ↔ IsBlank bytes.now }
+{
+    bytes.len() == FILE_SIZE && are_zeros(bytes)
+}
+
+fn are_zeros(bytes: &[u8]) -> bool
+    ensures { result ≡ list_all (λ b. b == 0) bytes.now }
+{
+    bytes.iter().all(|byte| *byte == 0)
 }
 
 // Why a file or its name was not made stable. The name that a link leads to takes memory.
@@ -123,17 +187,21 @@ fn writing_fault(error: io::Error) -> FileFault {
 }
 
 // Writes these bytes, which are zeros, to an empty file. Where that fails, it is empty again.
-fn fill<R: Files<File = File>>(
-    rt: &R,
+fn fill<N: Host>(
+    host: &N,
     alloc: Global,
-    opened: &File,
+    opened: &mut N::File,
     file: &str,
     zeros: &[u8],
-) -> io::Result<()> {
-    let filled = write_whole(rt, alloc, opened, file, zeros);
+) -> io::Result<()>
+    ensures same { OnOk result (IsSame (N.File.state opened.old) (N.File.state opened.new)) }
+    ensures asked { OnOk result (IsWrittenAfter file.now zeros.now
+        (N.File.state opened.old).calls (N.File.state opened.new).calls) }
+{
+    let filled = write_whole(host, alloc, opened, file, zeros);
     if filled.is_err() {
         // what was refused is told
-        let _ = opened.set_len(0);
+        let _ = opened.set_length(0);
     }
     filled
 }
@@ -141,45 +209,59 @@ fn fill<R: Files<File = File>>(
 // Writes all of a file, so that each byte has its place on the device, and makes it and its name
 // stable. It has its size at once, so that a stop half way leaves a file that a new session can
 // still be begun in.
-fn write_whole<R: Files<File = File>>(
-    rt: &R,
+fn write_whole<N: Host>(
+    host: &N,
     alloc: Global,
-    opened: &File,
+    opened: &mut N::File,
     file: &str,
     bytes: &[u8],
-) -> io::Result<()> {
-    opened.set_len(bytes.len() as u64)?;
-    opened.write_all_at(bytes, 0)?;
+) -> io::Result<()>
+    ensures same { OnOk result (IsSame (N.File.state opened.old) (N.File.state opened.new)) }
+    ensures asked { OnOk result (IsWrittenAfter file.now bytes.now
+        (N.File.state opened.old).calls (N.File.state opened.new).calls) }
+{
+    opened.set_length(bytes.len() as u64)?;
+    opened.write_at(0, bytes)?;
     opened.sync_all()?;
-    sync_folder(rt, alloc, file)
+    sync_folder(host, alloc, opened, file)
 }
 
 // Makes the name of a file stay after a power cut, in the folder that links lead to.
-fn sync_folder<R: Files<File = File>>(rt: &R, alloc: Global, file: &str) -> io::Result<()> {
-    if !fs::symlink_metadata(rt, file)?.is_symlink() {
-        return sync_folder_of(rt, file);
+fn sync_folder<N: Host>(host: &N, alloc: Global, opened: &mut N::File, file: &str) -> io::Result<()>
+    ensures same { IsSame (N.File.state opened.old) (N.File.state opened.new) }
+    ensures asked { FolderCalls file.now (is_ok result)
+        (N.File.state opened.old).calls (N.File.state opened.new).calls }
+{
+    if !host.is_link(opened, file)? {
+        return host.sync_folder(opened, folder_of(file));
     }
-    let place = rt.canonicalize(alloc, file)?;
-    sync_folder_of(rt, place.as_str())
+    let place = host.real_name(alloc, opened, file)?;
+    host.sync_folder(opened, folder_of(place.as_str()))
 }
 
-// The same, in the folder of this name.
-fn sync_folder_of<R: Files<File = File>>(rt: &R, file: &str) -> io::Result<()> {
-    let folder = match Path::new(file).parent() {
+// The folder of the file of this name.
+fn folder_of(name: &str) -> &str
+    ensures { result.now ≡ folder_of name.now }
+{
+    match Path::new(name).parent() {
         Some(folder) if !folder.as_str().is_empty() => folder.as_str(),
         _ => ".",
-    };
-    File::open(rt, folder)?.sync_all()
+    }
 }
 
-// The same of a file that was there: whether it was done. It is not where the folder may not be
-// read, where the host syncs no folder, and where a link leads to one whose name is no text.
-fn sync_folder_if_it_may_be<R: Files<File = File>>(
-    rt: &R,
+// Makes the name of a file that was there stay: whether it was done. It is not where the folder may
+// not be read, where the host syncs no folder, and where a link leads to one whose name is no text.
+fn sync_folder_if_it_may_be<N: Host>(
+    host: &N,
     alloc: Global,
+    opened: &mut N::File,
     file: &str,
-) -> io::Result<bool> {
-    match sync_folder(rt, alloc, file) {
+) -> io::Result<bool>
+    ensures same { OnOk result (IsSame (N.File.state opened.old) (N.File.state opened.new)) }
+    ensures asked { IfOk result (λ done. FolderCalls file.now done
+        (N.File.state opened.old).calls (N.File.state opened.new).calls) }
+{
+    match sync_folder(host, alloc, opened, file) {
         Ok(()) => Ok(true),
         Err(error) => match error.kind() {
             ErrorKind::PermissionDenied | ErrorKind::InvalidInput | ErrorKind::InvalidFilename => {
@@ -191,15 +273,15 @@ fn sync_folder_if_it_may_be<R: Files<File = File>>(
 }
 
 // Removes a file that is empty; a link to it stays.
-fn remove_empty<R: Files<File = File>>(
-    rt: &R,
+fn remove_empty<N: Host>(
+    host: &N,
     alloc: Global,
-    opened: &File,
+    opened: &mut N::File,
     file: &str,
 ) -> io::Result<()> {
-    if opened.metadata()?.len() > 0 {
+    if opened.length()? > 0 {
         return Ok(());
     }
-    let place = rt.canonicalize(alloc, file)?;
-    fs::remove_file(rt, place.as_str())
+    let place = host.real_name(alloc, opened, file)?;
+    host.remove(place.as_str())
 }

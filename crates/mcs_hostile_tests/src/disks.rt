@@ -36,11 +36,11 @@ impl NotingDisk {
 }
 
 impl Disk for NotingDisk {
-    // Contracts see its size, its faults and how many writes it had alone.
+    // Contracts see its size, its faults and the calls on it alone.
     ghost state = { λ d. record {
       size = (⟦<MemDisk as Disk>⟧.state d.disk).size;
       faults = (⟦<MemDisk as Disk>⟧.state d.disk).faults;
-      writes = (⟦<MemDisk as Disk>⟧.state d.disk).writes;
+      calls = (⟦<MemDisk as Disk>⟧.state d.disk).calls;
       honest = ⊥;
       bytes = [];
       clock = 0;

@@ -1,3 +1,5 @@
+pub mod Asked
+pub mod Asking
 pub mod Headers
 pub mod Logs
 pub mod NextRecord

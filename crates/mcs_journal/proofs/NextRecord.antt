@@ -3,7 +3,7 @@ use Rattle.std.proofs.Common.{◌≡◌, ◌≤◌, ◌<◌, ◌+◌, ◌*◌, �
 use Rattle.std.proofs.lemmas.List.{drop-drop}
 use Rattle.std.proofs.Math.Seq.{take-add}
 use Rattle.mcs_disk.specs.Disk.{part}
-use Rattle.mcs_journal.specs.File.{frame_of, be16}
+use Rattle.mcs_journal.specs.File.{be16}
 use Rattle.mcs_journal.specs.Writing.{IsNext, IsNoRecord}
 use Rattle.mcs_journal.proofs.Parts.{part_at, part_part}
 

@@ -1,5 +1,5 @@
 -- A change of a durable disk in two commits.
-use Rattle.std.proofs.Common.{◌≡◌, inl, inr, ⊎_elim, ◌+◌, ℕ, List, length, arith, Result, Ok, Err, subst, sym}
+use Rattle.std.proofs.Common.{◌≡◌, inl, inr, ⊎_elim, ◌+◌, ℕ, List, length, arith, Result, Ok, subst, sym}
 use Rattle.std.proofs.lemmas.Result.{on_ok_weaker}
 use Rattle.mcs_disk.specs.Disk.{DiskState, Torn, IsLawful, part}
 use Rattle.mcs_disk.specs.CallLaws.{untorn}

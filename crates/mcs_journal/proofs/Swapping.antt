@@ -1,5 +1,5 @@
 -- What a file holds after each of the two steps that replace its contents.
-use Rattle.std.proofs.Common.{◌≡◌, ◌⊎◌, inl, inr, ◌≤◌, ◌+◌, List, [], ◌∷◌, ℕ, length, get_or, refl, sym, ◌∙◌, ap, subst, arith}
+use Rattle.std.proofs.Common.{◌≡◌, ◌⊎◌, inl, inr, ◌≤◌, ◌+◌, List, [], ◌∷◌, ℕ, get_or, refl, sym, ◌∙◌, ap, subst, arith}
 use Rattle.mcs_disk.specs.Disk.{part, Torn}
 use Rattle.mcs_journal.specs.File.{Holds, IsLog, slot_at, slot_of, slot_named, start_of}
 use Rattle.mcs_journal.specs.Writing.{IsArea, other_slot}

@@ -1,3 +1,4 @@
+pub mod Calls
 pub mod StoreCalls
 pub mod File
 pub mod Store

@@ -1,5 +1,6 @@
 -- What contracts see of a store, and what its fields keep. (Our own choice.)
 use Rattle.std.specs.Prelude.{◌≡◌, ℕ, ◌+◌, ◌≤◌, Bool, List, length, IsTrue}
+use Rattle.mcs_disk.specs.CallList.{unsynced}
 use Rattle.mcs_disk.specs.Disk.{DiskState}
 use Rattle.mcs_disk.specs.Moments.{IsDurable}
 use Rattle.mcs_journal.specs.File.{Holds, slot_of, frames_of}
@@ -10,6 +11,8 @@ pub record StoreView (D : Type 0) : Type 0 where
   pub disk : D
   -- no call on it has answered a device fault
   pub live : Bool
+  -- the slot that holds its snapshot and its log
+  pub slot : Slot
   -- how many bytes of records its log holds
   pub used : ℕ
 
@@ -24,11 +27,12 @@ pub record IsIntactStore (disk : DiskState) (slot : Slot) (used : ℕ) : Type 0 
   pub count : used ≡ length (frames_of records)
 
 -- the invariant of a store: its disk has the size of a session file, the log has room for one more
--- commit byte, the buffer takes a snapshot area and a commit byte, and an open store on an honest
--- disk is intact
+-- commit byte, the buffer takes a snapshot area and a commit byte, an open store has synced each write
+-- on its disk, and on an honest disk it is intact
 pub record IsStore (disk : DiskState) (live : Bool) (slot : Slot) (used : ℕ) (buffer : List ℕ)
     : Type 0 where
   pub disk_size : disk.size ≡ FILE_SIZE
   pub within : used + 1 ≤ LOG_SIZE
   pub room : length buffer ≡ BUFFER_SIZE
+  pub synced : IsTrue live → unsynced disk.calls ≡ 0
   pub intact : IsTrue live → disk.honest → IsIntactStore disk slot used

@@ -1,9 +1,11 @@
 //! Reads the contents of a disk: its snapshot and records. Nothing here writes.
-ghost use Rattle.std.specs.Prelude.{◌≡◌, ◌≢◌, ◌≤◌, ◌<◌, ◌+◌, ◌^◌, List, ℕ, length, slice_index, IfOk, IfSome, IfNone, OnOk, IsErr, IsErrOf};
+ghost use Rattle.std.specs.Prelude.{◌≡◌, ◌≢◌, ◌≤◌, ◌<◌, ◌+◌, ◌*◌, ◌^◌, List, [], ◌∷◌, ◌++◌, ℕ, length, slice_index, IfOk, IfSome, IfNone, OnOk, OnErr, IsErr, IsErrOf};
 ghost use Rattle.mcs_disk.specs.Disk.{part};
 ghost use Rattle.mcs_disk.specs.Moments.{IsDurable, ReadsOnly};
 ghost use Rattle.mcs_journal.specs.declared.format.TheConstants.{FILE_SIZE};
 ghost use Rattle.mcs_journal.specs.File.{Holds, IsLog, slot_of, frames_of, start_of};
+ghost use Rattle.mcs_disk.specs.CallList.{WasRead, Makes};
+ghost use Rattle.mcs_journal.specs.Calls.{OnlyRead, RefusedOpenCalls, many_reads, open_calls};
 ghost use Rattle.mcs_journal.specs.Writing.{IsHeader, IsNext, IsNoRecord, IsSnapshot};
 
 use crate::bytes::Bytes;
@@ -20,6 +22,7 @@ use std::alloc::Global;
 pub fn read_at<D: Disk>(disk: &mut D, at: usize, into: &mut [u8]) -> Result<(), DiskFault>
     requires { at + length into.old ≤ (D.state disk.old).size }
     ensures reads { ReadsOnly (D.state disk.old) (D.state disk.new) (IsErr result) }
+    ensures calls { Makes (WasRead ∷ []) (D.state disk.old).calls (D.state disk.new).calls result }
     ensures ticks { (D.state disk.old).honest
         → OnOk result ((D.state disk.new).clock ≡ (D.state disk.old).clock + 1) }
     ensures given { (D.state disk.old).honest
@@ -41,6 +44,12 @@ pub fn read_record<D: Disk>(
     requires some { 1 ≤ room }
     ensures reads { ReadsOnly (D.state disk.old) (D.state disk.new)
         (IsErrOf result OpenFault.Device) }
+    ensures calls { IfOk result (λ o. IfNone o
+        ((D.state disk.new).calls ≡ many_reads 1 ++ (D.state disk.old).calls)) }
+    ensures record_calls { IfOk result (λ o. IfSome o (λ r.
+        (D.state disk.new).calls ≡ many_reads 3 ++ (D.state disk.old).calls)) }
+    ensures refused_calls { OnErr result
+        (OnlyRead (D.state disk.old).calls (D.state disk.new).calls) }
     ensures fits_in { IfOk result (λ o. IfSome o (λ r. length r + 4 ≤ room)) }
     ensures closed { (D.state disk.old).honest
         → IfOk result (λ o. IfNone o (slice_index (D.state disk.old).bytes at ≢ 1)) }
@@ -82,6 +91,10 @@ pub fn read_log<D: Disk>(alloc: Global, disk: &mut D, at: usize) -> Result<Log, 
     requires fits { (D.state disk.old).size < 2 ^ 64 }
     ensures reads { ReadsOnly (D.state disk.old) (D.state disk.new)
         (IsErrOf result OpenFault.Device) }
+    ensures calls { IfOk result (λ log. (D.state disk.new).calls
+        ≡ many_reads (1 + 3 * length log.records.items) ++ (D.state disk.old).calls) }
+    ensures refused_calls { OnErr result
+        (OnlyRead (D.state disk.old).calls (D.state disk.new).calls) }
     ensures within { IfOk result (λ log. log.used + 1 ≤ LOG_SIZE) }
     ensures found { (D.state disk.old).honest
         → IfOk result (λ log. IsLog log.records.items (part at LOG_SIZE (D.state disk.old).bytes)
@@ -105,6 +118,9 @@ pub fn read_header<D: Disk>(disk: &mut D) -> Result<Slot, OpenFault>
     requires size { (D.state disk.old).size ≡ FILE_SIZE }
     ensures reads { ReadsOnly (D.state disk.old) (D.state disk.new)
         (IsErrOf result OpenFault.Device) }
+    ensures calls { OnOk result ((D.state disk.new).calls ≡ many_reads 1 ++ (D.state disk.old).calls) }
+    ensures refused_calls { OnErr result
+        (OnlyRead (D.state disk.old).calls (D.state disk.new).calls) }
     ensures header { (D.state disk.old).honest
         → IfOk result (λ slot. IsHeader (D.state disk.old).bytes slot) }
     ensures no_session { (D.state disk.old).honest → IsErrOf result OpenFault.NotASession
@@ -130,6 +146,9 @@ pub fn read_snapshot<D: Disk>(alloc: Global, disk: &mut D, start: usize) -> Resu
     requires fits { (D.state disk.old).size < 2 ^ 64 }
     ensures reads { ReadsOnly (D.state disk.old) (D.state disk.new)
         (IsErrOf result OpenFault.Device) }
+    ensures calls { OnOk result ((D.state disk.new).calls ≡ many_reads 2 ++ (D.state disk.old).calls) }
+    ensures refused_calls { OnErr result
+        (OnlyRead (D.state disk.old).calls (D.state disk.new).calls) }
     ensures snap { (D.state disk.old).honest
         → IfOk result (λ snap. IsSnapshot (D.state disk.old).bytes start snap) }
     ensures damaged { (D.state disk.old).honest → IsErrOf result OpenFault.Damaged
@@ -162,6 +181,10 @@ pub fn read_contents<D: Disk>(alloc: Global, disk: &mut D) -> Result<Found, Open
     requires size { (D.state disk.old).size ≡ FILE_SIZE }
     ensures reads { ReadsOnly (D.state disk.old) (D.state disk.new)
         (IsErrOf result OpenFault.Device) }
+    ensures calls { IfOk result (λ found. (D.state disk.new).calls
+        ≡ open_calls (length found.log.records.items) ++ (D.state disk.old).calls) }
+    ensures refused_calls { OnErr result
+        (RefusedOpenCalls (D.state disk.old).calls (D.state disk.new).calls) }
     ensures within { IfOk result (λ found. found.log.used + 1 ≤ LOG_SIZE) }
     ensures durable { (D.state disk.old).honest → OnOk result (IsDurable (D.state disk.new)) }
     ensures active { (D.state disk.old).honest

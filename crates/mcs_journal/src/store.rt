@@ -2,8 +2,11 @@
 ghost use Rattle.std.specs.Prelude.{◌≡◌, ◌≢◌, ◌⊎◌, ◌≤◌, ◌+◌, ◌↔◌, List, [], ◌∷◌, ◌++◌, ℕ, length, is_ok, IsTrue, IsErr, IsErrAnd, OnOk, OnErr, IfErr, IfOk};
 ghost use Rattle.mcs_disk.specs.Moments.{Changes, CountsFault, AddsNoImage, WritesNothing};
 ghost use Rattle.mcs_journal.specs.StoreCalls.{Creates, Opens, RefusesCreate, RefusesOpen};
-ghost use Rattle.mcs_journal.specs.declared.format.TheConstants.{MOST_RECORD, MOST_SNAPSHOT};
-ghost use Rattle.mcs_journal.specs.File.{HasRoom, Holds, IsRecord, frames_of};
+ghost use Rattle.mcs_disk.specs.CallList.{WasRead, Makes, OneUnsynced, unsynced};
+ghost use Rattle.mcs_journal.specs.declared.format.TheConstants.{AREA_SIZE, MOST_RECORD, MOST_SNAPSHOT};
+ghost use Rattle.mcs_journal.specs.File.{HasRoom, Holds, IsRecord, frames_of, slot_of, start_of};
+ghost use Rattle.mcs_journal.specs.Calls.{MakesWithArea, RefusedCreateCalls, RefusedOpenCalls, append_calls, create_calls, open_calls, replace_calls};
+ghost use Rattle.mcs_journal.specs.Writing.{other_slot};
 
 use crate::bytes::{Bytes, Records};
 use crate::fault::{CreateFault, OpenFault};
@@ -33,7 +36,7 @@ impl<D: Disk + Drop> Model for Store<D> {
 
     ghost Value = { StoreView D };
 
-    ghost view = { λ s. record { disk = s.disk; live = s.live; used = s.used } };
+    ghost view = { λ s. record { disk = s.disk; live = s.live; slot = s.slot; used = s.used } };
 
     ghost invariant = { λ s. IsStore (D.state s.disk) s.live s.slot s.used s.buffer.items };
 }
@@ -69,6 +72,16 @@ impl<D: Disk + Drop> Store<D> {
         ensures wrong_size { (D.state disk).size ≢ FILE_SIZE → IsErrAnd result (λ refused.
             ((refused.0 ≡ CreateFault.NotBlank) ⊎ (refused.0 ≡ CreateFault.NoMemory))
             × (refused.1 ≡ disk)) }
+        ensures slot { IfOk result (λ store. store.slot ≡ Slot.A) }
+        ensures calls { IfOk result (λ store. MakesWithArea snap.now create_calls
+            (WasRead ∷ (D.state disk).calls) (D.state store.disk).calls result) }
+        ensures refused_calls { IfErr result (λ refused. RefusedCreateCalls refused.0 snap.now
+            (D.state disk).calls (D.state refused.1).calls result) }
+        ensures one_unsynced { unsynced (D.state disk).calls ≡ 0
+            → IfOk result (λ store. OneUnsynced (D.state disk).calls (D.state store.disk).calls) }
+        ensures refused_one_unsynced { unsynced (D.state disk).calls ≡ 0
+            → IfErr result (λ refused. OneUnsynced (D.state disk).calls
+            (D.state refused.1).calls) }
 
         // on an honest disk
         ensures created { (D.state disk).honest → IfOk result (λ store.
@@ -115,6 +128,14 @@ impl<D: Disk + Drop> Store<D> {
         ensures wrong_size { (D.state disk).size ≢ FILE_SIZE → IsErrAnd result (λ refused.
             ((refused.0 ≡ OpenFault.NotASession) ⊎ (refused.0 ≡ OpenFault.NoMemory))
             × (refused.1 ≡ disk)) }
+        ensures calls { IfOk result (λ opened. (D.state opened.store.disk).calls
+            ≡ open_calls (length opened.records) ++ (D.state disk).calls) }
+        ensures refused_calls { IfErr result (λ refused.
+            RefusedOpenCalls (D.state disk).calls (D.state refused.1).calls) }
+        ensures one_unsynced { IfOk result (λ opened.
+            OneUnsynced (D.state disk).calls (D.state opened.store.disk).calls) }
+        ensures refused_one_unsynced { IfErr result (λ refused.
+            OneUnsynced (D.state disk).calls (D.state refused.1).calls) }
 
         // on an honest disk
         ensures opened { (D.state disk).honest → IfOk result (λ opened.
@@ -154,7 +175,10 @@ impl<D: Disk + Drop> Store<D> {
 
     /// No call on it has answered a device fault.
     pub fn is_open(&self) -> bool
-        ensures { result ≡ self.now.live }
+        ensures is { result ≡ self.now.live }
+        ensures synced { IsTrue self.now.live → unsynced (D.state self.now.disk).calls ≡ 0 }
+        ensures slot { IsTrue self.now.live → (D.state self.now.disk).honest
+            → self.now.slot ≡ slot_of (D.state self.now.disk).bytes }
     {
         self.live
     }
@@ -181,6 +205,12 @@ impl<D: Disk + Drop> Store<D> {
         ensures same_used { OnErr result (self.new.used ≡ self.old.used) }
         ensures counts { CountsFault (D.state self.old.disk) (D.state self.new.disk)
             (IsErr result) }
+        ensures slot { self.new.slot ≡ self.old.slot }
+        ensures calls { Makes (append_calls
+            (start_of self.old.slot + AREA_SIZE + self.old.used) payload.now)
+            (D.state self.old.disk).calls (D.state self.new.disk).calls result }
+        ensures one_unsynced { OneUnsynced (D.state self.old.disk).calls
+            (D.state self.new.disk).calls }
         ensures appends { (D.state self.old.disk).honest
             → (snap : List ℕ) (records : List (List ℕ))
             → Holds (D.state self.old.disk).bytes snap records
@@ -211,6 +241,12 @@ impl<D: Disk + Drop> Store<D> {
         ensures same_used { OnErr result (self.new.used ≡ self.old.used) }
         ensures counts { CountsFault (D.state self.old.disk) (D.state self.new.disk)
             (IsErr result) }
+        ensures slot { OnOk result (self.new.slot ≡ other_slot self.old.slot) }
+        ensures same_slot { OnErr result (self.new.slot ≡ self.old.slot) }
+        ensures calls { MakesWithArea snap.now (replace_calls (other_slot self.old.slot))
+            (D.state self.old.disk).calls (D.state self.new.disk).calls result }
+        ensures one_unsynced { OneUnsynced (D.state self.old.disk).calls
+            (D.state self.new.disk).calls }
         ensures replaces { (D.state self.old.disk).honest
             → (old_snap : List ℕ) (records : List (List ℕ))
             → Holds (D.state self.old.disk).bytes old_snap records

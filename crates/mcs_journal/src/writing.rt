@@ -1,11 +1,13 @@
 //! The writes of a store. Each change is two steps: bytes that nothing reads yet, and the byte that
 //! makes them count. Each step is a write and a sync, so that the second byte never reaches the
 //! disk before the bytes that it speaks of.
-ghost use Rattle.std.specs.Prelude.{◌≡◌, ◌≤◌, ◌+◌, List, [], ◌∷◌, ◌++◌, ℕ, length, take, slice_index, OnOk, IsErrOf};
+ghost use Rattle.std.specs.Prelude.{◌≡◌, ◌⊎◌, ◌≤◌, ◌+◌, List, [], ◌∷◌, ◌++◌, ℕ, length, take, slice_index, OnOk, IsErrOf};
 ghost use Rattle.mcs_disk.specs.Disk.{IsCall};
 ghost use Rattle.mcs_disk.specs.Moments.{Changes, IsDurable, KeepsEarlierImages, ReadsOnly};
 ghost use Rattle.mcs_journal.specs.declared.format.TheConstants.{FILE_SIZE, MOST_RECORD, MOST_SNAPSHOT, BUFFER_SIZE};
 ghost use Rattle.mcs_journal.specs.File.{Holds, IsBlank, IsRecord, be16, slot_of};
+ghost use Rattle.mcs_disk.specs.CallList.{WasRead, Makes};
+ghost use Rattle.mcs_journal.specs.Calls.{MakesWithArea, append_calls, commit_calls, create_calls, replace_calls};
 ghost use Rattle.mcs_journal.specs.Writing.{Commits, IsArea, IsCommitPlace, other_slot};
 
 use crate::fault::CreateFault;
@@ -21,6 +23,8 @@ use mcs_disk::{Disk, DiskFault};
 pub fn commit<D: Disk>(disk: &mut D, at: usize, from: &[u8]) -> Result<(), DiskFault>
     requires { at + length from.now ≤ (D.state disk.old).size }
     ensures call { IsCall (D.state disk.old) (D.state disk.new) result }
+    ensures calls { Makes (commit_calls at from.now) (D.state disk.old).calls
+        (D.state disk.new).calls result }
     ensures commits { (D.state disk.old).honest
         → Commits at from.now (D.state disk.old) (D.state disk.new) result }
 {
@@ -54,6 +58,8 @@ pub fn add_record<D: Disk>(
     requires room { length payload.now + 3 ≤ length buffer.old }
     requires good { IsRecord payload.now }
     ensures call { IsCall (D.state disk.old) (D.state disk.new) result }
+    ensures calls { Makes (append_calls commit_at payload.now) (D.state disk.old).calls
+        (D.state disk.new).calls result }
     ensures selector { (D.state disk.old).honest → 16 ≤ commit_at
         → slice_index (D.state disk.new).bytes 8 ≡ slice_index (D.state disk.old).bytes 8 }
     ensures changes { (D.state disk.old).honest → IsDurable (D.state disk.old)
@@ -94,6 +100,8 @@ pub fn replace_contents<D: Disk>(
     requires room { length buffer.old ≡ BUFFER_SIZE }
     requires short { length snap.now ≤ MOST_SNAPSHOT }
     ensures call { IsCall (D.state disk.old) (D.state disk.new) result }
+    ensures calls { MakesWithArea snap.now (replace_calls other) (D.state disk.old).calls
+        (D.state disk.new).calls result }
     ensures named { (D.state disk.old).honest
         → OnOk result (slot_of (D.state disk.new).bytes ≡ other) }
     ensures changes { (D.state disk.old).honest → IsDurable (D.state disk.old)
@@ -113,6 +121,9 @@ pub fn check_blank<D: Disk>(disk: &mut D) -> Result<(), CreateFault>
     requires size { (D.state disk.old).size ≡ FILE_SIZE }
     ensures reads { ReadsOnly (D.state disk.old) (D.state disk.new)
         (IsErrOf result CreateFault.Device) }
+    ensures calls { Makes (WasRead ∷ []) (D.state disk.old).calls (D.state disk.new).calls result
+        ⊎ (IsErrOf result CreateFault.NotBlank
+        × ((D.state disk.new).calls ≡ WasRead ∷ (D.state disk.old).calls)) }
     ensures ticks { (D.state disk.old).honest
         → OnOk result ((D.state disk.new).clock ≡ (D.state disk.old).clock + 1) }
     ensures blank { (D.state disk.old).honest
@@ -136,6 +147,8 @@ pub fn write_first<D: Disk>(disk: &mut D, buffer: &mut [u8], snap: &[u8]) -> Res
     requires room { length buffer.old ≡ BUFFER_SIZE }
     requires short { length snap.now ≤ MOST_SNAPSHOT }
     ensures call { IsCall (D.state disk.old) (D.state disk.new) result }
+    ensures calls { MakesWithArea snap.now create_calls (D.state disk.old).calls
+        (D.state disk.new).calls result }
     ensures room { length buffer.new ≡ BUFFER_SIZE }
     ensures goes_on { (D.state disk.old).honest
         → KeepsEarlierImages (D.state disk.old) (D.state disk.new) }

@@ -1,5 +1,5 @@
 -- Moments that follow one another, and states after a prefix of the commands.
-use Rattle.std.proofs.Common.{◌≡◌, inl, inr, ◌+◌, ◌≤◌, ◌<◌, ℕ, Bool, cond, List, [], ◌∷◌, ◌++◌, length, nat_le, take, sym, ap, ◌∙◌, refl, arith, length-append, slice_get, Some, suc, zero}
+use Rattle.std.proofs.Common.{◌≡◌, ◌+◌, ◌≤◌, ◌<◌, ℕ, Bool, cond, List, [], ◌∷◌, ◌++◌, length, nat_le, take, sym, ap, ◌∙◌, refl, arith, length-append, slice_get, Some, suc, zero}
 use Rattle.std.proofs.lemmas.Bool.{le-leb, lt-leb}
 use Rattle.std.proofs.lemmas.Grind.{common_steps}
 use Rattle.std.proofs.lemmas.List.Sums.{count_by-le-length, sum_by-append, sum_by-cons}
@@ -8,20 +8,17 @@ use Rattle.std.proofs.lemmas.List.{take_all}
 use Rattle.mcs_model.specs.declared.command.Command.{Command}
 use Rattle.mcs_model.specs.BenchState.{BenchState}
 use Rattle.mcs_model.specs.Fold.{fold}
-use Rattle.mcs_session.specs.KeptCommands.{IsAfterPrefix, IsSpaced, StandsForPrefix, acknowledged_by, last_moment}
+use Rattle.mcs_session.specs.Acknowledgements.{acknowledged_by, last_moment}
+use Rattle.mcs_session.specs.KeptCommands.{IsAfterPrefix, StandsForPrefix}
 use Rattle.mcs_session.specs.StandsFor.{StandsFor}
 use Rattle.mcs_session.proofs.Folds.{fold-append}
+use Rattle.mcs_session.proofs.Using.{AreRising}
 
 -- ---- moments
 
-pub spaced_le : (clock : ℕ) (ms : List ℕ) → IsSpaced clock ms → clock ≤ last_moment clock ms
-spaced_le clock [] h = omega arith
-spaced_le clock (m ∷ ms) h = let rest : m ≤ last_moment m ms = spaced_le m ms h.1 in
-    elim h.0 [ inl e ↦ omega (arith, e, rest) | inr e ↦ omega (arith, e, rest) ]
-
-pub spaced_append : (clock : ℕ) (ms ns : List ℕ) → IsSpaced clock ms → IsSpaced (last_moment clock ms) ns → IsSpaced clock (ms ++ ns)
-spaced_append clock [] ns h k = k
-spaced_append clock (m ∷ ms) ns h k = (h.0, spaced_append m ms ns h.1 k)
+pub rising_le : (clock : ℕ) (ms : List ℕ) → AreRising clock ms → clock ≤ last_moment clock ms
+rising_le clock [] h = omega arith
+rising_le clock (m ∷ ms) h = let first = h.0 in let rest : m ≤ last_moment m ms = rising_le m ms h.1 in omega (arith, first, rest)
 
 pub last_append : (clock : ℕ) (ms ns : List ℕ) → last_moment clock (ms ++ ns) ≡ last_moment (last_moment clock ms) ns
 last_append clock [] ns = refl
@@ -46,10 +43,11 @@ pub acknowledged_few : (t : ℕ) (ms : List ℕ) → acknowledged_by t ms ≤ le
 acknowledged_few t ms = count_by-le-length (λ m. nat_le m t) ms
 
 -- by a time before the first moment, none
-pub acknowledged_none : (t clock : ℕ) (ms : List ℕ) → t ≤ clock → IsSpaced clock ms → acknowledged_by t ms ≡ 0
+pub acknowledged_none : (t clock : ℕ) (ms : List ℕ) → t ≤ clock → AreRising clock ms → acknowledged_by t ms ≡ 0
 acknowledged_none t clock [] le h = refl
 acknowledged_none t clock (m ∷ ms) le h =
-    let later : t < m = elim h.0 [ inl e ↦ omega (arith, e, le) | inr e ↦ omega (arith, e, le) ] in
+    let rises = h.0 in
+    let later : t < m = omega (arith, rises, le) in
     let first = one_by-later t m later in
     let rest = acknowledged_none t m ms (omega (arith, later)) h.1 in
     let whole = acknowledged-cons t m ms in omega (arith, first, rest, whole)
@@ -58,27 +56,29 @@ pub acknowledged_before : (t m : ℕ) → t < m → acknowledged_by t (m ∷ [])
 acknowledged_before t m h = acknowledged-cons t m [] ∙ ap (λ (n : ℕ). n + 0) (one_by-later t m h)
 
 -- by the last moment, all
-pub acknowledged_all : (t clock : ℕ) (ms : List ℕ) → last_moment clock ms ≤ t → IsSpaced clock ms → acknowledged_by t ms ≡ length ms
+pub acknowledged_all : (t clock : ℕ) (ms : List ℕ) → last_moment clock ms ≤ t → AreRising clock ms → acknowledged_by t ms ≡ length ms
 acknowledged_all t clock [] le h = refl
 acknowledged_all t clock (m ∷ ms) le h =
-    let behind = spaced_le m ms h.1 in
+    let behind = rising_le m ms h.1 in
     let first = one_by-past t m (omega (arith, le, behind)) in
     let rest = acknowledged_all t m ms le h.1 in
     let whole = acknowledged-cons t m ms in omega (arith, first, rest, whole)
 
 -- by the j-th moment, j at least
-pub acknowledged_at : (clock : ℕ) (ms : List ℕ) (j m : ℕ) → slice_get ms j ≡ Some m → IsSpaced clock ms → (clock ≤ m) × (j + 1 ≤ acknowledged_by m ms)
+pub acknowledged_at : (clock : ℕ) (ms : List ℕ) (j m : ℕ) → slice_get ms j ≡ Some m → AreRising clock ms → (clock ≤ m) × (j + 1 ≤ acknowledged_by m ms)
 acknowledged_at clock [] j m e h = absurd (cc e)
 acknowledged_at clock (n ∷ ms) zero m e h =
     let same : n ≡ m = cc e in
     let first = one_by-past m n (omega (arith, same)) in
     let whole = acknowledged-cons m n ms in
-    (elim h.0 [ inl f ↦ omega (arith, f, same) | inr f ↦ omega (arith, f, same) ], omega (arith, first, whole))
+    let rises = h.0 in
+    (omega (arith, rises, same), omega (arith, first, whole))
 acknowledged_at clock (n ∷ ms) (suc j) m e h =
     let rest = acknowledged_at n ms j m e h.1 in
     let first = one_by-past m n rest.0 in
     let whole = acknowledged-cons m n ms in
-    (elim h.0 [ inl f ↦ omega (arith, f, rest.0) | inr f ↦ omega (arith, f, rest.0) ], omega (arith, first, whole, rest.1))
+    let rises = h.0 in
+    (omega (arith, rises, rest.0), omega (arith, first, whole, rest.1))
 
 -- ---- prefixes
 

@@ -7,17 +7,19 @@ use Rattle.mcs_journal.specs.declared.fault.OpenFault.TheVariants.{NotASession, 
 use Rattle.mcs_model.specs.declared.command.Command.{Command}
 use Rattle.mcs_model.specs.BenchState.{BenchState}
 use Rattle.mcs_model.specs.Fold.{fold}
-use Rattle.mcs_session.specs.SessionCalls.{RefusesSession}
-use Rattle.mcs_session.specs.KeptCommands.{IsAfterPrefix, IsReopened, KeepsCommands, StandsForPrefix, acknowledged_by}
+use Rattle.mcs_session.specs.SessionCalls.{OpensSession, RefusesSession}
+use Rattle.mcs_session.specs.Acknowledgements.{acknowledged_by}
+use Rattle.mcs_session.specs.KeptCommands.{IsAfterPrefix, KeepsCommands, StandsForPrefix}
 use Rattle.mcs_session.specs.StandsFor.{StandsFor}
-use Rattle.mcs_session.proofs.Prefixes.{acknowledged_all, acknowledged_at, prefix_all, prefix_fewer, spaced_le}
+use Rattle.mcs_session.proofs.Prefixes.{acknowledged_all, acknowledged_at, prefix_all, prefix_fewer, rising_le}
+use Rattle.mcs_session.proofs.Using.{counted, rising}
 use Rattle.mcs_session.proofs.Files.{is_session, one_state}
 
 pub reopened : (t : ℕ) (old new found opened : DiskState) (s u : BenchState) (done reached : List Command) (kept : KeepsCommands old new s done reached) → old.clock ≤ t
-    → IsReopened t new found opened u → IsAfterPrefix s reached (acknowledged_by t kept.moments) u
-reopened t old new found opened s u done reached kept le h =
-    let there = kept.each t found.bytes le h.cut.found in
-    subst (λ (v : BenchState). IsAfterPrefix s reached (acknowledged_by t kept.moments) v) (one_state found.bytes there.state u there.stands h.opens.stands) there.after
+    → IsLeftByCut t new found → OpensSession found opened u → IsAfterPrefix s reached (acknowledged_by t kept.acknowledged.moments) u
+reopened t old new found opened s u done reached kept le cut opens =
+    let there = kept.each t found.bytes le cut.found in
+    subst (λ (v : BenchState). IsAfterPrefix s reached (acknowledged_by t kept.acknowledged.moments) v) (one_state found.bytes there.state u there.stands opens.stands) there.after
 
 pub not_refused : (fault : OpenFault) (disk : DiskState) (s : BenchState) → IsLawful disk → StandsFor disk.bytes s → RefusesSession fault disk → (fault ≡ Device) ⊎ (fault ≡ NoMemory)
 not_refused NotASession disk s lawful stands h = absurd (is_session disk stands.snap stands.records lawful stands.holds h)
@@ -31,18 +33,19 @@ found_is_opened t old new found s done reached fault kept le cut lawful h =
     let there = kept.each t found.bytes le cut.found in not_refused fault found there.state lawful there.stands h
 
 pub since_moment : (old new : DiskState) (s : BenchState) (done reached : List Command) (kept : KeepsCommands old new s done reached) (j moment : ℕ) (image : List ℕ)
-    → slice_get kept.moments j ≡ Some moment → new.since moment image → StandsForPrefix s reached (j + 1) image
+    → slice_get kept.acknowledged.moments j ≡ Some moment → new.since moment image → StandsForPrefix s reached (j + 1) image
 since_moment old new s done reached kept j moment image e now =
-    let by = acknowledged_at old.clock kept.moments j moment e kept.spaced in
-    prefix_fewer s reached (j + 1) (acknowledged_by moment kept.moments) image by.1 (kept.each moment image by.0 now)
+    let by = acknowledged_at old.clock kept.acknowledged.moments j moment e (rising old new done kept.acknowledged) in
+    prefix_fewer s reached (j + 1) (acknowledged_by moment kept.acknowledged.moments) image by.1 (kept.each moment image by.0 now)
 
 pub at_end : (old new : DiskState) (s : BenchState) (done reached : List Command) (image : List ℕ) → KeepsCommands old new s done reached → new.images image → StandsForPrefix s reached (length done) image
 at_end old new s done reached image kept now =
-    let behind = spaced_le old.clock kept.moments kept.spaced in
-    let within = kept.within in
-    let count = kept.count in
-    let all = acknowledged_all new.clock old.clock kept.moments within kept.spaced in
-    prefix_fewer s reached (length done) (acknowledged_by new.clock kept.moments) image (omega (arith, all, count))
+    let rises = rising old new done kept.acknowledged in
+    let behind = rising_le old.clock kept.acknowledged.moments rises in
+    let within = kept.acknowledged.within in
+    let count = counted old new done kept.acknowledged in
+    let all = acknowledged_all new.clock old.clock kept.acknowledged.moments within rises in
+    prefix_fewer s reached (length done) (acknowledged_by new.clock kept.acknowledged.moments) image (omega (arith, all, count))
     (kept.each new.clock image (omega (arith, behind, within)) (kept.lawful.counts_now new.clock image (omega arith) now))
 
 pub whole_at_end : (old new : DiskState) (s : BenchState) (cs : List Command) (image : List ℕ) → KeepsCommands old new s cs cs → new.images image → StandsFor image (fold s cs)

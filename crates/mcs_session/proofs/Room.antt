@@ -1,25 +1,25 @@
 -- Room for a record, a snapshot where there is none, and the record after it.
-use Rattle.std.proofs.Common.{◌≡◌, ◌+◌, ◌≤◌, inl, inr, ⊎_elim, IsTrue, Result, Ok, Err, OnOk, is_ok, List, [], ◌∷◌, ◌++◌, ℕ, false, None, sym, ap, subst, refl, arith, length}
+use Rattle.std.proofs.Common.{◌≡◌, ◌+◌, ◌≤◌, inl, inr, ⊎_elim, IsTrue, Result, Ok, Err, OnOk, is_ok, List, [], ◌∷◌, ◌++◌, ℕ, Bool, true, false, if◌then◌else◌, None, sym, ap, ◌∙◌, subst, refl, arith, length}
 use Rattle.std.proofs.lemmas.Grind.{common_steps}
 use Rattle.mcs_disk.specs.Disk.{DiskState, IsLawful}
 use Rattle.mcs_disk.specs.Moments.{Changes, Either, IsDurable, LeavesOnly}
 use Rattle.mcs_disk.proofs.Composing.{leaves_map, leaves_then, no_later}
 use Rattle.mcs_journal.specs.File.{HasRoom, Holds, frames_of}
-use Rattle.mcs_journal.proofs.Unique.{same_snap, same_records}
 use Rattle.mcs_model.specs.declared.command.Command.{Command}
 use Rattle.mcs_model.specs.declared.command.Command.TheVariants.{Wire, Load, Press, Release, Run, Step, Poke, Test, Reset, Break, Unbreak, Watch, Unwatch}
 use Rattle.mcs_model.specs.declared.limits.TheConstants.{REPLAY_CYCLES}
 use Rattle.mcs_model.specs.BenchState.{BenchState}
 use Rattle.mcs_model.specs.Command.{refusal, after}
-use Rattle.mcs_session.specs.SessionCalls.{AcknowledgesCommand, LeavesEitherState, SettlesSession, TakesTicks}
+use Rattle.mcs_session.specs.CommandCalls.{AcknowledgesCommand, LeavesEitherState, SettlesSession}
 use Rattle.mcs_codec.specs.Codec.{Spells}
 use Rattle.mcs_codec.specs.CommandBytes.{command_bytes}
 use Rattle.mcs_session.specs.Invariant.{HasMadeRoom, IsRecorded, IsReplayed}
-use Rattle.mcs_session.specs.Cycles.{log_cycles, replay_cycles}
-use Rattle.mcs_session.specs.LogUse.{LogUse, UsesLog, use_after}
-use Rattle.mcs_session.specs.StandsFor.{HasSpace, HoldsState, StandsFor}
-use Rattle.mcs_session.proofs.Files.{at_of, recorded_new, stands_by, stands_new}
-use Rattle.mcs_session.proofs.Records.{pair_more, replayed_more, same_list}
+use Rattle.mcs_session.specs.Cycles.{replay_cycles}
+use Rattle.mcs_session.specs.LogUse.{UsesLog, empty_log, has_room_for}
+use Rattle.mcs_session.specs.StandsFor.{HoldsState, StandsFor}
+use Rattle.mcs_session.proofs.Files.{at_of, empty_uses, recorded_new, stands_by, stands_new}
+use Rattle.mcs_session.proofs.Records.{pair_more, replayed_more}
+use Rattle.mcs_session.proofs.Using.{has_no_room, has_room, log_on, record_uses, recorded_uses}
 
 -- ---- cycles
 
@@ -49,33 +49,22 @@ leaves_same disk cycles s was = record {
   before = λ t c le left. inl left;
 }
 
-pub room_there : (disk : DiskState) (used bytes more cycles : ℕ) (s : BenchState) (was : IsRecorded disk cycles s) → used ≡ length (frames_of was.stands.records)
-    → HasRoom used bytes → cycles + more ≤ REPLAY_CYCLES → HasMadeRoom disk disk bytes more cycles s
-room_there disk used bytes more cycles s was is room few =
-    let count = was.count in
-    let space : HasSpace disk.bytes bytes more = record { state = s; stands = was.stands; log = omega (arith, is, room); replay = omega (arith, count, few) } in
+pub room_there : (disk : DiskState) (used bytes more cycles : ℕ) (s : BenchState) (c : Command) (was : IsRecorded disk cycles s) → used ≡ length (frames_of was.stands.records)
+    → HasRoom used bytes → cycles + more ≤ REPLAY_CYCLES → bytes ≡ length (command_bytes c) → more ≡ replay_cycles c → HasMadeRoom disk disk c cycles s
+room_there disk used bytes more cycles s c was is room few is_long is_more =
+    let log = log_on disk cycles s was in
+    let uses = recorded_uses disk cycles s was in
+    let yes : has_room_for log c ≡ true = has_room log c (omega (arith, is, room, is_long), omega (arith, few, is_more)) in
+    let P : Bool → Type 0 = λ b. UsesLog disk.bytes (if b then log else empty_log) in
     record {
-      ticks = inl (space, refl);
-      there = λ _. refl;
-      replaced = λ none. absurd (none space);
+      log = log;
+      uses = uses;
+      ticks = ap (λ (b : Bool). disk.clock + (if b then 4 else 8)) (sym yes);
+      used = subst P (sym yes) uses;
       recorded = was;
     }
 
 -- ---- where there is none
-
--- what is kept of the log is what the disk holds
-pub no_space : (disk : DiskState) (used bytes more cycles : ℕ) (s : BenchState) (was : IsRecorded disk cycles s) → used ≡ length (frames_of was.stands.records)
-    → (HasRoom used bytes → cycles + more ≤ REPLAY_CYCLES → ⊥) → HasSpace disk.bytes bytes more → ⊥
-no_space disk used bytes more cycles s was is none there =
-    let snap = same_snap _ _ _ _ _ there.stands.holds was.stands.holds in
-    let records = same_records _ _ _ _ _ there.stands.holds was.stands.holds in
-    let commands = same_list false there.stands.snap was.stands.snap there.stands.records was.stands.records there.state s snap records there.stands.stand was.stands.stand in
-    let log : length (frames_of there.stands.records) ≡ length (frames_of was.stands.records) = ap (λ (rs : List (List ℕ)). length (frames_of rs)) records in
-    let replay : log_cycles there.stands.stand.commands ≡ log_cycles was.stands.stand.commands = ap log_cycles commands.1 in
-    let count = was.count in
-    let room = there.log in
-    let few = there.replay in
-    none (omega (arith, is, log, room)) (omega (arith, count, replay, few))
 
 -- what is recorded after a snapshot in the place of the records
 pub recorded_there : {T E : Type 0} (result : Result T E) (old new : DiskState) (used' cycles cycles' : ℕ) (s : BenchState) (was : IsRecorded old cycles s) → IsTrue (is_ok result)
@@ -85,16 +74,22 @@ recorded_there (Ok x) old new used' cycles cycles' s was ok changes empty =
 recorded_there (Err e) old new used' cycles cycles' s was ok changes empty = absurd (cc ok)
 
 -- a snapshot took the place of the records, or the disk failed
-pub room_made : {T E : Type 0} (result : Result T E) (old new : DiskState) (used used' bytes more cycles cycles' : ℕ) (s : BenchState) (was : IsRecorded old cycles s) → used ≡ length (frames_of was.stands.records)
-    → (HasRoom used bytes → cycles + more ≤ REPLAY_CYCLES → ⊥) → Changes 4 old new (λ c. Holds c was.stands.snap was.stands.records) (λ c. HoldsState c s) result
-    → OnOk result ((used' ≡ 0) × (cycles' ≡ 0)) → OnOk result (HasMadeRoom old new bytes more cycles' s)
-room_made (Ok x) old new used used' bytes more cycles cycles' s was is none changes empty = record {
-  ticks = inr (no_space old used bytes more cycles s was is none, changes.ticks);
-  there = λ space. absurd (no_space old used bytes more cycles s was is none space);
-  replaced = λ _. changes.after;
-  recorded = recorded_there (Ok x) old new used' cycles cycles' s was refl changes empty;
-}
-room_made (Err e) old new used used' bytes more cycles cycles' s was is none changes empty = tt
+pub room_made : {T E : Type 0} (result : Result T E) (old new : DiskState) (used used' bytes more cycles cycles' : ℕ) (s : BenchState) (c : Command) (was : IsRecorded old cycles s) → used ≡ length (frames_of was.stands.records)
+    → (HasRoom used bytes → cycles + more ≤ REPLAY_CYCLES → ⊥) → Changes 4 old new (λ f. Holds f was.stands.snap was.stands.records) (λ f. HoldsState f s) result
+    → OnOk result ((used' ≡ 0) × (cycles' ≡ 0)) → bytes ≡ length (command_bytes c) → more ≡ replay_cycles c → OnOk result (HasMadeRoom old new c cycles' s)
+room_made (Ok x) old new used used' bytes more cycles cycles' s c was is none changes empty is_long is_more =
+    let log = log_on old cycles s was in
+    let no : has_room_for log c ≡ false = has_no_room log c (λ room. let fits = room.0 in let few = room.1 in none (omega (arith, fits, is, is_long)) (omega (arith, few, is_more))) in
+    let P : Bool → Type 0 = λ b. UsesLog new.bytes (if b then log else empty_log) in
+    let four = changes.ticks in
+    record {
+      log = log;
+      uses = recorded_uses old cycles s was;
+      ticks = let eight : new.clock + 4 ≡ old.clock + 8 = omega (arith, four) in eight ∙ ap (λ (b : Bool). old.clock + (if b then 4 else 8)) (sym no);
+      used = subst P (sym no) (empty_uses new.bytes s changes.after);
+      recorded = recorded_there (Ok x) old new used' cycles cycles' s was refl changes empty;
+    }
+room_made (Err e) old new used used' bytes more cycles cycles' s c was is none changes empty is_long is_more = tt
 
 -- until the snapshot is there, the records are
 pub leaves_state : (old new : DiskState) (cycles : ℕ) (s : BenchState) (was : IsRecorded old cycles s)
@@ -139,18 +134,14 @@ recorded_more old new cycles more s c r was spells accepted is few durable held 
     let replayed = replayed_more false was.stands.snap r was.stands.records cycles more s c so_far spells accepted is few in
     record { durable = durable; stands = record { snap = was.stands.snap; records = was.stands.records ++ r ∷ []; holds = held; stand = replayed.stand }; count = replayed.count }
 
--- the steps of both
-pub ticked : (old mid new : DiskState) (bytes more cycles : ℕ) (s : BenchState) (c : Command) → bytes ≡ length (command_bytes c) → more ≡ replay_cycles c
-    → HasMadeRoom old mid bytes more cycles s → new.clock ≡ mid.clock + 4 → TakesTicks old new c
-ticked old mid new bytes more cycles s c is_long is_more made tick =
-    elim made.ticks [
-      | inl there ↦
-          let still = there.1 in
-          inl (subst (λ (n : ℕ). HasSpace old.bytes n (replay_cycles c)) is_long (subst (λ (n : ℕ). HasSpace old.bytes bytes n) is_more there.0), omega (arith, tick, still))
-      | inr none ↦
-          let four = none.1 in
-          inr (λ room. none.0 (subst (λ (n : ℕ). HasSpace old.bytes bytes n) (sym is_more) (subst (λ (n : ℕ). HasSpace old.bytes n (replay_cycles c)) (sym is_long) room)), omega (arith, tick, four))
-    ]
-
-pub acknowledged : (old new : DiskState) (cycles : ℕ) (s : BenchState) (c : Command) → LeavesEitherState old new s (after s c) → TakesTicks old new c → IsRecorded new cycles (after s c) → ((log : LogUse) → UsesLog old.bytes log → UsesLog new.bytes (use_after log c)) → AcknowledgesCommand old new s c
-acknowledged old new cycles s c moments ticks was used = record { moments = moments; ticks = ticks; log = used; now = at_of new (after s c) was.durable was.stands }
+-- the steps of both, and the log then
+pub acknowledged : (old mid new : DiskState) (cycles cycles' : ℕ) (s : BenchState) (c : Command) (r : List ℕ) → LeavesEitherState old new s (after s c) → (made : HasMadeRoom old mid c cycles s) → new.clock ≡ mid.clock + 4 → IsRecorded new cycles' (after s c)
+    → Spells r c → refusal s c ≡ None → cycles + replay_cycles c ≤ REPLAY_CYCLES → Holds new.bytes made.recorded.stands.snap (made.recorded.stands.records ++ r ∷ []) → AcknowledgesCommand old new s c
+acknowledged old mid new cycles cycles' s c r moments made tick was spells accepted few held = record {
+  moments = moments;
+  log = made.log;
+  uses = made.uses;
+  ticks = tick ∙ made.ticks;
+  used = record_uses mid new cycles s c r made.recorded spells accepted few held (if has_room_for made.log c then made.log else empty_log) made.used;
+  now = at_of new (after s c) was.durable was.stands;
+}

@@ -1,13 +1,15 @@
 -- What the fields of a session keep, and what its steps do.
-use Rattle.std.specs.Prelude.{◌≡◌, ◌⊎◌, ◌+◌, ◌≤◌, ℕ, List, Bool, IsTrue, Result, length}
+use Rattle.std.specs.Prelude.{◌≡◌, ◌+◌, ◌≤◌, ℕ, List, Bool, IsTrue, Result, length, if◌then◌else◌}
 use Rattle.mcs_disk.specs.Disk.{DiskState}
 use Rattle.mcs_disk.specs.Moments.{Changes, Either, IsDurable, LeavesOnly}
 use Rattle.mcs_journal.specs.File.{Holds}
 use Rattle.mcs_journal.specs.declared.format.TheConstants.{MOST_RECORD, MOST_SNAPSHOT}
 use Rattle.mcs_model.specs.declared.limits.TheConstants.{REPLAY_CYCLES}
 use Rattle.mcs_model.specs.BenchState.{BenchState}
+use Rattle.mcs_model.specs.declared.command.Command.{Command}
 use Rattle.mcs_session.specs.Cycles.{log_cycles}
-use Rattle.mcs_session.specs.StandsFor.{HoldsState, HasSpace, RecordsStandFor, StandsFor}
+use Rattle.mcs_session.specs.LogUse.{LogUse, UsesLog, empty_log, has_room_for, steps_of}
+use Rattle.mcs_session.specs.StandsFor.{HoldsState, RecordsStandFor, StandsFor}
 
 -- an honest disk of an open session: whatever a power cut leaves stands for the state of the bench,
 -- by a log of that many cycles
@@ -38,14 +40,14 @@ pub record IsReplayed
   pub stand : RecordsStandFor version_1 snap records s
   pub count : cycles ≡ log_cycles stand.commands
 
--- Room was made for a record of that many bytes and that many cycles: in no step where there was
--- room, and else in four, by a snapshot of the state in the place of all records. The disk stands
--- for the same state still, by a log of that many cycles.
-pub record HasMadeRoom (old new : DiskState) (bytes more cycles : ℕ) (s : BenchState) : Type 0 where
-  pub ticks : (HasSpace old.bytes bytes more × (new.clock ≡ old.clock))
-      ⊎ (¬ (HasSpace old.bytes bytes more) × (new.clock ≡ old.clock + 4))
-  pub there : HasSpace old.bytes bytes more → new.bytes ≡ old.bytes
-  pub replaced : ¬ (HasSpace old.bytes bytes more) → HoldsState new.bytes s
+-- Room was made for the record of a command: in no step where there was room, and else in four, by
+-- a snapshot of the state in the place of all records. The disk stands for the same state still, by
+-- a log of that many cycles.
+pub record HasMadeRoom (old new : DiskState) (c : Command) (cycles : ℕ) (s : BenchState) : Type 0 where
+  pub log : LogUse
+  pub uses : UsesLog old.bytes log
+  pub ticks : new.clock + 4 ≡ old.clock + steps_of log c
+  pub used : UsesLog new.bytes (if has_room_for log c then log else empty_log)
   pub recorded : IsRecorded new cycles s
 
 -- a pair stands on an honest disk, and it is all that is there

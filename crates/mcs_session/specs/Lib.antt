@@ -2,7 +2,9 @@ pub mod Cycles
 pub mod Version1
 pub mod StandsFor
 pub mod LogUse
+pub mod Acknowledgements
 pub mod SessionState
 pub mod SessionCalls
+pub mod CommandCalls
 pub mod Invariant
 pub mod KeptCommands

@@ -1,7 +1,7 @@
--- How much of a log is in use, and when the commands of a run are acknowledged for it.
-use Rattle.std.specs.Prelude.{◌≡◌, ◌+◌, ◌&&◌, Bool, ℕ, List, [], ◌∷◌, length, nat_le, if◌then◌else◌}
+-- How much of a log is in use, and what recording commands makes of it.
+use Rattle.std.specs.Prelude.{◌≡◌, ◌+◌, ◌&&◌, Bool, ℕ, List, [], ◌∷◌, length, nat_le, nat_lt, if◌then◌else◌}
 use Rattle.mcs_codec.specs.CommandBytes.{command_bytes}
-use Rattle.mcs_journal.specs.File.{frames_of}
+use Rattle.mcs_journal.specs.File.{frame_of, frames_of}
 use Rattle.mcs_journal.specs.declared.format.TheConstants.{LOG_SIZE}
 use Rattle.mcs_model.specs.declared.command.Command.{Command}
 use Rattle.mcs_model.specs.declared.limits.TheConstants.{REPLAY_CYCLES}
@@ -21,21 +21,20 @@ pub record UsesLog (file : List ℕ) (log : LogUse) : Type 0 where
   pub bytes : log.bytes ≡ length (frames_of stands.records)
   pub cycles : log.cycles ≡ log_cycles stands.stand.commands
 
--- there is room for the record of a command: for its bytes with one more commit byte, and for its
--- cycles
-abbrev pub has_room_for : LogUse → Command → Bool
-has_room_for log c =
-    nat_le (log.bytes + 3 + length (command_bytes c) + 1) LOG_SIZE
-    && nat_le (log.cycles + replay_cycles c) REPLAY_CYCLES
-
 abbrev pub empty_log : LogUse
 empty_log = record { bytes = 0; cycles = 0 }
 
+-- the use with the record of one more command
 abbrev pub with_record : LogUse → Command → LogUse
 with_record log c = record {
-  bytes = log.bytes + 3 + length (command_bytes c);
+  bytes = log.bytes + length (frame_of (command_bytes c));
   cycles = log.cycles + replay_cycles c;
 }
+
+-- there is room for that record: the log has a byte left after it, and the cycles are not too many
+abbrev pub has_room_for : LogUse → Command → Bool
+has_room_for log c =
+    nat_lt (with_record log c).bytes LOG_SIZE && nat_le (with_record log c).cycles REPLAY_CYCLES
 
 -- the use of a log once a command was recorded: where there was no room, a snapshot took the place
 -- of all records first
@@ -49,9 +48,3 @@ use_after_all log (c ∷ cs) = use_after_all (use_after log c) cs
 -- the steps of the clock that recording a command takes
 abbrev pub steps_of : LogUse → Command → ℕ
 steps_of log c = if has_room_for log c then 4 else 8
-
--- the moments at which these commands, done in turn from that clock on, are acknowledged
-abbrev pub moments_of : ℕ → LogUse → List Command → List ℕ
-moments_of clock log [] = []
-moments_of clock log (c ∷ cs) =
-    (clock + steps_of log c) ∷ moments_of (clock + steps_of log c) (use_after log c) cs

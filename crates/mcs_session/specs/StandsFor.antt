@@ -1,14 +1,13 @@
--- What a session file stands for, and what it has room for. What one of version 1 stands for is
+-- What a session file stands for. What one of version 1 stands for is
 -- said by the definitions of version 1 and carried over (`StandsForLifted` in Version1). Where a
 -- definition here takes a Boolean first, that is true where the snapshot and the records are of
 -- version 1: they are read as carried over, and the commands are those of version 2 from there on.
-use Rattle.std.specs.Prelude.{◌≡◌, ◌⊎◌, ◌+◌, ◌≤◌, ℕ, Bool, false, List, [], ◌∷◌, None, length}
+use Rattle.std.specs.Prelude.{◌≡◌, ◌⊎◌, ◌≤◌, ℕ, Bool, false, List, [], ◌∷◌, None}
 use Rattle.mcs_codec.specs.Codec.{SpellsBy, SpellsState, SpellsStateBy}
-use Rattle.mcs_codec.specs.CommandBytes.{command_bytes}
 use Rattle.mcs_disk.specs.Disk.{DiskState}
-use Rattle.mcs_journal.specs.File.{HasRoom, Holds, frames_of}
+use Rattle.mcs_journal.specs.File.{Holds}
 use Rattle.mcs_model.specs.declared.command.Command.{Command}
-use Rattle.mcs_session.specs.Cycles.{log_cycles, replay_cycles}
+use Rattle.mcs_session.specs.Cycles.{log_cycles}
 use Rattle.mcs_session.specs.Version1.{StandsForLifted}
 use Rattle.mcs_model.specs.declared.limits.TheConstants.{REPLAY_CYCLES}
 use Rattle.mcs_model.specs.BenchState.{BenchState}
@@ -63,14 +62,3 @@ DiskStandsForLifted disk s =
 -- whatever a power cut at some moment since this time left stands for this state, by either version
 abbrev pub DiskStandsSince : ℕ → DiskState → BenchState → Type 0
 DiskStandsSince t disk s = (image : List ℕ) → disk.since t image → StandsByEither image s
-
--- a file has room for one more record of that many bytes, and for that many more cycles in its log
-pub record HasSpace (file : List ℕ) (bytes cycles : ℕ) : Type 0 where
-  pub state : BenchState
-  pub stands : StandsFor file state
-  pub log : HasRoom (length (frames_of stands.records)) bytes
-  pub replay : log_cycles stands.stand.commands + cycles ≤ REPLAY_CYCLES
-
--- a file has room for the record of a command
-abbrev pub HasRoomFor : List ℕ → Command → Type 0
-HasRoomFor file c = HasSpace file (length (command_bytes c)) (replay_cycles c)

@@ -6,8 +6,9 @@ ghost use Rattle.mcs_journal.specs.declared.fault.OpenFault.{OpenFault};
 ghost use Rattle.mcs_model.specs.declared.command.Command.{Command};
 ghost use Rattle.mcs_model.specs.BenchState.{BenchState};
 ghost use Rattle.mcs_model.specs.Fold.{fold};
+ghost use Rattle.mcs_session.specs.Acknowledgements.{acknowledged_by};
 ghost use Rattle.mcs_session.specs.SessionCalls.{RefusalLeaves, OpensSession, RefusesSession};
-ghost use Rattle.mcs_session.specs.KeptCommands.{IsAfterPrefix, IsReopened, KeepsCommands, StandsForPrefix, acknowledged_by};
+ghost use Rattle.mcs_session.specs.KeptCommands.{IsAfterPrefix, KeepsCommands, StandsForPrefix};
 ghost use Rattle.mcs_session.specs.StandsFor.{HoldsState, DiskStandsForLifted, StandsByEither, StandsFor, DiskStandsSince};
 
 use mcs_disk::Disk;
@@ -27,8 +28,9 @@ pub fn reopened_bench_holds_what_was_acknowledged<D: Disk, E: Disk>()
         (done reached : List Command)
         (kept : KeepsCommands (D.state old) (D.state new) s done reached)
         → (D.state old).clock ≤ t
-        → IsReopened t (D.state new) (E.state found) (E.state opened) u
-        → IsAfterPrefix s reached (acknowledged_by t kept.moments) u }
+        → IsLeftByCut t (D.state new) (E.state found)
+        → OpensSession (E.state found) (E.state opened) u
+        → IsAfterPrefix s reached (acknowledged_by t kept.acknowledged.moments) u }
 {}
 
 /// What a power cut leaves of a run is opened, except for lack of memory and a device fault.
@@ -45,7 +47,7 @@ pub fn since_an_acknowledgement_its_commands_are_kept<D: Disk>()
     ensures { (old new : D) (s : BenchState) (done reached : List Command)
         (kept : KeepsCommands (D.state old) (D.state new) s done reached)
         (j moment : ℕ) (image : List ℕ)
-        → slice_get kept.moments j ≡ Some moment → (D.state new).since moment image
+        → slice_get kept.acknowledged.moments j ≡ Some moment → (D.state new).since moment image
         → StandsForPrefix s reached (j + 1) image }
 {}
 

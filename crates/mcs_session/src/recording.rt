@@ -3,10 +3,13 @@
 ghost use Rattle.std.specs.Prelude.{◌≡◌, ◌+◌, ◌≤◌, None, IfOk, IsErr, IsTrue, OnOk, is_ok, length, take};
 ghost use Rattle.mcs_codec.specs.Codec.{Spells, SpellsState};
 ghost use Rattle.mcs_codec.specs.CommandBytes.{command_bytes};
+ghost use Rattle.mcs_disk.specs.CallList.{OneUnsynced};
 ghost use Rattle.mcs_disk.specs.Moments.{CountsFault, LeavesOnly};
 ghost use Rattle.mcs_journal.specs.File.{HasRoom};
 ghost use Rattle.mcs_model.specs.Command.{after, refusal};
-ghost use Rattle.mcs_session.specs.SessionCalls.{AcknowledgesCommand, LeavesEitherState};
+ghost use Rattle.mcs_model.specs.declared.command.Command.{Command};
+ghost use Rattle.mcs_session.specs.Cycles.{replay_cycles};
+ghost use Rattle.mcs_session.specs.CommandCalls.{AcknowledgesCommand, LeavesEitherState};
 ghost use Rattle.mcs_session.specs.Invariant.{HasMadeRoom, IsReady, IsRecorded, ReplacesAll};
 ghost use Rattle.mcs_session.specs.StandsFor.{StandsFor};
 
@@ -70,6 +73,8 @@ impl<D: Disk + Drop> CommandLog<D> {
         ensures live { self.new.store.live ≡ is_ok result }
         ensures counts { CountsFault (D.state self.old.store.disk) (D.state self.new.store.disk)
             (IsErr result) }
+        ensures one_unsynced { OneUnsynced (D.state self.old.store.disk).calls
+            (D.state self.new.store.disk).calls }
         ensures payload { self.new.payload ≡ self.old.payload }
         ensures used { OnOk result ((self.new.store.used ≡ 0) × (self.new.cycles ≡ 0)) }
         ensures ready { IsReady self.new.cycles self.new.payload.items self.new.snapshot.items }
@@ -97,6 +102,8 @@ impl<D: Disk + Drop> CommandLog<D> {
         ensures live { self.new.store.live ≡ is_ok result }
         ensures counts { CountsFault (D.state self.old.store.disk) (D.state self.new.store.disk)
             (IsErr result) }
+        ensures one_unsynced { OneUnsynced (D.state self.old.store.disk).calls
+            (D.state self.new.store.disk).calls }
         ensures payload { self.new.payload ≡ self.old.payload }
         ensures ready { IsReady self.new.cycles self.new.payload.items self.new.snapshot.items }
         ensures room { OnOk result
@@ -107,8 +114,9 @@ impl<D: Disk + Drop> CommandLog<D> {
             (λ file. StandsFor file bench.now) }
         ensures made { (D.state self.old.store.disk).honest
             → IsRecorded (D.state self.old.store.disk) self.old.cycles bench.now
+            → (c : Command) → count ≡ length (command_bytes c) → more ≡ replay_cycles c
             → OnOk result (HasMadeRoom (D.state self.old.store.disk) (D.state self.new.store.disk)
-            count more self.new.cycles bench.now) }
+            c self.new.cycles bench.now) }
     {
         if self.store.has_room(count) && more <= REPLAY_CYCLES - self.cycles {
             return Ok(());
@@ -124,6 +132,8 @@ impl<D: Disk + Drop> CommandLog<D> {
         ensures live { self.new.store.live ≡ is_ok result }
         ensures counts { CountsFault (D.state self.old.store.disk) (D.state self.new.store.disk)
             (IsErr result) }
+        ensures one_unsynced { OneUnsynced (D.state self.old.store.disk).calls
+            (D.state self.new.store.disk).calls }
         ensures ready { IsReady self.new.cycles self.new.payload.items self.new.snapshot.items }
         ensures moments { (D.state self.old.store.disk).honest
             → IsRecorded (D.state self.old.store.disk) self.old.cycles bench.now

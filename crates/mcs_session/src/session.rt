@@ -1,10 +1,12 @@
 //! A bench whose commands are recorded on a disk.
 ghost use Rattle.std.specs.Prelude.{◌≡◌, ◌≢◌, ◌⊎◌, ◌↔◌, IsTrue, true, false, IsErrAnd, IfOk, IfErr};
+ghost use Rattle.mcs_disk.specs.CallList.{OneUnsynced, unsynced};
 ghost use Rattle.mcs_disk.specs.Moments.{CountsFault, WritesNothing};
 ghost use Rattle.mcs_journal.specs.StoreCalls.{RefusesCreate};
 ghost use Rattle.mcs_model.specs.BenchState.{new_bench_state};
 ghost use Rattle.mcs_session.specs.StandsFor.{StandsFor, DiskStandsFor};
-ghost use Rattle.mcs_session.specs.SessionCalls.{AppliesCommand, ClosesAtDeviceFault, CreatesSession, RefusalLeaves, MayAnswerSettle, OpensSession, RecordsOrFails, RefusesSession, SettlesOrFails};
+ghost use Rattle.mcs_session.specs.CommandCalls.{AppliesCommand, ClosesAtDeviceFault, MayAnswerSettle, RecordsOrFails, SettlesOrFails};
+ghost use Rattle.mcs_session.specs.SessionCalls.{CreatesSession, RefusalLeaves, OpensSession, RefusesSession};
 ghost use Rattle.mcs_session.specs.Invariant.{HasContents, IsReady, IsRecorded, MayReplaceAll, ReplacedAll};
 
 use crate::fault::SessionFault;
@@ -60,6 +62,11 @@ impl<D: Disk + Drop> Session<D> {
         ensures wrong_size { (D.state disk).size ≢ FILE_SIZE → IsErrAnd result (λ refused.
             ((refused.0 ≡ CreateFault.NotBlank) ⊎ (refused.0 ≡ CreateFault.NoMemory))
             × (refused.1 ≡ disk)) }
+        ensures one_unsynced { unsynced (D.state disk).calls ≡ 0
+            → IfOk result (λ s. OneUnsynced (D.state disk).calls (D.state s.disk).calls) }
+        ensures refused_one_unsynced { unsynced (D.state disk).calls ≡ 0
+            → IfErr result (λ refused. OneUnsynced (D.state disk).calls
+            (D.state refused.1).calls) }
 
         // on an honest disk
         ensures created { (D.state disk).honest → IfOk result (λ s.
@@ -106,6 +113,10 @@ impl<D: Disk + Drop> Session<D> {
         ensures wrong_size { (D.state disk).size ≢ FILE_SIZE → IsErrAnd result (λ refused.
             ((refused.0 ≡ OpenFault.NotASession) ⊎ (refused.0 ≡ OpenFault.NoMemory))
             × (refused.1 ≡ disk)) }
+        ensures one_unsynced { IfOk result (λ s.
+            OneUnsynced (D.state disk).calls (D.state s.disk).calls) }
+        ensures refused_one_unsynced { IfErr result (λ refused.
+            OneUnsynced (D.state disk).calls (D.state refused.1).calls) }
 
         // on an honest disk
         ensures opened { (D.state disk).honest → IfOk result (λ s.
@@ -170,6 +181,8 @@ impl<D: Disk + Drop> Session<D> {
         ensures honest { (D.state self.new.disk).honest ↔ (D.state self.old.disk).honest }
         ensures untouched { IfErr result (λ fault.
             fault ≢ SessionFault.Device → self.new.disk ≡ self.old.disk) }
+        ensures one_unsynced { OneUnsynced (D.state self.old.disk).calls
+            (D.state self.new.disk).calls }
 
         // on an honest disk
         ensures records { (D.state self.old.disk).honest
@@ -200,6 +213,8 @@ impl<D: Disk + Drop> Session<D> {
         ensures honest { (D.state self.new.disk).honest ↔ (D.state self.old.disk).honest }
         ensures untouched { IfErr result (λ fault.
             fault ≢ SessionFault.Device → self.new.disk ≡ self.old.disk) }
+        ensures one_unsynced { OneUnsynced (D.state self.old.disk).calls
+            (D.state self.new.disk).calls }
 
         // on an honest disk
         ensures settles { (D.state self.old.disk).honest
@@ -245,6 +260,10 @@ fn begin<D: Disk + Drop>(
     requires held { (D.state store.disk).honest → HasContents (D.state store.disk) }
     ensures open { IfOk result (λ s. IsTrue s.live × (s.state ≡ replayed.bench)) }
     ensures counts { IfOk result (λ s. CountsFault (D.state store.disk) (D.state s.disk) ⊥) }
+    ensures one_unsynced { IfOk result (λ s.
+        OneUnsynced (D.state store.disk).calls (D.state s.disk).calls) }
+    ensures refused_one_unsynced { IfErr result (λ r.
+        OneUnsynced (D.state store.disk).calls (D.state r.1).calls) }
     ensures same { replayed.version_1 ≡ false → IfOk result (λ s. s.disk ≡ store.disk) }
     ensures version_1 { replayed.version_1 ≡ true → (D.state store.disk).honest
         → IfOk result (λ s. ReplacedAll (D.state store.disk) (D.state s.disk) replayed.bench) }

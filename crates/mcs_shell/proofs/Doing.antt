@@ -20,7 +20,7 @@ use Rattle.mcs_shell.specs.declared.texts.TextFault.{TextFault}
 use Rattle.mcs_shell.specs.declared.ends.ShellEnd.{ShellEnd}
 use Rattle.mcs_shell.specs.Inputs.{Input, Line, Text, text_fault_of, judged_text, text_or_fault}
 use Rattle.mcs_shell.specs.Spelling.{Does, Tells, meaning_of_text, text_refusal}
-use Rattle.mcs_session.specs.SessionCalls.{AppliesCommand, ClosesAtDeviceFault, RecordsOrFails}
+use Rattle.mcs_session.specs.CommandCalls.{AppliesCommand, ClosesAtDeviceFault, RecordsOrFails}
 use Rattle.mcs_session.specs.SessionState.{Premise, SessionState}
 use Rattle.mcs_shell.specs.ShellState.{ShellState}
 use Rattle.mcs_shell.specs.RefusalNumbers.{session_fault_number}
@@ -120,7 +120,7 @@ device_changed true s d b c told h k =
         faults = h.closes.1;
         size = h.size;
         honest = h.honest;
-        kept = λ given. failed_keeps d b.disk s c (h.records given.honest.1) (h.lawful (h.honest.1 given.honest.1));
+        kept = λ given. failed_keeps d b.disk s c given.intact (h.records given.honest.1) (h.lawful (h.honest.1 given.honest.1));
       });
     }
 

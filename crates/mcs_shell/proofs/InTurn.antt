@@ -55,38 +55,32 @@ told_all m (x ∷ rest) old new may wrote =
 
 -- ---- a run that wrote its first line, or not
 
-begun : (end : ShellEnd) (r r' : KnownBytes) (a b : ShellState) (ran : RanShell end r r' a b) → ran.begun ≡ true → (end ≢ WriteFault → ran.halted ≢ Some WriteFault) → (end ≢ WriteFault → end ≢ DeviceFault → ran.halted ≡ None)
-    → AnswersInTurn end r r' a b ran.served.met
+begun : (end : ShellEnd) (r r' : KnownBytes) (a b : ShellState) (ran : RanShell end r r' a b) → ran.began.whole ≡ true → (end ≢ WriteFault → ran.halted ≢ Some WriteFault) → (end ≢ WriteFault → end ≢ DeviceFault → ran.halted ≡ None)
+    → AnswersInTurn end ran.read a b ran.served.met
 begun end r r' a b ran whole uncut none =
     let s = a.session.bench.state in
     let met = ran.served.met in
     let serves = ran.served.serves in
-    let first : Appends a.out ran.started (session_text s) = subst (λ (v : Bool). WroteBytes v a.out ran.started (session_text s)) whole ran.first in
-    let t : AnswersTold ran.started b.out (in_turn answer s met) (halt_after met) = told_all a.session.bench met ran.started b.out serves.may serves.wrote in
+    let first : Appends a.out ran.began.started (session_text s) = subst (λ (v : Bool). WroteBytes v a.out ran.began.started (session_text s)) whole ran.began.wrote in
+    let t : AnswersTold ran.began.started b.out (in_turn answer s met) (halt_after met) = told_all a.session.bench met ran.began.started b.out serves.may serves.wrote in
     record {
-      bytes = ran.bytes;
-      consumed = ran.consumed;
-      whole = ran.whole;
       not_met = ran.served.not_met;
       spelled = ran.served.spelled;
       all_met = λ x y z. ran.served.all_met (none x y);
       may = serves.may;
       told = session_text s ++ t.told;
       left_out = t.left_out;
-      written = Appends-trans a.out ran.started b.out (session_text s) t.told first t.written;
+      written = Appends-trans a.out ran.began.started b.out (session_text s) t.told first t.written;
       parts = append_assoc (session_text s) t.told t.left_out ∙ ap (λ v. session_text s ++ v) t.parts;
       all_told = λ x z. t.all_told (λ cut. uncut x (sym ran.served.halts ∙ cut));
     }
 
-not_begun : (end : ShellEnd) (r r' : KnownBytes) (a b : ShellState) (ran : RanShell end r r' a b) → ran.begun ≡ false → ran.served.met ≡ [] → (end ≢ WriteFault → end ≢ NoMemory → ⊥) → AnswersInTurn end r r' a b ran.served.met
+not_begun : (end : ShellEnd) (r r' : KnownBytes) (a b : ShellState) (ran : RanShell end r r' a b) → ran.began.whole ≡ false → ran.served.met ≡ [] → (end ≢ WriteFault → end ≢ NoMemory → ⊥) → AnswersInTurn end ran.read a b ran.served.met
 not_begun end r r' a b ran cut none by =
     let s = a.session.bench.state in
-    let some : WroteBytes false a.out ran.started (session_text s) = subst (λ (v : Bool). WroteBytes v a.out ran.started (session_text s)) cut ran.first in
-    let then : b.out ≡ ran.started = subst (λ (v : List Step). WroteAnswers s v ran.started b.out) none ran.served.serves.wrote in
+    let some : WroteBytes false a.out ran.began.started (session_text s) = subst (λ (v : Bool). WroteBytes v a.out ran.began.started (session_text s)) cut ran.began.wrote in
+    let then : b.out ≡ ran.began.started = subst (λ (v : List Step). WroteAnswers s v ran.began.started b.out) none ran.served.serves.wrote in
     record {
-      bytes = ran.bytes;
-      consumed = ran.consumed;
-      whole = ran.whole;
       not_met = ran.served.not_met;
       spelled = ran.served.spelled;
       all_met = λ x y z. absurd (by x z);
@@ -98,7 +92,7 @@ not_begun end r r' a b ran cut none by =
       all_told = λ x z. absurd (by x z);
     }
 
-pub answers_of_run : (end : ShellEnd) (r r' : KnownBytes) (a b : ShellState) (ran : RanShell end r r' a b) → AnswersInTurn end r r' a b ran.served.met
+pub answers_of_run : (end : ShellEnd) (r r' : KnownBytes) (a b : ShellState) (ran : RanShell end r r' a b) → AnswersInTurn end ran.read a b ran.served.met
 answers_of_run End r r' a b ran = begun End r r' a b ran ran.ends.0 (λ x e. absurd (cc (sym ran.ends.2 ∙ e))) (λ x y. ran.ends.2)
 answers_of_run ReadFault r r' a b ran = begun ReadFault r r' a b ran ran.ends.0 (λ x e. absurd (cc (sym ran.ends.2 ∙ e))) (λ x y. ran.ends.2)
 answers_of_run InputLimit r r' a b ran = begun InputLimit r r' a b ran ran.ends.0 (λ x e. absurd (cc (sym ran.ends.2 ∙ e))) (λ x y. ran.ends.2)

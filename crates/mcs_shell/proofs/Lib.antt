@@ -9,3 +9,7 @@ pub mod Doing
 pub mod Looping
 pub mod Surviving
 pub mod InTurn
+pub mod History
+pub mod FoundAgain
+pub mod MayTell
+pub mod Counting

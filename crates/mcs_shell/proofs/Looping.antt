@@ -1,6 +1,6 @@
 -- The loop over chunks, and the run.
 use Rattle.std.proofs.Common.{◌≡◌, ℕ, ◌+◌, ◌<◌, ◌≤◌, List, [], ◌∷◌, ◌++◌, Bool, true, false, length, Option, None, Some, ◌⊎◌, inl, inr, ap, sym, append_assoc, append-nil, length-append, ◌∙◌, refl, subst, arith, codes}
-use Rattle.std.specs.Io.KnownBytes.{Appends, Consumes, IsAtEnd, Keeps}
+use Rattle.std.specs.Io.KnownBytes.{Appends, Consumes, Keeps}
 use Rattle.std.proofs.lemmas.List.{map-append, nil_from_length}
 use Rattle.std.proofs.lemmas.List.Elements.{filter-append}
 use Rattle.std.proofs.KnownBytes.{Appends-trans, Appends-nil, Consumes-kept, Consumes-trans, Consumes-nil}
@@ -22,7 +22,7 @@ use Rattle.mcs_shell.specs.declared.texts.TextFault.TheVariants.{NoEnd}
 use Rattle.mcs_shell.specs.LineFeeds.{HasNoFeed}
 use Rattle.mcs_shell.specs.Inputs.{Input, BadText, Commands, InText, Pending, nothing_pending, inputs, inputs_after, inputs_of_lines}
 use Rattle.mcs_shell.specs.Serving.{ServesBytes, GotFirstBytes, LeavesSession, ServesInputs, WroteBytes}
-use Rattle.mcs_shell.specs.Shell.{EndsBy, ReadsLittleAhead, RanShellGiven, ReadBytes}
+use Rattle.mcs_shell.specs.Shell.{EndsBy, ReadInput, ReadsLittleAhead, RanShellGiven, ReadBytes, inputs_read}
 use Rattle.mcs_shell.specs.ShellState.{KnownBytes, ShellState, with_written}
 use Rattle.mcs_shell.specs.Transcript.{Step, acknowledged_commands, answered_steps, halt_after, halt_of, in_turn, inputs_in, reached_commands}
 use Rattle.mcs_shell.proofs.LineFeeds.{after-cut, after-empty, after-whole}
@@ -119,23 +119,24 @@ begun_has_memory : (end : ShellEnd) (bytes : List ℕ) (whole : Bool) (met : Lis
 begun_has_memory end bytes whole met halted ends is = let P : ShellEnd → Type 0 = λ e. EndsBy e true bytes whole met halted in let h : EndsBy NoMemory true bytes whole met halted = subst P is ends in absurd (cc h.0)
 
 -- the loop has nothing to write first
-ran_loop : (end : ShellEnd) (whole : Bool) (r r' : KnownBytes) (a c : ShellState) (bytes : List ℕ) (halted : Option ShellEnd) → Consumes r r' bytes → length bytes ≤ INPUT_BYTES → (whole ≡ true → (length bytes < INPUT_BYTES) × IsAtEnd r')
-    → (m : ServesInputs IsIntact (inputs bytes whole) a c halted) → ReadsLittleAhead bytes (inputs_in (answered_steps m.met)) → EndsBy end true bytes whole m.met halted → RanShellGiven IsIntact [] end r r' a c
-ran_loop end whole r r' a c bytes halted consumed within ended m near ends = record {
-  bytes = bytes;
-  consumed = consumed;
-  within = within;
-  whole = whole;
-  input_ended = ended;
-  begun = true;
-  started = a.out;
-  first = Appends-nil a.out;
-  untold = λ is. absurd (begun_has_memory end bytes whole m.met halted ends is);
+ran_loop : (end : ShellEnd) (r r' : KnownBytes) (a c : ShellState) (halted : Option ShellEnd) (read : ReadInput r r') (m : ServesInputs IsIntact (inputs_read read) a c halted)
+    → ReadsLittleAhead read.bytes (inputs_in (answered_steps m.met)) → EndsBy end true read.bytes read.whole m.met halted → RanShellGiven IsIntact [] end r r' a c
+ran_loop end r r' a c halted read m near ends = record {
+  read = read;
+  began = record { whole = true; started = a.out; wrote = Appends-nil a.out };
   halted = halted;
   served = m;
   near = near;
   ends = ends;
+  untold = λ is. absurd (begun_has_memory end read.bytes read.whole m.met halted ends is);
 }
+
+cut_has_no_end : false ≡ true → ⊥
+cut_has_no_end e = absurd (cc e)
+
+-- the bytes were cut off there
+abbrev read_cut : (r r' : KnownBytes) (bytes : List ℕ) → Consumes r r' bytes → length bytes ≤ INPUT_BYTES → ReadInput r r'
+read_cut r r' bytes consumed within = record { bytes = bytes; consumed = consumed; within = within; whole = false; input_ended = λ e. absurd (cut_has_no_end e) }
 
 -- these bytes, and what was unfinished then
 abbrev met_all : (whole : Bool) (a b c : ShellState) (line : Pending) (bytes : List ℕ) (halted : Option ShellEnd) → ServesBytes a b nothing_pending line bytes None → ServesInputs IsIntact (inputs_after line [] whole) b c halted → ServesInputs IsIntact (inputs bytes whole) a c halted
@@ -147,12 +148,12 @@ met_cut a b line bytes x = met_all false a b b line bytes None x (meets_as IsInt
 pub ran_read_fault : (r r' r'' : KnownBytes) (a b : ShellState) (line : Pending) (total : ℕ) → SoFar r r' a b line total → total < INPUT_BYTES → Keeps r' r'' → RanShellGiven IsIntact [] ReadFault r r'' a b
 ran_read_fault r r' r'' a b line total x small keeps =
     let below : length x.bytes < INPUT_BYTES = omega (arith, x.count, small) in
-    ran_loop ReadFault false r r'' a b x.bytes None (Consumes-kept r r' r'' x.bytes x.consumed keeps) (omega (arith, below)) (λ e. absurd (cc e)) (met_cut a b line x.bytes x.fed) (near_whole a b line x.bytes x.fed []) (refl, refl, refl, below)
+    ran_loop ReadFault r r'' a b None (read_cut r r'' x.bytes (Consumes-kept r r' r'' x.bytes x.consumed keeps) (omega (arith, below))) (met_cut a b line x.bytes x.fed) (near_whole a b line x.bytes x.fed []) (refl, refl, refl, below)
 
 pub ran_limit : (r r' : KnownBytes) (a b : ShellState) (line : Pending) (total : ℕ) → SoFar r r' a b line total → total ≡ INPUT_BYTES → RanShellGiven IsIntact [] InputLimit r r' a b
 ran_limit r r' a b line total x e =
     let all : length x.bytes ≡ INPUT_BYTES = x.count ∙ e in
-    ran_loop InputLimit false r r' a b x.bytes None x.consumed (omega (arith, all)) (λ e. absurd (cc e)) (met_cut a b line x.bytes x.fed) (near_whole a b line x.bytes x.fed []) (refl, refl, refl, all)
+    ran_loop InputLimit r r' a b None (read_cut r r' x.bytes x.consumed (omega (arith, all))) (met_cut a b line x.bytes x.fed) (near_whole a b line x.bytes x.fed []) (refl, refl, refl, all)
 
 -- ---- where input ended, or the shell was halted
 
@@ -164,7 +165,7 @@ pub ran_whole : (end : ShellEnd) (r r' r'' : KnownBytes) (a b c : ShellState) (l
     → (m : ServesInputs IsIntact (inputs_after line [] true) b c halted) → EndsBy end true x.bytes true (x.fed.met ++ m.met) halted → RanShellGiven IsIntact [] end r r'' a c
 ran_whole end r r' r'' a b c line chunk total most halted x small y m ends =
     let below : length x.bytes < INPUT_BYTES = omega (arith, x.count, small) in
-    ran_loop end true r r'' a c x.bytes halted (last_read r r' r'' most x.bytes chunk x.consumed y) (omega (arith, below)) (λ e. (below, y.at_end refl))
+    ran_loop end r r'' a c halted (record { bytes = x.bytes; consumed = last_read r r' r'' most x.bytes chunk x.consumed y; within = omega (arith, below); whole = true; input_ended = λ e. (below, y.at_end refl) })
     (met_all true a b c line x.bytes halted x.fed m) (near_whole a b line x.bytes x.fed m.met) ends
 
 ends_one : (going : Bool) (o : Outcome) (end : ShellEnd) (bytes : List ℕ) (whole : Bool) (met : List Step) → halt_of going o ≡ Some end → EndsBy end true bytes whole met (Some end)
@@ -172,7 +173,7 @@ ends_one false o end bytes whole met e = let is : WriteFault ≡ end = cc e in s
 ends_one true Device end bytes whole met e = let is : DeviceFault ≡ end = cc e in subst (λ (v : ShellEnd). EndsBy v true bytes whole met (Some v)) is (refl, refl)
 ends_one true o end bytes whole met e = absurd (cc e)
 
-either_end : (h k : Option ShellEnd) (end : ShellEnd) → option_or h k ≡ Some end → (h ≡ Some end) ⊎ (k ≡ Some end)
+pub either_end : (h k : Option ShellEnd) (end : ShellEnd) → option_or h k ≡ Some end → (h ≡ Some end) ⊎ (k ≡ Some end)
 either_end None k end e = inr e
 either_end (Some x) k end e = inl e
 
@@ -195,7 +196,7 @@ ran_halt end r r' r'' a b c line new_line chunk total n most x small little y z 
     let bytes = x.bytes ++ chunk in
     let all = feeds_more a b c nothing_pending line new_line x.bytes chunk (Some end) x.fed z in
     let within : length bytes ≤ INPUT_BYTES = rw (length-append x.bytes chunk) (omega (arith, x.count, y.count, y.within, small)) in
-    ran_loop end false r r'' a c bytes (Some end) (Consumes-trans r r' r'' x.bytes chunk x.consumed y.consumed) within (λ e. absurd (cc e))
+    ran_loop end r r'' a c (Some end) (read_cut r r'' bytes (Consumes-trans r r' r'' x.bytes chunk x.consumed y.consumed) within)
     (meets_as IsIntact (inputs bytes false) (inputs_after nothing_pending (bytes ++ []) false) a c (Some end) (from_fresh bytes false) (meets_halted false a c nothing_pending new_line bytes end all))
     (near_behind a b line x.bytes chunk x.fed z.met (omega (arith, y.count, y.within, little))) (ends_halted z.met end bytes false (x.fed.met ++ z.met) z.halts)
 
@@ -227,24 +228,18 @@ whole_first false old new h = absurd (omega (arith, h.fewer))
 pub ran_after : (end : ShellEnd) (r r' : KnownBytes) (a b : ShellState) (started : KnownBytes) (first_line : List ℕ) → (IsOpenOnHonestDisk a.session → IsIntact a.session) → Appends a.out started first_line
     → RanShellGiven IsIntact [] end r r' (with_written a started) b → RanShellGiven IsOpenOnHonestDisk first_line end r r' a b
 ran_after end r r' a b started first_line settle wrote x =
-    let begun : x.begun ≡ true = whole_first x.begun started x.started x.first in
-    let nothing : Appends started x.started [] = subst (λ (v : Bool). WroteBytes v started x.started []) begun x.first in
-    let ends : EndsBy end true x.bytes x.whole x.served.met x.halted = subst (λ (v : Bool). EndsBy end v x.bytes x.whole x.served.met x.halted) begun x.ends in
-    let P : List ℕ → Type 0 = λ v. Appends a.out x.started v in
+    let begun : x.began.whole ≡ true = whole_first x.began.whole started x.began.started x.began.wrote in
+    let nothing : Appends started x.began.started [] = subst (λ (v : Bool). WroteBytes v started x.began.started []) begun x.began.wrote in
+    let ends : EndsBy end true x.read.bytes x.read.whole x.served.met x.halted = subst (λ (v : Bool). EndsBy end v x.read.bytes x.read.whole x.served.met x.halted) begun x.ends in
+    let P : List ℕ → Type 0 = λ v. Appends a.out x.began.started v in
     record {
-      bytes = x.bytes;
-      consumed = x.consumed;
-      within = x.within;
-      whole = x.whole;
-      input_ended = x.input_ended;
-      begun = true;
-      started = x.started;
-      first = subst P (append-nil first_line) (Appends-trans a.out started x.started first_line [] wrote nothing);
-      untold = λ is. absurd (begun_has_memory end x.bytes x.whole x.served.met x.halted ends is);
+      read = x.read;
+      began = record { whole = true; started = x.began.started; wrote = subst P (append-nil first_line) (Appends-trans a.out started x.began.started first_line [] wrote nothing) };
       halted = x.halted;
-      served = meets_under (inputs x.bytes x.whole) (with_written a x.started) b x.halted settle x.served;
+      served = meets_under (inputs_read x.read) (with_written a x.began.started) b x.halted settle x.served;
       near = x.near;
       ends = ends;
+      untold = λ is. absurd (begun_has_memory end x.read.bytes x.read.whole x.served.met x.halted ends is);
     }
 
 nothing_cut : inputs [] false ≡ []
@@ -254,19 +249,13 @@ nothing_cut = from_fresh [] false ∙ after-cut nothing_pending tt
 pub not_begun : (end : ShellEnd) (r : KnownBytes) (a : ShellState) (out : KnownBytes) (first_line : List ℕ) → (IsOpenOnHonestDisk a.session → IsIntact a.session) → GotFirstBytes a.out out first_line
     → (end ≡ NoMemory → out ≡ a.out) → EndsBy end false [] false [] None → RanShellGiven IsOpenOnHonestDisk first_line end r r a (with_written a out)
 not_begun end r a out first_line settle some untold ends = record {
-  bytes = [];
-  consumed = Consumes-nil r;
-  within = omega arith;
-  whole = false;
-  input_ended = λ e. absurd (cc e);
-  begun = false;
-  started = out;
-  first = some;
-  untold = untold;
+  read = read_cut r r [] (Consumes-nil r) (omega arith);
+  began = record { whole = false; started = out; wrote = some };
   halted = None;
   served = meets_as IsOpenOnHonestDisk (inputs [] false) [] (with_written a out) (with_written a out) None nothing_cut (meets_under [] (with_written a out) (with_written a out) None settle (meets_nothing (with_written a out)));
   near = record { before = []; ahead = []; parts = refl; few = omega arith; more = []; answered_are = sym (append-nil (inputs [] false) ∙ nothing_cut) };
   ends = ends;
+  untold = untold;
 }
 
 pub session_has_bytes : (s : BenchState) → 0 < length (session_text s)

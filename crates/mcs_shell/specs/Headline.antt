@@ -1,20 +1,20 @@
 -- The headline: what a run answered, and what is found again after a power cut at any moment of it.
-use Rattle.std.specs.Prelude.{◌≡◌, ◌≢◌, ◌⊎◌, ◌≤◌, Bool, ℕ, List, [], ◌++◌, length}
-use Rattle.std.specs.Io.KnownBytes.{Appends, Consumes}
+use Rattle.std.specs.Prelude.{◌≡◌, ◌≢◌, ◌⊎◌, ◌≤◌, ℕ, List, [], ◌++◌}
+use Rattle.std.specs.Io.KnownBytes.{Appends}
 use Rattle.mcs_answers.specs.AnswerTexts.{session_text}
 use Rattle.mcs_disk.specs.Disk.{DiskState}
 use Rattle.mcs_disk.specs.PowerCut.{IsLeftByCut}
 use Rattle.mcs_journal.specs.declared.fault.OpenFault.{OpenFault}
 use Rattle.mcs_journal.specs.declared.fault.OpenFault.TheVariants as open_fault
 use Rattle.mcs_model.specs.BenchState.{BenchState}
-use Rattle.mcs_session.specs.LogUse.{LogUse, UsesLog, moments_of}
-use Rattle.mcs_session.specs.SessionCalls.{RefusesSession}
-use Rattle.mcs_session.specs.KeptCommands.{IsAfterPrefix, IsReopened, IsSpaced, acknowledged_by, last_moment}
+use Rattle.mcs_session.specs.Acknowledgements.{Acknowledgements, acknowledged_by}
+use Rattle.mcs_session.specs.SessionCalls.{OpensSession, RefusesSession}
+use Rattle.mcs_session.specs.KeptCommands.{IsAfterPrefix}
 use Rattle.mcs_session.specs.SessionState.{SessionState, session_state}
-use Rattle.mcs_shell.specs.Inputs.{Input, inputs}
+use Rattle.mcs_shell.specs.Inputs.{Input}
 use Rattle.mcs_shell.specs.declared.ends.ShellEnd.{ShellEnd}
 use Rattle.mcs_shell.specs.declared.ends.ShellEnd.TheVariants.{WriteFault, DeviceFault, NoMemory}
-use Rattle.mcs_shell.specs.Shell.{ShellRun}
+use Rattle.mcs_shell.specs.Shell.{ReadInput, ShellRun, inputs_read}
 use Rattle.mcs_shell.specs.ShellState.{KnownBytes, ShellState, shell_state}
 use Rattle.mcs_shell.specs.Transcript.{ArePossibleSteps, Step, answer, acknowledged_commands, in_turn, inputs_in, reached_commands}
 
@@ -26,18 +26,12 @@ use Rattle.mcs_shell.specs.Transcript.{ArePossibleSteps, Step, answer, acknowled
 pub record SurvivesPowerCuts
     {E : Type 0} (state_of : E → DiskState) (a : SessionState) (ran : DiskState)
     (met : List Step) : Type 0 where
-  pub moments : List ℕ
-  pub count : length moments ≡ length (in_turn acknowledged_commands a.bench.state met)
-  pub spaced : IsSpaced a.disk.clock moments
-  -- each is eight steps after the one before where the log, in use as it was then, had no room for
-  -- the record of the command, else four
-  pub timed : (log : LogUse) → UsesLog a.disk.bytes log
-      → moments ≡ moments_of a.disk.clock log (in_turn acknowledged_commands a.bench.state met)
-  pub within : last_moment a.disk.clock moments ≤ ran.clock
+  pub acknowledged : Acknowledgements a.disk ran
+      (in_turn acknowledged_commands a.bench.state met)
   pub reopened : (t : ℕ) (found opened : E) (u : BenchState) → a.disk.clock ≤ t
-      → IsReopened t ran (state_of found) (state_of opened) u
+      → IsLeftByCut t ran (state_of found) → OpensSession (state_of found) (state_of opened) u
       → IsAfterPrefix a.bench.state (in_turn reached_commands a.bench.state met)
-      (acknowledged_by t moments) u
+      (acknowledged_by t acknowledged.moments) u
   pub not_refused : (t : ℕ) (found : E) (fault : OpenFault) → a.disk.clock ≤ t
       → IsLeftByCut t ran (state_of found) → RefusesSession fault (state_of found)
       → (fault ≡ open_fault.Device) ⊎ (fault ≡ open_fault.NoMemory)
@@ -49,14 +43,10 @@ pub record SurvivesPowerCuts
 -- accepted before it. Only a write that failed, and a shell that had no memory to begin, leave the
 -- last of it out.
 pub record AnswersInTurn
-    (end : ShellEnd) (reader reader' : KnownBytes) (a b : ShellState)
-    (met : List Step) : Type 0 where
-  pub bytes : List ℕ
-  pub consumed : Consumes reader reader' bytes
-  -- whether input ended after them
-  pub whole : Bool
+    (end : ShellEnd) {reader reader' : KnownBytes} (read : ReadInput reader reader')
+    (a b : ShellState) (met : List Step) : Type 0 where
   pub not_met : List Input
-  pub spelled : inputs bytes whole ≡ inputs_in met ++ not_met
+  pub spelled : inputs_read read ≡ inputs_in met ++ not_met
   pub all_met : end ≢ WriteFault → end ≢ DeviceFault → end ≢ NoMemory → not_met ≡ []
   pub may : ArePossibleSteps a.session.bench met
   pub told : List ℕ
@@ -73,7 +63,7 @@ pub record AnswersInTurn
 pub record AnswersAndSurvives
     {D E : Type 0} (state_of : D → DiskState) (found_of : E → DiskState)
     (run : ShellRun state_of) : Type 0 where
-  pub answers : AnswersInTurn run.end run.reader run.reader'
+  pub answers : AnswersInTurn run.end run.ran.read
       (shell_state state_of run.before run.out)
       (shell_state state_of run.after run.out') run.ran.served.met
   pub survives : SurvivesPowerCuts found_of (session_state state_of run.before)

@@ -1,11 +1,11 @@
 -- The headline down to a file of the host: what the program finds in it after a stop.
-use Rattle.std.specs.Prelude.{◌≡◌, ◌⊎◌, ◌≤◌, ℕ, List, length}
+use Rattle.std.specs.Prelude.{◌≡◌, ◌⊎◌, ◌≤◌, ℕ, List}
 use Rattle.mcs_host.specs.Ending.{IsLeftSince, as_disk, found_in}
 use Rattle.mcs_host.specs.FileDisk.{IsOpened}
 use Rattle.mcs_host.specs.declared.file_disk.FileDisk.{FileDisk}
 use Rattle.mcs_host.specs.declared.arguments.Choice.TheVariants as choice
-use Rattle.mcs_session.specs.KeptCommands.{IsAfterPrefix, IsSpaced, acknowledged_by, last_moment}
-use Rattle.mcs_session.specs.LogUse.{LogUse, UsesLog, moments_of}
+use Rattle.mcs_session.specs.Acknowledgements.{Acknowledgements, acknowledged_by}
+use Rattle.mcs_session.specs.KeptCommands.{IsAfterPrefix}
 use Rattle.mcs_session.specs.SessionState.{SessionView}
 use Rattle.mcs_shell.specs.Headline.{AnswersInTurn}
 use Rattle.mcs_shell.specs.Program.{IsBegunOn, IsRefusedWith}
@@ -27,26 +27,17 @@ pub record IsFoundAgain (t : ℕ) (file again : FileDisk) : Type 0 where
 -- `no 53`, and the prefix holds each one acknowledged by that time. The program refuses it for a
 -- device fault and for lack of memory alone.
 pub record SurvivesInFile (run : ShellRun as_disk) : Type 0 where
-  pub answers : AnswersInTurn run.end run.reader run.reader'
+  pub answers : AnswersInTurn run.end run.ran.read
       (shell_state as_disk run.before run.out)
       (shell_state as_disk run.after run.out') run.ran.served.met
-  pub moments : List ℕ
-  pub count : length moments
-      ≡ length (in_turn acknowledged_commands run.before.state run.ran.served.met)
-  pub spaced : IsSpaced (as_disk run.before.disk).clock moments
-  -- each is eight steps after the one before where the log, in use as it was then, had no room for
-  -- the record of the command, else four
-  pub timed : (log : LogUse) → UsesLog (as_disk run.before.disk).bytes log
-      → moments ≡ moments_of (as_disk run.before.disk).clock log
+  pub acknowledged : Acknowledgements (as_disk run.before.disk) (as_disk run.after.disk)
       (in_turn acknowledged_commands run.before.state run.ran.served.met)
-  pub within : last_moment (as_disk run.before.disk).clock moments
-      ≤ (as_disk run.after.disk).clock
   pub reopened : (t : ℕ) (again : FileDisk) (name : List ℕ) (session : SessionView FileDisk)
       → (as_disk run.before.disk).clock ≤ t → IsFoundAgain t run.after.disk again
       → IsBegunOn as_disk (choice.Open name) again session
       → IsAfterPrefix run.before.state
       (in_turn reached_commands run.before.state run.ran.served.met)
-      (acknowledged_by t moments) session.state
+      (acknowledged_by t acknowledged.moments) session.state
   pub not_refused : (t : ℕ) (again : FileDisk) (name : List ℕ) (number : ℕ)
       → (as_disk run.before.disk).clock ≤ t → IsFoundAgain t run.after.disk again
       → IsRefusedWith as_disk (choice.Open name) again number

@@ -11,3 +11,6 @@ pub mod Shell
 pub mod Headline
 pub mod Program
 pub mod InFile
+pub mod History
+pub mod Answers
+pub mod Faults

@@ -24,6 +24,30 @@ pub record ReadsLittleAhead (bytes : List ℕ) (answered : List Input) : Type 0 
   pub more : List Input
   pub answered_are : answered ≡ inputs before false ++ more
 
+-- What was read: these bytes, up to the limit.
+pub record ReadInput (reader reader' : KnownBytes) : Type 0 where
+  pub bytes : List ℕ
+  pub consumed : Consumes reader reader' bytes
+  pub within : length bytes ≤ INPUT_BYTES
+  -- whether input ended after them; then the limit was not reached, and the reader has nothing left
+  pub whole : Bool
+  pub input_ended : whole ≡ true → (length bytes < INPUT_BYTES) × IsAtEnd reader'
+
+-- the inputs that it spells
+abbrev pub inputs_read : {reader reader' : KnownBytes} → ReadInput reader reader' → List Input
+inputs_read read = inputs read.bytes read.whole
+
+-- What was begun: a first line was written, or only the first bytes of it, or none.
+pub record Began (first_line : List ℕ) (out : KnownBytes) : Type 0 where
+  -- whether it was written whole, and what the writer had got then
+  pub whole : Bool
+  pub started : KnownBytes
+  pub wrote : WroteBytes whole out started first_line
+
+-- The first line was not written whole; then nothing was read or done.
+abbrev pub IsNotBegun : Bool → List ℕ → List Step → Type 0
+IsNotBegun begun bytes met = (begun ≡ false) × (bytes ≡ []) × (met ≡ [])
+
 -- What a run is by its end: whether its first line was written whole, the bytes that were read and
 -- whether input ended after them, the inputs that were met, and what halted it.
 abbrev pub EndsBy : ShellEnd → Bool → List ℕ → Bool → List Step → Option ShellEnd → Type 0
@@ -33,32 +57,23 @@ EndsBy ReadFault begun bytes whole met halted =
 EndsBy InputLimit begun bytes whole met halted =
     (begun ≡ true) × (whole ≡ false) × (halted ≡ None) × (length bytes ≡ INPUT_BYTES)
 EndsBy WriteFault begun bytes whole met halted =
-    ((begun ≡ true) × (halted ≡ Some WriteFault))
-    ⊎ ((begun ≡ false) × (bytes ≡ []) × (met ≡ []))
+    ((begun ≡ true) × (halted ≡ Some WriteFault)) ⊎ IsNotBegun begun bytes met
 EndsBy DeviceFault begun bytes whole met halted =
     (begun ≡ true) × (halted ≡ Some DeviceFault)
-EndsBy NoMemory begun bytes whole met halted = (begun ≡ false) × (bytes ≡ []) × (met ≡ [])
+EndsBy NoMemory begun bytes whole met halted = IsNotBegun begun bytes met
 
--- The shell ran from a to b: it consumed these bytes, wrote a first line, and met the first of the
--- inputs that the bytes spell.
+-- The shell ran from a to b: what it read, what it began, and what it served of the inputs that it
+-- read.
 pub record RanShellGiven
     (Given : Premise) (first_line : List ℕ) (end : ShellEnd) (reader reader' : KnownBytes)
     (a b : ShellState) : Type 0 where
-  pub bytes : List ℕ
-  pub consumed : Consumes reader reader' bytes
-  pub within : length bytes ≤ INPUT_BYTES
-  -- whether input ended after them; then the limit was not reached, and the reader has nothing left
-  pub whole : Bool
-  pub input_ended : whole ≡ true → (length bytes < INPUT_BYTES) × IsAtEnd reader'
-  -- whether the first line was written whole, and what the writer had got then
-  pub begun : Bool
-  pub started : KnownBytes
-  pub first : WroteBytes begun a.out started first_line
-  pub untold : end ≡ NoMemory → b.out ≡ a.out
+  pub read : ReadInput reader reader'
+  pub began : Began first_line a.out
   pub halted : Option ShellEnd
-  pub served : ServesInputs Given (inputs bytes whole) (with_written a started) b halted
-  pub near : ReadsLittleAhead bytes (inputs_in (answered_steps served.met))
-  pub ends : EndsBy end begun bytes whole served.met halted
+  pub served : ServesInputs Given (inputs_read read) (with_written a began.started) b halted
+  pub near : ReadsLittleAhead read.bytes (inputs_in (answered_steps served.met))
+  pub ends : EndsBy end began.whole read.bytes read.whole served.met halted
+  pub untold : end ≡ NoMemory → b.out ≡ a.out
 
 -- a run whose first line is that of the session, under the premise that the session is open and its
 -- disk honest

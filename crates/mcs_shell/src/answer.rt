@@ -5,10 +5,13 @@ ghost use Rattle.std.specs.Fmt.{decimal};
 ghost use Rattle.mcs_answers.specs.AnswerTexts.{board_answer, line_feed, listing_answer, no_text, ok_text, query_answer};
 ghost use Rattle.mcs_answers.specs.AheadTexts.{count_answer, trace_answer};
 ghost use Rattle.mcs_shell.specs.Serving.{GotFirstBytes};
+ghost use Rattle.mcs_shell.specs.Answers.{MayTell};
+ghost use Rattle.mcs_shell.specs.Faults.{CountsFault};
 ghost use Rattle.mcs_shell.specs.Spelling.{text_refusal};
 
-use crate::sending::{WriteStopped, send, send_two};
+use crate::sending::WriteStopped;
 use crate::spelling::TextRefusal;
+use crate::streams::AnswerSink;
 use arrayvec::ArrayVec;
 use mcs_ahead::{PROBES, Probe};
 use mcs_answers::{
@@ -16,11 +19,12 @@ use mcs_answers::{
     put_reply, put_trace,
 };
 use mcs_bench::Bench;
+use mcs_disk::Disk;
 use mcs_model::command::Reply;
 use mcs_model::query::Query;
 use mcs_nibble::Addr;
+use mcs_session::session::Session;
 use std::alloc::{AllocError, Global};
-use std::io::Write;
 use std::marker::Model;
 
 /// The answer to one input: a short text, and where it takes memory a long one after it.
@@ -165,16 +169,23 @@ impl Answer {
         self.long = Some(lines);
     }
 
-    /// Writes all of it. On an `Err` the writer has got less, the first bytes.
-    pub(crate) fn send<W: Write>(&self, writer: &mut W) -> Result<(), WriteStopped>
+    /// Tells all of it, once this session has done what it acknowledges. On an `Err` the writer
+    /// has got less, the first bytes.
+    pub(crate) fn send<W: AnswerSink, D: Disk + Drop>(
+        &self,
+        session: &Session<D>,
+        writer: &mut W,
+    ) -> Result<(), WriteStopped>
+        requires { MayTell D.state session.now self.now }
         ensures ok { OnOk result
             (Appends (W.contents writer.old) (W.contents writer.new) self.now) }
         ensures err { OnErr result
             (GotFirstBytes (W.contents writer.old) (W.contents writer.new) self.now) }
+        ensures counted { CountsFault (W.faults writer.old) (W.faults writer.new) result }
     {
         match &self.long {
-            None => send(writer, self.short.as_slice()),
-            Some(long) => send_two(writer, self.short.as_slice(), long.as_slice()),
+            None => writer.tell(session, self.short.as_slice(), &[]),
+            Some(long) => writer.tell(session, self.short.as_slice(), long.as_slice()),
         }
     }
 }

@@ -3,8 +3,10 @@
 ghost use Rattle.mcs_host.specs.Ending.{as_disk};
 ghost use Rattle.mcs_session.specs.KeptCommands.{IsOpenOnHonestDisk};
 ghost use Rattle.mcs_session.specs.SessionState.{session_state};
+ghost use Rattle.mcs_shell.specs.Faults.{RanWithoutFault, ServesAll};
 ghost use Rattle.mcs_shell.specs.Headline.{AnswersAndSurvives};
-ghost use Rattle.mcs_shell.specs.InFile.{SurvivesInFile};
+ghost use Rattle.mcs_shell.specs.History.{History, IsFoundByCut, SurvivesHistory};
+ghost use Rattle.mcs_shell.specs.InFile.{IsFoundAgain, SurvivesInFile};
 ghost use Rattle.mcs_shell.specs.Shell.{ShellRun};
 
 use mcs_disk::Disk;
@@ -24,4 +26,30 @@ pub fn a_run_answers_and_survives_power_cuts<D: Disk, E: Disk>()
 pub fn a_file_survives_power_cuts()
     ensures { (run : ShellRun as_disk) → IsOpenOnHonestDisk (session_state as_disk run.before)
         → SurvivesInFile run }
+{}
+
+/// Any number of runs: on what a power cut leaves of one a session is opened again, served, and cut
+/// off again, at any moment, in its opening and while a session of version 1 is carried over too;
+/// an opening that is refused is one more of them. What is opened at the end is the bench after
+/// the commands that are kept of each run, in their order: of each a prefix of those answered `ok`
+/// and the one answered `no 53`, which holds every one acknowledged before the run was cut off.
+pub fn any_number_of_runs_survive_power_cuts<D: Disk>()
+    ensures { (history : History D.state (IsFoundByCut D.state))
+        → IsOpenOnHonestDisk (session_state D.state history.first.before)
+        → SurvivesHistory history }
+{}
+
+/// The same over a file of the host: closed, killed or cut off, and opened by the program again,
+/// however often.
+pub fn a_file_survives_any_number_of_stops()
+    ensures { (history : History as_disk IsFoundAgain)
+        → IsOpenOnHonestDisk (session_state as_disk history.first.before)
+        → SurvivesHistory history }
+{}
+
+/// Where no call of the reader, of the writer or of the disk failed, and the shell found memory to
+/// begin, the run came to the end of its input or to the limit of what it reads, and each input
+/// that it read was met and answered, in turn.
+pub fn a_run_without_a_fault_answers_all<D: Disk>()
+    ensures { (run : ShellRun D.state) → RanWithoutFault run → ServesAll run }
 {}

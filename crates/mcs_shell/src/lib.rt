@@ -15,6 +15,7 @@ pub mod sending;
 mod serving;
 pub mod shell;
 pub mod spelling;
+pub mod streams;
 mod telling;
 pub mod texts;
 mod unfinished;

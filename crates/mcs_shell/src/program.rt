@@ -6,14 +6,14 @@ ghost use Rattle.mcs_host.specs.Ending.{as_disk};
 ghost use Rattle.mcs_host.specs.FileDisk.{IsOpened};
 ghost use Rattle.mcs_host.specs.declared.file_disk.FileDisk.{FileDisk};
 ghost use Rattle.mcs_host.specs.declared.file_fault.FileFault.{FileFault};
-ghost use Rattle.mcs_shell.specs.Program.{IsBegunOn, IsRefusedBy, RanWithStatus, ServedChosenSession, ServedBySomeArguments, ServedSession};
-ghost use Rattle.mcs_shell.specs.Shell.{RanShell};
+ghost use Rattle.mcs_shell.specs.Faults.{streams_view};
+ghost use Rattle.mcs_shell.specs.Program.{IsBegunOn, IsRefusedBy, RanTo, RanWithStatus, ServedChosenSession, ServedBySomeArguments, ServedSession};
 ghost use Rattle.mcs_shell.specs.RefusalNumbers.{refusal_number};
-ghost use Rattle.mcs_shell.specs.ShellState.{shell_state};
 
 use crate::ends::{ShellEnd, status};
 use crate::refusal::Refusal;
 use crate::shell::run_shell;
+use crate::streams::{AnswerSink, InputSource};
 use crate::telling::{
     tell_end, tell_no_memory, tell_no_stand_in, tell_opening, tell_refusal, tell_streams,
     tell_usage,
@@ -27,7 +27,7 @@ use mcs_session::session::Session;
 use std::alloc::Global;
 use std::convert::AsStr;
 use std::env;
-use std::io::{self, ErrorKind, Read, Write};
+use std::io::{self, ErrorKind};
 use std::process::ExitCode;
 
 /// The exit status where the arguments are none of the program's.
@@ -165,21 +165,21 @@ pub fn session_in(rt: &HostRuntime, choice: &Choice) -> Result<Session<FileDisk>
 /// Serves the session of this file over a reader and a writer, and gives the exit status of the
 /// shell's end. An `Err` comes only where memory for the shell was refused and that could not be
 /// told; then nothing was read or done.
-pub fn serve<R: Read, W: Write, D: Disk + Drop>(
+pub fn serve<R: InputSource, W: AnswerSink, D: Disk + Drop>(
     rt: &HostRuntime,
     reader: &mut R,
     writer: &mut W,
     session: &mut Session<D>,
     file: &str,
 ) -> io::Result<ExitCode>
-    ensures ran { IfOk result (λ code. RanWithStatus (exit_status code)
-        (R.remaining reader.old) (R.remaining reader.new)
-        (shell_state D.state session.old (W.contents writer.old))
-        (shell_state D.state session.new (W.contents writer.new))) }
-    ensures untold { OnErr result (RanShell ShellEnd.NoMemory
-        (R.remaining reader.old) (R.remaining reader.new)
-        (shell_state D.state session.old (W.contents writer.old))
-        (shell_state D.state session.new (W.contents writer.new))) }
+    ensures ran { IfOk result (λ code. RanWithStatus D.state (exit_status code)
+        (streams_view R.remaining R.faults W.contents W.faults reader.old writer.old)
+        (streams_view R.remaining R.faults W.contents W.faults reader.new writer.new)
+        session.old session.new) }
+    ensures untold { OnErr result (RanTo D.state ShellEnd.NoMemory
+        (streams_view R.remaining R.faults W.contents W.faults reader.old writer.old)
+        (streams_view R.remaining R.faults W.contents W.faults reader.new writer.new)
+        session.old session.new) }
 {
     let end = run_shell(rt.alloc(), reader, writer, session);
     let left = match end {
@@ -201,7 +201,7 @@ pub struct Ended<D: Disk + Drop> {
 }
 
 /// Serves the session that a choice began over a reader and a writer, or tells why there is none.
-pub fn serve_begun<R: Read, W: Write, D: Disk + Drop>(
+pub fn serve_begun<R: InputSource, W: AnswerSink, D: Disk + Drop>(
     rt: &HostRuntime,
     reader: &mut R,
     writer: &mut W,
@@ -209,8 +209,10 @@ pub fn serve_begun<R: Read, W: Write, D: Disk + Drop>(
     begun: Result<Session<D>, Refused<D>>,
 ) -> Ended<D>
     ensures served { IfOk begun (λ before. IsSomeAnd result.session (λ after.
-        ServedSession D.state result.status (R.remaining reader.old) (R.remaining reader.new)
-        (W.contents writer.old) (W.contents writer.new) before after)) }
+        ServedSession D.state result.status
+        (streams_view R.remaining R.faults W.contents W.faults reader.old writer.old)
+        (streams_view R.remaining R.faults W.contents W.faults reader.new writer.new)
+        before after)) }
     ensures refused { OnErr begun (IfOk result.status (λ code. exit_status code ≡ 3)) }
     ensures unserved { OnErr begun (result.session ≡ None) }
     ensures unread { OnErr begun (R.remaining reader.new ≡ R.remaining reader.old) }
@@ -239,7 +241,7 @@ pub fn serve_begun<R: Read, W: Write, D: Disk + Drop>(
 /// Runs the bench by these arguments, the program's name first, over a reader and a writer:
 /// session, shell, exit status. Without a session the status is 2 or 3, and nothing was read or
 /// answered.
-pub fn run_arguments<S: AsStr, R: Read, W: Write>(
+pub fn run_arguments<S: AsStr, R: InputSource, W: AnswerSink>(
     rt: &HostRuntime,
     arguments: &[S],
     reader: &mut R,
@@ -250,8 +252,9 @@ pub fn run_arguments<S: AsStr, R: Read, W: Write>(
         → choice_in (map S.text arguments.entry.now) ≡ None) }
     ensures served { IfSome result.session (λ after. ServedChosenSession as_disk
         (choice_in (map S.text arguments.entry.now)) result.status
-        (R.remaining reader.old) (R.remaining reader.new)
-        (W.contents writer.old) (W.contents writer.new) after) }
+        (streams_view R.remaining R.faults W.contents W.faults reader.old writer.old)
+        (streams_view R.remaining R.faults W.contents W.faults reader.new writer.new)
+        after) }
     ensures unserved { IfNone result.session (IfOk result.status (λ code.
         (exit_status code ≡ 2) ⊎ (exit_status code ≡ 3))) }
     ensures unread { IfNone result.session

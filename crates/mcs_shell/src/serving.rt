@@ -6,6 +6,8 @@ ghost use Rattle.mcs_shell.specs.LineFeeds.{HasNoFeed};
 ghost use Rattle.mcs_shell.specs.Inputs.{BadText, Line, judged_text};
 ghost use Rattle.mcs_shell.specs.ShellState.{shell_state};
 ghost use Rattle.mcs_shell.specs.Serving.{ServesBytes, ServesInputs, WroteBytes};
+ghost use Rattle.mcs_shell.specs.Answers.{MayTell};
+ghost use Rattle.mcs_shell.specs.Faults.{faults_written};
 ghost use Rattle.mcs_shell.specs.Transcript.{halt_of};
 ghost use Rattle.mcs_session.specs.KeptCommands.{IsIntact};
 
@@ -14,6 +16,7 @@ use crate::answering::{answer_request, answer_text};
 use crate::ends::ShellEnd;
 use crate::outcome::Outcome;
 use crate::sending::WriteStopped;
+use crate::streams::AnswerSink;
 use crate::texts::{TextFault, ends_text};
 use crate::unfinished::Unfinished;
 use mcs_disk::Disk;
@@ -21,15 +24,21 @@ use mcs_lines::requests::{Request, TextKind, read_request};
 use mcs_model::text_lines::without_return;
 use mcs_session::session::Session;
 use std::alloc::Global;
-use std::io::Write;
 
-/// Writes the answer to an input that met this outcome.
-fn deliver<W: Write>(outcome: Outcome, answer: &Answer, writer: &mut W) -> Result<(), ShellEnd>
-    ensures { (whole : Bool)
+/// Writes the answer to an input that met this outcome, which left the session so.
+fn deliver<W: AnswerSink, D: Disk + Drop>(
+    outcome: Outcome,
+    answer: &Answer,
+    writer: &mut W,
+    session: &Session<D>,
+) -> Result<(), ShellEnd>
+    requires { MayTell D.state session.now answer.now }
+    ensures wrote { (whole : Bool)
         × WroteBytes whole (W.contents writer.old) (W.contents writer.new) answer.now
         × (result_err result ≡ halt_of whole outcome) }
+    ensures counted { W.faults writer.new ≡ faults_written (result_err result) (W.faults writer.old) }
 {
-    match answer.send(writer) {
+    match answer.send(session, writer) {
         Err(WriteStopped) => Err(ShellEnd::WriteFault),
         Ok(()) => match outcome {
             Outcome::Device => Err(ShellEnd::DeviceFault),
@@ -39,54 +48,60 @@ fn deliver<W: Write>(outcome: Outcome, answer: &Answer, writer: &mut W) -> Resul
 }
 
 /// Serves a line outside a text: what it asks for is done, and then the answer is written.
-fn serve_request<W: Write, D: Disk + Drop>(
+fn serve_request<W: AnswerSink, D: Disk + Drop>(
     alloc: Global,
     request: Request,
     writer: &mut W,
     session: &mut Session<D>,
 ) -> Result<(), ShellEnd>
-    ensures { ServesInputs IsIntact (Line request ∷ [])
+    ensures served { ServesInputs IsIntact (Line request ∷ [])
         (shell_state D.state session.old (W.contents writer.old))
         (shell_state D.state session.new (W.contents writer.new)) (result_err result) }
+    ensures counted { W.faults writer.new ≡ faults_written (result_err result) (W.faults writer.old) }
 {
     let mut answer = Answer::new();
     let outcome = answer_request(alloc, &request, session, &mut answer);
-    deliver(outcome, &answer, writer)
+    let _bench = session.bench();
+    deliver(outcome, &answer, writer, session)
 }
 
 /// Serves a text that has an end.
-fn serve_text<W: Write, D: Disk + Drop>(
+fn serve_text<W: AnswerSink, D: Disk + Drop>(
     alloc: Global,
     kind: TextKind,
     text: &[u8],
     writer: &mut W,
     session: &mut Session<D>,
 ) -> Result<(), ShellEnd>
-    ensures { ServesInputs IsIntact (judged_text kind text.now ∷ [])
+    ensures served { ServesInputs IsIntact (judged_text kind text.now ∷ [])
         (shell_state D.state session.old (W.contents writer.old))
         (shell_state D.state session.new (W.contents writer.new)) (result_err result) }
+    ensures counted { W.faults writer.new ≡ faults_written (result_err result) (W.faults writer.old) }
 {
     let mut answer = Answer::new();
     let outcome = answer_text(alloc, kind, text, session, &mut answer);
-    deliver(outcome, &answer, writer)
+    let _bench = session.bench();
+    deliver(outcome, &answer, writer, session)
 }
 
 /// Refuses a text inside which input ended.
-pub(crate) fn serve_no_end<W: Write, D: Disk + Drop>(
+pub(crate) fn serve_no_end<W: AnswerSink, D: Disk + Drop>(
     writer: &mut W,
     session: &mut Session<D>,
 ) -> Result<(), ShellEnd>
-    ensures { ServesInputs IsIntact (BadText NoEnd ∷ [])
+    ensures served { ServesInputs IsIntact (BadText NoEnd ∷ [])
         (shell_state D.state session.old (W.contents writer.old))
         (shell_state D.state session.new (W.contents writer.new)) (result_err result) }
+    ensures counted { W.faults writer.new ≡ faults_written (result_err result) (W.faults writer.old) }
 {
     let mut answer = Answer::new();
     answer.tell_refusal(TextFault::NoEnd.number());
-    deliver(Outcome::Plain, &answer, writer)
+    let _bench = session.bench();
+    deliver(Outcome::Plain, &answer, writer, session)
 }
 
 /// Ends the unfinished line, as a line feed after it does.
-pub(crate) fn end_line<W: Write, D: Disk + Drop>(
+pub(crate) fn end_line<W: AnswerSink, D: Disk + Drop>(
     alloc: Global,
     unfinished: &mut Unfinished,
     writer: &mut W,
@@ -96,6 +111,7 @@ pub(crate) fn end_line<W: Write, D: Disk + Drop>(
     ensures fed { ServesBytes (shell_state D.state session.old (W.contents writer.old))
         (shell_state D.state session.new (W.contents writer.new))
         unfinished.old unfinished.new (10 ∷ []) (result_err result) }
+    ensures counted { W.faults writer.new ≡ faults_written (result_err result) (W.faults writer.old) }
     ensures empty { OnOk result (length unfinished.new.line ≡ 0) }
 {
     let line = without_return(unfinished.line());
@@ -144,7 +160,7 @@ fn split_line(bytes: &[u8]) -> Option<(&[u8], &[u8])>
 }
 
 /// Serves the bytes of a chunk, after what is unfinished.
-pub(crate) fn serve_chunk<W: Write, D: Disk + Drop>(
+pub(crate) fn serve_chunk<W: AnswerSink, D: Disk + Drop>(
     alloc: Global,
     chunk: &[u8],
     unfinished: &mut Unfinished,
@@ -152,9 +168,10 @@ pub(crate) fn serve_chunk<W: Write, D: Disk + Drop>(
     session: &mut Session<D>,
 ) -> Result<(), ShellEnd>
     requires { HasNoFeed unfinished.old.line }
-    ensures { ServesBytes (shell_state D.state session.old (W.contents writer.old))
+    ensures fed { ServesBytes (shell_state D.state session.old (W.contents writer.old))
         (shell_state D.state session.new (W.contents writer.new))
         unfinished.old unfinished.new chunk.now (result_err result) }
+    ensures counted { W.faults writer.new ≡ faults_written (result_err result) (W.faults writer.old) }
 {
     let mut rest = chunk;
     while let Some((front, back)) = split_line(rest) {

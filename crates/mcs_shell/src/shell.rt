@@ -2,6 +2,7 @@
 ghost use Rattle.std.specs.Prelude.{◌≡◌, ◌<◌, ◌≤◌, [], true, take, length, IfOk, OnErr};
 ghost use Rattle.std.specs.Result.{result_err};
 ghost use Rattle.std.specs.Io.KnownBytes.{Keeps};
+ghost use Rattle.mcs_shell.specs.Faults.{CountsFault, EndsByItsFault, faults_written};
 ghost use Rattle.mcs_shell.specs.LineFeeds.{HasNoFeed};
 ghost use Rattle.mcs_shell.specs.ShellState.{shell_state};
 ghost use Rattle.mcs_shell.specs.Shell.{RanShell, RanShellGiven, ReadBytes};
@@ -13,43 +14,43 @@ use crate::answer::Answer;
 use crate::ends::ShellEnd;
 use crate::sending::WriteStopped;
 use crate::serving::{end_line, serve_chunk, serve_no_end};
+use crate::streams::{AnswerSink, InputSource, ReadFailed};
 use crate::unfinished::Unfinished;
 use mcs_disk::Disk;
 use mcs_model::limits::INPUT_BYTES;
 use mcs_session::session::Session;
 use std::alloc::Global;
-use std::io::{Read, Write};
 
 /// Bytes that one read asks for at most.
 const CHUNK_BYTES: usize = 4_096;
 
-/// A read failed.
-struct ReadFailed;
-
 /// Reads at most `most` bytes to the front of the buffer; none only where input has ended.
-fn read_some<R: Read>(reader: &mut R, buffer: &mut [u8], most: usize) -> Result<usize, ReadFailed>
+fn read_some<R: InputSource>(
+    reader: &mut R,
+    buffer: &mut [u8],
+    most: usize,
+) -> Result<usize, ReadFailed>
     requires some { 0 < most }
     requires room { most ≤ length buffer.old }
     ensures ok { IfOk result (λ n.
         ReadBytes n most (R.remaining reader.old) (R.remaining reader.new) (take n buffer.new)) }
     ensures err { OnErr result (Keeps (R.remaining reader.old) (R.remaining reader.new)) }
+    ensures counted { CountsFault (R.faults reader.old) (R.faults reader.new) result }
 {
-    match reader.read(&mut buffer[..most]) {
-        Ok(count) => Ok(count),
-        Err(_) => Err(ReadFailed),
-    }
+    reader.read_some(&mut buffer[..most])
 }
 
 /// Refuses the text that is open where input has ended after a whole line.
-fn finish_text<W: Write, D: Disk + Drop>(
+fn finish_text<W: AnswerSink, D: Disk + Drop>(
     unfinished: &Unfinished,
     writer: &mut W,
     session: &mut Session<D>,
 ) -> Result<(), ShellEnd>
     requires { length unfinished.now.line ≡ 0 }
-    ensures { ServesInputs IsIntact (inputs_after unfinished.now [] true)
+    ensures served { ServesInputs IsIntact (inputs_after unfinished.now [] true)
         (shell_state D.state session.old (W.contents writer.old))
         (shell_state D.state session.new (W.contents writer.new)) (result_err result) }
+    ensures counted { W.faults writer.new ≡ faults_written (result_err result) (W.faults writer.old) }
 {
     match unfinished.text() {
         None => Ok(()),
@@ -58,16 +59,17 @@ fn finish_text<W: Write, D: Disk + Drop>(
 }
 
 /// Serves what is unfinished where input has ended.
-fn finish<W: Write, D: Disk + Drop>(
+fn finish<W: AnswerSink, D: Disk + Drop>(
     alloc: Global,
     unfinished: &mut Unfinished,
     writer: &mut W,
     session: &mut Session<D>,
 ) -> Result<(), ShellEnd>
     requires { HasNoFeed unfinished.old.line }
-    ensures { ServesInputs IsIntact (inputs_after unfinished.old [] true)
+    ensures served { ServesInputs IsIntact (inputs_after unfinished.old [] true)
         (shell_state D.state session.old (W.contents writer.old))
         (shell_state D.state session.new (W.contents writer.new)) (result_err result) }
+    ensures counted { W.faults writer.new ≡ faults_written (result_err result) (W.faults writer.old) }
 {
     if unfinished.line().is_empty() {
         return finish_text(unfinished, writer, session);
@@ -79,7 +81,7 @@ fn finish<W: Write, D: Disk + Drop>(
 }
 
 /// Reads and serves until an end.
-fn run_loop<R: Read, W: Write, D: Disk + Drop>(
+fn run_loop<R: InputSource, W: AnswerSink, D: Disk + Drop>(
     alloc: Global,
     buffer: &mut [u8],
     reader: &mut R,
@@ -88,9 +90,11 @@ fn run_loop<R: Read, W: Write, D: Disk + Drop>(
 ) -> ShellEnd
     requires some { 0 < length buffer.old }
     requires chunk { length buffer.old ≤ CHUNK_BYTES }
-    ensures { RanShellGiven IsIntact [] result (R.remaining reader.old) (R.remaining reader.new)
+    ensures ran { RanShellGiven IsIntact [] result (R.remaining reader.old) (R.remaining reader.new)
         (shell_state D.state session.old (W.contents writer.old))
         (shell_state D.state session.new (W.contents writer.new)) }
+    ensures counted { EndsByItsFault result (R.faults reader.old) (R.faults reader.new)
+        (W.faults writer.old) (W.faults writer.new) }
 {
     let mut unfinished = Unfinished::new();
     let mut total = 0;
@@ -125,15 +129,17 @@ fn run_loop<R: Read, W: Write, D: Disk + Drop>(
 /// Each command is answered after it was recorded. Wherever the machine stops, what the disk then
 /// holds opens to the state after some first commands of those that were accepted, and each
 /// acknowledged one is among them.
-pub fn run_shell<R: Read, W: Write, D: Disk + Drop>(
+pub fn run_shell<R: InputSource, W: AnswerSink, D: Disk + Drop>(
     alloc: Global,
     reader: &mut R,
     writer: &mut W,
     session: &mut Session<D>,
 ) -> ShellEnd
-    ensures { RanShell result (R.remaining reader.old) (R.remaining reader.new)
+    ensures ran { RanShell result (R.remaining reader.old) (R.remaining reader.new)
         (shell_state D.state session.old (W.contents writer.old))
         (shell_state D.state session.new (W.contents writer.new)) }
+    ensures counted { EndsByItsFault result (R.faults reader.old) (R.faults reader.new)
+        (W.faults writer.old) (W.faults writer.new) }
 {
     let seq = session.bench().seq();
     let Ok(mut buffer) = vec![in alloc; 0u8; CHUNK_BYTES] else {
@@ -141,7 +147,7 @@ pub fn run_shell<R: Read, W: Write, D: Disk + Drop>(
     };
     let mut first = Answer::new();
     first.tell_number(b"session ", seq);
-    match first.send(writer) {
+    match first.send(session, writer) {
         Err(WriteStopped) => ShellEnd::WriteFault,
         Ok(()) => run_loop(alloc, buffer.as_mut_slice(), reader, writer, session),
     }

@@ -6,6 +6,7 @@ use crate::refusal::Refusal;
 use mcs_host::{Choice, FileDisk, FileFault, Streams};
 use mcs_journal::{CreateFault, OpenFault};
 use std::io;
+use std::path::Path;
 
 /// What wrong arguments get: what the arguments are, where the manual is, and the versions of the
 /// program and of its session files.
@@ -51,7 +52,7 @@ pub fn tell_refusal(rt: &HostRuntime, choice: &Choice, refusal: Refusal) {
     let file = choice.file();
     // Where standard error takes nothing, the number that standard output got has to do.
     let _ = match (choice, refusal) {
-        (Choice::Open(_), Refusal::File(FileFault::NotThere)) => {
+        (Choice::Open(_), Refusal::File(FileFault::NotThere)) if has_folder(rt, file) => {
             eprintln!(rt; "mcs4: {file}: no such file; begin a session with: mcs4 new {file}")
         }
         (_, Refusal::Create(CreateFault::NotBlank)) => eprintln!(rt;
@@ -59,6 +60,14 @@ pub fn tell_refusal(rt: &HostRuntime, choice: &Choice, refusal: Refusal) {
         ),
         (_, refusal) => eprintln!(rt; "mcs4: {file}: {}", reason_of(refusal)),
     };
+}
+
+// Whether the folder of the file of this name is there, where one can tell.
+fn has_folder(rt: &HostRuntime, file: &str) -> bool {
+    match Path::new(file).parent() {
+        Some(folder) => folder.as_str().is_empty() || folder.is_dir(rt),
+        None => true,
+    }
 }
 
 /// A line on a session that a fault ended, or nothing where it came to its end.

@@ -8,6 +8,8 @@ mod boards;
 #[cfg(test)]
 mod checks;
 #[cfg(test)]
+mod counted;
+#[cfg(test)]
 mod faults;
 #[cfg(test)]
 mod files;

@@ -11,7 +11,9 @@ import { WorkerDied, unpackFault } from "./faults.js";
  * @typedef {import("./protocol.js").ToWorker} ToWorker
  * @typedef {"load" | "settled" | "make" | "texts" | "boardFault" | "open" | "serve" | "ask" | "source" | "record" | "advance"
  *   | "press" | "release" | "forget" | "run" | "pace" | "halt" | "checkProgram" | "leftovers"
- *   | "goOn" | "goBack" | "goForward" | "tryTexts"} CallName
+ *   | "setBreakpoints" | "goOn" | "drop" | "goBack" | "lastChange" | "goForward" | "tryTexts" | "testFaults" | "runTests"
+ *   | "propertyFaults" | "explore" | "exploreOn" | "stopAtFaults"
+ *   | "recordLive" | "endRecording"} CallName
  * @typedef {{ done: (result: any) => void, fail: (fault: Error) => void, progress: (done: number, total: number) => void }} Waiting
  *
  * How long work is cancelled, and told how far it is.
@@ -162,6 +164,13 @@ export class Bench {
   /** The worker is dead: what was asked of it was not done. */
   die() {
     if (!this.worker) return;
+    this.end();
+    this.listener.died();
+  }
+
+  /** The worker is ended, whatever it does. */
+  end() {
+    if (!this.worker) return;
     this.worker.terminate();
     this.worker = null;
     this.isRunning = false;
@@ -169,6 +178,5 @@ export class Bench {
     const lost = [...this.waiting.values()];
     this.waiting.clear();
     for (const { fail } of lost) fail(new WorkerDied());
-    this.listener.died();
   }
 }

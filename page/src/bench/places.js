@@ -38,7 +38,7 @@ function hasRam({ banks }, bank, chip) {
  * @returns {Place | null}
  */
 function registerPlace(name) {
-  return /^(acc|cy|dcl|r\d|r1[0-5])$/.test(name) ? { name, probesOn: () => [name], value: first } : null;
+  return /^(acc|cy|dcl|ret|r\d|r1[0-5])$/.test(name) ? { name, probesOn: () => [name], value: first } : null;
 }
 
 /**

@@ -7,17 +7,22 @@
  * @typedef {import("./ran.js").RanEntry} RanEntry
  *
  * What a session is now: the answers of a look, the bytes of its file (transferred), the answer to `board` where it may be new, the
- * cycles that were counted, in all and up to the last reset, and how many times forward is possible.
- * @typedef {{ look: string[], file: ArrayBuffer, board: string[] | null, total: number, reset: number,
- *   future: number }} Shown
+ * cycles that were counted, in all and up to the last reset, how many times forward is possible, and what was recorded since it was told
+ * last, null where nothing is recorded.
+ * @typedef {{ look: string[], file: ArrayBuffer, board: string[] | null, total: number, reset: number, future: number,
+ *   waves: import("../worker/live_recorder.js").LivePart | null }} Shown
  *
- * What time has done: the lines, the cycles, the answer that ended the run early ("" where none did), whether a key was changed.
- * @typedef {{ ran: RanEntry[], cycles: number, end: string, changesKeys: boolean } & Shown} Frame
+ * What time has done: the lines, the cycles, the answer that ended the run early ("" where none did), whether a key was changed; why time
+ * stopped, if it did, and what breakpoints did.
+ * @typedef {{ ran: RanEntry[], cycles: number, end: string, changesKeys: boolean, stop: Stop | null, tally: Tally } & Shown} Frame
+ * @typedef {import("../debug/debugger.js").Stop} Stop
+ * @typedef {import("../debug/debugger.js").Tally} Tally
  *
  * @typedef {Told & Shown} ServedLines
- * @typedef {Omit<import("../worker/going_back.js").Aim, "moment">} AimTold
+ * @typedef {Omit<import("../worker/going_back.js").Aim, "moment" | "present">} AimTold
  * @typedef {ServedLines & AimTold & { isDone: boolean, cycles: number }} Gone where going back or forward has led, over how many cycles
- * @typedef {ServedLines & { found: import("../worker/seek.js").Found }} ReachedLines and how the goal was reached
+ * @typedef {ServedLines & { found: import("../debug/debugger.js").Went["found"], tally: Tally }} ReachedLines and how the goal was reached
+ * @typedef {ServedLines & { faults: [number, string][] }} BrokenLines and which breakpoints cannot be read, by their ids, and why
  *
  * To the worker.
  * @typedef {{ kind: "request", number: number, call: string, words: any[], spare: ArrayBuffer[] }} Request with arrays as below

@@ -39,7 +39,7 @@ export function keysOf(board, face) {
     for (let column = 0; column < board.columns; column++) {
       const place = `${row} ${column}`;
       const named = face.keys.get(place);
-      const legend = named ? named.text : `${row}.${column}`;
+      const legend = named ? named.text.replace(/_/g, " ") : `${row}.${column}`;
       const words = `key ${legend}, row ${row}, column ${column}`;
       const letter = legend === "" ? "" : take(legend, named ? named.text : "");
       keys.push({ place, legend, words, isNamed: Boolean(named && legend), isSwitch: false, letter });

@@ -25,11 +25,13 @@ import { WiringView } from "./wiring_view.js";
  *
  * What it calls: a button presses its key; whether time runs, and so fast that no line of the program is followed; questions are asked; a
  * line is served, which gives its answer, or null where it failed; a refusal is put into words; what a cell shows is told; the source
- * is told where the counter is, which breakpoints there are, or that the listing went to an address; a call failed.
+ * is told where the counter is, or that the listing went to an address; the bench tells its breakpoints; one is set or taken away; a call
+ * failed.
  * @typedef {{ listen: (node: HTMLButtonElement, key: BoardKey) => void, isRunning: () => boolean, isFast: () => boolean,
  *   ask: (lines: string) => Promise<string[]>, act: (line: string) => Promise<string | null>, wordsOfRefusal: (number: number) => string,
  *   explain: (name: string) => string,
- *   isAt: (counter: number) => void, breakAt: (breakpoints: string[]) => void, wentTo: (address: number) => void,
+ *   isAt: (counter: number) => void, breakAt: (breakpoints: string[]) => void, toggleBreakpoint: (address: number) => void,
+ *   wentTo: (address: number) => void,
  *   failed: (fault: unknown) => void }} BoardCalls
  */
 
@@ -55,17 +57,13 @@ export class BoardView {
     });
     this.registers = new RegistersView(this.changes, this.editor, calls.explain);
     this.ram = new RamView(this.changes, this.editor, (bank, source, isSet, cell) => (
-      this.toggle(isSet, "watch", `${bank} 0x${hex(source, 2)}`, cell)));
+      this.toggleWatch(isSet, `${bank} 0x${hex(source, 2)}`, cell)));
     this.ports = new PortsView(this.changes, this.editor, calls.explain);
     this.wiring = new WiringView();
     /** @type {Watcher | null} is told of lamps and keys */
     this.watcher = null;
-    /** @type {(address: number, isSet: boolean, at?: HTMLElement) => void} */
-    const toggleBreakpoint = (address, isSet, at) => {
-      this.toggle(isSet, "break", `0x${hex(address, 3)}`, at);
-    };
-    this.listing = new ListingView(calls.ask, toggleBreakpoint, () => this.showListing());
-    this.goTo = new GoToView(this.listing, toggleBreakpoint, (address) => {
+    this.listing = new ListingView(calls.ask, calls.toggleBreakpoint, () => this.showListing());
+    this.goTo = new GoToView(this.listing, calls.toggleBreakpoint, (address) => {
       this.showListing();
       calls.wentTo(address);
     });
@@ -77,14 +75,13 @@ export class BoardView {
   }
 
   /**
-   * Sets or clears a breakpoint or a watch; a refusal is told where the click was.
+   * Sets or clears a watch; a refusal is told where the click was.
    * @param {boolean} isSet
-   * @param {"watch" | "break"} word
    * @param {string} place
    * @param {HTMLElement} [at]
    */
-  async toggle(isSet, word, place, at) {
-    const refusal = this.refusalOf(await this.calls.act(`${isSet ? "un" : ""}${word} ${place}\n`));
+  async toggleWatch(isSet, place, at) {
+    const refusal = this.refusalOf(await this.calls.act(`${isSet ? "un" : ""}watch ${place}\n`));
     if (refusal) this.told.show(`Not set: ${refusal}`, at);
   }
 
@@ -196,9 +193,14 @@ export class BoardView {
       this.wiring.showRam(told);
     }
     if (watches) this.ram.showWatches(watches);
-    if (breakpoints) this.listing.breakpoints = new Set(breakpoints);
     if (breakpoints) this.calls.breakAt(breakpoints);
     if (registers || breakpoints || this.listing.lines.length === 0) this.showListing();
+  }
+
+  /** @param {Map<number, import("../machine/breakpoint_marks.js").BreakpointMark>} marks of breakpoints, by their addresses */
+  showBreakpoints(marks) {
+    this.listing.breakpoints = new Map([...marks].map(([address, mark]) => [hex(address, 3), mark]));
+    this.showListing();
   }
 
   showListing() {

@@ -31,15 +31,19 @@ function bitsOf(letters) {
 
 /** A digit that is drawn. */
 class Digit {
-  /** @param {boolean} isSign whether it is a minus alone */
-  constructor(isSign) {
+  /**
+   * @param {boolean} isSign whether it is a minus alone
+   * @param {boolean} hasPoint
+   */
+  constructor(isSign, hasPoint) {
     this.bits = 0;
     this.node = document.createElementNS(SVG, "svg");
     this.node.setAttribute("viewBox", isSign ? "2 0 32 60" : "0 0 44 60");
     this.segments = SHAPES.map((shape, at) => {
       const segment = document.createElementNS(SVG, "path");
       segment.setAttribute("d", shape);
-      if (!isSign || 1 << at === MINUS) this.node.append(segment);
+      const isThere = isSign ? 1 << at === MINUS : hasPoint || 1 << at !== POINT;
+      if (isThere) this.node.append(segment);
       return segment;
     });
   }
@@ -60,17 +64,17 @@ class Display {
   /** @param {Group} group */
   constructor(group) {
     this.group = group;
-    this.digits = upTo(group.rows).map(() => new Digit(false));
+    this.hasPoints = group.columns === 5 || group.columns === 8;
+    this.digits = upTo(group.rows).map(() => new Digit(false, this.hasPoints));
   }
 
   /** @param {string} marks */
   show(marks) {
     const { first, columns } = this.group;
-    const hasPoints = columns === 5 || columns === 8;
     let isLeading = true;
     for (let place = 0; place < this.digits.length; place++) {
       const at = first + place * columns;
-      const point = hasPoints && isLit(marks, at + columns - 1) ? POINT : 0;
+      const point = this.hasPoints && isLit(marks, at + columns - 1) ? POINT : 0;
       if (columns >= 7) {
         this.digits[place].set(segmentsAt(marks, at) + point);
         continue;
@@ -97,7 +101,7 @@ export class DisplayView {
   constructor() {
     /** @type {Display[]} */
     this.displays = [];
-    this.sign = new Digit(true);
+    this.sign = new Digit(true, false);
     this.minus = -1;
     this.words = new Cell(block("digits"));
     this.text = new DisplayText([], []);
@@ -114,7 +118,7 @@ export class DisplayView {
     this.displays = groups.map((group) => new Display(group));
     this.text = new DisplayText(groups, [...face.lamps].map(([at, { text }]) => ({ at, text })));
     this.minus = minusOf(face);
-    this.sign = new Digit(true);
+    this.sign = new Digit(true, false);
     const drawn = this.displays.map(({ group, digits }) => {
       const colour = face.colours.get(group.first);
       return element("span", { className: `number ${colour ? colour.text : "red"}` }, ...digits.map(({ node }) => node));

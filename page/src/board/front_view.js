@@ -26,6 +26,9 @@ function isBare({ roms, banks, chains, lamps }) {
   return [roms, banks, chains, lamps].every((parts) => parts.length === 0);
 }
 
+/** Longer legends are written smaller. */
+const SHORT_LEGEND = 4;
+
 export class FrontView {
   /** @param {(button: HTMLButtonElement, key: BoardKey) => void} listen makes a button press its key */
   constructor(listen) {
@@ -124,6 +127,8 @@ export class FrontView {
   shownKey(key) {
     const node = element("button", { type: "button", className: "key", disabled: key.legend === "" }, element("b", {}, key.legend));
     node.classList.toggle("unnamed", !key.isNamed);
+    node.classList.toggle("long", key.legend.length > SHORT_LEGEND);
+    node.title = key.legend.length > SHORT_LEGEND ? key.legend : "";
     node.classList.toggle("at-test", key.place.startsWith("test"));
     node.classList.toggle("switch", key.isSwitch);
     if (key.letter && key.letter !== key.legend) node.append(element("kbd", {}, key.letter));

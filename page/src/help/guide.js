@@ -1,6 +1,5 @@
 // What guides: the help, the first program, the box for lines, and the picture of the wiring beside its text.
 
-import { readRun } from "../bench/answers.js";
 import { partAtLine, placesOfParts } from "../bench/board_places.js";
 import { Face } from "../board/face.js";
 import { HelpView } from "./help_view.js";
@@ -29,19 +28,13 @@ export class Guide {
     });
     this.tour = new TourView({ begin: (example) => this.beginTour(example), put: (program) => this.put(program) });
     page.machine.watcher = this.tour;
-    page.running.ended = (answer) => this.ended(answer);
+    page.running.ended = (why) => this.tour.seeEnd(why);
     page.layout.tabs.whenShown("wiring", () => page.machine.wiring.setShown(true));
     for (const name of ["program", "board"]) page.layout.tabs.whenShown(name, () => page.machine.wiring.setShown(false));
     page.machine.wiring.setShown(page.layout.tabs.shown === "wiring");
     page.machine.wiring.select = (name) => this.selectPart(name);
     page.boardEditor.editor.caret = (line) => page.machine.wiring.mark(partAtLine(this.places, line));
     addEventListener("keydown", (event) => this.typed(event));
-  }
-
-  /** @param {string} answer that ended a run early */
-  ended(answer) {
-    const run = readRun(answer);
-    if (run) this.tour.seeEnd(run.end);
   }
 
   /** The lines of each part in the board's text; of what is at TEST, the comment that tells it. */

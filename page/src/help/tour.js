@@ -56,7 +56,8 @@ line = "ram0.0.3"
  * @type {import("../worker/examples.js").Example}
  */
 export const FIRST_PROGRAM = {
-  name: "first program", title: "Five steps to a program of one's own.", board: TOUR_BOARD, program: "", lines: "", project: "",
+  name: "first program", title: "Five steps to a program of one's own.", board: TOUR_BOARD, program: "", tests: "", properties: "",
+  lines: "", project: "",
 };
 
 const LAMP = `; Lights the first lamp.

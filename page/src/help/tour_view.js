@@ -23,7 +23,7 @@ export class TourView {
     this.told = new Cell(block("tour-told"));
     this.put = button("tour-put");
     this.next = button("tour-next");
-    for (const name of ["tour-begin", "first-program"]) onClick(button(name), () => this.begin());
+    for (const name of ["tour-begin", "first-program", "hello-program"]) onClick(button(name), () => this.begin());
     onClick(button("tour-close"), () => this.close());
     onClick(this.put, () => calls.put(this.watch.step.program));
     onClick(this.next, () => (this.watch.at === TOUR.length - 1 ? this.close() : this.show(this.watch.at + 1)));

@@ -1,41 +1,54 @@
-// The marks of breakpoints. One stands at an address: where that is inside an instruction, as after the program was assembled anew with
-// another line before it, a run that comes to the instruction does not stop. So it has a hollow mark, which says so.
+// The marks of breakpoints, in the margin of the source and in the listing, with words about each.
 
 /**
- * @typedef {import("./source_map.js").SourceMap} SourceMap
+ * @typedef {import("../debug/breakpoints.js").Breakpoint} Breakpoint
  * @typedef {{ mark: string, words: string }} BreakpointMark
  */
 
-/** @type {BreakpointMark} */
-const STOPS = { mark: "\u25CF", words: "breakpoint" };
+/** It stops, it stops where it holds, it logs, it stops nothing. */
+const ALWAYS = "\u25CF";
+const SOMETIMES = "\u25C6";
+const LOGS = "\u25B8";
+const NEVER = "\u25CB";
 
 /**
- * The mark of a line or a row.
- * @param {string} own the breakpoint that a run stops at there, as answers write it, "" for none
- * @param {string} inside one that is inside its instruction
- * @returns {BreakpointMark | null}
+ * What a breakpoint does, in words.
+ * @param {Pick<Breakpoint, "condition" | "from" | "note">} breakpoint
  */
-export function markOf(own, inside) {
-  if (own) return STOPS;
-  if (!inside) return null;
-  const words = `breakpoint at ${inside}, inside this instruction: a run that comes here does not stop; a click clears it`;
-  return { mark: "\u25CB", words };
+export function wordsOfBreakpoint({ condition, from, note }) {
+  const when = condition.trim() ? ` where ${condition.trim()}` : "";
+  const since = from > 1 ? ` from hit ${from} on` : "";
+  return `breakpoint${when}${since}${note.trim() ? `: logs "${note.trim()}", and does not stop` : ""}`;
 }
 
 /**
- * The marks of the lines of a program.
- * @param {SourceMap} map
- * @param {string[]} breakpoints as answers write them
- * @returns {Map<number, BreakpointMark>}
+ * @param {Breakpoint} breakpoint
+ * @param {string} fault why it cannot be read, "" where it can
+ * @returns {BreakpointMark}
  */
-export function marksOf(map, breakpoints) {
+export function markOf(breakpoint, fault) {
+  const words = wordsOfBreakpoint(breakpoint);
+  if (fault) return { mark: NEVER, words: `${words}: it stops nothing: ${fault}` };
+  if (!breakpoint.isOn) return { mark: NEVER, words: `${words}: it is switched off` };
+  if (breakpoint.address < 0) return { mark: NEVER, words: `${words}: it stops once the source is assembled` };
+  if (breakpoint.note.trim()) return { mark: LOGS, words };
+  return { mark: breakpoint.condition.trim() || breakpoint.from > 1 ? SOMETIMES : ALWAYS, words };
+}
+
+/**
+ * The marks of the lines of the source, and those of addresses.
+ * @param {Breakpoint[]} breakpoints
+ * @param {Map<number, string>} faults by their ids
+ */
+export function marksOf(breakpoints, faults) {
   /** @type {Map<number, BreakpointMark>} */
-  const marks = new Map();
-  for (const place of breakpoints) {
-    const address = parseInt(place, 16);
-    const line = map.lineOf(address);
-    const mark = map.isInside(address) ? markOf("", place) : markOf(place, "");
-    if (line > 0 && mark && marks.get(line) !== STOPS) marks.set(line, mark);
+  const lines = new Map();
+  /** @type {Map<number, BreakpointMark>} */
+  const addresses = new Map();
+  for (const each of breakpoints) {
+    const mark = markOf(each, faults.get(each.id) || "");
+    if (each.line > 0) lines.set(each.line, mark);
+    if (each.address >= 0) addresses.set(each.address, mark);
   }
-  return marks;
+  return { lines, addresses };
 }

@@ -1,4 +1,5 @@
-// Where "go to" goes: a name of the program, an address as listings print it, or a number as lines write it.
+// Where "go to" goes: a name of the program, also with a number added to it, an address as listings print it, or a number as lines
+// write it.
 
 import { LAST_ADDRESS, numberOf } from "../bench/numbers.js";
 
@@ -12,6 +13,8 @@ import { LAST_ADDRESS, numberOf } from "../bench/numbers.js";
 /** Three digits are an address of a listing, also where all of them are decimal ones. */
 const OF_LISTING = /^[0-9a-f]{3}$/i;
 const NUMBER = /^(0x[0-9a-f]+|\d+)$/i;
+/** A name with a number added, as the page writes addresses behind a label. */
+const BEHIND = /^([a-z_]\w*)\s*\+\s*(0x[0-9a-f]+|\d+)$/i;
 
 /**
  * @param {string} words
@@ -28,8 +31,9 @@ function refused(words) {
  */
 export function goalOf(text, map) {
   const word = text.trim();
-  const value = map ? map.valueOf(word) : undefined;
-  if (value !== undefined) return { address: value, words: "" };
+  const [, name = word, added = "0"] = BEHIND.exec(word) || [];
+  const value = map ? map.valueInAnyCase(name) : undefined;
+  if (value !== undefined && value + numberOf(added) <= LAST_ADDRESS) return { address: value + numberOf(added), words: "" };
   const address = OF_LISTING.test(word) ? parseInt(word, 16) : numberOf(word);
   if (address <= LAST_ADDRESS) return { address, words: "" };
   if (NUMBER.test(word)) return refused(`${word} is no address: the last one is FFF, or 4095.`);

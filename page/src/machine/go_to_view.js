@@ -2,17 +2,16 @@
 
 import { Cell, block, button, byId, element, field, onClick } from "../dom.js";
 import { goalOf } from "./go_to.js";
-import { hex } from "../bench/numbers.js";
 
 /**
  * @typedef {import("./source_map.js").SourceMap} SourceMap
- * @typedef {{ goTo: (address: number) => void, breakpoints: Set<string> }} Goes what goes to an address
+ * @typedef {{ goTo: (address: number) => void }} Goes what goes to an address
  */
 
 export class GoToView {
   /**
    * @param {Goes} listing
-   * @param {(address: number, isSet: boolean, at: HTMLElement) => void} toggleBreakpoint
+   * @param {(address: number) => void} toggleBreakpoint
    * @param {(address: number) => void} went it went to an address
    */
   constructor(listing, toggleBreakpoint, went) {
@@ -29,7 +28,7 @@ export class GoToView {
     const there = button("break-there");
     onClick(there, () => {
       const address = this.go();
-      if (address !== null) toggleBreakpoint(address, listing.breakpoints.has(hex(address, 3)), there);
+      if (address !== null) toggleBreakpoint(address);
     });
   }
 

@@ -1,20 +1,33 @@
 // The rows of the listing that are seen: as many buttons as have room, each for the line that it shows.
 
-import { markOf } from "./breakpoint_marks.js";
 import { Cell, Switch, element, onClick, pressedSwitch } from "../dom.js";
 
 /**
  * @typedef {import("./listing_names.js").NamedLine} NamedLine
  *
- * A row; `breakpoints` are the addresses in its line that have one.
- * @typedef {{ button: HTMLButtonElement, address: number, breakpoints: number[], mark: Cell, bytes: Cell, labels: Cell,
+ * @typedef {import("./breakpoint_marks.js").BreakpointMark} BreakpointMark
+ *
+ * A row; `marked` is the address in its line that has a breakpoint, else its own.
+ * @typedef {{ button: HTMLButtonElement, address: number, marked: number, mark: Cell, bytes: Cell, labels: Cell,
  *   instruction: Cell, breakpoint: Switch, next: Switch }} Row
  */
+
+/**
+ * The mark of a breakpoint inside an instruction, where the source is not known, so that it is where the bench was told to have it.
+ * @param {string} place
+ * @param {Map<string, BreakpointMark>} breakpoints
+ * @returns {BreakpointMark | undefined}
+ */
+function insideMark(place, breakpoints) {
+  if (!breakpoints.has(place)) return undefined;
+  const words = `breakpoint at ${place}, inside this instruction: a run that comes here does not stop; a click clears it`;
+  return { mark: "\u25CB", words };
+}
 
 export class ListingRows {
   /**
    * @param {HTMLElement} root
-   * @param {(address: number, isSet: boolean, button: HTMLElement) => void} toggleBreakpoint
+   * @param {(address: number) => void} toggleBreakpoint
    */
   constructor(root, toggleBreakpoint) {
     this.root = root;
@@ -52,18 +65,9 @@ export class ListingRows {
       else button.removeAttribute("aria-current");
     });
     /** @type {Row} */
-    const row = { button, address: 0, breakpoints: [], mark, bytes, labels, instruction, breakpoint: pressedSwitch(button), next };
-    onClick(button, () => this.toggle(row));
+    const row = { button, address: 0, marked: 0, mark, bytes, labels, instruction, breakpoint: pressedSwitch(button), next };
+    onClick(button, () => this.toggleBreakpoint(row.marked));
     return row;
-  }
-
-  /**
-   * Sets the breakpoint of a row, or clears all that are in its line.
-   * @param {Row} row
-   */
-  toggle({ address, breakpoints, button }) {
-    if (breakpoints.length === 0) this.toggleBreakpoint(address, false, button);
-    for (const each of breakpoints) this.toggleBreakpoint(each, true, button);
   }
 
   /**
@@ -77,7 +81,7 @@ export class ListingRows {
   /**
    * @param {NamedLine[]} lines
    * @param {number} counter
-   * @param {Set<string>} breakpoints
+   * @param {Map<string, BreakpointMark>} breakpoints by their addresses
    */
   show(lines, counter, breakpoints) {
     this.used = Math.min(lines.length, this.rows.length);
@@ -85,18 +89,18 @@ export class ListingRows {
       const line = lines[at];
       row.button.hidden = line === undefined;
       if (!line) return;
-      const [own, inside] = [line.place, line.second].map((place) => (breakpoints.has(place) ? place : ""));
-      const mark = markOf(own, inside);
-      const title = [mark && !own ? mark.words : "", line.source].filter(Boolean).join("; ");
+      const own = breakpoints.get(line.place);
+      const mark = own || insideMark(line.second, breakpoints);
+      const title = [mark ? mark.words : "", line.source].filter(Boolean).join("; ");
       row.address = line.address;
-      row.breakpoints = [own, inside].filter(Boolean).map((place) => parseInt(place, 16));
+      row.marked = mark && !own ? parseInt(line.second, 16) : line.address;
       row.bytes.set(line.bytes);
       row.labels.set(line.labels);
       row.instruction.set(line.instruction);
       if (row.button.title !== title) row.button.title = title;
       row.mark.set(mark ? mark.mark : "");
       row.next.set(line.address === counter);
-      row.breakpoint.set(mark !== null);
+      row.breakpoint.set(mark !== undefined);
     });
   }
 

@@ -25,7 +25,7 @@ const FOLLOW_TIME = 300;
 export class ListingView {
   /**
    * @param {(lines: string) => Promise<string[]>} ask gives the answers to questions
-   * @param {(address: number, isSet: boolean, button: HTMLElement) => void} toggleBreakpoint
+   * @param {(address: number) => void} toggleBreakpoint
    * @param {() => void} moved another stretch is wanted
    */
   constructor(ask, toggleBreakpoint, moved) {
@@ -33,11 +33,13 @@ export class ListingView {
     this.moved = moved;
     this.block = block("lines-of-program");
     this.follows = true;
+    /** Where the counter stood when a user went elsewhere: the listing follows again once it has moved; -1 for never. */
+    this.leftAt = -1;
     /** The address that the stretch begins at where it does not follow the counter. */
     this.from = 0;
     this.counter = 0;
-    /** @type {Set<string>} */
-    this.breakpoints = new Set();
+    /** @type {Map<string, import("./breakpoint_marks.js").BreakpointMark>} by their addresses */
+    this.breakpoints = new Map();
     /** @type {Listed[]} */
     this.lines = [];
     /** @type {NamedLine[]} the same, as they are shown */
@@ -46,6 +48,8 @@ export class ListingView {
     this.map = null;
     // What is read while another stretch is asked for is not shown.
     this.asked = 0;
+    /** Whether time ran when it was shown last. */
+    this.isRunning = false;
     /** When it followed the counter last. */
     this.followed = 0;
     this.scroll = new ListingScroll(this.block, {
@@ -64,6 +68,7 @@ export class ListingView {
     follow.checked = this.follows;
     follow.addEventListener("change", () => {
       this.follows = follow.checked;
+      this.leftAt = -1;
       this.anew();
     });
   }
@@ -92,10 +97,11 @@ export class ListingView {
   }
 
   /**
-   * Shows the stretch from an address on, and follows the counter no more.
+   * Shows the stretch from an address on. Where the listing has followed the counter that stands still, it does so again once that moves.
    * @param {number} address
    */
   goTo(address) {
+    if (this.follows && !this.isRunning) this.leftAt = this.counter;
     this.stayAt(address);
     this.forget();
   }
@@ -129,6 +135,11 @@ export class ListingView {
    */
   async show(isRunning) {
     const { counter, from } = this;
+    this.isRunning = isRunning;
+    if (this.leftAt >= 0 && counter !== this.leftAt) {
+      this.leftAt = -1;
+      this.follows = field("follow").checked = true;
+    }
     if (this.lines.length > 0 && !this.hasToMove(isRunning)) {
       this.showRows();
     } else if (this.follows) {

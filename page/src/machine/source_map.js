@@ -1,5 +1,7 @@
 // Where a program's text stands in ROM, as the bench answers the line `map`: the address and the bytes of each line, and the names.
 
+import { hex } from "../bench/numbers.js";
+
 /**
  * A name with its value. A label is the address of a statement; any other name is a number of the program's own.
  * @typedef {{ name: string, value: number, isLabel: boolean }} Name
@@ -130,6 +132,18 @@ export class SourceMap {
   }
 
   /**
+   * What a name means, in words; "" where the program has no such name.
+   * @param {string} word
+   */
+  meaningOf(word) {
+    const name = this.names.get(word);
+    if (!name) return "";
+    if (!name.isLabel) return `${word} = 0x${hex(name.value, 2)}, ${name.value}`;
+    const line = this.lineOf(name.value);
+    return `${word}: address 0x${hex(name.value, 3)}${line > 0 ? `, line ${line}` : ""}`;
+  }
+
+  /**
    * The value of a name; undefined where the program has no such name.
    * @param {string} name
    * @returns {number | undefined}
@@ -137,5 +151,17 @@ export class SourceMap {
   valueOf(name) {
     const found = this.names.get(name);
     return found && found.value;
+  }
+
+  /**
+   * The value of a name in whatever case; undefined where the program has none, or more than one.
+   * @param {string} word
+   * @returns {number | undefined}
+   */
+  valueInAnyCase(word) {
+    const own = this.valueOf(word);
+    if (own !== undefined) return own;
+    const alike = [...this.names.keys()].filter((name) => name.toLowerCase() === word.toLowerCase());
+    return alike.length === 1 ? this.valueOf(alike[0]) : undefined;
   }
 }

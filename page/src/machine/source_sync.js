@@ -1,28 +1,25 @@
-// The source and the machine: while the program's text is what stands in ROM, the line that comes next is marked, lines have breakpoints,
-// and addresses have names. Whether it is, the bench is asked anew where the text or ROM may have changed.
+// The source and the machine: while the program's text is what stands in ROM, the line that comes next is marked, and addresses have
+// names. Whether it is, the bench is asked anew where the text or ROM may have changed.
 
 import { hex } from "../bench/numbers.js";
-import { marksOf } from "./breakpoint_marks.js";
 import { SourceMap } from "./source_map.js";
 
 /**
- * @typedef {import("./breakpoint_marks.js").BreakpointMark} BreakpointMark
  * @typedef {import("../worker/program_check.js").Checked} Checked
  *
- * What shows the program's text: the line that comes next (0 for none), the marks of the lines that have a breakpoint, and the address of
- * each line ("" where it has none to show); a line is brought into view.
- * @typedef {{ showNext: (line: number) => void, showBreakpoints: (marks: Map<number, BreakpointMark>) => void,
- *   showAddresses: (addresses: string[]) => void, reveal: (line: number) => void }} SourceEditor
+ * What shows the program's text: the line that comes next (0 for none), and the address of each line ("" where it has none to show); a
+ * line is brought into view.
+ * @typedef {{ showNext: (line: number) => void, showAddresses: (addresses: string[]) => void,
+ *   reveal: (line: number) => void }} SourceEditor
  *
- * What it calls: the text that is shown; the bench looks at a text; a breakpoint is set or cleared; something is refused, in words; the
- * program that stands in ROM is another one (null for none), with words for people; what a refusal means.
- * @typedef {{ text: () => string, check: (text: string) => Promise<Checked>, toggle: (isSet: boolean, address: number) => void,
- *   refuse: (words: string) => void, changed: (map: SourceMap | null, words: string) => void,
+ * What it calls: the text that is shown; the bench looks at a text; the program that stands in ROM is another one (null for none), with
+ * words for people; what a refusal means.
+ * @typedef {{ text: () => string, check: (text: string) => Promise<Checked>, changed: (map: SourceMap | null, words: string) => void,
  *   wordsOfRefusal: (number: number) => string }} SyncCalls
  */
 
 /** @type {SourceEditor} */
-const NO_EDITOR = { showNext: () => {}, showBreakpoints: () => {}, showAddresses: () => {}, reveal: () => {} };
+const NO_EDITOR = { showNext: () => {}, showAddresses: () => {}, reveal: () => {} };
 
 /** @param {number} address */
 function written(address) {
@@ -44,9 +41,9 @@ export class SourceSync {
     this.text = "";
     // What is told of a text that is not the newest one is not shown.
     this.asked = 0;
+    /** @type {Promise<void> | null} */
+    this.freshening = null;
     this.next = 0;
-    /** @type {string[]} */
-    this.breakpoints = [];
   }
 
   /** The editor shows another text. */
@@ -81,7 +78,6 @@ export class SourceSync {
     this.words = this.wordsOf(checked, map);
     this.map = this.words === "" && map.count > 0 ? map : null;
     this.editor.showAddresses(addressesOf(map));
-    this.showBreakpoints(this.breakpoints);
     this.calls.changed(this.map, this.words);
   }
 
@@ -123,32 +119,15 @@ export class SourceSync {
     if (line > 0) this.editor.reveal(line);
   }
 
-  /** @param {string[]} breakpoints as answers write them */
-  showBreakpoints(breakpoints) {
-    this.breakpoints = breakpoints;
-    this.editor.showBreakpoints(this.map ? marksOf(this.map, breakpoints) : new Map());
-  }
-
-  /**
-   * Sets the breakpoint of a line, or clears all that are in it; or says why there can be none.
-   * @param {number} line
-   */
-  async toggleBreakpoint(line) {
-    // What was edited a moment ago may stand elsewhere.
-    if (this.calls.text() !== this.text || !this.checked) await this.check();
-    const { map } = this;
-    if (!map) {
-      this.calls.refuse(this.words || "The source has no lines: a breakpoint can be set in the listing.");
-      return;
+  /** What was edited a moment ago is looked at. */
+  async fresh() {
+    // A look that another one has overtaken is not taken. All who wait share one, or none of theirs would be the last.
+    while (this.calls.text() !== this.text || !this.checked) {
+      this.freshening = this.freshening || this.check().finally(() => {
+        this.freshening = null;
+      });
+      await this.freshening;
     }
-    const address = map.addressOf(line);
-    if (address === undefined) {
-      this.calls.refuse(`Line ${line} puts no bytes into ROM, so no run comes to it: set the breakpoint at a line with an instruction.`);
-      return;
-    }
-    const own = this.breakpoints.map((place) => parseInt(place, 16)).filter((place) => map.lineOf(place) === line);
-    if (own.length === 0) this.calls.toggle(false, address);
-    for (const place of own) this.calls.toggle(true, place);
   }
 
   /**
@@ -156,11 +135,7 @@ export class SourceSync {
    * @param {string} word
    */
   meaningOf(word) {
-    const name = this.map && this.map.names.get(word);
-    if (!this.map || !name) return "";
-    if (!name.isLabel) return `${word} = 0x${hex(name.value, 2)}, ${name.value}`;
-    const line = this.map.lineOf(name.value);
-    return `${word}: address ${written(name.value)}${line > 0 ? `, line ${line}` : ""}`;
+    return this.map ? this.map.meaningOf(word) : "";
   }
 }
 

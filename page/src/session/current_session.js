@@ -4,6 +4,7 @@ import { field, block } from "../dom.js";
 import { NONE } from "../time/cycles.js";
 import { addressOf } from "./address.js";
 import { KeptSession } from "./kept_session.js";
+import { shortName } from "./names.js";
 
 /**
  * @typedef {import("./locks.js").Release} Release
@@ -78,18 +79,35 @@ export class CurrentSession {
     return this.session ? this.session.record.name : "";
   }
 
+  showTitle() {
+    field("name").value = this.name;
+    document.title = `${this.name} - Fethsaim`;
+  }
+
   /** Its name stands in its field and in the title of the tab; its address is the one of this session, or of the example that it is yet. */
   showName() {
     if (!this.session) return;
     const { record, example } = this.session;
-    field("name").value = record.name;
-    document.title = `${record.name} - Fethsaim`;
+    this.showTitle();
+    block("hello").hidden = example === "";
     location.replace(example ? addressOf("example", example) : addressOf("session", record.id));
+  }
+
+  /**
+   * A session that was given no name is called by its title, once it has one.
+   * @param {string} title
+   */
+  takeTitle(title) {
+    const name = shortName(title.replace(/\.$/, ""));
+    if (!this.session || !this.session.record.isTitled || name === "" || name === this.session.record.name) return;
+    this.session.record.name = name;
+    this.showTitle();
   }
 
   /** @param {string} name */
   async rename(name) {
     if (!this.session) return;
+    this.session.record.isTitled = false;
     this.session.record.name = name.trim() || "session";
     this.touch();
     this.showName();

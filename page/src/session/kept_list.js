@@ -1,6 +1,7 @@
 // The list of the sessions that are kept: opened and copied one by one, deleted one by one or several at once, and brought back.
 
 import { block, button, element, field } from "../dom.js";
+import { pictureOf } from "./gallery_view.js";
 
 /**
  * @typedef {import("./store.js").SessionRecord} SessionRecord
@@ -66,7 +67,7 @@ export class KeptList {
     const copy = this.calls.button("Copy", `copy ${name}`, () => this.calls.choose(() => this.calls.copy(id)));
     const remove = this.calls.button("Delete", `delete ${name}`, () => this.remove([record]));
     remove.disabled = isHere;
-    return element("li", {}, this.tick(record, isHere), nameAndTime(record), open, copy, remove);
+    return element("li", {}, this.tick(record, isHere), pictureOf(record.boardText), nameAndTime(record), open, copy, remove);
   }
 
   /**
@@ -86,10 +87,11 @@ export class KeptList {
 
   /** @param {SessionRecord} record */
   deletedLine(record) {
-    return element("li", {}, nameAndTime(record), this.calls.button("Bring back", `bring back ${record.name}`, async () => {
+    const back = this.calls.button("Bring back", `bring back ${record.name}`, async () => {
       await this.calls.bringBack([record]);
       this.giveFocus(0);
-    }));
+    });
+    return element("li", {}, pictureOf(record.boardText), nameAndTime(record), back);
   }
 
   removeChosen() {
@@ -115,8 +117,12 @@ export class KeptList {
   }
 }
 
-/** @param {SessionRecord} record */
-function nameAndTime({ name, changed }) {
+/**
+ * Its name, when it was changed last, and how many cycles it has counted.
+ * @param {SessionRecord} record
+ */
+function nameAndTime({ name, changed, cycles }) {
   const when = new Date(changed).toLocaleString([], { dateStyle: "medium", timeStyle: "short" });
-  return element("span", { className: "grow" }, name, element("small", {}, when));
+  const counted = cycles && cycles.total > 0 ? `, ${cycles.total.toLocaleString("en")} cycles` : "";
+  return element("span", { className: "grow" }, name, element("small", {}, `${when}${counted}`));
 }

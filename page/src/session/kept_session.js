@@ -1,7 +1,7 @@
 // A session that is open in this tab: its record, which is the newest that the bench has told, and how it is kept.
 
 import { shortName } from "./names.js";
-import { wordsOfStoreFault } from "./store.js";
+import { inTime, wordsOfStoreFault } from "./store.js";
 
 /**
  * @typedef {import("./locks.js").Release} Release
@@ -14,14 +14,17 @@ let made = 0;
 /**
  * @param {string} name
  * @param {Uint8Array} file
- * @param {{ boardText: string, programText: string }} texts
+ * @param {{ boardText: string, programText: string, testText?: string, propertiesText?: string,
+ *   breakpoints?: SessionRecord["breakpoints"] }} texts
  * @param {boolean} runs
  * @returns {SessionRecord}
  */
-export function newRecord(name, file, { boardText, programText }, runs = false) {
+export function newRecord(name, file, { boardText, programText, testText = "", propertiesText = "", breakpoints }, runs = false) {
   made += 1;
   const id = `${Date.now().toString(36)}-${made}-${Math.floor(Math.random() * 1e9).toString(36)}`;
-  return { id, name: shortName(name) || "session", file, boardText, programText, runs, revision: 0, changed: Date.now() };
+  const texts = { boardText, programText, testText, propertiesText };
+  const own = { id, name: shortName(name) || "session", file, ...texts, runs, revision: 0, changed: Date.now() };
+  return breakpoints ? { ...own, breakpoints } : own;
 }
 
 export class KeptSession {
@@ -55,11 +58,15 @@ export class KeptSession {
 
   /**
    * Writes what the session is now. The promise gives "" once it is on the disk, and else what went wrong, in words. Calls that come
-   * while it writes share the next write.
+   * while it writes share the next write. A store that does not answer is told, and written to again once it does.
    * @returns {Promise<string>}
    */
   keep() {
-    if (this.isUntouched) return Promise.resolve("");
+    return this.isUntouched ? Promise.resolve("") : inTime(this.writeNext()).catch(wordsOfStoreFault);
+  }
+
+  /** @returns {Promise<string>} */
+  writeNext() {
     if (this.waiting === null) {
       this.waiting = this.writing.then(() => {
         this.waiting = null;

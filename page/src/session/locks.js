@@ -1,5 +1,7 @@
 // One tab for each session.
 
+import { inTime } from "./store.js";
+
 /** A browser that blocks the data of sites has the call for locks, and refuses them all. */
 const TRIES = 6;
 const WAIT = 150;
@@ -12,7 +14,7 @@ export class Locks {
   static async find() {
     if (!navigator.locks) return new Locks(null);
     try {
-      await navigator.locks.request(PROBE, { mode: "shared" }, () => {});
+      await inTime(navigator.locks.request(PROBE, { mode: "shared" }, () => {}));
       return new Locks(navigator.locks);
     } catch {
       return new Locks(null);

@@ -1,4 +1,4 @@
-// The lines of an example, put where they can be sent. What a user has typed there is not lost by it.
+// The lines of an example or of a file, put where they can be sent. What a user has typed there is not lost by it.
 
 import { byId } from "../dom.js";
 
@@ -13,7 +13,7 @@ export class OfferedLines {
     this.offered = "";
   }
 
-  /** @param {string} lines of an example, "" where another session has none */
+  /** @param {string} lines "" where another session has none */
   offer(lines) {
     const typed = this.area.value;
     const isOwn = typed.trim() !== "" && typed !== this.offered;
@@ -21,7 +21,7 @@ export class OfferedLines {
     if (isOwn && lines === "") return;
     this.put(lines);
     if (!isOwn) return;
-    this.notice.show("The example's lines stand in the place of lines that were not sent.", "undo",
+    this.notice.show("Other lines stand in the place of lines that were not sent.", "undo",
       { word: "Undo", act: () => this.put(typed) });
   }
 

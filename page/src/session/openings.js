@@ -21,7 +21,7 @@ export class Openings {
     this.store = store;
     this.later = later;
     this.now = now;
-    /** @type {Map<string, number>} when those that are under way were begun */
+    /** @type {Map<string, { time: number, isEnded: boolean }>} those that have a flag of this page: begun when, and whether it is shown */
     this.begun = new Map();
   }
 
@@ -31,14 +31,15 @@ export class Openings {
    * @param {() => Promise<void>} open what it refuses has come to an end, too
    */
   async during(id, open) {
-    const time = this.now();
-    this.begun.set(id, time);
-    this.change((store) => store.setItem(KEY + id, String(time)));
+    const opening = { time: this.now(), isEnded: false };
+    this.begun.set(id, opening);
+    this.change((store) => store.setItem(KEY + id, String(opening.time)));
     try {
       await open();
     } finally {
+      opening.isEnded = true;
       // It may be opened again meanwhile.
-      this.later(() => (this.begun.get(id) === time ? this.forget(id) : undefined), SETTLE_TIME);
+      this.later(() => (this.begun.get(id) === opening ? this.forget(id) : undefined), SETTLE_TIME);
     }
   }
 
@@ -67,9 +68,9 @@ export class Openings {
     this.change((store) => store.removeItem(KEY + id));
   }
 
-  /** The page is left: what was begun just now has not hung it. */
+  /** The page is left, and can still be told so: what is shown has not hung it, nor has what was begun just now. */
   leave() {
-    for (const [id, time] of this.begun) if (this.isRecent(time)) this.forget(id);
+    for (const [id, { time, isEnded }] of this.begun) if (isEnded || this.isRecent(time)) this.forget(id);
   }
 
   /** @param {(store: FlagStore) => void} act */

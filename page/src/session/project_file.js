@@ -1,15 +1,18 @@
-// A project: the session's file, its name and the texts of both editors in one file, which is a text. tools/project takes it apart
+// A project: the session's file, its name and the texts of the editors in one file, which is a text. tools/project takes it apart
 // and puts it together, to the byte as here; the manual ("A project file") says what each line of it is.
 
 import { checksum } from "./checksum.js";
 import { shortName } from "./names.js";
 import { hex } from "../bench/numbers.js";
-import { LONGEST_TEXT, sizeOf } from "../text/text_fault.js";
+import { breakpointOfLine, linesOfBreakpoints, mostBreakpoints } from "../debug/breakpoint_lines.js";
+import { LONGEST_KEPT } from "../text/text_fault.js";
 
 /**
- * @typedef {{ name: string, boardText: string, programText: string }} Texts
- * @typedef {Texts & { file: Uint8Array }} Project
- * @typedef {"wire" | "asm"} Word the line before a text
+ * @typedef {{ name: string, boardText: string, programText: string, testText?: string, propertiesText?: string }} Texts without tests
+ *   or properties the file has no text of them
+ * @typedef {import("../debug/breakpoints.js").KeptBreakpoint} KeptBreakpoint
+ * @typedef {Texts & { file: Uint8Array, breakpoints?: KeptBreakpoint[] }} Project
+ * @typedef {"wire" | "asm" | "test" | "properties"} Word the line before a text
  */
 
 const FIRST_LINE = "fethsaim project 1";
@@ -17,6 +20,7 @@ const ABOUT = "# A board, its program and a session of the bench Fethsaim. Its p
 /** A text ends at a line with a dot alone, as one that is sent to the bench does. */
 const DOT = ".";
 const LAST_LINE = "end";
+const OF_HEAD = "one of the head: `name`, `unended`, `break`, `#`, or `wire`, which begins the board's text";
 const SUM_LINE = /^cksum \d+$/;
 /** So many bytes stand in a line of the session; a line of zeros is left out. */
 const BYTES_OF_LINE = 16;
@@ -26,17 +30,19 @@ export const LONGEST_PROJECT = 4 << 20;
 /** Why bytes are no project, in words. */
 export class NotAProject extends Error {}
 
-/** One of its texts is longer than any that the bench takes. */
+/** One of its texts is longer than any that the editors take. */
 export class TextTooLong extends NotAProject {}
 
 /**
- * Which of two texts is too long for a project and for a link, in words; "" where neither is.
- * @param {{ boardText: string, programText: string }} texts
+ * Which text is too long for a project and for a link, in words; "" where none is.
+ * @param {{ boardText: string, programText: string, testText?: string, propertiesText?: string }} texts
  */
-export function wordsOfLength({ boardText, programText }) {
-  const [what, text] = sizeOf(boardText) > LONGEST_TEXT ? ["the board's text", boardText] : ["the source", programText];
-  const [size, most] = [sizeOf(text), LONGEST_TEXT].map((count) => count.toLocaleString("en"));
-  return sizeOf(text) > LONGEST_TEXT ? `${what} has ${size} bytes, and ${most} is the most` : "";
+export function wordsOfLength({ boardText, programText, testText = "", propertiesText = "" }) {
+  const named = [["the board's text", boardText], ["the source", programText], ["the tests' text", testText],
+    ["the properties' text", propertiesText]];
+  const [what, text] = named.find(([, each]) => each.length > LONGEST_KEPT) || named[0];
+  const [size, most] = [text.length, LONGEST_KEPT].map((count) => count.toLocaleString("en"));
+  return text.length > LONGEST_KEPT ? `${what} has ${size} characters, and ${most} is the most` : "";
 }
 
 // --- writing ---
@@ -83,14 +89,15 @@ function plainLines(text) {
 }
 
 /**
- * The lines of a name and two texts.
- * @param {Texts} texts
+ * The lines of a name and its texts, and of breakpoints, where it has some.
+ * @param {Texts & { breakpoints?: KeptBreakpoint[] }} texts
  */
-export function linesOfTexts({ name, boardText, programText }) {
-  const board = plainLines(boardText);
-  const program = plainLines(programText);
-  return [`name ${name.replace(/\s+/g, " ").trim()}`, ...unended("wire", board), ...unended("asm", program),
-    ...linesOfText("wire", board), ...linesOfText("asm", program)];
+export function linesOfTexts({ name, boardText, programText, testText = "", propertiesText = "", breakpoints = [] }) {
+  const [board, program, tests, properties] = [boardText, programText, testText, propertiesText].map(plainLines);
+  const head = [`name ${name.replace(/\s+/g, " ").trim()}`, ...unended("wire", board), ...unended("asm", program),
+    ...unended("test", tests), ...unended("properties", properties), ...linesOfBreakpoints(breakpoints)];
+  return [...head, ...linesOfText("wire", board), ...linesOfText("asm", program), ...(tests === "" ? [] : linesOfText("test", tests)),
+    ...(properties === "" ? [] : linesOfText("properties", properties))];
 }
 
 /**
@@ -172,20 +179,24 @@ function checkWhole(text) {
 }
 
 /**
- * The lines up to the first text: its name, and which texts have a last line without an end.
+ * The lines up to the first text: its name, which texts have a last line without an end, and breakpoints.
  * @param {Lines} lines
  */
 function readHead(lines) {
   let name = "";
   const open = new Set();
+  /** @type {KeptBreakpoint[]} */
+  const breakpoints = [];
   while (lines.next !== "wire") {
     const [isOfHead, word, rest] = /^(name|unended) (.+)$|^#/.exec(lines.next) || [];
-    if (isOfHead === undefined) throw lines.fault("one of the head: `name`, `unended`, `#`, or `wire`, which begins the board's text");
+    const breakpoint = breakpointOfLine(lines.next || "");
+    if (breakpoint) breakpoints.push(breakpoint);
+    else if (isOfHead === undefined) throw lines.fault(OF_HEAD);
     if (word === "name") name = shortName(rest);
     if (word === "unended") open.add(rest);
     lines.take();
   }
-  return { name, open };
+  return { name, open, breakpoints };
 }
 
 /**
@@ -199,16 +210,19 @@ function readText(lines, word, open) {
 }
 
 /**
- * A name and two texts. Texts that the bench would never take are not even looked at.
+ * A name and its texts, and breakpoints, where it has some. Texts that the bench would never take are not even looked at.
  * @param {Lines} lines
- * @returns {Texts}
+ * @returns {Texts & { breakpoints?: KeptBreakpoint[] }}
  */
 export function readTexts(lines) {
-  const { name, open } = readHead(lines);
-  const texts = { name, boardText: readText(lines, "wire", open), programText: readText(lines, "asm", open) };
+  const { name, open, breakpoints } = readHead(lines);
+  const [boardText, programText] = [readText(lines, "wire", open), readText(lines, "asm", open)];
+  const [testText, propertiesText] = (/** @type {Word[]} */ (["test", "properties"])).map((word) => (
+    lines.next === word ? readText(lines, word, open) : ""));
+  const texts = { name, boardText, programText, testText, propertiesText };
   const words = wordsOfLength(texts);
   if (words) throw new TextTooLong(words);
-  return texts;
+  return breakpoints.length > 0 ? { ...texts, breakpoints: mostBreakpoints(breakpoints) } : texts;
 }
 
 /**

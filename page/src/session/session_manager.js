@@ -3,7 +3,9 @@
 import { download } from "./download.js";
 import { runsAtOnce } from "../worker/examples.js";
 import { newRecord } from "./kept_session.js";
-import { LONGEST_PROJECT, isProject, projectText, readProject, wordsOfLength } from "./project_file.js";
+import { textsOfFolder } from "./folder_project.js";
+import { openedFile } from "./opened_file.js";
+import { LONGEST_PROJECT, projectText, readProject, wordsOfLength } from "./project_file.js";
 import { NotKept, wordsOfStoreFault } from "./store.js";
 
 /**
@@ -17,9 +19,11 @@ import { NotKept, wordsOfStoreFault } from "./store.js";
  * @typedef {import("../words.js").Words} Words
  *
  * What it calls: the session that is shown; it is kept; another one is shown in its place; one was left for a new one; something was
- * refused.
+ * refused; texts of a file come into the editors, and an image into ROM; time runs at another speed.
  * @typedef {{ session: () => KeptSession | null, keep: () => Promise<string>, refuse: (words: string) => void,
- *   left: (record: SessionRecord) => void,
+ *   speed: (id: string) => void,
+ *   left: (record: SessionRecord) => void, texts: (name: string, texts: import("./opened_file.js").FileTexts) => void,
+ *   image: (name: string, bytes: Int16Array) => Promise<void>,
  *   use: (record: SessionRecord, release: Release, example: string) => Promise<void> }} ManagerCalls where nothing was done yet in a
  *   session of an example, `example` is its name
  */
@@ -106,14 +110,23 @@ export class SessionManager {
    * @param {Example} example
    */
   begin(example) {
-    const { name, project } = example;
-    return this.useNew(() => (project === "" ? this.ofExample(example) : this.ofProject(new TextEncoder().encode(project))), name);
+    return this.useNew(() => (example.project === "" ? this.ofExample(example) : this.ofProjectOf(example)), example.name);
   }
 
   /** @param {Example} example */
   async ofExample(example) {
-    const texts = { boardText: example.board, programText: example.program };
-    return newRecord(example.name, await this.bench.call("make", [example]), texts, runsAtOnce(example));
+    const { board, program, tests, properties } = example;
+    const texts = { boardText: board, programText: program, testText: tests, propertiesText: properties };
+    const record = newRecord(example.name, await this.bench.call("make", [example]), texts, runsAtOnce(example));
+    return { ...record, isTitled: example.board === "" && example.program === "" };
+  }
+
+  /**
+   * An example that is a project; its properties stand beside it.
+   * @param {Example} example
+   */
+  async ofProjectOf({ project, properties }) {
+    return { ...(await this.ofProject(new TextEncoder().encode(project))), propertiesText: properties };
   }
 
   /** @param {string} id */
@@ -127,17 +140,45 @@ export class SessionManager {
   }
 
   /**
-   * A file becomes a new session: a project, or a session alone.
+   * A file becomes a new session, where it is a project or a session; its texts come into the editors of the one that is shown, and an
+   * image into its ROM.
    * @param {File} file
    */
   async openFile(file) {
     try {
       const bytes = new Uint8Array(await file.slice(0, LONGEST_PROJECT + 1).arrayBuffer());
-      const record = isProject(bytes) ? await this.ofProject(bytes) : await this.ofSession(file.name, bytes);
-      return await this.useNew(async () => record);
+      const opened = openedFile(file.name, bytes);
+      if (opened.kind === "texts") this.calls.texts(file.name, opened.texts);
+      else if (opened.kind === "image") await this.calls.image(file.name, opened.bytes);
+      else return await this.openSession(opened.kind === "project" ? await this.ofProject(bytes) : await this.ofSession(file.name, bytes));
+      return true;
     } catch (fault) {
       return this.refuse(`${file.name} was not opened: ${this.words.ofFault(fault)}. The session that is shown is as it was.`);
     }
+  }
+
+  /**
+   * A folder with a project file becomes a new session.
+   * @param {() => Promise<import("./folder_files.js").Folder>} read
+   */
+  async openFolder(read) {
+    let name = "the folder";
+    try {
+      const folder = await read();
+      name = folder.name || name;
+      const { texts, speed, words } = await textsOfFolder(folder);
+      const isDone = await this.openSession(await this.ofExample(texts));
+      if (isDone && speed) this.calls.speed(speed);
+      if (isDone && words) this.calls.refuse(words);
+      return isDone;
+    } catch (fault) {
+      return this.refuse(`${name} was not opened: ${this.words.ofFault(fault)}. The session that is shown is as it was.`);
+    }
+  }
+
+  /** @param {SessionRecord} record that was read from a file */
+  openSession(record) {
+    return this.useNew(async () => record);
   }
 
   /**

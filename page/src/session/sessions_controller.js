@@ -17,8 +17,11 @@ import { SessionsView } from "./sessions_view.js";
  * @typedef {import("../page.js").Parts} Parts
  * @typedef {import("./store.js").SessionRecord} SessionRecord
  *
- * What it calls: the session that is shown; it is kept; another one is shown in its place; it gets another name; a link is opened.
+ * What it calls: the session that is shown; it is kept; another one is shown in its place; it gets another name; a link is opened; texts of
+ * a file come into the editors, and an image into ROM; time runs at another speed.
  * @typedef {{ session: () => KeptSession | null, keep: () => Promise<string>, rename: (name: string) => void,
+ *   speed: (id: string) => void,
+ *   texts: (name: string, texts: import("./opened_file.js").FileTexts) => void, image: (name: string, bytes: Int16Array) => Promise<void>,
  *   use: (record: SessionRecord, release: Release, example: string) => Promise<void>, link: (text: string) => Promise<void> }} Calls
  */
 
@@ -70,6 +73,7 @@ export class SessionsController {
       bringBack: (records) => bin.bringBack(records),
       begin: (example) => this.begin(example),
       openFile: (file) => manager.openFile(file),
+      openFolder: (read) => manager.openFolder(read),
       save: () => manager.save(),
       saveSession: () => manager.saveSession(),
       rename: (name) => calls.rename(name),

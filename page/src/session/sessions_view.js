@@ -2,6 +2,7 @@
 
 import { pictureOf } from "./gallery_view.js";
 import { block, button, byId, element, field, onClick } from "../dom.js";
+import { folderOfFiles, foldersOf, readFolder } from "./folder_files.js";
 import { KeptList } from "./kept_list.js";
 
 /**
@@ -13,9 +14,21 @@ import { KeptList } from "./kept_list.js";
  * @typedef {{ kept: () => Promise<SessionRecord[]>, isShown: (id: string) => boolean, open: (id: string) => Promise<boolean>,
  *   copy: (id: string) => Promise<boolean>, remove: (records: SessionRecord[]) => Promise<void>, deleted: () => SessionRecord[],
  *   bringBack: (records: SessionRecord[]) => Promise<void>, begin: (example: Example) => Promise<boolean>,
- *   openFile: (file: File) => Promise<boolean>, save: () => void, saveSession: () => void, rename: (name: string) => void,
+ *   openFile: (file: File) => Promise<boolean>,
+ *   openFolder: (read: () => Promise<import("./folder_files.js").Folder>) => Promise<boolean>,
+ *   save: () => void, saveSession: () => void, rename: (name: string) => void,
  *   keptWhere: () => string }} SessionsCalls
  */
+
+/**
+ * The bench that one begins an own board with stands before the others.
+ * @param {Example[]} examples
+ */
+function emptyFirst(examples) {
+  /** @type {(example: Example) => boolean} */
+  const isEmpty = ({ board, program, lines, project }) => [board, program, lines, project].every((text) => text === "");
+  return [...examples.filter(isEmpty), ...examples.filter((example) => !isEmpty(example))];
+}
 
 export class SessionsView {
   /**
@@ -43,7 +56,7 @@ export class SessionsView {
     onClick(button("save-session-button"), () => this.calls.saveSession());
     field("file").addEventListener("change", () => this.take(field("file")));
     field("name").addEventListener("change", () => this.calls.rename(field("name").value));
-    block("examples").replaceChildren(...examples.map((example) => this.exampleLine(example)));
+    block("examples").replaceChildren(...emptyFirst(examples).map((example) => this.exampleLine(example)));
     this.dialog.addEventListener("close", () => this.closed());
     this.listenToDrops();
   }
@@ -116,13 +129,26 @@ export class SessionsView {
 
   /** @param {HTMLInputElement} input */
   async take(input) {
-    const file = input.files && input.files[0];
-    if (file && (await this.calls.openFile(file))) this.close();
+    await this.openAll(input.files ? [...input.files] : []);
     // The same file may be chosen again.
     input.value = "";
   }
 
-  /** A file that is dropped anywhere on the page is opened; a text that is dragged is the editors'. */
+  /** @param {File[]} files one after the other */
+  async openAll(files) {
+    const folder = folderOfFiles(files);
+    if (folder) return this.openFolder(async () => folder);
+    for (const file of files) {
+      if (await this.calls.openFile(file)) this.close();
+    }
+  }
+
+  /** @param {() => Promise<import("./folder_files.js").Folder>} read */
+  async openFolder(read) {
+    if (await this.calls.openFolder(read)) this.close();
+  }
+
+  /** Files and folders that are dropped anywhere on the page are opened; a text that is dragged is the editors'. */
   listenToDrops() {
     /** @type {(event: DragEvent) => boolean} */
     const hasFiles = (event) => event.dataTransfer !== null && event.dataTransfer.types.includes("Files");
@@ -130,8 +156,9 @@ export class SessionsView {
     addEventListener("drop", (event) => {
       if (!hasFiles(event)) return;
       event.preventDefault();
-      const file = event.dataTransfer && event.dataTransfer.files[0];
-      if (file) this.calls.openFile(file).then((isOpened) => isOpened && this.close());
+      const folders = foldersOf(event.dataTransfer);
+      if (folders.length > 0) this.openFolder(() => readFolder(folders[0]));
+      else this.openAll(event.dataTransfer ? [...event.dataTransfer.files] : []);
     });
   }
 }

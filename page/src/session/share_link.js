@@ -90,9 +90,9 @@ async function through(bytes, { readable, writable }) {
  * What stands in the address of a link.
  * @param {Texts} texts
  */
-export async function linkOf(texts) {
+export async function linkOf({ name, boardText, programText, testText, propertiesText }) {
   const encoder = new TextEncoder();
-  const rest = `${linesOfTexts(texts).join("\n")}\n`;
+  const rest = `${linesOfTexts({ name, boardText, programText, testText, propertiesText }).join("\n")}\n`;
   const bytes = encoder.encode(`${checksum(encoder.encode(rest))}\n${rest}`);
   const stream = streamOf("CompressionStream");
   return stream ? `1.${toLetters(await through(bytes, stream))}` : `0.${toLetters(bytes)}`;

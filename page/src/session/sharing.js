@@ -22,7 +22,14 @@ import { wordsOfLines } from "./texts_controller.js";
  *   save: () => void }} SharingCalls
  */
 
-const WHAT = "It holds the name, the board and the source, not the state of the machine.";
+/**
+ * What a link holds, in words.
+ * @param {Texts} texts
+ */
+function whatOf({ testText, propertiesText }) {
+  const held = ["the name", "the board", "the source", ...(testText ? ["the tests"] : []), ...(propertiesText ? ["the properties"] : [])];
+  return `It holds ${held.slice(0, -1).join(", ")} and ${held[held.length - 1]}, not the state of the machine.`;
+}
 const OF_A_FILE = " This page was opened from a file, so the link finds it on this machine alone: whoever has the page elsewhere puts the "
   + "part from # on behind its address there.";
 
@@ -59,7 +66,7 @@ export class Sharing {
       await this.offerFile(size);
       return;
     }
-    const told = [`${WHAT}${location.protocol === "file:" ? OF_A_FILE : ""}`];
+    const told = [`${whatOf(texts)}${location.protocol === "file:" ? OF_A_FILE : ""}`];
     if (address.length > SAFE_LINK) told.push(LONG);
     try {
       await navigator.clipboard.writeText(address);
@@ -126,7 +133,7 @@ export class Sharing {
    * @param {Texts} texts
    * @param {import("../worker/trying.js").Tried} tried
    */
-  wordsOf({ boardText, programText }, { board, refused }) {
+  wordsOf({ boardText, programText, testText = "", propertiesText = "" }, { board, refused }) {
     const title = shortName(titleOf(boardText, programText));
     const told = refused.map(({ word, answer }) => {
       const refusal = refusalOf(answer);
@@ -135,7 +142,9 @@ export class Sharing {
     });
     return [
       ...(title ? [title] : []),
-      `The board's text has ${wordsOfLines(boardText)}, the source ${wordsOfLines(programText)}.`,
+      `The board's text has ${wordsOfLines(boardText)}, the source ${wordsOfLines(programText)}${
+        testText === "" ? "" : `, the text of tests ${wordsOfLines(testText)}`}${
+        propertiesText === "" ? "" : `, that of properties ${wordsOfLines(propertiesText)}`}.`,
       `On the board: ${wordsOfBoard(readBoard(board))}.`,
       ...told,
       "It becomes a session of its own, and the one that is here stays. Nothing is sent anywhere.",

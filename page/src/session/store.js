@@ -2,10 +2,13 @@
 // while it is going away gets through, and a worker is ended at once.
 
 /**
- * A session as the store keeps it: its file, its name, and the two texts of the editors, which a file does not hold. `runs` tells
- * whether time runs, so that a reload goes on as it was; `cycles` are those that were counted, which a file does not hold either.
- * @typedef {{ id: string, name: string, file: Uint8Array, boardText: string, programText: string, runs: boolean, revision: number,
- *   changed: number, cycles?: import("../time/cycles.js").KeptCycles }} SessionRecord
+ * A session as the store keeps it: its file, its name, and the texts of the editors, which a file does not hold; older ones have no text
+ * of tests, nor one of properties. `runs` tells whether time runs, so that a reload goes on as it was; `cycles` are those that were
+ * counted, and `breakpoints` those of the source, which a file does not hold either; `watched`, the list of values; `isTitled`, whether
+ * its name is the title that its texts tell, since it was given none.
+ * @typedef {{ id: string, name: string, file: Uint8Array, boardText: string, programText: string, testText?: string,
+ *   propertiesText?: string, runs: boolean, revision: number, changed: number, cycles?: import("../time/cycles.js").KeptCycles,
+ *   isTitled?: boolean, breakpoints?: import("../debug/breakpoints.js").KeptBreakpoint[], watched?: string[] }} SessionRecord
  *
  * @typedef {{ keeps: boolean, isWhole: boolean, all: () => Promise<SessionRecord[]>,
  *   get: (id: string) => Promise<SessionRecord | undefined>, put: (record: SessionRecord) => Promise<void>,
@@ -16,6 +19,21 @@
 export class NotKept extends Error {}
 
 const CHANGED_ELSEWHERE = "another tab has changed or deleted this session meanwhile";
+/** A store that does not answer in so many milliseconds counts as one that fails; what it was asked for may still come to pass. */
+const TIME_OF_STORE = 10000;
+
+/**
+ * The answer of the browser's store, or of what else it has of one, which must not hold up the page for ever.
+ * @template Result
+ * @param {Promise<Result>} answer
+ * @returns {Promise<Result>}
+ */
+export function inTime(answer) {
+  return new Promise((done, fail) => {
+    const late = setTimeout(() => fail(new NotKept("the browser's store does not answer")), TIME_OF_STORE);
+    answer.then(done, fail).finally(() => clearTimeout(late));
+  });
+}
 
 /**
  * @template Result
@@ -63,7 +81,7 @@ export class Store {
 
   /** @returns {Promise<SessionRecord[]>} */
   async all() {
-    return resultOf(this.sessions.getAll());
+    return inTime(resultOf(this.sessions.getAll()));
   }
 
   /**
@@ -71,7 +89,7 @@ export class Store {
    * @returns {Promise<SessionRecord | undefined>}
    */
   async get(id) {
-    return resultOf(this.sessions.get(id));
+    return inTime(resultOf(this.sessions.get(id)));
   }
 
   /**

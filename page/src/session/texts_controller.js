@@ -1,4 +1,4 @@
-// The texts of the two editors, as the session that is shown has them: they are kept, and one that is replaced can be brought back.
+// The texts of the editors, as the session that is shown has them: they are kept, and one that is replaced can be brought back.
 
 /**
  * @typedef {import("../ask_view.js").AskView} AskView
@@ -7,13 +7,18 @@
  * @typedef {{ text: string, open: (session: string, text: string) => void, replaceText: (text: string) => void }} TextEditor
  *
  * What it calls: the session that is shown; something is done in it; it is kept; names in the board's text may be others; a source
- * text of what is in ROM; a call failed.
+ * text of what is in ROM; texts of a file were taken, of which one is to be seen, with lines for the bench; a call failed.
  * @typedef {{ session: () => KeptSession | null, touch: () => void, keep: () => Promise<string>, named: (boardText: string) => void,
- *   source: () => Promise<string>, failed: (fault: unknown) => void }} TextsCalls
+ *   source: () => Promise<string>, took: (seen: TextName, lines: string) => void, failed: (fault: unknown) => void }} TextsCalls
  */
 
-/** The two texts, as they are called in words. */
-const WHAT = { board: "The board's text", program: "The source" };
+/** The texts, as they are called in words. */
+const WHAT = { board: "The board's text", program: "The source", tests: "The text of tests", properties: "The text of properties" };
+/** Where a text stands that is for the board and the program as they are, and what is done with it. */
+const BESIDE = {
+  tests: "stands in Tests. Run the tests runs it on Board and Source as they stand.",
+  properties: "stands in Properties. Explore looks for what breaks it, on Board and Source as they stand.",
+};
 /** @typedef {keyof typeof WHAT} TextName */
 
 /** The texts are kept so many milliseconds after the last change. */
@@ -32,13 +37,17 @@ export class TextsController {
   /**
    * @param {TextEditor} board
    * @param {TextEditor} program
+   * @param {TextEditor} tests
+   * @param {TextEditor} properties
    * @param {AskView} ask
    * @param {Notice} notice
    * @param {TextsCalls} calls
    */
-  constructor(board, program, ask, notice, calls) {
+  constructor(board, program, tests, properties, ask, notice, calls) {
     this.board = board;
     this.program = program;
+    this.tests = tests;
+    this.properties = properties;
     this.ask = ask;
     this.notice = notice;
     this.calls = calls;
@@ -48,12 +57,14 @@ export class TextsController {
 
   /**
    * Shows the texts of another session.
-   * @param {{ id: string, boardText: string, programText: string }} record
+   * @param {{ id: string, boardText: string, programText: string, testText?: string, propertiesText?: string }} record
    */
-  show({ id, boardText, programText }) {
+  show({ id, boardText, programText, testText = "", propertiesText = "" }) {
     clearTimeout(this.editing);
     this.board.open(id, boardText);
     this.program.open(id, programText);
+    this.tests.open(id, testText);
+    this.properties.open(id, propertiesText);
   }
 
   /** They are kept a moment after the last change; the names of the keys are taken from the board's text then. */
@@ -63,12 +74,42 @@ export class TextsController {
     const { record } = session;
     record.boardText = this.board.text;
     record.programText = this.program.text;
+    record.testText = this.tests.text;
+    record.propertiesText = this.properties.text;
     this.calls.touch();
     clearTimeout(this.editing);
     this.editing = setTimeout(() => {
       this.calls.named(record.boardText);
       this.calls.keep();
     }, EDIT_TIME);
+  }
+
+  /**
+   * Texts of a file come into the editors; those that were there can be brought back, and the bench has none of them yet.
+   * @param {string} name of the file
+   * @param {import("./opened_file.js").FileTexts} texts
+   */
+  take(name, { board, program, tests, properties, lines }) {
+    if (tests !== null) this.takeBeside("tests", name, tests);
+    if (properties !== null) this.takeBeside("properties", name, properties);
+    if (tests !== null || properties !== null) return;
+    if (board !== null) this.replace("board", board, `The board's text was replaced by ${name}.`);
+    if (program !== null) this.replace("program", program, `The source was replaced by ${name}.`);
+    this.calls.took(board !== null ? "board" : "program", lines);
+    const [where, what] = board === null ? ["Source", "Assemble and run puts it into ROM"] : ["Board", "Wire makes the board of it"];
+    const both = board !== null && program !== null ? "Board and Source" : where;
+    this.notice.show(`${name} stands in ${both}. ${what}${both === where ? "" : ", then Assemble and run"}.`, "file");
+  }
+
+  /**
+   * @param {"tests" | "properties"} where
+   * @param {string} name of the file
+   * @param {string} text
+   */
+  takeBeside(where, name, text) {
+    this.replace(where, text, `${WHAT[where]} was replaced by ${name}.`);
+    this.calls.took(where, "");
+    this.notice.show(`${name} ${BESIDE[where]}`, "file");
   }
 
   async takeFromRom() {

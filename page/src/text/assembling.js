@@ -8,8 +8,10 @@ import { LONGEST_TEXT } from "./text_fault.js";
  * @typedef {{ size: number, left: number[] }} Leftovers
  */
 
-/** So many zeros are a line of 254 characters; a line has at most 255. */
-const MOST_ON_LINE = 126;
+/** So many bytes stand in a line, whose characters are at most 255. */
+const MOST_ON_LINE = 60;
+/** So many zeros do. */
+const MOST_ZEROS = 126;
 
 /**
  * Stretches of addresses that follow each other, each as its first address and its length.
@@ -28,18 +30,41 @@ function stretchesOf(addresses) {
 }
 
 /**
+ * Statements that put bytes from an address on.
+ * @param {number} from
+ * @param {number[]} bytes
+ * @param {number} most so many on a line
+ */
+function statementsOf(from, bytes, most) {
+  const lines = [`ORG 0x${hex(from, 3)}\n`];
+  for (let done = 0; done < bytes.length; done += most) lines.push(`DB ${bytes.slice(done, done + most).join(",")}\n`);
+  return lines.join("");
+}
+
+/**
  * Statements that put 0 at addresses.
  * @param {number[]} addresses rising
  * @returns {string[]} lines in pairs or more, each stretch as one text
  */
 function clearing(addresses) {
-  return stretchesOf(addresses).map(({ from, count }) => {
-    const lines = [`ORG 0x${hex(from, 3)}\n`];
-    for (let done = 0; done < count; done += MOST_ON_LINE) {
-      lines.push(`DB ${Array(Math.min(MOST_ON_LINE, count - done)).fill(0).join(",")}\n`);
+  return stretchesOf(addresses).map(({ from, count }) => statementsOf(from, Array(count).fill(0), MOST_ZEROS));
+}
+
+/**
+ * The texts of `asm` that put bytes into ROM, each as long as a text can be.
+ * @param {Int16Array} bytes by their addresses, less than 0 where there is none
+ * @returns {string[]}
+ */
+export function textsOfBytes(bytes) {
+  const texts = [""];
+  for (const { from, count } of stretchesOf([...bytes.keys()].filter((at) => bytes[at] >= 0))) {
+    for (let at = from; at < from + count; at += MOST_ON_LINE) {
+      const lines = statementsOf(at, [...bytes.subarray(at, Math.min(at + MOST_ON_LINE, from + count))], MOST_ON_LINE);
+      if (texts[texts.length - 1].length + lines.length > LONGEST_TEXT) texts.push("");
+      texts[texts.length - 1] += lines;
     }
-    return lines.join("");
-  });
+  }
+  return texts;
 }
 
 /**

@@ -15,7 +15,8 @@ import { tomlWords } from "./toml_words.js";
  * A table with its place, and its keys.
  * @typedef {{ table: string, line: number, from: number, to: number, keys: Key[] }} Entry
  *
- * @typedef {{ entries: Entry[], others: Key[], faults: Fault[] }} BoardText the tables, other keys at the top, and what is not TOML
+ * @typedef {{ entries: Entry[], others: Key[], keys: Key[], faults: Fault[] }} BoardText the tables, the keys at the top that are no
+ * tables, all keys at the top, and what is not TOML
  */
 
 const NOT_TOML = 20;
@@ -41,6 +42,8 @@ class BoardReader {
     this.entries = [];
     /** @type {Key[]} */
     this.others = [];
+    /** @type {Key[]} */
+    this.keys = [];
     /** @type {Fault[]} */
     this.faults = [];
     /** @type {Entry | null} the table that keys go into */
@@ -109,7 +112,10 @@ class BoardReader {
     const key = this.readKey();
     const { inner } = key.value;
     if (this.open) this.open.keys.push(key);
-    else if (!this.addTables(key.name, inner)) this.others.push(key);
+    else {
+      this.keys.push(key);
+      if (!this.addTables(key.name, inner)) this.others.push(key);
+    }
     this.endLine();
   }
 
@@ -215,6 +221,6 @@ class BoardReader {
 export function readBoardText(text) {
   const reader = new BoardReader(text);
   reader.read();
-  const { entries, others, faults } = reader;
-  return { entries, others, faults };
+  const { entries, others, keys, faults } = reader;
+  return { entries, others, keys, faults };
 }

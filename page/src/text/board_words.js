@@ -18,7 +18,7 @@ const RANGES = {
   "keys.chain": { from: 0, to: 3 }, "keys.first": { from: 0, to: 79 }, "keys.rows": { from: 1, to: 10 },
 };
 /** @type {Record<string, string[]>} the keys of each table */
-const TOML_KEYS = {
+export const TOML_KEYS = {
   rom: ["chip", "port"], ram: ["bank", "chips"], chain: ["clock", "data", "chips"], lamp: ["line"],
   keys: ["chain", "first", "rows", "columns"],
 };
@@ -33,6 +33,23 @@ const LINE_FORMS = "rom1.0, ram0.0.3 or chain0.5";
  */
 export function faultAt(number, { line, from, to }, words) {
   return { number, line, from, to, words };
+}
+
+/**
+ * @param {Fault} fault
+ * @param {string[]} cures
+ * @returns {Fault}
+ */
+function curable(fault, cures) {
+  return cures.length > 0 ? { ...fault, cures } : fault;
+}
+
+/**
+ * The line that begins a table of this kind.
+ * @param {string} kind
+ */
+function header(kind) {
+  return kind === "keys" ? "[keys]" : `[[${kind}]]`;
 }
 
 /**
@@ -73,7 +90,8 @@ function faultsOfKey({ table }, key) {
   const kind = table.replace(/[[\]]/g, "");
   if (!TOML_KEYS[kind].includes(key.name)) {
     const likes = mostAlike(key.name, TOML_KEYS[kind]);
-    return [faultAt(21, key, `${key.name} is no key of ${kind}${meant(likes) || `, which has ${TOML_KEYS[kind].join(", ")}`}`)];
+    const words = `${key.name} is no key of ${kind}${meant(likes) || `, which has ${TOML_KEYS[kind].join(", ")}`}`;
+    return [curable(faultAt(21, key, words), likes)];
   }
   const words = wordsOfValue(kind, key);
   if (words) return [faultAt(23, key.value, words)];
@@ -92,11 +110,13 @@ function faultsOfEntry(entry) {
   const kind = entry.table.replace(/[[\]]/g, "");
   if (!TOML_KEYS[kind]) {
     const likes = mostAlike(kind, Object.keys(TOML_KEYS));
-    return [faultAt(21, entry, `${kind} is no part of a board${meant(likes) || `, which has ${Object.keys(TOML_KEYS).join(", ")}`}`)];
+    const words = `${kind} is no part of a board${meant(likes) || `, which has ${Object.keys(TOML_KEYS).join(", ")}`}`;
+    return [curable(faultAt(21, entry, words), likes.map(header))];
   }
   const isSingle = entry.table.startsWith("[");
   if (isSingle !== (kind === "keys")) {
-    return [faultAt(23, entry, kind === "keys" ? "a board has one key matrix: [keys]" : `there may be several: [[${kind}]]`)];
+    const words = kind === "keys" ? "a board has one key matrix: [keys]" : `there may be several: [[${kind}]]`;
+    return [curable(faultAt(23, entry, words), [header(kind)])];
   }
   const seen = new Map();
   const faults = entry.keys.flatMap((key) => {

@@ -1,9 +1,7 @@
-// What a word that is being typed can become.
+// What a word of a program that is being typed can become.
 
 import { DIRECTIVES, namesOf, partsOf } from "./assembly.js";
 import { operandsOfForm } from "./program_words.js";
-import { tableAt } from "./text_help.js";
-import { commentAt } from "./text_fault.js";
 
 /**
  * @typedef {import("../help/manual.js").Instruction} Instruction
@@ -24,7 +22,7 @@ const PAIRS = [...Array(8).keys()].map((number) => `P${number}`);
  * @param {string[]} words
  * @returns {Fitting[]}
  */
-function alone(words) {
+export function alone(words) {
   return words.map((text) => ({ text, what: "" }));
 }
 
@@ -33,10 +31,11 @@ function alone(words) {
  * @param {string} line
  * @param {number} at
  * @param {Fitting[]} words
+ * @param {RegExp} begins what has been typed of a word
  * @returns {Completion}
  */
-function fitting(line, at, words) {
-  const found = /[\w]*$/.exec(line.slice(0, at));
+export function fitting(line, at, words, begins = /\w*$/) {
+  const found = begins.exec(line.slice(0, at));
   const begun = found ? found[0] : "";
   const low = begun.toLowerCase();
   const list = words.filter(({ text }) => text.toLowerCase().startsWith(low) && text !== begun).slice(0, MOST_FITTING);
@@ -67,20 +66,4 @@ export function completeProgram(lines, line, at, instructions) {
   if (kind === "Pk") return fitting(text, at, alone(PAIRS));
   if (kind === "Rk") return fitting(text, at, alone(REGISTERS));
   return kind !== "" || head.text.toUpperCase() === "DB" ? fitting(text, at, alone([...others.keys()])) : { from: at, to: at, list: [] };
-}
-
-/**
- * @param {string[]} lines
- * @param {number} line from 0
- * @param {number} at
- * @param {Map<string, Map<string, string>>} tables
- * @returns {Completion}
- */
-export function completeBoard(lines, line, at, tables) {
-  const text = lines[line];
-  const before = text.slice(0, at);
-  if (commentAt(before, "#") < before.length || /=[^{]*$/.test(before)) return { from: at, to: at, list: [] };
-  if (/^\s*\[/.test(before)) return fitting(text, at, alone([...tables.keys()]));
-  const keys = tables.get(tableAt(lines, line)) || new Map();
-  return fitting(text, at, [...keys].map(([name, values]) => ({ text: name, what: values })));
 }

@@ -1,25 +1,35 @@
 // The texts of the board and of the program: an editor each, with its faults, its search, and words about what is pointed at.
 
 import { Cell, below, block, element, onClick } from "../dom.js";
+import { CountMarks } from "./count_marks.js";
 import { FaultView } from "./fault_view.js";
 import { LineMarks } from "./line_marks.js";
+import { LineValues } from "./line_values.js";
+import { MeaningView } from "./meaning_view.js";
+import { NameView } from "./name_view.js";
 import { SearchBar } from "./search_bar.js";
 import { TextEditor } from "./text_editor.js";
-import { LONGEST_TEXT, sentText, sizeOf } from "./text_fault.js";
+import { LONGEST_KEPT, LONGEST_TEXT, alignedText, sentText } from "./text_fault.js";
 
 /**
  * @typedef {import("../machine/breakpoint_marks.js").BreakpointMark} BreakpointMark
  * @typedef {import("./completion.js").Completion} Completion
+ * @typedef {import("../debug/value_words.js").Piece} Piece
  * @typedef {import("./text_fault.js").Fault} Fault
  * @typedef {import("codemirror").Position} Position
  *
  * What an editor calls: its text was edited; it is sent; a breakpoint is wanted at a line, or is not wanted any more.
- * @typedef {{ edited: () => void, send: () => void, toggleBreakpoint: (line: number) => void }} EditorCalls
+ * @typedef {import("./text_editor.js").Edit} Edit
+ * @typedef {{ edited: (edits: Edit[]) => void, send: () => void, toggleBreakpoint: (line: number) => void,
+ *   editBreakpoint?: (line: number) => void }} EditorCalls
  *
- * What kind of text it is: what its comments begin with, its mode, its gutters; what is said of a word, by its line (from 0) and its
- * place in that; and what a word can become.
- * @typedef {{ mark: import("./text_fault.js").CommentMark, mode: string, gutters: string[],
+ * What kind of text it is: what its comments begin with, its mode, its gutters; whether a word (in upper case) is an instruction, where the
+ * text has names; whether it is never sent, and so measured as it stands; what is said of a word, by its line (from 0) and its place in
+ * that, what it stands for now, and how one of these values can be edited; and what a word can become.
+ * @typedef {{ mark: import("./text_fault.js").CommentMark, mode: string, gutters: string[], isInstruction?: (word: string) => boolean,
+ *   isUnsent?: boolean,
  *   wordsAt: (lines: string[], line: number, at: number) => string,
+ *   valuesAt?: (text: string, at: number) => Piece[], offer?: import("./meaning_view.js").Offer,
  *   complete: (lines: string[], line: number, at: number) => Completion }} Language
  */
 
@@ -39,56 +49,84 @@ export class EditorView {
     const paper = below(root, ".paper", HTMLElement);
     const place = element("div", { className: "text" });
     const list = element("ul", { "className": "faults-told", "aria-label": "Faults" });
-    this.meaning = new Cell(element("p", { className: "meaning" }));
+    this.meaning = new MeaningView(language.offer || (() => {}));
     this.counter = new Cell(element("p", { className: "size" }));
     paper.append(place, list, element("div", { className: "strip" }, this.meaning.node, this.counter.node));
     this.told = new Cell(below(root, ".told", HTMLElement));
     const label = below(root, "h2", HTMLElement).textContent || "";
-    const { mode, gutters } = language;
+    const { mode, gutters, isInstruction = () => false } = language;
     this.editor = new TextEditor({ place, label, mode, gutters, keys: this.keys(), calls: this.textCalls() });
     const { editor } = this.editor;
     this.marks = new LineMarks(editor);
+    this.counts = new CountMarks(editor, this.marks);
+    this.lineValues = new LineValues(editor);
     this.faults = new FaultView(editor, this.marks, list, ({ line, from }) => this.editor.goTo({ line: line - 1, ch: from }));
     this.search = new SearchBar(editor, paper, label);
+    this.names = new NameView(this.editor, paper, { isInstruction, tell: (words) => this.told.set(words) });
+    /** Timers: the pointer or the caret rests, and typing does. */
     this.resting = 0;
+    this.counting = 0;
     this.listenToPointer(editor.getWrapperElement());
+    editor.on("scroll", () => this.meaning.hideTip());
     onClick(below(root, ".send", HTMLButtonElement), () => calls.send());
   }
 
   /** @returns {import("./text_editor.js").KeyMap} */
   keys() {
-    const send = () => this.calls.send();
-    const search = () => this.search.open();
-    const complete = () => this.complete();
+    /** @type {(name: string, act: () => void) => import("./text_editor.js").KeyMap} */
+    const withControl = (name, act) => ({ [`Ctrl-${name}`]: act, [`Cmd-${name}`]: act });
     return {
-      "Ctrl-Enter": send,
-      "Cmd-Enter": send,
-      "Ctrl-F": search,
-      "Cmd-F": search,
-      "Ctrl-Space": complete,
+      ...withControl("Enter", () => this.calls.send()),
+      ...withControl("F", () => this.search.open()),
+      ...withControl("H", () => this.search.open(true)),
+      ...withControl("G", () => this.names.goToLine()),
+      ...withControl("/", () => this.editor.comment(this.language.mark)),
+      ...(this.language.isInstruction ? this.keysOfNames() : {}),
+      "Ctrl-Space": () => this.complete(),
       "F9": (editor) => this.calls.toggleBreakpoint(editor.getCursor().line + 1),
+      "Shift-F9": (editor) => this.askedFor(editor.getCursor().line + 1),
     };
+  }
+
+  /** @returns {import("./text_editor.js").KeyMap} */
+  keysOfNames() {
+    return { "F12": () => this.names.define(), "Shift-F12": () => this.names.find(), "F2": () => this.names.rename() };
   }
 
   /** @returns {import("./text_editor.js").TextCalls} */
   textCalls() {
     return {
-      edited: () => this.changed(),
+      edited: (edits) => this.changed(edits),
       moved: () => this.moved(),
       clickedGutter: (line) => this.calls.toggleBreakpoint(line),
-      refused: (size) => this.told.set(`It was not put in: the text would have ${size.toLocaleString("en")} bytes, and `
-        + `${LONGEST_TEXT.toLocaleString("en")} is the most.`),
+      askedGutter: (line, event) => this.askedFor(line, event),
+      clickedName: () => this.language.isInstruction && this.names.define(),
+      refused: (size) => this.told.set(`It was not put in: the text would have ${size.toLocaleString("en")} characters, and `
+        + `${LONGEST_KEPT.toLocaleString("en")} is the most.`),
     };
+  }
+
+  /**
+   * The words of a line's breakpoint are wanted.
+   * @param {number} line
+   * @param {Event} [event]
+   */
+  askedFor(line, event) {
+    const { editBreakpoint } = this.calls;
+    if (!editBreakpoint) return;
+    if (event) event.preventDefault();
+    editBreakpoint(line);
   }
 
   /** @param {HTMLElement} wrapper */
   listenToPointer(wrapper) {
     wrapper.addEventListener("pointermove", (event) => {
+      this.meaning.hideTip();
       clearTimeout(this.resting);
       this.resting = window.setTimeout(() => this.pointedAt(event.clientX, event.clientY), REST_TIME);
     });
     wrapper.addEventListener("pointerleave", () => {
-      clearTimeout(this.resting);
+      this.meaning.hideTip();
       this.moved();
     });
   }
@@ -99,8 +137,28 @@ export class EditorView {
    * @param {number} top
    */
   pointedAt(left, top) {
-    const words = this.wordsAt(this.editor.editor.coordsChar({ left, top }, "window"));
-    if (words) this.meaning.set(words);
+    const place = this.editor.editor.coordsChar({ left, top }, "window");
+    const words = this.wordsAt(place);
+    const values = this.valuesAt(place);
+    if (words || values.length > 0) this.meaning.set(values, words);
+    this.meaning.tellAt(values, { left, top });
+  }
+
+  /**
+   * What the word at a place stands for now; none behind the end of its line.
+   * @param {Position} place
+   * @returns {Piece[]}
+   */
+  valuesAt({ line, ch }) {
+    const { valuesAt } = this.language;
+    return valuesAt ? valuesAt(this.editor.editor.getLine(line) || "", ch) : [];
+  }
+
+  /** What stands at the caret. */
+  tellCaret() {
+    const place = this.editor.editor.getCursor();
+    this.meaning.hideTip();
+    this.meaning.set(this.valuesAt(place), this.wordsAt(place));
   }
 
   /**
@@ -114,7 +172,7 @@ export class EditorView {
   /** The caret has another place; what stands there is told once it rests, so that no key waits for it. */
   moved() {
     clearTimeout(this.resting);
-    this.resting = window.setTimeout(() => this.meaning.set(this.wordsAt(this.editor.editor.getCursor())), REST_TIME);
+    this.resting = window.setTimeout(() => this.tellCaret(), REST_TIME);
   }
 
   complete() {
@@ -124,7 +182,10 @@ export class EditorView {
       hint: () => {
         const { line, ch } = this.editor.editor.getCursor();
         const { from, to, list } = language.complete(this.lines, line, ch);
-        const shown = list.map(({ text, what }) => ({ text, displayText: `${text}${what && !what.startsWith(" ") ? "   " : ""}${what}` }));
+        const shown = list.map(({ text, what }) => {
+          const [first] = text.split("\n");
+          return { text, displayText: `${first}${what && !what.startsWith(" ") ? "   " : ""}${what}` };
+        });
         return { from: { line, ch: from }, to: { line, ch: to }, list: shown };
       },
     });
@@ -143,6 +204,11 @@ export class EditorView {
     return sentText(this.text, this.language.mark);
   }
 
+  /** The text in which faults have their places. */
+  get aligned() {
+    return alignedText(this.text, this.language.mark);
+  }
+
   get lines() {
     return this.text.split("\n");
   }
@@ -153,12 +219,14 @@ export class EditorView {
    * @param {string} text
    */
   open(session, text) {
+    this.counts.clear();
+    this.lineValues.show(new Map());
     this.marks.forget();
     this.showFaults([]);
     this.told.set("");
     this.editor.open(session, text);
     this.count();
-    this.meaning.set("");
+    this.meaning.set([], "");
   }
 
   /**
@@ -211,15 +279,21 @@ export class EditorView {
     this.told.set(words);
   }
 
-  changed() {
+  /** @param {Edit[]} edits */
+  changed(edits) {
     this.told.set("");
     this.count();
-    this.calls.edited();
+    this.calls.edited(edits);
   }
 
+  /** How long the text is, once no key waits for it. */
   count() {
-    const size = sizeOf(this.text);
-    this.counter.set(`${size.toLocaleString("en")} of ${LONGEST_TEXT.toLocaleString("en")} bytes`);
-    this.counter.node.classList.toggle("too-many", size > LONGEST_TEXT);
+    clearTimeout(this.counting);
+    this.counting = window.setTimeout(() => {
+      const { isUnsent } = this.language;
+      const [{ length }, most, unit] = isUnsent ? [this.text, LONGEST_KEPT, "characters"] : [this.sent, LONGEST_TEXT, "bytes"];
+      this.counter.set(`${length.toLocaleString("en")} of ${most.toLocaleString("en")} ${unit}`);
+      this.counter.node.classList.toggle("too-many", length > most);
+    }, REST_TIME);
   }
 }

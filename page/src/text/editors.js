@@ -1,18 +1,17 @@
 // Both editors and the bench: their texts are tried while they are typed, and sent.
 
 import { readBoard, refusalOf } from "../bench/answers.js";
+import { AllFaultsOfTexts, faultsOfFace, refusalOfText } from "./all_faults.js";
 import { counted, programTexts, wordsOfAssembled } from "./assembling.js";
 import { defineAssemblyMode } from "./assembly_mode.js";
-import { faultsOfBoard } from "./board_words.js";
-import { completeBoard, completeProgram } from "./completion.js";
+import { completeBoard } from "./board_completion.js";
+import { completeProgram } from "./completion.js";
 import { block, button, onClick } from "../dom.js";
 import { EditorView } from "./editor_view.js";
-import { faceFaults, moreThan } from "../board/face.js";
+import { moreThan } from "../board/face.js";
 import { LiveFaults } from "./live_faults.js";
 import { instructionsOf } from "../help/manual.js";
-import { MOST_FAULTS, findProgramFaults, lacksOfRom } from "./program_faults.js";
-import { SourceMap } from "../machine/source_map.js";
-import { faultsOfLines } from "./text_fault.js";
+import { MOST_FAULTS } from "./program_faults.js";
 import { boardTables, helpForBoard, helpForProgram } from "./text_help.js";
 import { TOUR_BOARD } from "../help/tour.js";
 
@@ -20,21 +19,23 @@ import { TOUR_BOARD } from "../help/tour.js";
  * @typedef {import("../bench/bench.js").Bench} Bench
  * @typedef {import("../help/manual.js").ManualSection} ManualSection
  * @typedef {import("./program_faults.js").AllFaults} AllFaults
+ * @typedef {import("../debug/breakpoints.js").Edit} Edit
  * @typedef {import("./text_fault.js").Fault} Fault
  * @typedef {import("../words.js").Words} Words
  *
- * What they call: a text was edited; lines are sent, which gives the first answer, or null where they failed; time is stopped, and runs;
- * the counter, as it is written; a breakpoint is wanted at a line of the program, or is not wanted any more; what a name of the program
- * means; a text has so many faults; a board's text is put in the place of the one that is there, with words about it; a call failed.
- * @typedef {{ edited: () => void, act: (lines: string) => Promise<string | null>, stop: () => Promise<void>, run: () => void,
- *   counter: () => string, toggleBreakpoint: (line: number) => void, meaningOf: (name: string) => string,
+ * What they call: a text was edited, the program by these edits; its bytes came into ROM, where `isBegun` with a reset; lines are sent,
+ * which gives the first answer, or null where they failed; time is stopped, and runs; the counter, as it is written; a breakpoint is
+ * wanted at a line of the program, or is not wanted any more, or its words are; what a name of the program means, and a word at a place of
+ * a line stands for now; a cell that shows such a value can be edited; a text has so many faults; a board's text is put in the place of the
+ * one that is there, with words about it; a call failed.
+ * @typedef {{ edited: (edits: Edit[]) => void, assembled: (isBegun: boolean) => Promise<void>,
+ *   act: (lines: string) => Promise<string | null>, stop: () => Promise<void>, run: () => void,
+ *   counter: () => string, toggleBreakpoint: (line: number) => void, editBreakpoint: (line: number) => void,
+ *   meaningOf: (name: string) => string,
+ *   valuesAt: (text: string, at: number) => import("../debug/value_words.js").Piece[], offer: import("./meaning_view.js").Offer,
  *   hasFaults: (name: "program" | "board", count: number) => void, replaceBoard: (text: string, words: string) => void,
  *   failed: (fault: unknown) => void }} EditorsCalls
  */
-
-/** Refusals of texts have numbers up to here. */
-const LAST_OF_TEXTS = 42;
-const LACKS_ROM = 42;
 
 export class Editors {
   /**
@@ -52,26 +53,43 @@ export class Editors {
     defineAssemblyMode(new Set(this.instructions.keys()));
     this.program = this.makeProgram();
     this.board = this.makeBoard();
-    this.programFaults = new LiveFaults((isWanted) => this.findInProgram(isWanted), (found) => this.show("program", found), calls.failed);
+    const all = this.allFaults(words);
+    this.programFaults = new LiveFaults((isWanted) => all.ofProgram(this.program.text, isWanted),
+      (found) => this.show("program", found), calls.failed);
     onClick(button("assemble-only"), () => this.assembleOnly().catch(calls.failed));
     onClick(button("first-board"), () => this.wireFirst().catch(calls.failed));
-    this.boardFaults = new LiveFaults((isWanted) => this.findInBoard(isWanted), (found) => this.show("board", found), calls.failed);
+    this.boardFaults = new LiveFaults((isWanted) => all.ofBoard(this.board.text, isWanted),
+      (found) => this.show("board", found), calls.failed);
+  }
+
+  /** @param {Words} words */
+  allFaults(words) {
+    return new AllFaultsOfTexts({
+      refuse: (word, text) => this.refuse(word, text),
+      map: async (sent) => (await this.bench.call("checkProgram", [sent])).map,
+      roms: () => this.roms(),
+      boardFault: (sent, number) => this.bench.call("boardFault", [sent, number]),
+    }, this.instructions, (number) => words.ofRefusal(number));
   }
 
   makeProgram() {
     return new EditorView("program-editor", {
       mark: ";",
       mode: "assembly",
-      gutters: ["breakpoints", "CodeMirror-linenumbers", "addresses"],
+      gutters: ["breakpoints", "CodeMirror-linenumbers", "addresses", "counts"],
+      isInstruction: (word) => this.instructions.has(word),
       wordsAt: (lines, line, at) => helpForProgram(lines, line, at, this.instructions, this.calls.meaningOf),
+      valuesAt: (text, at) => this.calls.valuesAt(text, at),
+      offer: (cell, value) => this.calls.offer(cell, value),
       complete: (lines, line, at) => completeProgram(lines, line, at, this.instructions),
     }, {
-      edited: () => {
+      edited: (edits) => {
         this.programFaults.edited();
-        this.calls.edited();
+        this.calls.edited(edits);
       },
       send: () => this.assembleAndRun().catch(this.calls.failed),
       toggleBreakpoint: this.calls.toggleBreakpoint,
+      editBreakpoint: this.calls.editBreakpoint,
     });
   }
 
@@ -85,7 +103,7 @@ export class Editors {
     }, {
       edited: () => {
         this.boardFaults.edited();
-        this.calls.edited();
+        this.calls.edited([]);
       },
       send: () => this.wire().catch(this.calls.failed),
       toggleBreakpoint: () => {},
@@ -121,49 +139,7 @@ export class Editors {
    */
   async refuse(word, text) {
     const [answer] = await this.bench.call("ask", [`${word}\n${text}.\n`]);
-    const refusal = refusalOf(answer);
-    return refusal && refusal.number <= LAST_OF_TEXTS ? refusal : null;
-  }
-
-  /**
-   * @param {() => boolean} isWanted
-   * @returns {Promise<AllFaults | undefined>}
-   */
-  async findInProgram(isWanted) {
-    const { text, sent } = this.program;
-    const found = await findProgramFaults(text, this.instructions, (number) => this.words.ofRefusal(number),
-      async (part) => (isWanted() ? this.refuse("asm", part) : undefined));
-    if (!found || !found.rest || found.rest.number !== LACKS_ROM || found.faults.length > 0) return found;
-    const { map } = await this.bench.call("checkProgram", [sent]);
-    return { ...found, faults: lacksOfRom(sent.split("\n"), new SourceMap(map, sent), await this.roms()) };
-  }
-
-  /**
-   * @param {() => boolean} isWanted
-   * @returns {Promise<AllFaults | undefined>}
-   */
-  async findInBoard(isWanted) {
-    const { sent } = this.board;
-    const unsent = faultsOfLines(sent);
-    if (unsent.length > 0) return { faults: unsent, areAll: true, rest: null };
-    const refusal = await this.refuse("wire", sent);
-    if (!isWanted()) return undefined;
-    if (!refusal) return { faults: [], areAll: true, rest: null };
-    const faults = faultsOfBoard(sent);
-    if (faults.some(({ number }) => number === refusal.number)) return { faults, areAll: true, rest: null };
-    return { faults: [await this.findPart(sent, refusal.number)], areAll: false, rest: null };
-  }
-
-  /**
-   * The part of a board's text that is refused by a number, found by taking parts away.
-   * @param {string} sent
-   * @param {number} number
-   * @returns {Promise<Fault>}
-   */
-  async findPart(sent, number) {
-    const lines = await this.bench.call("boardFault", [sent, number]);
-    const line = lines ? lines.from : 1;
-    return { number, line, from: 0, to: (sent.split("\n")[line - 1] || "").length, words: this.words.ofRefusal(number) };
+    return refusalOfText(refusalOf(answer));
   }
 
   /**
@@ -171,16 +147,10 @@ export class Editors {
    * @param {AllFaults} found
    */
   show(name, { faults, areAll }) {
-    const told = name === "board" ? [...faults, ...this.faultsOfFace()] : faults;
+    const told = name === "board" ? [...faults, ...faultsOfFace(this.board.text)] : faults;
     const more = areAll || faults.length < 2 ? "" : "There may be more.";
     this[name].showFaults(told.slice(0, MOST_FAULTS), moreThan(told, MOST_FAULTS) || more);
     this.calls.hasFaults(name, told.length);
-  }
-
-  /** What the board's comments tell and what is not understood: the board can be wired all the same. */
-  faultsOfFace() {
-    const { lines, text } = this.board;
-    return faceFaults(text).map(({ line, words }) => ({ number: 0, line, from: 0, to: (lines[line - 1] || "").length, words }));
   }
 
   /**
@@ -196,7 +166,9 @@ export class Editors {
     if (answer === null) return;
     const refusal = refusalOf(answer);
     this.program.tell(refusal ? this.wordsOfRefusal(refusal) : `${counted(size)} assembled, the rest of ROM is 0. It runs from 000 on.`);
-    if (!refusal) this.calls.run();
+    if (refusal) return;
+    await this.calls.assembled(true);
+    this.calls.run();
   }
 
   /** Puts the program's bytes into ROM; nothing else changes. */
@@ -206,6 +178,7 @@ export class Editors {
     const answer = await this.calls.act(`asm\n${sent}.\n`);
     if (answer === null) return;
     const refusal = refusalOf(answer);
+    if (!refusal) await this.calls.assembled(false);
     const leftovers = await this.bench.call("leftovers", [sent]);
     this.program.tell(refusal ? this.wordsOfRefusal(refusal) : wordsOfAssembled(leftovers, this.calls.counter()));
   }

@@ -4,7 +4,7 @@
 import { NAME, namesOf, partsOf } from "./assembly.js";
 import { hex } from "../bench/numbers.js";
 import { wordsOfProgramLine } from "./program_words.js";
-import { faultsOfLines, sentText } from "./text_fault.js";
+import { alignedText, faultsOfLines, sentText } from "./text_fault.js";
 
 /**
  * @typedef {import("../bench/answers.js").Refusal} Refusal
@@ -76,7 +76,8 @@ function faultAt(source, line, at, found, number, wordsOf) {
   const gone = Math.max(0, source.length - line.length);
   const place = found && found.word ? { from: found.word.from + gone, to: found.word.to + gone }
     : { from, to: Math.max(from, code.trimEnd().length) };
-  return { number, line: at, ...place, words: found ? found.words : wordsOf(number) };
+  const cures = found && found.word && found.cures ? { cures: found.cures } : {};
+  return { number, line: at, ...place, words: found ? found.words : wordsOf(number), ...cures };
 }
 
 /**
@@ -87,16 +88,15 @@ function faultAt(source, line, at, found, number, wordsOf) {
  * @returns {Promise<AllFaults | undefined>} undefined where it is not worth going on
  */
 export async function findProgramFaults(program, instructions, wordsOf, refuse) {
-  const sent = sentText(program, ";");
-  const faults = faultsOfLines(sent);
+  const faults = faultsOfLines(program, ";");
   if (faults.some(({ number }) => number === 13)) return { faults, areAll: false, rest: null };
-  const sources = sent.split("\n");
+  const sources = alignedText(program, ";").split("\n");
   const lines = [...sources];
   const facts = { instructions, names: namesOf(lines) };
   for (const { line } of faults) lines[line - 1] = "";
   let isCertain = faults.length === 0;
   for (let trial = 0; trial < MOST_FAULTS; trial++) {
-    const refusal = await refuse(lines.join("\n"));
+    const refusal = await refuse(sentText(lines.join("\n"), ";"));
     if (refusal === undefined) return undefined;
     if (!refusal || refusal.line === 0) return { faults: inOrder(faults), areAll: true, rest: refusal };
     const { number, line } = refusal;

@@ -11,7 +11,8 @@ import { DIRECTIVES, LONGEST_NAME, NAME, NUMBER, PAIR, REGISTER, partsOf } from 
  * What is known of the program: the instructions by their mnemonics, and its names with their lines.
  * @typedef {{ instructions: Map<string, Instruction>, names: Map<string, number> }} Facts
  *
- * @typedef {{ word: Word | null, words: string }} Found
+ * The word at fault, and what was expected; where the cure is known, what can take the place of the word.
+ * @typedef {{ word: Word | null, words: string, cures?: string[] }} Found
  */
 
 /**
@@ -34,22 +35,56 @@ const ELSEWHERE = new Map(Object.entries({
 }));
 
 /**
+ * What other assemblers write as a number: how it is written here, and words about that; null for anything else.
+ * @param {string} text
+ * @returns {{ number: string, words: string } | null}
+ */
+function foreignNumber(text) {
+  const hexadecimal = /^(?:\$|0X|&H?|#\$)([0-9A-Fa-f]+)$/.exec(text) || /^([0-9][0-9A-Fa-f]*)[Hh]$/.exec(text);
+  const binary = /^(?:0b|%)([01]+)$/i.exec(text) || /^([01]+)[Bb]$/.exec(text);
+  const letter = /^(['"])(.)\1?$/.exec(text);
+  const mark = /^#(\w+)$/.exec(text);
+  const number = (hexadecimal && `0x${hexadecimal[1].toUpperCase()}`) || (binary && `${parseInt(binary[1], 2)}`)
+    || (letter && `0x${letter[2].charCodeAt(0).toString(16).toUpperCase()}`) || (mark && mark[1]);
+  if (!number) return null;
+  if (hexadecimal) return { number, words: `hexadecimal is ${number}` };
+  if (binary) return { number, words: `binary numbers are not written; it is ${number}` };
+  if (letter) return { number, words: `letters are not written; the code of ${letter[2]} is ${number}` };
+  return { number, words: `without #: ${number}` };
+}
+
+/**
  * What is written as other assemblers write numbers, or as a calculation.
  * @param {string} text
  */
 function wordsOfNumber(text) {
-  const hexadecimal = /^(?:\$|0X|&H?|#\$)([0-9A-Fa-f]+)$/.exec(text) || /^([0-9][0-9A-Fa-f]*)[Hh]$/.exec(text);
-  if (hexadecimal) return `hexadecimal is 0x${hexadecimal[1].toUpperCase()}`;
-  const binary = /^(?:0b|%)([01]+)$/i.exec(text) || /^([01]+)[Bb]$/.exec(text);
-  if (binary) return `binary numbers are not written; it is ${parseInt(binary[1], 2)}`;
-  const letter = /^(['"])(.)\1?$/.exec(text);
-  if (letter) return `letters are not written; the code of ${letter[2]} is 0x${letter[2].charCodeAt(0).toString(16).toUpperCase()}`;
-  if (/^#\w+$/.test(text)) return `without #: ${text.slice(1)}`;
+  const foreign = foreignNumber(text);
+  if (foreign) return foreign.words;
   if (/^-\d+$/.test(text)) return "there are no negative numbers";
   if (/[-+*/()<>]/.test(text)) return "there are no expressions: write one number or one name";
   if (/\s/.test(text)) return "a comma stands between two operands";
   if (/^\d/.test(text)) return "a number is decimal digits, or 0x and hexadecimal digits";
   return "";
+}
+
+/**
+ * The number as it is written here, where it is written as other assemblers do; none where it is not.
+ * @param {string} text
+ */
+function curesOfNumber(text) {
+  const foreign = foreignNumber(text);
+  return foreign ? [foreign.number] : [];
+}
+
+/**
+ * What was found of a word, with its cures where there are any.
+ * @param {Word | null} word
+ * @param {string} words
+ * @param {string[]} cures
+ * @returns {Found}
+ */
+function curable(word, words, cures) {
+  return cures.length > 0 ? { word, words, cures } : { word, words };
 }
 
 /**
@@ -84,7 +119,7 @@ function faultOfOperand(head, kind, word, facts, isFirst) {
   if (kind === "Pk" || kind === "Rk") return { word, words: /\s/.test(text) ? `${takes}; ${wordsOfNumber(text)}` : takes };
   if (NUMBER.test(text)) return null;
   const reason = text === "" || REGISTER.test(text) || PAIR.test(text) ? "" : wordsOfNumber(text) || wordsOfName(text, facts);
-  if (reason) return { word, words: `${takes}; ${reason}` };
+  if (reason) return curable(word, `${takes}; ${reason}`, curesOfNumber(text));
   return NAME.test(text) && !wordsOfName(text, facts) ? null : { word, words: takes };
 }
 
@@ -106,10 +141,23 @@ export function operandsOfForm(form) {
 function faultOfHead({ label, operands }, head, { instructions }) {
   const upper = head.text.toUpperCase();
   if (upper === "WPM") return { word: head, words: "WPM is not on this bench: its ROM cannot be written by a program" };
+  const given = operands.length === 1 && NAME.test(head.text) && /^(?:EQU|SET)\s+(.*)$/i.exec(operands[0].text);
+  if (given) return { word: operands[0], words: `a name gets its number by =: ${head.text} = ${given[1]}`, cures: [`= ${given[1]}`] };
   const other = ELSEWHERE.get(upper);
   const isAlone = !label && operands.length === 0 && NAME.test(head.text);
-  const question = other ? `; ${other}?` : meant(mostAlike(upper, [...instructions.keys(), ...DIRECTIVES]));
-  return { word: head, words: `${head.text} is no instruction${question || (isAlone ? `; a label has a colon: ${head.text}:` : "")}` };
+  const likes = other ? [] : mostAlike(upper, [...instructions.keys(), ...DIRECTIVES]);
+  const question = other ? `; ${other}?` : meant(likes);
+  const words = `${head.text} is no instruction${question || (isAlone ? `; a label has a colon: ${head.text}:` : "")}`;
+  const alone = isAlone && !question ? [`${head.text}:`] : likes;
+  return curable(head, words, other ? other.split(" or ").filter((each) => /^[A-Z]+( \d+,?)?$/.test(each)).map(asHead) : alone);
+}
+
+/**
+ * What takes the place of another assembler's instruction: a condition has a comma before the address.
+ * @param {string} other
+ */
+function asHead(other) {
+  return other.startsWith("JCN ") ? `${other},` : other;
 }
 
 /**
@@ -123,7 +171,8 @@ function faultOfDirective(head, operands, facts) {
     const isNumber = operands.length === 1 && NUMBER.test(operands[0].text);
     if (isNumber) return null;
     const reason = operands[0] && !NAME.test(operands[0].text) ? wordsOfNumber(operands[0].text) : "";
-    return { word: operands[0] || head, words: `ORG takes one number, 0 to 4095 (0xFFF)${reason ? `; ${reason}` : ""}` };
+    const words = `ORG takes one number, 0 to 4095 (0xFFF)${reason ? `; ${reason}` : ""}`;
+    return curable(operands[0] || head, words, reason ? curesOfNumber(operands[0].text) : []);
   }
   if (operands.length === 0) return { word: head, words: "DB takes bytes, 0 to 255, with commas between them" };
   return operands.map((word) => faultOfOperand("DB", "b", word, facts, true)).find((found) => found !== null) || null;
@@ -141,7 +190,8 @@ function faultOfForm(parts, facts) {
   if (badName) return { word: label, words: badName };
   if (defines) {
     const reason = operands[0] ? wordsOfNumber(operands[0].text) : "";
-    return { word: operands[0] || label, words: `after = stands one number${reason ? `; ${reason}` : ""}` };
+    const words = `after = stands one number${reason ? `; ${reason}` : ""}`;
+    return curable(operands[0] || label, words, reason ? curesOfNumber(operands[0].text) : []);
   }
   if (!head) return { word: label, words: "a name stands before the colon" };
   const upper = head.text.toUpperCase();
@@ -198,7 +248,8 @@ function faultOfUnknown({ operands }, { names }) {
   if (!word) return null;
   const likes = mostAlike(word.text, names.keys());
   const isHex = /^[0-9A-Fa-f]+$/.test(word.text) && likes.length === 0;
-  return { word, words: `${word.text} is not defined${isHex ? `; 0x${word.text.toUpperCase()}?` : meant(likes)}` };
+  const cures = isHex ? [`0x${word.text.toUpperCase()}`] : likes;
+  return curable(word, `${word.text} is not defined${cures.length > 0 ? meant(cures) : ""}`, cures);
 }
 
 /**

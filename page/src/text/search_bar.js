@@ -1,4 +1,4 @@
-// The search in a text: a bar above it, the next and the one before, and how many there are.
+// The search in a text: a bar above it, the next and the one before, and how many there are; and another word in their place.
 
 import CodeMirror from "codemirror";
 import { Cell, element, onClick } from "../dom.js";
@@ -21,17 +21,29 @@ export class SearchBar {
     const before = element("button", { type: "button", title: "Shift and Enter" }, "Previous");
     const next = element("button", { type: "button", title: "Enter" }, "Next");
     const close = element("button", { type: "button", title: "Escape" }, "Close");
-    this.bar = element("div", { role: "search", className: "search bar", hidden: true }, this.field, before, next, close, this.told.node);
+    this.other = element("input", { "aria-label": "Replace by", "placeholder": "replace by", "autocomplete": "off", "spellcheck": false });
+    const one = element("button", { type: "button", title: "Enter: this one, and on to the next" }, "Replace");
+    const all = element("button", { type: "button" }, "Replace all");
+    this.replacing = element("div", { className: "bar", hidden: true }, this.other, one, all);
+    this.bar = element("div", { role: "search", className: "search bar", hidden: true }, this.field, before, next, close, this.told.node,
+      this.replacing);
     place.prepend(this.bar);
+    onClick(one, () => this.replace());
+    onClick(all, () => this.replaceAll());
+    this.other.addEventListener("keydown", (event) => this.typed(event, () => this.replace()));
     onClick(before, () => this.find(true));
     onClick(next, () => this.find(false));
     onClick(close, () => this.close());
     this.field.addEventListener("input", () => this.find(false, this.editor.getCursor("from")));
-    this.field.addEventListener("keydown", (event) => this.typed(event));
+    this.field.addEventListener("keydown", (event) => this.typed(event, (isBack) => this.find(isBack)));
   }
 
-  /** Begins with what is selected, or was sought last. */
-  open() {
+  /**
+   * Begins with what is selected, or was sought last.
+   * @param {boolean} [replaces]
+   */
+  open(replaces = false) {
+    this.replacing.hidden = !replaces;
     const chosen = this.editor.getSelection();
     if (chosen && !chosen.includes("\n")) this.field.value = chosen;
     this.bar.hidden = false;
@@ -45,12 +57,39 @@ export class SearchBar {
     this.editor.focus();
   }
 
-  /** @param {KeyboardEvent} event */
-  typed(event) {
+  /**
+   * @param {KeyboardEvent} event
+   * @param {(isBack: boolean) => void} act
+   */
+  typed(event, act) {
     if (event.key !== "Enter" && event.key !== "Escape") return;
     event.preventDefault();
     if (event.key === "Escape") this.close();
-    else this.find(event.shiftKey);
+    else act(event.shiftKey);
+  }
+
+  /** Replaces what is selected, where it is what is sought, and goes on to the next. */
+  replace() {
+    const { editor } = this;
+    const wanted = this.field.value;
+    const isChosen = wanted !== "" && editor.getSelection().toLowerCase() === wanted.toLowerCase();
+    if (isChosen) editor.replaceSelection(this.other.value, "end");
+    this.find(false);
+  }
+
+  /** Replaces all, as one step that can be undone. */
+  replaceAll() {
+    const wanted = this.field.value;
+    if (wanted === "") return;
+    const cursor = this.cursorAt(wanted, CodeMirror.Pos(this.editor.firstLine(), 0));
+    let count = 0;
+    this.editor.operation(() => {
+      while (cursor.findNext()) {
+        cursor.replace(this.other.value, "replace");
+        count += 1;
+      }
+    });
+    this.told.set(count === 0 ? "not found" : `${count.toLocaleString("en")} replaced`);
   }
 
   /**

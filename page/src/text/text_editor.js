@@ -2,7 +2,8 @@
 // own undo history; the documents of the sessions are kept as long as the page lives.
 
 import CodeMirror from "codemirror";
-import { LONGEST_TEXT, sizeOf } from "./text_fault.js";
+import { upTo } from "../bench/numbers.js";
+import { LONGEST_KEPT, commented } from "./text_fault.js";
 
 /**
  * @typedef {import("codemirror").Editor} Editor
@@ -12,9 +13,13 @@ import { LONGEST_TEXT, sizeOf } from "./text_fault.js";
  * @typedef {import("codemirror/addon/hint/show-hint")} HintTypes the types of what the page uses beside the editor itself
  * @typedef {import("codemirror/addon/search/searchcursor")} SearchTypes
  * @typedef {import("codemirror").EditorChangeCancellable} Change
+ * @typedef {import("../debug/breakpoints.js").Edit} Edit
  *
- * What it calls: the text was edited; the caret was moved; a gutter was clicked at a line; a text was not taken, since it is too long.
- * @typedef {{ edited: () => void, moved: () => void, clickedGutter: (line: number) => void, refused: (size: number) => void }} TextCalls
+ * What it calls: the text was edited; the caret was moved; a gutter was clicked at a line, or by the second button; a place was clicked
+ * with Control, and the caret is there; a text was not taken, since it is too long.
+ * @typedef {{ edited: (edits: Edit[]) => void, moved: () => void, clickedGutter: (line: number) => void,
+ *   askedGutter: (line: number, event: Event) => void, clickedName: () => void,
+ *   refused: (size: number) => void }} TextCalls
  *
  * What an editor is made of: its place, its name for those who do not see it, the mode of its text, the gutters beside the faults, and
  * its own keys.
@@ -54,6 +59,8 @@ export class TextEditor {
       tabSize: INDENT,
       indentWithTabs: true,
       undoDepth: 1000,
+      // A click with Control is to a name, and makes no second caret.
+      configureMouse: () => ({ addNew: false }),
       extraKeys: { "Shift-Tab": "indentLess", ...parts.keys },
     });
     this.nameInput();
@@ -70,9 +77,9 @@ export class TextEditor {
 
   listen() {
     const { editor, calls } = this;
-    editor.on("changes", () => {
+    editor.on("changes", (_, edits) => {
       this.value = null;
-      calls.edited();
+      calls.edited(edits);
     });
     editor.on("cursorActivity", () => {
       calls.moved();
@@ -81,11 +88,13 @@ export class TextEditor {
     editor.on("blur", () => {
       this.tabLeaves = true;
     });
-    editor.on("mousedown", () => {
+    editor.on("mousedown", (_, event) => {
       this.tabLeaves = false;
+      if ((event.ctrlKey || event.metaKey) && event.button === 0) setTimeout(calls.clickedName);
     });
     editor.on("keydown", (_, event) => this.typed(event));
     editor.on("gutterClick", (_, line) => calls.clickedGutter(line + 1));
+    editor.on("gutterContextMenu", (_, line, gutter, event) => calls.askedGutter(line + 1, event));
     // A file that is dropped is the page's.
     editor.on("drop", (_, /** @type {DragEvent & { codemirrorIgnore?: boolean }} */ event) => {
       event.codemirrorIgnore = event.dataTransfer !== null && event.dataTransfer.files.length > 0;
@@ -112,8 +121,8 @@ export class TextEditor {
   judge(change) {
     if (!change.origin || !AT_ONCE.test(change.origin)) return;
     const gone = this.editor.getRange(change.from, change.to).length;
-    const size = this.size - gone + change.text.join("\n").length;
-    if (size <= LONGEST_TEXT) return;
+    const size = this.text.length - gone + change.text.join("\n").length;
+    if (size <= LONGEST_KEPT) return;
     change.cancel();
     this.calls.refused(size);
   }
@@ -121,11 +130,6 @@ export class TextEditor {
   get text() {
     if (this.value === null) this.value = this.editor.getValue();
     return this.value;
-  }
-
-  /** How many bytes the text has when it is sent. */
-  get size() {
-    return sizeOf(this.text);
   }
 
   /**
@@ -141,6 +145,19 @@ export class TextEditor {
     this.editor.swapDoc(kept && kept.getValue() === text ? kept : CodeMirror.Doc(text, this.mode));
     this.documents.delete(name);
     for (const old of [...this.documents.keys()].slice(0, -MOST_DOCUMENTS)) this.documents.delete(old);
+  }
+
+  /**
+   * Makes comments of the lines that are selected, or lines of comments where all of them are; blank lines stay.
+   * @param {string} mark
+   */
+  comment(mark) {
+    const { editor } = this;
+    const [first, last] = [editor.getCursor("from").line, editor.getCursor("to").line];
+    const lines = upTo(last - first + 1).map((at) => editor.getLine(first + at));
+    const end = { line: last, ch: editor.getLine(last).length };
+    editor.replaceRange(commented(lines, mark).join("\n"), { line: first, ch: 0 }, end, "comment");
+    editor.setSelection({ line: first, ch: 0 }, { line: last, ch: editor.getLine(last).length });
   }
 
   /**

@@ -1,17 +1,20 @@
-// A text as it is sent, and its lines that cannot be sent. In comments any character may stand: what is not of ASCII there is sent as a
-// blank, so that each line keeps its length. Everywhere else such a character is at fault.
+// A text as it is sent, and its lines that cannot be sent. It is sent line for line, without comments and indentation, so these take no
+// room there, and any character may stand in a comment. Everywhere else one that is not of ASCII is at fault.
 
 /**
  * @typedef {{ from: number, to: number }} Lines lines of a text, counted from 1
  *
- * A fault: the number of its refusal (0 where there is none), its line from 1, the characters of the line from `from` to `to`, in words.
- * @typedef {{ number: number, line: number, from: number, to: number, words: string }} Fault
+ * A fault: the number of its refusal (0 where there is none), its line from 1, the characters of the line from `from` to `to`, in words;
+ * where its cure is known, what can take the place of these characters.
+ * @typedef {{ number: number, line: number, from: number, to: number, words: string, cures?: string[] }} Fault
  *
  * @typedef {";" | "#"} CommentMark what a comment begins with: in a program, in a board's text
  */
 
-/** What a text has at most, a line feed counted for each line. */
+/** What a text has at most as it is sent, a line feed counted for each line. */
 export const LONGEST_TEXT = 16384;
+/** What a text has at most with its comments and indentation, in characters. */
+export const LONGEST_KEPT = 65536;
 const LONGEST_LINE = 255;
 /** Refusals: of a line, of a text, of a character. */
 const LINE_TOO_LONG = 12;
@@ -31,34 +34,67 @@ export function commentAt(line, mark) {
 }
 
 /**
- * A line as it is sent.
+ * Lines as comments, or without their mark where all of them are comments; blank lines stay.
+ * @param {string[]} lines
+ * @param {CommentMark | string} mark
+ */
+export function commented(lines, mark) {
+  const areAll = lines.every((line) => line.trim() === "" || line.trimStart().startsWith(mark)) && lines.some((line) => line.trim() !== "");
+  if (areAll) return lines.map((line) => line.replace(new RegExp(`^(\\s*)${mark} ?`), "$1"));
+  return lines.map((line) => (line.trim() === "" ? line : `${mark} ${line}`));
+}
+
+/**
+ * A line in which each character has its place, and what is not of ASCII in its comment is a blank.
  * @param {string} line
  * @param {CommentMark} mark
  */
-function sentLine(line, mark) {
+function alignedLine(line, mark) {
   if (/^[\t -~]*$/.test(line)) return line;
   const at = commentAt(line, mark);
   return line.slice(0, at) + line.slice(at).replace(/[^\t -~]/g, " ");
 }
 
 /**
- * A text as it is sent: with a line feed after its last line.
+ * A line as it is sent. What is left of a line is never a dot alone, which would end the text.
+ * @param {string} line
+ * @param {CommentMark} mark
+ */
+function sentLine(line, mark) {
+  const left = line.slice(0, commentAt(line, mark)).replace(/^[\t ]+|[\t ]+$/g, "");
+  return left === "." && line !== "." ? " ." : left;
+}
+
+/**
+ * The lines of a text, each of them changed, with a line feed after the last one.
+ * @param {string} text
+ * @param {(line: string) => string} change
+ */
+function changedLines(text, change) {
+  if (text === "") return "";
+  const lines = text.replace(/\r\n?/g, "\n").split("\n");
+  // A last line of blanks is one that ends, too.
+  if (lines[lines.length - 1] === "") lines.pop();
+  return lines.map((line) => `${change(line)}\n`).join("");
+}
+
+/**
+ * A text whose lines have their lengths, and no character beyond ASCII in comments: in it faults have their places.
+ * @param {string} text
+ * @param {CommentMark} mark
+ */
+export function alignedText(text, mark) {
+  return changedLines(text, (line) => alignedLine(line, mark));
+}
+
+/**
+ * A text as it is sent. Blanks may belong to a string of TOML that goes over several lines.
  * @param {string} text
  * @param {CommentMark} mark
  */
 export function sentText(text, mark) {
-  if (text === "") return "";
-  const whole = text.replace(/\r\n?/g, "\n");
-  const lines = whole.split("\n").map((line) => sentLine(line, mark)).join("\n");
-  return lines.endsWith("\n") ? lines : `${lines}\n`;
-}
-
-/**
- * How many bytes a text has when it is sent.
- * @param {string} text
- */
-export function sizeOf(text) {
-  return text === "" || text.endsWith("\n") ? text.length : text.length + 1;
+  if (mark === "#" && /"""|'''/.test(text)) return alignedText(text, mark);
+  return changedLines(text, (line) => sentLine(line, mark));
 }
 
 /**
@@ -68,21 +104,26 @@ export function sizeOf(text) {
 function wordsOfCharacter(character) {
   if (/[\u2018\u2019\u201c\u201d\u00ab\u00bb]/.test(character)) return `${character} is not the mark " of ASCII`;
   if (character === "\u00a0") return "a blank that does not break (U+00A0); write a plain one";
+  if (/[\p{Cf}\p{Zs}\p{Zl}\p{Zp}\p{Cc}]/u.test(character) && character >= "\u0080") {
+    const code = (character.codePointAt(0) || 0).toString(16).toUpperCase().padStart(4, "0");
+    return `a character that is not to be seen (U+${code}); delete it`;
+  }
   if (character < " " || character === "\u007f") return "a control character; only tabs and printing characters of ASCII can be sent";
   return `${character} is not a character of ASCII; it may stand in comments alone`;
 }
 
 /**
- * @param {string} line as it is sent
+ * @param {string} line in which each character has its place
+ * @param {string} sent
  * @param {number} at its number
  * @returns {Fault | null}
  */
-function faultOfLine(line, at) {
+function faultOfLine(line, sent, at) {
   const place = { line: at, from: 0, to: line.length };
-  if (line === ".") return { number: 0, ...place, words: "a line that is a dot alone would end the text here" };
-  if (line.length > LONGEST_LINE) {
-    const words = `a line has at most ${LONGEST_LINE} characters; this has ${line.length}`;
-    return { number: LINE_TOO_LONG, ...place, from: LONGEST_LINE, words };
+  if (sent === ".") return { number: 0, ...place, words: "a line that is a dot alone would end the text here" };
+  if (sent.length > LONGEST_LINE) {
+    const words = `a line has at most ${LONGEST_LINE} characters without its comment; this has ${sent.length}`;
+    return { number: LINE_TOO_LONG, ...place, from: line.indexOf(sent) + LONGEST_LINE, words };
   }
   const foreign = /[^\t -~]+/u.exec(line);
   if (!foreign) return null;
@@ -91,17 +132,20 @@ function faultOfLine(line, at) {
 }
 
 /**
- * The lines of a text, as it is sent, that cannot be sent; last the one from which on it is too long.
- * @param {string} sent
+ * The lines of a text that cannot be sent; last the one from which on it is too long.
+ * @param {string} text
+ * @param {CommentMark} mark
  * @returns {Fault[]}
  */
-export function faultsOfLines(sent) {
-  const lines = sent.split("\n");
-  const faults = lines.map((line, at) => faultOfLine(line, at + 1)).filter((fault) => fault !== null);
+export function faultsOfLines(text, mark) {
+  const lines = alignedText(text, mark).split("\n");
+  const sent = sentText(text, mark);
+  const sentLines = sent.split("\n");
+  const faults = lines.map((line, at) => faultOfLine(line, sentLines[at], at + 1)).filter((fault) => fault !== null);
   if (sent.length > LONGEST_TEXT) {
     const last = sent.slice(0, LONGEST_TEXT).split("\n").length;
-    const words = `a text has at most ${LONGEST_TEXT.toLocaleString("en")} bytes; this has ${sent.length.toLocaleString("en")}, and the `
-      + "limit is passed here";
+    const words = `a text has at most ${LONGEST_TEXT.toLocaleString("en")} bytes without its comments; this has `
+      + `${sent.length.toLocaleString("en")}, and the limit is passed here`;
     faults.push({ number: TEXT_TOO_LONG, line: last, from: 0, to: lines[last - 1].length, words });
   }
   return /** @type {Fault[]} */ (faults);

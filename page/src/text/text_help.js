@@ -74,13 +74,13 @@ export function boardTables(manual) {
 }
 
 /**
- * The table that a line of a board's text stands in; "" at the top.
+ * The table that a line of a board's text stands in; "" at the top. Of the keys `columns` alone has an array that is no array of tables.
  * @param {string[]} lines
  * @param {number} line from 0
  */
 export function tableAt(lines, line) {
   for (let at = line; at >= 0; at--) {
-    const header = /^\s*\[+\s*([\w-]+)\s*\]+/.exec(lines[at]) || /^\s*([\w-]+)\s*=\s*(\[\s*$|\[?\s*\{)/.exec(lines[at]);
+    const header = /^\s*\[+\s*([\w-]+)\s*\]+/.exec(lines[at]) || /^\s*(?!columns\b)([\w-]+)\s*=\s*(\[\s*$|\[?\s*\{)/.exec(lines[at]);
     if (header) return header[1];
   }
   return "";

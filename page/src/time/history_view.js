@@ -7,7 +7,7 @@ import { upTo } from "../bench/numbers.js";
 /**
  * @typedef {import("../bench/answers.js").Board} Board
  * @typedef {import("../worker/going_back.js").BackGoal} BackGoal
- * @typedef {import("../worker/seek.js").Goal} Goal
+ * @typedef {import("../debug/goals.js").Goal} Goal
  *
  * What it calls: time passes until a goal is reached; back and forward; the status says something.
  * @typedef {{ goOn: (goal: Goal) => void, goBack: (goal: BackGoal) => void, goForward: () => void, tell: (words: string) => void }}

@@ -1,27 +1,35 @@
 // Time that runs: by the clock or at full speed, up to a stop, and what is told of it.
 
 import { isStop, readRun, refusalOf } from "../bench/answers.js";
+import { wordsOfHalt, wordsOfMove, wordsOfPlace, wordsOfStop, wordsOfWhen } from "../debug/stop_words.js";
 import { Cell, block, button } from "../dom.js";
 import { wordsOfTime } from "../words.js";
 import { Clock } from "./clock.js";
 import { Rate } from "./rate.js";
-import { REASONS } from "./reached.js";
 
 /**
  * @typedef {import("../bench/protocol.js").Frame} Frame
+ * @typedef {import("../bench/protocol.js").Stop} Stop
+ * @typedef {import("../debug/goals.js").Goal} Goal
  * @typedef {import("../page.js").Page} Page
  * @typedef {import("./speeds.js").Speed} Speed
  */
 
 /** How often the session is kept while time runs. */
 const KEEP_TIME = 1000;
+/** That time stood still is told for so many milliseconds. */
+const TOLD_TIME = 8000;
 
 export class Running {
   /** @param {Page} page */
   constructor(page) {
     this.page = page;
-    /** @type {(answer: string) => void} a run has ended early */
+    /** @type {(why: string) => void} time has stopped by itself */
     this.ended = () => {};
+    /** @type {Goal | null} up to which time runs */
+    this.goal = null;
+    /** The cycles that were counted where time began to run. */
+    this.begun = 0;
     this.rate = new Rate(0);
     this.clock = this.makeClock();
     this.status = new Cell(block("status"));
@@ -61,12 +69,17 @@ export class Running {
     this.rateTold.set(this.clock.isRunning && rate > 0 ? `${rate.toLocaleString("en")} cycles a second` : "");
   }
 
-  run() {
-    const { bench, current } = this.page;
+  /** @param {Goal | null} [goal] up to which time runs; the bench knows it */
+  run(goal = null) {
+    const { bench, current, recovery } = this.page;
     if (!current.session || this.clock.isRunning) return;
     current.session.record.runs = true;
+    this.goal = goal;
+    this.begun = this.page.cycles.cycles.total;
+    this.page.usual.clear();
+    if (!goal) bench.call("drop", []).catch((fault) => recovery.failed(fault));
     this.runWord.set("Stop");
-    this.tell("Time runs.");
+    this.tell(goal ? wordsOfMove(goal) : "Time runs.");
     this.clock.start();
     this.beginRate();
     bench.isRunning = this.clock.isFull;
@@ -113,7 +126,9 @@ export class Running {
    */
   stoodStill(time, wasHidden) {
     this.beginRate();
-    this.tell(`Time runs. It stood still for ${wordsOfTime(time)} ${wasHidden ? "while hidden" : "while the page was held up"}.`);
+    const words = `Time runs. It stood still for ${wordsOfTime(time)} ${wasHidden ? "while hidden" : "while the page was held up"}.`;
+    this.tell(words);
+    setTimeout(() => this.status.text === words && this.tell("Time runs."), TOLD_TIME);
   }
 
   /**
@@ -123,6 +138,7 @@ export class Running {
   halted(words) {
     const { bench, current, machine } = this.page;
     this.clock.stop();
+    this.goal = null;
     bench.isRunning = false;
     if (current.session) current.session.record.runs = false;
     this.runWord.set("Run");
@@ -150,7 +166,10 @@ export class Running {
       return;
     }
     // A breakpoint may have come first.
-    if (current.session && current.session.record.runs) this.halted("Stopped.");
+    if (current.session && current.session.record.runs) {
+      this.page.machine.showRest();
+      this.halted(wordsOfHalt(this.goal, this.page.cycles.cycles.total - this.begun, this.place));
+    }
     await current.keep();
   }
 
@@ -162,11 +181,13 @@ export class Running {
     const { current, log } = this.page;
     const isNewRate = this.rate.add(frame.cycles, this.clock.now);
     log.collect(frame.ran);
-    if (frame.end) this.clock.stop();
+    this.page.usual.show(frame.tally.usual);
+    if (frame.stop) this.clock.stop();
     this.page.show(frame, true);
-    if (frame.end) {
-      this.halted(this.reasonOf(frame.end));
-      this.ended(frame.end);
+    this.page.breakpoints.count(frame.tally);
+    if (frame.stop) {
+      this.halted(this.reasonOf(frame.stop));
+      this.ended(frame.stop.why);
       current.keep();
       return;
     }
@@ -175,19 +196,30 @@ export class Running {
     if (frame.changesKeys || document.hidden || performance.now() - current.kept >= KEEP_TIME) current.keep();
   }
 
-  /** @param {string} answer that ended a run */
-  reasonOf(answer) {
-    const { machine, words } = this.page;
-    const run = readRun(answer);
-    const refusal = refusalOf(answer);
-    if (refusal) return `Stopped: ${answer}: ${words.ofRefusal(refusal.number)}.`;
-    return `Stopped at ${machine.counter}, ${run ? REASONS[run.end] || run.end : answer}.`;
+  /** Where time stands still, with its name and its line. */
+  get place() {
+    const { machine, source } = this.page;
+    return wordsOfPlace(machine.counter, source.map);
+  }
+
+  /**
+   * @param {Omit<Stop, "id"> & { id?: number }} stop
+   * @param {Goal | null} [goal]
+   */
+  reasonOf(stop, goal = this.goal) {
+    const refusal = refusalOf(stop.why);
+    if (refusal) return `Stopped: ${stop.why}: ${this.page.words.ofRefusal(refusal.number)}.`;
+    return wordsOfStop(goal, stop, this.place, wordsOfWhen(this.page.breakpoints.keeper.list.get(stop.id || 0)));
   }
 
   async step() {
     if (this.clock.isRunning) await this.stop();
     const answer = await this.page.serving.act("step\n");
-    if (answer !== null) this.tell(isStop(answer) ? this.reasonOf(answer) : "One instruction was done.");
+    if (answer === null) return;
+    const run = readRun(answer);
+    const cycles = run ? run.cycles : 0;
+    if (isStop(answer)) this.tell(this.reasonOf({ why: run ? run.end : answer, cycles, returns: false }));
+    else this.tell(wordsOfStop({ kind: "over" }, { why: "goal", cycles, returns: false }, this.place));
   }
 
   /**

@@ -4,7 +4,7 @@ import { block, element, onClick } from "../dom.js";
 
 /**
  * @typedef {import("../worker/going_back.js").BackGoal} BackGoal
- * @typedef {import("../worker/seek.js").Goal} Goal
+ * @typedef {import("../debug/goals.js").Goal} Goal
  * @typedef {{ id: string, word: string, title: string, key: string, act: () => void }} StepButton
  *
  * What it calls: one instruction is done; time passes until a goal is reached; back; time runs, or stops; whether keys are another's.

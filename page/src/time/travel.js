@@ -1,20 +1,22 @@
 // Going on to a goal, back and forward in time, and what the status says of it.
 
-import { wordsOfGone, wordsOfReached } from "./reached.js";
+import { wordsOfGone } from "../debug/stop_words.js";
 
 /**
  * @typedef {import("../bench/bench.js").Bench} Bench
  * @typedef {import("../bench/bench.js").Ways} Ways
  * @typedef {import("../worker/going_back.js").BackGoal} BackGoal
- * @typedef {import("../bench/protocol.js").Gone} Gone
+ * @typedef {import("../bench/protocol.js").Stop} Stop
+ * @typedef {import("../bench/protocol.js").Tally} Tally
  * @typedef {import("../bench/protocol.js").ServedLines} ServedLines
- * @typedef {import("../worker/seek.js").Goal} Goal
+ * @typedef {import("../debug/goals.js").Goal} Goal
  *
- * What it calls: time stands still; work that changes the session is done, kept and shown, or null is given; the counter where time stands
- * still; the status says something.
+ * What it calls: time stands still; work that changes the session is done, kept and shown, or null is given; time runs up to a goal that
+ * the bench knows; breakpoints did something; why time stopped, in words, and the place where it stands still; the status says something.
  * @typedef {{ stand: () => Promise<void>,
  *   change: <Result extends ServedLines>(words: string, work: (ways: Ways) => Promise<Result>) => Promise<Result | null>,
- *   counter: () => string, tell: (words: string) => void }} TravelCalls
+ *   runTo: (goal: Goal) => void, counted: (tally: Tally) => void, reasonOf: (stop: Stop, goal: Goal) => string,
+ *   place: () => string, tell: (words: string) => void }} TravelCalls
  */
 
 export class Travel {
@@ -28,25 +30,29 @@ export class Travel {
   }
 
   /**
-   * Time passes until a goal is reached, or something else stops it.
+   * Time passes until a goal is reached, or something else stops it: at once where that is near, else it runs.
    * @param {Goal} goal
    */
   async goOn(goal) {
     await this.calls.stand();
-    const told = await this.calls.change("Time passes on a copy, up to the goal.", (ways) => this.bench.call("goOn", [goal], ways));
-    if (told) this.calls.tell(wordsOfReached(goal, told.found, this.calls.counter()));
+    const told = await this.calls.change("The goal is looked for.", (ways) => this.bench.call("goOn", [goal], ways));
+    if (!told) return;
+    const { cycles, isReached, end, id, returns } = told.found;
+    this.calls.counted(told.tally);
+    if (end === "bound") this.calls.runTo(goal);
+    else this.calls.tell(this.calls.reasonOf({ why: isReached ? "goal" : end, cycles, id, returns }, goal));
   }
 
   /** @param {BackGoal} goal */
   async goBack(goal) {
     await this.calls.stand();
     const gone = await this.calls.change("The past is done again on a copy.", (ways) => this.bench.call("goBack", [goal], ways));
-    if (gone) this.calls.tell(wordsOfGone(goal, gone, this.calls.counter()));
+    if (gone) this.calls.tell(wordsOfGone(goal, gone, this.calls.place()));
   }
 
   async goForward() {
     await this.calls.stand();
     const gone = await this.calls.change("Forward again.", () => this.bench.call("goForward", []));
-    if (gone) this.calls.tell(wordsOfGone({ kind: "forward" }, gone, this.calls.counter()));
+    if (gone) this.calls.tell(wordsOfGone({ kind: "forward" }, gone, this.calls.place()));
   }
 }

@@ -5,7 +5,7 @@
 /** Units of time in a cycle of 10.8 microseconds: a unit is 100 ns. */
 const UNITS = 108;
 /** More lines than a recording can have: a change is one number, of its moment and its line. */
-const LINES = 1024;
+const LINES = 8192;
 /** So many lines of the file are one part of it: a text has not room for all that a long recording has. */
 const LINES_OF_PART = 100000;
 /** Letters that begin no value in the file: a reader that does not know one kind of value takes nothing else for one then. */
@@ -21,8 +21,14 @@ function codeOf(number) {
   return text;
 }
 
-/** @type {Record<string, string>} */
-const KINDS = { pc: "wire 12", label: "string 1" };
+/**
+ * What a line is in the file.
+ * @param {Waves} waves
+ * @param {number} line
+ */
+function kindOf({ lines }, line) {
+  return lines[line].kind === "label" ? "string 1" : `wire ${lines[line].width}`;
+}
 
 /**
  * The text of a line's value.
@@ -32,10 +38,10 @@ const KINDS = { pc: "wire 12", label: "string 1" };
  * @param {string} code
  */
 function changeText(waves, line, moment, code) {
-  const { kind } = waves.lines[line];
-  if (kind === "pc") return `b${waves.counterAt(moment).toString(2).padStart(12, "0")} ${code}`;
+  const { kind, width } = waves.lines[line];
   if (kind === "label") return `s${waves.labelAt(moment) || "-"} ${code}`;
-  return `${waves.levelAt(line, moment)}${code}`;
+  const value = waves.numberAt(line, moment).toString(2).padStart(width, "0");
+  return width === 1 ? `${value}${code}` : `b${value} ${code}`;
 }
 
 /**
@@ -49,12 +55,12 @@ function headerOf(waves, chosen, codes) {
     "$comment 108 units of time are a cycle of the 4004, 10.8 microseconds $end",
     "$timescale 100 ns $end",
     "$scope module board $end",
-    ...chosen.map((line, at) => `$var ${KINDS[waves.lines[line].kind] || "wire 1"} ${codes[at]} ${waves.lines[line].name} $end`),
+    ...chosen.map((line, at) => `$var ${kindOf(waves, line)} ${codes[at]} ${waves.lines[line].name} $end`),
     "$upscope $end",
     "$enddefinitions $end",
     "#0",
     "$dumpvars",
-    ...chosen.map((line, at) => changeText(waves, line, 0, codes[at])),
+    ...chosen.map((line, at) => changeText(waves, line, waves.from, codes[at])),
     "$end",
   ];
 }
@@ -85,17 +91,18 @@ function changesOf(waves, chosen) {
 export function* vcdParts(waves, chosen) {
   const codes = chosen.map((_, at) => codeOf(at));
   let text = headerOf(waves, chosen, codes);
-  let told = 0;
+  // The file's time begins with it, as the recording does.
+  let told = waves.from;
   for (const change of changesOf(waves, chosen)) {
     const moment = Math.floor(change / LINES);
     const place = change % LINES;
-    if (moment !== told) text.push(`#${moment * UNITS}`);
+    if (moment !== told) text.push(`#${(moment - waves.from) * UNITS}`);
     told = moment;
     text.push(changeText(waves, chosen[place], moment, codes[place]));
     if (text.length < LINES_OF_PART) continue;
     yield `${text.join("\n")}\n`;
     text = [];
   }
-  if (waves.cycles > told) text.push(`#${waves.cycles * UNITS}`);
+  if (waves.cycles > told) text.push(`#${waves.span * UNITS}`);
   if (text.length > 0) yield `${text.join("\n")}\n`;
 }

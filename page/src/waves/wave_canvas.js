@@ -1,6 +1,6 @@
 // Draws waves on a canvas.
 
-import { countUpTo } from "./waves.js";
+import { countUpTo } from "./growing.js";
 import { isText } from "./wave_lines.js";
 import { ticksOf } from "./wave_window.js";
 
@@ -9,7 +9,8 @@ import { ticksOf } from "./wave_window.js";
  * @typedef {import("./wave_window.js").WaveWindow} WaveWindow
  * @typedef {{ ink: string, faint: string, grid: string, sheet: string, chosen: string, first: string, second: string }} Colours
  * @typedef {{ waves: Waves, rows: number[], selected: number, view: WaveWindow, top: number, gutter: number, height: number,
- *   colours: Colours, font: string }} Picture what is drawn: `rows` are lines, `top` is how many pixels of them are scrolled away above
+ *   trigger: number, colours: Colours, font: string }} Picture what is drawn: `rows` are lines, `top` is how many pixels of them are
+ *   scrolled away above, `trigger` the moment of the trigger, -1 for none
  */
 
 /** The height of the moments above, and of a line. */
@@ -40,6 +41,9 @@ export function drawWaves(context, picture) {
     for (let row = first; row < last; row++) drawRow(context, picture, row, AXIS + row * ROW - top);
   });
   clipped(context, [gutter - FLAG, 0, view.width + FLAG, height], () => {
+    if (picture.trigger >= view.begin) {
+      drawMark(context, picture, { moment: picture.trigger, letter: "T", y: 7, colour: colours.ink, dash: [2, 2] });
+    }
     [colours.first, colours.second].forEach((colour, at) => drawCursor(context, picture, at, colour));
   });
 }
@@ -105,15 +109,25 @@ function drawRow(context, picture, row, y) {
   context.strokeStyle = colours.grid;
   strokeLine(context, 0, y + ROW - 0.5, gutter + view.width, y + ROW - 0.5);
   context.fillStyle = colours.ink;
-  const name = `${row === selected ? "\u25B8" : ""}${waves.lines[line].name}`;
-  clipped(context, [0, y, gutter - 40, ROW], () => context.fillText(name, 4, y + ROW / 2));
+  const name = `${row === selected ? "\u25B8" : ""}${nameInGutter(waves.lines[line])}`;
+  const value = valueInGutter(picture, line);
+  const room = Math.min(88, context.measureText(value).width);
+  clipped(context, [0, y, gutter - 14 - room, ROW], () => context.fillText(name, 4, y + ROW / 2));
   context.textAlign = "right";
-  clipped(context, [gutter - 92, y, 88, ROW], () => context.fillText(valueInGutter(picture, line), gutter - 6, y + ROW / 2));
+  clipped(context, [gutter - 92, y, 88, ROW], () => context.fillText(value, gutter - 6, y + ROW / 2));
   context.textAlign = "left";
   clipped(context, [gutter, y, view.width, ROW], () => {
     if (isText(waves.lines[line])) drawTexts(context, picture, line, y);
     else drawLevels(context, picture, line, y);
   });
+}
+
+/**
+ * What a line is called beside its picture: a port by the name that the board's text gives it.
+ * @param {import("./wave_lines.js").WaveLine} line
+ */
+function nameInGutter({ name, title, kind }) {
+  return kind === "port" && title !== "" ? `${title} ${name}` : name;
 }
 
 /**
@@ -136,7 +150,7 @@ function drawLevels(context, { waves, view, gutter, colours }, line, y) {
   const changes = waves.changesOf(line);
   const [high, low] = [y + MARGIN + 0.5, y + ROW - MARGIN - 0.5];
   const end = Math.min(view.width, view.xOf(waves.cycles));
-  let level = waves.levelAt(line, Math.floor(view.from));
+  let level = waves.numberAt(line, Math.floor(view.from));
   let seen = countUpTo(changes, Math.floor(view.from));
   context.strokeStyle = context.fillStyle = colours.ink;
   context.lineWidth = 1.5;
@@ -210,20 +224,33 @@ function drawValue(context, value, from, to, y) {
  * @param {number} at 0 for A, 1 for B
  * @param {string} colour
  */
-function drawCursor(context, { view, gutter, height }, at, colour) {
-  const x = Math.round(gutter + view.xOf(view.cursors[at])) + 0.5;
+function drawCursor(context, picture, at, colour) {
+  const { view } = picture;
+  context.lineWidth = view.active === at ? 2 : 1;
+  drawMark(context, picture, {
+    moment: view.cursors[at], letter: at === 0 ? "A" : "B", y: at === 0 ? 1 : 13, colour, dash: at === 0 ? [] : [5, 3],
+  });
+}
+
+/**
+ * A moment that is marked, by a line with a letter on a flag.
+ * @param {CanvasRenderingContext2D} context
+ * @param {Picture} picture
+ * @param {{ moment: number, letter: string, y: number, colour: string, dash: number[] }} mark
+ */
+function drawMark(context, { view, gutter, height }, { moment, letter, y, colour, dash }) {
+  const x = Math.round(gutter + view.xOf(moment)) + 0.5;
   if (x < gutter) return;
   context.strokeStyle = context.fillStyle = colour;
-  context.lineWidth = view.active === at ? 2 : 1;
-  context.setLineDash(at === 0 ? [] : [5, 3]);
+  context.setLineDash(dash);
   strokeLine(context, x, 0, x, height);
   context.setLineDash([]);
   context.lineWidth = 1;
   context.textAlign = "center";
-  context.fillRect(x - FLAG / 2, at === 0 ? 1 : 13, FLAG, 12);
+  context.fillRect(x - FLAG / 2, y, FLAG, 12);
   context.save();
   context.globalCompositeOperation = "destination-out";
-  context.fillText(at === 0 ? "A" : "B", x, at === 0 ? 7.5 : 19.5);
+  context.fillText(letter, x, y + 6.5);
   context.restore();
   context.textAlign = "left";
 }

@@ -1,107 +1,149 @@
-// Which lines of a recording are shown: a box to tick for each of them, by the parts of the board.
+// Which lines and values of a recording are shown: a box to tick for each of them, by the parts of the board, and a search among them.
 
-import { block, button, element, onClick } from "../dom.js";
-import { isText } from "./wave_lines.js";
-
-/** @typedef {import("./waves.js").Waves} Waves */
-
-/** So many lines are shown where none were chosen yet. */
-const MOST_AT_FIRST = 16;
+import { Cell, block, button, element, field, onClick } from "../dom.js";
+import { firstChoice, found, titleOf, valuesAmong } from "./wave_catalog.js";
 
 /**
- * The lines that are shown at first: those that change, in their order, the counter last; where none changes, the first ones.
- * @param {Waves} waves
+ * @typedef {import("./wave_lines.js").WaveLine} WaveLine
+ * @typedef {import("./waves.js").Waves} Waves
+ *
+ * What it calls: all that the board of now has, recorded or not; the lines of the recording that are shown, in their order; other values
+ * are wanted than the recording has.
+ * @typedef {{ offered: () => WaveLine[], choose: (chosen: number[]) => void, wants: () => void }} ChoiceCalls
  */
-export function firstChoice(waves) {
-  const all = waves.lines.map((_, line) => line);
-  const changing = all.filter((line) => !isText(waves.lines[line]) && waves.changesOf(line).length > 0);
-  const bits = (changing.length > 0 ? changing : all.filter((line) => !isText(waves.lines[line]))).slice(0, MOST_AT_FIRST);
-  return [...bits, ...all.filter((line) => isText(waves.lines[line]))];
-}
-
-/**
- * The lines of a recording by the names that were chosen before.
- * @param {Waves} waves
- * @param {Set<string>} names
- */
-function chosenBefore(waves, names) {
-  return waves.lines.map((_, line) => line).filter((line) => names.has(waves.lines[line].name));
-}
-
-/** @type {Record<string, string>} */
-const TITLES = { lamps: "Lamps", keys: "Keys", test: "TEST pin", pc: "Counter", label: "Label" };
-
-/** @param {string} group */
-function titleOf(group) {
-  return TITLES[group] || group.replace(/^rom/, "ROM ").replace(/^ram/, "RAM ").replace(/^chain/, "Chain ");
-}
 
 export class WaveChoice {
-  /** @param {(chosen: number[]) => void} choose is told which lines are shown, in their order */
-  constructor(choose) {
-    this.choose = choose;
+  /** @param {ChoiceCalls} calls */
+  constructor(calls) {
+    this.calls = calls;
     /** @type {Waves | null} */
     this.waves = null;
-    /** @type {Set<number>} */
+    /** @type {Set<string>} names */
     this.chosen = new Set();
-    /** @type {HTMLInputElement[]} by line */
-    this.boxes = [];
-    onClick(button("waves-changing"), () => this.waves && this.set(firstChoice(this.waves)));
-    onClick(button("waves-all"), () => this.set(this.boxes.map((_, line) => line)));
-    onClick(button("waves-none"), () => this.set([]));
+    /** Whether the lines are those that change, as none were chosen by hand. */
+    this.isOwn = false;
+    this.told = new Cell(block("signals-told"));
+    /** @type {Map<string, HTMLInputElement>} the boxes by the names of their lines */
+    this.boxes = new Map();
+    onClick(button("waves-changing"), () => this.chooseChanging());
+    onClick(button("waves-all"), () => this.waves && this.set(this.waves.lines.map(({ name }) => name), true));
+    onClick(button("waves-none"), () => this.set([], true));
+    field("signal-search").addEventListener("input", () => this.draw());
+    block("wave-choice").addEventListener("toggle", () => this.draw());
   }
 
-  /** @param {Waves} waves another recording; the lines that were chosen by their names stay chosen */
+  /** The names of registers and characters that are to be recorded. */
+  get values() {
+    return valuesAmong(this.calls.offered(), this.chosen);
+  }
+
+  /** @param {Waves} waves another recording; what was chosen by its name stays chosen */
   begin(waves) {
-    const before = this.waves;
-    const names = before ? new Set([...this.chosen].map((line) => before.lines[line].name)) : new Set();
-    const kept = chosenBefore(waves, /** @type {Set<string>} */ (names));
     this.waves = waves;
-    this.draw(waves);
-    this.set(kept.length > 0 ? kept : firstChoice(waves));
+    const isLineChosen = waves.lines.some(({ name, kind }) => kind !== "value" && this.chosen.has(name));
+    if (!isLineChosen) this.isOwn = false;
+    if (!this.isOwn) this.addChanging(waves);
+    this.draw();
+    this.tell();
   }
 
-  /** Nothing is chosen any more. */
-  forget() {
-    this.waves = null;
-    this.chosen.clear();
-  }
-
-  /** @param {Waves} waves */
-  draw(waves) {
-    /** @type {Map<string, HTMLElement>} */
-    const groups = new Map();
-    this.boxes = waves.lines.map(({ name, group }, line) => {
-      const box = element("input", { type: "checkbox", autocomplete: "off" });
-      box.addEventListener("change", () => this.tick(line, box.checked));
-      const root = groups.get(group) || element("fieldset", {}, element("legend", {}, titleOf(group)));
-      root.append(element("label", {}, box, name));
-      groups.set(group, root);
-      return box;
-    });
-    block("wave-boxes").replaceChildren(...groups.values());
+  /** What was recorded has become more: lines that change are shown, where none were chosen by hand. */
+  grown() {
+    if (this.isOwn || !this.waves) return;
+    if (this.addChanging(this.waves)) this.tell();
   }
 
   /**
-   * @param {number} line
-   * @param {boolean} isChosen
+   * The lines that change are chosen in the place of other ones; gives whether they are others now.
+   * @param {Waves} waves
    */
-  tick(line, isChosen) {
-    if (isChosen) this.chosen.add(line);
-    else this.chosen.delete(line);
-    this.tell();
+  addChanging(waves) {
+    const names = firstChoice(waves).map((line) => waves.lines[line].name);
+    const values = waves.lines.filter(({ name, kind }) => kind === "value" && this.chosen.has(name)).map(({ name }) => name);
+    const wanted = new Set([...names, ...values]);
+    if (wanted.size === this.chosen.size && [...wanted].every((name) => this.chosen.has(name))) return false;
+    this.chosen = wanted;
+    this.showTicks();
+    return true;
   }
 
-  /** @param {number[]} lines */
-  set(lines) {
-    this.chosen = new Set(lines);
-    this.boxes.forEach((box, line) => {
-      box.checked = this.chosen.has(line);
-    });
+  chooseChanging() {
+    this.isOwn = false;
+    if (this.waves && this.addChanging(this.waves)) this.tell();
+  }
+
+  /** Nothing is recorded any more; what was chosen by hand is chosen for the next board, too, where it has lines of these names. */
+  forget() {
+    this.waves = null;
+    this.chosen.clear();
+    this.isOwn = false;
+    this.told.set("");
+    this.draw();
+  }
+
+  /** The boxes of what is looked for; they are made while they are seen. */
+  draw() {
+    if (!block("wave-choice").hasAttribute("open")) return;
+    const { lines, more } = found(this.calls.offered(), field("signal-search").value, this.chosen);
+    /** @type {Map<string, HTMLElement>} */
+    const groups = new Map();
+    this.boxes.clear();
+    for (const line of lines) {
+      const root = groups.get(line.group) || element("fieldset", {}, element("legend", {}, titleOf(line.group)));
+      root.append(this.boxOf(line));
+      groups.set(line.group, root);
+    }
+    this.showTicks();
+    block("wave-boxes").replaceChildren(...groups.values());
+    block("signals-more").textContent = more;
+  }
+
+  /** @param {WaveLine} line */
+  boxOf({ name, title }) {
+    const box = element("input", { type: "checkbox", autocomplete: "off", name });
+    box.addEventListener("change", () => this.tick(name, box.checked));
+    this.boxes.set(name, box);
+    return element("label", {}, box, name, ...(title === "" ? [] : [element("small", {}, ` ${title}`)]));
+  }
+
+  showTicks() {
+    for (const [name, box] of this.boxes) box.checked = this.chosen.has(name);
+  }
+
+  /**
+   * @param {string} name
+   * @param {boolean} isChosen
+   */
+  tick(name, isChosen) {
+    const names = new Set(this.chosen);
+    if (isChosen) names.add(name);
+    else names.delete(name);
+    this.set(names, true);
+  }
+
+  /**
+   * @param {Iterable<string>} names
+   * @param {boolean} isOwn
+   */
+  set(names, isOwn) {
+    this.chosen = new Set(names);
+    this.isOwn = isOwn;
+    this.showTicks();
     this.tell();
+    if (this.lacking.length > 0) this.calls.wants();
+  }
+
+  /** The values that are chosen, and that the recording has not. */
+  get lacking() {
+    const { waves } = this;
+    return waves ? this.values.filter((name) => waves.lines.every((line) => line.name !== name)) : [];
   }
 
   tell() {
-    this.choose([...this.chosen].sort((one, other) => one - other));
+    const { waves, lacking } = this;
+    if (!waves) return;
+    const words = lacking.length === 1 ? `${lacking[0]} is` : `${lacking.slice(0, 3).join(", ")}${lacking.length > 3 ? " .." : ""} are`;
+    this.told.set(lacking.length === 0 ? "" : `${words} recorded from the next recording on.`);
+    this.calls.choose(waves.lines.map((_, line) => line).filter((line) => this.chosen.has(waves.lines[line].name)));
   }
 }

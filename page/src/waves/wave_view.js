@@ -1,6 +1,6 @@
 // Waves as they are seen: the canvas, the cursors, and their values in words.
 
-import { Cell, block, button, byId, onClick, pressedSwitch } from "../dom.js";
+import { Cell, block, button, byId, field, onClick, pressedSwitch } from "../dom.js";
 import { AXIS, ROW, drawWaves } from "./wave_canvas.js";
 import { WavePointers } from "./wave_pointers.js";
 import { WaveValues } from "./wave_values.js";
@@ -10,6 +10,7 @@ import { betweenText, cursorText, spokenText } from "./wave_words.js";
 /**
  * @typedef {import("./wave_canvas.js").Colours} Colours
  * @typedef {import("./wave_pointers.js").Place} Place
+ * @typedef {import("./wave_words.js").Base} Base
  * @typedef {import("./waves.js").Waves} Waves
  */
 
@@ -43,6 +44,10 @@ export class WaveView {
     this.selected = -1;
     this.view = new WaveWindow(0);
     this.isAsked = false;
+    /** @type {Base} how numbers are written */
+    this.base = "hex";
+    /** The moment of the trigger, -1 for none. */
+    this.trigger = -1;
     this.told = ["wave-first", "wave-second", "wave-between"].map((id) => new Cell(block(id)));
     this.active = [pressedSwitch(button("cursor-a")), pressedSwitch(button("cursor-b"))];
     this.values = new WaveValues(() => this.ask());
@@ -90,9 +95,32 @@ export class WaveView {
   /** @param {Waves} waves another recording */
   begin(waves) {
     this.waves = waves;
-    this.view = new WaveWindow(waves.cycles);
-    this.canvas.setAttribute("aria-valuemin", "0");
-    this.canvas.setAttribute("aria-valuemax", String(waves.cycles));
+    this.trigger = -1;
+    this.view = new WaveWindow(waves.cycles, waves.from);
+    this.setBase(this.base);
+  }
+
+  /**
+   * The recording has become more at its end, or less at its beginning.
+   * @param {number} trigger the moment of its trigger, -1 for none
+   */
+  grow(trigger) {
+    if (!this.waves) return;
+    this.trigger = trigger;
+    this.view.stretch(this.waves.from, this.waves.cycles);
+    this.ask();
+  }
+
+  /** @param {number} moment is seen, with what is around it */
+  showAround(moment) {
+    this.change(() => this.view.showAround(moment));
+  }
+
+  /** @param {Base} base how numbers are written */
+  setBase(base) {
+    this.base = base;
+    if (this.waves) this.waves.base = base;
+    this.ask();
   }
 
   /** @param {number[]} rows the lines that are shown */
@@ -147,6 +175,12 @@ export class WaveView {
     if (this.waves) this.goTo(this.waves.counterAt(this.view.moment));
   }
 
+  /** @param {number} line is marked, where it is shown */
+  mark(line) {
+    const row = this.rows.indexOf(line);
+    if (row >= 0) this.select(row);
+  }
+
   /** @param {number} row */
   select(row) {
     this.selected = Math.min(Math.max(row, 0), this.rows.length - 1);
@@ -180,9 +214,10 @@ export class WaveView {
       ArrowLeft: () => this.move(view.moment - far), ArrowRight: () => this.move(view.moment + far),
       ArrowUp: () => this.select(this.selected - 1), ArrowDown: () => this.select(this.selected + 1),
       PageUp: () => this.move(view.moment - view.span / 2), PageDown: () => this.move(view.moment + view.span / 2),
-      Home: () => this.move(0), End: () => this.move(view.cycles),
+      Home: () => this.move(view.begin), End: () => this.move(view.end),
       "+": () => this.zoom(ZOOM), "-": () => this.zoom(1 / ZOOM), 0: () => this.change(() => view.showAll()),
       Enter: () => this.showInstruction(),
+      "/": () => field("wave-search").focus(),
       p: () => this.toEdge(false), n: () => this.toEdge(true), a: () => this.activate(0), b: () => this.activate(1),
     };
     const act = acts[event.key] || acts[event.key.toLowerCase()];
@@ -213,6 +248,8 @@ export class WaveView {
     this.told[1].set(cursorText("B", view.cursors[1], waves));
     this.told[2].set(betweenText(view.between));
     this.active.forEach((active, at) => active.set(view.active === at));
+    this.canvas.setAttribute("aria-valuemin", String(view.begin));
+    this.canvas.setAttribute("aria-valuemax", String(view.end));
     this.canvas.setAttribute("aria-valuenow", String(view.moment));
     this.canvas.setAttribute("aria-valuetext", spokenText(view.moment, waves, this.line));
     this.values.show(waves, view.cursors);
@@ -235,7 +272,7 @@ export class WaveView {
     const style = getComputedStyle(canvas);
     const colours = Object.fromEntries(Object.entries(COLOURS).map(([name, property]) => [name, style.getPropertyValue(property).trim()]));
     drawWaves(context, {
-      waves, rows: this.rows, selected: this.selected, view: this.view, top: scroll.scrollTop, gutter, height,
+      waves, rows: this.rows, selected: this.selected, view: this.view, top: scroll.scrollTop, gutter, height, trigger: this.trigger,
       colours: /** @type {Colours} */ (/** @type {unknown} */ (colours)), font: `12px ${style.fontFamily}`,
     });
   }

@@ -2,6 +2,8 @@
 
 /** So many cycles are seen at least. */
 const CLOSEST = 10;
+/** So many are seen of a recording that goes on. */
+const USUAL = 20000;
 /** An edge that is so near to a click, in pixels, is meant by it. */
 const NEAR = 7;
 
@@ -17,16 +19,25 @@ function within(number, least, most) {
 }
 
 export class WaveWindow {
-  /** @param {number} cycles how many were recorded */
-  constructor(cycles) {
-    this.cycles = cycles;
-    this.from = 0;
-    this.span = Math.max(1, cycles);
+  /**
+   * @param {number} end where the recording ends
+   * @param {number} [begin] where it begins
+   */
+  constructor(end, begin = 0) {
+    this.begin = begin;
+    this.end = end;
+    this.from = begin;
+    this.span = Math.max(1, end - begin);
     /** How many pixels it is wide. */
     this.width = 1;
-    this.cursors = [0, 0];
+    this.cursors = [begin, begin];
     /** The cursor that is moved. */
     this.active = 0;
+  }
+
+  /** How many cycles there are. */
+  get all() {
+    return Math.max(1, this.end - this.begin);
   }
 
   get to() {
@@ -59,19 +70,45 @@ export class WaveWindow {
    */
   zoom(factor, place) {
     const share = (place - this.from) / this.span;
-    this.span = within(this.span / factor, Math.min(CLOSEST, Math.max(1, this.cycles)), Math.max(1, this.cycles));
+    this.span = within(this.span / factor, Math.min(CLOSEST, this.all), this.all);
     this.goTo(place - share * this.span);
   }
 
   /** @param {number} from in cycles */
   goTo(from) {
-    this.from = within(from, 0, Math.max(0, this.cycles - this.span));
+    this.from = within(from, this.begin, Math.max(this.begin, this.end - this.span));
+  }
+
+  /**
+   * The recording has become longer, or has forgotten its beginning: what is seen, and a cursor, go along with its end where that is where
+   * they stood. All is seen as long as it is short.
+   * @param {number} begin
+   * @param {number} end
+   */
+  stretch(begin, end) {
+    const wasAtEnd = this.to >= this.end;
+    const isShort = this.span >= this.all && this.all < USUAL;
+    this.cursors = this.cursors.map((cursor) => (cursor === this.end ? end : within(cursor, begin, end)));
+    this.begin = begin;
+    this.end = end;
+    this.span = isShort ? Math.min(USUAL, this.all) : Math.min(this.span, this.all);
+    this.goTo(wasAtEnd ? end - this.span : this.from);
+  }
+
+  /**
+   * What is around a moment is seen, and cursor A stands there.
+   * @param {number} moment
+   */
+  showAround(moment) {
+    this.cursors[0] = within(moment, this.begin, this.end);
+    this.span = Math.min(USUAL, this.all);
+    this.goTo(moment - this.span / 2);
   }
 
   /** All is seen. */
   showAll() {
-    this.span = Math.max(1, this.cycles);
-    this.from = 0;
+    this.span = this.all;
+    this.from = this.begin;
   }
 
   /**
@@ -79,7 +116,7 @@ export class WaveWindow {
    * @param {number} moment
    */
   move(moment) {
-    const to = within(Math.round(moment), 0, this.cycles);
+    const to = within(Math.round(moment), this.begin, this.end);
     this.cursors[this.active] = to;
     if (to < this.from || to > this.to) this.goTo(to - this.span / 2);
   }
@@ -91,7 +128,7 @@ export class WaveWindow {
    * @param {number} line -1 for none
    */
   momentAt(x, waves, line) {
-    const place = within(Math.floor(this.cyclesAt(x)), 0, this.cycles);
+    const place = within(Math.floor(this.cyclesAt(x)), this.begin, this.end);
     if (line < 0) return place;
     const edges = [waves.changeBefore(line, place + 1), waves.changeAfter(line, place)];
     const near = edges.filter((edge) => edge !== undefined && Math.abs(this.xOf(edge) - x) <= NEAR);

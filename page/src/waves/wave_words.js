@@ -3,13 +3,26 @@
 /**
  * @typedef {import("./waves.js").Instruction} Instruction
  * @typedef {import("./waves.js").Waves} Waves
+ * @typedef {"hex" | "decimal" | "binary"} Base
  */
 
 /** The most cycles of a recording. */
 export const MOST_CYCLES = 10000000;
 
+/**
+ * A value as people read it.
+ * @param {number} value
+ * @param {number} width how many bits it has
+ * @param {Base} base
+ */
+export function valueText(value, width, base) {
+  if (width === 1 || base === "decimal") return String(value);
+  if (base === "binary") return value.toString(2).padStart(width, "0");
+  return value.toString(16).toUpperCase().padStart(Math.ceil(width / 4), "0");
+}
+
 /** @param {number} number */
-function grouped(number) {
+export function grouped(number) {
   return String(number).replace(/\B(?=(\d{3})+$)/g, ",");
 }
 
@@ -65,15 +78,15 @@ export function spokenText(moment, waves, line) {
 }
 
 /**
- * @param {Waves} waves
+ * @param {Pick<Waves, "span" | "isStuck">} waves
  * @param {number} wanted cycles
  * @param {boolean} isBefore whether they are those before a moment
  */
-export function recordedText({ cycles, recorded }, wanted, isBefore) {
-  if (cycles === 0 && isBefore) return "Nothing was recorded: since the session was opened or wired, no cycle was done before this moment.";
-  const told = `${cyclesText(cycles)} recorded, ${microseconds(cycles)} microseconds.`;
-  if (recorded.isStuck) return `${told} Then comes a code that is no instruction.`;
-  return cycles < wanted ? `${told} The past reaches no further back.` : told;
+export function recordedText({ span, isStuck }, wanted, isBefore) {
+  if (span === 0 && isBefore) return "Nothing was recorded: since the session was opened or wired, no cycle was done before this moment.";
+  const told = `${cyclesText(span)} recorded, ${microseconds(span)} microseconds.`;
+  if (isStuck) return `${told} Then comes a code that is no instruction.`;
+  return span < wanted ? `${told} The past reaches no further back.` : told;
 }
 
 /**

@@ -1,19 +1,24 @@
 // What the page can ask of the worker. Each call is done whole, or it throws and has changed nothing.
 
 import { CycleCount } from "./accepted.js";
-import { refusalOf } from "../bench/answers.js";
+import { readBoard, refusalOf } from "../bench/answers.js";
+import { Face } from "../board/face.js";
+import { Debugger, nearOf } from "../debug/debugger.js";
+import { Exploring, readExplored, readToExplore } from "../explore/exploring.js";
+import { SourceMap } from "../machine/source_map.js";
 import { WorkerSession } from "./worker_session.js";
 import { findBoardFault } from "../bench/board_fault.js";
 import { Engine } from "./engine.js";
 import { linesOfExample } from "./examples.js";
 import { FullSpeed } from "./full_speed.js";
-import { aimBack } from "./going_back.js";
-import { runLines } from "./key_queue.js";
 import { differenceOf, leftoversOf, readProgram } from "./program_check.js";
-import { MOST_CYCLES, seek } from "./seek.js";
 import { sourceOfRom, textsOfFile } from "./sources.js";
+import { sentText } from "../text/text_fault.js";
+import { readTested, runTests } from "../testing/testing.js";
 import { tryTexts } from "./trying.js";
 import { recordedProgram } from "../waves/wave_program.js";
+import { LiveRecorder } from "./live_recorder.js";
+import { readTrigger } from "../waves/trigger.js";
 import { recordAfter, recordBefore } from "./wave_recorder.js";
 
 /**
@@ -22,13 +27,20 @@ import { recordAfter, recordBefore } from "./wave_recorder.js";
  * @typedef {import("./program_check.js").Program} Program
  * @typedef {import("../bench/protocol.js").Frame} Frame
  * @typedef {import("../bench/protocol.js").ReachedLines} ReachedLines
- * @typedef {import("./going_back.js").Aim} Aim
+ * @typedef {import("../bench/protocol.js").BrokenLines} BrokenLines
+ * @typedef {import("../debug/soft_breakpoints.js").Placed} Placed
+ * @typedef {import("../debug/debugger.js").DebugFrame} DebugFrame
+ * @typedef {import("../debug/usual_faults.js").Kind} Kind
+ * @typedef {import("../debug/debugger.js").WentBack} WentBack
  * @typedef {import("./going_back.js").BackGoal} BackGoal
+ * @typedef {import("./live_recorder.js").LiveWanted} LiveWanted
+ * @typedef {import("./wave_recorder.js").Recorded} Recorded
  * @typedef {import("../bench/protocol.js").Gone} Gone
- * @typedef {import("./seek.js").Goal} Goal
+ * @typedef {import("../debug/goals.js").Goal} Goal
  * @typedef {import("../bench/protocol.js").ServedLines} ServedLines
  * @typedef {import("../bench/protocol.js").Shown} Shown
- * @typedef {import("./timeline.js").Present} Present
+ * @typedef {{ board: string, program: string, values?: string[] }} WaveTexts the texts that have the names of a recording's lines, and
+ *   what is recorded beside the lines of the board, by its names
  * @typedef {(done: number, total: number) => Promise<boolean>} GoesOn is told how far long work is, and says whether to go on
  */
 
@@ -41,12 +53,16 @@ export class BenchCalls {
     this.fullSpeed = new FullSpeed();
     /** @type {Engine | null} */
     this.loaded = null;
-    /** @type {WorkerSession | null} */
+    /** @type {Debugger | null} of the session that is open */
     this.opened = null;
     /** @type {Example[]} */
     this.examples = [];
+    /** @type {Kind[]} */
+    this.stopKinds = [];
     /** @type {Program | null} the program that was checked last */
     this.program = null;
+    /** @type {Exploring | null} what is looked for */
+    this.exploring = null;
   }
 
   get engine() {
@@ -54,9 +70,13 @@ export class BenchCalls {
     return this.loaded;
   }
 
-  get session() {
+  get debugger() {
     if (!this.opened) throw new Error("no session is open");
     return this.opened;
+  }
+
+  get session() {
+    return this.debugger.session;
   }
 
   /**
@@ -70,7 +90,17 @@ export class BenchCalls {
     const buffer = this.spare.pop() || new ArrayBuffer(file.length);
     new Uint8Array(buffer).set(file);
     const board = tellsBoard ? lookQuestions.board : null;
-    return { look, file: buffer, board, total: count.total, reset: count.reset, future: timeline.future.length };
+    const waves = this.recordedPart();
+    return { look, file: buffer, board, total: count.total, reset: count.reset, future: timeline.future.length, waves };
+  }
+
+  /** What was recorded since it was told last; null where nothing is recorded. */
+  recordedPart() {
+    const { session } = this;
+    const { recorder, file } = session;
+    if (!recorder) return null;
+    if (!recorder.isOn) session.recorder = null;
+    return recorder.part(file);
   }
 
   // --- the module, and files that are not the session's ---
@@ -135,6 +165,52 @@ export class BenchCalls {
     });
   }
 
+  /**
+   * What is wrong with a text of tests, or with the texts that it is for.
+   * @param {import("../testing/testing.js").TestedTexts} texts
+   */
+  testFaults(texts) {
+    return readTested(this.engine, texts).faults;
+  }
+
+  /**
+   * Runs tests on sessions of their own.
+   * @param {import("../testing/testing.js").TestedTexts} texts
+   */
+  runTests(texts) {
+    return runTests(this.engine, texts, (done, total) => this.goesOn(done, total));
+  }
+
+  /**
+   * What is wrong with a text of properties, or with the texts that it is for.
+   * @param {import("../explore/exploring.js").ExploredTexts} texts
+   */
+  propertyFaults(texts) {
+    return readExplored(this.engine, texts).faults;
+  }
+
+  /**
+   * Begins to look for what breaks properties; gives what is wrong with the texts.
+   * @param {import("../explore/exploring.js").ExploredTexts} texts
+   * @param {import("../explore/exploring.js").Asked} asked
+   */
+  async explore(texts, asked) {
+    const { readable, faults } = await readToExplore(this.engine, texts);
+    this.exploring = readable && new Exploring(this.engine, texts, readable, asked, async () => {
+      await this.goesOn(0, 1);
+    });
+    return faults;
+  }
+
+  /**
+   * Looks for so many milliseconds, or until something is found.
+   * @param {number} milliseconds
+   */
+  exploreOn(milliseconds) {
+    if (!this.exploring) throw new Error("nothing is looked for");
+    return this.exploring.goOn(milliseconds);
+  }
+
   // --- the session ---
 
   /**
@@ -146,7 +222,8 @@ export class BenchCalls {
   open(file, total = 0, reset = 0) {
     const session = new WorkerSession(this.engine, file, new CycleCount(total, reset));
     const look = session.look();
-    this.opened = session;
+    this.opened = new Debugger(session);
+    this.opened.usual.stops = new Set(this.stopKinds);
     this.fullSpeed.stop();
     return this.shown(look, true);
   }
@@ -157,22 +234,54 @@ export class BenchCalls {
    * @returns {Promise<ServedLines>}
    */
   async serve(lines) {
+    const { reset } = this.session.count;
     const { look, ...told } = await this.session.serve(lines, (done) => this.goesOn(done, lines.length));
+    this.debugger.usual.forget();
+    // After a reset no subroutine returns.
+    if (this.session.count.reset !== reset) this.debugger.begin();
     return { ...told, ...this.shown(look, told.wires) };
   }
 
   /**
-   * Lets time pass until a goal is reached, or something stops it before; where neither comes soon enough, nothing is done.
+   * The breakpoints from here on: those that always stop are the bench's own, and are served to it.
+   * @param {Placed[]} placed
+   * @param {{ board: string, program: string }} texts those that have the names
+   * @returns {Promise<BrokenLines>}
+   */
+  async setBreakpoints(placed, texts) {
+    const { session } = this;
+    const { map } = this.checkProgram(texts.program);
+    const names = { face: new Face(texts.board), board: readBoard(session.lookQuestions.board), map: new SourceMap(map, texts.program) };
+    const { lines, faults } = this.debugger.setBreakpoints(placed, names);
+    return { ...(lines ? await this.serve(lines) : this.nothingServed()), faults };
+  }
+
+  /**
+   * Where there are no lines to serve.
+   * @returns {ServedLines}
+   */
+  nothingServed() {
+    return { entries: [], first: "", status: 0, touchesRom: false, wires: false, ...this.shown(this.session.look(), false) };
+  }
+
+  /**
+   * Goes on to a goal, or to what stops time before. Where neither comes soon, nothing is done; the time that runs goes on to it.
    * @param {Goal} goal
    * @param {number} [most] so many cycles are tried
    * @returns {Promise<ReachedLines>}
    */
-  async goOn(goal, most = MOST_CYCLES) {
-    const { session } = this;
-    const found = await seek(this.engine, session.file, goal, (done) => this.goesOn(done, most), most);
-    const lines = found.end === "bound" || found.end === "lacks" ? "" : runLines(Math.max(1, found.cycles));
-    const { look, ...told } = await session.serve(lines, async () => true);
-    return { ...told, ...this.shown(look, false), found };
+  async goOn(goal, most = nearOf(goal)) {
+    const { found, told, tally } = await this.debugger.goOn(goal, most, (done) => this.goesOn(done, most));
+    if (!told) return { ...this.nothingServed(), found, tally };
+    const { look, ...served } = told;
+    return { ...served, ...this.shown(look, false), found, tally };
+  }
+
+  /**
+   * Time begins to run, or to stand: there is no goal any more.
+   */
+  drop() {
+    this.debugger.begin();
   }
 
   /**
@@ -181,15 +290,19 @@ export class BenchCalls {
    * @returns {Promise<Gone>}
    */
   async goBack(goal) {
-    const { engine, session } = this;
-    const all = session.timeline.cycles;
+    const all = this.session.timeline.cycles;
     let done = 0;
-    const goesOn = (more = 0) => this.goesOn(done += more, all);
-    const { moment, ...told } = await aimBack(engine, session, goal, goesOn);
-    if (!moment) return this.gone("back", told, null);
-    const present = await session.timeline.at(engine, moment, goesOn);
-    session.timeline.goBack(moment, session);
-    return this.gone("back", told, present);
+    return this.gone("back", await this.debugger.goBack(goal, (more = 0) => this.goesOn(done += more, all)));
+  }
+
+  /**
+   * When a place changed last.
+   * @param {string} place
+   */
+  async lastChange(place) {
+    const all = this.session.timeline.cycles;
+    let done = 0;
+    return this.debugger.lastChange(place, (more = 0) => this.goesOn(done += more, all));
   }
 
   /**
@@ -197,25 +310,20 @@ export class BenchCalls {
    * @returns {Gone}
    */
   goForward() {
-    return this.gone("forward", { why: "", from: "", to: "", line: "" }, this.session.timeline.goForward());
+    return this.gone("forward", this.debugger.goForward());
   }
 
   /**
    * The session is what it was, or will be, at another moment.
    * @param {string} word what the log calls it
-   * @param {Omit<Aim, "moment">} told
-   * @param {Present | null} present null where nothing was done
+   * @param {WentBack} went
    * @returns {Gone}
    */
-  gone(word, told, present) {
+  gone(word, went) {
     const { session } = this;
-    const before = session.count.total;
-    const wires = present !== null && session.become(present);
-    const isDone = present !== null;
+    const { isDone, wires } = went;
     const entries = isDone ? [{ line: `(${word})`, textLines: 0, answers: [this.engine.ask(session.file, "").opened] }] : [];
-    const cycles = Math.abs(session.count.total - before);
-    const served = { entries, first: "", status: 0, touchesRom: isDone, wires };
-    return { ...served, ...told, isDone, cycles, ...this.shown(session.look(), wires) };
+    return { entries, first: "", status: 0, touchesRom: isDone, ...went, ...this.shown(session.look(), wires) };
   }
 
   /**
@@ -228,14 +336,26 @@ export class BenchCalls {
 
   /**
    * Where a program's lines and names are, and whether it is what stands in ROM.
-   * @param {string} text
+   * @param {string} text as it is sent
    * @returns {Checked}
    */
   checkProgram(text) {
     if (!this.program || this.program.text !== text) this.program = readProgram(this.engine, text);
     const { map, refusal } = this.program;
     const { file, lookQuestions } = this.session;
-    return { map, refusal, difference: differenceOf(this.engine, file, lookQuestions.board, this.program) };
+    const difference = differenceOf(this.engine, file, lookQuestions.board, this.program);
+    const isInRom = refusal === null && difference === null && map.length > 0;
+    this.debugger.usual.map = isInRom ? new SourceMap(map, text) : null;
+    return { map, refusal, difference };
+  }
+
+  /**
+   * At which faults that everyone makes once time stops.
+   * @param {Kind[]} kinds
+   */
+  stopAtFaults(kinds) {
+    this.stopKinds = kinds;
+    if (this.opened) this.opened.usual.stops = new Set(kinds);
   }
 
   /**
@@ -256,15 +376,57 @@ export class BenchCalls {
    * The lines of the board over so many cycles, from here on or up to here; the session is as it was.
    * @param {number} cycles
    * @param {boolean} isBefore
-   * @param {{ board: string, program: string }} texts those that have the names
+   * @param {WaveTexts} texts
    */
   record(cycles, isBefore, texts) {
     const { engine, session } = this;
-    const known = { board: texts.board, program: recordedProgram(this.checkProgram(texts.program), texts.program) };
+    const known = this.knownOf(texts);
     /** @type {(done: number) => Promise<boolean>} */
     const goesOn = (done) => this.goesOn(done, cycles);
     if (isBefore) return recordBefore(engine, session.timeline, cycles, known, goesOn);
     return recordAfter(engine, session.file, cycles, known, goesOn);
+  }
+
+  /**
+   * Records from here on whatever is done, until it is ended; `part` of what is shown has it. Where the trigger cannot be read, nothing is
+   * recorded, and words tell why.
+   * @param {WaveTexts} texts
+   * @param {{ trigger: string } & LiveWanted} wanted
+   * @returns {{ recorded: Recorded | null, fault: string }}
+   */
+  recordLive(texts, wanted) {
+    const { engine, session } = this;
+    const recorder = new LiveRecorder(engine, session.file, this.knownOf(texts));
+    const names = this.namesOf(texts);
+    const { trigger, fault } = readTrigger(wanted.trigger, recorder.lines, names);
+    if (fault) return { recorded: null, fault };
+    recorder.waitFor(trigger, wanted);
+    session.recorder = recorder;
+    return { recorded: recorder.recorded(session.file), fault: "" };
+  }
+
+  /** The recording ends; gives the rest of it. */
+  endRecording() {
+    if (this.session.recorder) this.session.recorder.stop("hand");
+    return this.recordedPart();
+  }
+
+  /**
+   * The names that conditions may have.
+   * @param {{ board: string, program: string }} texts
+   */
+  namesOf({ board, program }) {
+    const sent = sentText(program, ";");
+    const { map } = this.checkProgram(sent);
+    return { face: new Face(board), board: readBoard(this.session.lookQuestions.board), map: new SourceMap(map, sent) };
+  }
+
+  /**
+   * What is known of a recording's lines.
+   * @param {WaveTexts} texts
+   */
+  knownOf({ board, program, values = [] }) {
+    return { board, program: recordedProgram(this.checkProgram(sentText(program, ";")), program), values };
   }
 
   // --- time and keys ---
@@ -277,7 +439,7 @@ export class BenchCalls {
    */
   advance(cycles, key = "") {
     if (key !== "") this.press(key);
-    const { look, ...told } = this.session.advance(cycles);
+    const { look, ...told } = this.debugger.advance(cycles);
     return { ...told, ...this.shown(look, false) };
   }
 
@@ -329,8 +491,7 @@ export class BenchCalls {
    * @returns {Frame}
    */
   untold() {
-    const look = this.session.look();
-    return { ...this.fullSpeed.take(), ...this.shown(look, false) };
+    return { ...this.fullSpeed.take(), ...this.shown(this.session.look(), false) };
   }
 
   /**
@@ -339,7 +500,7 @@ export class BenchCalls {
    * @returns {Frame | null}
    */
   batch() {
-    this.fullSpeed.batch(this.session);
+    this.fullSpeed.batch(this.debugger);
     if (!this.fullSpeed.isToBeTold(this.spare.length > 0)) return null;
     const { look, ...told } = this.fullSpeed.take();
     return { ...told, ...this.shown(look, false) };

@@ -1,9 +1,12 @@
 // The examples: texts for a new session.
 
+import { sentText } from "../text/text_fault.js";
+
 /**
- * `lines` are for the user to send; where there are none, time runs at once. An example that is a project has its text in `project` ("" in
- * any other): its session is the one in there, and stands still.
- * @typedef {{ name: string, title: string, board: string, program: string, lines: string, project: string }} Example
+ * `lines` are for the user to send; where there are none, time runs at once. `tests` and `properties` are those of the program. An
+ * example that is a project has its text in `project` ("" in any other): its session is the one in there, and stands still.
+ * @typedef {{ name: string, title: string, board: string, program: string, tests: string, properties: string, lines: string,
+ *   project: string }} Example
  */
 
 /**
@@ -11,7 +14,7 @@
  * @param {Example} example
  */
 export function linesOfExample({ board, program }) {
-  return (board ? `wire\n${board}.\n` : "") + (program ? `asm\n${program}.\n` : "");
+  return (board ? `wire\n${sentText(board, "#")}.\n` : "") + (program ? `asm\n${sentText(program, ";")}.\n` : "");
 }
 
 /**

@@ -1,10 +1,11 @@
 // Full speed, in the worker: batches of cycles one after the other, and when they are told.
 
 import { Ran } from "../bench/ran.js";
+import { NO_TALLY, bothTallies } from "../debug/debugger.js";
 
 /**
- * @typedef {import("./worker_session.js").WorkerSession} WorkerSession
- * @typedef {import("./worker_session.js").Frame} Frame
+ * @typedef {import("../debug/debugger.js").DebugFrame} DebugFrame
+ * @typedef {{ advance: (cycles: number) => DebugFrame }} Machine
  */
 
 /** A batch takes about so many milliseconds. */
@@ -14,9 +15,13 @@ const LARGEST_BATCH = 8000000;
 /** A page that is hidden is told once in so many milliseconds, for it to keep the session. */
 const HIDDEN_TIME = 1000;
 
-/** Nothing done yet: the cycles, the answer that ended the run early, whether a key was changed, and the answers of the last look. */
+/**
+ * Nothing done yet: the cycles, the answer that ended the run early, why time stopped, what breakpoints did, whether a key was changed, and
+ * the answers of the last look.
+ * @returns {Omit<DebugFrame, "ran">}
+ */
 function nothing() {
-  return { cycles: 0, end: "", changesKeys: false, look: /** @type {string[]} */ ([]) };
+  return { cycles: 0, end: "", stop: null, tally: NO_TALLY, changesKeys: false, look: [] };
 }
 
 export class FullSpeed {
@@ -40,15 +45,18 @@ export class FullSpeed {
     this.isOn = false;
   }
 
-  /** @param {WorkerSession} session */
-  batch(session) {
+  /** @param {Machine} machine */
+  batch(machine) {
     const begun = performance.now();
-    const frame = session.advance(this.size);
+    const frame = machine.advance(this.size);
     const time = performance.now() - begun;
     this.ran.add(frame.ran);
-    const { cycles, changesKeys } = this.since;
-    this.since = { cycles: cycles + frame.cycles, end: frame.end, changesKeys: changesKeys || frame.changesKeys, look: frame.look };
-    if (frame.end) this.isOn = false;
+    const { cycles, changesKeys, tally } = this.since;
+    const { end, stop, look } = frame;
+    this.since = {
+      cycles: cycles + frame.cycles, end, stop, look, tally: bothTallies(tally, frame.tally), changesKeys: changesKeys || frame.changesKeys,
+    };
+    if (stop) this.isOn = false;
     const wanted = this.size * Math.min(2, Math.max(0.5, BATCH_TIME / Math.max(1, time)));
     this.size = Math.round(Math.min(LARGEST_BATCH, Math.max(FIRST_BATCH, wanted)));
   }
@@ -61,7 +69,7 @@ export class FullSpeed {
 
   /**
    * What was done since this was told last.
-   * @returns {Frame}
+   * @returns {DebugFrame}
    */
   take() {
     this.told = performance.now();

@@ -17,7 +17,8 @@ import { cyclesOf, piecesOf, unitsBetween } from "./units.js";
  *
  * The moment, or null and why there is none: the past does not reach so far, or the board lacks the place. Of a change, what it was from
  * and to, and the command that made it, "" where an instruction did.
- * @typedef {{ moment: Moment | null, why: "" | "short" | "lacks", from: string, to: string, line: string }} Aim
+ * @typedef {{ moment: Moment | null, why: "" | "short" | "lacks", from: string, to: string, line: string,
+ *   present: import("./timeline.js").Present | null }} Aim `present` is what the session was then, where that is known
  */
 
 /** The cycles before the present that are looked through first; each further stretch is twice as long. */
@@ -32,7 +33,7 @@ const PIECE_UNITS = 500;
  * @returns {Aim}
  */
 function aim(some) {
-  return { moment: null, why: "", from: "", to: "", line: "", ...some };
+  return { moment: null, why: "", from: "", to: "", line: "", present: null, ...some };
 }
 
 /**
@@ -44,11 +45,11 @@ function aim(some) {
 async function lastInstruction(engine, timeline, goesOn) {
   for (const back of [1, 2]) {
     const moment = timeline.before(back);
-    if (!moment) return null;
-    const { file } = await timeline.at(engine, moment, goesOn);
-    if (readCounter(engine.ask(file, "regs\n").answers[0]).owed === "0") return moment;
+    if (!moment) break;
+    const present = await timeline.at(engine, moment, goesOn);
+    if (readCounter(engine.ask(present.file, "regs\n").answers[0]).owed === "0") return aim({ moment, present });
   }
-  return null;
+  return aim({ why: "short" });
 }
 
 /**
@@ -128,6 +129,7 @@ export async function aimBack(engine, { timeline, file }, goal, goesOn) {
     const probes = place ? place.probesOn(readBoard(engine.ask(file, "board\n").answers)) : [];
     return place && probes.length > 0 ? lastChange(engine, timeline, probes, place, goesOn) : aim({ why: "lacks" });
   }
-  const moment = goal.kind === "stop" ? timeline.lastStop() : await lastInstruction(engine, timeline, goesOn);
+  if (goal.kind === "instruction") return lastInstruction(engine, timeline, goesOn);
+  const moment = timeline.lastStop();
   return aim({ moment, why: moment ? "" : "short" });
 }

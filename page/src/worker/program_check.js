@@ -1,9 +1,11 @@
 // Whether a program's text is what stands in ROM: the text is assembled on a session of its own, which has all ROMs, and the bytes are
 // compared.
 
-import { readBoard, readListing, refusalOf } from "../bench/answers.js";
+import { readBoard, refusalOf } from "../bench/answers.js";
 import { matchAnswers, readInputs } from "../bench/inputs.js";
-import { hex, upTo } from "../bench/numbers.js";
+import { upTo } from "../bench/numbers.js";
+import { ADDRESSES, NONE, PAGES, PAGE_BYTES, bytesOf, listsOf } from "../bench/rom_bytes.js";
+import { LONGEST_TEXT } from "../text/text_fault.js";
 
 /**
  * @typedef {import("../bench/answers.js").Refusal} Refusal
@@ -17,31 +19,9 @@ import { hex, upTo } from "../bench/numbers.js";
  * @typedef {{ map: string[], refusal: Refusal | null, difference: Difference | null }} Checked
  */
 
-const ADDRESSES = 4096;
-const PAGE_BYTES = 256;
-const PAGES = upTo(ADDRESSES / PAGE_BYTES);
-const NONE = -1;
-const LONGEST_TEXT = 16384;
 const TEXT_TOO_LONG = 13;
-const ALL_ROMS = `wire\n${PAGES.map((chip) => `[[rom]]\nchip = ${chip}\nport = "0000"\n`).join("")}.\n`;
-
-/** @param {number[]} pages */
-function listsOf(pages) {
-  return pages.map((page) => `list 0x${hex(page * PAGE_BYTES, 3)} ${PAGE_BYTES}\n`).join("");
-}
-
-/**
- * The bytes that lists tell.
- * @param {string[]} answers
- */
-function bytesOf(answers) {
-  const bytes = new Int16Array(ADDRESSES).fill(NONE);
-  for (const { address, line } of readListing(answers)) {
-    bytes[address] = parseInt(line.slice(4, 6), 16);
-    if (line[7] !== " ") bytes[address + 1] = parseInt(line.slice(7, 9), 16);
-  }
-  return bytes;
-}
+/** Lines that wire a board of all ROMs. */
+export const ALL_ROMS = `wire\n${PAGES.map((chip) => `[[rom]]\nchip = ${chip}\nport = "0000"\n`).join("")}.\n`;
 
 /**
  * Why a text cannot even be asked about: it is too long for the bench, or a line that is a dot alone would end it. That has no number.

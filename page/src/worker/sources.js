@@ -8,12 +8,14 @@ import { LAST_ADDRESS, hex, upTo } from "../bench/numbers.js";
 
 /**
  * @typedef {import("./examples.js").Example} Example
- * @typedef {{ boardText: string, programText: string }} Texts
+ * @typedef {{ boardText: string, programText: string, testText: string, propertiesText: string }} Texts
  * @typedef {import("./engine.js").Engine} Engine
  */
 
 /** How many lines one `list` gives at most. */
 const LONGEST_LISTING = 256;
+/** No tests and no properties. */
+const NONE_BESIDE = { testText: "", propertiesText: "" };
 const ALL_ROM = upTo(16).map((page) => `list ${page * 256} ${LONGEST_LISTING}\n`).join("");
 
 /**
@@ -30,10 +32,19 @@ export function textsOfFile(engine, file, examples) {
     engine.serve(engine.begin(like), linesOfExample(example), like);
     if (engine.ask(like, "board\n").answers.join("\n") !== board) continue;
     const isSame = engine.ask(like, ALL_ROM).answers.join("\n") === rom;
-    return { boardText: example.board, programText: isSame ? example.program : sourceOfRom(engine, file) };
+    if (isSame) return textsOfExample(example);
+    return { boardText: example.board, programText: sourceOfRom(engine, file), ...NONE_BESIDE };
   }
   const lines = board.split("\n").slice(1);
-  return { boardText: lines.map((line) => `${line}\n`).join(""), programText: sourceOfRom(engine, file) };
+  return { boardText: lines.map((line) => `${line}\n`).join(""), programText: sourceOfRom(engine, file), ...NONE_BESIDE };
+}
+
+/**
+ * @param {Example} example
+ * @returns {Texts}
+ */
+function textsOfExample({ board, program, tests = "", properties = "" }) {
+  return { boardText: board, programText: program, testText: tests, propertiesText: properties };
 }
 
 /** @param {string} line of a listing */

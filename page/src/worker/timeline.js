@@ -8,8 +8,11 @@ import { Cancelled } from "../bench/faults.js";
  * @typedef {import("./accepted.js").CycleCount} CycleCount
  * @typedef {import("./engine.js").Engine} Engine
  * @typedef {{ line: string, cycles: number, resets: boolean, isStop: boolean }} Entry a command; `isStop`: time stood still before it
- * @typedef {{ file: Uint8Array, count: CycleCount, entries: Entry[], cycles: number, letters: number, follows: boolean }} Segment a file,
- *   the cycles that were counted up to it, and what came after it; `follows`: it is where the segment before it ends
+ * @typedef {{ file: Uint8Array, count: CycleCount, entries: Entry[], cycles: number, letters: number, follows: boolean,
+ *   marks: Mark[] }} Segment a file, the cycles that were counted up to it, and what came after it; `follows`: it is where the segment
+ *   before it ends
+ * @typedef {{ entry: number, file: Uint8Array, count: CycleCount, cycles: number }} Mark what the session was after so many entries of a
+ *   segment, and so many cycles of it
  * @typedef {{ segment: number, entry: number, cycles: number }} Moment after so many entries of a segment, and so many cycles of the next
  * @typedef {{ file: Uint8Array, count: CycleCount }} Present
  * @typedef {(done?: number) => Promise<boolean>} GoesOn is told how many cycles were looked through, and says whether to go on
@@ -21,6 +24,8 @@ export const SEGMENT_ENTRIES = 4000;
 const SEGMENT_LETTERS = 200000;
 /** Each has a file of 164 KB. */
 const MOST_SEGMENTS = 48;
+/** The last two segments have a mark after each so many cycles, so that a step back does no more than that again. */
+const MARK_CYCLES = 250000;
 /** So many times forward is possible after going back. */
 export const MOST_FORWARD = 64;
 /** A command whose text is longer is not done again: another segment begins after it. */
@@ -72,11 +77,23 @@ export class Timeline {
         this.isStopped = false;
       }
     }
+    this.mark(present);
     const isFull = last.cycles >= SEGMENT_CYCLES || last.entries.length >= SEGMENT_ENTRIES || last.letters >= SEGMENT_LETTERS;
     if (isTooLong || isFull) {
       this.segments.push(segmentAt(present, !isTooLong));
+      if (this.segments.length > 2) this.segments[this.segments.length - 3].marks = [];
       if (this.segments.length > MOST_SEGMENTS) this.thin();
     }
+  }
+
+  /**
+   * Keeps what the session is, where the last mark is far away.
+   * @param {Present} present
+   */
+  mark({ file, count }) {
+    const { entries, cycles, marks } = this.last;
+    const before = marks.length > 0 ? marks[marks.length - 1].cycles : 0;
+    if (cycles - before >= MARK_CYCLES) marks.push({ entry: entries.length, file: file.slice(), count: count.copy(), cycles });
   }
 
   /** Forgets the oldest segment that holds no stop, else the oldest. */
@@ -138,9 +155,10 @@ export class Timeline {
    * @returns {Promise<Present>}
    */
   async at(engine, moment, goesOn) {
-    const { file, count, entries } = this.segments[moment.segment];
-    const done = [...entries.slice(0, moment.entry), ...partOf(entries[moment.entry], moment.cycles)];
-    const found = { file: file.slice(), count: count.copy() };
+    const { file, count, entries, marks } = this.segments[moment.segment];
+    const mark = [...marks].reverse().find(({ entry }) => entry <= moment.entry) || { entry: 0, file, count };
+    const done = [...entries.slice(mark.entry, moment.entry), ...partOf(entries[moment.entry], moment.cycles)];
+    const found = { file: mark.file.slice(), count: mark.count.copy() };
     for (let from = 0; from < done.length;) {
       if (from > 0 && !(await goesOn())) throw new Cancelled();
       const piece = pieceOf(done, from);
@@ -163,7 +181,8 @@ export class Timeline {
     const whole = segments[moment.segment];
     const entries = [...whole.entries.slice(0, moment.entry), ...partOf(whole.entries[moment.entry], moment.cycles)];
     const cycles = entries.reduce((sum, entry) => sum + entry.cycles, 0);
-    this.segments = [...segments.slice(0, moment.segment), { ...whole, entries, cycles }];
+    const marks = whole.marks.filter(({ entry }) => entry <= moment.entry);
+    this.segments = [...segments.slice(0, moment.segment), { ...whole, entries, cycles, marks }];
     this.isStopped = true;
   }
 
@@ -201,7 +220,7 @@ function pieceOf(entries, from) {
  * @returns {Segment}
  */
 function segmentAt({ file, count }, follows) {
-  return { file: file.slice(), count: count.copy(), entries: [], cycles: 0, letters: 0, follows };
+  return { file: file.slice(), count: count.copy(), entries: [], cycles: 0, letters: 0, follows, marks: [] };
 }
 
 /**

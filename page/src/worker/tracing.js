@@ -43,6 +43,11 @@ export class Answers {
     return this.answers[this.at - 1];
   }
 
+  /** @param {number} count so many that nobody looks at */
+  skip(count) {
+    this.at += count;
+  }
+
   /** @returns {Trace} */
   takeTrace() {
     const answer = this.take();

@@ -18,15 +18,16 @@ export function tryTexts(engine, { boardText, programText }) {
   const file = engine.begin();
   /** @type {Refused[]} */
   const refused = [];
-  /** @type {(word: "wire" | "asm", sent: string) => void} */
-  const tryOne = (word, sent) => {
-    if (sent === "") return;
+  /** @type {(word: "wire" | "asm", text: string, mark: "#" | ";") => void} */
+  const tryOne = (word, text, mark) => {
+    if (text === "") return;
     // A line in it that ends a text would make lines of what follows.
-    const [fault] = faultsOfLines(sent);
-    const answer = fault ? `line ${fault.line}: ${fault.words}` : engine.serve(file, `${word}\n${sent}.\n`, file).answers[0];
+    const [fault] = faultsOfLines(text, mark);
+    const lines = `${word}\n${sentText(text, mark)}.\n`;
+    const answer = fault ? `line ${fault.line}: ${fault.words}` : engine.serve(file, lines, file).answers[0];
     if (!/^ok /.test(answer)) refused.push({ word, answer });
   };
-  tryOne("wire", sentText(boardText, "#"));
-  tryOne("asm", sentText(programText, ";"));
+  tryOne("wire", boardText, "#");
+  tryOne("asm", programText, ";");
   return { file, board: engine.ask(file, "board\n").answers, refused };
 }

@@ -21,22 +21,19 @@ import { WaveTaking } from "./wave_taking.js";
  * The program in ROM: its text, the line of each address (0 for none), and its labels by rising address.
  * @typedef {{ text: string, lines: Uint16Array, labels: { address: number, name: string }[] }} RecordedProgram
  *
- * What was recorded, as a message carries it. A moment is a number of cycles from the beginning on; what stands at a moment is what
- * was there after so many cycles.
- * @typedef {object} Recorded
- * @property {number} cycles how many were recorded
- * @property {boolean} isStuck whether a code that is no instruction came before the end
- * @property {WaveLine[]} lines
- * @property {Uint8Array} firsts what each line was at the beginning, 0 or 1
- * @property {Uint32Array[]} changes the moments at which each line has changed
- * @property {Uint32Array} moments the beginning of each instruction, and the end
- * @property {Uint16Array} counters the counter at each of these
- * @property {boolean} isOwed whether the first of them is the second cycle of an instruction
- * @property {[number, string][]} listing the lines of the listing at the counters
- * @property {RecordedProgram | null} program null where the text is not the program in ROM
+ * What was recorded, as a message carries it, or what came after it. A moment is a number of cycles from the beginning on; what stands at
+ * a moment is what was there after so many cycles. `from`: the moment where it begins; `cycles`: that where it ends; `isStuck`: whether a
+ * code that is no instruction comes next; `tracks`: what each line was over time; `moments`: the beginning of each instruction, and the
+ * end; `counters`: the counter at each of these; `isOwed`: whether the first of them is the second cycle of an instruction; `listing`: the
+ * lines of the listing at the counters that are new.
+ * @typedef {import("./wave_taking.js").Taken & { listing: [number, string][] }} RecordedPart
  *
- * What belongs to a recording: a board's text, which has names, and the program in ROM.
- * @typedef {{ board: string, program: RecordedProgram | null }} Texts
+ * The whole, with its lines; `program` is null where the text is not the program in ROM.
+ * @typedef {RecordedPart & { lines: WaveLine[], program: RecordedProgram | null }} Recorded
+ *
+ * What belongs to a recording: a board's text, which has names, the program in ROM, and the names of registers and characters that are to
+ * be recorded beside the lines of the board.
+ * @typedef {{ board: string, program: RecordedProgram | null, values: string[] }} Texts
  *
  * Is told how many cycles are done, and says whether to go on.
  * @typedef {(done: number) => Promise<boolean>} GoesOn
@@ -58,7 +55,7 @@ class WaveRecorder {
     this.file = file;
     this.program = texts.program;
     const board = readBoard(engine.ask(file, "board\n").answers);
-    this.taking = new WaveTaking(linesOfBoard(board, texts.board, texts.program !== null));
+    this.taking = new WaveTaking(linesOfBoard(board, texts.board, texts.program !== null, texts.values));
     this.taking.begin(new Answers(engine.ask(file, `state\n${this.taking.questions(1)}`).answers));
   }
 
@@ -82,12 +79,25 @@ class WaveRecorder {
 
   /** @returns {Recorded} */
   recorded() {
-    this.taking.takeState(this.engine.ask(this.file, "state\n").answers[0]);
-    const taken = this.taking.taken();
-    const addresses = [...new Set(taken.counters)];
-    const { answers } = this.engine.ask(this.file, linesOf(addresses.map((address) => `list ${address} 1`)));
-    return { ...taken, listing: addresses.map((address, at) => [address, answers[at]]), program: this.program };
+    const { engine, file, taking, program } = this;
+    taking.takeState(engine.ask(file, "state\n").answers[0]);
+    const taken = taking.take();
+    return { ...taken, lines: taking.lines, listing: listedAt(engine, file, new Set(taken.counters)), program };
   }
+}
+
+/**
+ * The lines of the listing at some addresses.
+ * @param {Engine} engine
+ * @param {Uint8Array} file
+ * @param {Iterable<number>} addresses
+ * @returns {[number, string][]}
+ */
+export function listedAt(engine, file, addresses) {
+  const all = [...addresses];
+  if (all.length === 0) return [];
+  const { answers } = engine.ask(file, linesOf(all.map((address) => `list ${address} 1`)));
+  return all.map((address, at) => [address, answers[at]]);
 }
 
 /**

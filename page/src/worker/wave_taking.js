@@ -1,71 +1,122 @@
 // What is taken of the bench's answers for a recording: the moments at which each line changes, and those at which each instruction begins.
 
-import { readTraced } from "./tracing.js";
+import { Growing } from "../waves/growing.js";
+import { Track, emptyTrack } from "../waves/track.js";
+import { readTraced, valuesOf } from "./tracing.js";
 
 /**
  * @typedef {import("./tracing.js").Answers} Answers
+ * @typedef {import("../waves/track.js").TrackData} TrackData
  * @typedef {import("../waves/wave_lines.js").WaveLine} WaveLine
- * @typedef {{ places: string[], members: number[][], row: string }} Group places that are asked for at once, the lines that are at each
- *   of them, and their levels
+ *
+ * A line that a place tells: its number, and its value by what is told.
+ * @typedef {{ member: number, read: (told: string) => number }} Reader
+ * @typedef {{ place: string, readers: Reader[], from: number, to: number }} Asked a place, and where it stands in each row
+ * @typedef {{ asked: Asked[], row: string }} Group places that are asked for at once, and what was told of them last
+ *
+ * What was taken since this was taken last.
+ * @typedef {{ from: number, cycles: number, isStuck: boolean, isOwed: boolean, tracks: TrackData[], moments: Uint32Array,
+ *   counters: Uint16Array }} Taken
  */
 
 /** So many places one question takes. */
 const MOST_PLACES = 16;
 
-/** Numbers that become more. */
-class Growing {
-  constructor() {
-    this.numbers = new Uint32Array(64);
-    this.count = 0;
-  }
+const BLANK = 32;
+const ZERO = 48;
+const NINE = 57;
 
-  /** @param {number} number */
-  push(number) {
-    if (this.count === this.numbers.length) {
-      const larger = new Uint32Array(this.count * 2);
-      larger.set(this.numbers);
-      this.numbers = larger;
-    }
-    this.numbers[this.count] = number;
-    this.count += 1;
-  }
-
-  /** The last one, -1 for none. */
-  get last() {
-    return this.count > 0 ? this.numbers[this.count - 1] : -1;
-  }
-
-  set last(number) {
-    this.numbers[this.count - 1] = number;
-  }
-
-  pop() {
-    this.count -= 1;
-  }
-
-  taken() {
-    return this.numbers.slice(0, this.count);
-  }
+/**
+ * A hexadecimal digit in upper case.
+ * @param {string} line
+ * @param {number} at
+ */
+function digitAt(line, at) {
+  const letter = line.charCodeAt(at);
+  return letter <= NINE ? letter - ZERO : letter - 55;
 }
 
 /**
- * The places of lines in groups, each place once.
+ * The place of `trace` that tells a line of the board, and how: a port tells a digit whose bit k is line k, a chain its bits.
+ * @param {string} line `rom0.3`, `ram0.1.3`, `chain0.5`
+ */
+function placeOfLevel(line) {
+  const dot = line.lastIndexOf(".");
+  const [place, bit] = [line.slice(0, dot), Number(line.slice(dot + 1))];
+  /** @type {(told: string) => number} */
+  const read = place.startsWith("chain") ? (told) => Number(told[bit]) : (told) => (parseInt(told, 16) >> bit) & 1;
+  return { place, read };
+}
+
+/**
+ * The places of lines, each once, with what they tell.
+ * @param {WaveLine[]} lines
+ * @param {"level" | "value"} wanted
+ */
+function placesOf(lines, wanted) {
+  /** @type {Map<string, Reader[]>} */
+  const places = new Map();
+  lines.forEach((line, member) => {
+    if (line.kind !== wanted) return;
+    for (const { place, read } of wanted === "level" ? [placeOfLevel(line.places[0])] : placesOfValue(line.places)) {
+      places.set(place, [...(places.get(place) || []), { member, read }]);
+    }
+  });
+  return [...places].map(([place, readers]) => ({ place, readers, from: 0, to: 0 }));
+}
+
+/**
+ * The places of a value's digits, and the value by each of them.
+ * @param {string[]} places the highest digit first
+ */
+function placesOfValue(places) {
+  const digits = places.map(() => "0");
+  return places.map((place, at) => ({
+    place,
+    read: (/** @type {string} */ told) => {
+      digits[at] = told;
+      return parseInt(digits.join(""), 16);
+    },
+  }));
+}
+
+/**
+ * Places in groups that are asked for at once: ports apart from values, which change far more often.
  * @param {WaveLine[]} lines
  */
 function groupsOf(lines) {
-  /** @type {Map<string, number[]>} */
-  const places = new Map();
-  lines.forEach(({ kind, place }, member) => {
-    if (kind === "level") places.set(place, [...(places.get(place) || []), member]);
-  });
-  const all = [...places];
   /** @type {Group[]} */
   const groups = [];
-  for (let at = 0; at < all.length; at += MOST_PLACES) {
-    const some = all.slice(at, at + MOST_PLACES);
-    groups.push({ places: some.map(([place]) => place), members: some.map(([, members]) => members), row: "" });
+  for (const all of [placesOf(lines, "level"), placesOf(lines, "value")]) {
+    for (let at = 0; at < all.length; at += MOST_PLACES) groups.push({ asked: all.slice(at, at + MOST_PLACES), row: "" });
   }
   return groups;
+}
+
+/**
+ * Where each place stands in the rows of a group, in which what is told of it always has as many letters.
+ * @param {Group} group
+ * @param {string} row
+ */
+function measure({ asked }, row) {
+  let from = 1;
+  valuesOf(row).forEach((told, at) => {
+    asked[at].from = from;
+    asked[at].to = from + told.length;
+    from += told.length + 1;
+  });
+}
+
+/**
+ * Whether two rows are the same from one letter up to another.
+ * @param {string} one
+ * @param {string} other
+ * @param {number} from
+ * @param {number} to
+ */
+function isSame(one, other, from, to) {
+  for (let at = from; at < to; at++) if (one.charCodeAt(at) !== other.charCodeAt(at)) return false;
+  return true;
 }
 
 /**
@@ -87,12 +138,13 @@ export class WaveTaking {
     /** Whether no instruction is at the counter. */
     this.isStuck = false;
     this.isOwed = false;
+    this.hasBegun = false;
     this.groups = groupsOf(lines);
-    this.firsts = new Uint8Array(lines.length);
-    this.levels = new Uint8Array(lines.length);
-    this.changes = lines.map(() => new Growing());
-    this.moments = new Growing();
-    this.counters = new Growing();
+    this.tracks = lines.map(({ width }) => new Track(emptyTrack(width)));
+    this.moments = new Growing(new Uint32Array(0));
+    this.counters = new Growing(new Uint16Array(0));
+    /** Up to where it was taken. */
+    this.from = 0;
   }
 
   /**
@@ -100,7 +152,7 @@ export class WaveTaking {
    * @param {number} cycles
    */
   questions(cycles) {
-    const groups = this.groups.map(({ places }) => `trace ${cycles} ${places.join(" ")}\n`);
+    const groups = this.groups.map(({ asked }) => `trace ${cycles} ${asked.map(({ place }) => place).join(" ")}\n`);
     return `trace ${cycles}\n${groups.join("")}`;
   }
 
@@ -114,8 +166,7 @@ export class WaveTaking {
     this.takeState(state);
     answers.takeTrace();
     for (const group of this.groups) this.takeRow(group, answers.takeTrace().row, 0);
-    this.firsts = this.levels.slice();
-    for (const each of this.changes) each.count = 0;
+    for (const track of this.tracks) track.take();
   }
 
   /**
@@ -123,10 +174,15 @@ export class WaveTaking {
    * @param {Answers} answers
    */
   takeRun(answers) {
-    for (const line of answers.takeTrace().lines) {
-      const { cycles, address } = readTraced(line);
-      this.takeInstruction(this.elapsed + cycles, address);
-    }
+    this.takeQuestions(answers);
+    const ran = answers.takeRun();
+    if (ran.cycles === 0 && ran.end !== "code") throw new Error(`the bench answered a recording by: ${ran.end}`);
+    this.takeEnd(ran);
+  }
+
+  /** @param {Answers} answers to the questions */
+  takeQuestions(answers) {
+    for (const line of answers.takeTrace().lines) this.takeBegun(line);
     for (const group of this.groups) {
       const trace = answers.takeTrace();
       // A command may have changed it.
@@ -136,8 +192,25 @@ export class WaveTaking {
         this.takeRow(group, row, this.elapsed + cycles + 1);
       }
     }
-    const { cycles, end } = answers.takeRun();
-    if (cycles === 0 && end !== "code") throw new Error(`the bench answered a recording by: ${end}`);
+  }
+
+  /**
+   * An instruction that is begun, `5 00A`. There are a thousand and more of them in a frame: the line is read letter by letter.
+   * @param {string} line
+   */
+  takeBegun(line) {
+    let cycles = 0;
+    let at = 0;
+    for (let letter = line.charCodeAt(0); letter !== BLANK; letter = line.charCodeAt(at)) {
+      cycles = 10 * cycles + letter - ZERO;
+      at += 1;
+    }
+    const address = 256 * digitAt(line, at + 1) + 16 * digitAt(line, at + 2) + digitAt(line, at + 3);
+    this.takeInstruction(this.elapsed + cycles, address);
+  }
+
+  /** @param {import("./tracing.js").Ran} ran */
+  takeEnd({ cycles, end }) {
     this.elapsed += cycles;
     this.isStuck = end === "code";
   }
@@ -149,12 +222,12 @@ export class WaveTaking {
   takeState(state) {
     const keys = `,${fieldOf(state, "keys")},`;
     const test = Number(fieldOf(state, "test"));
-    this.lines.forEach(({ kind, place }, member) => {
-      if (kind === "key") this.set(member, Number(keys.includes(`,${place},`)), this.elapsed);
-      if (kind === "test") this.set(member, test, this.elapsed);
+    this.lines.forEach(({ kind, places }, member) => {
+      if (kind === "key") this.tracks[member].set(Number(keys.includes(`,${places[0]},`)), this.elapsed);
+      if (kind === "test") this.tracks[member].set(test, this.elapsed);
     });
     // Inside an instruction the counter is that of the next one.
-    if (fieldOf(state, "owed") === "0" || this.moments.count === 0) {
+    if (fieldOf(state, "owed") === "0" || !this.hasBegun) {
       this.takeInstruction(this.elapsed, parseInt(fieldOf(state, "pc"), 16));
     }
   }
@@ -164,6 +237,7 @@ export class WaveTaking {
    * @param {number} counter
    */
   takeInstruction(moment, counter) {
+    this.hasBegun = true;
     if (this.moments.last === moment) {
       this.counters.last = counter;
       return;
@@ -174,42 +248,29 @@ export class WaveTaking {
 
   /**
    * @param {Group} group
-   * @param {string} row each level after a blank
+   * @param {string} row what is told of each place after a blank
    * @param {number} moment
    */
   takeRow(group, row, moment) {
     if (row === group.row) return;
-    group.members.forEach((members, at) => {
-      const letter = 2 * at + 1;
-      if (row[letter] === group.row[letter]) return;
-      for (const member of members) this.set(member, Number(row[letter]), moment);
-    });
+    if (group.row === "") measure(group, row);
+    for (const { readers, from, to } of group.asked) {
+      if (isSame(row, group.row, from, to)) continue;
+      const told = row.slice(from, to);
+      for (const { member, read } of readers) this.tracks[member].set(read(told), moment);
+    }
     group.row = row;
   }
 
   /**
-   * @param {number} member
-   * @param {number} level
-   * @param {number} moment
+   * What was taken since this was called last.
+   * @returns {Taken}
    */
-  set(member, level, moment) {
-    if (level === this.levels[member]) return;
-    this.levels[member] = level;
-    // What was changed back at the same moment has not changed.
-    if (this.changes[member].last === moment) this.changes[member].pop();
-    else this.changes[member].push(moment);
-  }
-
-  taken() {
-    return {
-      cycles: this.elapsed,
-      isStuck: this.isStuck,
-      lines: this.lines,
-      firsts: this.firsts,
-      changes: this.changes.map((each) => each.taken()),
-      moments: this.moments.taken(),
-      counters: Uint16Array.from(this.counters.taken()),
-      isOwed: this.isOwed,
-    };
+  take() {
+    const { from, elapsed, isStuck, isOwed } = this;
+    this.from = elapsed;
+    this.isOwed = false;
+    const tracks = this.tracks.map((track) => track.take());
+    return { from, cycles: elapsed, isStuck, isOwed, tracks, moments: this.moments.take(), counters: this.counters.take() };
   }
 }

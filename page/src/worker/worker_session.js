@@ -1,12 +1,14 @@
 // The session in the worker: the bytes of its file, the keys that wait, and the calls on them. A call is done whole or not at all.
 
 import { CycleCount, acceptedOf } from "./accepted.js";
-import { isStop, readBoard, readRun, refusalOf } from "../bench/answers.js";
+import { stepsUpTo } from "../debug/ahead.js";
+import { isStop, readBoard, readMarks, readRun, refusalOf } from "../bench/answers.js";
 import { Cancelled } from "../bench/faults.js";
 import { endOfInputs, linesOf, matchAnswers, readInputs } from "../bench/inputs.js";
 import { KeyQueue } from "./key_queue.js";
 import { lookOf, questionsOf } from "../bench/look.js";
 import { PieceSize } from "./pieces.js";
+import { romCodes } from "./rom_codes.js";
 import { SEGMENT_ENTRIES, Timeline } from "./timeline.js";
 
 /**
@@ -15,6 +17,7 @@ import { SEGMENT_ENTRIES, Timeline } from "./timeline.js";
  * @typedef {import("./engine.js").Served} Served
  * @typedef {import("../bench/inputs.js").Input} Input
  * @typedef {import("./key_queue.js").Step} Step
+ * @typedef {import("./live_recorder.js").LiveRecorder} LiveRecorder
  * @typedef {import("../bench/ran.js").RanEntry} RanEntry
  * @typedef {{ line: string, textLines: number, answers: string[] }} Answered an input, how many lines its text had, and its answers
  * @typedef {{ entries: Answered[], first: string, status: number, touchesRom: boolean, wires: boolean }} Told what came of lines:
@@ -26,6 +29,8 @@ import { SEGMENT_ENTRIES, Timeline } from "./timeline.js";
 
 /** So many of the inputs that were served are told. */
 export const MOST_ENTRIES = 400;
+/** A recording follows lines of so many cycles. */
+const MOST_FOLLOWED = 2000000;
 /** So many characters of lines are served at once. */
 const FIRST_PIECE = 4096;
 const LEAST_PIECE = 256;
@@ -50,6 +55,23 @@ export class WorkerSession {
     this.queue = new KeyQueue();
     this.lookQuestions = lookQuestionsOf(engine, file);
     this.timeline = new Timeline(this);
+    /** @type {Accepted[]} what was changed of breakpoints since going back, for the past to have before what comes next */
+    this.unrecorded = [];
+    /** @type {Uint8Array | null} what stands in ROM, where that was read */
+    this.readCodes = null;
+    /** @type {LiveRecorder | null} records what is done */
+    this.recorder = null;
+  }
+
+  /** What records, where it goes on. */
+  get recording() {
+    return this.recorder && this.recorder.isOn ? this.recorder : null;
+  }
+
+  /** The bytes in ROM. */
+  get codes() {
+    if (!this.readCodes) this.readCodes = romCodes(this.engine, this.file);
+    return this.readCodes;
   }
 
   /**
@@ -74,18 +96,26 @@ export class WorkerSession {
    * @returns {Frame}
    */
   advance(cycles) {
-    const { steps, answers, look } = this.serveSteps(this.queue.plan(cycles));
+    return this.advanceBy(this.queue.plan(cycles));
+  }
+
+  /**
+   * Does steps of the queue's plan, and looks.
+   * @param {Step[]} planned
+   * @returns {Frame}
+   */
+  advanceBy(planned) {
+    const { steps, answers, look } = this.serveSteps(planned);
     this.adopt();
     const runs = answers.map(readRun);
     /** @type {(at: number) => number} */
     const cyclesOf = (at) => (runs[at] || { cycles: 0 }).cycles;
     this.queue.done(steps, cyclesOf);
     const accepted = steps.map(({ line }, at) => ({ line, cycles: cyclesOf(at), resets: false }));
-    this.count.add(accepted);
-    this.timeline.record(accepted.filter((_, at) => refusalOf(answers[at]) === null), this);
+    this.record(accepted.filter((_, at) => refusalOf(answers[at]) === null));
     const ran = steps.map(({ line, change }, at) => (
       { line, answer: answers[at], runs: change ? 0 : 1, cycles: cyclesOf(at) }));
-    const last = answers[answers.length - 1];
+    const last = answers[answers.length - 1] || "";
     if (isStop(last)) this.timeline.stop();
     return {
       ran,
@@ -94,6 +124,17 @@ export class WorkerSession {
       changesKeys: steps.some((step) => step.change !== null),
       look,
     };
+  }
+
+  /**
+   * Takes note of what was done.
+   * @param {Accepted[]} accepted
+   */
+  record(accepted) {
+    this.count.add(accepted);
+    if (accepted.length === 0) return;
+    this.timeline.record([...this.unrecorded, ...accepted], this);
+    this.unrecorded = [];
   }
 
   /**
@@ -107,7 +148,26 @@ export class WorkerSession {
     this.count = count.copy();
     this.lookQuestions = lookQuestions;
     this.queue.clear();
+    this.unrecorded = [];
+    this.readCodes = null;
+    if (this.recorder) this.recorder.stop("back");
     return wires;
+  }
+
+  /** The addresses of the breakpoints that the bench has. */
+  get breaks() {
+    return readMarks(this.ask("breaks\n")[0]).map((address) => parseInt(address, 16));
+  }
+
+  /**
+   * Other breakpoints after going back or forward, which are no part of what was. Forward leads on to where it did: they are a line of
+   * the past only once something else is done.
+   * @param {string} lines of breakpoints
+   */
+  changeBreaks(lines) {
+    const inputs = readInputs(lines);
+    const { answers } = this.engine.serve(this.file, lines, this.file);
+    this.unrecorded = acceptedOf(inputs, answers.map((answer) => [answer]));
   }
 
   /**
@@ -123,13 +183,34 @@ export class WorkerSession {
       done = steps.slice(0, stop + 1);
       served = this.trySteps(done);
     }
+    const { recording } = this;
+    const cut = recording ? recording.take(done, served.traced, served.answers) : -1;
+    if (cut >= 0) {
+      done = stepsUpTo(done, cut);
+      served = this.trySteps(done);
+    }
     const answers = served.answers.slice(0, done.length);
     return { steps: done, answers, look: lookOf(this.lookQuestions.inputs, served.answers.slice(done.length)) };
   }
 
   /** @param {Step[]} steps */
   trySteps(steps) {
-    return this.engine.serve(this.file, linesOf(steps.map((step) => step.line)) + this.lookQuestions.lines, this.next);
+    const { recording } = this;
+    const lines = recording ? recording.linesOf(steps) : linesOf(steps.map((step) => step.line));
+    const { answers } = this.engine.serve(this.file, lines + this.lookQuestions.lines, this.next);
+    return recording ? recording.parted(steps, answers) : { answers, traced: [] };
+  }
+
+  /**
+   * The recording follows what was done by lines.
+   * @param {Uint8Array} before the file as it was
+   * @param {Accepted[]} accepted
+   */
+  follow(before, accepted) {
+    const { recording } = this;
+    if (!recording) return;
+    if (accepted.length > SEGMENT_ENTRIES || accepted.reduce((sum, { cycles }) => sum + cycles, 0) > MOST_FOLLOWED) recording.stop("lines");
+    else recording.follow(before, accepted);
   }
 
   /**
@@ -140,6 +221,7 @@ export class WorkerSession {
    */
   async serve(lines, goesOn) {
     const told = new Telling(this.count.copy());
+    const before = this.recording ? this.file.slice() : null;
     // `from` is the file that the next piece is served on; the session's own stays until all is done.
     let [from, to] = [this.file, this.next];
     const size = new PieceSize(FIRST_PIECE, LEAST_PIECE, LARGEST_PIECE);
@@ -161,12 +243,14 @@ export class WorkerSession {
     // From here on nothing fails: it is done.
     if (from !== this.file) [this.file, this.next] = [from, this.file];
     this.lookQuestions = lookQuestions;
+    if (told.touchesRom) this.readCodes = null;
     this.timeline.stop();
     this.count = told.count;
-    this.timeline.record(told.accepted, this);
+    if (told.accepted.length > 0) this.timeline.record([...this.unrecorded.splice(0), ...told.accepted], this);
     this.timeline.stop();
     // What waits for its time was meant for the keys of the other board.
     if (told.wires) this.queue.clear();
+    if (before) this.follow(before, told.accepted);
     return { ...told.told(), look };
   }
 }

@@ -1,4 +1,4 @@
-use Rattle.std.proofs.Common.{◌≡◌, ◌∙◌, ◌+◌, ◌-◌, ◌++◌, ℕ, None, refl, sym, ap, subst, arith, length}
+use Rattle.std.proofs.Common.{◌≡◌, ◌∙◌, ◌+◌, ◌-◌, ◌++◌, ℕ, None, sym, ap, subst, arith, length}
 use Rattle.mcs_model.specs.BenchState.{BenchState}
 use Rattle.mcs_model.specs.Command.{machine_of, stops_of}
 use Rattle.mcs_model.specs.Running.{Machine, Stops}
@@ -7,11 +7,11 @@ use Rattle.mcs_bench.specs.Runs.{WentTo, stop_by}
 use Rattle.mcs_bench.proofs.Runs.{GoesOn, begins, ends, goes-full, goes-out, went-goes, went-stops}
 use Rattle.mcs_ahead.specs.Probes.{row}
 use Rattle.mcs_answers.proofs.AheadLines.{lines_text, told-by, told-more, within-none}
-use Rattle.mcs_answers.proofs.Resting.{row-rests}
+use Rattle.mcs_answers.proofs.Resting.{row-stays}
 use Rattle.mcs_answers.proofs.traces.add_lines.Goals as goal
 
 pub loop-done-init : goal.loop-done-init
-loop-done-init c =
+loop-done-init g c =
     let b = c.args.bench.now in
     let s : Machine = machine_of b in
     let probes = c.args.probes.now in
@@ -28,7 +28,7 @@ loop-done-init c =
     }
 
 pub returns-in-None : goal.returns-in-None
-returns-in-None c =
+returns-in-None g c =
     let b = c.args.bench.now in
     let s : Machine = machine_of b in
     let k : ℕ = c.loop-done.done in
@@ -36,21 +36,21 @@ returns-in-None c =
     let going = c.loop-done.invariant.going in
     let so_far = c.loop-done.invariant.told in
     let told = c.in-None.ensures.went in
-    let stop = c.stop_by.ensures ∙ ap (λ (x : BenchState). stop_by (machine_of x) None) told.1 in
-    told-by c.args.probes.now c.args.n b t k _ c.loop-done.text.items
-    (ends (stops_of b) c.args.n k s t None c.stop_by.result (goes-out (stops_of b) c.args.n k s t going told.0) stop) refl so_far.count so_far.so_far
+    let stop = c.came_to.ensures.stop ∙ ap (λ (x : BenchState). stop_by (machine_of x) None) told.1 in
+    told-by c.args.probes.now c.args.n b t k c.came_to.result c.loop-done.text.items
+    (ends (stops_of b) c.args.n k s t None c.came_to.result.stop (goes-out (stops_of b) c.args.n k s t going told.0) stop) c.came_to.ensures.cycles (c.came_to.ensures.lines ∙ so_far.count) so_far.so_far
 
 pub add_went-requires-clause-same : goal.add_went-requires-clause-same
-add_went-requires-clause-same c =
+add_went-requires-clause-same g c =
     let b = c.args.bench.now in
     let n : ℕ = c.args.n in
     let k : ℕ = c.loop-done.done in
     let t : Machine = machine_of c.loop-done.copy in
     let u : Machine = machine_of c.go_on.new.self in
-    λ on. c.loop-done.invariant.told.row_now ∙ row-rests (stops_of c.loop-done.copy) (n - k) t u c.in-Some.went c.regs-regs.result c.regs.result c.args.probes.now c.in-Some.ensures.went c.regs-regs.ensures.same c.regs.ensures.same (c.all_rest-rests.ensures on)
+    λ on. c.loop-done.invariant.told.row_now ∙ row-stays (stops_of c.loop-done.copy) (n - k) t u c.in-Some.went c.regs-regs.result c.regs.result c.args.probes.now c.in-Some.ensures.went c.regs-regs.ensures.same c.regs.ensures.same (c.row_stays-rests.ensures on)
 
 pub returns-in-Some-mark : goal.returns-in-Some-mark
-returns-in-Some-mark c =
+returns-in-Some-mark g c =
     let b = c.args.bench.now in
     let s : Machine = machine_of b in
     let n : ℕ = c.args.n in
@@ -62,11 +62,12 @@ returns-in-Some-mark c =
     let went : WentTo (stops_of b) (n - k) t u w = subst (λ (x : Stops). WentTo x (n - k) t u w) c.loop-done.invariant.stops c.in-Some.ensures.went in
     let ran = went-stops (stops_of b) n k s t u w c.in-Some-mark.why going went c.loop-done-test.true c.in-Some-mark.is in
     let told = told-more c.args.probes.now (n - k) k w.cycles s t u c.regs-regs.result c.loop-done.before.items c.loop-done.text.items c.add_went.new.before.items c.add_went.new.text.items c.loop-done.lines c.in_ok-lines-in-Some.field-0 going.at went.ran went.some c.regs-regs.ensures.same c.loop-done.invariant.told c.in_ok-lines-in-Some.ensures.row c.in_ok-lines-in-Some.ensures.lines c.in_ok-lines-in-Some.ensures.text in
-    told-by c.args.probes.now n b u (k + w.cycles) _ c.add_went.new.text.items
-    (ends (stops_of b) n (k + w.cycles) s u w.mark c.stop_by-in-Some-mark.result ran (c.stop_by-in-Some-mark.ensures ∙ ap (stop_by u) (sym c.in-Some-mark.is))) refl told.count told.so_far
+    let came = c.came_to-in-Some-mark in
+    told-by c.args.probes.now n b u (k + w.cycles) came.result c.add_went.new.text.items
+    (ends (stops_of b) n (k + w.cycles) s u w.mark came.result.stop ran (came.ensures.stop ∙ ap (stop_by u) (sym c.in-Some-mark.is))) came.ensures.cycles (came.ensures.lines ∙ told.count) told.so_far
 
 pub loop-done-preserved : goal.loop-done-preserved
-loop-done-preserved c =
+loop-done-preserved g c =
     let b = c.args.bench.now in
     let s : Machine = machine_of b in
     let n : ℕ = c.args.n in
@@ -83,7 +84,7 @@ loop-done-preserved c =
     }
 
 pub returns : goal.returns
-returns c =
+returns g c =
     let b = c.args.bench.now in
     let s : Machine = machine_of b in
     let n : ℕ = c.args.n in
@@ -93,5 +94,6 @@ returns c =
     let within = going.within in
     let full : n ≡ k = omega arith in
     let told = c.loop-done.invariant.told in
-    told-by c.args.probes.now n b t k _ c.loop-done.text.items
-    (ends (stops_of b) n k s t None c.stop_by-2.result (goes-full (stops_of b) n k s t going (sym full)) c.stop_by-2.ensures) full told.count told.so_far
+    let came = c.came_to-2 in
+    told-by c.args.probes.now n b t k came.result c.loop-done.text.items
+    (ends (stops_of b) n k s t None came.result.stop (goes-full (stops_of b) n k s t going (sym full)) came.ensures.stop) (came.ensures.cycles ∙ full) (came.ensures.lines ∙ told.count) told.so_far

@@ -5,11 +5,11 @@ use Rattle.mcs_answers.proofs.AheadLines.{Told}
 use Rattle.mcs_answers.proofs.traces.add_lines.Given as goal
 
 abbrev pub invariant-loop-done : goal.invariant-loop-done
-invariant-loop-done l = record {
+invariant-loop-done g l = record {
   going : GoesOn (stops_of l.fn.bench) l.n l.done (machine_of l.fn.bench) (machine_of l.copy);
   stops : stops_of l.copy ≡ stops_of l.fn.bench;
   told : Told l.probes l.done (machine_of l.fn.bench) (machine_of l.copy) l.before.items l.text.items l.lines;
 }
 
 abbrev pub decreases-loop-done : goal.decreases-loop-done
-decreases-loop-done l = l.n - l.done
+decreases-loop-done g l = l.n - l.done

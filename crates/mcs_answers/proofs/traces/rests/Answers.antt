@@ -1,35 +1,11 @@
 use Rattle.std.proofs.Common.{◌∙◌, sym, subst}
 use Rattle.std.specs.Cmp.Lexicographic.{same_text}
 use Rattle.mcs_answers.specs.Resting.{Rests}
-use Rattle.mcs_answers.proofs.Resting.{chain-rests, lamps-rest, level-rests, not-so, ram-port-rests, ram-rests, returns-rest, rom-port-rests, rom-rests, src-rests, status-rests}
+use Rattle.mcs_answers.proofs.Resting.{returns-rest}
 use Rattle.mcs_answers.proofs.traces.rests.Goals as goal
-
-pub returns-in-Rom : goal.returns-in-Rom
-returns-in-Rom c = λ _. subst (Rests c.args.op.now c.args.before.now c.args.after.now) (sym c.in-Rom.is) (rom-rests c.args.op.now c.args.before.now c.args.after.now c.in-Rom.field-0)
-
-pub returns-in-Ram : goal.returns-in-Ram
-returns-in-Ram c = λ on. subst (Rests c.args.op.now c.args.before.now c.args.after.now) (sym c.in-Ram.is) (ram-rests c.args.op.now c.args.before.now c.args.after.now c.in-Ram.field-0 c.in-Ram.field-1 (not-so c.writes_ram.result on c.writes_ram.ensures.1))
-
-pub returns-in-Status : goal.returns-in-Status
-returns-in-Status c = λ on. subst (Rests c.args.op.now c.args.before.now c.args.after.now) (sym c.in-Status.is) (status-rests c.args.op.now c.args.before.now c.args.after.now c.in-Status.field-0 c.in-Status.field-1 c.in-Status.field-2 (not-so c.writes_status.result on c.writes_status.ensures.1))
-
-pub returns-in-Level : goal.returns-in-Level
-returns-in-Level c = λ on. subst (Rests c.args.op.now c.args.before.now c.args.after.now) (sym c.in-Level.is) (level-rests c.args.op.now c.args.before.now c.args.after.now c.in-Level.field-0 (not-so c.writes_port.result on c.writes_port.ensures.1))
-
-pub returns-in-Lamps : goal.returns-in-Lamps
-returns-in-Lamps c = λ on. subst (Rests c.args.op.now c.args.before.now c.args.after.now) (sym c.in-Lamps.is) (lamps-rest c.args.op.now c.args.before.now c.args.after.now (not-so c.writes_port-in-Lamps.result on c.writes_port-in-Lamps.ensures.1))
 
 pub returns-in-Returns : goal.returns-in-Returns
 returns-in-Returns c = λ on. subst (Rests c.args.op.now c.args.before.now c.args.after.now) (sym c.in-Returns.is) (returns-rest c.args.op.now c.args.before.now c.args.after.now (same_text c.args.before.now.ret c.args.after.now.ret (sym on ∙ c.eq-in-Returns.ensures)))
 
-pub returns-in-RomPort : goal.returns-in-RomPort
-returns-in-RomPort c = λ on. subst (Rests c.args.op.now c.args.before.now c.args.after.now) (sym c.in-RomPort.is) (rom-port-rests c.args.op.now c.args.before.now c.args.after.now c.in-RomPort.field-0 (not-so c.writes_port-in-RomPort.result on c.writes_port-in-RomPort.ensures.1))
-
-pub returns-in-RamPort : goal.returns-in-RamPort
-returns-in-RamPort c = λ on. subst (Rests c.args.op.now c.args.before.now c.args.after.now) (sym c.in-RamPort.is) (ram-port-rests c.args.op.now c.args.before.now c.args.after.now c.in-RamPort.field-0 c.in-RamPort.field-1 (not-so c.writes_port-in-RamPort.result on c.writes_port-in-RamPort.ensures.1))
-
-pub returns-in-Chain : goal.returns-in-Chain
-returns-in-Chain c = λ on. subst (Rests c.args.op.now c.args.before.now c.args.after.now) (sym c.in-Chain.is) (chain-rests c.args.op.now c.args.before.now c.args.after.now c.in-Chain.field-0 (not-so c.writes_port-in-Chain.result on c.writes_port-in-Chain.ensures.1))
-
-pub returns-in-Src : goal.returns-in-Src
-returns-in-Src c = λ on. subst (Rests c.args.op.now c.args.before.now c.args.after.now) (sym c.in-Src.is) (src-rests c.args.op.now c.args.before.now c.args.after.now (λ k e. not-so c.writes_src.result on (c.writes_src.ensures k) e))
+pub returns-in_default : goal.returns-in_default
+returns-in_default c = λ on. c.keeps_outside.ensures on c.args.before.now c.args.after.now

@@ -7,11 +7,11 @@ use Rattle.mcs_host.proofs.laws.opened_again_is_left_by_cut.Goals as goal
 
 pub returns : goal.returns
 returns c = λ t file again honest left still opened same.
-    let start = file.history.start in
-    let found = found_since start file.history.calls left.never_made left.made file.end.calls_by_the_end t (found_in file) left.all left.by_the_end left.late honest in
+    let start = file.on.history.start in
+    let found = found_since start file.on.history.calls left.never_made left.made file.on.end.calls_by_the_end t (found_in file) left.all left.by_the_end left.late honest in
     record {
       honest = still;
-      size = ap length same ∙ sized start file.end.calls_by_the_end (found_in file) honest ∙ sym (length-bytes_after start file.history.calls) ∙ ap length (sym file.kept);
-      found = subst (λ (bytes : List ℕ). since_after start file.history.calls t bytes) (sym same) found;
+      size = ap length same ∙ sized start file.on.end.calls_by_the_end (found_in file) honest ∙ sym (length-bytes_after start file.on.history.calls) ∙ ap length (sym file.on.kept);
+      found = subst (λ (bytes : List ℕ). since_after start file.on.history.calls t bytes) (sym same) found;
       durable = opened.durable;
     }

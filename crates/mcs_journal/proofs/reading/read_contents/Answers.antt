@@ -1,4 +1,7 @@
-use Rattle.std.proofs.Common.{rules, ◌≡◌, ◌+◌, List, ℕ, length, sym, ◌∙◌, ap, subst, IsErrOf}
+use Rattle.mcs_journal.proofs.Asked.{on_err, reads_more, reads_sum}
+use Rattle.mcs_disk.specs.CallList.{DiskCall, Synced}
+use Rattle.mcs_journal.specs.Calls.{OnlyRead, many_reads}
+use Rattle.std.proofs.Common.{rules, ◌≡◌, inr, ◌+◌, ◌*◌, List, [], ◌∷◌, ◌++◌, ℕ, length, append_assoc, sym, ◌∙◌, ap, subst, arith, IsErrOf}
 use Rattle.mcs_disk.specs.Disk.{part}
 use Rattle.mcs_journal.specs.File.{Holds, IsLog, start_of}
 use Rattle.mcs_journal.specs.Writing.{IsHeader, IsSnapshot}
@@ -46,3 +49,25 @@ returns-in_err-log-clause-damaged g c = λ h told snap records held.
     let damaged : IsErrOf c.read_log.result Damaged = search rules in
     let log = subst (λ (s : ℕ). IsLog records (part (s + 16384) 65536 (g.D.Disk.state c.args.disk.now).bytes)) (ap start_of header.active ∙ sym c.start-start.ensures) held.log in
     c.read_log.ensures.damaged h3 damaged records (subst (λ (f : List ℕ). IsLog records (part (c.start-start.result + 16384) 65536 f)) (sym same3) log)
+
+pub returns-in_err-snap-clause-refused_calls : goal.returns-in_err-snap-clause-refused_calls
+returns-in_err-snap-clause-refused_calls g c =
+    let new = (g.D.Disk.state c.read_snapshot.new.disk).calls in
+    on_err _ (inr (subst (λ (l : List DiskCall). OnlyRead l new) c.in_ok-sync.ensures.noted.all (reads_more 1 _ _ _ c.in_ok-slot.ensures.calls c.in_err-snap.ensures.refused_calls)))
+
+pub returns-in_err-log-clause-refused_calls : goal.returns-in_err-log-clause-refused_calls
+returns-in_err-log-clause-refused_calls g c =
+    let new = (g.D.Disk.state c.read_log.new.disk).calls in
+    on_err _ (inr (subst (λ (l : List DiskCall). OnlyRead l new) c.in_ok-sync.ensures.noted.all
+    (reads_more 3 _ _ _ (reads_sum 1 2 _ _ _ c.in_ok-slot.ensures.calls c.in_ok-snap.ensures.calls) c.in_err-log.ensures.refused_calls)))
+
+pub returns-clause-calls : goal.returns-clause-calls
+returns-clause-calls g c =
+    let n = length c.in_ok-log.log.records.items in
+    let old = (g.D.Disk.state c.args.disk.now).calls in
+    reads_sum 3 (1 + 3 * n) _ _ _ (reads_sum 1 2 _ _ _ c.in_ok-slot.ensures.calls c.in_ok-snap.ensures.calls) c.in_ok-log.ensures.calls
+    ∙ (λ i. many_reads (four n i) ++ c.in_ok-sync.ensures.noted.all i)
+    ∙ sym (append_assoc (many_reads (4 + 3 * n)) (Synced ∷ []) old)
+  where
+    four : (n : ℕ) → 1 + 3 * n + 3 ≡ 4 + 3 * n
+    four n = omega arith

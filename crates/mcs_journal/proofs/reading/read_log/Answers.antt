@@ -1,4 +1,6 @@
-use Rattle.std.proofs.Common.{rules, ◌≡◌, ◌≢◌, ◌≤◌, ◌+◌, ◌-◌, List, [], ◌∷◌, ◌++◌, ℕ, length, sym, ◌∙◌, ap, subst, arith, IsErrOf, get_or}
+use Rattle.mcs_journal.proofs.Asked.{on_err, reads_more, reads_sum}
+use Rattle.mcs_journal.specs.Calls.{OnlyRead, many_reads}
+use Rattle.std.proofs.Common.{rules, ◌≡◌, ◌≢◌, ◌≤◌, ◌+◌, ◌*◌, ◌-◌, List, [], ◌∷◌, ◌++◌, ℕ, length, length-append, sym, ◌∙◌, ap, subst, arith, IsErrOf, get_or}
 use Rattle.mcs_journal.specs.declared.fault.OpenFault.TheVariants.{Damaged}
 use Rattle.mcs_disk.specs.Disk.{part}
 use Rattle.mcs_journal.specs.Writing.{IsNext, IsNoRecord}
@@ -37,6 +39,8 @@ pub loop-records-preserved : goal.loop-records-preserved
 loop-records-preserved g c = record {
   reads = reads_then _ _ _ ⊥ _ (λ no. no) c.loop-records.invariant.reads (reads_as _ _ _ _ (λ failed. cc) (λ no. absurd no) c.in_ok-record.ensures.reads);
   within = omega (arith, room, long, c.loop-records.invariant.within);
+  calls = reads_sum (3 * length c.loop-records.records.items) 3 _ _ _ c.loop-records.invariant.calls (rw c.in-Some.is at c.in_ok-record.ensures.record_calls)
+      ∙ ap (λ (n : ℕ). many_reads n ++ (g.D.Disk.state c.args.disk.now).calls) (omega (arith, length-append c.loop-records.records.items (c.in-Some.record ∷ []), ap length c.in_ok-push.ensures.items));
   walked = λ h.
       let law = g.met.D.Disk.lawful c.args.disk.now h in
       let same = (c.loop-records.invariant.reads.rests h).bytes in
@@ -53,3 +57,18 @@ loop-records-preserved g c = record {
 
     long : length c.bytes.result.now ≡ length c.in-Some.record
     long = ap length c.bytes.ensures
+
+pub returns-in_err-record-clause-refused_calls : goal.returns-in_err-record-clause-refused_calls
+returns-in_err-record-clause-refused_calls g c = on_err _ (reads_more _ _ _ _ c.loop-records.invariant.calls c.in_err-record.ensures.refused_calls)
+
+pub returns-in_err-push-clause-refused_calls : goal.returns-in_err-push-clause-refused_calls
+returns-in_err-push-clause-refused_calls g c =
+    let n = 3 * length c.loop-records.records.items in
+    let some : OnlyRead (g.D.Disk.state c.args.disk.now).calls (g.D.Disk.state c.read_record.new.disk).calls =
+    record { count = 3 + n; all = reads_sum n 3 _ _ _ c.loop-records.invariant.calls (rw c.in-Some.is at c.in_ok-record.ensures.record_calls) } in
+    on_err _ some
+
+pub returns-clause-calls : goal.returns-clause-calls
+returns-clause-calls g c =
+    let last : (g.D.Disk.state c.read_record.new.disk).calls ≡ many_reads 1 ++ (g.D.Disk.state c.loop-records.disk).calls = search rules in
+    reads_sum (3 * length c.loop-records.records.items) 1 _ _ _ c.loop-records.invariant.calls last

@@ -1,3 +1,5 @@
+use Rattle.mcs_journal.specs.Calls.{OnlyRead}
+use Rattle.mcs_journal.proofs.Asked.{on_err, read_failed, reads_more, reads_sum}
 use Rattle.std.proofs.Common.{rules, ◌≡◌, ◌+◌, ◌*◌, ◌++◌, ℕ, length, take, drop, get_or, refl, ◌∙◌, ap, arith}
 use Rattle.std.proofs.lemmas.List.{take_at}
 use Rattle.mcs_disk.specs.Disk.{part}
@@ -34,3 +36,16 @@ returns-clause-next g c = λ h.
     let same : (g.D.Disk.state c.read_at-2.new.disk).bytes ≡ f = second.bytes ∙ first.bytes in
     let given : c.read_at-3.new.into ≡ part (c.args.at + 3) n f = payload ∙ ap (λ (k : ℕ). part (c.args.at + 3) k (g.D.Disk.state c.read_at-2.new.disk).bytes) (c.deref_mut.ensures.len ∙ count) ∙ ap (part (c.args.at + 3) n) same in
     next_is f c.args.at n c.read_at.new.into c.read_at-2.new.into _ commit_byte (search rules) (search rules) prefix (search rules) (search rules) refl (is_r ∙ given) (ap length is_r ∙ long ∙ count) (omega arith) (omega arith)
+
+pub returns-then-len-eq0-clause-refused_calls : goal.returns-then-len-eq0-clause-refused_calls
+returns-then-len-eq0-clause-refused_calls g c = record { count = 2; all = reads_sum 1 1 _ _ _ c.in_ok-read_at.ensures.calls.all c.in_ok-read_at-2.ensures.calls.all }
+
+pub returns-in_err-bytes-clause-refused_calls : goal.returns-in_err-bytes-clause-refused_calls
+returns-in_err-bytes-clause-refused_calls g c =
+    let two : OnlyRead (g.D.Disk.state c.args.disk.now).calls (g.D.Disk.state c.read_at-2.new.disk).calls =
+    record { count = 2; all = reads_sum 1 1 _ _ _ c.in_ok-read_at.ensures.calls.all c.in_ok-read_at-2.ensures.calls.all } in
+    on_err _ two
+
+pub returns-in_err-read_at-3-clause-refused_calls : goal.returns-in_err-read_at-3-clause-refused_calls
+returns-in_err-read_at-3-clause-refused_calls g c =
+    on_err _ (reads_more 2 _ _ _ (reads_sum 1 1 _ _ _ c.in_ok-read_at.ensures.calls.all c.in_ok-read_at-2.ensures.calls.all) (read_failed _ _ _ c.in_err-read_at-3.ensures.calls))

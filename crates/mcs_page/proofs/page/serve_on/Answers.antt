@@ -15,7 +15,7 @@ returns-then-room-len-clause-refused c = record {
       session = c.in-Ok.session;
       resumes = c.in-Ok.ensures.resumed;
       rest = _;
-      ran = rw c.new-told.ensures.items at c.run_shell-end.ensures;
+      ran = rw c.new-told.ensures.items at c.run_shell-end.ensures.ran;
     };
     kept = record { honest = tt; bytes = refl };
   };
@@ -27,15 +27,15 @@ pub returns-clause-served : goal.returns-clause-served
 returns-clause-served c =
     let whole : IsServedWhole c.run_shell-end.result = search rules in
     let resumed = c.in-Ok.ensures.resumed in
-    let size = keeps_size _ _ _ _ _ whole c.run_shell-end.ensures in
-    let stays_open = keeps_open _ _ _ _ _ whole c.run_shell-end.ensures in
+    let size = keeps_size _ _ _ _ _ whole c.run_shell-end.ensures.ran in
+    let stays_open = keeps_open _ _ _ _ _ whole c.run_shell-end.ensures.ran in
     record {
       whole = whole;
       went = record {
         session = c.in-Ok.session;
         resumes = resumed;
         rest = Some c.run_shell-end.new.reader.now;
-        ran = rw c.new-told.ensures.items at c.run_shell-end.ensures;
+        ran = rw c.new-told.ensures.items at c.run_shell-end.ensures.ran;
       };
       is_open = subst IsTrue (sym stays_open) resumed.begun.is_open;
       size = size ∙ size_resumed c.args.file.now c.in-Ok.session resumed;

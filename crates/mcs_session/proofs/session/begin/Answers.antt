@@ -1,3 +1,4 @@
+use Rattle.mcs_disk.proofs.Calling.{none_added}
 use Rattle.std.proofs.Common.{sym, subst}
 use Rattle.mcs_session.specs.Invariant.{IsRecorded}
 use Rattle.mcs_session.proofs.Files.{recorded_new}
@@ -23,3 +24,6 @@ returns-in-Ok-clause-version_1 g c = λ e honest snap records held.
 
 pub returns-in-Err-clause-failed : goal.returns-in-Err-clause-failed
 returns-in-Err-clause-failed g c = λ honest snap records held. rw c.into_disk.ensures (c.in-Err.ensures.replaces honest snap records held).moments
+
+pub returns-then-not-version_1-clause-one_unsynced : goal.returns-then-not-version_1-clause-one_unsynced
+returns-then-not-version_1-clause-one_unsynced g c = none_added _

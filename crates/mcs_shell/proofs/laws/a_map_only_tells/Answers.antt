@@ -4,11 +4,9 @@ use Rattle.mcs_model.specs.TextLines.{lines_of}
 use Rattle.mcs_source.specs.declared.fault.SourceFault.{SourceFault}
 use Rattle.mcs_source.specs.Assembly.{assembly_of_text, read}
 use Rattle.mcs_source.specs.Survey.{Survey, survey_of}
-use Rattle.mcs_lines.specs.declared.requests.TextKind.TheVariants.{Asm, Map}
 use Rattle.mcs_shell.specs.declared.spelling.TextRefusal.{TextRefusal}
-use Rattle.mcs_shell.specs.Inputs.{Text}
 use Rattle.mcs_shell.specs.Spelling.{Does, load_command, program_map, meaning_of_text}
-use Rattle.mcs_shell.specs.Transcript.{asked_command, text_command}
+use Rattle.mcs_shell.specs.Transcript.{text_command}
 use Rattle.mcs_shell.proofs.laws.a_map_only_tells.Goals as goal
 
 abbrev surveyed_as : (List (ℕ × ℕ) → Survey) → Result (List (ℕ × ℕ)) (ℕ × SourceFault) → Result Survey (ℕ × SourceFault)

@@ -7,41 +7,41 @@ use Rattle.mcs_host.specs.FileDisk.{IsOpened}
 use Rattle.mcs_host.specs.declared.file_disk.FileDisk.{FileDisk}
 use Rattle.mcs_host.specs.declared.arguments.Choice.{Choice}
 use Rattle.mcs_session.specs.SessionState.{SessionView}
+use Rattle.mcs_shell.specs.Faults.{StreamsView}
 use Rattle.mcs_shell.specs.Program.{IsBegunOn, ServedChosenSession, ServedSession}
 use Rattle.mcs_shell.specs.Shell.{exit_status_of}
-use Rattle.mcs_shell.specs.ShellState.{KnownBytes}
 use Rattle.mcs_shell.specs.declared.ends.ShellEnd.{ShellEnd}
 use Rattle.mcs_shell.specs.declared.ends.ShellEnd.TheVariants.{End}
 use Rattle.mcs_shell.proofs.program.run_arguments.Goals as goal
 
 -- what a choice began was served to what is handed back
 abbrev pub Serves : {E F : Type 0} → Result (SessionView FileDisk) F → Option (SessionView FileDisk) → Result ExitCode E
-    → KnownBytes → KnownBytes → KnownBytes → KnownBytes → Type 0
-Serves begun session status reader reader' out out' = IfOk begun (λ before. IsSomeAnd session (λ after.
-    ServedSession as_disk status reader reader' out out' before after))
+    → StreamsView → StreamsView → Type 0
+Serves begun session status streams streams' = IfOk begun (λ before. IsSomeAnd session (λ after.
+    ServedSession as_disk status streams streams' before after))
 
 not_two : (end : ShellEnd) → exit_status_of end ≡ 2 → ⊥
 not_two End e = cc e
 not_two end e = cc e
 
 usage_of : {E F : Type 0} (begun : Result (SessionView FileDisk) F) (session : Option (SessionView FileDisk)) (status : Result ExitCode E)
-    (reader reader' out out' : KnownBytes) (P : Type 0) → Serves begun session status reader reader' out out'
+    (streams streams' : StreamsView) (P : Type 0) → Serves begun session status streams streams'
     → OnErr begun (IfOk status (λ code. exit_status code ≡ 3))
     → IfOk status (λ code. exit_status code ≡ 2 → P)
-usage_of begun session (Err e) reader reader' out out' P served refused = tt
-usage_of (Ok before) (Some after) (Ok code) reader reader' out out' P served refused =
+usage_of begun session (Err e) streams streams' P served refused = tt
+usage_of (Ok before) (Some after) (Ok code) streams streams' P served refused =
     λ two. absurd (not_two served.end (sym served.status_is ∙ two))
-usage_of (Ok before) None (Ok code) reader reader' out out' P served refused = absurd served
-usage_of (Err refusal) session (Ok code) reader reader' out out' P served refused =
+usage_of (Ok before) None (Ok code) streams streams' P served refused = absurd served
+usage_of (Err refusal) session (Ok code) streams streams' P served refused =
     λ two. let e : 3 ≡ 2 = sym refused ∙ two in absurd (cc e)
 
 served_as_chosen : {E F : Type 0} (entered : Option (List ℕ × List ℕ)) (choice : Choice) (begun : Result (SessionView FileDisk) F)
-    (session : Option (SessionView FileDisk)) (status : Result ExitCode E) (reader reader' out out' : KnownBytes)
+    (session : Option (SessionView FileDisk)) (status : Result ExitCode E) (streams streams' : StreamsView)
     → entered ≡ Some (arguments_of_choice choice)
     → IfOk begun (λ before. (disk : FileDisk) × IsOpened (as_disk disk) × IsBegunOn as_disk choice disk before)
-    → Serves begun session status reader reader' out out' → OnErr begun (session ≡ None)
-    → IfSome session (λ after. ServedChosenSession as_disk entered status reader reader' out out' after)
-served_as_chosen entered choice (Ok before) (Some after) status reader reader' out out' is found served none =
+    → Serves begun session status streams streams' → OnErr begun (session ≡ None)
+    → IfSome session (λ after. ServedChosenSession as_disk entered status streams streams' after)
+served_as_chosen entered choice (Ok before) (Some after) status streams streams' is found served none =
     record {
       choice = choice;
       chosen_is = is;
@@ -51,42 +51,42 @@ served_as_chosen entered choice (Ok before) (Some after) status reader reader' o
       begun = found.2;
       served = served;
     }
-served_as_chosen entered choice (Ok before) None status reader reader' out out' is found served none = tt
-served_as_chosen entered choice (Err refusal) (Some after) status reader reader' out out' is found served none = absurd (cc none)
-served_as_chosen entered choice (Err refusal) None status reader reader' out out' is found served none = tt
+served_as_chosen entered choice (Ok before) None status streams streams' is found served none = tt
+served_as_chosen entered choice (Err refusal) (Some after) status streams streams' is found served none = absurd (cc none)
+served_as_chosen entered choice (Err refusal) None status streams streams' is found served none = tt
 
 unserved_of : {E F : Type 0} (begun : Result (SessionView FileDisk) F) (session : Option (SessionView FileDisk)) (status : Result ExitCode E)
-    (reader reader' out out' : KnownBytes) → Serves begun session status reader reader' out out'
+    (streams streams' : StreamsView) → Serves begun session status streams streams'
     → OnErr begun (IfOk status (λ code. exit_status code ≡ 3))
     → IfNone session (IfOk status (λ code. (exit_status code ≡ 2) ⊎ (exit_status code ≡ 3)))
-unserved_of begun (Some after) status reader reader' out out' served refused = tt
-unserved_of begun None (Err e) reader reader' out out' served refused = tt
-unserved_of (Ok before) None (Ok code) reader reader' out out' served refused = absurd served
-unserved_of (Err refusal) None (Ok code) reader reader' out out' served refused = inr refused
+unserved_of begun (Some after) status streams streams' served refused = tt
+unserved_of begun None (Err e) streams streams' served refused = tt
+unserved_of (Ok before) None (Ok code) streams streams' served refused = absurd served
+unserved_of (Err refusal) None (Ok code) streams streams' served refused = inr refused
 
 untouched_of : {E F : Type 0} (begun : Result (SessionView FileDisk) F) (session : Option (SessionView FileDisk)) (status : Result ExitCode E)
-    (reader reader' out out' : KnownBytes) (P : Type 0) → Serves begun session status reader reader' out out' → OnErr begun P → IfNone session P
-untouched_of begun (Some after) status reader reader' out out' P served same = tt
-untouched_of (Ok before) None status reader reader' out out' P served same = absurd served
-untouched_of (Err refusal) None status reader reader' out out' P served same = same
+    (streams streams' : StreamsView) (P : Type 0) → Serves begun session status streams streams' → OnErr begun P → IfNone session P
+untouched_of begun (Some after) status streams streams' P served same = tt
+untouched_of (Ok before) None status streams streams' P served same = absurd served
+untouched_of (Err refusal) None status streams streams' P served same = same
 
 pub returns-clause-usage : goal.returns-clause-usage
 returns-clause-usage g c =
-    usage_of c.session_in-begun.result c.serve_begun.result.session c.serve_begun.result.status _ _ _ _ _ c.serve_begun.ensures.served c.serve_begun.ensures.refused
+    usage_of c.session_in-begun.result c.serve_begun.result.session c.serve_begun.result.status _ _ _ c.serve_begun.ensures.served c.serve_begun.ensures.refused
 
 pub returns-clause-served : goal.returns-clause-served
 returns-clause-served g c =
-    served_as_chosen _ c.in-Ok.choice c.session_in-begun.result c.serve_begun.result.session c.serve_begun.result.status _ _ _ _
+    served_as_chosen _ c.in-Ok.choice c.session_in-begun.result c.serve_begun.result.session c.serve_begun.result.status _ _
     c.in-Ok.ensures.given c.session_in-begun.ensures.begun c.serve_begun.ensures.served c.serve_begun.ensures.unserved
 
 pub returns-clause-unserved : goal.returns-clause-unserved
 returns-clause-unserved g c =
-    unserved_of c.session_in-begun.result c.serve_begun.result.session c.serve_begun.result.status _ _ _ _ c.serve_begun.ensures.served c.serve_begun.ensures.refused
+    unserved_of c.session_in-begun.result c.serve_begun.result.session c.serve_begun.result.status _ _ c.serve_begun.ensures.served c.serve_begun.ensures.refused
 
 pub returns-clause-unread : goal.returns-clause-unread
 returns-clause-unread g c =
-    untouched_of c.session_in-begun.result c.serve_begun.result.session c.serve_begun.result.status _ _ _ _ _ c.serve_begun.ensures.served c.serve_begun.ensures.unread
+    untouched_of c.session_in-begun.result c.serve_begun.result.session c.serve_begun.result.status _ _ _ c.serve_begun.ensures.served c.serve_begun.ensures.unread
 
 pub returns-clause-unwritten : goal.returns-clause-unwritten
 returns-clause-unwritten g c =
-    untouched_of c.session_in-begun.result c.serve_begun.result.session c.serve_begun.result.status _ _ _ _ _ c.serve_begun.ensures.served c.serve_begun.ensures.unwritten
+    untouched_of c.session_in-begun.result c.serve_begun.result.session c.serve_begun.result.status _ _ _ c.serve_begun.ensures.served c.serve_begun.ensures.unwritten

@@ -9,9 +9,7 @@ pub returns-in-Ok-clause-served : goal.returns-in-Ok-clause-served
 returns-in-Ok-clause-served c =
     if_some c.run_arguments.result.session _ _ (λ after served. record {
       arguments = _;
-      reader = _;
-      reader' = _;
-      out = _;
-      out' = _;
+      streams = _;
+      streams' = _;
       served = served;
     }) c.run_arguments.ensures.served

@@ -8,7 +8,6 @@ use Rattle.mcs_session.specs.SessionState.{SessionView}
 use Rattle.mcs_shell.specs.Program.{IsBegunOn, IsRefusedBy}
 use Rattle.mcs_shell.specs.RefusalNumbers.{refusal_number}
 use Rattle.mcs_shell.specs.declared.program.Refused.{Refused}
-use Rattle.mcs_shell.specs.declared.refusal.Refusal.{Refusal}
 use Rattle.mcs_shell.specs.declared.refusal.Refusal.TheVariants as refusal
 use Rattle.mcs_shell.proofs.program.session_in.Goals as goal
 

@@ -11,22 +11,22 @@ returns-in-Begin-clause-fed g c =
 pub returns-in-Ok-clause-fed : goal.returns-in-Ok-clause-fed
 returns-in-Ok-clause-fed g c =
     feeds_command _ _ _ _ c.without_return-line.result.now _ c.requires c.in-None.ensures (search rules)
-    (ap text_begun (sym c.read_request.ensures) ∙ not_begun _ c.in_default.not-Begin) (λ go. c.clear.ensures) (rw c.read_request.ensures at c.in-Ok.ensures)
+    (ap text_begun (sym c.read_request.ensures) ∙ not_begun _ c.in_default.not-Begin) (λ go. c.clear.ensures) (rw c.read_request.ensures at c.in-Ok.ensures.served)
 
 pub returns-in-Err-clause-fed : goal.returns-in-Err-clause-fed
 returns-in-Err-clause-fed g c =
     feeds_command _ _ _ _ c.without_return-line.result.now _ c.requires c.in-None.ensures (search rules)
-    (ap text_begun (sym c.read_request.ensures) ∙ not_begun _ c.in_default.not-Begin) (λ go. absurd (cc go)) (rw c.read_request.ensures at c.in-Err.ensures)
+    (ap text_begun (sym c.read_request.ensures) ∙ not_begun _ c.in_default.not-Begin) (λ go. absurd (cc go)) (rw c.read_request.ensures at c.in-Err.ensures.served)
 
 pub returns-in-Ok-serve_text-clause-fed : goal.returns-in-Ok-serve_text-clause-fed
 returns-in-Ok-serve_text-clause-fed g c =
     feeds_text _ _ _ _ c.without_return-line.result.now c.in-Some.kind c.in-Some.text.now _ c.requires (search rules) (search rules)
-    (sym c.ends_text.ensures ∙ c.if-ends_text.true) (λ go. c.clear-in-Ok-serve_text.ensures) c.in-Ok-serve_text.ensures
+    (sym c.ends_text.ensures ∙ c.if-ends_text.true) (λ go. c.clear-in-Ok-serve_text.ensures) c.in-Ok-serve_text.ensures.served
 
 pub returns-in-Err-serve_text-clause-fed : goal.returns-in-Err-serve_text-clause-fed
 returns-in-Err-serve_text-clause-fed g c =
     feeds_text _ _ _ _ c.without_return-line.result.now c.in-Some.kind c.in-Some.text.now _ c.requires (search rules) (search rules)
-    (sym c.ends_text.ensures ∙ c.if-ends_text.true) (λ go. absurd (cc go)) c.in-Err-serve_text.ensures
+    (sym c.ends_text.ensures ∙ c.if-ends_text.true) (λ go. absurd (cc go)) c.in-Err-serve_text.ensures.served
 
 pub returns-else-ends_text-clause-fed : goal.returns-else-ends_text-clause-fed
 returns-else-ends_text-clause-fed g c =

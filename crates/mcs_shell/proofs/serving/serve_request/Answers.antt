@@ -1,5 +1,9 @@
+use Rattle.mcs_shell.proofs.MayTell.{may_answer}
 use Rattle.mcs_shell.proofs.Doing.{meets_one}
 use Rattle.mcs_shell.proofs.serving.serve_request.Goals as goal
 
-pub returns : goal.returns
-returns g c = meets_one _ _ _ _ _ _ c.answer_request-outcome.ensures c.deliver.ensures
+pub returns-clause-served : goal.returns-clause-served
+returns-clause-served g c = meets_one _ _ _ _ _ _ c.answer_request-outcome.ensures c.deliver.ensures.wrote
+
+pub deliver-requires : goal.deliver-requires
+deliver-requires g c = may_answer _ _ _ _ _ _ c.answer_request-outcome.ensures c.bench-bench.ensures.at

@@ -1,3 +1,5 @@
+use Rattle.mcs_disk.specs.CallList.{unsynced}
+use Rattle.mcs_journal.proofs.Asking.{append_one}
 use Rattle.std.proofs.Common.{◌≡◌, ◌+◌, List, [], ◌∷◌, ◌++◌, ℕ, length, sym, ◌∙◌, ap, subst, arith, IsTrue, length-take, length-append, length-drop}
 use Rattle.mcs_disk.specs.Disk.{DiskState}
 use Rattle.mcs_journal.specs.Store.{StoreView, IsIntactStore}
@@ -40,6 +42,7 @@ invariant_of-self g c =
       disk_size = c.add_record.ensures.call.size ∙ c.self.invariant.disk_size;
       within = omega (arith, room);
       room = simp (length-take, length-append, length-drop) (omega (arith, c.deref_mut.ensures.len, ap length c.deref_mut.ensures.value, c.add_record.auto.buffer, c.self.invariant.room));
+      synced = λ alive. ap unsynced c.in-Ok.ensures.calls.all;
       intact = λ alive h.
           let beyond = start_bounds c.self.inside.slot in
           let was = c.add_record.ensures.call.honest.0 h in
@@ -54,3 +57,19 @@ invariant_of-self g c =
             count = omega (arith, intact.count, ap length (spelled-push intact.records c.args.payload.now), length-append (frames_of intact.records) (frame_of c.args.payload.now), length-framed c.args.payload.now);
           };
     }
+
+pub returns-in-Ok-clause-calls : goal.returns-in-Ok-clause-calls
+returns-in-Ok-clause-calls g c = rw (← c.self.view_is) (rw (← c.start.ensures) c.in-Ok.ensures.calls)
+
+pub returns-in-Err-clause-calls : goal.returns-in-Err-clause-calls
+returns-in-Err-clause-calls g c = rw (← c.self.view_is) (rw (← c.start.ensures) c.in-Err.ensures.calls)
+
+pub returns-in-Ok-clause-one_unsynced : goal.returns-in-Ok-clause-one_unsynced
+returns-in-Ok-clause-one_unsynced g c = rw (← c.self.view_is) (
+    let live : IsTrue c.self.inside.live = subst (λ (v : StoreView g.row.D.Denot). IsTrue v.live) (sym c.self.view_is) c.requires.live in
+    append_one _ (c.self.invariant.synced live) _ _ _ _ c.in-Ok.ensures.calls)
+
+pub returns-in-Err-clause-one_unsynced : goal.returns-in-Err-clause-one_unsynced
+returns-in-Err-clause-one_unsynced g c = rw (← c.self.view_is) (
+    let live : IsTrue c.self.inside.live = subst (λ (v : StoreView g.row.D.Denot). IsTrue v.live) (sym c.self.view_is) c.requires.live in
+    append_one _ (c.self.invariant.synced live) _ _ _ _ c.in-Err.ensures.calls)

@@ -1,4 +1,7 @@
-use Rattle.std.proofs.Common.{[], length, refl, sym, ◌∙◌, ap, arith, Err, length-take, length-append, length-drop}
+use Rattle.mcs_disk.specs.CallList.{unsynced}
+use Rattle.mcs_disk.proofs.Calling.{none_added}
+use Rattle.mcs_journal.proofs.Asking.{area_ok, area_err, create_one, header_read, refused_by_header, refused_create_one}
+use Rattle.std.proofs.Common.{inr, [], length, refl, sym, ◌∙◌, ap, arith, Err, length-take, length-append, length-drop}
 use Rattle.mcs_disk.proofs.Composing.{counts_then, rests_still, rests_leave, leaves_then}
 use Rattle.mcs_journal.specs.declared.fault.CreateFault.TheVariants.{Device}
 use Rattle.mcs_journal.proofs.Refusing.{counts_err, call_counts_ok, call_counts_err, refuses_create}
@@ -44,6 +47,7 @@ invariant_of-result g c = record {
   disk_size = c.write_first.ensures.call.size ∙ c.check_blank.ensures.reads.tells.size ∙ sym c.size.ensures ∙ c.if-size-ne-FILE_SIZE.false;
   within = omega arith;
   room = simp (length-take, length-append, length-drop) (omega (arith, c.as_mut_slice.ensures.len, ap length c.as_mut_slice.ensures.value, c.write_first.ensures.room, c.in-Ok.ensures.len, c.write_first.auto.buffer));
+  synced = λ alive. ap unsynced c.in-Ok-write_first.ensures.calls.made.all;
   intact = λ alive h.
       let mid = c.write_first.ensures.call.honest.0 h in
       record {
@@ -55,3 +59,28 @@ invariant_of-result g c = record {
         count = refl;
       };
 }
+
+pub returns-then-size-ne-FILE_SIZE-clause-refused_one_unsynced : goal.returns-then-size-ne-FILE_SIZE-clause-refused_one_unsynced
+returns-then-size-ne-FILE_SIZE-clause-refused_one_unsynced g c = λ synced. none_added _
+
+pub returns-in-Err-clause-refused_one_unsynced : goal.returns-in-Err-clause-refused_one_unsynced
+returns-in-Err-clause-refused_one_unsynced g c = λ synced. none_added _
+
+pub returns-in-Err-check_blank-clause-refused_calls : goal.returns-in-Err-check_blank-clause-refused_calls
+returns-in-Err-check_blank-clause-refused_calls g c = refused_by_header _ _ _ _ _ _ c.in-Err-check_blank.is c.check_blank.ensures.no_memory c.check_blank.ensures.calls
+
+pub returns-in-Err-check_blank-clause-refused_one_unsynced : goal.returns-in-Err-check_blank-clause-refused_one_unsynced
+returns-in-Err-check_blank-clause-refused_one_unsynced g c = λ synced. refused_create_one _ synced _ c.args.snap.now _ c.check_blank.result
+    (refused_by_header _ _ _ _ _ _ c.in-Err-check_blank.is c.check_blank.ensures.no_memory c.check_blank.ensures.calls)
+
+pub returns-in-Ok-write_first-clause-calls : goal.returns-in-Ok-write_first-clause-calls
+returns-in-Ok-write_first-clause-calls g c = area_ok _ _ _ _ _ _ _ (header_read _ _ _ _ c.in-Ok-check_blank.ensures.calls) c.in-Ok-write_first.ensures.calls
+
+pub returns-in-Ok-write_first-clause-one_unsynced : goal.returns-in-Ok-write_first-clause-one_unsynced
+returns-in-Ok-write_first-clause-one_unsynced g c = λ synced. create_one _ synced _ _ _ (area_ok {U = Unit {0}} {V = Unit {0}} _ _ _ _ _ _ tt (header_read _ _ _ _ c.in-Ok-check_blank.ensures.calls) c.in-Ok-write_first.ensures.calls)
+
+pub returns-in-Err-write_first-clause-refused_calls : goal.returns-in-Err-write_first-clause-refused_calls
+returns-in-Err-write_first-clause-refused_calls g c = inr (area_err _ _ _ _ _ _ _ (header_read _ _ _ _ c.in-Ok-check_blank.ensures.calls) c.in-Err-write_first.ensures.calls)
+
+pub returns-in-Err-write_first-clause-refused_one_unsynced : goal.returns-in-Err-write_first-clause-refused_one_unsynced
+returns-in-Err-write_first-clause-refused_one_unsynced g c = λ synced. create_one _ synced _ _ _ (area_err {U = Unit {0}} {V = Unit {0}} _ _ _ _ _ _ tt (header_read _ _ _ _ c.in-Ok-check_blank.ensures.calls) c.in-Err-write_first.ensures.calls)

@@ -1,3 +1,6 @@
+use Rattle.mcs_disk.proofs.Calling.{none_added}
+use Rattle.mcs_journal.proofs.Asked.{of_err}
+use Rattle.mcs_journal.proofs.Asking.{open_one, open_synced, refused_open_one}
 use Rattle.std.proofs.Common.{rules, List, ℕ, inl, sym, ◌∙◌, ap, subst, Err}
 use Rattle.mcs_disk.proofs.Composing.{rests_still}
 use Rattle.mcs_journal.specs.File.{Holds, slot_of}
@@ -31,6 +34,7 @@ invariant_of-store g c = record {
   disk_size = c.read_contents.ensures.reads.tells.size ∙ sym c.size.ensures ∙ c.if-size-ne-FILE_SIZE.false;
   within = c.in-Ok-read_contents.ensures.within;
   room = search rules;
+  synced = λ live. open_synced _ _ _ c.in-Ok-read_contents.ensures.calls;
   intact = λ live h.
       let was = c.read_contents.ensures.reads.tells.honest.0 h in
       let same = (c.read_contents.ensures.reads.rests was).bytes in
@@ -43,3 +47,18 @@ invariant_of-store g c = record {
         count = c.in-Ok-read_contents.ensures.count was;
       };
 }
+
+pub returns-then-size-ne-FILE_SIZE-clause-refused_one_unsynced : goal.returns-then-size-ne-FILE_SIZE-clause-refused_one_unsynced
+returns-then-size-ne-FILE_SIZE-clause-refused_one_unsynced g c = none_added _
+
+pub returns-in-Err-clause-refused_one_unsynced : goal.returns-in-Err-clause-refused_one_unsynced
+returns-in-Err-clause-refused_one_unsynced g c = none_added _
+
+pub returns-in-Ok-read_contents-clause-one_unsynced : goal.returns-in-Ok-read_contents-clause-one_unsynced
+returns-in-Ok-read_contents-clause-one_unsynced g c = open_one _ _ _ c.in-Ok-read_contents.ensures.calls
+
+pub returns-in-Err-read_contents-clause-refused_calls : goal.returns-in-Err-read_contents-clause-refused_calls
+returns-in-Err-read_contents-clause-refused_calls g c = of_err _ _ c.in-Err-read_contents.is c.read_contents.ensures.refused_calls
+
+pub returns-in-Err-read_contents-clause-refused_one_unsynced : goal.returns-in-Err-read_contents-clause-refused_one_unsynced
+returns-in-Err-read_contents-clause-refused_one_unsynced g c = refused_open_one _ _ (of_err _ _ c.in-Err-read_contents.is c.read_contents.ensures.refused_calls)

@@ -1,3 +1,5 @@
+use Rattle.mcs_disk.specs.CallList.{unsynced}
+use Rattle.mcs_journal.proofs.Asking.{replace_one}
 use Rattle.std.proofs.Common.{[], length, refl, sym, ◌∙◌, ap, subst, arith, IsTrue, length-take, length-append, length-drop}
 use Rattle.mcs_journal.specs.Store.{StoreView}
 use Rattle.mcs_journal.specs.Writing.{other_slot}
@@ -22,6 +24,7 @@ invariant_of-self g c = record {
   disk_size = c.replace_contents.ensures.call.size ∙ c.self.invariant.disk_size;
   within = omega arith;
   room = simp (length-take, length-append, length-drop) (omega (arith, c.deref_mut.ensures.len, ap length c.deref_mut.ensures.value, c.replace_contents.auto.buffer, c.self.invariant.room));
+  synced = λ alive. ap unsynced c.in-Ok.ensures.calls.made.all;
   intact = λ alive h.
       let live : IsTrue c.self.inside.live = subst (λ (v : StoreView g.row.D.Denot). IsTrue v.live) (sym c.self.view_is) c.requires.live in
       let was = c.replace_contents.ensures.call.honest.0 h in
@@ -36,3 +39,19 @@ invariant_of-self g c = record {
         count = refl;
       };
 }
+
+pub returns-in-Ok-clause-calls : goal.returns-in-Ok-clause-calls
+returns-in-Ok-clause-calls g c = rw (← c.self.view_is) (rw (← c.other-other.ensures) c.in-Ok.ensures.calls)
+
+pub returns-in-Err-clause-calls : goal.returns-in-Err-clause-calls
+returns-in-Err-clause-calls g c = rw (← c.self.view_is) (rw (← c.other-other.ensures) c.in-Err.ensures.calls)
+
+pub returns-in-Ok-clause-one_unsynced : goal.returns-in-Ok-clause-one_unsynced
+returns-in-Ok-clause-one_unsynced g c = rw (← c.self.view_is) (
+    let live : IsTrue c.self.inside.live = subst (λ (v : StoreView g.row.D.Denot). IsTrue v.live) (sym c.self.view_is) c.requires.live in
+    replace_one _ (c.self.invariant.synced live) _ _ _ _ c.in-Ok.ensures.calls)
+
+pub returns-in-Err-clause-one_unsynced : goal.returns-in-Err-clause-one_unsynced
+returns-in-Err-clause-one_unsynced g c = rw (← c.self.view_is) (
+    let live : IsTrue c.self.inside.live = subst (λ (v : StoreView g.row.D.Denot). IsTrue v.live) (sym c.self.view_is) c.requires.live in
+    replace_one _ (c.self.invariant.synced live) _ _ _ _ c.in-Err.ensures.calls)

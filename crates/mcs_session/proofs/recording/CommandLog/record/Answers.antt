@@ -1,6 +1,6 @@
+use Rattle.mcs_disk.proofs.Calling.{one_then}
 use Rattle.std.proofs.Common.{arith}
-use Rattle.mcs_session.proofs.Room.{acknowledged, appended, few_cycles, recorded_more, ticked}
-use Rattle.mcs_session.proofs.Using.{logged}
+use Rattle.mcs_session.proofs.Room.{acknowledged, appended, few_cycles, recorded_more}
 use Rattle.mcs_session.proofs.recording.CommandLog.record.Goals as goal
 
 pub make_room-requires-clause-more : goal.make_room-requires-clause-more
@@ -8,7 +8,7 @@ make_room-requires-clause-more g c = rw c.replay_cycles-more.ensures (few_cycles
 
 pub returns-in_err-append-clause-moments : goal.returns-in_err-append-clause-moments
 returns-in_err-append-clause-moments g c = λ honest was.
-    let made = c.in_ok-make_room.ensures.made honest was in
+    let made = c.in_ok-make_room.ensures.made honest was c.args.command.now c.encode_command-count.ensures.count c.replay_cycles-more.ensures in
     let now = made.recorded in
     let still = c.in_ok-make_room.ensures.counts.honest.1 honest in
     let changes = c.in_err-append.ensures.appends still now.stands.snap now.stands.records now.stands.holds in
@@ -17,7 +17,7 @@ returns-in_err-append-clause-moments g c = λ honest was.
 
 pub returns-clause-moments : goal.returns-clause-moments
 returns-clause-moments g c = λ honest was.
-    let made = c.in_ok-make_room.ensures.made honest was in
+    let made = c.in_ok-make_room.ensures.made honest was c.args.command.now c.encode_command-count.ensures.count c.replay_cycles-more.ensures in
     let now = made.recorded in
     let still = c.in_ok-make_room.ensures.counts.honest.1 honest in
     let changes = c.in_ok-append.ensures.appends still now.stands.snap now.stands.records now.stands.holds in
@@ -26,16 +26,22 @@ returns-clause-moments g c = λ honest was.
 
 pub returns-clause-recorded : goal.returns-clause-recorded
 returns-clause-recorded g c = λ honest was.
-    let now = (c.in_ok-make_room.ensures.made honest was).recorded in
+    let now = (c.in_ok-make_room.ensures.made honest was c.args.command.now c.encode_command-count.ensures.count c.replay_cycles-more.ensures).recorded in
     let still = c.in_ok-make_room.ensures.counts.honest.1 honest in
     let changes = c.in_ok-append.ensures.appends still now.stands.snap now.stands.records now.stands.holds in
     recorded_more _ _ _ _ _ _ _ now (rw (c.as_slice.ensures.value, c.in_ok-make_room.ensures.payload) c.encode_command-count.ensures.spells) c.requires.accepted c.replay_cycles-more.ensures c.in_ok-make_room.ensures.room.1 changes.durable changes.after
 
 pub returns-clause-acknowledges : goal.returns-clause-acknowledges
 returns-clause-acknowledges g c = λ honest was.
-    let made = c.in_ok-make_room.ensures.made honest was in
+    let made = c.in_ok-make_room.ensures.made honest was c.args.command.now c.encode_command-count.ensures.count c.replay_cycles-more.ensures in
     let now = made.recorded in
     let still = c.in_ok-make_room.ensures.counts.honest.1 honest in
     let changes = c.in_ok-append.ensures.appends still now.stands.snap now.stands.records now.stands.holds in
-    acknowledged _ _ _ _ _ (returns-clause-moments g c honest was) (ticked (g.D.Disk.state c.args.self.now.store.disk) (g.D.Disk.state c.make_room.new.self.store.disk) (g.D.Disk.state c.append.new.self.disk) _ _ _ _ _ c.encode_command-count.ensures.count c.replay_cycles-more.ensures made changes.ticks) (returns-clause-recorded g c honest was)
-    (logged (g.D.Disk.state c.args.self.now.store.disk) (g.D.Disk.state c.make_room.new.self.store.disk) (g.D.Disk.state c.append.new.self.disk) _ _ _ _ _ _ c.encode_command-count.ensures.count c.replay_cycles-more.ensures made (rw (c.as_slice.ensures.value, c.in_ok-make_room.ensures.payload) c.encode_command-count.ensures.spells) c.requires.accepted c.in_ok-make_room.ensures.room.1 changes.after)
+    acknowledged (g.D.Disk.state c.args.self.now.store.disk) (g.D.Disk.state c.make_room.new.self.store.disk) (g.D.Disk.state c.append.new.self.disk) _ _ _ _ _ (returns-clause-moments g c honest was) made changes.ticks (returns-clause-recorded g c honest was)
+    (rw (c.as_slice.ensures.value, c.in_ok-make_room.ensures.payload) c.encode_command-count.ensures.spells) c.requires.accepted (omega (arith, c.in_ok-make_room.ensures.room.1, c.replay_cycles-more.ensures)) changes.after
+
+pub returns-in_err-append-clause-one_unsynced : goal.returns-in_err-append-clause-one_unsynced
+returns-in_err-append-clause-one_unsynced g c = one_then _ _ _ c.in_ok-make_room.ensures.one_unsynced c.in_err-append.ensures.one_unsynced
+
+pub returns-clause-one_unsynced : goal.returns-clause-one_unsynced
+returns-clause-one_unsynced g c = one_then _ _ _ c.in_ok-make_room.ensures.one_unsynced c.in_ok-append.ensures.one_unsynced

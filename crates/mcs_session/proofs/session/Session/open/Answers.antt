@@ -1,3 +1,4 @@
+use Rattle.mcs_disk.proofs.Calling.{none_added, one_then}
 use Rattle.mcs_disk.proofs.Composing.{counts_then}
 use Rattle.mcs_session.proofs.Files.{failed_by, held_on, left_store, opened_by, recorded_by, refused_by, refuses_pair, refuses_store}
 use Rattle.mcs_session.proofs.session.Session.open.Goals as goal
@@ -56,3 +57,12 @@ returns-in-Ok-open-clause-refusal_counts g c = rw c.into_disk-in-Err-replay.ensu
 
 pub returns-clause-refused : goal.returns-clause-refused
 returns-clause-refused g c = λ honest. let h = c.in-Err.ensures.refused honest in (refuses_store _ _ h.0, left_store c.in-Err.refused.0 _ _ h.1)
+
+pub returns-in_default-clause-refused_one_unsynced : goal.returns-in_default-clause-refused_one_unsynced
+returns-in_default-clause-refused_one_unsynced g c = none_added _
+
+pub returns-in-Ok-begin-clause-one_unsynced : goal.returns-in-Ok-begin-clause-one_unsynced
+returns-in-Ok-begin-clause-one_unsynced g c = one_then _ _ _ c.in-Ok-open.ensures.one_unsynced c.in-Ok-begin.ensures.one_unsynced
+
+pub returns-in-Ok-Some-clause-refused_one_unsynced : goal.returns-in-Ok-Some-clause-refused_one_unsynced
+returns-in-Ok-Some-clause-refused_one_unsynced g c = one_then _ _ _ c.in-Ok-open.ensures.one_unsynced c.in-Err-begin.ensures.refused_one_unsynced

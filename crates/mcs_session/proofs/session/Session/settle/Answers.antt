@@ -1,3 +1,4 @@
+use Rattle.mcs_disk.proofs.Calling.{none_added}
 use Rattle.std.proofs.Common.{rules, IsTrue}
 use Rattle.mcs_session.proofs.Room.{leaves_state, recorded_there, settles}
 use Rattle.mcs_session.proofs.session.Session.settle.Goals as goal
@@ -27,3 +28,6 @@ returns-clause-settles g c = λ h.
           let changes = w.in-Err.ensures.replaces honest was.stands.snap was.stands.records was.stands.holds in
           rw (w.result-is, ← c.self.view_is) (was.stands, leaves_state _ _ _ _ was changes.moments)
     ]
+
+pub returns-then-not-is_open-clause-one_unsynced : goal.returns-then-not-is_open-clause-one_unsynced
+returns-then-not-is_open-clause-one_unsynced g c = none_added _

@@ -1,0 +1,82 @@
+// A client of debug adapters, as the text of the protocol has them: it starts `tools/dap`, asks, and waits for events.
+import { MessageClient } from "./message_client.mjs";
+
+export class Client extends MessageClient {
+  /** @param {string} command that starts the adapter */
+  constructor(command, folder = ".") {
+    super(command, folder);
+    /** The faults of what it was sent, by the protocol. */
+    this.faults = [];
+    this.expected = 0;
+  }
+
+  /** What the protocol says of each message that an adapter sends. */
+  check(message) {
+    this.expected += 1;
+    if (message.seq !== this.expected) this.faults.push(`seq ${message.seq}, not ${this.expected}`);
+    const isResponse = message.type === "response" && typeof message.command === "string" && typeof message.request_seq === "number"
+      && typeof message.success === "boolean" && (message.success || typeof message.message === "string");
+    const isEvent = message.type === "event" && typeof message.event === "string";
+    if (!isResponse && !isEvent) this.faults.push(`neither a response nor an event: ${JSON.stringify(message)}`);
+  }
+
+  /** The response to a request, whether it was done or not. */
+  answer(command, args) {
+    this.number += 1;
+    const seq = this.number;
+    this.send({ seq, type: "request", command, ...(args === undefined ? {} : { arguments: args }) });
+    return this.next((message) => message.type === "response" && message.request_seq === seq);
+  }
+
+  /** The body of the response; it throws where the request was not done. */
+  async ask(command, args) {
+    const response = await this.answer(command, args);
+    if (!response.success) throw new Error(`${command}: ${response.message}`);
+    return response.body;
+  }
+
+  event(name) {
+    return this.next((message) => message.type === "event" && message.event === name);
+  }
+
+  /** From initialize to launch; `configure` sets breakpoints. */
+  async begin(args, configure = async () => {}) {
+    const capabilities = await this.ask("initialize", { adapterID: "mcs4", linesStartAt1: true, columnsStartAt1: true, pathFormat: "path" });
+    await this.ask("launch", args);
+    await this.event("initialized");
+    await configure();
+    await this.ask("configurationDone");
+    return capabilities;
+  }
+
+  /** A move, up to where it stops. */
+  async move(command, args = {}) {
+    await this.ask(command, { threadId: 1, ...args });
+    return (await this.event("stopped")).body;
+  }
+
+  async frames() {
+    return (await this.ask("stackTrace", { threadId: 1 })).stackFrames;
+  }
+
+  /** The variables of a scope by their names. */
+  async scope(name) {
+    const { scopes } = await this.ask("scopes", { frameId: 1 });
+    const { variablesReference } = scopes.find((each) => each.name === name);
+    const { variables } = await this.ask("variables", { variablesReference });
+    return { variablesReference, variables, values: Object.fromEntries(variables.map((each) => [each.name, each.value])) };
+  }
+
+  /** The words that were put out since this was asked last. */
+  output() {
+    const isOutput = (message) => message.type === "event" && message.event === "output";
+    const words = this.received.filter(isOutput).map(({ body }) => body.output);
+    this.received = this.received.filter((message) => !isOutput(message));
+    return words.join("");
+  }
+
+  async end() {
+    await this.ask("disconnect", {});
+    return this.ended;
+  }
+}

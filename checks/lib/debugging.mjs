@@ -1,0 +1,259 @@
+// What checks/debugging tries by a client of its own: `ok WORDS` or `fault: WORDS` for each thing, `speed: WORDS` for what was measured.
+import { execFileSync, spawn } from "node:child_process";
+import { copyFileSync, readFileSync, readdirSync, writeFileSync } from "node:fs";
+import { Client } from "./dap_client.mjs";
+
+const TOP = new URL("../..", import.meta.url).pathname;
+const DAP = `${TOP}tools/dap`;
+const [folder] = process.argv.slice(2);
+const STEPS = 200;
+/** So many cycles does the program do that the speed is measured by. */
+const FAR = [1, 2, 3, 4, 5].reduce((sum, each) => sum + 2 * 12 * 16 ** (5 - each), 3 * 12 * 16 ** 5);
+
+function verdict(is, wanted, words) {
+  const [one, other] = [JSON.stringify(is), JSON.stringify(wanted)];
+  console.log(one === other ? `ok ${words}` : `fault: ${words}: ${one}, not ${other}`);
+}
+
+const fits = (words, pattern, what) => console.log(pattern.test(words) ? `ok ${what}` : `fault: ${what}: ${words}`);
+
+/** The answers of the program to lines on a session file. */
+const mcs4 = (word, file, input) => execFileSync(process.env.MCS4, [word, file], { input, encoding: "utf8" }).split("\n").slice(1, -1);
+
+/** What a session file holds, by a copy: the one in use cannot be opened. */
+function stateIn(file) {
+  copyFileSync(file, `${folder}/copy.mcs`);
+  return mcs4("open", `${folder}/copy.mcs`, "state\n")[0];
+}
+
+/** Keys and values of an answer to `state`. */
+function valuesOf(state) {
+  const words = state.split(" ").slice(1);
+  return Object.fromEntries(words.flatMap((word, at) => (at % 2 === 0 ? [[word, words[at + 1]]] : [])));
+}
+
+const bare = (text, mark) => text.split("\n").map((line) => line.replace(new RegExp(`${mark}.*`), "").trim()).join("\n");
+const example = (name) => ({
+  board: `${TOP}examples/${name}/board.toml`, program: `${TOP}examples/${name}/${name}.asm`, project: `${TOP}examples/${name}`,
+});
+
+/** A session file of an example, by the program alone. */
+function fileOf(name, lines = "") {
+  const file = `${folder}/${name}.mcs`;
+  execFileSync("rm", ["-f", file]);
+  const { board, program } = example(name);
+  const text = `${bare(readFileSync(program, "utf8"), ";")}\n`.replace(/\n\n$/, "\n");
+  const answers = mcs4("new", file, `wire\n${readFileSync(board, "utf8").replace(/^#.*$/gm, "")}.\nasm\n${text}.\nmap\n${text}.\n${lines}`);
+  const map = answers.filter((each) => /^(line|name) /.test(each)).map((each) => each.split(" "));
+  const lineAt = new Map(map.filter(([kind, , , size]) => kind === "line" && size > 0).map(([, line, at]) => [parseInt(at, 16), Number(line)]));
+  const names = new Map(map.filter(([kind]) => kind === "name").map(([, name_, value]) => [name_, parseInt(value, 16)]));
+  return { file, lineAt, names };
+}
+
+/** What the client sees of the machine, in the words of `state`. */
+async function seen(client) {
+  const { values } = await client.scope("Registers");
+  const digits = (name) => values[name].replace(/^0x/, "");
+  const r = Array.from({ length: 16 }, (_, at) => digits(`R${at}`)).join("");
+  return { acc: digits("acc"), cy: values.cy, pc: digits("pc"), dcl: digits("dcl"), test: values.test, r };
+}
+
+const same = ({ acc, cy, pc, dcl, test, r }) => ({ acc, cy, pc, dcl, test, r });
+
+/** The steps of an example, forward and back, beside those of the program. */
+async function trySteps(name) {
+  const { lineAt, file } = fileOf(name);
+  const wanted = mcs4("open", file, "state\nstep\n".repeat(STEPS)).filter((each) => each.startsWith("state ")).map(valuesOf);
+  const client = new Client(DAP);
+  await client.begin({ project: example(name).project });
+  const told = [await client.event("stopped")];
+  const states = [];
+  const lines = [];
+  for (let step = 0; step < STEPS; step++) {
+    states.push(await seen(client));
+    lines.push((await client.frames())[0].line);
+    told.push(await client.move("stepIn"));
+  }
+  verdict(states, wanted.map(same), `${name}: ${STEPS} steps`);
+  verdict(lines, wanted.map(({ pc }) => lineAt.get(parseInt(pc, 16)) || 0), `${name}: their lines`);
+  const back = [];
+  for (let step = 0; step < 40; step++) {
+    await client.move("stepBack");
+    back.unshift(await seen(client));
+  }
+  verdict(back, states.slice(-40), `${name}: 40 steps back`);
+  verdict(client.faults, [], `${name}: each message is as the protocol has it`);
+  verdict(await client.end(), 0, `${name}: it ends`);
+}
+
+/** Breakpoints at the labels of an example, beside `break` and `run` of the program. */
+async function tryBreakpoints(name) {
+  const { file, lineAt, names } = fileOf(name);
+  const text = readFileSync(example(name).program, "utf8");
+  const labels = [...names].filter(([label, value]) => lineAt.has(value) && new RegExp(`^${label}:`, "m").test(text)).slice(0, 8);
+  const client = new Client(DAP);
+  await client.begin(example(name));
+  await client.event("stopped");
+  const begun = await client.ask("evaluate", { expression: "state", context: "repl" });
+  for (const [label, address] of labels) {
+    copyFileSync(file, `${folder}/run.mcs`);
+    const answers = mcs4("open", `${folder}/run.mcs`, `break ${address}\nrun 50000\nunbreak ${address}\nstate\n`);
+    if (!/ break$/.test(answers[1])) continue;
+    await client.ask("restart", {});
+    await client.event("stopped");
+    await client.ask("setFunctionBreakpoints", { breakpoints: [{ name: label }] });
+    const stop = await client.move("continue");
+    verdict([stop.reason, await seen(client)], ["function breakpoint", same(valuesOf(answers[3]))], `${name}: a breakpoint at ${label}`);
+    await client.ask("setFunctionBreakpoints", { breakpoints: [] });
+  }
+  fits(begun.result, /^state seq 2 acc 0 cy 0 pc 000/, `${name}: it begins at power-on`);
+  await client.end();
+}
+
+/** Values that are set and keys that go down, beside `poke`, `press` and `test`. */
+async function trySetting() {
+  const { file } = fileOf("lock");
+  const wanted = valuesOf(mcs4("open", file, "poke r4 7\npoke acc 9\npoke pc 0x2E\npoke ram.0.0x13 5\npress 1 1\ntest 0\nstate\n").pop());
+  const client = new Client(DAP);
+  await client.begin(example("lock"));
+  await client.event("stopped");
+  const { variablesReference } = await client.scope("Registers");
+  for (const [name, value] of [["R4", "7"], ["acc", "0x9"], ["pc", "ready"], ["test", "0"]]) {
+    await client.ask("setVariable", { variablesReference, name, value });
+  }
+  await client.ask("setExpression", { expression: "ram.0.0x13", value: "0b101" });
+  await client.ask("pressKey", { key: "5" });
+  const { result } = await client.ask("evaluate", { expression: "state", context: "repl" });
+  const is = valuesOf(result);
+  verdict([same(is), is.keys], [same(wanted), wanted.keys], "values and keys are set");
+  verdict((await client.ask("evaluate", { expression: "ram.0.0x13", context: "watch" })).result, "0x5", "a character of RAM is set");
+  await client.end();
+}
+
+/** A session file has at each stop what was told; its breakpoints stay. */
+async function trySession() {
+  const { file } = fileOf("lock", "break 0x031\n");
+  const client = new Client(DAP);
+  await client.begin({ ...example("lock"), session: file });
+  await client.event("stopped");
+  const differing = [];
+  const compare = async (move) => {
+    const { result } = await client.ask("evaluate", { expression: "state", context: "repl" });
+    if (stateIn(file) !== result) differing.push(move);
+  };
+  await client.ask("setFunctionBreakpoints", { breakpoints: [{ name: "show" }] });
+  for (const move of ["stepIn", "next", "continue", "stepOut", "stepBack", "stepIn", "stepIn", "reverseContinue", "stepIn", "stepBack"]) {
+    await client.move(move);
+    await compare(move);
+  }
+  await client.ask("setFunctionBreakpoints", { breakpoints: [] });
+  await client.ask("evaluate", { expression: "press 5", context: "repl" });
+  await compare("press 5");
+  verdict(differing, [], "a session file has at each stop what was told");
+  const other = new Client(DAP);
+  await other.ask("initialize", {});
+  fits((await other.answer("launch", { session: file })).message, /was refused.*in use/s, "a session in use is refused");
+  await other.end();
+  client.child.kill("SIGKILL");
+  await client.ended;
+  const left = stateIn(file);
+  const third = new Client(DAP);
+  await third.begin({ session: file, stopOnEntry: false });
+  await third.ask("setFunctionBreakpoints", { breakpoints: [] });
+  fits(left, / keys 1.1 /, "what was told is kept where the adapter is killed");
+  third.child.stdin.end();
+  verdict(await third.ended, 1, "where the client goes away, the adapter ends");
+  verdict(mcs4("open", file, "breaks\n"), ["breaks 031"], "the breakpoints of a session stay");
+  verdict(readdirSync(folder).filter((name) => name.startsWith("lock.mcs.")), [], "no other file is left");
+}
+
+/** Files that are no sessions are refused, and stay as they are. */
+async function tryFiles() {
+  const { file } = fileOf("lock");
+  const damaged = readFileSync(file);
+  damaged.fill(0x55, 16, 40000);
+  writeFileSync(`${folder}/damaged.mcs`, damaged);
+  writeFileSync(`${folder}/none.mcs`, "no session\n");
+  const client = new Client(DAP);
+  await client.ask("initialize", {});
+  for (const [name, words] of [["damaged.mcs", /no 5[01]|damaged/], ["none.mcs", /no 50/], ["nothing/x.mcs", /not there/]]) {
+    fits((await client.answer("launch", { session: `${folder}/${name}` })).message, words, `${name} is refused`);
+  }
+  const wrong = await client.answer("launch", { ...example("lock"), session: `${folder}/nothing/x.mcs` });
+  fits(wrong.message, /was refused/, "a session in a folder that is not there is refused");
+  verdict(readFileSync(`${folder}/none.mcs`, "utf8"), "no session\n", "what is no session stays as it is");
+  verdict(Buffer.compare(readFileSync(`${folder}/damaged.mcs`), damaged), 0, "a damaged one stays as it is");
+  await client.ask("launch", example("lock"));
+  const set = await client.ask("setBreakpoints", { source: { path: "/etc/passwd" }, breakpoints: [{ line: 1 }] });
+  verdict(set.breakpoints[0].verified, false, "a file outside of the program has no breakpoints");
+  await client.end();
+}
+
+/** What is wrong with messages. */
+async function tryMessages() {
+  const client = new Client(DAP);
+  fits((await client.answer("threads")).message, /initialize comes first/, "out of order");
+  await client.ask("initialize", {});
+  fits((await client.answer("next", { threadId: 1 })).message, /configurationDone comes first|nothing is launched/, "a move before launch");
+  fits((await client.answer("frobnicate")).message, /there is no frobnicate/, "an unknown request");
+  client.raw("Content-Length: 4\r\n\r\n{no}");
+  fits((await client.next(({ request_seq }) => request_seq === 0)).message, /not JSON/, "no JSON");
+  client.raw(`Content-Length: ${16777217}\r\n\r\n`);
+  client.raw(Buffer.alloc(16777217, 32));
+  fits((await client.next(({ request_seq }) => request_seq === 0)).message, /16777217 bytes was not read/, "a message that is too long");
+  await client.ask("launch", example("lock"));
+  const long = await client.answer("evaluate", { expression: "x".repeat(16000000), context: "repl" });
+  fits(long.message, /65536 characters/, "16 MB in the console");
+  verdict(client.faults, [], "each answer is as the protocol has it");
+  verdict(await client.end(), 0, "it ends after all of that");
+  const other = new Client(DAP);
+  other.raw("GET / HTTP/1.1\r\n\r\n");
+  verdict([await other.ended, other.told.split(",")[0]], [1, "dap: a message begins with one line Content-Length: N"], "another protocol");
+  const child = spawn(DAP, ["--port", "1"], { stdio: "ignore" });
+  verdict(await new Promise((resume) => child.on("close", resume)), 2, "wrong arguments");
+}
+
+const middle = (list) => [...list].sort((one, other) => one - other)[Math.floor(list.length / 2)];
+const spoken = (list) => `${middle(list).toFixed(1)} ms in the middle, ${Math.max(...list).toFixed(1)} at most`;
+
+async function timed(count, act) {
+  const times = [];
+  for (let turn = 0; turn < count; turn++) {
+    const begun = performance.now();
+    await act();
+    times.push(performance.now() - begun);
+  }
+  return times;
+}
+
+/** How long a step takes, a step back after ten million cycles, and how fast a breakpoint comes that is far away. */
+async function trySpeed() {
+  const program = `${folder}/far.asm`;
+  // R0 counts 12 * 16 ** 5 times, with NOP and ISZ of 3 cycles; each of R1 to R5 after 16 turns of the one before it, by 2.
+  const count = [0, 1, 2, 3, 4, 5].map((each) => `        ISZ R${each}, turn\n`).join("");
+  writeFileSync(program, `        FIM P0, 0\n        FIM P1, 0\n        FIM P2, 0x04\nturn:   NOP\n${count}far:    JUN far\n`);
+  const client = new Client(DAP);
+  await client.begin({ program, board: example("three_lamps").board });
+  await client.event("stopped");
+  console.log(`speed: a step is told in ${spoken(await timed(200, () => client.move("stepIn")))}`);
+  await client.ask("setFunctionBreakpoints", { breakpoints: [{ name: "far" }] });
+  const begun = performance.now();
+  const stop = await client.move("continue");
+  const time = (performance.now() - begun) / 1000;
+  const backs = await timed(20, () => client.move("stepBack"));
+  console.log(`speed: a step back after millions of cycles is told in ${spoken(backs)}`);
+  const { result } = await client.ask("evaluate", { expression: "count 1", context: "repl" });
+  verdict([stop.reason, /^count/.test(result)], ["function breakpoint", true], "a breakpoint far away");
+  console.log(`speed: ${(FAR / 1e6).toFixed(1)} million cycles to a breakpoint in ${time.toFixed(2)} s`);
+  await client.end();
+}
+
+for (const name of ["lock", "calculator", "stacker", "three_lamps"]) {
+  await trySteps(name);
+  await tryBreakpoints(name);
+}
+await trySetting();
+await trySession();
+await tryFiles();
+await tryMessages();
+await trySpeed();

@@ -1,0 +1,108 @@
+-- Drives Neovim's language client over the lock, and over a text with faults: what is told goes to standard output, a line for each thing.
+-- checks/editors starts it with the set-up that the manual has.
+local function say(...) io.stdout:write(string.format(...), "\n") io.stdout:flush() end
+local function quit() vim.cmd("qa!") end
+local patience = 60000
+
+local function client_of(buffer)
+    for id in pairs(vim.lsp.buf_get_clients(buffer)) do return id end
+end
+
+local function edit(name)
+    vim.cmd("edit " .. name)
+    local buffer = vim.api.nvim_get_current_buf()
+    vim.wait(patience, function()
+        local id = client_of(buffer)
+        return id ~= nil and vim.lsp.get_client_by_id(id).initialized == true
+    end, 5)
+    return buffer
+end
+
+local function find(pattern)
+    for number, line in ipairs(vim.api.nvim_buf_get_lines(0, 0, -1, false)) do
+        local column = line:find(pattern, 1, true)
+        if column then return number, column - 1 end
+    end
+end
+
+local function request(method, more)
+    local params = vim.tbl_extend("force", vim.lsp.util.make_position_params(), more or {})
+    local answers = vim.lsp.buf_request_sync(0, method, params, patience)
+    local _, answer = next(answers or {})
+    if answer == nil then return nil end
+    return answer.result, answer.error or answer.err
+end
+
+local function put(pattern, more)
+    local line, column = find(pattern)
+    vim.api.nvim_win_set_cursor(0, { line, column + (more or 0) })
+end
+
+local function diagnostics(buffer, count)
+    vim.wait(patience, function() return #vim.diagnostic.get(buffer) == count end, 5)
+    local found = vim.diagnostic.get(buffer)
+    table.sort(found, function(one, other) return one.lnum < other.lnum end)
+    for _, each in ipairs(found) do
+        say("fault %d:%d-%d %s", each.lnum + 1, each.col, each.end_col, each.message)
+    end
+    if #found == 0 then say("no fault") end
+end
+
+local function main()
+    -- The lock as it is.
+    local lock = edit("lock.asm")
+    put("JCN zero, anew", 11)
+    diagnostics(lock, 0)
+    say("hover %s", ((request("textDocument/hover")).contents.value:gsub("\n+", " | ")))
+    put("JCN zero, anew", 1)
+    say("hover %s", ((request("textDocument/hover")).contents.value:gsub("\n+", " | ")))
+    put("JCN zero, anew", 11)
+    vim.lsp.buf.definition()
+    vim.wait(patience, function() return vim.api.nvim_win_get_cursor(0)[1] ~= find("JCN zero, anew") end, 5)
+    say("definition %s", vim.api.nvim_get_current_line():sub(1, 13))
+    put("JCN zero, anew", 11)
+    local references = request("textDocument/references", { context = { includeDeclaration = true } })
+    for _, each in ipairs(references) do say("reference %d:%d", each.range.start.line + 1, each.range.start.character) end
+    put("JCN zero, anew", 2)
+    for _, each in ipairs(request("textDocument/completion")) do say("completion %s", each.label) end
+    local symbols = request("textDocument/documentSymbol")
+    say("symbols %d, the first %s", #symbols, symbols[1].name)
+    put("JCN zero, anew", 11)
+    vim.lsp.buf.rename("begin_anew")
+    vim.wait(patience, function() return find("JCN zero, begin_anew") ~= nil and find("begin_anew:") == 30 end, 5)
+    say("renamed %s, %s", find("begin_anew:") and "its definition" or "not its definition", find("anew:") == 30 and "alone" or "more")
+    diagnostics(lock, 0)
+
+    -- Faults, of which one is cured.
+    local wrong = edit("wrong.asm")
+    diagnostics(wrong, 3)
+    put("JMP entre")
+    local range = { start = { line = find("JMP entre") - 1, character = 8 } }
+    range["end"] = range.start
+    local actions = request("textDocument/codeAction", { range = range, context = { diagnostics = {} } })
+    for _, each in ipairs(actions) do
+        say("cure %s", each.title)
+        vim.lsp.util.apply_workspace_edit(each.edit, "utf-16")
+    end
+    vim.wait(patience, function()
+        for _, each in ipairs(vim.diagnostic.get(wrong)) do if each.message:match("^entre") then return true end end
+        return false
+    end, 5)
+    diagnostics(wrong, 3)
+
+    -- The board: a lamp's line leads to its chip; without its RAM, all three lamps lack their lines.
+    local board = edit("board.toml")
+    diagnostics(board, 0)
+    put("ram0.0.2")
+    say("hover %s", (request("textDocument/hover")).contents.value)
+    local place = request("textDocument/definition")
+    say("definition %s", vim.api.nvim_buf_get_lines(0, place.range.start.line, place.range.start.line + 1, false)[1])
+    local line = find("bank = 0")
+    vim.api.nvim_buf_set_lines(0, line - 1, line, false, { "bank = 1" })
+    diagnostics(board, 3)
+    say("end")
+end
+
+local is_right, told = pcall(main)
+if not is_right then say("the check failed: %s", told) end
+quit()

@@ -1,0 +1,134 @@
+// What checks/editors tries by a client of its own: `ok WORDS` or `fault: WORDS` for each thing, `speed: WORDS` for what was measured.
+import { execFileSync } from "node:child_process";
+import { readFileSync, readdirSync } from "node:fs";
+import { Client } from "./lsp_client.mjs";
+
+const TOP = new URL("../..", import.meta.url).pathname;
+const LSP = `${TOP}tools/lsp`;
+const [folder] = process.argv.slice(2);
+const read = (name) => readFileSync(`${TOP}${name}`, "utf8");
+const at = (uri, line, character) => ({ textDocument: { uri }, position: { line, character } });
+
+function verdict(is, wanted, words) {
+  const [one, other] = [JSON.stringify(is), JSON.stringify(wanted)];
+  console.log(one === other ? `ok ${words}` : `fault: ${words}: ${one}, not ${other}`);
+}
+
+/** What the proved program says of a text: addresses and sizes of its lines, and its names. */
+function bySession(board, program) {
+  const file = `${folder}/session.mcs`;
+  const input = `wire\n${board}.\nasm\n${program}.\nmap\n${program}.\n`;
+  const out = execFileSync(process.env.MCS4, ["new", file], { input, encoding: "utf8" }).split("\n");
+  execFileSync("rm", ["-f", file]);
+  const lines = new Map();
+  const names = new Map();
+  for (const [kind, first, second, third] of out.map((each) => each.split(" "))) {
+    if (kind === "line" && Number(third) > 0) lines.set(Number(first), { address: second, size: Number(third) });
+    if (kind === "name") names.set(first, parseInt(second, 16));
+  }
+  return { lines, names };
+}
+
+/** The examples that are texts in a folder. */
+function examples() {
+  return readdirSync(`${TOP}examples`, { withFileTypes: true }).filter((each) => each.isDirectory()).map(({ name }) => name);
+}
+
+/** Addresses, sizes and values of an example, as hovers tell them, beside those that the program tells. */
+async function compare(client, name) {
+  const uri = `file://${TOP}examples/${name}/${name}.asm`;
+  const [text, board] = [read(`examples/${name}/${name}.asm`), read(`examples/${name}/board.toml`)];
+  verdict(await client.open(uri, text), [], `${name} has no fault`);
+  const bare = text.split("\n").map((line) => line.replace(/;.*/, "").trim()).join("\n");
+  const { lines, names } = bySession(board.replace(/^#.*$/gm, ""), bare.endsWith("\n") ? bare : `${bare}\n`);
+  const told = [];
+  for (const [line, { address, size }] of lines) {
+    const column = text.split("\n")[line - 1].search(/\S/);
+    const hover = await client.ask("textDocument/hover", at(uri, line - 1, column));
+    const found = new RegExp(`line ${line}: address 0x([0-9A-F]+), ([0-9A-F ]+)`).exec(hover ? hover.contents.value : "");
+    if (!found || parseInt(found[1], 16) !== parseInt(address, 16) || found[2].trim().split(" ").length !== size) told.push(line);
+  }
+  verdict(told, [], `${name}: addresses and sizes of ${lines.size} lines`);
+  const symbols = await client.ask("textDocument/documentSymbol", { textDocument: { uri } });
+  verdict(symbols.map((each) => each.name).sort(), [...names.keys()].sort(), `${name}: its names`);
+  const values = symbols.map((each) => parseInt(/0x([0-9A-F]+)/.exec(each.detail)[1], 16));
+  verdict(values, symbols.map((each) => names.get(each.name)), `${name}: values of names`);
+  const { data } = await client.ask("textDocument/semanticTokens/full", { textDocument: { uri } });
+  const inCode = data.filter((_, place) => place % 5 === 3).filter((type) => type === 4).length;
+  const wanted = [...lines.keys()].filter((line) => !/^(\w+:)?\s*DB\b/.test(text.split("\n")[line - 1])).length;
+  verdict(inCode, wanted, `${name}: each instruction is coloured as one`);
+}
+
+const middle = (list) => [...list].sort((one, other) => one - other)[Math.floor(list.length / 2)];
+const spoken = (list) => `${middle(list).toFixed(1)} ms in the middle, ${Math.max(...list).toFixed(1)} at most`;
+
+/** How long faults and hovers take in a text that is as long as one can be: each edit adds a fault. */
+async function trySpeed(client) {
+  const uri = "file:///long.asm";
+  const text = `start:\n${"LDM 5\n".repeat(2728)}NOP`;
+  await client.open(uri, text);
+  const hovers = [];
+  for (let turn = 0; turn < 50; turn++) {
+    const begun = performance.now();
+    await client.ask("textDocument/hover", at(uri, 10 + turn, 1));
+    hovers.push(performance.now() - begun);
+  }
+  const faults = [];
+  for (let turn = 1; turn <= 15; turn++) {
+    const begun = performance.now();
+    const range = { start: { line: turn, character: 4 }, end: { line: turn, character: 5 } };
+    client.notify("textDocument/didChange", { textDocument: { uri, version: turn + 1 }, contentChanges: [{ range, text: "x" }] });
+    verdict((await client.faults(uri)).length, turn, `${turn} faults`);
+    faults.push(performance.now() - begun);
+  }
+  console.log(`speed: a hover in a text of ${text.length} bytes: ${spoken(hovers)}`);
+  console.log(`speed: 1 to 15 faults of it, after an edit: ${spoken(faults)}`);
+}
+
+/** What is wrong is told, and the next request is answered. */
+async function tryWrong() {
+  const client = new Client(LSP);
+  verdict((await client.answer("textDocument/hover", {})).error.code, -32002, "a request before initialize");
+  client.notify("textDocument/didOpen", { textDocument: {} });
+  await client.begin();
+  verdict((await client.answer("initialize", {})).error.code, -32600, "initialize twice");
+  verdict((await client.answer("workspace/none", {})).error.code, -32601, "a method that is not there");
+  verdict((await client.answer("textDocument/hover", at("file:///none.asm", 0, 0))).error.code, -32602, "a text that is not open");
+  client.raw("Content-Length: 3\r\n\r\n{,}");
+  verdict((await client.next((each) => each.id === null)).error.code, -32700, "no JSON");
+  client.raw("Content-Length: 2\r\n\r\n[]");
+  verdict((await client.next((each) => each.id === null)).error.code, -32600, "no message");
+  client.raw(`Content-Length: ${16777217}\r\n\r\n`);
+  client.raw(Buffer.alloc(16777217, 32));
+  verdict((await client.next((each) => each.id === null)).error.code, -32600, "a message that is too long");
+  const uri = "file:///large.asm";
+  const [fault] = await client.open(uri, "NOP ; \u00e9\n".repeat(1600000));
+  verdict(fault.message.slice(0, 25), "a text has at most 65,536", "a text of 16 MB");
+  client.notify("textDocument/didChange", { textDocument: { uri, version: 2 }, contentChanges: [{ text: "NOP\n" }] });
+  verdict(await client.faults(uri), [], "another text in its place");
+  client.notify("textDocument/didChange", { textDocument: { uri, version: 3 }, contentChanges: [{ text: "x" }, { range: {}, text: "" }] });
+  verdict((await client.next((each) => each.method === "window/logMessage")).params.type, 1, "an edit without a place");
+  verdict((await client.ask("textDocument/hover", at(uri, 0, 1))).contents.value.slice(0, 4), "NOP:", "the text is as it was");
+  verdict(await client.end(), 0, "shutdown and exit");
+}
+
+async function tryEnds() {
+  const gone = new Client(LSP);
+  await gone.begin();
+  gone.child.stdin.end();
+  verdict(await gone.ended, 1, "a client that goes away");
+  const hasty = new Client(LSP);
+  hasty.notify("exit");
+  verdict(await hasty.ended, 1, "exit without shutdown");
+  const other = new Client(LSP);
+  other.raw("GET / HTTP/1.1\r\n\r\n");
+  verdict([await other.ended, other.told.split(",")[0]], [1, "lsp: a message begins with one line Content-Length: N"], "another protocol");
+}
+
+const client = new Client(LSP);
+await client.begin();
+for (const name of examples()) await compare(client, name);
+await trySpeed(client);
+verdict(await client.end(), 0, "the end");
+await tryWrong();
+await tryEnds();

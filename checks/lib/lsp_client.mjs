@@ -1,0 +1,49 @@
+// A client of language servers, for what editors lack: it starts `tools/lsp`, asks, and waits for what is told.
+import { MessageClient } from "./message_client.mjs";
+
+export class Client extends MessageClient {
+  send(message) {
+    super.send({ jsonrpc: "2.0", ...message });
+  }
+
+  notify(method, params) {
+    this.send({ method, params });
+  }
+
+  /** The answer to a request: with a result, or an error. */
+  answer(method, params) {
+    this.number += 1;
+    const id = this.number;
+    this.send({ id, method, params });
+    return this.next((message) => message.id === id && message.method === undefined);
+  }
+
+  async ask(method, params) {
+    const { result, error } = await this.answer(method, params);
+    if (error) throw new Error(`${method}: ${error.message}`);
+    return result;
+  }
+
+  async begin() {
+    const told = await this.ask("initialize", { processId: process.pid, rootUri: null, capabilities: {} });
+    this.notify("initialized", {});
+    return told;
+  }
+
+  /** Opens a text; its faults, once they are told. */
+  async open(uri, text, languageId = "asm") {
+    this.notify("textDocument/didOpen", { textDocument: { uri, languageId, version: 1, text } });
+    return this.faults(uri);
+  }
+
+  async faults(uri) {
+    const { params } = await this.next((each) => each.method === "textDocument/publishDiagnostics" && each.params.uri === uri);
+    return params.diagnostics;
+  }
+
+  async end() {
+    await this.ask("shutdown");
+    this.notify("exit");
+    return this.ended;
+  }
+}

@@ -1,0 +1,62 @@
+"""What checks/page looks at of the faults that everyone makes once: each is told as it happens, with its line, while time goes on; with its
+switch time stops before it, and goes on with it; a program without them has none."""
+
+import re
+import time
+
+from page_in_browser import STATUS, choose_example, told_of, until_ready
+from verdicts import comes, verdict
+
+ROWS = "return [...document.querySelectorAll('#usual-list li .words')].map((each) => each.textContent)"
+SHOWN = "return isShown(document.getElementById('usual'))"
+BOARD = """[[rom]]
+chip = 0
+port = "0000"
+[[rom]]
+chip = 1
+port = "iiii"
+[[ram]]
+bank = 0
+chips = 1
+"""
+# RDR reads the keys; WRR has no SRC of its own.
+PROGRAM = """keys:   FIM P0, 0x10
+        SRC P0
+        RDR
+        WRR
+        JUN keys
+"""
+WRITE = "WRR writes to ROM 1, whose port has no output line; the last SRC is at 002"
+
+
+def check(browser, page, _folder, _mcs4):
+    browser.go("about:blank")
+    browser.go(page.as_uri())
+    until_ready(browser)
+    choose_example(browser, "calculator")
+    time.sleep(1)
+    verdict("nothing is told of a program that is right", browser.script(SHOWN), False)
+    choose_example(browser, "empty bench")
+    told_of(browser, "#board-editor", BOARD)
+    told_of(browser, "#program-editor", PROGRAM)
+    comes(browser, "a fault is told with its line", ROWS, [f"004 (keys + 4, line 4) {WRITE}"])
+    verdict("while time goes on", browser.script(STATUS), re.compile("^Time runs"))
+    browser.click("#usual-list input")
+    browser.click("#run")
+    browser.until(STATUS, re.compile("^Stopped"))
+    browser.click("#run")
+    comes(browser, "with its switch time stops before it", STATUS, "Stopped at 004, before what is told as a fault.")
+    verdict("and it is told again", browser.script(ROWS), [f"004 (keys + 4, line 4) {WRITE}"])
+    browser.click("#run")
+    comes(browser, "it goes on with it, up to the next time", STATUS, re.compile("^Stopped at 004"))
+    browser.reload()
+    until_ready(browser)
+    browser.click("#run")
+    comes(browser, "the switch is kept", STATUS, re.compile("^Stopped at 004"))
+    browser.click("#usual-list input")
+    browser.click("#run")
+    comes(browser, "and switched off again", STATUS, re.compile("^Time runs"))
+    comes(browser, "it is told once a run", ROWS, [f"004 (keys + 4, line 4) {WRITE}"])
+    time.sleep(0.5)
+    verdict("and no more", len(browser.script(ROWS)), 1)
+    browser.click("#run")

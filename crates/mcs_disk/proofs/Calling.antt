@@ -1,0 +1,97 @@
+-- Calls that are made one after another, and how many writes are not synced after each.
+use Rattle.std.proofs.Common.{◌≡◌, inl, inr, ⊎_elim, ◌≤◌, List, [], ◌∷◌, ◌++◌, ℕ, zero, suc, replicate, refl, sym, ◌∙◌, ap, subst, append_assoc, Result, Ok, Err}
+use Rattle.mcs_disk.specs.CallList.{CutShort, DiskCall, FailureOf, Makes, OneUnsynced, Failed, Synced, WasRead, Wrote, unsynced, writes_of}
+
+-- no call was made
+pub none_added : (calls : List DiskCall) → OneUnsynced calls calls
+none_added calls = record { added = []; all = refl; each = none }
+  where
+    none : (later sooner : List DiskCall) (call : DiskCall) → [] ≡ later ++ call ∷ sooner → unsynced (call ∷ sooner ++ calls) ≤ 1
+    none [] sooner call is = cc
+    none (c ∷ later) sooner call is = cc
+
+-- a plan that was cut short, behind others
+pub cut_behind : (first second : List DiskCall) (old mid new : List DiskCall) → mid ≡ first ++ old → CutShort second mid new → CutShort (second ++ first) old new
+cut_behind first [] old mid new is none = absurd none
+cut_behind first (Wrote at from ∷ second) old mid new is (inl failed) = inl (subst (λ (l : List DiskCall). FailureOf (Wrote at from) l new) (ap (λ (l : List DiskCall). second ++ l) is ∙ sym (append_assoc second first old)) failed)
+cut_behind first (WasRead ∷ second) old mid new is (inl failed) = inl (failed ∙ ap (λ (l : List DiskCall). second ++ l) is ∙ sym (append_assoc second first old))
+cut_behind first (Failed at from ∷ second) old mid new is (inl failed) = inl (failed ∙ ap (λ (l : List DiskCall). second ++ l) is ∙ sym (append_assoc second first old))
+cut_behind first (Synced ∷ second) old mid new is (inl failed) = inl (failed ∙ ap (λ (l : List DiskCall). second ++ l) is ∙ sym (append_assoc second first old))
+cut_behind first (call ∷ second) old mid new is (inr before) = inr (cut_behind first second old mid new is before)
+
+-- a plan that was cut short in its first part
+pub cut_before : (first second : List DiskCall) (old new : List DiskCall) → CutShort first old new → CutShort (second ++ first) old new
+cut_before first [] old new cut = cut
+cut_before first (call ∷ second) old new cut = inr (cut_before first second old new cut)
+
+-- a first part that was made, and then the rest
+pub makes_then : {T E : Type 0} (first second : List DiskCall) (old mid new : List DiskCall) (result : Result T E)
+    → mid ≡ first ++ old → Makes second mid new result → Makes (second ++ first) old new result
+makes_then first second old mid new (Ok x) is made = record { all = made.all ∙ ap (λ (l : List DiskCall). second ++ l) is ∙ sym (append_assoc second first old); cut = tt }
+makes_then first second old mid new (Err e) is made = record { all = tt; cut = cut_behind first second old mid new is made.cut }
+
+-- a first part that failed
+pub makes_first : {T E U V : Type 0} (first second : List DiskCall) (old new : List DiskCall) (e : E) (f : V) → Makes {T = T} {E = E} first old new (Err e) → Makes {T = U} {E = V} (second ++ first) old new (Err f)
+makes_first first second old new e f made = record { all = tt; cut = cut_before first second old new made.cut }
+
+-- a read writes nothing
+pub reads_write_nothing : {T E : Type 0} (old new : List DiskCall) (result : Result T E) → Makes (WasRead ∷ []) old new result → writes_of new ≡ writes_of old
+reads_write_nothing old new (Ok x) made = ap writes_of made.all
+reads_write_nothing old new (Err e) made = ⊎_elim (λ same. ap writes_of same) (λ none. absurd none) made.cut
+
+-- nor does a sync
+pub syncs_write_nothing : {T E : Type 0} (old new : List DiskCall) (result : Result T E) → Makes (Synced ∷ []) old new result → writes_of new ≡ writes_of old
+syncs_write_nothing old new (Ok x) made = ap writes_of made.all
+syncs_write_nothing old new (Err e) made = ⊎_elim (λ same. ap writes_of same) (λ none. absurd none) made.cut
+
+-- after each of these calls at most one write is not synced
+abbrev pub EachOne : List DiskCall → List DiskCall → Type 0
+EachOne old [] = Unit {0}
+EachOne old (call ∷ made) = (unsynced (call ∷ made ++ old) ≤ 1) × EachOne old made
+
+at_each : (old made later sooner : List DiskCall) (call : DiskCall) → EachOne old made → made ≡ later ++ call ∷ sooner → unsynced (call ∷ sooner ++ old) ≤ 1
+at_each old [] [] sooner call ones is = cc
+at_each old [] (d ∷ later) sooner call ones is = cc
+at_each old (c ∷ made) [] sooner call ones is = subst (λ (l : List DiskCall). unsynced (l ++ old) ≤ 1) is ones.0
+at_each old (c ∷ made) (d ∷ later) sooner call ones is = at_each old made later sooner call ones.1 cc
+
+from_each : (old made : List DiskCall) → ((later sooner : List DiskCall) (call : DiskCall) → made ≡ later ++ call ∷ sooner → unsynced (call ∷ sooner ++ old) ≤ 1) → EachOne old made
+from_each old [] each = tt
+from_each old (c ∷ made) each = (each [] made c refl, from_each old made (λ later sooner call is. each (c ∷ later) sooner call (ap (λ (l : List DiskCall). c ∷ l) is)))
+
+ones_then : (old first second : List DiskCall) → EachOne old first → EachOne (first ++ old) second → EachOne old (second ++ first)
+ones_then old first [] before ones = before
+ones_then old first (c ∷ second) before ones = (subst (λ (l : List DiskCall). unsynced (c ∷ l) ≤ 1) (sym (append_assoc second first old)) ones.0, ones_then old first second before ones.1)
+
+pub one_by_one : (old new made : List DiskCall) → new ≡ made ++ old → EachOne old made → OneUnsynced old new
+one_by_one old new made is ones = record { added = made; all = is; each = λ later sooner call cut. at_each old made later sooner call ones cut }
+
+-- one stretch after another
+pub one_then : (old mid new : List DiskCall) → OneUnsynced old mid → OneUnsynced mid new → OneUnsynced old new
+one_then old mid new first second =
+    one_by_one old new (second.added ++ first.added) (second.all ∙ ap (λ (l : List DiskCall). second.added ++ l) first.all ∙ sym (append_assoc second.added first.added old))
+    (ones_then old first.added second.added (from_each old first.added first.each)
+    (subst (λ (l : List DiskCall). EachOne l second.added) first.all (from_each mid second.added second.each)))
+
+one_of_cut : (plan old new : List DiskCall) → EachOne old plan → CutShort plan old new → OneUnsynced old new
+one_of_cut [] old new ones none = absurd none
+one_of_cut (Wrote at from ∷ plan) old new ones (inl (inl same)) = one_by_one old new plan same ones.1
+one_of_cut (Wrote at from ∷ plan) old new ones (inl (inr torn)) = one_by_one old new (Failed at from ∷ plan) torn ones
+one_of_cut (WasRead ∷ plan) old new ones (inl same) = one_by_one old new plan same ones.1
+one_of_cut (Failed at from ∷ plan) old new ones (inl same) = one_by_one old new plan same ones.1
+one_of_cut (Synced ∷ plan) old new ones (inl same) = one_by_one old new plan same ones.1
+one_of_cut (call ∷ plan) old new ones (inr before) = one_of_cut plan old new ones.1 before
+
+-- a plan of which each call leaves at most one write that is not synced
+pub one_of_made : {T E : Type 0} (plan old new : List DiskCall) (result : Result T E) → EachOne old plan → Makes plan old new result → OneUnsynced old new
+one_of_made plan old new (Ok x) ones made = one_by_one old new plan made.all ones
+one_of_made plan old new (Err e) ones made = one_of_cut plan old new ones made.cut
+
+-- reads leave as many as there were
+pub unsynced-reads : (n : ℕ) (old : List DiskCall) → unsynced (replicate n WasRead ++ old) ≡ unsynced old
+unsynced-reads zero old = refl
+unsynced-reads (suc n) old = unsynced-reads n old
+
+pub one_of_reads : (n : ℕ) (old : List DiskCall) → unsynced old ≤ 1 → EachOne old (replicate n WasRead)
+one_of_reads zero old one = tt
+one_of_reads (suc n) old one = (subst (λ (k : ℕ). k ≤ 1) (sym (unsynced-reads n old)) one, one_of_reads n old one)

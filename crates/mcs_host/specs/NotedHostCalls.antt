@@ -1,0 +1,21 @@
+-- What a call of the code is among the calls on a file of the host.
+use Rattle.std.specs.Prelude.{ℕ, List}
+use Rattle.mcs_host.specs.HostCalls as calls
+use Rattle.mcs_host.specs.HostCalls.{HostCall}
+use Rattle.mcs_host.specs.declared.host_record.Asked.{Asked}
+use Rattle.mcs_host.specs.declared.host_record.Asked.TheVariants as asked
+
+-- a call with the bytes or the name that go with it, if any do
+abbrev pub host_call_of : Asked → List ℕ → HostCall
+host_call_of (asked.Lock ok) bytes = calls.Lock ok
+host_call_of (asked.LookUp ok) bytes = calls.LookUp bytes ok
+host_call_of (asked.Length n ok) bytes = calls.Length n ok
+host_call_of (asked.SetLength n ok) bytes = calls.SetLength n ok
+host_call_of (asked.ReadAt at ok) bytes = calls.ReadAt at bytes ok
+host_call_of (asked.WriteAt at ok) bytes = calls.WriteAt at bytes ok
+host_call_of (asked.SyncData ok) bytes = calls.SyncData ok
+host_call_of (asked.SyncAll ok) bytes = calls.SyncAll ok
+host_call_of (asked.SyncFolder ok) bytes = calls.SyncFolder bytes ok
+host_call_of (asked.IsLink ok) bytes = calls.IsLink bytes ok
+host_call_of (asked.RealName ok) bytes = calls.RealName bytes ok
+host_call_of asked.Made bytes = calls.Made

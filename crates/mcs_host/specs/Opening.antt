@@ -1,0 +1,112 @@
+-- Which calls the opening of a file asks for, the newest first. (Our own choice: FORMAT, "A file of
+-- the host".)
+use Rattle.std.specs.Prelude.{◌≡◌, ◌⊎◌, ◌+◌, ◌==◌, ℕ, min, Bool, true, false, IsTrue, IsFalse, List, [], ◌∷◌, length, codes, Option, Some, None}
+use Rattle.std.specs.List.{list_all}
+use Rattle.std.specs.Path.{path_parent}
+use Rattle.mcs_journal.specs.declared.format.TheConstants.{FILE_SIZE}
+use Rattle.mcs_host.specs.HostCalls.{HostCall, HostState, IsLink, Length, Lock, LookUp, Made, ReadAt, RealName, SetLength, SyncAll, SyncFolder, WriteAt}
+
+-- each of these bytes is 0
+abbrev pub AreZeros : List ℕ → Type 0
+AreZeros bytes = IsTrue (list_all (λ b. b == 0) bytes)
+
+-- the bytes of a blank file
+pub record IsBlank (bytes : List ℕ) : Type 0 where
+  pub size : length bytes ≡ FILE_SIZE
+  pub zeros : AreZeros bytes
+
+-- the parent of a name, where it has one with a name, and else the folder that the program runs in
+abbrev pub folder_or_here : Option (List ℕ) → List ℕ
+folder_or_here None = codes "."
+folder_or_here (Some []) = codes "."
+folder_or_here (Some (b ∷ folder)) = b ∷ folder
+
+-- the folder of the file of this name
+abbrev pub folder_of : List ℕ → List ℕ
+folder_of name = folder_or_here (path_parent name)
+
+-- The folder of the file was synced, in which links lead to it: that of the name itself, if it is no
+-- link, or else that of the name without links. Or it was not, and at one of these calls.
+abbrev pub FolderCalls : List ℕ → Bool → List HostCall → List HostCall → Type 0
+FolderCalls name ok before after =
+    (after ≡ SyncFolder (folder_of name) ok ∷ IsLink name false ∷ before)
+    ⊎ (((place : List ℕ) × (after
+    ≡ SyncFolder (folder_of place) ok ∷ RealName place true ∷ IsLink name true ∷ before))
+    ⊎ (IsFalse ok × ((after ≡ IsLink name false ∷ before)
+    ⊎ (after ≡ RealName [] false ∷ IsLink name true ∷ before))))
+
+-- it was opened, or made if that was asked for
+abbrev pub IsBegun : Bool → List HostCall → Type 0
+IsBegun make calls = (calls ≡ []) ⊎ (IsTrue make × (calls ≡ Made ∷ []))
+
+-- it is locked before anything else is asked, and its name stands for it still
+abbrev pub locking_calls : List ℕ → List HostCall → List HostCall
+locking_calls name before = LookUp name true ∷ Lock true ∷ before
+
+-- all of it is written, and synced
+abbrev pub writing_calls : List ℕ → List HostCall → List HostCall
+writing_calls bytes before =
+    SyncAll true ∷ WriteAt 0 bytes true ∷ SetLength (length bytes) true ∷ before
+
+-- after these calls a file is synced, its folder too or that was not answered Ok, and then these
+-- bytes are read
+pub record IsReadAfter
+    (name bytes : List ℕ) (is_name_stable : Bool) (before after : List HostCall) : Type 0 where
+  pub synced : List HostCall
+  pub folder : FolderCalls name is_name_stable (SyncAll true ∷ before) synced
+  pub read : after ≡ ReadAt 0 bytes true ∷ synced
+
+-- after these calls these bytes are written, as all of a file, and it and its folder synced
+abbrev pub IsWrittenAfter : List ℕ → List ℕ → List HostCall → List HostCall → Type 0
+IsWrittenAfter name bytes before after = FolderCalls name true (writing_calls bytes before) after
+
+-- the same, and then these are read
+pub record IsFilledAfter
+    (name written bytes : List ℕ) (before after : List HostCall) : Type 0 where
+  pub filled : List HostCall
+  pub writes : IsWrittenAfter name written before filled
+  pub read : after ≡ ReadAt 0 bytes true ∷ filled
+
+-- An empty file, which was to be made, is filled with zeros and read back.
+pub record IsFilled
+    (make : Bool) (name bytes : List ℕ) (is_name_stable : Bool) (locked calls : List HostCall)
+    : Type 0 where
+  pub to_be_made : IsTrue make
+  pub size : length bytes ≡ FILE_SIZE
+  pub stable : IsTrue is_name_stable
+  pub written : List ℕ
+  pub is_blank : IsBlank written
+  pub asked : IsFilledAfter name written bytes (Length 0 true ∷ locked) calls
+
+-- A file is read, or so much of a longer one that its size tells that it is no session.
+pub record IsRead
+    (make : Bool) (name bytes : List ℕ) (is_name_stable : Bool) (locked calls : List HostCall)
+    : Type 0 where
+  pub found : ℕ
+  pub size : length bytes ≡ min found (FILE_SIZE + 1)
+  -- one that was to be made is not empty, and not blank
+  pub not_empty : IsTrue make → ¬ (found ≡ 0)
+  pub not_blank : IsTrue make → ¬ (IsBlank bytes)
+  pub asked : IsReadAfter name bytes is_name_stable (Length found true ∷ locked) calls
+
+-- A blank file may have holes: where it was to be made, it is read and then written.
+pub record IsRewritten
+    (make : Bool) (name bytes : List ℕ) (is_name_stable : Bool) (locked calls : List HostCall)
+    : Type 0 where
+  pub to_be_made : IsTrue make
+  pub is_blank : IsBlank bytes
+  pub read : List HostCall
+  pub asked : IsReadAfter name bytes is_name_stable (Length FILE_SIZE true ∷ locked) read
+  pub writes : IsWrittenAfter name bytes read calls
+
+-- The file of this name was opened and locked, and holds these bytes; and whether its folder was
+-- synced.
+pub record IsOpening
+    (make : Bool) (name bytes : List ℕ) (is_name_stable : Bool) (file : HostState)
+    : Type 0 where
+  pub named : file.name ≡ name
+  pub opened : List HostCall
+  pub begun : IsBegun make opened
+  pub way : IsFilled make name bytes is_name_stable (locking_calls name opened) file.calls
+      ⊎ (IsRead make name bytes is_name_stable (locking_calls name opened) file.calls
+      ⊎ IsRewritten make name bytes is_name_stable (locking_calls name opened) file.calls)

@@ -1,0 +1,8 @@
+-- What contracts see of an open file of the system.
+use Rattle.std.specs.Fd.{file_raw_fd}
+use Rattle.mcs_host.specs.HostCalls.{HostState}
+use Rattle.mcs_host.specs.declared.system_file.SystemFile.{SystemFile}
+
+-- the name that it was opened by, its number, and the calls on it
+abbrev pub system_state : SystemFile → HostState
+system_state file = record { name = file.history.name; number = file_raw_fd file.file; calls = file.history.calls }

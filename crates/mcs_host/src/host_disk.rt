@@ -1,0 +1,178 @@
+//! An open file of the host, as a disk.
+ghost use Rattle.std.specs.Prelude.{◌≡◌, ◌↔◌, ◌<◌, ◌≤◌, ◌^◌, ◌+◌, ℕ, List, [], ◌∷◌, IfOk, OnOk, IsTrue, is_ok, length, min, vec_len};
+ghost use Rattle.mcs_disk.specs.Disk.{most_faults, part, IsCall, Reads, Torn, Writes, Syncs};
+ghost use Rattle.mcs_disk.specs.CallList.{WasRead, Wrote, Synced, Makes};
+ghost use Rattle.mcs_disk.specs.Calls.{bytes_after};
+ghost use Rattle.mcs_host.specs.FileDisk.{IsApart};
+ghost use Rattle.mcs_host.specs.Opening.{AreZeros};
+
+use crate::ending::Ending;
+use crate::file_fault::FileFault;
+use crate::host_file::{Host, HostFile};
+use crate::opening::{MOST_BYTES, open_and_read};
+use mcs_disk::{Call, CallRecord, Disk, DiskFault, overwrite};
+use mcs_journal::FILE_SIZE;
+use std::alloc::{AllocError, Global};
+
+/// An open file of the host, as a disk.
+///
+/// Its bytes are read once, as it is opened, and kept in step with each write from then on. So a
+/// read that gives other bytes than those is found out, and is a device fault. What no call can find
+/// out is the premise, `honest`: that what is found in the file after a power cut is one of the
+/// images of a disk with these calls.
+#[derive(Drop)]
+pub struct HostDisk<H: HostFile> {
+    file: H,
+    bytes: Vec<u8>,
+    faults: u64,
+    history: CallRecord,
+    end: Ending,
+    is_name_stable: bool,
+    ghost kept: { bytes.items ≡ bytes_after history.start history.calls },
+    ghost apart: { IsApart (H.HostFile.state file).number },
+}
+
+impl<H: HostFile> HostDisk<H> {
+    ghost use Rattle.mcs_host.specs.HostDisk.{host_disk};
+    ghost use Rattle.mcs_host.specs.FileDisk.{IsOpened};
+    ghost use Rattle.mcs_host.specs.Opening.{IsOpening};
+
+    /// Opens a file of this name: see `FileDisk::open_at`.
+    pub fn open_at<N: Host<File = H>>(
+        host: &N,
+        alloc: Global,
+        file: &str,
+        make: bool,
+    ) -> Result<HostDisk<H>, FileFault>
+        ensures opened { IfOk result (λ disk. IsOpened (host_disk disk)) }
+        ensures at_most { IfOk result (λ disk. (host_disk disk).size ≤ FILE_SIZE + 1) }
+        ensures not_empty { IsTrue make → IfOk result (λ disk. 0 < (host_disk disk).size) }
+        ensures asked { IfOk result (λ disk. IsOpening make file.now (host_disk disk).bytes
+            disk.is_name_stable (H.HostFile.state disk.file)) }
+    {
+        // First, so that where there is no memory the host is asked for nothing.
+        let mut bytes = zeros(alloc, MOST_BYTES)?;
+        let (opened, is_name_stable) = open_and_read(host, alloc, file, make, &mut bytes)?;
+        let history = CallRecord::new(&bytes);
+        let end = Ending::new(&bytes);
+        Ok(HostDisk {
+            file: opened,
+            bytes,
+            faults: 0,
+            history,
+            end,
+            is_name_stable,
+        })
+    }
+
+    /// The file's name stays after a power cut too: its folder was synced.
+    pub fn is_name_stable(&self) -> bool
+        ensures { result ≡ self.now.is_name_stable }
+    {
+        self.is_name_stable
+    }
+
+    // The file holds these bytes from `at` on, as far as what was written to it tells.
+    fn holds(&self, at: usize, given: &[u8]) -> bool
+        requires { at + length given.now ≤ length self.now.bytes.items }
+        ensures { IsTrue result ↔ (given.now ≡ part at (length given.now) self.now.bytes.items) }
+    {
+        given == &self.bytes[at..at + given.len()]
+    }
+
+    // Counts a fault and does nothing else.
+    fn fail(&mut self) -> DiskFault
+        ensures file { self.new.file ≡ self.old.file }
+        ensures bytes { self.new.bytes ≡ self.old.bytes }
+        ensures history { self.new.history ≡ self.old.history }
+        ensures end { self.new.end ≡ self.old.end }
+        ensures fault { self.new.faults ≡ min (self.old.faults + 1) most_faults }
+    {
+        self.faults = self.faults.saturating_add(1);
+        DiskFault
+    }
+}
+
+// That many zero bytes.
+#[tactic(auto, using(crate::proofs::ZeroBytes::zeros_of))]
+fn zeros(alloc: Global, size: usize) -> Result<Vec<u8>, AllocError>
+    ensures len { IfOk result (λ bytes. vec_len bytes ≡ size) }
+    ensures zeros { IfOk result (λ bytes. AreZeros bytes.items) }
+{
+    vec![in alloc; 0u8; size]
+}
+
+impl<H: HostFile> Disk for HostDisk<H> {
+    ghost use Rattle.mcs_host.specs.HostDisk.{host_disk};
+    ghost use Rattle.mcs_host.specs.HostCalls.{AsksToRead, SyncData, WriteAt, asked};
+    ghost use Rattle.mcs_disk.specs.CallLaws.{lawful};
+
+    ghost state = { host_disk };
+
+    ghost lawful = { λ d honest. lawful _ d.faults d.bytes.items d.history.start
+        d.history.calls d.kept };
+
+    fn size(&self) -> usize {
+        self.bytes.len()
+    }
+
+    fn read(&mut self, at: usize, into: &mut [u8]) -> Result<(), DiskFault>
+        requires { at + length into.old ≤ (host_disk self.old).size }
+        ensures call { IsCall (host_disk self.old) (host_disk self.new) result }
+        ensures noted { Makes (WasRead ∷ []) (host_disk self.old).calls (host_disk self.new).calls
+            result }
+        ensures honest { (host_disk self.old).honest → Reads at into.old into.new
+            (host_disk self.old) (host_disk self.new) result }
+        // On every file, honest or not.
+        ensures given { OnOk result
+            (into.new ≡ part at (length into.old) (host_disk self.old).bytes) }
+        ensures asked { AsksToRead at into.new result
+            (H.HostFile.state self.old.file) (H.HostFile.state self.new.file) }
+    {
+        let answer = self.file.read_at(at, into);
+        if answer.is_err() || !self.holds(at, into) {
+            return Err(self.fail());
+        }
+        self.history.note(&Call::Read, &[]);
+        Ok(())
+    }
+
+    fn write(&mut self, at: usize, from: &[u8]) -> Result<(), DiskFault>
+        requires { at + length from.now ≤ (host_disk self.old).size }
+        ensures call { IsCall (host_disk self.old) (host_disk self.new) result }
+        ensures noted { Makes (Wrote at from.now ∷ []) (host_disk self.old).calls
+            (host_disk self.new).calls result }
+        ensures honest { (host_disk self.old).honest → Writes at from.now
+            (host_disk self.old) (host_disk self.new) result }
+        // Also where the write failed: it may have reached any part of the range.
+        ensures torn { (d c : List ℕ) → (host_disk self.old).images d
+            → Torn at (length from.now) d c → (host_disk self.new).images c }
+        ensures asked { H.HostFile.state self.new.file
+            ≡ asked (WriteAt at from.now (is_ok result)) (H.HostFile.state self.old.file) }
+    {
+        if self.file.write_at(at, from).is_err() {
+            self.history.note(&Call::FailedWrite(at), from);
+            return Err(self.fail());
+        }
+        self.history.note(&Call::Write(at), from);
+        overwrite(&mut self.bytes, at, from);
+        Ok(())
+    }
+
+    // The size of the file never changes here, so its data are all that has to be synced.
+    fn sync(&mut self) -> Result<(), DiskFault>
+        ensures call { IsCall (host_disk self.old) (host_disk self.new) result }
+        ensures noted { Makes (Synced ∷ []) (host_disk self.old).calls (host_disk self.new).calls
+            result }
+        ensures honest { (host_disk self.old).honest
+            → Syncs (host_disk self.old) (host_disk self.new) result }
+        ensures asked { H.HostFile.state self.new.file
+            ≡ asked (SyncData (is_ok result)) (H.HostFile.state self.old.file) }
+    {
+        if self.file.sync_data().is_err() {
+            return Err(self.fail());
+        }
+        self.history.note(&Call::Sync, &[]);
+        Ok(())
+    }
+}

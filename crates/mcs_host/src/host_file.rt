@@ -1,0 +1,100 @@
+//! The calls that a session file asks of the host, as a trait: what is proved over it makes these
+//! calls, in this order, and no other.
+ghost use Rattle.std.specs.Prelude.{◌≡◌, [], ◌∷◌, IfOk, MatchResult, false, is_ok, true};
+ghost use Rattle.std.specs.Path.{path_buf_bytes};
+ghost use Rattle.mcs_host.specs.HostCalls.{HostState, HasCalls, IsLink, Length, Lock, LookUp, Made, ReadAt, RealName, SetLength, SyncAll, SyncData, SyncFolder, WriteAt, asked, is_yes};
+
+use crate::streams::Streams;
+use std::alloc::Global;
+use std::fs::TryLockError;
+use std::io;
+use std::path::PathBuf;
+
+/// An open file of the host. Each method asks for one thing; contracts see the calls so far, with
+/// their answers.
+pub trait HostFile {
+    /// What contracts see.
+    ghost state: { Self → HostState };
+
+    /// The host's number of it.
+    fn number(&self) -> i32
+        ensures { result ≡ (state self.now).number };
+
+    /// Asks for the exclusive lock, without waiting.
+    fn try_lock(&mut self) -> Result<(), TryLockError>
+        ensures { state self.new ≡ asked (Lock (is_ok result)) (state self.old) };
+
+    /// Its length.
+    fn length(&mut self) -> io::Result<u64>
+        ensures { MatchResult result
+            (λ n. state self.new ≡ asked (Length n true) (state self.old))
+            (λ _. state self.new ≡ asked (Length 0 false) (state self.old)) };
+
+    /// Sets its length.
+    fn set_length(&mut self, to: u64) -> io::Result<()>
+        ensures { state self.new ≡ asked (SetLength to (is_ok result)) (state self.old) };
+
+    /// Reads the bytes from this offset on, all of them.
+    fn read_at(&mut self, at: usize, into: &mut [u8]) -> io::Result<()>
+        ensures { state self.new ≡ asked (ReadAt at into.new (is_ok result)) (state self.old) };
+
+    /// Writes all of these bytes from this offset on.
+    fn write_at(&mut self, at: usize, from: &[u8]) -> io::Result<()>
+        ensures { state self.new ≡ asked (WriteAt at from.now (is_ok result)) (state self.old) };
+
+    /// Syncs its bytes.
+    fn sync_data(&mut self) -> io::Result<()>
+        ensures { state self.new ≡ asked (SyncData (is_ok result)) (state self.old) };
+
+    /// Syncs its bytes and its length.
+    fn sync_all(&mut self) -> io::Result<()>
+        ensures { state self.new ≡ asked (SyncAll (is_ok result)) (state self.old) };
+}
+
+/// The host, as it is asked for files by their names.
+pub trait Host {
+    /// An open file of it.
+    type File: HostFile + Drop;
+
+    /// The standard streams that are the regular file of this name; none where that cannot be told.
+    fn streams_that_are(&self, name: &str) -> Streams;
+
+    /// Opens the file of this name for reading and writing.
+    fn open(&self, name: &str) -> io::Result<Self::File>
+        ensures { IfOk result (λ file. HasCalls name.now [] (Self.File.state file)) };
+
+    /// The same; it makes the file where it is not there.
+    fn open_or_make(&self, name: &str) -> io::Result<Self::File>
+        ensures { IfOk result (λ file. HasCalls name.now (Made ∷ []) (Self.File.state file)) };
+
+    /// This name still stands for the file.
+    fn is_named(&self, file: &mut Self::File, name: &str) -> io::Result<bool>
+        ensures { Self.File.state file.new
+            ≡ asked (LookUp name.now (is_yes result)) (Self.File.state file.old) };
+
+    /// This name of the file is that of a link.
+    fn is_link(&self, file: &mut Self::File, name: &str) -> io::Result<bool>
+        ensures { Self.File.state file.new
+            ≡ asked (IsLink name.now (is_yes result)) (Self.File.state file.old) };
+
+    /// The name without links of the file that this name leads to. It takes memory.
+    fn real_name(
+        &self,
+        alloc: Global,
+        file: &mut Self::File,
+        name: &str,
+    ) -> io::Result<PathBuf<Global>>
+        ensures { MatchResult result
+            (λ place. Self.File.state file.new
+            ≡ asked (RealName (path_buf_bytes place) true) (Self.File.state file.old))
+            (λ _. Self.File.state file.new
+            ≡ asked (RealName [] false) (Self.File.state file.old)) };
+
+    /// Syncs the folder of this name, for a file in it.
+    fn sync_folder(&self, file: &mut Self::File, folder: &str) -> io::Result<()>
+        ensures { Self.File.state file.new
+            ≡ asked (SyncFolder folder.now (is_ok result)) (Self.File.state file.old) };
+
+    /// Removes the file of this name.
+    fn remove(&self, name: &str) -> io::Result<()>;
+}

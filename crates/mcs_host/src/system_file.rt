@@ -1,0 +1,170 @@
+//! The files of the system: each method makes the call that it is named by, and notes it with its
+//! answer. No clause can see that it does, so this file has to be read.
+ghost use Rattle.mcs_host.specs.SystemFile.{system_state};
+ghost use Rattle.std.specs.Prelude.{◌≡◌, [], length};
+
+use crate::host_file::{Host, HostFile};
+use crate::host_record::{Asked, HostRecord};
+use crate::streams::{Streams, is_same_file, streams_that_are};
+use std::alloc::Global;
+use std::fs::{self, File, OpenOptions, TryLockError};
+use std::io;
+use std::os::fd::AsRawFd;
+use std::os::unix::fs::FileExt;
+use std::path::PathBuf;
+use std::rt::Files;
+
+/// An open file of the system.
+#[derive(Drop)]
+pub struct SystemFile {
+    file: File,
+    history: HostRecord,
+}
+
+impl SystemFile {
+    fn new(file: File, name: &str) -> SystemFile
+        ensures file { result.file ≡ file }
+        ensures name { result.history.name ≡ name.now }
+        ensures calls { result.history.calls ≡ [] }
+    {
+        let history = HostRecord::new(name.as_bytes());
+        SystemFile { file, history }
+    }
+}
+
+impl HostFile for SystemFile {
+    ghost state = { system_state };
+
+    fn number(&self) -> i32 {
+        self.file.as_raw_fd()
+    }
+
+    fn try_lock(&mut self) -> Result<(), TryLockError> {
+        let answer = self.file.try_lock();
+        self.history.note(&Asked::Lock(answer.is_ok()), &[]);
+        answer
+    }
+
+    fn length(&mut self) -> io::Result<u64> {
+        let answer = length_of(&self.file);
+        match answer {
+            Ok(n) => self.history.note(&Asked::Length(n, true), &[]),
+            Err(_) => self.history.note(&Asked::Length(0, false), &[]),
+        }
+        answer
+    }
+
+    fn set_length(&mut self, to: u64) -> io::Result<()> {
+        let answer = self.file.set_len(to);
+        self.history
+            .note(&Asked::SetLength(to, answer.is_ok()), &[]);
+        answer
+    }
+
+    fn read_at(&mut self, at: usize, into: &mut [u8]) -> io::Result<()> {
+        let answer = self.file.read_exact_at(into, at as u64);
+        self.history.note(&Asked::ReadAt(at, answer.is_ok()), into);
+        answer
+    }
+
+    fn write_at(&mut self, at: usize, from: &[u8]) -> io::Result<()> {
+        let answer = self.file.write_all_at(from, at as u64);
+        self.history.note(&Asked::WriteAt(at, answer.is_ok()), from);
+        answer
+    }
+
+    fn sync_data(&mut self) -> io::Result<()> {
+        let answer = self.file.sync_data();
+        self.history.note(&Asked::SyncData(answer.is_ok()), &[]);
+        answer
+    }
+
+    fn sync_all(&mut self) -> io::Result<()> {
+        let answer = self.file.sync_all();
+        self.history.note(&Asked::SyncAll(answer.is_ok()), &[]);
+        answer
+    }
+}
+
+fn length_of(file: &File) -> io::Result<u64> {
+    Ok(file.metadata()?.len())
+}
+
+impl<R: Files<File = File>> Host for R {
+    type File = SystemFile;
+
+    fn streams_that_are(&self, name: &str) -> Streams {
+        streams_that_are(self, name)
+    }
+
+    fn open(&self, name: &str) -> io::Result<SystemFile> {
+        let mut options = OpenOptions::new();
+        options.read(true).write(true);
+        Ok(SystemFile::new(options.open(self, name)?, name))
+    }
+
+    fn open_or_make(&self, name: &str) -> io::Result<SystemFile> {
+        let mut options = OpenOptions::new();
+        options.read(true).write(true).create(true);
+        let mut made = SystemFile::new(options.open(self, name)?, name);
+        made.history.note(&Asked::Made, &[]);
+        Ok(made)
+    }
+
+    fn is_named(&self, file: &mut SystemFile, name: &str) -> io::Result<bool> {
+        let answer = stands_for(self, name, &file.file);
+        let is_yes = matches!(answer, Ok(true));
+        file.history.note(&Asked::LookUp(is_yes), name.as_bytes());
+        answer
+    }
+
+    fn is_link(&self, file: &mut SystemFile, name: &str) -> io::Result<bool> {
+        let answer = is_name_of_link(self, name);
+        let is_yes = matches!(answer, Ok(true));
+        file.history.note(&Asked::IsLink(is_yes), name.as_bytes());
+        answer
+    }
+
+    fn real_name(
+        &self,
+        alloc: Global,
+        file: &mut SystemFile,
+        name: &str,
+    ) -> io::Result<PathBuf<Global>> {
+        match self.canonicalize(alloc, name) {
+            Ok(place) => {
+                let real = place.as_str().as_bytes();
+                file.history.note(&Asked::RealName(true), real);
+                Ok(place)
+            }
+            Err(error) => {
+                file.history.note(&Asked::RealName(false), &[]);
+                Err(error)
+            }
+        }
+    }
+
+    fn sync_folder(&self, file: &mut SystemFile, folder: &str) -> io::Result<()> {
+        let answer = sync_folder(self, folder);
+        let is_ok = answer.is_ok();
+        file.history
+            .note(&Asked::SyncFolder(is_ok), folder.as_bytes());
+        answer
+    }
+
+    fn remove(&self, name: &str) -> io::Result<()> {
+        fs::remove_file(self, name)
+    }
+}
+
+fn stands_for<R: Files<File = File>>(rt: &R, name: &str, file: &File) -> io::Result<bool> {
+    Ok(is_same_file(&fs::metadata(rt, name)?, &file.metadata()?))
+}
+
+fn is_name_of_link<R: Files<File = File>>(rt: &R, name: &str) -> io::Result<bool> {
+    Ok(fs::symlink_metadata(rt, name)?.is_symlink())
+}
+
+fn sync_folder<R: Files<File = File>>(rt: &R, folder: &str) -> io::Result<()> {
+    File::open(rt, folder)?.sync_all()
+}

@@ -1,0 +1,32 @@
+-- Reads, one after another, and what was asked for where one failed.
+use Rattle.std.proofs.Common.{◌≡◌, ◌+◌, List, [], ◌∷◌, ◌++◌, ℕ, sym, ◌∙◌, ap, append_assoc, Result, Ok, Err, OnErr, ⊎_elim}
+use Rattle.std.proofs.lemmas.List.{replicate-append-replicate}
+use Rattle.mcs_disk.specs.CallList.{DiskCall, Makes, WasRead}
+use Rattle.mcs_journal.specs.Calls.{OnlyRead, many_reads}
+
+pub on_err : {T E P : Type 0} (result : Result T E) → P → OnErr result P
+on_err (Ok x) p = tt
+on_err (Err e) p = p
+
+pub reads_sum : (a b : ℕ) (old mid new : List DiskCall) → mid ≡ many_reads a ++ old → new ≡ many_reads b ++ mid → new ≡ many_reads (b + a) ++ old
+reads_sum a b old mid new first second =
+    second ∙ ap (λ (l : List DiskCall). many_reads b ++ l) first ∙ sym (append_assoc (many_reads b) (many_reads a) old)
+    ∙ ap (λ (l : List DiskCall). l ++ old) (replicate-append-replicate b a WasRead)
+
+pub reads_more : (a : ℕ) (old mid new : List DiskCall) → mid ≡ many_reads a ++ old → OnlyRead mid new → OnlyRead old new
+reads_more a old mid new first then_some = record { count = then_some.count + a; all = reads_sum a then_some.count old mid new first then_some.all }
+
+-- a read that failed
+pub read_failed : {T E : Type 0} (old new : List DiskCall) (e : E) → Makes {T = T} {E = E} (WasRead ∷ []) old new (Err e) → OnlyRead old new
+read_failed old new e made = record { count = 0; all = ⊎_elim (λ same. same) (λ none. absurd none) made.cut }
+
+-- one that did not
+pub was_read : {T E : Type 0} (old new : List DiskCall) (x : T) → Makes {T = T} {E = E} (WasRead ∷ []) old new (Ok x) → new ≡ many_reads 1 ++ old
+was_read old new x made = made.all
+
+pub of_err : {T E P : Type 0} (result : Result T E) (e : E) → result ≡ Err e → OnErr result P → P
+of_err (Ok x) e is p = absurd (no is)
+  where
+    no : Ok x ≡ Err e → ⊥
+    no same = cc
+of_err (Err f) e is p = p

@@ -1,0 +1,86 @@
+-- What the calls of a store ask of its disk, by what their parts ask.
+use Rattle.std.proofs.Common.{◌≡◌, ◌⊎◌, inl, inr, ⊎_elim, ◌+◌, ◌*◌, List, [], ◌∷◌, ◌++◌, ℕ, append_assoc, sym, ◌∙◌, ap, subst, arith, refl, Result, Ok, Err, IsErrOf}
+use Rattle.mcs_disk.specs.CallList.{CutShort, DiskCall, Makes, OneUnsynced, Synced, WasRead, unsynced}
+use Rattle.mcs_disk.proofs.Calling.{one_by_one, one_of_made, one_of_reads, one_then, unsynced-reads, none_added}
+use Rattle.mcs_journal.specs.Calls.{MakesWithArea, RefusedCreateCalls, RefusedOpenCalls, append_calls, create_calls, many_reads, open_calls, replace_calls}
+use Rattle.mcs_journal.specs.declared.slot.Slot.{Slot}
+use Rattle.mcs_journal.specs.declared.fault.CreateFault.{CreateFault}
+use Rattle.mcs_journal.specs.declared.fault.CreateFault.TheVariants as create_fault
+
+-- two commits after calls that are synced
+module _ (old : List DiskCall) (synced : unsynced old ≡ 0) where
+  pub append_one : {T E : Type 0} (at : ℕ) (payload : List ℕ) (new : List DiskCall) (result : Result T E) → Makes (append_calls at payload) old new result → OneUnsynced old new
+  append_one at payload new result made = one_of_made (append_calls at payload) old new result (omega arith, (omega arith, (omega arith, (omega (arith, synced), tt)))) made
+
+  pub replace_one : {T E : Type 0} (snap : List ℕ) (slot : Slot) (new : List DiskCall) (result : Result T E) → MakesWithArea snap (replace_calls slot) old new result → OneUnsynced old new
+  replace_one snap slot new result makes = one_of_made (replace_calls slot makes.area) old new result (omega arith, (omega arith, (omega arith, (omega (arith, synced), tt)))) makes.made
+
+  one_read : OneUnsynced old (WasRead ∷ old)
+  one_read = one_by_one old (WasRead ∷ old) (WasRead ∷ []) refl (omega (arith, synced), tt)
+
+  pub create_one : {T E : Type 0} (snap : List ℕ) (new : List DiskCall) (result : Result T E) → MakesWithArea snap create_calls (WasRead ∷ old) new result → OneUnsynced old new
+  create_one snap new result makes =
+      one_then old (WasRead ∷ old) new one_read
+      (one_of_made (create_calls makes.area) (WasRead ∷ old) new result (omega arith, (omega arith, (omega arith, (omega (arith, synced), tt)))) makes.made)
+
+  same_one : (new : List DiskCall) → new ≡ old → OneUnsynced old new
+  same_one new same = subst (OneUnsynced old) (sym same) (none_added old)
+
+  pub refused_create_one : {T E : Type 0} (fault : CreateFault) (snap : List ℕ) (new : List DiskCall) (result : Result T E) → RefusedCreateCalls fault snap old new result → OneUnsynced old new
+  refused_create_one create_fault.NotBlank snap new result (inl same) = same_one new same
+  refused_create_one create_fault.NotBlank snap new result (inr read) = subst (OneUnsynced old) (sym read) one_read
+  refused_create_one create_fault.Device snap new result (inl same) = same_one new same
+  refused_create_one create_fault.Device snap new result (inr makes) = create_one snap new result makes
+  refused_create_one create_fault.NoMemory snap new result same = same_one new same
+
+-- the same calls, told of an answer of another type
+pub area_ok : {T E U V : Type 0} (snap : List ℕ) (calls : List ℕ → List DiskCall) (old mid new : List DiskCall) (x : T) (y : U) → mid ≡ old
+    → MakesWithArea {T = T} {E = E} snap calls mid new (Ok x) → MakesWithArea {T = U} {E = V} snap calls old new (Ok y)
+area_ok snap calls old mid new x y same makes =
+    record { area = makes.area; is_area = makes.is_area; made = record { all = makes.made.all ∙ ap (λ (l : List DiskCall). calls makes.area ++ l) same; cut = tt } }
+
+pub area_err : {T E U V : Type 0} (snap : List ℕ) (calls : List ℕ → List DiskCall) (old mid new : List DiskCall) (e : E) (f : V) → mid ≡ old
+    → MakesWithArea {T = T} {E = E} snap calls mid new (Err e) → MakesWithArea {T = U} {E = V} snap calls old new (Err f)
+area_err snap calls old mid new e f same makes =
+    record { area = makes.area; is_area = makes.is_area; made = record { all = tt; cut = subst (λ (l : List DiskCall). CutShort (calls makes.area) l new) same makes.made.cut } }
+
+-- the header was read
+pub header_read : (old new : List DiskCall) {T : Type 0} (x : T) (A : Type 0) → Makes {T = T} {E = CreateFault} (WasRead ∷ []) old new (Ok x) ⊎ (IsErrOf {T = T} {E = CreateFault} (Ok x) create_fault.NotBlank × A) → new ≡ WasRead ∷ old
+header_read old new x A (inl made) = made.all
+header_read old new x A (inr other) = absurd (told other.0)
+  where
+    told : IsErrOf (Ok x) create_fault.NotBlank → ⊥
+    told none = cc
+
+not_both : {T : Type 0} (read : Result T CreateFault) → read ≡ Err create_fault.Device → read ≡ Err create_fault.NotBlank → ⊥
+not_both read device not_blank = cc
+
+-- it was not, or was not blank
+pub refused_by_header : {T U V : Type 0} (fault : CreateFault) (snap : List ℕ) (old new : List DiskCall) (read : Result T CreateFault) (result : Result U V) → read ≡ Err fault → (IsErrOf read create_fault.NoMemory → ⊥)
+    → Makes (WasRead ∷ []) old new read ⊎ (IsErrOf read create_fault.NotBlank × (new ≡ WasRead ∷ old)) → RefusedCreateCalls fault snap old new result
+refused_by_header fault snap old new (Ok x) result is memory calls = absurd (no is)
+  where
+    no : Ok x ≡ Err fault → ⊥
+    no same = cc
+refused_by_header create_fault.NotBlank snap old new (Err e) result is memory (inl made) = inl (⊎_elim (λ same. same) (λ none. absurd none) made.cut)
+refused_by_header create_fault.NotBlank snap old new (Err e) result is memory (inr read) = inr read.1
+refused_by_header create_fault.Device snap old new (Err e) result is memory (inl made) = inl (⊎_elim (λ same. same) (λ none. absurd none) made.cut)
+refused_by_header create_fault.Device snap old new (Err e) result is memory (inr read) = absurd (not_both (Err e) is read.0)
+refused_by_header create_fault.NoMemory snap old new (Err e) result is memory calls = absurd (memory is)
+
+-- after a sync, reads
+pub open_one : (n : ℕ) (old new : List DiskCall) → new ≡ open_calls n ++ old → OneUnsynced old new
+open_one n old new made = one_then old (Synced ∷ old) new synced_one (one_by_one (Synced ∷ old) new (many_reads (4 + 3 * n)) (made ∙ append_assoc (many_reads (4 + 3 * n)) (Synced ∷ []) old) (one_of_reads (4 + 3 * n) (Synced ∷ old) (omega arith)))
+  where
+    synced_one : OneUnsynced old (Synced ∷ old)
+    synced_one = one_by_one old (Synced ∷ old) (Synced ∷ []) refl (omega arith, tt)
+
+pub refused_open_one : (old new : List DiskCall) → RefusedOpenCalls old new → OneUnsynced old new
+refused_open_one old new (inl same) = subst (OneUnsynced old) (sym same) (none_added old)
+refused_open_one old new (inr only) =
+    one_then old (Synced ∷ old) new (one_by_one old (Synced ∷ old) (Synced ∷ []) refl (omega arith, tt))
+    (one_by_one (Synced ∷ old) new (many_reads only.count) only.all (one_of_reads only.count (Synced ∷ old) (omega arith)))
+
+-- none is unsynced then
+pub open_synced : (n : ℕ) (old new : List DiskCall) → new ≡ open_calls n ++ old → unsynced new ≡ 0
+open_synced n old new made = ap unsynced (made ∙ append_assoc (many_reads (4 + 3 * n)) (Synced ∷ []) old) ∙ unsynced-reads (4 + 3 * n) (Synced ∷ old)

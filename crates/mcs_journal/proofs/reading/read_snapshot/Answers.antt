@@ -1,0 +1,5 @@
+use Rattle.mcs_journal.proofs.Asked.{on_err, read_failed, reads_more}
+use Rattle.mcs_journal.proofs.reading.read_snapshot.Goals as goal
+
+pub returns-in_err-read_at-2-clause-refused_calls : goal.returns-in_err-read_at-2-clause-refused_calls
+returns-in_err-read_at-2-clause-refused_calls g c = on_err _ (reads_more 1 _ _ _ c.in_ok-read_at.ensures.calls.all (read_failed _ _ _ c.in_err-read_at-2.ensures.calls))

@@ -1,0 +1,64 @@
+-- Which calls each call of a store makes on its disk. Lists of calls have the newest first. (Our own
+-- choice.)
+use Rattle.std.specs.Prelude.{◌≡◌, ◌⊎◌, ◌+◌, ◌*◌, ℕ, List, [], ◌∷◌, ◌++◌, length, replicate, Result}
+use Rattle.mcs_disk.specs.CallList.{DiskCall, Makes, Synced, WasRead, Wrote}
+use Rattle.mcs_journal.specs.File.{be16, start_of}
+use Rattle.mcs_journal.specs.Writing.{IsArea, selector_of}
+use Rattle.mcs_journal.specs.declared.fault.CreateFault.{CreateFault}
+use Rattle.mcs_journal.specs.declared.fault.CreateFault.TheVariants as create_fault
+use Rattle.mcs_journal.specs.declared.format.TheConstants.{FIRST_HEADER, SELECTOR_PLACE}
+use Rattle.mcs_journal.specs.declared.slot.Slot.{Slot}
+use Rattle.mcs_journal.specs.declared.slot.Slot.TheVariants.{A}
+
+-- a write of these bytes from this offset on, and a sync
+abbrev pub commit_calls : ℕ → List ℕ → List DiskCall
+commit_calls at from = Synced ∷ Wrote at from ∷ []
+
+-- that many reads
+abbrev pub many_reads : ℕ → List DiskCall
+many_reads n = replicate n WasRead
+
+-- some reads, and nothing else
+pub record OnlyRead (old new : List DiskCall) : Type 0 where
+  pub count : ℕ
+  pub all : new ≡ many_reads count ++ old
+
+-- `append` of a record whose commit byte stands there: the record after it, with its length and a
+-- commit byte of 0 behind it, and then the commit byte
+abbrev pub append_calls : ℕ → List ℕ → List DiskCall
+append_calls commit_at payload =
+    commit_calls commit_at (1 ∷ [])
+    ++ commit_calls (commit_at + 1) (be16 (length payload) ++ payload ++ 0 ∷ [])
+
+-- `replace` by way of this slot: a snapshot area into it, and then the selector that names it
+abbrev pub replace_calls : Slot → List ℕ → List DiskCall
+replace_calls slot area =
+    commit_calls SELECTOR_PLACE (selector_of slot ∷ []) ++ commit_calls (start_of slot) area
+
+-- `create`, after a read of the header: a snapshot area into the first slot, and then the header
+abbrev pub create_calls : List ℕ → List DiskCall
+create_calls area = commit_calls 0 FIRST_HEADER ++ commit_calls (start_of A) area
+
+-- `open`, where it finds that many records: a sync, a read of the header, two of the snapshot, three
+-- of each record, and one of the commit byte that ends the log
+abbrev pub open_calls : ℕ → List DiskCall
+open_calls records = many_reads (4 + 3 * records) ++ Synced ∷ []
+
+-- such calls, with some area of this snapshot
+pub record MakesWithArea {T E : Type 0} (snap : List ℕ) (calls : List ℕ → List DiskCall)
+    (old new : List DiskCall) (result : Result T E) : Type 0 where
+  pub area : List ℕ
+  pub is_area : IsArea snap area
+  pub made : Makes (calls area) old new result
+
+-- what a refused `create` has asked for
+abbrev pub RefusedCreateCalls : {T E : Type 0} → CreateFault → List ℕ → List DiskCall → List DiskCall
+    → Result T E → Type 0
+RefusedCreateCalls create_fault.NotBlank snap old new result = (new ≡ old) ⊎ (new ≡ WasRead ∷ old)
+RefusedCreateCalls create_fault.Device snap old new result =
+    (new ≡ old) ⊎ MakesWithArea snap create_calls (WasRead ∷ old) new result
+RefusedCreateCalls create_fault.NoMemory snap old new result = new ≡ old
+
+-- what a refused `open` has asked for: nothing, or a sync and then reads
+abbrev pub RefusedOpenCalls : List DiskCall → List DiskCall → Type 0
+RefusedOpenCalls old new = (new ≡ old) ⊎ OnlyRead (Synced ∷ old) new

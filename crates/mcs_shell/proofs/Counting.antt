@@ -1,0 +1,99 @@
+-- How often a reader and a writer have failed.
+use Rattle.std.proofs.Common.{◌≡◌, ◌≢◌, ℕ, ◌+◌, min, Bool, true, false, List, [], ◌∷◌, ◌++◌, ◌||◌, Option, None, Some, ◌⊎◌, inl, inr, refl, sym, ap, subst, ◌∙◌, append-nil, arith}
+use Rattle.std.specs.Io.KnownBytes.{Appends}
+use Rattle.mcs_disk.specs.Disk.{DiskState, most_faults}
+use Rattle.mcs_session.specs.KeptCommands.{IsOpenOnHonestDisk}
+use Rattle.mcs_session.specs.SessionState.{SessionState}
+use Rattle.mcs_model.specs.declared.command.Command.{Command}
+use Rattle.mcs_shell.specs.declared.ends.ShellEnd.{ShellEnd}
+use Rattle.mcs_shell.specs.declared.ends.ShellEnd.TheVariants.{End, ReadFault, WriteFault, DeviceFault, InputLimit, NoMemory}
+use Rattle.mcs_shell.specs.declared.outcome.Outcome.{Outcome}
+use Rattle.mcs_shell.specs.declared.outcome.Outcome.TheVariants.{Device}
+use Rattle.mcs_shell.specs.Faults.{EndsByItsFault, HasNotFailed, KnownFaults, RanWithoutFault, ServesAll, faults_read, one_more}
+use Rattle.mcs_shell.specs.Headline.{AnswersInTurn}
+use Rattle.mcs_shell.specs.Serving.{LeavesSession}
+use Rattle.mcs_shell.specs.Shell.{RanShell, ShellRun}
+use Rattle.mcs_shell.specs.ShellState.{ShellState, shell_state}
+use Rattle.mcs_shell.specs.Transcript.{Step, acknowledged_commands, halt_after, halt_of, in_turn, inputs_in, is_device_fault, reached_commands}
+use Rattle.mcs_shell.proofs.InTurn.{answers_of_run}
+use Rattle.mcs_shell.proofs.Looping.{either_end}
+use Rattle.mcs_shell.proofs.StepLists.{has_failed}
+
+-- ---- what a step ends is no read
+
+unread_one : (whole : Bool) (o : Outcome) (end : ShellEnd) (faults : KnownFaults) → halt_of whole o ≡ Some end → faults_read end faults ≡ faults
+unread_one false o end faults e = let is : WriteFault ≡ end = cc e in subst (λ (v : ShellEnd). faults_read v faults ≡ faults) is refl
+unread_one true Device end faults e = let is : DeviceFault ≡ end = cc e in subst (λ (v : ShellEnd). faults_read v faults ≡ faults) is refl
+unread_one true o end faults e = absurd (cc e)
+
+pub unread : (xs : List Step) (end : ShellEnd) (faults : KnownFaults) → halt_after xs ≡ Some end → faults_read end faults ≡ faults
+unread [] end faults e = absurd (cc e)
+unread (x ∷ xs) end faults e = elim (either_end (halt_of x.whole x.outcome) (halt_after xs) end e) [
+  | inl h ↦ unread_one x.whole x.outcome end faults h
+  | inr h ↦ unread xs end faults h
+]
+
+-- ---- a run without a fault
+
+counted_not : (old new : KnownFaults) → HasNotFailed old new → new ≡ one_more old → ⊥
+counted_not None new h e = h
+counted_not (Some n) new h e = let same : n ≡ min (n + 1) most_faults = cc (sym h.0 ∙ e) in omega (arith, same, h.1)
+
+device_one : (whole : Bool) (o : Outcome) → halt_of whole o ≡ Some DeviceFault → is_device_fault o ≡ true
+device_one false o e = absurd (cc e)
+device_one true Device e = refl
+device_one true o e = absurd (cc e)
+
+true_first : (b c : Bool) → b ≡ true → (b || c) ≡ true
+true_first true c e = refl
+true_first false c e = absurd (cc e)
+
+true_later : (b c : Bool) → c ≡ true → (b || c) ≡ true
+true_later true c e = refl
+true_later false c e = e
+
+device_failed : (xs : List Step) → halt_after xs ≡ Some DeviceFault → has_failed xs ≡ true
+device_failed [] e = absurd (cc e)
+device_failed (x ∷ xs) e = elim (either_end (halt_of x.whole x.outcome) (halt_after xs) DeviceFault e) [
+  | inl h ↦ true_first (is_device_fault x.outcome) (has_failed xs) (device_one x.whole x.outcome h)
+  | inr h ↦ true_later (is_device_fault x.outcome) (has_failed xs) (device_failed xs h)
+]
+
+device_counted : (failed : Bool) (a b : SessionState) (cs rs : List Command) → failed ≡ true → LeavesSession IsOpenOnHonestDisk failed a b cs rs → Some b.disk.faults ≡ one_more (Some a.disk.faults)
+device_counted true a b cs rs e left = ap (λ (n : ℕ). Some n) left.faults
+device_counted false a b cs rs e left = absurd (cc e)
+
+-- an end that is a fault was counted
+comes_to_end : (end : ShellEnd) (r r' : Option (List ℕ)) (a b : ShellState) (ran : RanShell end r r' a b) (read read' written written' : KnownFaults) → EndsByItsFault end read read' written written'
+    → HasNotFailed read read' → HasNotFailed written written' → HasNotFailed (Some a.session.disk.faults) (Some b.session.disk.faults) → end ≢ NoMemory → (end ≡ End) ⊎ (end ≡ InputLimit)
+comes_to_end End r r' a b ran read read' written written' by no_read no_write no_call memory = inl refl
+comes_to_end InputLimit r r' a b ran read read' written written' by no_read no_write no_call memory = inr refl
+comes_to_end ReadFault r r' a b ran read read' written written' by no_read no_write no_call memory = absurd (counted_not read read' no_read by.reader)
+comes_to_end WriteFault r r' a b ran read read' written written' by no_read no_write no_call memory = absurd (counted_not written written' no_write by.writer)
+comes_to_end DeviceFault r r' a b ran read read' written written' by no_read no_write no_call memory =
+    let s = a.session.bench.state in
+    let failed : has_failed ran.served.met ≡ true = device_failed ran.served.met (ran.served.halts ∙ ran.ends.1) in
+    absurd (counted_not (Some a.session.disk.faults) (Some b.session.disk.faults) no_call
+    (device_counted (has_failed ran.served.met) a.session b.session (in_turn acknowledged_commands s ran.served.met) (in_turn reached_commands s ran.served.met) failed ran.served.serves.leaves))
+comes_to_end NoMemory r r' a b ran read read' written written' by no_read no_write no_call memory = absurd (memory refl)
+
+-- neither a write nor the device ended it, nor a lack of memory
+no_fault : (end : ShellEnd) → (end ≡ End) ⊎ (end ≡ InputLimit) → (end ≢ WriteFault) × (end ≢ DeviceFault) × (end ≢ NoMemory)
+no_fault end (inl is) = let P : ShellEnd → Type 0 = λ v. (v ≢ WriteFault) × (v ≢ DeviceFault) × (v ≢ NoMemory) in subst P (sym is) (λ e. absurd (cc e), λ e. absurd (cc e), λ e. absurd (cc e))
+no_fault end (inr is) = let P : ShellEnd → Type 0 = λ v. (v ≢ WriteFault) × (v ≢ DeviceFault) × (v ≢ NoMemory) in subst P (sym is) (λ e. absurd (cc e), λ e. absurd (cc e), λ e. absurd (cc e))
+
+pub serves_all : {D : Type 0} (state_of : D → DiskState) (run : ShellRun state_of) → RanWithoutFault run → ServesAll run
+serves_all state_of run h =
+    let a = shell_state state_of run.before run.out in
+    let b = shell_state state_of run.after run.out' in
+    let s = run.before.state in
+    let met = run.ran.served.met in
+    let end = comes_to_end run.end run.reader run.reader' a b run.ran h.read h.read' h.written h.written' h.by h.reader h.writer h.device h.memory in
+    let none = no_fault run.end end in
+    let t : AnswersInTurn run.end run.ran.read a b met = answers_of_run run.end run.reader run.reader' a b run.ran in
+    let P : List ℕ → Type 0 = λ v. Appends run.out run.out' v in
+    record {
+      end = end;
+      all_met = t.spelled ∙ ap (λ v. inputs_in met ++ v) (t.all_met none.0 none.1 none.2) ∙ append-nil (inputs_in met);
+      all_told = subst P (sym (append-nil t.told) ∙ ap (λ v. t.told ++ v) (sym (t.all_told none.0 none.2)) ∙ t.parts) t.written;
+    }

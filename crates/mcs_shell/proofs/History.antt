@@ -1,0 +1,205 @@
+-- What is kept of any number of runs.
+use Rattle.std.proofs.Common.{◌≡◌, ◌⊎◌, inl, inr, ◌≤◌, ⊎_elim, ℕ, List, [], ◌∷◌, ◌++◌, length, take, drop, take-append-drop, sym, ap, ◌∙◌, refl, subst, arith}
+use Rattle.std.proofs.lemmas.Bool.{cases_lt}
+use Rattle.std.proofs.lemmas.Grind.{common_steps}
+use Rattle.mcs_disk.specs.Disk.{DiskState, IsLawful}
+use Rattle.mcs_disk.specs.Moments.{AddsNoImage, IsDurable}
+use Rattle.mcs_disk.specs.PowerCut.{IsLeftByCut}
+use Rattle.mcs_journal.specs.declared.fault.OpenFault.{OpenFault}
+use Rattle.mcs_journal.specs.declared.fault.OpenFault.TheVariants.{NotASession, Damaged, Device, NoMemory}
+use Rattle.mcs_model.specs.declared.command.Command.{Command}
+use Rattle.mcs_model.specs.BenchState.{BenchState}
+use Rattle.mcs_model.specs.Fold.{fold}
+use Rattle.mcs_session.specs.Acknowledgements.{Acknowledgements, acknowledged_by}
+use Rattle.mcs_session.specs.KeptCommands.{IsOpenOnHonestDisk, StandsForPrefix}
+use Rattle.mcs_session.specs.SessionCalls.{FailsMigrating, OpensSession, RefusalLeaves, RefusesSession}
+use Rattle.mcs_session.specs.SessionState.{session_state}
+use Rattle.mcs_session.specs.StandsFor.{StandsByEither, StandsFor}
+use Rattle.mcs_session.proofs.Files.{is_session, one_either}
+use Rattle.mcs_session.proofs.Folds.{fold-append}
+use Rattle.mcs_session.proofs.Prefixes.{acknowledged_none}
+use Rattle.mcs_session.proofs.Using.{rising}
+use Rattle.mcs_shell.specs.History.{CameOf, History, IsHistory, KeepsOf, KeepsOfEach, KeepsOfRun, Refused, Served, Sitting, Stop, SurvivesHistory, disk_left}
+use Rattle.mcs_shell.specs.Headline.{AnswersInTurn}
+use Rattle.mcs_shell.specs.Program.{OpenBegins, OpenIsRefused}
+use Rattle.mcs_shell.specs.RefusalNumbers.{open_fault_number}
+use Rattle.mcs_shell.specs.Shell.{ShellRun}
+use Rattle.mcs_shell.specs.ShellState.{shell_state}
+use Rattle.mcs_shell.specs.Transcript.{acknowledged_commands, in_turn, reached_commands}
+use Rattle.mcs_shell.proofs.InTurn.{answers_of_run}
+use Rattle.mcs_shell.proofs.Surviving.{honest_of_run, kept_of_run}
+
+-- a disk that a stop left: what a read gives is all that it has, and stands for this state
+record Stands (disk : DiskState) (s : BenchState) : Type 0 where
+  pub honest : disk.honest
+  pub lawful : IsLawful disk
+  pub durable : IsDurable disk
+  pub stands : StandsByEither disk.bytes s
+
+-- the law of the disk's type
+abbrev AreLawful : {D : Type 0} → (D → DiskState) → Type 0
+AreLawful {D = D} state_of = (disk : D) → (state_of disk).honest → IsLawful (state_of disk)
+
+-- a stop leaves what a power cut may leave
+abbrev AreCuts : {D : Type 0} → (D → DiskState) → (ℕ → D → D → Type 0) → Type 0
+AreCuts {D = D} state_of IsFound = (t : ℕ) (left found : D) → (state_of left).honest → IsFound t left found → IsLeftByCut t (state_of left) (state_of found)
+
+-- ---- one run
+
+answers_of_session : {D : Type 0} (state_of : D → DiskState) (run : ShellRun state_of) → AnswersInTurn run.end run.ran.read (shell_state state_of run.before run.out) (shell_state state_of run.after run.out') run.ran.served.met
+answers_of_session state_of run = answers_of_run run.end run.reader run.reader' (shell_state state_of run.before run.out) (shell_state state_of run.after run.out') run.ran
+
+length_first : (cs : List Command) (n : ℕ) → n ≤ length cs → length (take n cs) ≡ n
+length_first cs n few = grind (arith, common_steps)
+
+-- a prefix of the commands is what is kept
+kept_prefix : {D : Type 0} (state_of : D → DiskState) (run : ShellRun state_of) (t u : ℕ) (s : BenchState) → run.before.state ≡ s → IsOpenOnHonestDisk (session_state state_of run.before)
+    → (a : Acknowledgements (state_of run.before.disk) (state_of run.after.disk) (in_turn acknowledged_commands run.before.state run.ran.served.met))
+    → acknowledged_by t a.moments ≤ acknowledged_by u a.moments → (found : DiskState) → found.honest → IsLawful found → IsDurable found
+    → StandsForPrefix run.before.state (in_turn reached_commands run.before.state run.ran.served.met) (acknowledged_by u a.moments) found.bytes
+    → (kept : List Command) × KeepsOfRun state_of run t s kept × Stands found (fold s kept)
+kept_prefix state_of run t u s same given a fewer found honest lawful durable h =
+    let may : List Command = in_turn reached_commands run.before.state run.ran.served.met in
+    let least = h.after.at_least in
+    let most = h.after.at_most in
+    let long : length (take h.after.count may) ≡ h.after.count = length_first may h.after.count most in
+    let is : h.state ≡ fold s (take h.after.count may) = h.after.state ∙ ap (λ (v : BenchState). fold v (take h.after.count may)) same in (
+      take h.after.count may,
+      record {
+        began = same;
+        answers = answers_of_session state_of run;
+        acknowledged = a;
+        lost = drop h.after.count may;
+        parts = sym (take-append-drop h.after.count may);
+        holds = omega (arith, fewer, least, long);
+      },
+      record { honest = honest; lawful = lawful; durable = durable; stands = inl (subst (StandsFor found.bytes) is h.stands) },
+    )
+
+-- stopped since its start
+kept_late : {D : Type 0} (state_of : D → DiskState) → AreLawful state_of → (run : ShellRun state_of) (t : ℕ) (s : BenchState) (found : D) → run.before.state ≡ s → IsOpenOnHonestDisk (session_state state_of run.before)
+    → (state_of run.before.disk).clock ≤ t → IsLeftByCut t (state_of run.after.disk) (state_of found)
+    → (kept : List Command) × KeepsOfRun state_of run t s kept × Stands (state_of found) (fold s kept)
+kept_late state_of lawful run t s found same given late cut =
+    let kept = kept_of_run state_of run given in
+    kept_prefix state_of run t t s same given kept.acknowledged (omega arith) (state_of found) cut.honest (lawful found cut.honest) cut.durable (kept.each t (state_of found).bytes late cut.found)
+
+-- stopped before that: in the opening, or at its end
+kept_early : {D : Type 0} (state_of : D → DiskState) → AreLawful state_of → (disk : D) (run : ShellRun state_of) (t : ℕ) (s : BenchState) (found : D) → Stands (state_of disk) s → run.before.state ≡ s → IsOpenOnHonestDisk (session_state state_of run.before)
+    → OpensSession (state_of disk) (state_of run.before.disk) run.before.state → (state_of disk).clock ≤ t → t ≤ (state_of run.before.disk).clock → IsLeftByCut t (state_of run.after.disk) (state_of found)
+    → (kept : List Command) × KeepsOfRun state_of run t s kept × Stands (state_of found) (fold s kept)
+kept_early state_of lawful disk run t s found here same given opens late early cut =
+    let before : DiskState = state_of run.before.disk in
+    let image : List ℕ = (state_of found).bytes in
+    let kept = kept_of_run state_of run given in
+    let done : List Command = in_turn acknowledged_commands run.before.state run.ran.served.met in
+    let none : acknowledged_by t kept.acknowledged.moments ≡ 0 = acknowledged_none t before.clock kept.acknowledged.moments early (rising before (state_of run.after.disk) done kept.acknowledged) in
+    elim (kept.stretch.before t image early cut.found) [
+      | inl left ↦
+          let then : StandsByEither image s = ⊎_elim
+          (λ (old : (state_of disk).since (state_of disk).clock image). subst (λ (file : List ℕ). StandsByEither file s) (sym (here.durable.fresh image old)) here.stands)
+          (λ (new : StandsByEither image run.before.state). subst (StandsByEither image) same new)
+          (opens.moments.each image ((lawful run.before.disk given.1).longer (state_of disk).clock t image late left)) in (
+            [],
+            record { began = same; answers = answers_of_session state_of run; acknowledged = kept.acknowledged; lost = in_turn reached_commands run.before.state run.ran.served.met; parts = refl; holds = omega (arith, none) },
+            record { honest = cut.honest; lawful = lawful found cut.honest; durable = cut.durable; stands = then },
+          )
+      | inr now ↦
+          kept_prefix state_of run t before.clock s same given kept.acknowledged (omega (arith, none)) (state_of found) cut.honest (lawful found cut.honest) cut.durable (kept.each before.clock image (omega arith) now)
+    ]
+
+kept_served : {D : Type 0} (state_of : D → DiskState) → AreLawful state_of → (disk : D) (run : ShellRun state_of) (t : ℕ) (s : BenchState) (found : D) → Stands (state_of disk) s
+    → OpenBegins (state_of disk) (state_of run.before.disk) run.before.live run.before.state → (state_of disk).clock ≤ t → ((state_of run.after.disk).honest → IsLeftByCut t (state_of run.after.disk) (state_of found))
+    → (kept : List Command) × KeepsOfRun state_of run t s kept × Stands (state_of found) (fold s kept)
+kept_served state_of lawful disk run t s found here began late cut =
+    let opens = began.opens here.honest in
+    let same : run.before.state ≡ s = one_either (state_of disk).bytes run.before.state s opens.stands here.stands in
+    let given : IsOpenOnHonestDisk (session_state state_of run.before) = (began.is_open, began.counts.honest.1 here.honest) in
+    let left = cut (honest_of_run state_of run given.1) in
+    elim (cases_lt t (state_of run.before.disk).clock) [
+      | inl early ↦ kept_early state_of lawful disk run t s found here same given opens late (omega (arith, early)) left
+      | inr since ↦ kept_late state_of lawful run t s found same given since left
+    ]
+
+-- ---- a refused opening
+
+holds_session : (disk : DiskState) (s : BenchState) → IsLawful disk → StandsByEither disk.bytes s → RefusesSession NotASession disk → ⊥
+holds_session disk s lawful (inl stands) none = is_session disk stands.snap stands.records lawful stands.holds none
+holds_session disk s lawful (inr stands) none = is_session disk stands.snap stands.records lawful stands.holds none
+
+refused_number : (fault : OpenFault) (disk : DiskState) (s : BenchState) → Stands disk s → RefusesSession fault disk → (open_fault_number fault ≡ 53) ⊎ (open_fault_number fault ≡ 90)
+refused_number NotASession disk s here h = absurd (holds_session disk s here.lawful here.stands h)
+refused_number Damaged disk s here h = absurd (h.1 s here.stands)
+refused_number Device disk s here h = inl refl
+refused_number NoMemory disk s here h = inr refl
+
+rests_in : (disk left : DiskState) (image : List ℕ) (s : BenchState) → Stands disk s → AddsNoImage disk left → left.since disk.clock image → StandsByEither image s
+rests_in disk left image s here rests now = subst (λ (file : List ℕ). StandsByEither file s) (sym (here.durable.fresh image (rests.nothing_else disk.clock image (omega arith) now))) here.stands
+
+fails_in : (disk left : DiskState) (image : List ℕ) (s : BenchState) → Stands disk s → FailsMigrating disk left → left.since disk.clock image → StandsByEither image s
+fails_in disk left image s here fails now =
+    let same : fails.state ≡ s = one_either disk.bytes fails.state s (inr fails.stands) here.stands in
+    ⊎_elim
+    (λ (old : disk.since disk.clock image). subst (λ (file : List ℕ). StandsByEither file s) (sym (here.durable.fresh image old)) here.stands)
+    (λ (new : StandsByEither image fails.state). subst (StandsByEither image) same new)
+    (fails.moments.each image now)
+
+refused_in : (fault : OpenFault) (disk left : DiskState) (image : List ℕ) (s : BenchState) → Stands disk s → RefusalLeaves fault disk left → left.since disk.clock image → StandsByEither image s
+refused_in NotASession disk left image s here rests now = rests_in disk left image s here rests now
+refused_in Damaged disk left image s here rests now = rests_in disk left image s here rests now
+refused_in NoMemory disk left image s here rests now = rests_in disk left image s here rests now
+refused_in Device disk left image s here (inl rests) now = rests_in disk left image s here rests now
+refused_in Device disk left image s here (inr fails) now = fails_in disk left image s here fails now
+
+number_refused : {D : Type 0} (state_of : D → DiskState) (disk left : D) (number : ℕ) (s : BenchState) → Stands (state_of disk) s → OpenIsRefused (state_of disk) (state_of left) number → (number ≡ 53) ⊎ (number ≡ 90)
+number_refused state_of disk left number s here refused =
+    elim (refused_number refused.fault (state_of disk) s here (refused.refuses here.honest).0) [ inl is ↦ inl (refused.told ∙ is) | inr is ↦ inr (refused.told ∙ is) ]
+
+stands_refused : {D : Type 0} (state_of : D → DiskState) → AreLawful state_of → (disk left found : D) (number t : ℕ) (s : BenchState) → Stands (state_of disk) s → OpenIsRefused (state_of disk) (state_of left) number
+    → (state_of disk).clock ≤ t → ((state_of left).honest → IsLeftByCut t (state_of left) (state_of found)) → Stands (state_of found) s
+stands_refused state_of lawful disk left found number t s here refused late stopped =
+    let honest = refused.counts.honest.1 here.honest in
+    let cut = stopped honest in
+    let image : List ℕ = (state_of found).bytes in
+    record {
+      honest = cut.honest;
+      lawful = lawful found cut.honest;
+      durable = cut.durable;
+      stands = refused_in refused.fault (state_of disk) (state_of left) image s here (refused.refuses here.honest).1 ((lawful left honest).longer (state_of disk).clock t image late cut.found);
+    }
+
+-- ---- all sittings
+
+kept_one : {D : Type 0} (state_of : D → DiskState) → AreLawful state_of → (disk found : D) (x : Sitting state_of) (t : ℕ) (s : BenchState) → Stands (state_of disk) s → CameOf disk x → (state_of disk).clock ≤ t
+    → ((state_of (disk_left x)).honest → IsLeftByCut t (state_of (disk_left x)) (state_of found)) → (kept : List Command) × KeepsOf state_of x t s kept × Stands (state_of found) (fold s kept)
+kept_one state_of lawful disk found (Served run) t s here came late stopped = kept_served state_of lawful disk run t s found here came late stopped
+kept_one state_of lawful disk found (Refused number left) t s here came late stopped = ([], (refl, number_refused state_of disk left number s here came), stands_refused state_of lawful disk left found number t s here came late stopped)
+
+kept_each : {D : Type 0} (state_of : D → DiskState) (IsFound : ℕ → D → D → Type 0) → AreLawful state_of → AreCuts state_of IsFound → (disk : D) (xs : List (Stop state_of)) (last : D) (s : BenchState) → Stands (state_of disk) s → IsHistory IsFound disk xs last
+    → (kept : List Command) × KeepsOfEach state_of xs s kept × Stands (state_of last) (fold s kept)
+kept_each {D = D} state_of IsFound lawful cuts disk [] last s here came = ([], refl, subst (λ (d : D). Stands (state_of d) s) (sym came) here)
+kept_each state_of IsFound lawful cuts disk (x ∷ xs) last s here came =
+    let one = kept_one state_of lawful disk x.found x.sitting x.time s here came.0 came.1 (λ honest. cuts x.time (disk_left x.sitting) x.found honest came.2) in
+    let others = kept_each state_of IsFound lawful cuts x.found xs last (fold s one.0) one.2 came.3 in (
+      one.0 ++ others.0,
+      (one.0, others.0, refl, one.1, others.1),
+      subst (Stands (state_of last)) (sym (fold-append s one.0 others.0)) others.2,
+    )
+
+-- ---- what is opened at the end
+
+pub survives_history : {D : Type 0} (state_of : D → DiskState) (IsFound : ℕ → D → D → Type 0) → AreLawful state_of → AreCuts state_of IsFound → (history : History state_of IsFound)
+    → IsOpenOnHonestDisk (session_state state_of history.first.before) → SurvivesHistory history
+survives_history state_of IsFound lawful cuts history given =
+    let s : BenchState = history.first.before.state in
+    let first = kept_late state_of lawful history.first history.time s history.found refl given history.since (cuts history.time history.first.after.disk history.found (honest_of_run state_of history.first given.1) history.stopped) in
+    let others = kept_each state_of IsFound lawful cuts history.found history.stops history.last (fold s first.0) first.2 history.came in
+    let here = others.2 in
+    record {
+      kept = first.0 ++ others.0;
+      of_each = (first.0, others.0, refl, first.1, others.1);
+      reopened = λ name session begun.
+          one_either (state_of history.last).bytes session.state (fold (fold s first.0) others.0) (begun.opens here.honest).stands here.stands ∙ sym (fold-append s first.0 others.0);
+      not_refused = λ name number refused.
+          number_refused state_of history.last refused.0 number (fold (fold s first.0) others.0) here refused.1;
+    }

@@ -1,0 +1,86 @@
+-- How often a reader and a writer have failed, by how a shell ended.
+use Rattle.std.specs.Prelude.{◌≡◌, ◌≢◌, ◌⊎◌, ◌+◌, ◌<◌, ◌++◌, ℕ, min, Option, Some, None, MatchResult, Result}
+use Rattle.std.specs.Io.KnownBytes.{Appends}
+use Rattle.std.specs.Option.{option_map}
+use Rattle.mcs_answers.specs.AnswerTexts.{session_text}
+use Rattle.mcs_disk.specs.Disk.{DiskState, most_faults}
+use Rattle.mcs_shell.specs.declared.ends.ShellEnd.{ShellEnd}
+use Rattle.mcs_shell.specs.declared.ends.ShellEnd.TheVariants.{End, ReadFault, WriteFault, InputLimit, NoMemory}
+use Rattle.mcs_shell.specs.Shell.{ShellRun, inputs_read}
+use Rattle.mcs_shell.specs.ShellState.{KnownBytes}
+use Rattle.mcs_shell.specs.Transcript.{answer, in_turn, inputs_in}
+
+-- how many calls have failed, where that is known; it stays at its greatest value
+abbrev pub KnownFaults : Type 0
+KnownFaults = Option ℕ
+
+-- a call that failed counts as one more
+abbrev pub one_more : KnownFaults → KnownFaults
+one_more faults = option_map (λ n. min (n + 1) most_faults) faults
+
+-- the count rises by one where a call failed, and nowhere else
+abbrev pub CountsFault : {T E : Type 0} → KnownFaults → KnownFaults → Result T E → Type 0
+CountsFault old new result = MatchResult result (λ x. new ≡ old) (λ e. new ≡ one_more old)
+
+-- how often the reader has failed once a shell ended so
+abbrev pub faults_read : ShellEnd → KnownFaults → KnownFaults
+faults_read ReadFault faults = one_more faults
+faults_read end faults = faults
+
+-- how often the writer has failed once a shell ended so, or goes on
+abbrev pub faults_written : Option ShellEnd → KnownFaults → KnownFaults
+faults_written (Some WriteFault) faults = one_more faults
+faults_written halted faults = faults
+
+-- The reader failed once where the shell ended by a read, the writer where it ended by a write, and
+-- else neither failed.
+pub record EndsByItsFault (end : ShellEnd) (read read' written written' : KnownFaults) : Type 0 where
+  pub reader : read' ≡ faults_read end read
+  pub writer : written' ≡ faults_written (Some end) written
+
+-- what contracts see of a reader and a writer: what the one has left and the other has got, and how
+-- often each has failed
+pub record StreamsView : Type 0 where
+  pub left : KnownBytes
+  pub read_faults : KnownFaults
+  pub got : KnownBytes
+  pub write_faults : KnownFaults
+
+-- the same, by the members of their traits
+abbrev pub streams_view : {R W : Type 0} → (R → KnownBytes) → (R → KnownFaults) → (W → KnownBytes)
+    → (W → KnownFaults) → R → W → StreamsView
+streams_view remaining read_faults contents write_faults reader writer = record {
+  left = remaining reader;
+  read_faults = read_faults reader;
+  got = contents writer;
+  write_faults = write_faults writer;
+}
+
+-- ---- a run without a fault
+
+-- it is known that no call has failed from the first count to the second
+abbrev pub HasNotFailed : KnownFaults → KnownFaults → Type 0
+HasNotFailed None new = ⊥
+HasNotFailed (Some n) new = (new ≡ Some n) × (n < most_faults)
+
+-- in this run no call of the reader, of the writer or of the disk failed, and the shell had memory
+-- to begin
+pub record RanWithoutFault {D : Type 0} {state_of : D → DiskState} (run : ShellRun state_of) : Type 0 where
+  pub read : KnownFaults
+  pub read' : KnownFaults
+  pub written : KnownFaults
+  pub written' : KnownFaults
+  pub by : EndsByItsFault run.end read read' written written'
+  pub reader : HasNotFailed read read'
+  pub writer : HasNotFailed written written'
+  pub device : HasNotFailed (Some (state_of run.before.disk).faults)
+      (Some (state_of run.after.disk).faults)
+  pub memory : run.end ≢ NoMemory
+
+-- the run came to the end of its input or to the limit of it, met all that it had read, and told
+-- each answer whole
+pub record ServesAll {D : Type 0} {state_of : D → DiskState} (run : ShellRun state_of) : Type 0 where
+  pub end : (run.end ≡ End) ⊎ (run.end ≡ InputLimit)
+  pub all_met : inputs_read run.ran.read ≡ inputs_in run.ran.served.met
+  pub all_told : Appends run.out run.out' (session_text run.before.state
+      ++ in_turn answer run.before.state run.ran.served.met)

@@ -1,0 +1,87 @@
+//! Where a shell reads its input, and where it tells its answers.
+ghost use Rattle.std.specs.Prelude.{◌<◌, ◌++◌, ℕ, List, Option, None, length, take, IfOk, OnErr, OnOk};
+ghost use Rattle.std.specs.Io.KnownBytes.{Appends, Keeps};
+ghost use Rattle.mcs_shell.specs.Answers.{MayTell};
+ghost use Rattle.mcs_shell.specs.Faults.{CountsFault};
+ghost use Rattle.mcs_shell.specs.Serving.{GotFirstBytes};
+ghost use Rattle.mcs_shell.specs.Shell.{ReadBytes};
+
+use crate::sending::{WriteStopped, send_two};
+use mcs_disk::Disk;
+use mcs_session::session::Session;
+use std::io::{Read, Write};
+
+/// A read failed.
+#[derive(Clone, Copy)]
+pub struct ReadFailed;
+
+/// What a shell reads. Each `Read` is one, of which it is not known how often it failed.
+pub trait InputSource {
+    /// The bytes that it will give from here on, where they are known.
+    ghost remaining: { Self → Option (List ℕ) };
+
+    /// How many reads have failed, where that is known.
+    ghost faults: { Self → Option ℕ };
+
+    /// Reads bytes to the front of the buffer; none only where input has ended. An `Err` leaves
+    /// what it has left.
+    fn read_some(&mut self, buffer: &mut [u8]) -> Result<usize, ReadFailed>
+        requires { 0 < length buffer.old }
+        ensures ok { IfOk result (λ n. ReadBytes n (length buffer.old)
+            (remaining self.old) (remaining self.new) (take n buffer.new)) }
+        ensures err { OnErr result (Keeps (remaining self.old) (remaining self.new)) }
+        ensures counted { CountsFault (faults self.old) (faults self.new) result };
+}
+
+impl<R: Read> InputSource for R {
+    ghost remaining = { R.remaining };
+
+    ghost faults = { λ _. None };
+
+    fn read_some(&mut self, buffer: &mut [u8]) -> Result<usize, ReadFailed> {
+        match self.read(buffer) {
+            Ok(count) => Ok(count),
+            Err(_) => Err(ReadFailed),
+        }
+    }
+}
+
+/// What a shell tells its answers to. Each `Write` is one, of which it is not known how often it
+/// failed.
+pub trait AnswerSink {
+    /// The bytes that it has got, where they are known.
+    ghost contents: { Self → Option (List ℕ) };
+
+    /// How many answers it has not taken whole, where that is known.
+    ghost faults: { Self → Option ℕ };
+
+    /// Takes an answer in two stretches of bytes, once this session has done what it acknowledges
+    /// and its disk stands for that. On an `Err` it has got less, the first bytes.
+    fn tell<D: Disk + Drop>(
+        &mut self,
+        session: &Session<D>,
+        first: &[u8],
+        second: &[u8],
+    ) -> Result<(), WriteStopped>
+        requires { MayTell D.state session.now (first.now ++ second.now) }
+        ensures ok { OnOk result
+            (Appends (contents self.old) (contents self.new) (first.now ++ second.now)) }
+        ensures err { OnErr result
+            (GotFirstBytes (contents self.old) (contents self.new) (first.now ++ second.now)) }
+        ensures counted { CountsFault (faults self.old) (faults self.new) result };
+}
+
+impl<W: Write> AnswerSink for W {
+    ghost contents = { W.contents };
+
+    ghost faults = { λ _. None };
+
+    fn tell<D: Disk + Drop>(
+        &mut self,
+        _session: &Session<D>,
+        first: &[u8],
+        second: &[u8],
+    ) -> Result<(), WriteStopped> {
+        send_two(self, first, second)
+    }
+}

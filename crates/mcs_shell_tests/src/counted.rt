@@ -1,0 +1,92 @@
+//! A reader and a writer that count how often they failed.
+ghost use Rattle.std.specs.Prelude.{Some};
+
+use crate::checks::equal;
+use crate::sessions::{ANSWERS, SCRIPT, new_session};
+use mcs_disk::Disk;
+use mcs_fixtures::streams::{CutReader, CutWriter};
+use mcs_session::session::Session;
+use mcs_shell::ends::ShellEnd;
+use mcs_shell::sending::{WriteStopped, send_two};
+use mcs_shell::shell::run_shell;
+use mcs_shell::streams::{AnswerSink, InputSource, ReadFailed};
+use std::io::{Read, Write};
+use std::test::Fail;
+
+/// A reader, and how often it failed.
+#[derive(Drop)]
+struct CountedReader<R> {
+    reader: R,
+    faults: u64,
+}
+
+impl<R: Read + Drop> InputSource for CountedReader<R> {
+    ghost remaining = { λ r. R.remaining r.reader };
+
+    ghost faults = { λ r. Some r.faults };
+
+    fn read_some(&mut self, buffer: &mut [u8]) -> Result<usize, ReadFailed> {
+        match self.reader.read(buffer) {
+            Ok(count) => Ok(count),
+            Err(_) => {
+                self.faults = self.faults.saturating_add(1);
+                Err(ReadFailed)
+            }
+        }
+    }
+}
+
+/// A writer, and how often it stopped.
+#[derive(Drop)]
+struct CountedWriter<W> {
+    writer: W,
+    faults: u64,
+}
+
+impl<W: Write + Drop> AnswerSink for CountedWriter<W> {
+    ghost contents = { λ w. W.contents w.writer };
+
+    ghost faults = { λ w. Some w.faults };
+
+    fn tell<D: Disk + Drop>(
+        &mut self,
+        _session: &Session<D>,
+        first: &[u8],
+        second: &[u8],
+    ) -> Result<(), WriteStopped> {
+        match send_two(&mut self.writer, first, second) {
+            Ok(()) => Ok(()),
+            Err(WriteStopped) => {
+                self.faults = self.faults.saturating_add(1);
+                Err(WriteStopped)
+            }
+        }
+    }
+}
+
+/// A script is read whole, or fails once after so many bytes, and its answers go to a writer that takes all of them, or fails once after so
+/// many bytes: the shell ends by that, and it is counted where it failed.
+#[test]
+fn a_fault_is_counted_where_it_was(rt: HostRuntime) -> Result<(), Fail> {
+    let rows = [
+        (0, 0, ShellEnd::End),
+        (1, 0, ShellEnd::ReadFault),
+        (0, 1, ShellEnd::WriteFault),
+    ];
+    for (reads, writes, wanted) in rows {
+        let mut session = new_session(rt.alloc())?;
+        let mut reader = CountedReader {
+            reader: CutReader::new(SCRIPT, 12, reads),
+            faults: 0,
+        };
+        let mut writer = CountedWriter {
+            writer: CutWriter::new(rt.alloc(), ANSWERS.len() - 3, writes),
+            faults: 0,
+        };
+        let end = run_shell(rt.alloc(), &mut reader, &mut writer, &mut session);
+        equal(&rt, end, wanted);
+        equal(&rt, reader.faults, reads as u64);
+        equal(&rt, writer.faults, writes as u64);
+    }
+    Ok(())
+}

@@ -1,0 +1,49 @@
+;;; mcs4-mode.el --- programs and boards of the MCS-4 bench  -*- lexical-binding: t -*-
+;; Made by editors/make.mjs out of the words that the page knows; edits here are lost.
+;;; Code:
+
+(defconst mcs4-program-words
+  `((,(concat "^[ \t]*\\(?:[A-Za-z_][A-Za-z0-9_]*[ \t]*:\\)?[ \t]*\\(" (regexp-opt '("ADD" "ADM" "BBL" "CLB" "CLC" "CMA" "CMC" "DAA" "DAC" "DCL" "FIM" "FIN" "IAC" "INC" "ISZ" "JCN" "JIN" "JMS" "JUN" "KBP" "LD" "LDM" "NOP" "RAL" "RAR" "RD0" "RD1" "RD2" "RD3" "RDM" "RDR" "SBM" "SRC" "STC" "SUB" "TCC" "TCS" "WMP" "WR0" "WR1" "WR2" "WR3" "WRM" "WRR" "XCH")) "\\)\\(?:[ \t,;]\\|$\\)")
+     1 font-lock-keyword-face)
+    (,(concat "^[ \t]*\\(?:[A-Za-z_][A-Za-z0-9_]*[ \t]*:\\)?[ \t]*\\(" (regexp-opt '("ORG" "DB")) "\\)\\(?:[ \t,;]\\|$\\)")
+     1 font-lock-preprocessor-face)
+    ("^[ \t]*\\([A-Za-z_][A-Za-z0-9_]*\\)[ \t]*:" 1 font-lock-function-name-face)
+    ("^[ \t]*\\([A-Za-z_][A-Za-z0-9_]*\\)[ \t]*=" 1 font-lock-type-face)
+    ("^[ \t]*\\(?:[A-Za-z_][A-Za-z0-9_]*[ \t]*:\\)?[ \t]*\\([^ \t\n,;:=]+\\)\\(?:[ \t,;]\\|$\\)" 1 font-lock-warning-face)
+    ("\\_<\\(?:R\\(?:1[0-5]\\|[0-9]\\)\\|P[0-7]\\)\\_>" . font-lock-builtin-face)
+    ("\\_<\\(?:0x[0-9A-F]+\\|[0-9]+\\)\\_>" . font-lock-constant-face)
+    ("\\_<[A-Za-z_][A-Za-z0-9_]*\\_>" . font-lock-variable-name-face))
+  "What stands in a program.")
+
+;;;###autoload
+(define-derived-mode mcs4-mode prog-mode "MCS-4"
+  "Programs for the MCS-4 bench."
+  (modify-syntax-entry ?\; "<" mcs4-mode-syntax-table)
+  (modify-syntax-entry ?\n ">" mcs4-mode-syntax-table)
+  (modify-syntax-entry ?_ "_" mcs4-mode-syntax-table)
+  (modify-syntax-entry ?= "." mcs4-mode-syntax-table)
+  (modify-syntax-entry ?\" "." mcs4-mode-syntax-table)
+  (setq-local comment-start "; " comment-start-skip ";+[ \t]*" font-lock-defaults '(mcs4-program-words nil t)))
+
+(defconst mcs4-board-words
+  `(("#[ \t]*\\(bar\\|colour\\|die\\|display\\|grid\\|lamp\\|matrix\\|port\\|row\\|test\\|title\\)\\_>[^:\n]*:" 1 font-lock-doc-face prepend)
+    ("^[ \t]*\\[+[ \t]*\\(chain\\|keys\\|lamp\\|ram\\|rom\\)[ \t]*\\]" 1 font-lock-type-face)
+    ("\\([A-Za-z0-9_-]+\\)[ \t]*=" 1 font-lock-variable-name-face)
+    ("\\_<[+-]?[0-9][0-9A-Za-z_.]*" . font-lock-constant-face))
+  "What stands in the text of a board.")
+
+;;;###autoload
+(define-derived-mode mcs4-board-mode prog-mode "MCS-4 board"
+  "Boards of the MCS-4 bench."
+  (modify-syntax-entry ?# "<" mcs4-board-mode-syntax-table)
+  (modify-syntax-entry ?\n ">" mcs4-board-mode-syntax-table)
+  (modify-syntax-entry ?' "\"" mcs4-board-mode-syntax-table)
+  (setq-local comment-start "# " comment-start-skip "#+[ \t]*" font-lock-defaults '(mcs4-board-words)))
+
+;;;###autoload
+(add-to-list 'auto-mode-alist '("\\.asm\\'" . mcs4-mode))
+;;;###autoload
+(add-to-list 'auto-mode-alist '("/board\\.toml\\'" . mcs4-board-mode))
+
+(provide 'mcs4-mode)
+;;; mcs4-mode.el ends here

@@ -1,0 +1,276 @@
+// Makes the grammars of editors out of the words that the page knows: `node editors/make.mjs [FOLDER]`. Into the folder (this one where none
+// is named) go those of Visual Studio Code (TextMate, which GitHub reads too), Vim, Emacs and Kate, for programs and for boards.
+//
+// Programs: a label or a name that is defined, the instruction of the statement or a directive, registers, numbers, names. Boards: tables,
+// keys, texts, numbers, and comments, in which the lines of the face are told apart. checks/grammars compares them with the page.
+import { mkdirSync, writeFileSync } from "node:fs";
+import { dirname } from "node:path";
+import { fileURLToPath } from "node:url";
+import { FORMS } from "../page/src/board/face_words.js";
+import { instructionsOf } from "../page/src/help/manual.js";
+import { DIRECTIVES } from "../page/src/text/assembly.js";
+import { TOML_KEYS } from "../page/src/text/board_words.js";
+import { dataOfPage } from "../tools/lib/page_parts.mjs";
+
+const OWN = dirname(fileURLToPath(import.meta.url));
+const INSTRUCTIONS = [...instructionsOf(dataOfPage().manual).keys()].sort();
+const FACE = Object.keys(FORMS).sort();
+const TABLES = Object.keys(TOML_KEYS).sort();
+
+const NAME = "[A-Za-z_][A-Za-z0-9_]*";
+const NUMBER = "(?:0x[0-9A-Fa-f]+|[0-9]+)";
+const REGISTER = "(?:[Rr](?:1[0-5]|[0-9])|[Pp][0-7])";
+const STRING = "(?:\"(?:\\\\.|[^\"\\\\])*\"|'[^']*')";
+const KEY = "[A-Za-z0-9_-]+";
+/** Where a word of an operand ends. */
+const AFTER = "(?![A-Za-z0-9_])";
+const BEFORE = "(?<![A-Za-z0-9_])";
+
+/** A word in whatever case. */
+const inAnyCase = (word) => [...word].map((letter) => (/[A-Z]/.test(letter) ? `[${letter}${letter.toLowerCase()}]` : letter)).join("");
+const anyOf = (words, written = (word) => word) => words.map(written).join("|");
+const WARNING = "Made by editors/make.mjs out of the words that the page knows; edits here are lost.";
+
+// --- TextMate
+
+function programOfTextMate() {
+  const instruction = anyOf(INSTRUCTIONS, inAnyCase);
+  const directive = anyOf(DIRECTIVES, inAnyCase);
+  const own = "mcs4";
+  return {
+    information_for_contributors: [WARNING],
+    name: "MCS-4 program", scopeName: "source.mcs4", fileTypes: ["asm"],
+    patterns: [
+      { name: `comment.line.semicolon.${own}`, match: ";.*$" },
+      { match: `^\\s*(${NAME})\\s*(=)`, captures: { 1: { name: `entity.name.constant.${own}` }, 2: { name: `keyword.operator.${own}` } } },
+      {
+        match: `^\\s*(?:(${NAME})\\s*(:))?\\s*(?:(${instruction})|(${directive}))(?=[\\s,;]|$)`,
+        captures: {
+          1: { name: `entity.name.function.${own}` }, 2: { name: `punctuation.separator.${own}` },
+          3: { name: `keyword.mnemonic.${own}` }, 4: { name: `keyword.control.directive.${own}` },
+        },
+      },
+      {
+        match: `^\\s*(?:(${NAME})\\s*(:))?\\s*([^\\s,;:=]+)(?=[\\s,;]|$)`,
+        captures: {
+          1: { name: `entity.name.function.${own}` }, 2: { name: `punctuation.separator.${own}` }, 3: { name: `invalid.illegal.${own}` },
+        },
+      },
+      { match: `^\\s*(${NAME})\\s*(:)`, captures: { 1: { name: `entity.name.function.${own}` }, 2: { name: `punctuation.separator.${own}` } } },
+      { name: `variable.language.register.${own}`, match: `${BEFORE}${REGISTER}${AFTER}` },
+      { name: `constant.numeric.${own}`, match: `${BEFORE}${NUMBER}${AFTER}` },
+      { name: `variable.other.${own}`, match: `${BEFORE}${NAME}${AFTER}` },
+    ],
+  };
+}
+
+function boardOfTextMate() {
+  const own = "mcs4-board";
+  return {
+    information_for_contributors: [WARNING],
+    name: "MCS-4 board", scopeName: "source.mcs4-board", fileTypes: ["board.toml"],
+    patterns: [
+      {
+        name: `comment.line.number-sign.${own}`, match: `#\\s*(${anyOf(FACE)})\\b([^:]*)(:)(.*)$`,
+        captures: { 1: { name: `keyword.other.face.${own}` }, 4: { name: `string.unquoted.face.${own}` } },
+      },
+      { name: `comment.line.number-sign.${own}`, match: "#.*$" },
+      { match: `^\\s*\\[+\\s*(${anyOf(TABLES)})\\s*\\]+`, captures: { 1: { name: `entity.name.section.${own}` } } },
+      { match: `(${KEY})\\s*(?==)`, captures: { 1: { name: `support.type.property-name.${own}` } } },
+      { name: `string.quoted.${own}`, match: STRING },
+      { name: `constant.numeric.${own}`, match: `${BEFORE}[+-]?[0-9][0-9A-Za-z_.]*` },
+    ],
+  };
+}
+
+// --- Vim
+
+function programOfVim() {
+  const words = (list) => anyOf(list, (word) => word.toLowerCase()).replace(/\|/g, "\\|");
+  const head = (list) => `/\\c\\%(^\\s*\\|^\\s*\\h\\w*\\s*:\\s*\\)\\@<=\\%(${words(list)}\\)\\ze\\%([ \\t,;]\\|$\\)/`;
+  return `" Programs for the MCS-4 bench. ${WARNING}
+" In a vimrc: let g:asmsyntax = "mcs4"
+if exists("b:current_syntax")
+  finish
+endif
+syn match mcs4Name /\\<\\h\\w*\\>/
+syn match mcs4Number /\\<\\%(0x\\x\\+\\|\\d\\+\\)\\>/
+syn match mcs4Register /\\<\\%([Rr]\\%(1[0-5]\\|\\d\\)\\|[Pp][0-7]\\)\\>/
+syn match mcs4Unknown /\\%(^\\s*\\|^\\s*\\h\\w*\\s*:\\s*\\)\\@<=[^ \\t,;:=]\\+\\ze\\%([ \\t,;]\\|$\\)/
+syn match mcs4Label /^\\s*\\zs\\h\\w*\\ze\\s*:/
+syn match mcs4Constant /^\\s*\\zs\\h\\w*\\ze\\s*=/
+syn match mcs4Instruction ${head(INSTRUCTIONS)}
+syn match mcs4Directive ${head(DIRECTIVES)}
+syn match mcs4Comment /;.*$/ contains=@Spell
+hi def link mcs4Name Identifier
+hi def link mcs4Number Number
+hi def link mcs4Register Special
+hi def link mcs4Unknown Error
+hi def link mcs4Label Label
+hi def link mcs4Constant Define
+hi def link mcs4Instruction Statement
+hi def link mcs4Directive PreProc
+hi def link mcs4Comment Comment
+setlocal commentstring=;\\ %s
+let b:current_syntax = "mcs4"
+`;
+}
+
+function boardOfVim() {
+  return `" Boards of the MCS-4 bench. ${WARNING}
+if exists("b:current_syntax")
+  finish
+endif
+syn match mcs4BoardNumber /\\<[+-]\\?\\d[0-9A-Za-z_.]*/
+syn match mcs4BoardKey /[A-Za-z0-9_-]\\+\\ze\\s*=/
+syn match mcs4BoardTable /\\%(^\\s*\\[\\+\\s*\\)\\@<=\\%(${anyOf(TABLES).replace(/\|/g, "\\|")}\\)\\ze\\s*\\]/
+syn region mcs4BoardString start=/"/ skip=/\\\\./ end=/"/ oneline
+syn region mcs4BoardString start=/'/ end=/'/ oneline
+syn match mcs4BoardFace /#\\s*\\%(${anyOf(FACE).replace(/\|/g, "\\|")}\\)\\>[^:]*:/ contained
+syn match mcs4BoardComment /#.*$/ contains=mcs4BoardFace,@Spell
+hi def link mcs4BoardNumber Number
+hi def link mcs4BoardKey Identifier
+hi def link mcs4BoardTable Type
+hi def link mcs4BoardString String
+hi def link mcs4BoardFace SpecialComment
+hi def link mcs4BoardComment Comment
+setlocal commentstring=#\\ %s
+let b:current_syntax = "mcs4board"
+`;
+}
+
+const DETECT_OF_VIM = `" ${WARNING}
+autocmd BufRead,BufNewFile board.toml setlocal syntax=mcs4board
+`;
+
+// --- Emacs
+
+function modesOfEmacs() {
+  const words = (list) => `(regexp-opt '(${list.map((word) => `"${word}"`).join(" ")}))`;
+  return `;;; mcs4-mode.el --- programs and boards of the MCS-4 bench  -*- lexical-binding: t -*-
+;; ${WARNING}
+;;; Code:
+
+(defconst mcs4-program-words
+  \`((,(concat "^[ \\t]*\\\\(?:${NAME}[ \\t]*:\\\\)?[ \\t]*\\\\(" ${words(INSTRUCTIONS)} "\\\\)\\\\(?:[ \\t,;]\\\\|$\\\\)")
+     1 font-lock-keyword-face)
+    (,(concat "^[ \\t]*\\\\(?:${NAME}[ \\t]*:\\\\)?[ \\t]*\\\\(" ${words(DIRECTIVES)} "\\\\)\\\\(?:[ \\t,;]\\\\|$\\\\)")
+     1 font-lock-preprocessor-face)
+    ("^[ \\t]*\\\\(${NAME}\\\\)[ \\t]*:" 1 font-lock-function-name-face)
+    ("^[ \\t]*\\\\(${NAME}\\\\)[ \\t]*=" 1 font-lock-type-face)
+    ("^[ \\t]*\\\\(?:${NAME}[ \\t]*:\\\\)?[ \\t]*\\\\([^ \\t\\n,;:=]+\\\\)\\\\(?:[ \\t,;]\\\\|$\\\\)" 1 font-lock-warning-face)
+    ("\\\\_<\\\\(?:R\\\\(?:1[0-5]\\\\|[0-9]\\\\)\\\\|P[0-7]\\\\)\\\\_>" . font-lock-builtin-face)
+    ("\\\\_<\\\\(?:0x[0-9A-F]+\\\\|[0-9]+\\\\)\\\\_>" . font-lock-constant-face)
+    ("\\\\_<${NAME}\\\\_>" . font-lock-variable-name-face))
+  "What stands in a program.")
+
+;;;###autoload
+(define-derived-mode mcs4-mode prog-mode "MCS-4"
+  "Programs for the MCS-4 bench."
+  (modify-syntax-entry ?\\; "<" mcs4-mode-syntax-table)
+  (modify-syntax-entry ?\\n ">" mcs4-mode-syntax-table)
+  (modify-syntax-entry ?_ "_" mcs4-mode-syntax-table)
+  (modify-syntax-entry ?= "." mcs4-mode-syntax-table)
+  (modify-syntax-entry ?\\" "." mcs4-mode-syntax-table)
+  (setq-local comment-start "; " comment-start-skip ";+[ \\t]*" font-lock-defaults '(mcs4-program-words nil t)))
+
+(defconst mcs4-board-words
+  \`(("#[ \\t]*\\\\(${FACE.join("\\\\|")}\\\\)\\\\_>[^:\\n]*:" 1 font-lock-doc-face prepend)
+    ("^[ \\t]*\\\\[+[ \\t]*\\\\(${TABLES.join("\\\\|")}\\\\)[ \\t]*\\\\]" 1 font-lock-type-face)
+    ("\\\\([A-Za-z0-9_-]+\\\\)[ \\t]*=" 1 font-lock-variable-name-face)
+    ("\\\\_<[+-]?[0-9][0-9A-Za-z_.]*" . font-lock-constant-face))
+  "What stands in the text of a board.")
+
+;;;###autoload
+(define-derived-mode mcs4-board-mode prog-mode "MCS-4 board"
+  "Boards of the MCS-4 bench."
+  (modify-syntax-entry ?# "<" mcs4-board-mode-syntax-table)
+  (modify-syntax-entry ?\\n ">" mcs4-board-mode-syntax-table)
+  (modify-syntax-entry ?' "\\"" mcs4-board-mode-syntax-table)
+  (setq-local comment-start "# " comment-start-skip "#+[ \\t]*" font-lock-defaults '(mcs4-board-words)))
+
+;;;###autoload
+(add-to-list 'auto-mode-alist '("\\\\.asm\\\\'" . mcs4-mode))
+;;;###autoload
+(add-to-list 'auto-mode-alist '("/board\\\\.toml\\\\'" . mcs4-board-mode))
+
+(provide 'mcs4-mode)
+;;; mcs4-mode.el ends here
+`;
+}
+
+// --- Kate
+
+const escaped = (text) => text.replace(/&/g, "&amp;").replace(/</g, "&lt;").replace(/>/g, "&gt;").replace(/"/g, "&quot;");
+const rule = (attribute, pattern, { context = "#stay", isLoose = false } = {}) => (
+  `        <RegExpr attribute="${attribute}" context="${context}" String="${escaped(pattern)}"${isLoose ? " insensitive=\"true\"" : ""}/>`);
+const languageOfKate = (name, extensions, contexts, items, comment) => `<?xml version="1.0" encoding="UTF-8"?>
+<!DOCTYPE language>
+<!-- ${WARNING} -->
+<language name="${name}" section="Assembler" version="1" kateversion="5.0" extensions="${extensions}" casesensitive="true">
+  <highlighting>
+    <contexts>
+${contexts}
+    </contexts>
+    <itemDatas>
+${items.map(([item, style]) => `      <itemData name="${item}" defStyleNum="${style}"/>`).join("\n")}
+    </itemDatas>
+  </highlighting>
+  <general><comments><comment name="singleLine" start="${comment}"/></comments></general>
+</language>
+`;
+
+function programOfKate() {
+  const inOperands = { context: "Operands" };
+  const begin = [
+    rule("Comment", ";.*$"), rule("Constant", `${NAME}(?=\\s*=)`, inOperands), rule("Label", `${NAME}(?=\\s*:)`), rule("Normal", ":"),
+    rule("Instruction", `(?:${anyOf(INSTRUCTIONS)})(?=[\\s,;]|$)`, { ...inOperands, isLoose: true }),
+    rule("Directive", `(?:${anyOf(DIRECTIVES)})(?=[\\s,;]|$)`, { ...inOperands, isLoose: true }), rule("Normal", "[^\\s;]+", inOperands),
+  ];
+  const operands = [rule("Comment", ";.*$"), rule("Register", `${REGISTER}${AFTER}`), rule("Number", `${NUMBER}${AFTER}`), rule("Name", NAME),
+    rule("Normal", "[A-Za-z0-9_]+")];
+  const contexts = `      <context name="Statement" attribute="Normal" lineEndContext="#stay">
+${begin.join("\n")}
+      </context>
+      <context name="Operands" attribute="Normal" lineEndContext="#pop">
+${operands.join("\n")}
+      </context>`;
+  return languageOfKate("MCS-4 program", "*.asm", contexts, [["Normal", "dsNormal"], ["Comment", "dsComment"], ["Constant", "dsConstant"],
+    ["Label", "dsFunction"], ["Instruction", "dsKeyword"], ["Directive", "dsPreprocessor"], ["Register", "dsBuiltIn"],
+    ["Number", "dsDecVal"], ["Name", "dsVariable"]], ";");
+}
+
+function boardOfKate() {
+  const rules = [
+    rule("Face", `#\\s*(?:${anyOf(FACE)})\\b[^:]*:.*$`), rule("Comment", "#.*$"),
+    rule("Table", `(?:${anyOf(TABLES)})(?=\\s*\\])`), rule("Key", `${KEY}(?=\\s*=)`), rule("String", STRING),
+    rule("Number", "[+-]?[0-9][0-9A-Za-z_.]*"), rule("Normal", KEY),
+  ];
+  const contexts = `      <context name="Board" attribute="Normal" lineEndContext="#stay">
+${rules.join("\n")}
+      </context>`;
+  return languageOfKate("MCS-4 board", "board.toml", contexts, [["Normal", "dsNormal"], ["Comment", "dsComment"], ["Face", "dsAnnotation"],
+    ["Table", "dsKeyword"], ["Key", "dsDataType"], ["String", "dsString"], ["Number", "dsDecVal"]], "#");
+}
+
+const json = (value) => `${JSON.stringify(value, null, 2)}\n`;
+
+/** Each file with its text. */
+export const FILES = {
+  "vscode/mcs4.tmLanguage.json": json(programOfTextMate()),
+  "vscode/mcs4-board.tmLanguage.json": json(boardOfTextMate()),
+  "vim/syntax/mcs4.vim": programOfVim(),
+  "vim/syntax/mcs4board.vim": boardOfVim(),
+  "vim/ftdetect/mcs4.vim": DETECT_OF_VIM,
+  "emacs/mcs4-mode.el": modesOfEmacs(),
+  "kate/mcs4.xml": programOfKate(),
+  "kate/mcs4-board.xml": boardOfKate(),
+};
+
+if (process.argv[1] === fileURLToPath(import.meta.url)) {
+  const folder = process.argv[2] || OWN;
+  for (const [name, text] of Object.entries(FILES)) {
+    mkdirSync(dirname(`${folder}/${name}`), { recursive: true });
+    writeFileSync(`${folder}/${name}`, text);
+  }
+}

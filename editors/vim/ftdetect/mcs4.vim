@@ -1,0 +1,2 @@
+" Made by editors/make.mjs out of the words that the page knows; edits here are lost.
+autocmd BufRead,BufNewFile board.toml setlocal syntax=mcs4board

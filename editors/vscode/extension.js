@@ -1,0 +1,48 @@
+// The extension: it starts the language server and the debug adapter of the bench.
+"use strict";
+const vscode = require("vscode");
+const { LanguageClient } = require("./language_client.js");
+
+const LANGUAGES = ["mcs4", "mcs4-board"];
+
+const command = () => vscode.workspace.getConfiguration("mcs4").get("command") || "mcs4";
+
+/** F5 without a configuration debugs the program that is shown. */
+function resolved(folder, configuration) {
+  if (configuration.type) return configuration;
+  const editor = vscode.window.activeTextEditor;
+  if (!editor || editor.document.languageId !== "mcs4") return configuration;
+  return { type: "mcs4", request: "launch", name: "This program on its board", program: editor.document.fileName };
+}
+
+async function pressKey() {
+  const session = vscode.debug.activeDebugSession;
+  if (!session || session.type !== "mcs4") {
+    vscode.window.showInformationMessage("No program is debugged.");
+    return;
+  }
+  const key = await vscode.window.showInputBox({ prompt: "The key's name, as the board's text has it" });
+  if (!key) return;
+  try {
+    await session.customRequest("pressKey", { key });
+  } catch (fault) {
+    vscode.window.showErrorMessage(fault.message);
+  }
+}
+
+let client = null;
+
+exports.activate = (context) => {
+  client = new LanguageClient(vscode, command(), LANGUAGES);
+  context.subscriptions.push(
+    client,
+    vscode.debug.registerDebugAdapterDescriptorFactory("mcs4", {
+      createDebugAdapterDescriptor: () => new vscode.DebugAdapterExecutable(command(), ["dap"]),
+    }),
+    vscode.debug.registerDebugConfigurationProvider("mcs4", { resolveDebugConfiguration: resolved }),
+    vscode.commands.registerCommand("mcs4.pressKey", pressKey),
+  );
+  return client.begin();
+};
+
+exports.deactivate = () => (client ? client.end() : undefined);

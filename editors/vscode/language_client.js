@@ -1,0 +1,237 @@
+// A client of `mcs4 lsp` for Visual Studio Code, without a package: what the editor asks is asked of the server.
+"use strict";
+const { spawn } = require("node:child_process");
+
+class LanguageClient {
+  /**
+   * @param vscode the editor's own module
+   * @param {string} command
+   * @param {string[]} languages
+   */
+  constructor(vscode, command, languages) {
+    this.vscode = vscode;
+    this.command = command;
+    this.languages = languages;
+    this.input = Buffer.alloc(0);
+    this.waiting = new Map();
+    this.id = 0;
+    this.child = null;
+    this.disposables = [];
+  }
+
+  // --- the server
+
+  async begin() {
+    const { vscode } = this;
+    this.diagnostics = vscode.languages.createDiagnosticCollection("mcs4");
+    this.disposables.push(this.diagnostics);
+    this.child = spawn(this.command, ["lsp"], { stdio: ["pipe", "pipe", "ignore"] });
+    this.child.on("error", () => this.lost(`The command ${this.command} was not started; the setting mcs4.command names it.`));
+    this.child.on("close", () => this.lost(""));
+    this.child.stdin.on("error", () => {});
+    this.child.stdout.on("data", (bytes) => this.take(bytes));
+    const { capabilities } = await this.ask("initialize", { processId: process.pid, rootUri: null, capabilities: {} });
+    this.notify("initialized", {});
+    this.listen();
+    this.provide(capabilities);
+  }
+
+  lost(words) {
+    if (words) this.vscode.window.showErrorMessage(words);
+    for (const { reject } of this.waiting.values()) reject(new Error("the language server has ended"));
+    this.waiting.clear();
+    this.child = null;
+  }
+
+  async end() {
+    if (!this.child) return;
+    await this.ask("shutdown").catch(() => {});
+    this.notify("exit");
+  }
+
+  dispose() {
+    this.end();
+    for (const each of this.disposables) each.dispose();
+  }
+
+  take(bytes) {
+    this.input = Buffer.concat([this.input, bytes]);
+    for (;;) {
+      const end = this.input.indexOf("\r\n\r\n");
+      if (end < 0) return;
+      const size = Number(/content-length: *(\d+)/i.exec(this.input.subarray(0, end).toString())[1]);
+      if (this.input.length < end + 4 + size) return;
+      const message = JSON.parse(this.input.subarray(end + 4, end + 4 + size).toString());
+      this.input = this.input.subarray(end + 4 + size);
+      if (message.method === "textDocument/publishDiagnostics") this.show(message.params);
+      const waiting = message.method === undefined && this.waiting.get(message.id);
+      if (!waiting) continue;
+      this.waiting.delete(message.id);
+      if (message.error) waiting.reject(new Error(message.error.message));
+      else waiting.resolve(message.result);
+    }
+  }
+
+  send(message) {
+    if (!this.child) return;
+    const body = Buffer.from(JSON.stringify({ jsonrpc: "2.0", ...message }));
+    this.child.stdin.write(`Content-Length: ${body.length}\r\n\r\n`);
+    this.child.stdin.write(body);
+  }
+
+  notify(method, params) {
+    this.send({ method, params });
+  }
+
+  ask(method, params) {
+    this.id += 1;
+    const { id } = this;
+    if (!this.child) return Promise.reject(new Error("the language server has ended"));
+    return new Promise((resolve, reject) => {
+      this.waiting.set(id, { resolve, reject });
+      this.send({ id, method, params });
+    });
+  }
+
+  // --- texts
+
+  isMeant(document) {
+    return this.languages.includes(document.languageId) || /(^|[\\/])mcs4\.toml$/.test(document.fileName);
+  }
+
+  listen() {
+    const { workspace } = this.vscode;
+    const idOf = ({ languageId }) => (languageId === "mcs4" ? "asm" : "toml");
+    const opened = (document) => {
+      if (!this.isMeant(document)) return;
+      const textDocument = { uri: document.uri.toString(), languageId: idOf(document), version: document.version, text: document.getText() };
+      this.notify("textDocument/didOpen", { textDocument });
+    };
+    this.disposables.push(
+      workspace.onDidOpenTextDocument(opened),
+      workspace.onDidCloseTextDocument((document) => {
+        if (this.isMeant(document)) this.notify("textDocument/didClose", { textDocument: { uri: document.uri.toString() } });
+      }),
+      workspace.onDidChangeTextDocument(({ document, contentChanges }) => {
+        if (!this.isMeant(document) || contentChanges.length === 0) return;
+        const changes = contentChanges.map(({ range, text }) => ({ range: this.plainRange(range), text }));
+        const textDocument = { uri: document.uri.toString(), version: document.version };
+        this.notify("textDocument/didChange", { textDocument, contentChanges: changes });
+      }),
+    );
+    workspace.textDocuments.forEach(opened);
+  }
+
+  show({ uri, diagnostics }) {
+    const { vscode } = this;
+    const levels = [0, vscode.DiagnosticSeverity.Error, vscode.DiagnosticSeverity.Warning, vscode.DiagnosticSeverity.Information];
+    this.diagnostics.set(vscode.Uri.parse(uri), diagnostics.map(({ range, message, severity }) => (
+      new vscode.Diagnostic(this.rangeOf(range), message, levels[severity] ?? vscode.DiagnosticSeverity.Error))));
+  }
+
+  // --- the same in the words of the editor and of the protocol
+
+  plainRange({ start, end }) {
+    const plain = ({ line, character }) => ({ line, character });
+    return { start: plain(start), end: plain(end) };
+  }
+
+  rangeOf({ start, end }) {
+    return new this.vscode.Range(start.line, start.character, end.line, end.character);
+  }
+
+  locationOf({ uri, range }) {
+    return new this.vscode.Location(this.vscode.Uri.parse(uri), this.rangeOf(range));
+  }
+
+  editOf({ changes }) {
+    const edit = new this.vscode.WorkspaceEdit();
+    for (const [uri, edits] of Object.entries(changes)) {
+      for (const { range, newText } of edits) edit.replace(this.vscode.Uri.parse(uri), this.rangeOf(range), newText);
+    }
+    return edit;
+  }
+
+  at(document, { line, character }) {
+    return { textDocument: { uri: document.uri.toString() }, position: { line, character } };
+  }
+
+  // --- what the editor asks
+
+  provide(capabilities) {
+    const { languages } = this.vscode;
+    const selector = this.languages.map((language) => ({ language }));
+    this.disposables.push(
+      languages.registerHoverProvider(selector, { provideHover: (document, position) => this.hover(document, position) }),
+      languages.registerDefinitionProvider(selector, {
+        provideDefinition: async (document, position) => {
+          const found = await this.ask("textDocument/definition", this.at(document, position));
+          return found && this.locationOf(found);
+        },
+      }),
+      languages.registerReferenceProvider(selector, {
+        provideReferences: async (document, position, context) => (
+          (await this.ask("textDocument/references", { ...this.at(document, position), context })) || []).map((each) => this.locationOf(each)),
+      }),
+      languages.registerRenameProvider(selector, {
+        provideRenameEdits: async (document, position, newName) => (
+          this.editOf(await this.ask("textDocument/rename", { ...this.at(document, position), newName }))),
+      }),
+      languages.registerCompletionItemProvider(selector, {
+        provideCompletionItems: (document, position) => this.completion(document, position),
+      }),
+      languages.registerDocumentSymbolProvider(selector, { provideDocumentSymbols: (document) => this.symbols(document) }),
+      languages.registerCodeActionsProvider(selector, { provideCodeActions: (document, range) => this.actions(document, range) }),
+    );
+    this.provideColours(selector, capabilities.semanticTokensProvider.legend);
+  }
+
+  provideColours(selector, { tokenTypes, tokenModifiers }) {
+    const { vscode } = this;
+    const legend = new vscode.SemanticTokensLegend(tokenTypes, tokenModifiers);
+    this.disposables.push(vscode.languages.registerDocumentSemanticTokensProvider(selector, {
+      provideDocumentSemanticTokens: async (document) => {
+        const told = await this.ask("textDocument/semanticTokens/full", { textDocument: { uri: document.uri.toString() } });
+        return new vscode.SemanticTokens(new Uint32Array(told ? told.data : []));
+      },
+    }, legend));
+  }
+
+  async hover(document, position) {
+    const found = await this.ask("textDocument/hover", this.at(document, position));
+    if (!found) return null;
+    const words = new this.vscode.MarkdownString();
+    words.appendText(found.contents.value);
+    return new this.vscode.Hover(words, found.range && this.rangeOf(found.range));
+  }
+
+  async completion(document, position) {
+    const list = (await this.ask("textDocument/completion", this.at(document, position))) || [];
+    return list.map(({ label, kind, detail, textEdit, insertTextFormat }) => {
+      // The editor counts kinds from 0 on, the protocol from 1.
+      const item = new this.vscode.CompletionItem(label, kind - 1);
+      item.detail = detail;
+      item.range = this.rangeOf(textEdit.range);
+      item.insertText = insertTextFormat === 2 ? new this.vscode.SnippetString(textEdit.newText) : textEdit.newText;
+      return item;
+    });
+  }
+
+  async symbols(document) {
+    const list = (await this.ask("textDocument/documentSymbol", { textDocument: { uri: document.uri.toString() } })) || [];
+    return list.map(({ name, detail, kind, range, selectionRange }) => (
+      new this.vscode.DocumentSymbol(name, detail || "", kind - 1, this.rangeOf(range), this.rangeOf(selectionRange))));
+  }
+
+  async actions(document, range) {
+    const context = { diagnostics: [] };
+    const asked = { textDocument: { uri: document.uri.toString() }, range: this.plainRange(range), context };
+    return ((await this.ask("textDocument/codeAction", asked)) || []).map(({ title, edit }) => {
+      const action = new this.vscode.CodeAction(title, this.vscode.CodeActionKind.QuickFix);
+      action.edit = this.editOf(edit);
+      return action;
+    });
+  }
+}
+
+exports.LanguageClient = LanguageClient;

@@ -1,0 +1,191 @@
+// Lines in the console: those of the bench, with names for addresses; keys by their names; moves that have no button; and expressions.
+
+import { FORMS } from "../bench/answer_table.js";
+import { readRun, refusalOf } from "../bench/answers.js";
+import { readInputs } from "../bench/inputs.js";
+import { putNames } from "../bench/names_in_lines.js";
+import { numberOf } from "../bench/numbers.js";
+import { keysOf } from "../testing/test_text.js";
+import { AdapterError, fail, wordsOf } from "./protocol.js";
+import { valueOfExpression } from "./values.js";
+
+/**
+ * @typedef {import("./machine.js").Machine} Machine
+ * @typedef {import("./values.js").Known} Known
+ * @typedef {import("../words.js").Words} Words
+ *
+ * What came of a line: words, whether the machine is another one now, and a move that begins once they are told.
+ * @typedef {{ words: string, changes: boolean, move: (() => void) | null }} Done
+ */
+
+export const HELP = `Lines of the bench (regs, list @show 5, ram 0, poke r4 7, run 100, step, reset, ..), with @NAME for an address.
+press KEY, release KEY: a key goes down, or up; while time runs, press is a short press. keys KEYS: short presses, as time runs.
+until LABEL or ADDRESS, change PLACE: on up to there. back, back PLACE: an instruction back, before the last change. forward: again.
+R4, P2, ram.0.0x12, rom1, lamps, display, a name, a condition (r9 = 9 and lamp open on): what it is now.`;
+
+/** What a line begins with. */
+export const FIRST_WORDS = ["press", "release", "keys", "until", "change", "back", "forward", "help", "display", ...FORMS.keys()];
+/** So many characters of lines, and so many lines, are taken at once. */
+const LONGEST = 65536;
+const MOST_INPUTS = 1000;
+/** Lines that only ask. */
+const ASKS = new Set(["lamps", "regs", "ram", "list", "board", "breaks", "watches", "ports", "seq", "state", "count", "trace", "map"]);
+const RUNS = new Set(["run", "step"]);
+const BREAKS = new Set(["break", "unbreak", "watch", "unwatch"]);
+
+/** @type {(words: string) => Done} */
+const told = (words) => ({ words, changes: false, move: null });
+
+export class Console {
+  /**
+   * @param {Machine} machine
+   * @param {Known} known
+   * @param {Words} words of refusals
+   * @param {{ breaksChanged: () => void, romChanged: () => void }} calls
+   */
+  constructor(machine, known, words, calls) {
+    this.calls = calls;
+    this.machine = machine;
+    this.known = known;
+    this.words = words;
+    this.keys = keysOf(known.face);
+  }
+
+  get session() {
+    return this.known.session;
+  }
+
+  /**
+   * @param {string} text
+   * @returns {Promise<Done>}
+   */
+  async take(text) {
+    const line = text.trim();
+    if (line.length > LONGEST) fail(`more than ${LONGEST} characters are not taken`);
+    const [word, ...rest] = line.split("\n")[0].split(/[ \t]+/);
+    if (line === "" || line === "help" || line === "?") return told(HELP);
+    const isNumbers = rest.length === 2 && rest.every((each) => !Number.isNaN(numberOf(each)));
+    if ((word === "press" || word === "release") && !isNumbers) return this.moveKeys(word, rest);
+    if (word === "keys" && rest.length > 0) return this.typeKeys(rest);
+    if (word === "until" || word === "change" || word === "back" || word === "forward") return this.moveTo(word, rest);
+    return FORMS.has(word) ? this.serve(line) : this.valueOf(line);
+  }
+
+  /** @param {string} line */
+  valueOf(line) {
+    try {
+      return told(valueOfExpression(line, this.known));
+    } catch (thrown) {
+      return fail(`${wordsOf(thrown)}; help tells what a line can be`);
+    }
+  }
+
+  // --- keys ---
+
+  /** @param {string} name */
+  keyOf(name) {
+    const there = [...this.keys.keys()].join(" ");
+    const key = this.keys.get(name);
+    return key || fail(`the board has no key ${name}${there ? `; it has: ${there}` : "; its text names no keys (`# row 0: NAME ..`)"}`);
+  }
+
+  /**
+   * Where time stands a key stays as it is put; while it runs, it is pressed for a short time.
+   * @param {"press" | "release"} word
+   * @param {string[]} names
+   */
+  async moveKeys(word, names) {
+    if (names.length === 0) fail(`it is written as ${word} KEY`);
+    const keys = names.map((name) => this.keyOf(name));
+    if (this.machine.isMoving && word === "press") return this.queue(keys);
+    const lines = keys.map((key) => `${key[word]}\n`).join("");
+    return this.served(lines);
+  }
+
+  /** @param {string[]} words */
+  typeKeys(words) {
+    const keys = words.flatMap((word) => (this.keys.has(word) ? [word] : [...word])).map((name) => this.keyOf(name));
+    return this.queue(keys);
+  }
+
+  /** @param {{ name: string, press: string }[]} keys */
+  queue(keys) {
+    const { queue } = this.session.debugger.session;
+    for (const { press } of keys) {
+      const place = press.startsWith("press ") ? press.slice("press ".length) : press;
+      queue.press(place);
+      queue.release(place);
+    }
+    return told(this.machine.isMoving ? "" : `${keys.length} key${keys.length === 1 ? " waits" : "s wait"} for time to run (continue)`);
+  }
+
+  // --- moves ---
+
+  /**
+   * @param {string} word
+   * @param {string[]} rest
+   * @returns {Done}
+   */
+  moveTo(word, rest) {
+    if (this.machine.isMoving) fail("time runs: pause comes first");
+    const place = rest.join(" ");
+    /** @type {(act: () => void) => Done} */
+    const move = (act) => ({ words: "", changes: false, move: act });
+    if (word === "forward") return move(() => this.machine.forward());
+    if (word === "back") return move(() => this.machine.back(place === "" ? { kind: "instruction" } : { kind: "change", place }));
+    if (place === "") fail(`it is written as ${word === "until" ? "until LABEL or until ADDRESS" : "change PLACE, as in change r4"}`);
+    if (word === "change") return move(() => this.machine.go({ kind: "change", place }));
+    const address = addressOf(place, this.known);
+    return move(() => this.machine.go({ kind: "here", address }));
+  }
+
+  // --- lines of the bench ---
+
+  /**
+   * @param {string} line
+   * @returns {Promise<Done>}
+   */
+  async serve(line) {
+    const { lines, words } = putNames(`${line}\n`, this.session.map);
+    if (words) fail(words);
+    const kinds = readInputs(lines).map(({ kind }) => kind);
+    if (kinds.length > MOST_INPUTS) fail(`more than ${MOST_INPUTS} lines are not taken at once`);
+    if (this.machine.isMoving && kinds.some((kind) => RUNS.has(kind))) fail("time runs: pause comes first");
+    if (kinds.every((kind) => ASKS.has(kind))) return told(this.session.debugger.session.ask(lines).join("\n"));
+    const done = await this.served(lines);
+    if (kinds.some((kind) => BREAKS.has(kind))) this.calls.breaksChanged();
+    return done;
+  }
+
+  /**
+   * @param {string} lines
+   * @returns {Promise<Done>}
+   */
+  async served(lines) {
+    const { entries, touchesRom } = await this.session.debugger.session.serve(lines, async () => true);
+    if (touchesRom) this.calls.romChanged();
+    const answers = entries.flatMap((entry) => entry.answers);
+    const words = answers.map((answer) => {
+      const refusal = refusalOf(answer);
+      return refusal ? `${answer}: ${this.words.ofRefusal(refusal.number)}` : answer;
+    });
+    const refused = answers.every((answer) => refusalOf(answer));
+    if (refused && answers.length > 0) throw new AdapterError(words.join("\n"));
+    if (answers.some((answer) => readRun(answer))) this.machine.tellShown();
+    return { words: words.join("\n"), changes: true, move: null };
+  }
+}
+
+/**
+ * The address that a label or a number says.
+ * @param {string} text
+ * @param {Known} known
+ * @returns {number}
+ */
+export function addressOf(text, { session }) {
+  const word = text.trim().replace(/^@/, "");
+  const number = /^[0-9A-Fa-f]{3}$/.test(word) && Number.isNaN(numberOf(word)) ? parseInt(word, 16) : numberOf(word);
+  const named = Number.isNaN(number) ? session.map.valueOf(word) : number;
+  if (named === undefined) return fail(`${word} is no label of the program, and no address as 0x00D`);
+  return named <= 4095 ? named : fail("addresses are 0x000 to 0xFFF");
+}

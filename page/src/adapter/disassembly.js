@@ -1,0 +1,105 @@
+// ROM as the protocol wants it: instructions around an address, and bytes.
+
+import { readListing } from "../bench/answers.js";
+import { LAST_ADDRESS, hex, upTo } from "../bench/numbers.js";
+
+/**
+ * @typedef {import("../debug/debug_session.js").DebugSession} DebugSession
+ * @typedef {import("../bench/answers.js").Listed} Listed
+ * @typedef {{ address: number, bytes: string, words: string, line: number, name: string }} Row `address` may be none of ROM; `line` is 0
+ *   where the program has none
+ */
+
+const PAGE = 256;
+
+/** @param {Listed} listed */
+const endOf = ({ address, line }) => address + (line.slice(7, 9).trim() === "" ? 1 : 2);
+
+/**
+ * The instructions from an address up to another one, which does not belong to them.
+ * @param {DebugSession} session
+ * @param {number} from
+ * @param {number} to
+ */
+function listed(session, from, to) {
+  /** @type {Listed[]} */
+  const all = [];
+  for (let address = from; address < to;) {
+    const some = readListing(session.debugger.session.ask(`list ${address} ${PAGE}\n`));
+    all.push(...some.filter((each) => each.address < to));
+    address = endOf(some[some.length - 1]);
+  }
+  return all;
+}
+
+/**
+ * So many instructions, the first one so many after the one at an address; before and behind ROM there is nothing.
+ * @param {DebugSession} session
+ * @param {number} address
+ * @param {number} offset
+ * @param {number} count
+ * @returns {Row[]}
+ */
+export function rowsAt(session, address, offset, count) {
+  // Each has two bytes at most, and those of the program are in step with its lines.
+  const begin = Math.max(0, address + 2 * Math.min(0, offset) - 1);
+  const inStep = upTo(4).map((more) => begin + more).find((each) => each <= address && session.map.beginsInstruction(each));
+  const before = listed(session, inStep === undefined ? begin : inStep, address).filter((each) => endOf(each) <= address);
+  const after = listed(session, address, Math.min(LAST_ADDRESS + 1, address + 2 * Math.max(0, offset + count)));
+  const all = [...before, ...after];
+  return upTo(count).map((at) => {
+    const found = all[before.length + offset + at];
+    return found ? rowOf(found, session) : nothingAt(offset + at < 0 ? -1 : LAST_ADDRESS + 1, offset + at);
+  });
+}
+
+/**
+ * @param {Listed} found
+ * @param {DebugSession} session
+ * @returns {Row}
+ */
+function rowOf({ address, line }, { map }) {
+  const own = map.lineOf(address);
+  return { address, bytes: line.slice(4, 9).trim(), words: line.slice(10).trim(), line: own, name: map.labelsAt(address)[0] || "" };
+}
+
+/**
+ * @param {number} address
+ * @param {number} at
+ * @returns {Row}
+ */
+function nothingAt(address, at) {
+  return { address: address < 0 ? at : address, bytes: "", words: "", line: 0, name: "" };
+}
+
+/**
+ * The bytes of ROM, or the characters of a bank of RAM, at a reference: `0x00D`, `ram.0`.
+ * @param {DebugSession} session
+ * @param {string} reference
+ * @returns {Uint8Array | null} null where there is no such place
+ */
+export function bytesAt(session, reference) {
+  const bank = /^ram\.([0-7])$/.exec(reference);
+  const bench = session.debugger.session;
+  if (!bank) return romBytes(session);
+  const answers = bench.ask(`ram ${bank[1]}\n`);
+  const registers = answers.slice(1).map((line) => line.split(" ")).filter(([, first]) => first !== "out");
+  if (registers.length === 0) return null;
+  return Uint8Array.from(registers.flatMap(([, digits]) => [...digits].map((digit) => parseInt(digit, 16))));
+}
+
+/** @param {DebugSession} session */
+function romBytes(session) {
+  const bytes = new Uint8Array(LAST_ADDRESS + 1);
+  for (const { address, line } of listed(session, 0, LAST_ADDRESS + 1)) {
+    line.slice(4, 9).trim().split(" ").forEach((byte, at) => {
+      bytes[address + at] = parseInt(byte, 16);
+    });
+  }
+  return bytes;
+}
+
+/** @param {number} address */
+export function addressWords(address) {
+  return address < 0 ? `-0x${hex(-address, 3)}` : `0x${hex(address, 3)}`;
+}

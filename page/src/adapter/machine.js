@@ -1,0 +1,188 @@
+// The session that is debugged, while time runs in it and while it stands: one move at a time, what is done between its pieces, and what
+// is told once it stops.
+
+import { Cancelled } from "../bench/faults.js";
+import { Shown } from "./shown.js";
+import { fail, wordsOf } from "./protocol.js";
+
+/**
+ * @typedef {import("../debug/debug_session.js").DebugSession} DebugSession
+ * @typedef {import("../debug/debug_session.js").Stopped} Stopped
+ * @typedef {import("../debug/debugger.js").Tally} Tally
+ * @typedef {import("../debug/goals.js").Goal} Goal
+ * @typedef {import("../worker/going_back.js").BackGoal} BackGoal
+ * @typedef {import("./kept_session.js").KeptSession} KeptSession
+ *
+ * How a move ended: its reason as the protocol has it, the words, and the breakpoint that stopped it, 0 for none.
+ * @typedef {{ reason: string, words: string, id: number }} Ended
+ *
+ * @typedef {{ stopped: (ended: Ended) => void, output: (words: string, category: "console" | "stdout" | "stderr") => void,
+ *   pause: () => Promise<void> }} MachineCalls `pause` lets others have their turn
+ */
+
+/** @type {Record<string, string>} what the protocol calls why a run stopped */
+const REASONS = { goal: "step", break: "breakpoint", watch: "data breakpoint", pause: "pause", lacks: "step" };
+/** What is shown is looked at so many milliseconds after it was last. */
+const LOOK_TIME = 100;
+
+export class Machine {
+  /**
+   * @param {DebugSession} session
+   * @param {KeptSession | null} kept what writes it to its file
+   * @param {MachineCalls} calls
+   */
+  constructor(session, kept, calls) {
+    this.session = session;
+    this.kept = kept;
+    this.calls = calls;
+    this.shown = new Shown(session);
+    this.isMoving = false;
+    this.isToPause = false;
+    /** Whether what is done in the session now is done between two pieces of time that runs. */
+    this.isOpen = () => false;
+    /** @type {(() => Promise<void>)[]} what waits for that */
+    this.waiting = [];
+    this.noted = 0;
+    this.looked = 0;
+    /** @type {Promise<void>} of the move that is under way, or the last one */
+    this.move = Promise.resolve();
+  }
+
+  // --- moves ---
+
+  /** @param {Goal | null} goal null: on to a stop */
+  go(goal) {
+    this.begin(() => this.session.go(goal, (_, tally) => this.between(tally)), () => goal === null || this.session.debugger.isMoving);
+  }
+
+  into() {
+    this.begin(() => this.session.into(), () => false);
+  }
+
+  /** @param {BackGoal} goal */
+  back(goal) {
+    this.begin(async () => this.wentBack(await this.session.back(goal, () => this.between()), goal.kind === "stop"), () => false);
+  }
+
+  forward() {
+    this.begin(async () => this.wentBack(this.session.forward(), false), () => false);
+  }
+
+  /**
+   * @param {{ isDone: boolean, words: string }} went
+   * @param {boolean} isRun
+   */
+  wentBack({ isDone, words }, isRun) {
+    if (!isDone) this.calls.output(`${words}\n`, "console");
+    return { why: isRun ? "pause" : "goal", words, id: 0, tally: null };
+  }
+
+  /**
+   * @param {() => Promise<Pick<Stopped, "why" | "words" | "id"> & { tally: Tally | null }>} act
+   * @param {() => boolean} isOpen
+   */
+  begin(act, isOpen) {
+    if (this.isMoving) fail("time runs already: pause comes first");
+    this.isMoving = true;
+    this.isToPause = false;
+    this.isOpen = isOpen;
+    this.noted = 0;
+    this.move = this.run(act);
+  }
+
+  /** @param {Parameters<Machine["begin"]>[0]} act */
+  async run(act) {
+    /** @type {Ended} */
+    let ended;
+    try {
+      const { why, words, id, tally } = await act();
+      if (tally) this.tellTally(tally, tally.noted - this.noted);
+      ended = { reason: REASONS[why] || "exception", words, id };
+    } catch (thrown) {
+      const isPause = thrown instanceof Cancelled;
+      if (!isPause) this.calls.output(`${wordsOf(thrown)}\n`, "stderr");
+      const words = isPause ? `Stopped at ${this.session.placeWords}.` : wordsOf(thrown);
+      ended = { reason: isPause ? "pause" : "exception", words, id: 0 };
+    }
+    this.isOpen = () => false;
+    await this.doWaiting();
+    await this.stand();
+    this.isMoving = false;
+    this.calls.stopped(ended);
+  }
+
+  /** Time stands: what was done is kept, and what is shown is told. */
+  async stand() {
+    this.tellShown();
+    if (this.kept) await this.keep(this.kept);
+  }
+
+  /** @param {KeptSession} kept */
+  async keep(kept) {
+    try {
+      await kept.write(this.session.debugger.session);
+    } catch (thrown) {
+      this.calls.output(`${wordsOf(thrown)}\n`, "stderr");
+    }
+  }
+
+  /**
+   * Between two pieces of work.
+   * @param {Tally} [tally] of the last piece
+   */
+  async between(tally) {
+    if (tally) this.tellTally(tally, tally.noted);
+    if (performance.now() - this.looked >= LOOK_TIME && this.isOpen()) this.tellShown();
+    await this.calls.pause();
+    if (this.isOpen()) await this.doWaiting();
+    return !this.isToPause;
+  }
+
+  pause() {
+    this.isToPause = true;
+  }
+
+  // --- what is done meanwhile ---
+
+  async doWaiting() {
+    for (const act of this.waiting.splice(0)) await act();
+  }
+
+  /**
+   * Does something in the session: at once where time stands, else between two pieces.
+   * @template Result
+   * @param {() => Result | Promise<Result>} act
+   * @returns {Promise<Result>}
+   */
+  async quietly(act) {
+    if (!this.isMoving) return act();
+    return new Promise((resolve, reject) => {
+      this.waiting.push(async () => {
+        try {
+          resolve(await act());
+        } catch (thrown) {
+          reject(thrown);
+        }
+      });
+    });
+  }
+
+  // --- what is told ---
+
+  tellShown() {
+    this.looked = performance.now();
+    const words = this.shown.take();
+    if (words) this.calls.output(`${words}\n`, "stdout");
+  }
+
+  /**
+   * @param {Tally} tally
+   * @param {number} count of the notes that were not told yet
+   */
+  tellTally({ notes, usual }, count) {
+    this.noted += count;
+    if (count > notes.length) this.calls.output(`(${count - notes.length} notes before these)\n`, "console");
+    for (const { words } of notes.slice(notes.length - Math.min(count, notes.length))) this.calls.output(`${words}\n`, "console");
+    for (const { words } of usual) this.calls.output(`${words}\n`, "console");
+  }
+}

@@ -1,0 +1,97 @@
+// What the protocol of debug adapters says of messages, and what is read out of their arguments.
+
+/** What a request is answered in the place of a body. */
+export class AdapterError extends Error {
+  /**
+   * @param {string} words
+   * @param {boolean} [isShown] whether the client is to show them to the user
+   */
+  constructor(words, isShown = false) {
+    super(words);
+    this.isShown = isShown;
+  }
+}
+
+/** The word of the protocol for what is asked while time runs. */
+export const NOT_STOPPED = "notStopped";
+
+/**
+ * @param {string} words
+ * @returns {never}
+ */
+export function fail(words) {
+  throw new AdapterError(words);
+}
+
+/**
+ * What an object of a message has by a name; undefined where it is none.
+ * @param {any} value
+ * @param {string} name
+ */
+export function fieldOf(value, name) {
+  return typeof value === "object" && value !== null && !Array.isArray(value) ? value[name] : undefined;
+}
+
+/**
+ * @param {any} from
+ * @param {string} name
+ * @returns {string}
+ */
+export function needText(from, name) {
+  const value = fieldOf(from, name);
+  return typeof value === "string" ? value : fail(`${name} is a text`);
+}
+
+/**
+ * A text that may be left out: "" then.
+ * @param {any} from
+ * @param {string} name
+ */
+export function textOrNone(from, name) {
+  const value = fieldOf(from, name);
+  return value === undefined || value === null ? "" : needText(from, name);
+}
+
+/**
+ * A whole number; where it may be left out, what it is then.
+ * @param {any} from
+ * @param {string} name
+ * @param {number} [usual]
+ * @returns {number}
+ */
+export function needNumber(from, name, usual) {
+  const value = fieldOf(from, name);
+  if ((value === undefined || value === null) && usual !== undefined) return usual;
+  return Number.isSafeInteger(value) ? value : fail(`${name} is a whole number`);
+}
+
+/**
+ * @param {any} from
+ * @param {string} name
+ * @param {boolean} usual
+ * @returns {boolean}
+ */
+export function flagOf(from, name, usual) {
+  const value = fieldOf(from, name);
+  if (value === undefined || value === null) return usual;
+  return typeof value === "boolean" ? value : fail(`${name} is true or false`);
+}
+
+/**
+ * A list that may be left out: empty then.
+ * @param {any} from
+ * @param {string} name
+ * @returns {any[]}
+ */
+export function listOf(from, name) {
+  const value = fieldOf(from, name);
+  if (value === undefined || value === null) return [];
+  return Array.isArray(value) ? value : fail(`${name} is a list`);
+}
+
+/**
+ * @param {unknown} thrown
+ */
+export function wordsOf(thrown) {
+  return thrown instanceof Error ? thrown.message : String(thrown);
+}

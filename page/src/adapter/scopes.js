@@ -1,0 +1,205 @@
+// What stands in the machine, as scopes of variables: registers, pairs, RAM, ports, lamps, keys, names of the program.
+
+import { readBoard } from "../bench/answers.js";
+import { hex, upTo } from "../bench/numbers.js";
+import { keysOf } from "../board/board_keys.js";
+import { Standing, wordsOfCharacter } from "../debug/standing.js";
+import { setPlace } from "./setting.js";
+
+/**
+ * @typedef {import("../debug/debug_session.js").DebugSession} DebugSession
+ * @typedef {import("../board/face.js").Face} Face
+ *
+ * A value with its name, what evaluates to it, and a reference to what is inside it, 0 for nothing. `place`: what setting.js sets it by,
+ * "" where nothing does; `memory`: where it stands for who reads memory.
+ * @typedef {{ name: string, value: string, evaluateName?: string, place: string, inside: number, count?: number,
+ *   memory?: string }} Variable
+ *
+ * @typedef {{ standing: Standing, face: Face, session: DebugSession, board: import("../bench/answers.js").Board }} Seen
+ */
+
+const [REGISTERS, PAIRS, RAM, PORTS, LAMPS, KEYS, NAMES] = [1, 2, 3, 4, 5, 6, 7];
+/** A bank has the reference BANK + its number; a register of RAM REGISTER + 16 times its bank's + its own. */
+const [BANK, REGISTER] = [100, 200];
+
+/** @type {(digit: string) => string} */
+const told = (digit) => `0x${digit}`;
+
+/**
+ * @param {string} name
+ * @param {string} value
+ * @param {string} [place]
+ * @returns {Variable}
+ */
+function variable(name, value, place = "") {
+  return { name, value, place, inside: 0, ...(place ? { evaluateName: place } : {}) };
+}
+
+/** @param {Seen} seen */
+function registers({ standing: { registers: all } }) {
+  const { accumulator, carry, counter, bank, test, owed } = all;
+  return [
+    variable("acc", told(accumulator), "acc"), variable("cy", carry, "cy"),
+    { ...variable("pc", told(counter), "pc"), memory: told(counter) },
+    variable("dcl", told(bank), "dcl"), variable("test", test, "test"), variable("owed", owed),
+    ...all.registers.map((value, at) => variable(`R${at}`, told(value), `r${at}`)),
+  ];
+}
+
+/** @param {Seen} seen */
+function pairs({ standing }) {
+  return upTo(8).map((at) => variable(`P${at}`, told(standing.pair(at)), `p${at}`));
+}
+
+/** @param {Seen} seen */
+function banks({ standing }) {
+  return [...standing.ram].map(([bank, { registers: all }]) => (
+    { ...variable(`bank ${bank}`, `${all.size / 4} chips${bank === standing.bank ? ", selected by DCL" : ""}`),
+      inside: BANK + bank, count: all.size, memory: `ram.${bank}` }));
+}
+
+/**
+ * @param {Seen} seen
+ * @param {number} bank
+ */
+function registersOfBank({ standing }, bank) {
+  const ram = standing.ram.get(bank);
+  return [...(ram ? ram.registers : [])].map(([place, { characters: digits, status }]) => {
+    const [, chip, register] = place.split(".").map(Number);
+    return { ...variable(`chip ${chip}, register ${register}`, `${digits} ${status}`),
+      inside: REGISTER + 16 * bank + 4 * chip + register, count: 20 };
+  });
+}
+
+/**
+ * The characters of a register, each with a name of the program's that has its number, and its status characters.
+ * @param {Seen} seen
+ * @param {number} bank
+ * @param {number} register
+ */
+function characters({ standing, session }, bank, register) {
+  const found = standing.ramRegister(bank, register);
+  if (!found) return [];
+  const constants = [...session.map.names.values()].filter(({ isLabel }) => !isLabel);
+  return [
+    ...[...found.characters].map((value, at) => {
+      const byte = register * 16 + at;
+      const named = constants.filter((each) => each.value === byte && byte > 15).map(({ name }) => name);
+      return variable(`0x${hex(byte, 2)}${named.length > 0 ? ` ${named.join(" ")}` : ""}`, told(value), `ram.${bank}.0x${hex(byte, 2)}`);
+    }),
+    ...[...found.status].map((value, at) => variable(`status ${at}`, told(value), `st.${bank}.${register}.${at}`)),
+  ];
+}
+
+/** @param {Seen} seen */
+function ports({ standing, face }) {
+  /** @type {(place: string) => string} */
+  const named = (place) => (face.ports.has(place) ? `${place} ${(face.ports.get(place) || { text: "" }).text}` : place);
+  const { roms, chains, sources } = standing.ports;
+  const rams = [...standing.ram].flatMap(([bank, ram]) => [...ram.ports].map(([place, out]) => ({ bank, place, out })));
+  return [
+    ...roms.map(({ chip, out, in: read }) => (
+      { ...variable(named(`rom${chip}`), `out ${told(out)}, in ${told(read)}`), evaluateName: `rom${chip}` })),
+    ...rams.map(({ place, out }) => ({ ...variable(named(`ram${place}`), `out ${told(out)}`), evaluateName: `ram${place}` })),
+    ...chains.map((bits, at) => variable(named(`chain${at}`), bits)),
+    ...sources.map((source) => sourceOf(source)),
+  ];
+}
+
+/** @param {string} source the byte that SRC has sent, of a bank with the bank and a dot before it */
+function sourceOf(source) {
+  const [bank, byte] = source.split(".");
+  if (byte === undefined) return variable("SRC", `${told(bank)}: ROM ${parseInt(bank[0], 16)}`);
+  return variable(`SRC of bank ${bank}`, `${told(byte)}: ${wordsOfCharacter(parseInt(byte, 16))}`);
+}
+
+/** @param {Seen} seen */
+function lamps({ session, face, board }) {
+  const [answer] = session.debugger.session.ask("lamps\n");
+  const marks = answer.split(" ").slice(1).join("");
+  return board.lamps.map((line, at) => {
+    const name = (face.lamps.get(at) || { text: "" }).text.replace(/_/g, " ");
+    return { ...variable(name || `lamp ${at}`, marks[at] === "*" ? "on" : "off"), evaluateName: `lamp ${at}` };
+  });
+}
+
+/** @param {Seen} seen */
+function keys({ standing, face, board }) {
+  const down = new Set(standing.ports.keys);
+  return keysOf(board, face).filter(({ legend }) => legend !== "").map(({ place, legend }) => {
+    const isDown = place.startsWith("test ") ? standing.registers.test === place[5] : down.has(place.replace(" ", "."));
+    return { ...variable(legend, isDown ? "down" : "up"), place: `key ${place}` };
+  });
+}
+
+/** @param {Seen} seen */
+function names({ session: { map } }) {
+  return [...map.names.values()].map(({ name, value, isLabel }) => (
+    { ...variable(name, isLabel ? `0x${hex(value, 3)}, line ${map.lineOf(value)}` : `0x${hex(value, 2)}, ${value}`), evaluateName: name,
+      ...(isLabel ? { memory: `0x${hex(value, 3)}` } : {}) }));
+}
+
+/** @type {Record<number, { title: string, of: (seen: Seen) => Variable[], hint?: string }>} */
+const SCOPES = {
+  [REGISTERS]: { title: "Registers", of: registers, hint: "registers" },
+  [PAIRS]: { title: "Pairs", of: pairs, hint: "registers" },
+  [RAM]: { title: "RAM", of: banks },
+  [PORTS]: { title: "Ports", of: ports },
+  [LAMPS]: { title: "Lamps", of: lamps },
+  [KEYS]: { title: "Keys", of: keys },
+  [NAMES]: { title: "Names", of: names },
+};
+
+export class Scopes {
+  /**
+   * @param {DebugSession} session
+   * @param {Face} face
+   */
+  constructor(session, face) {
+    this.session = session;
+    this.face = face;
+  }
+
+  /** @returns {Seen} */
+  get seen() {
+    const { session, face } = this;
+    const bench = session.debugger.session;
+    return { standing: new Standing(bench.look()), face, session, board: readBoard(bench.lookQuestions.board) };
+  }
+
+  /** Those that have something in them. */
+  all() {
+    const { seen } = this;
+    return Object.entries(SCOPES).map(([reference, { title, of, hint }]) => (
+      { name: title, variablesReference: Number(reference), namedVariables: of(seen).length, expensive: false,
+        ...(hint ? { presentationHint: hint } : {}) })).filter(({ namedVariables }) => namedVariables > 0);
+  }
+
+  /**
+   * What is inside a reference; null where there is none of this number.
+   * @param {number} reference
+   * @returns {Variable[] | null}
+   */
+  variables(reference) {
+    const { seen } = this;
+    if (Object.prototype.hasOwnProperty.call(SCOPES, reference)) return SCOPES[reference].of(seen);
+    if (reference >= BANK && reference < BANK + 8) return registersOfBank(seen, reference - BANK);
+    const at = reference - REGISTER;
+    return at >= 0 && at < 128 ? characters(seen, at >> 4, at & 15) : null;
+  }
+
+  /**
+   * Gives a variable another value; its new one, as it is shown.
+   * @param {number} reference
+   * @param {string} name
+   * @param {string} value
+   */
+  async set(reference, name, value) {
+    const found = (this.variables(reference) || []).find((each) => each.name === name);
+    if (!found) throw new Error(`there is no ${name} here`);
+    if (found.place === "") throw new Error(`${name} is what the machine makes it: nothing sets it`);
+    await setPlace(this.session, found.place, value);
+    const now = (this.variables(reference) || []).find((each) => each.name === name);
+    return now ? now.value : value;
+  }
+}

@@ -1,0 +1,61 @@
+// Gives a place of the machine another value: what `poke` has, TEST, a pair of registers, a key.
+
+import { refusalOf } from "../bench/answers.js";
+import { hex, numberOf } from "../bench/numbers.js";
+import { largestOf } from "../debug/condition_terms.js";
+import { lineOfChange } from "../worker/key_queue.js";
+import { AdapterError } from "./protocol.js";
+
+/** @typedef {import("../debug/debug_session.js").DebugSession} DebugSession */
+
+/**
+ * The largest value of a place.
+ * @param {string} place
+ */
+function mostOf(place) {
+  return /^(p\d$|rom\.)/.test(place) ? 255 : largestOf(place);
+}
+
+/**
+ * The number that a value says: a numeral, or a name of the program.
+ * @param {string} text
+ * @param {DebugSession} session
+ */
+export function valueOf(text, session) {
+  const word = text.trim().replace(/^@/, "").split(/[ ,]/)[0];
+  const number = /^0b[01]+$/i.test(word) ? parseInt(word.slice(2), 2) : numberOf(word);
+  if (!Number.isNaN(number)) return number;
+  const named = session.map.valueOf(word);
+  if (named === undefined) throw new AdapterError(`${text.trim() || "nothing"} is no number, as 10, 0x0A and 0b1010 are, and no name`);
+  return named;
+}
+
+/**
+ * The lines that do so.
+ * @param {string} place
+ * @param {string} text
+ * @param {DebugSession} session
+ */
+function linesFor(place, text, session) {
+  if (place.startsWith("key ")) {
+    const word = text.trim().toLowerCase();
+    if (word !== "down" && word !== "up") throw new AdapterError("a key is down or up");
+    return `${lineOfChange({ place: place.slice(4), word: word === "down" ? "press" : "release" })}\n`;
+  }
+  const value = valueOf(text, session);
+  if (value > mostOf(place)) throw new AdapterError(`${place} holds 0 to ${mostOf(place)}`);
+  if (place === "test") return `test ${value}\n`;
+  const pair = /^p([0-7])$/.exec(place);
+  if (pair) return `poke r${2 * Number(pair[1])} ${value >> 4}\npoke r${2 * Number(pair[1]) + 1} ${value & 15}\n`;
+  return `poke ${place} 0x${hex(value, 1)}\n`;
+}
+
+/**
+ * @param {DebugSession} session
+ * @param {string} place as `poke` has it, or `p2`, `test`, `key 0 2`
+ * @param {string} text
+ */
+export async function setPlace(session, place, text) {
+  const { first } = await session.debugger.session.serve(linesFor(place, text, session), async () => true);
+  if (refusalOf(first)) throw new AdapterError(`${place} cannot be set: the bench answered ${first}`);
+}

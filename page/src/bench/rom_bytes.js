@@ -1,0 +1,32 @@
+// The bytes of ROM, by what `list` tells of them.
+
+import { readListing } from "./answers.js";
+import { hex, upTo } from "./numbers.js";
+
+export const ADDRESSES = 4096;
+export const PAGE_BYTES = 256;
+/** The numbers of all ROMs. */
+export const PAGES = upTo(ADDRESSES / PAGE_BYTES);
+/** What stands where no line tells a byte. */
+export const NONE = -1;
+
+/**
+ * The questions for the bytes of ROMs.
+ * @param {number[]} pages
+ */
+export function listsOf(pages) {
+  return pages.map((page) => `list 0x${hex(page * PAGE_BYTES, 3)} ${PAGE_BYTES}\n`).join("");
+}
+
+/**
+ * The bytes that lists tell, by their addresses.
+ * @param {string[]} answers
+ */
+export function bytesOf(answers) {
+  const bytes = new Int16Array(ADDRESSES).fill(NONE);
+  for (const { address, line } of readListing(answers)) {
+    bytes[address] = parseInt(line.slice(4, 6), 16);
+    if (line[7] !== " ") bytes[address + 1] = parseInt(line.slice(7, 9), 16);
+  }
+  return bytes;
+}

@@ -1,0 +1,53 @@
+// Breakpoints as lines of a project: `break line 14 at 0x00F off from 5 if "r4 = 7" log "R4 is {r4}"`, without what is as usual.
+
+import { hex } from "../bench/numbers.js";
+import { MOST_BREAKPOINTS } from "./breakpoints.js";
+
+/** @typedef {import("./breakpoints.js").KeptBreakpoint} KeptBreakpoint */
+
+const TEXT = '"((?:[^"\\\\]|\\\\.)*)"';
+const LINE = new RegExp("^break(?: line (\\d{1,5}))?(?: at 0x([0-9A-F]{3}))?( off)?(?: from (\\d{1,9}))?"
+  + `(?: if ${TEXT})?(?: log ${TEXT})?$`);
+/** A condition and a note have at most so many characters. */
+export const LONGEST_WORDS = 250;
+
+/** @param {string} text */
+function quoted(text) {
+  return `"${text.slice(0, LONGEST_WORDS).replace(/\s+/g, " ").replace(/["\\]/g, "\\$&")}"`;
+}
+
+/** @param {string} [text] */
+function plain(text = "") {
+  return text.replace(/\\(.)/g, "$1").slice(0, LONGEST_WORDS);
+}
+
+/** @param {KeptBreakpoint[]} breakpoints */
+export function linesOfBreakpoints(breakpoints) {
+  return breakpoints.map(({ line, address, isOn, from, condition, note }) => ["break",
+    ...(line > 0 ? [`line ${line}`] : []), ...(address >= 0 ? [`at 0x${hex(address, 3)}`] : []), ...(isOn ? [] : ["off"]),
+    ...(from > 1 ? [`from ${from}`] : []), ...(condition ? [`if ${quoted(condition)}`] : []), ...(note ? [`log ${quoted(note)}`] : []),
+  ].join(" "));
+}
+
+/**
+ * The breakpoint of such a line; null for any other line, and for one without a place.
+ * @param {string} line
+ * @returns {KeptBreakpoint | null}
+ */
+export function breakpointOfLine(line) {
+  const found = LINE.exec(line);
+  if (!found || (found[1] === undefined && found[2] === undefined)) return null;
+  const [, ofSource = "0", address, off, from = "1", condition, note] = found;
+  return {
+    line: Number(ofSource), address: address === undefined ? -1 : parseInt(address, 16), isOn: off === undefined,
+    from: Math.max(1, Number(from)), condition: plain(condition), note: plain(note),
+  };
+}
+
+/**
+ * Those that a session keeps, of lines from elsewhere.
+ * @param {KeptBreakpoint[]} breakpoints
+ */
+export function mostBreakpoints(breakpoints) {
+  return breakpoints.slice(0, MOST_BREAKPOINTS);
+}

@@ -1,0 +1,47 @@
+// Session files that are kept: of each one the words in which it differs from a first one, since most of a file is the same.
+
+/** @typedef {{ places: Uint32Array, words: Uint32Array }} KeptFile */
+
+const WORD = 4;
+
+export class KeptFiles {
+  /** @param {Uint8Array} first */
+  constructor(first) {
+    this.first = wordsOf(first);
+    this.scratch = new Uint32Array(first.length / WORD);
+    this.bytes = new Uint8Array(this.scratch.buffer);
+    /** @type {number[]} */
+    this.places = [];
+  }
+
+  /**
+   * @param {Uint8Array} file
+   * @returns {KeptFile}
+   */
+  keep(file) {
+    const words = wordsOf(file);
+    const { first, places } = this;
+    places.length = 0;
+    for (let at = 0; at < first.length; at++) if (words[at] !== first[at]) places.push(at);
+    return { places: Uint32Array.from(places), words: Uint32Array.from(places, (at) => words[at]) };
+  }
+
+  /**
+   * The bytes of a file. They are the same array each time.
+   * @param {KeptFile} kept
+   */
+  file({ places, words }) {
+    const { scratch } = this;
+    scratch.set(this.first);
+    places.forEach((place, at) => {
+      scratch[place] = words[at];
+    });
+    return this.bytes;
+  }
+}
+
+/** @param {Uint8Array} file */
+function wordsOf(file) {
+  if (file.byteOffset % WORD !== 0) return new Uint32Array(file.slice().buffer);
+  return new Uint32Array(file.buffer, file.byteOffset, file.length / WORD);
+}

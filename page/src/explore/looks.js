@@ -1,0 +1,134 @@
+// What stands at places now, by the questions that cost the bench least: `lamps`, `regs`, `state` and `ram` tell most of what `trace`
+// does, without a copy of the bench. The values are those of `trace`, to the letter.
+
+import { numberOf } from "../bench/numbers.js";
+import { Places } from "./places.js";
+
+/**
+ * @typedef {import("../bench/answers.js").Board} Board
+ * @typedef {import("./places.js").Told} Told
+ *
+ * Where a value stands: the line of which question, how many lines behind its first one, from which letter on and how many; where the
+ * answer has words of changing length, behind which of its words. `length` 0: up to the end.
+ * @typedef {{ question: string, line: number, after: string, from: number, length: number }} Spot
+ */
+
+/** `acc H cy B pc HHH owed B dcl D test B r HHHHHHHHHHHHHHHH ..` */
+const REGISTERS = new Map([["acc", [4, 1]], ["cy", [9, 1]], ["pc", [14, 3]], ["dcl", [29, 1]]]);
+const FIRST_REGISTER = 40;
+/** So many lines `ram` has for a chip: its registers, and its port. */
+const CHIP_LINES = 5;
+const CHIP_REGISTERS = 4;
+
+/**
+ * How many chips a bank of the board has.
+ * @param {Board} board
+ * @param {number} bank
+ */
+function chipsOf({ banks }, bank) {
+  return (banks.find((each) => each.bank === bank) || { chips: 0 }).chips;
+}
+
+/**
+ * @param {string} name
+ * @returns {Spot | null}
+ */
+function registerSpot(name) {
+  const found = REGISTERS.get(name);
+  if (found) return { question: "regs", line: 0, after: "", from: found[0], length: found[1] };
+  const register = /^r(\d+)$/.exec(name);
+  return register && { question: "regs", line: 0, after: "", from: FIRST_REGISTER + Number(register[1]), length: 1 };
+}
+
+/**
+ * A character of RAM, or a status character: `ram.0.0x12`, `st.0.1.2`.
+ * @param {string} name
+ * @param {Board} board
+ * @returns {Spot | null}
+ */
+function memorySpot(name, board) {
+  const [word, ...parts] = name.split(".");
+  if (word !== "ram" && word !== "st") return null;
+  const [bank, at, third] = parts.map(numberOf);
+  const register = word === "ram" ? at >> 4 : at;
+  if ((register >> 2) >= chipsOf(board, bank)) return null;
+  const line = 1 + (register >> 2) * CHIP_LINES + (register % CHIP_REGISTERS);
+  // `0.0.1 HHHHHHHHHHHHHHHH HHHH`
+  const from = word === "ram" ? 6 + (at % 16) : 23 + third;
+  return { question: `ram ${bank}`, line, after: "", from, length: 1 };
+}
+
+/**
+ * The port of a RAM chip: `ram0.1`. It is driven by its latch alone.
+ * @param {string} name
+ * @param {Board} board
+ * @returns {Spot | null}
+ */
+function portSpot(name, board) {
+  const found = /^ram(\d)\.(\d)$/.exec(name);
+  if (!found || Number(found[2]) >= chipsOf(board, Number(found[1]))) return null;
+  // `rams 0.0.H,0.1.H,1.0.H`
+  const before = board.banks.filter(({ bank }) => bank < Number(found[1])).reduce((sum, { chips }) => sum + chips, 0);
+  return { question: "state", line: 0, after: " rams ", from: 6 * (before + Number(found[2])) + 4, length: 1 };
+}
+
+/**
+ * @param {string} name
+ * @param {Board} board
+ */
+function spotOf(name, board) {
+  if (name === "lamps") return { question: "lamps", line: 0, after: "", from: 6, length: 0 };
+  return registerSpot(name) || memorySpot(name, board) || portSpot(name, board);
+}
+
+export class Looks {
+  /**
+   * @param {string[]} names
+   * @param {Board} board
+   */
+  constructor(names, board) {
+    const all = [...new Set(names)];
+    const spots = all.map((name) => spotOf(name, board));
+    /** What `trace` alone tells. */
+    this.rest = new Places(all.filter((_, at) => !spots[at]));
+    this.spots = spots.flatMap((spot) => spot || []);
+    /** All places, in the order of their values. */
+    this.names = [...all.filter((_, at) => spots[at]), ...this.rest.names];
+    this.questions = [...new Set(this.spots.map(({ question }) => question))];
+    /** What is asked. */
+    this.lines = this.questions.map((question) => `${question}\n`).join("") + this.rest.lines(1);
+    const counts = this.questions.map((question) => (
+      question.startsWith("ram ") ? 1 + CHIP_LINES * chipsOf(board, Number(question.slice(4))) : 1));
+    /** On which line of all that is answered each spot is. */
+    this.at = this.spots.map(({ question, line }) => (
+      line + counts.slice(0, this.questions.indexOf(question)).reduce((sum, count) => sum + count, 0)));
+    this.count = counts.reduce((sum, count) => sum + count, 0);
+  }
+
+  /**
+   * Where the values of some places stand among all.
+   * @param {string[]} places
+   */
+  indexes(places) {
+    return places.map((place) => this.names.indexOf(place));
+  }
+
+  /**
+   * What stands at all places, by the answers to the lines.
+   * @param {Told} told
+   */
+  row(told) {
+    const { spots, at, rest } = this;
+    const first = told.at;
+    let row = "";
+    for (let each = 0; each < spots.length; each++) {
+      const { after, from, length } = spots[each];
+      const answer = told.answers[first + at[each]];
+      const begin = after === "" ? from : answer.indexOf(after) + after.length + from;
+      row += `${each === 0 ? "" : " "}${length === 0 ? answer.slice(begin) : answer.substr(begin, length)}`;
+    }
+    told.at += this.count;
+    if (rest.names.length === 0) return row;
+    return row === "" ? told.row(rest) : `${row} ${told.row(rest)}`;
+  }
+}

@@ -1,0 +1,68 @@
+// While time stands still, the cell at the pointer or with the focus tells when its value changed last, and by which line: the past is
+// looked through for it, as far as it is remembered.
+
+import { element } from "../dom.js";
+import { putBelow } from "../told_at.js";
+
+/**
+ * @typedef {import("./cell_editor.js").Poked} Poked
+ *
+ * What it calls: whether time runs; the words on the last change of a place, which can be cancelled; the value that is poked at a cell,
+ * undefined where none is.
+ * @typedef {{ isRunning: () => boolean, wordsOf: (poked: Poked, signal: AbortSignal) => Promise<string>,
+ *   pokedAt: (cell: HTMLElement) => Poked | undefined }} LastChangeCalls
+ */
+
+/** A pointer that rests so many milliseconds on a cell asks. */
+const REST_TIME = 400;
+const BELOW_CELL = 4;
+
+export class LastChangeView {
+  /**
+   * @param {HTMLElement[]} panels
+   * @param {LastChangeCalls} calls
+   */
+  constructor(panels, calls) {
+    this.calls = calls;
+    this.resting = 0;
+    this.asked = new AbortController();
+    this.tip = element("p", { className: "value-tip", id: "change-tip", hidden: true });
+    this.tip.setAttribute("role", "status");
+    document.body.append(this.tip);
+    for (const panel of panels) {
+      for (const kind of ["pointerover", "focusin"]) panel.addEventListener(kind, ({ target }) => this.point(target));
+      for (const kind of ["pointerout", "focusout"]) panel.addEventListener(kind, () => this.leave());
+    }
+    // Whatever is done next does not wait for it.
+    for (const kind of ["keydown", "pointerdown"]) addEventListener(kind, () => this.leave(), true);
+  }
+
+  /** @param {EventTarget | null} cell */
+  point(cell) {
+    this.leave();
+    const poked = cell instanceof HTMLElement ? this.calls.pokedAt(cell) : undefined;
+    if (!poked) return;
+    this.resting = window.setTimeout(() => this.tell(/** @type {HTMLElement} */ (cell), poked), REST_TIME);
+  }
+
+  leave() {
+    clearTimeout(this.resting);
+    this.asked.abort();
+    this.tip.hidden = true;
+  }
+
+  /**
+   * @param {HTMLElement} cell
+   * @param {Poked} poked
+   */
+  async tell(cell, poked) {
+    if (this.calls.isRunning()) return;
+    const asked = new AbortController();
+    this.asked = asked;
+    const words = await this.calls.wordsOf(poked, asked.signal);
+    if (words === "" || asked.signal.aborted || !cell.isConnected || this.calls.isRunning()) return;
+    this.tip.textContent = words;
+    this.tip.hidden = false;
+    putBelow(this.tip, cell.getBoundingClientRect(), BELOW_CELL);
+  }
+}

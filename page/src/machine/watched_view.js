@@ -1,0 +1,112 @@
+// The list of watched expressions: each with its name and what it is now, edited in place.
+
+import { block, element, field, onClick } from "../dom.js";
+import { MOST_WATCHED, readAllWatched, readWatched } from "../debug/watched.js";
+
+/**
+ * @typedef {import("../debug/standing.js").Standing} Standing
+ * @typedef {import("../debug/watched.js").Watched} Watched
+ * @typedef {{ root: HTMLLIElement, value: HTMLElement, shape: string, cells: HTMLElement[] }} Row
+ *
+ * What it calls: a cell that shows a value can be edited; what stands in the machine, null while time runs; the texts are kept.
+ * @typedef {{ offer: import("../text/meaning_view.js").Offer, standing: () => Standing | null,
+ *   keep: (texts: string[]) => void }} WatchedCalls
+ */
+
+export class WatchedView {
+  /** @param {WatchedCalls} calls */
+  constructor(calls) {
+    this.calls = calls;
+    this.list = block("watched-list");
+    this.told = block("watched-told");
+    /** @type {Watched[]} */
+    this.all = [];
+    /** @type {Row[]} */
+    this.rows = [];
+    block("watched-form").addEventListener("submit", (event) => {
+      event.preventDefault();
+      this.add();
+    });
+  }
+
+  /** @param {unknown} texts that were kept with a session */
+  open(texts) {
+    this.told.textContent = "";
+    this.take(readAllWatched(texts));
+  }
+
+  add() {
+    const written = field("watched-field");
+    const { watched, fault } = readWatched(written.value);
+    const isFull = this.all.length >= MOST_WATCHED;
+    this.told.textContent = isFull ? `${MOST_WATCHED} is the most.` : fault;
+    written.setAttribute("aria-invalid", String(this.told.textContent !== ""));
+    if (!watched || isFull) return;
+    written.value = "";
+    this.take([...this.all.filter(({ name }) => name !== watched.name), watched]);
+    this.keep();
+  }
+
+  keep() {
+    this.calls.keep(this.all.map(({ text }) => text));
+  }
+
+  /** @param {Watched[]} all */
+  take(all) {
+    this.all = all;
+    this.rows = all.map((watched) => this.rowOf(watched));
+    this.list.replaceChildren(...this.rows.map(({ root }) => root));
+    this.show();
+  }
+
+  /**
+   * @param {Watched} watched
+   * @returns {Row}
+   */
+  rowOf(watched) {
+    const value = element("span", { className: "values" });
+    const remove = element("button", { "type": "button", "className": "small", "aria-label": `watch ${watched.name} no more` }, "Remove");
+    onClick(remove, () => {
+      this.take(this.all.filter((each) => each !== watched));
+      this.keep();
+    });
+    const root = element("li", { title: watched.text }, element("b", {}, watched.name), " ", value, " ", remove);
+    return { root, value, shape: "", cells: [] };
+  }
+
+  /** What they are now; while time runs, what they were. */
+  show() {
+    const standing = this.calls.standing();
+    if (!standing) return;
+    this.all.forEach((watched, at) => this.showRow(this.rows[at], watched, standing));
+  }
+
+  /**
+   * @param {Row} row
+   * @param {Watched} watched
+   * @param {Standing} standing
+   */
+  showRow(row, watched, standing) {
+    const pieces = watched.pieces(standing);
+    const shape = pieces.map((piece) => (typeof piece === "string" ? piece : piece.place)).join("\n");
+    const values = pieces.flatMap((piece) => (typeof piece === "string" ? [] : [piece]));
+    if (shape !== row.shape) {
+      row.shape = shape;
+      row.cells = [];
+      row.value.replaceChildren(...pieces.map((piece) => {
+        if (typeof piece === "string") return piece;
+        const label = `${watched.name}, ${piece.name}`;
+        const cell = element("button", { "type": "button", "className": "value", "aria-label": label }, piece.value);
+        this.calls.offer(cell, piece);
+        row.cells.push(cell);
+        return cell;
+      }));
+      return;
+    }
+    row.cells.forEach((cell, at) => {
+      const isChanged = cell.textContent !== values[at].value;
+      cell.classList.toggle("changed", isChanged);
+      if (isChanged) cell.textContent = values[at].value;
+    });
+  }
+}

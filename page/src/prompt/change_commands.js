@@ -1,0 +1,75 @@
+// Commands that change the session while time stands: keys, values, the program.
+
+import { placeOf } from "../bench/places.js";
+import { setPlace } from "../adapter/setting.js";
+import { addressIn, refuse } from "./words_of_line.js";
+
+/**
+ * @typedef {import("./prompt.js").Act} Act
+ * @typedef {import("./prompt.js").Prompt} Prompt
+ */
+
+const SET_PLACES = "r4, p2, acc, cy, pc, dcl, test, ram.0.0x12, st.0.1.2 and rom.0x00F";
+
+export class ChangeCommands {
+  /** @param {Prompt} prompt */
+  constructor(prompt) {
+    this.prompt = prompt;
+  }
+
+  /** @returns {Record<string, Act>} */
+  get acts() {
+    const { prompt } = this;
+    return {
+      hold: (rest) => this.moveKeys("press", rest, "hold"),
+      release: (rest) => this.moveKeys("release", rest, "release"),
+      set: (rest) => this.set(rest),
+      load: () => this.load(),
+      reset: async () => {
+        await prompt.serve("reset");
+        prompt.tellStop("");
+      },
+      bench: async (rest) => {
+        const { words, changes } = await prompt.lines.serve(rest || refuse("it is written as bench LINE, as bench state"));
+        prompt.calls.print(words);
+        if (changes) await prompt.machine.stand();
+      },
+    };
+  }
+
+  /**
+   * @param {"press" | "release"} word
+   * @param {string} rest
+   * @param {string} command
+   */
+  async moveKeys(word, rest, command) {
+    for (const key of this.prompt.keys.read(rest, command)) await this.prompt.serve(key[word]);
+  }
+
+  /** @param {string} rest */
+  async set(rest) {
+    const { session, machine } = this.prompt;
+    const [, left = "", right] = /^([^=\s]+)\s*(?:=|\s)\s*(.+)$/.exec(rest) || [];
+    if (right === undefined) refuse("it is written as set PLACE = VALUE, as set r4 = 7");
+    const place = left.toLowerCase();
+    const isPlace = placeOf(place) || /^(pc|test|p[0-7]|rom\.\w+)$/.test(place);
+    if (!isPlace) refuse(`${left} cannot be set: there are ${SET_PLACES}`);
+    const address = place === "pc" ? addressIn(right, session) : undefined;
+    await setPlace(session, place, address === undefined ? right : String(address));
+    await machine.stand();
+    if (place === "pc") this.prompt.tellStop("");
+  }
+
+  async load() {
+    const { calls, session, lines, machine } = this.prompt;
+    const text = calls.source();
+    if (text === null) return refuse("there is no file of the source to read");
+    const refusal = await session.setProgram(text.replace(/^\uFEFF/, "").replace(/\r\n?/g, "\n"));
+    if (refusal) {
+      const place = refusal.line ? `, line ${refusal.line}` : "";
+      refuse(`no ${refusal.number}${place}: ${lines.words.ofRefusal(refusal.number)}`);
+    }
+    await machine.stand();
+    return this.prompt.tellStop("The source is in ROM.");
+  }
+}

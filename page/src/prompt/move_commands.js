@@ -1,0 +1,112 @@
+// Commands that let time pass, or go back: one move at a time, whose end is awaited and told.
+
+import { callsOpen } from "./looks.js";
+import { backOver, pressed } from "./moves.js";
+import { countIn, cyclesIn, placeIn, refuse } from "./words_of_line.js";
+
+/**
+ * @typedef {import("./prompt.js").Act} Act
+ * @typedef {import("./prompt.js").Prompt} Prompt
+ * @typedef {import("../debug/goals.js").Goal} Goal
+ * @typedef {import("../worker/going_back.js").BackGoal} BackGoal
+ */
+
+const MOST_STEPS = 1000000;
+
+export class MoveCommands {
+  /** @param {Prompt} prompt */
+  constructor(prompt) {
+    this.prompt = prompt;
+  }
+
+  /** @returns {Record<string, Act>} */
+  get acts() {
+    const { machine } = this.prompt;
+    /** @type {(goal: BackGoal) => Act} */
+    const back = (goal) => (rest) => this.repeat(rest, () => machine.back(goal));
+    return {
+      "next": (rest) => this.repeat(rest, () => machine.go({ kind: "over" })),
+      "step": (rest) => {
+        const count = countIn(rest, MOST_STEPS);
+        return this.move(() => (count === 1 ? machine.into() : machine.go({ kind: "count", count })));
+      },
+      "finish": (rest) => this.finish(rest),
+      "until": (rest) => {
+        if (rest === "") refuse("it is written as until PLACE, as until show");
+        const { address } = placeIn(rest, this.prompt.session);
+        return this.move(() => machine.go({ kind: "here", address }));
+      },
+      "continue": (rest) => this.goOn(rest),
+      "run": (rest) => {
+        const cycles = cyclesIn(rest);
+        return this.move(() => machine.begin(() => this.prompt.session.pass(cycles, (_, tally) => machine.between(tally)), () => true));
+      },
+      "reverse-step": back({ kind: "instruction" }),
+      "reverse-next": (rest) => this.repeat(rest, () => machine.begin(async () => (
+        machine.wentBack(await backOver(this.prompt.session, () => machine.between()), false)), () => false)),
+      "reverse-continue": back({ kind: "stop" }),
+      "back": (rest) => {
+        const place = this.prompt.placeOfWords(rest, "back");
+        return this.move(() => machine.back({ kind: "change", place }));
+      },
+      "forward": () => this.move(() => machine.forward()),
+      "press": (rest) => this.press(rest),
+    };
+  }
+
+  /** @param {() => void} act */
+  async move(act) {
+    this.prompt.tellStop(await this.prompt.moved(act));
+  }
+
+  /**
+   * A move so many times, up to one that ends otherwise.
+   * @param {string} rest
+   * @param {() => void} act
+   */
+  async repeat(rest, act) {
+    const { prompt } = this;
+    let words = "";
+    for (let left = countIn(rest, MOST_STEPS); left > 0; left--) {
+      words = await prompt.moved(act);
+      if (prompt.ended.reason !== "step" || prompt.machine.isToPause) break;
+    }
+    prompt.tellStop(words);
+  }
+
+  /** @param {string} rest */
+  finish(rest) {
+    if (rest !== "") refuse("finish stands alone");
+    if (callsOpen(this.prompt.session) === 0) refuse("no call waits for its return here");
+    return this.move(() => this.prompt.machine.go({ kind: "out" }));
+  }
+
+  /** @param {string} rest */
+  goOn(rest) {
+    if (rest !== "") refuse("continue stands alone; run TIME lets a time pass");
+    const { session, watched, calls, machine } = this.prompt;
+    const stops = session.breakpoints.countOn > 0 || watched !== "" || session.debugger.session.ask("watches\n")[0] !== "watches -";
+    if (!stops && !calls.isByHand) refuse("nothing would stop it: set a breakpoint, or let a time pass by run 100 ms");
+    return this.move(() => machine.go(watched === "" ? null : { kind: "change", place: watched }));
+  }
+
+  /** @param {string} rest */
+  async press(rest) {
+    const { prompt } = this;
+    const { machine, session } = prompt;
+    const keys = prompt.keys.read(rest, "press");
+    for (const [at, { place }] of keys.entries()) {
+      let why = "";
+      const words = await prompt.moved(() => machine.begin(async () => {
+        const stop = await pressed(session, place, (_, tally) => machine.between(tally));
+        ({ why } = stop);
+        return stop;
+      }, () => true));
+      if (why === "passed") continue;
+      const left = keys.slice(at + 1).map(({ name }) => name).join(" ");
+      prompt.tellStop(left === "" ? words : `${words} Not pressed: ${left}.`);
+      return;
+    }
+    prompt.tellStop(`Stands at ${session.placeWords}.`);
+  }
+}

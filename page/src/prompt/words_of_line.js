@@ -1,0 +1,81 @@
+// What stands behind a command: places in the program, counts, times.
+
+import { hex, numberOf } from "../bench/numbers.js";
+import { wholeDuration } from "../debug/durations.js";
+import { placeOfAddress, placeOfLine } from "../debug/breakpoints.js";
+
+/**
+ * @typedef {import("../debug/debug_session.js").DebugSession} DebugSession
+ * @typedef {{ line: number, address: number }} InProgram `line` is 0 where the program has none there
+ */
+
+/** What a command refuses, in words. */
+export class Refused extends Error {}
+
+/**
+ * @param {string} words
+ * @returns {never}
+ */
+export function refuse(words) {
+  throw new Refused(words);
+}
+
+const PLACES = "a line of the source as 12, a label as show or show + 2, an address as 0x00F";
+
+/**
+ * The address that a label with a number behind it says, or an address itself; undefined where it is none.
+ * @param {string} text
+ * @param {DebugSession} session
+ */
+export function addressIn(text, { map }) {
+  const [, word, more = "0"] = /^[@*]?\s*([A-Za-z0-9_]+)\s*(?:\+\s*(\w+))?$/.exec(text) || [];
+  if (word === undefined) return undefined;
+  const begin = /^0x/i.test(word) ? numberOf(word) : map.valueInAnyCase(word);
+  const address = begin === undefined ? NaN : begin + numberOf(more);
+  return Number.isNaN(address) ? undefined : address;
+}
+
+/**
+ * A place in the program; without words where time stands. A line without bytes is the next one that has some.
+ * @param {string} text
+ * @param {DebugSession} session
+ * @returns {InProgram}
+ */
+export function placeIn(text, session) {
+  const words = text.trim().replace(/^[^\s:]*\.[A-Za-z0-9]+:/, "");
+  if (words === "") return { line: session.line, address: session.address };
+  if (/^\d+$/.test(words)) {
+    const { line, address } = placeOfLine(Number(words), session.map);
+    if (address < 0) refuse(`no instruction stands in line ${words} of the source, or behind it`);
+    return { line, address };
+  }
+  const address = addressIn(words, session);
+  if (address === undefined) refuse(`${words} is no place in the program: it is ${PLACES}`);
+  if (address > 4095) refuse("addresses are 0x000 to 0xFFF");
+  return { line: placeOfAddress(address, session.map).line, address };
+}
+
+/**
+ * A count that may be left out, and is 1 then.
+ * @param {string} text
+ * @param {number} most
+ */
+export function countIn(text, most) {
+  const count = text.trim() === "" ? 1 : Number(text);
+  if (!/^\s*\d*\s*$/.test(text) || count < 1 || count > most) refuse(`a count is 1 to ${most.toLocaleString("en")}, not ${text.trim()}`);
+  return count;
+}
+
+/**
+ * A time, in cycles.
+ * @param {string} text
+ */
+export function cyclesIn(text) {
+  const cycles = wholeDuration(text.trim().split(/\s+/));
+  return cycles > 0 ? cycles : refuse(`${text.trim() || "nothing"} is no time: it is cycles as 538, or 54 us, 20 ms, 1.5 s`);
+}
+
+/** @param {number} address */
+export function addressTold(address) {
+  return `0x${hex(address, 3)}`;
+}

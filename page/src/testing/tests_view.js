@@ -1,0 +1,96 @@
+// The results of tests on the page: a row for each, with what is wrong; what was run of the program; and where its cycles went.
+
+import { Cell, below, block, element, onClick } from "../dom.js";
+import { hex } from "../bench/numbers.js";
+import { wordsOfCounts, wordsOfTime } from "./result_words.js";
+
+/**
+ * @typedef {import("./profile.js").Profile} Profile
+ * @typedef {import("./testing.js").Report} Report
+ * @typedef {import("./test_run.js").Failure} Failure
+ * @typedef {import("./test_run.js").Outcome} Outcome
+ *
+ * What it calls: a line of the text of tests is to be seen; an address of the program; the session of a failure is to be opened.
+ * @typedef {{ goTo: (line: number) => void, goToAddress: (address: number) => void, open: (outcome: Outcome) => void }} ResultCalls
+ */
+
+/**
+ * @param {string} text
+ * @param {() => void} act
+ * @param {Record<string, unknown>} [properties]
+ */
+function buttonOf(text, act, properties = {}) {
+  const made = element("button", { type: "button", ...properties }, text);
+  onClick(made, act);
+  return made;
+}
+
+/** @param {number} cycles */
+function milliseconds(cycles) {
+  return `${cycles.toLocaleString("en")}, ${(cycles * 0.0108).toFixed(1)} ms`;
+}
+
+export class TestsView {
+  /** @param {ResultCalls} calls */
+  constructor(calls) {
+    this.calls = calls;
+    this.block = block("test-results");
+    this.list = block("test-list");
+    this.coverage = new Cell(block("coverage-told"));
+    this.labels = block("profile-labels");
+    this.keys = block("profile-keys");
+  }
+
+  clear() {
+    this.block.hidden = true;
+    this.list.replaceChildren();
+    this.coverage.set("");
+  }
+
+  /** @param {Report} report */
+  show(report) {
+    this.list.replaceChildren(...report.outcomes.map((outcome) => this.row(outcome)));
+    this.coverage.set(wordsOfCounts(report));
+    if (report.profile) this.showProfile(report.profile);
+    this.block.hidden = false;
+  }
+
+  /** @param {Outcome} outcome */
+  row(outcome) {
+    const { name, line, failure } = outcome;
+    const mark = element("b", { className: failure ? "not-ok" : "ok" }, failure ? "not ok" : "ok");
+    const head = element("p", {}, mark, " ", buttonOf(name, () => this.calls.goTo(line), { className: "name", title: `line ${line}` }),
+      element("span", { className: "time" }, ` ${wordsOfTime(outcome)}`));
+    return element("li", {}, head, ...(failure ? this.failed(outcome, failure) : []));
+  }
+
+  /**
+   * @param {Outcome} outcome
+   * @param {Failure} failure
+   */
+  failed(outcome, { line, text, words, lamps, registers, trace, file }) {
+    const told = element("p", { className: "wrong" }, buttonOf(`line ${line}`, () => this.calls.goTo(line)), ` ${text}: ${words}`);
+    if (!file) return [told];
+    const state = `${lamps && `lamps ${lamps}\n`}${registers}\n`;
+    const last = element("pre", { tabIndex: 0 }, `${state}${trace.join("\n")}`);
+    return [told,
+      element("details", {}, element("summary", {}, "The last instructions"), last),
+      element("p", { className: "bar" }, buttonOf("Open the session as it is there", () => this.calls.open(outcome)))];
+  }
+
+  /** @param {Profile} profile */
+  showProfile({ rows, total, begunBefore, keys }) {
+    const cells = (/** @type {(string | Node)[]} */ ...texts) => element("tr", {}, ...texts.map((text) => element("td", {}, text)));
+    const percent = (/** @type {number} */ own) => ((100 * own) / total).toFixed(1);
+    const told = rows.map(({ label, address, own, calls }) => {
+      const name = address < 0 ? "(no label)" : buttonOf(label, () => this.calls.goToAddress(address), { className: "name" });
+      const called = calls ? [calls.times, calls.withCalls, calls.longest].map((each) => each.toLocaleString("en")) : ["", "", ""];
+      return cells(name, address < 0 ? "" : hex(address, 3), own.toLocaleString("en"), percent(own), ...called);
+    });
+    if (begunBefore > 0) told.push(cells("(begun before)", "", begunBefore.toLocaleString("en"), percent(begunBefore), "", "", ""));
+    this.labels.replaceChildren(...told);
+    this.keys.hidden = keys.length === 0;
+    below(this.keys, "tbody", HTMLElement).replaceChildren(...keys.map(({ key, presses, answered, first, last }) => (
+      cells(key, String(presses), String(answered), ...(answered > 0 ? [milliseconds(first), milliseconds(last)] : ["", ""])))));
+  }
+}

@@ -1,0 +1,91 @@
+// A text that stands beside those of board and program, of tests or of properties: its editor, which completes the names of both, and what
+// is wrong in it while one types.
+
+import { Face, moreThan } from "../board/face.js";
+import { button, onClick } from "../dom.js";
+import { EditorView } from "./editor_view.js";
+import { LiveFaults } from "./live_faults.js";
+
+/**
+ * @typedef {import("../testing/prepared.js").TextFault} TextFault
+ * @typedef {import("./completion.js").Completion} Completion
+ * @typedef {{ keys: string[], lamps: string[], labels: string[] }} Names of the board and of the program
+ *
+ * What kind of text it is: its name, which its editor and its mode have too; the button that gives a text to begin with, and that text;
+ * what a word of it means, and what it can become.
+ * @typedef {{ name: "tests" | "properties", firstButton: string, firstText: (names: Names) => string,
+ *   wordsAt: (lines: string[], line: number, at: number) => string,
+ *   complete: (lines: string[], line: number, at: number, names: Names) => Completion }} Kind
+ *
+ * What it calls: the text of the board; the labels of the program; the faults of all three texts; how many of them are of this one; it is
+ * sent; it was edited; a call failed.
+ * @typedef {{ boardText: () => string, labels: () => string[], faults: () => Promise<TextFault[]>, counted: (count: number) => void,
+ *   send: () => void, edited: () => void, failed: (fault: unknown) => void }} BesideCalls
+ */
+
+const MOST_FAULTS = 20;
+
+export class BesideText {
+  /**
+   * @param {Kind} kind
+   * @param {BesideCalls} calls
+   */
+  constructor(kind, calls) {
+    this.kind = kind;
+    this.calls = calls;
+    this.editor = new EditorView(`${kind.name}-editor`, {
+      mark: "#",
+      mode: kind.name,
+      gutters: ["CodeMirror-linenumbers"],
+      isUnsent: true,
+      wordsAt: kind.wordsAt,
+      complete: (lines, line, at) => kind.complete(lines, line, at, this.names()),
+    }, {
+      edited: () => this.edited(),
+      send: calls.send,
+      toggleBreakpoint: () => {},
+    });
+    this.faults = new LiveFaults(() => this.find(), (faults) => this.showFaults(faults), calls.failed);
+    onClick(button(kind.firstButton), () => this.editor.replaceText(kind.firstText(this.names())));
+  }
+
+  /** @returns {Names} */
+  names() {
+    const face = new Face(this.calls.boardText());
+    const keys = [...face.keys.values()].map(({ text }) => text).filter((name) => name !== "");
+    return { keys: face.test ? [...keys, face.test.name] : keys, lamps: [...face.lampNumbers.keys()], labels: this.calls.labels() };
+  }
+
+  edited() {
+    this.offerFirst();
+    this.faults.edited();
+    this.calls.edited();
+  }
+
+  /** A text to begin with, where there is none. */
+  offerFirst() {
+    button(this.kind.firstButton).hidden = this.editor.text.trim() !== "";
+  }
+
+  /** The tab has come to the front, or the texts are others: so names of the board and the program may be. */
+  look() {
+    this.offerFirst();
+    this.faults.look().catch(this.calls.failed);
+  }
+
+  /** The faults of this text; board and program have their own. Without a text nothing is wrong. */
+  async find() {
+    return this.editor.text.trim() === "" ? [] : this.calls.faults();
+  }
+
+  /** @param {TextFault[]} faults of all three texts */
+  showFaults(faults) {
+    const { lines } = this.editor;
+    const told = faults.filter(({ text }) => text === this.kind.name).map(({ line, number, words }) => {
+      const text = lines[line - 1] || "";
+      return { number, line, from: text.length - text.trimStart().length, to: text.length, words };
+    });
+    this.editor.showFaults(told.slice(0, MOST_FAULTS), moreThan(told, MOST_FAULTS));
+    this.calls.counted(told.length);
+  }
+}

@@ -1,0 +1,84 @@
+// How often the lines of a program were run, in the margin of its text. The counts are those of one text: an edit takes them away.
+
+/**
+ * @typedef {import("codemirror").Editor} Editor
+ * @typedef {import("codemirror").LineHandle} LineHandle
+ * @typedef {import("../testing/coverage.js").Covered} Covered
+ */
+
+/**
+ * What stands beside a line.
+ * @param {Covered} covered
+ */
+export function textOfCount({ count, isJump, taken }) {
+  if (count === 0) return "never";
+  return isJump ? `${count} ${taken}/${count - taken}` : String(count);
+}
+
+/** @param {number} number */
+function times(number) {
+  return ["never", "once"][number] || `${number.toLocaleString("en")} times`;
+}
+
+/**
+ * The same in words.
+ * @param {Covered} covered
+ */
+export function wordsOfCount({ count, isJump, taken }) {
+  if (count === 0) return "no test runs it";
+  return `run ${times(count)}${isJump ? `; it jumped ${times(taken)}, and went on ${times(count - taken)}` : ""}`;
+}
+
+export class CountMarks {
+  /**
+   * @param {Editor} editor
+   * @param {import("./line_marks.js").LineMarks} marks
+   */
+  constructor(editor, marks) {
+    this.editor = editor;
+    this.marks = marks;
+    /** @type {LineHandle[]} the lines that were never run, or whose jump went one way alone */
+    this.lacking = [];
+    this.isShown = false;
+    editor.on("changes", () => this.clear());
+  }
+
+  /** @param {Covered[]} covered lines */
+  show(covered) {
+    this.clear();
+    const lines = new Map(covered.map((each) => [each.line, each]));
+    const { editor } = this;
+    this.isShown = true;
+    editor.operation(() => {
+      const longest = Math.max(...covered.map((each) => textOfCount(each).length), 1);
+      editor.getWrapperElement().classList.add("counted");
+      editor.getWrapperElement().style.setProperty("--counts-width", `${longest + 1}ch`);
+      this.marks.showAt("counts", (line) => textAt(lines.get(line), textOfCount), (line) => textAt(lines.get(line), wordsOfCount));
+      const lacking = covered.filter(({ count, isJump, taken }) => count === 0 || (isJump && (taken === 0 || taken === count)));
+      this.lacking = lacking.map(({ line }) => editor.getLineHandle(line - 1)).filter(Boolean);
+      for (const handle of this.lacking) editor.addLineClass(handle, "gutter", "lacking");
+    });
+    editor.refresh();
+  }
+
+  clear() {
+    if (!this.isShown) return;
+    const { editor } = this;
+    this.isShown = false;
+    editor.operation(() => {
+      editor.getWrapperElement().classList.remove("counted");
+      this.marks.showAt("counts", () => "");
+      for (const handle of this.lacking) editor.removeLineClass(handle, "gutter", "lacking");
+    });
+    this.lacking = [];
+    editor.refresh();
+  }
+}
+
+/**
+ * @param {Covered | undefined} covered
+ * @param {(covered: Covered) => string} tell
+ */
+function textAt(covered, tell) {
+  return covered ? tell(covered) : "";
+}

@@ -1,0 +1,127 @@
+// Names in a text: to where one is defined, all places of it, another name in all of them; and a line by its number.
+
+import CodeMirror from "codemirror";
+import { element, onClick } from "../dom.js";
+import { FieldBar } from "./field_bar.js";
+import { definitionOf, faultOfRenaming, nameAt, referencesOf } from "./references.js";
+
+/**
+ * @typedef {import("./text_editor.js").TextEditor} TextEditor
+ * @typedef {import("./references.js").Reference} Reference
+ */
+
+const NO_NAME = "No name of this text stands at the caret.";
+/** Words of a line in the list of places. */
+const LONGEST_WORDS = 60;
+
+export class NameView {
+  /**
+   * @param {TextEditor} text
+   * @param {HTMLElement} place takes the bar and the list
+   * @param {{ isInstruction: (word: string) => boolean, tell: (words: string) => void }} calls
+   */
+  constructor(text, place, calls) {
+    this.text = text;
+    this.calls = calls;
+    this.bar = new FieldBar(place, () => text.editor.focus());
+    this.list = element("ul", { "className": "places", "aria-label": "Places of a name", "hidden": true });
+    place.append(this.list);
+  }
+
+  get lines() {
+    return this.text.text.split("\n");
+  }
+
+  /** The name at the caret; where there is none, that is told. */
+  nameAtCaret() {
+    const { line, ch } = this.text.editor.getCursor();
+    const name = nameAt(this.lines, line, ch);
+    if (name === "") this.calls.tell(NO_NAME);
+    return name;
+  }
+
+  /** @param {Reference} place */
+  show({ line, from, to }) {
+    const { editor } = this.text;
+    this.text.goTo({ line: line - 1, ch: from });
+    editor.setSelection(CodeMirror.Pos(line - 1, from), CodeMirror.Pos(line - 1, to));
+    editor.scrollIntoView({ from: CodeMirror.Pos(line - 1, from), to: CodeMirror.Pos(line - 1, to) }, 60);
+  }
+
+  /** To where the name at the caret is defined. */
+  define() {
+    const name = this.nameAtCaret();
+    const place = name === "" ? null : definitionOf(this.lines, name);
+    if (place) this.show(place);
+  }
+
+  /** Lists all places of the name at the caret. */
+  find() {
+    const name = this.nameAtCaret();
+    if (name === "") return;
+    const { lines } = this;
+    const places = referencesOf(lines, name);
+    const close = element("button", { type: "button" }, "Close");
+    onClick(close, () => this.close());
+    this.list.replaceChildren(element("li", {}, `${name} stands at ${places.length} place${places.length === 1 ? "" : "s"} `, close),
+      ...places.map((place) => this.row(place, lines[place.line - 1])));
+    this.list.hidden = false;
+  }
+
+  /**
+   * @param {Reference} place
+   * @param {string} text of its line
+   */
+  row(place, text) {
+    const made = element("button", { type: "button" }, `line ${place.line}${place.isDefinition ? ", where it is defined" : ""}`);
+    onClick(made, () => this.show(place));
+    return element("li", {}, made, " ", element("code", {}, text.trim().slice(0, LONGEST_WORDS)));
+  }
+
+  close() {
+    this.list.hidden = true;
+    this.text.editor.focus();
+  }
+
+  /** Asks for another name for the one at the caret. */
+  rename() {
+    const name = this.nameAtCaret();
+    if (name === "") return;
+    this.bar.open({ label: `Another name for ${name}`, value: name, word: "Rename", act: (wanted) => this.renameTo(name, wanted) });
+  }
+
+  /**
+   * @param {string} name
+   * @param {string} wanted
+   */
+  renameTo(name, wanted) {
+    const { lines, calls, text } = this;
+    const fault = faultOfRenaming(lines, name, wanted, calls.isInstruction);
+    if (fault) return fault;
+    const places = referencesOf(lines, name);
+    text.editor.operation(() => {
+      for (const { line, from, to } of [...places].reverse()) {
+        text.editor.replaceRange(wanted, CodeMirror.Pos(line - 1, from), CodeMirror.Pos(line - 1, to), "rename");
+      }
+    });
+    calls.tell(`${name} is ${wanted} now, at ${places.length} place${places.length === 1 ? "" : "s"}.`);
+    return "";
+  }
+
+  /** Asks for the number of a line. */
+  goToLine() {
+    const last = this.text.editor.lineCount();
+    this.bar.open({
+      label: `Line, 1 to ${last.toLocaleString("en")}`,
+      value: "",
+      word: "Go",
+      act: (typed) => {
+        const line = /^\d+$/.test(typed) ? Number(typed) : 0;
+        if (line < 1 || line > last) return `A line is a number from 1 to ${last.toLocaleString("en")}.`;
+        this.text.goTo({ line: line - 1, ch: 0 });
+        this.text.reveal(line);
+        return "";
+      },
+    });
+  }
+}

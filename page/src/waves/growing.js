@@ -1,0 +1,92 @@
+// Numbers in a typed array that become more at the end, and fewer at both ends.
+
+/** @typedef {Uint16Array | Uint32Array | Float64Array} Numbers */
+
+const ROOM_AT_FIRST = 64;
+/** So many are dropped at the beginning before the rest is moved there. */
+const MOST_DROPPED = 4096;
+
+/**
+ * How many of some rising numbers are at most this one.
+ * @param {ArrayLike<number>} numbers
+ * @param {number} most
+ */
+export function countUpTo(numbers, most) {
+  let [low, high] = [0, numbers.length];
+  while (low < high) {
+    const middle = (low + high) >> 1;
+    if (numbers[middle] <= most) low = middle + 1;
+    else high = middle;
+  }
+  return low;
+}
+
+/** @template {Numbers} Kind */
+export class Growing {
+  /** @param {Kind} numbers those that it begins with; the array is its own from here on */
+  constructor(numbers) {
+    this.numbers = numbers;
+    this.from = 0;
+    this.to = numbers.length;
+  }
+
+  get count() {
+    return this.to - this.from;
+  }
+
+  /** The last one, -1 for none. */
+  get last() {
+    return this.count > 0 ? this.numbers[this.to - 1] : -1;
+  }
+
+  set last(number) {
+    this.numbers[this.to - 1] = number;
+  }
+
+  /** @param {number} number */
+  push(number) {
+    if (this.to === this.numbers.length) this.grow();
+    this.numbers[this.to] = number;
+    this.to += 1;
+  }
+
+  grow() {
+    const larger = /** @type {Kind} */ (new (/** @type {any} */ (this.numbers.constructor))(Math.max(ROOM_AT_FIRST, this.to * 2)));
+    larger.set(this.numbers);
+    this.numbers = larger;
+  }
+
+  /** The last one goes. */
+  pop() {
+    this.to -= 1;
+  }
+
+  /** @param {number} count so many go at the beginning */
+  drop(count) {
+    this.from += count;
+    if (this.from < MOST_DROPPED || this.from < this.count) return;
+    this.numbers.copyWithin(0, this.from, this.to);
+    this.to -= this.from;
+    this.from = 0;
+  }
+
+  /** @param {number} count so many stay */
+  cut(count) {
+    this.to = this.from + count;
+  }
+
+  /**
+   * Those that there are now, until the next one comes or goes.
+   * @returns {Kind}
+   */
+  get all() {
+    return /** @type {Kind} */ (this.numbers.subarray(this.from, this.to));
+  }
+
+  /** All of them, of which none is here any more. */
+  take() {
+    const taken = /** @type {Kind} */ (this.all.slice());
+    this.from = this.to = 0;
+    return taken;
+  }
+}

@@ -1,0 +1,268 @@
+// Records while time runs: before each run the bench is asked what it will do, in the same call. Nothing else of what time does is changed,
+// but where it is to stop at the end of a recording with a trigger. What was recorded is taken part by part.
+
+import { readBoard, readRun } from "../bench/answers.js";
+import { cyclesOfStep } from "../debug/ahead.js";
+import { linesOfBoard } from "../waves/wave_lines.js";
+import { Answers, readTraced, valuesOf } from "./tracing.js";
+import { listedAt } from "./wave_recorder.js";
+import { WaveTaking } from "./wave_taking.js";
+
+/**
+ * @typedef {import("./accepted.js").Accepted} Accepted
+ * @typedef {import("./engine.js").Engine} Engine
+ * @typedef {import("./key_queue.js").Step} Step
+ * @typedef {import("./wave_recorder.js").Recorded} Recorded
+ * @typedef {import("./wave_recorder.js").RecordedPart} RecordedPart
+ * @typedef {import("./wave_recorder.js").Texts} Texts
+ * @typedef {import("../waves/trigger.js").Trigger} Trigger
+ *
+ * What is wanted: how many cycles behind the trigger, and whether time stops at its end.
+ * @typedef {{ behind: number, stopsTime: boolean }} LiveWanted
+ *
+ * A part of a recording. `triggered`: the moment of the trigger, -1 for none yet; `over`: why nothing more is recorded, "" where it goes
+ * on: "trigger", "board", "program", "back", "lines", "long".
+ * @typedef {RecordedPart & { triggered: number, over: string }} LivePart
+ */
+
+/** Moments have 32 bits. */
+const LONGEST = 4000000000;
+/** So many commands, and so many cycles, are followed at once. */
+const PIECE_UNITS = 50;
+const PIECE_CYCLES = 50000;
+
+export class LiveRecorder {
+  /**
+   * @param {Engine} engine
+   * @param {Uint8Array} file the session from here on
+   * @param {Texts} texts
+   */
+  constructor(engine, file, texts) {
+    this.engine = engine;
+    this.texts = texts;
+    this.lines = linesOfBoard(readBoard(engine.ask(file, "board\n").answers), texts.board, texts.program !== null, texts.values);
+    this.taking = new WaveTaking(this.lines);
+    this.taking.begin(new Answers(engine.ask(file, `state\n${this.taking.questions(1)}`).answers));
+    /** @type {Trigger | null} */
+    this.trigger = null;
+    /** @type {LiveWanted} */
+    this.wanted = { behind: 0, stopsTime: false };
+    this.triggered = -1;
+    this.over = "";
+    this.held = true;
+    /** Whether time is to stop, since all is recorded. */
+    this.stops = false;
+    this.listed = new Uint8Array(4096);
+    this.places = "";
+  }
+
+  /**
+   * @param {Trigger | null} trigger
+   * @param {LiveWanted} wanted
+   */
+  waitFor(trigger, wanted) {
+    this.trigger = trigger;
+    this.wanted = wanted;
+    this.places = trigger && trigger.places.length > 0 && trigger.address < 0 ? trigger.places.join(" ") : "";
+  }
+
+  get isOn() {
+    return this.over === "";
+  }
+
+  /** The moment where it ends, once its trigger came. */
+  get end() {
+    return this.triggered < 0 ? Infinity : this.triggered + this.wanted.behind;
+  }
+
+  /**
+   * What it holds, as a recording that goes on.
+   * @param {Uint8Array} file
+   * @returns {Recorded}
+   */
+  recorded(file) {
+    return { ...this.part(file), lines: this.lines, program: this.texts.program };
+  }
+
+  /**
+   * What was recorded since this was called last.
+   * @param {Uint8Array} file
+   * @returns {LivePart}
+   */
+  part(file) {
+    const taken = this.taking.take();
+    const news = [...new Set(taken.counters)].filter((address) => this.listed[address] === 0);
+    for (const address of news) this.listed[address] = 1;
+    return { ...taken, listing: listedAt(this.engine, file, news), triggered: this.triggered, over: this.over };
+  }
+
+  /** @param {string} why nothing more is recorded */
+  stop(why) {
+    if (this.isOn) this.over = why;
+  }
+
+  // --- time that runs ---
+
+  /**
+   * What is asked before a run of so many cycles.
+   * @param {number} cycles
+   */
+  questions(cycles) {
+    return `${this.taking.questions(cycles)}${this.places ? `trace ${cycles} ${this.places}\n` : ""}`;
+  }
+
+  /**
+   * The lines of steps, with the questions.
+   * @param {Step[]} steps
+   */
+  linesOf(steps) {
+    return steps.map((step) => (
+      step.change ? `${step.line}\nstate\n` : `${this.questions(cyclesOfStep(step))}${step.line}\n`)).join("");
+  }
+
+  /**
+   * Parts the answers: those to the steps and to all that comes after them, and, step by step, those to the questions.
+   * @param {Step[]} steps
+   * @param {string[]} all
+   */
+  parted(steps, all) {
+    const questions = 1 + this.taking.groups.length + Number(this.places !== "");
+    const answers = new Answers(all);
+    /** @type {string[]} */
+    const own = [];
+    const traced = steps.map(({ change }) => {
+      if (change) {
+        own.push(answers.take());
+        return [answers.take()];
+      }
+      const from = answers.at;
+      for (let count = 0; count < questions; count++) answers.takeTrace();
+      const told = all.slice(from, answers.at);
+      own.push(answers.take());
+      return told;
+    });
+    return { answers: [...own, ...all.slice(answers.at)], traced };
+  }
+
+  /**
+   * Takes what steps did; gives after how many of their cycles time stops, -1 where it goes on.
+   * @param {Step[]} steps
+   * @param {string[][]} traced
+   * @param {string[]} answers of the steps, and behind them that to `state`
+   */
+  take(steps, traced, answers) {
+    const { taking, trigger } = this;
+    const begun = taking.elapsed;
+    const counted = taking.moments.count;
+    const counts = trigger ? trigger.members.map((member) => taking.tracks[member].moments.count) : [];
+    steps.forEach(({ change }, at) => {
+      const told = new Answers(traced[at]);
+      if (change) {
+        taking.takeState(told.take());
+        return;
+      }
+      const from = taking.elapsed;
+      taking.takeQuestions(told);
+      if (this.places) this.takeCondition(told, from);
+      taking.takeEnd(readRun(answers[at]) || { cycles: 0, end: answers[at] });
+    });
+    taking.takeState(answers[steps.length]);
+    if (trigger && trigger.edge) this.takeEdges(trigger, counts);
+    else if (trigger && trigger.address >= 0) this.takeArrival(trigger.address, counted);
+    return this.ended(begun, counted);
+  }
+
+  /**
+   * The first moment at which a condition becomes true.
+   * @param {Answers} told
+   * @param {number} from the moment before the run
+   */
+  takeCondition(told, from) {
+    const { row, lines } = told.takeTrace();
+    this.look(valuesOf(row), from);
+    for (const line of lines) {
+      const traced = readTraced(line);
+      this.look(valuesOf(traced.row), from + traced.cycles + 1);
+    }
+  }
+
+  /**
+   * @param {string[]} values
+   * @param {number} moment
+   */
+  look(values, moment) {
+    const holds = this.trigger !== null && this.trigger.holds(values);
+    if (holds && !this.held && this.triggered < 0) this.triggered = moment;
+    this.held = holds;
+  }
+
+  /**
+   * The first edge that is wanted behind so many changes of each line.
+   * @param {Trigger} trigger
+   * @param {number[]} counts
+   */
+  takeEdges({ members, edge }, counts) {
+    if (this.triggered >= 0) return;
+    const wanted = { rises: 1, falls: 0, changes: -1 }[edge || "changes"];
+    const found = members.flatMap((member, place) => {
+      const track = this.taking.tracks[member];
+      const moments = [...track.moments.all.subarray(counts[place])];
+      return moments.find((_, at) => wanted < 0 || track.valueBehind(counts[place] + at + 1) === wanted) ?? [];
+    });
+    if (found.length > 0) this.triggered = Math.min(...found);
+  }
+
+  /**
+   * The first instruction at an address, behind so many that were begun; where it stood when recording began is none.
+   * @param {number} address
+   * @param {number} counted
+   */
+  takeArrival(address, counted) {
+    if (this.triggered >= 0) return;
+    const [moments, counters] = [this.taking.moments.all, this.taking.counters.all];
+    const found = moments.findIndex((moment, at) => at >= counted && moment > 0 && counters[at] === address);
+    if (found >= 0) this.triggered = moments[found];
+  }
+
+  /**
+   * Whether all is recorded; gives after how many cycles since a moment time stops: where the next instruction begins.
+   * @param {number} begun
+   * @param {number} counted how many instructions were begun by then
+   */
+  ended(begun, counted) {
+    const { taking, end, wanted } = this;
+    if (taking.elapsed >= LONGEST) this.stop("long");
+    if (this.triggered >= 0) this.places = "";
+    if (taking.elapsed < end) return -1;
+    this.stop("trigger");
+    if (!wanted.stopsTime) return -1;
+    this.stops = true;
+    const next = taking.moments.all.subarray(counted).find((moment) => moment >= end);
+    return (next === undefined ? taking.elapsed : next) - begun;
+  }
+
+  // --- what is done while time stands still ---
+
+  /**
+   * Follows what was done by lines: it is done again on a copy.
+   * @param {Uint8Array} file as it was before; it is changed
+   * @param {Accepted[]} accepted
+   */
+  follow(file, accepted) {
+    const { engine } = this;
+    if (accepted.some(({ line }) => /^\s*wire/.test(line))) this.stop("board");
+    else if (accepted.some(({ line }) => /^\s*(asm|poke\s+rom)/.test(line))) this.stop("program");
+    for (let at = 0; at < accepted.length && this.isOn;) {
+      const begun = at;
+      for (let cycles = 0; at < accepted.length && at - begun < PIECE_UNITS && cycles < PIECE_CYCLES; at++) cycles += accepted[at].cycles;
+      const units = accepted.slice(begun, at);
+      /** @type {Step[]} */
+      const steps = units.map(({ line, cycles }) => (
+        { line: cycles > 0 ? `run ${cycles}` : line, change: cycles > 0 ? null : { place: "", word: "press" } }));
+      const served = engine.serve(file, `${this.linesOf(steps)}state\n`, file);
+      const { traced, answers } = this.parted(steps, served.answers);
+      this.take(steps, traced, answers);
+      this.stops = false;
+    }
+  }
+}

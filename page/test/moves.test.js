@@ -1,0 +1,169 @@
+// Goals, on the module of the page itself. What is expected was counted by tools/trace and tools/cycles, as docs/MANUAL.md shows it.
+import assert from "node:assert/strict";
+import { test } from "node:test";
+import { begin, counterOf } from "./page_session.js";
+
+/** How a goal was reached. */
+async function goOn(calls, goal, most) {
+  const { cycles, isReached, end } = (await calls.goOn(goal, most)).found;
+  return { cycles, isReached, end };
+}
+
+test("over a JMS: as many cycles as a breakpoint behind it takes, and nothing stays", async () => {
+  // Up to the JMS at 007: FIM, SRC, LDM, XCH, LD, WMP are 7 cycles.
+  const calls = await begin("three lamps", "run 7\n");
+  assert.equal(counterOf(calls), "007");
+  const told = await calls.goOn({ kind: "over" });
+  assert.deepEqual([told.found.isReached, told.found.cycles, counterOf(calls)], [true, told.total - 7, "009"]);
+  const sent = told.entries.map(({ line, answers }) => [line, answers[0].slice(5)]);
+  assert.deepEqual(sent, [[`run ${told.found.cycles}`, `ran ${told.found.cycles} end`]]);
+  assert.deepEqual(calls.ask("breaks\nwatches\n"), ["breaks -", "watches -"]);
+  const other = await begin("three lamps", "run 7\nbreak 0x009\n");
+  const [answer] = (await other.serve("run 100000\n")).entries[0].answers;
+  assert.equal(answer.split(" ")[3], String(told.found.cycles));
+});
+
+test("over anything else is one instruction, and out ends behind the JMS", async () => {
+  const calls = await begin("three lamps");
+  assert.deepEqual(await goOn(calls, { kind: "over" }), { cycles: 2, isReached: true, end: "" });
+  await calls.serve("run 7\n");
+  assert.equal(counterOf(calls), "014");
+  assert.equal((await calls.goOn({ kind: "out" })).found.isReached, true);
+  assert.equal(counterOf(calls), "009");
+});
+
+test("to an address, so many instructions, and to a change", async () => {
+  const calls = await begin("three lamps");
+  await calls.goOn({ kind: "here", address: 0x14 });
+  assert.equal(counterOf(calls), "014");
+  assert.deepEqual(await goOn(calls, { kind: "count", count: 3 }), { cycles: 6, isReached: true, end: "" });
+  const before = calls.ask("lamps\n")[0];
+  const told = await calls.goOn({ kind: "change", place: "lamps" });
+  assert.equal(told.found.isReached, true);
+  assert.notEqual(calls.ask("lamps\n")[0], before);
+  const fresh = await begin("three lamps");
+  assert.equal((await fresh.goOn({ kind: "change", place: "r4" })).found.cycles, 5);
+});
+
+test("to an address that is far away, also where all breakpoints are taken", async () => {
+  const loops = "far: ISZ R0, far\nISZ R1, far\nISZ R2, far\nISZ R3, far\nend: JUN end\n";
+  const setup = `wire\n[[rom]]\nchip = 0\nport = "0000"\n.\nasm\n${loops}.\n`;
+  const calls = await begin("empty bench", setup);
+  const { found } = await calls.goOn({ kind: "here", address: 8 }, 1000000);
+  assert.deepEqual([found.isReached, counterOf(calls)], [true, "008"]);
+  const taken = await begin("empty bench", `${setup}${Array.from({ length: 32 }, (_, at) => `break ${at + 16}\n`).join("")}`);
+  const other = await goOn(taken, { kind: "here", address: 4 }, 1000000);
+  await calls.goBack({ kind: "stop" });
+  assert.deepEqual(other, await goOn(calls, { kind: "here", address: 4 }, 1000000));
+});
+
+/** A bench with one ROM and a program. */
+function bench(program) {
+  return begin("empty bench", `wire\n[[rom]]\nchip = 0\nport = "0000"\n.\nasm\n${program}.\n`);
+}
+
+/** Loops in each other: an ISZ takes two cycles, and each loop comes 16 times to its end. */
+function delay(loops) {
+  const all = [0, 1, 2, 3, 4].slice(0, loops);
+  const lines = `FIM P0, 0\nFIM P1, 0\nFIM P2, 0\nloop: ${all.map((each) => `ISZ R${each}, loop\n`).join("")}`;
+  return { lines, cycles: 6 + all.reduce((cycles) => 16 * (cycles + 2), 0) };
+}
+
+/** Lets time run in frames up to a stop; gives the last frame. */
+function runOn(calls, frame) {
+  for (;;) {
+    const told = calls.advance(frame);
+    if (told.stop) return told;
+  }
+}
+
+test("over a delay of 24 seconds, and out of it: time that runs, by frames and at full speed", async () => {
+  const { lines, cycles } = delay(5);
+  const calls = await bench(`JMS wait\nend: JUN end\nwait: ${lines}BBL 0\n`);
+  const before = Buffer.from(calls.session.file);
+  const near = await calls.goOn({ kind: "over" });
+  assert.deepEqual([near.found.end, near.entries.length, Buffer.compare(before, calls.session.file)], ["bound", 0, 0]);
+  const told = runOn(calls, 1543);
+  assert.deepEqual([told.stop, counterOf(calls)], [{ why: "goal", id: 0, cycles: cycles + 3, returns: true }, "002"]);
+  assert.ok(told.ran.every(({ line }) => /^run \d+$/.test(line)));
+  assert.deepEqual(calls.ask("breaks\nwatches\n"), ["breaks -", "watches -"]);
+  // It is reached at once where so many cycles are tried, and time that runs beyond it has no goal any more.
+  assert.equal(calls.advance(1543).stop, null);
+  await calls.goBack({ kind: "stop" });
+  await calls.serve("reset\nrun 1000\n");
+  const out = await calls.goOn({ kind: "out" }, 100000000);
+  assert.deepEqual([out.found.isReached, out.found.cycles, counterOf(calls)], [true, cycles + 3 - 1000, "002"]);
+});
+
+test("over a subroutine that waits for a key: the key is pressed while time runs", async () => {
+  const calls = await bench("main: JMS getkey\nJUN main\ngetkey: JCN 1, getkey\nBBL 0\n");
+  await calls.serve("test 0\n");
+  assert.equal((await calls.goOn({ kind: "over" })).found.end, "bound");
+  for (let frame = 0; frame < 40; frame++) assert.equal(calls.advance(1543).stop, null);
+  await calls.serve("test 1\n");
+  const { stop } = runOn(calls, 1543);
+  assert.deepEqual([stop.why, stop.returns, counterOf(calls)], ["goal", true, "002"]);
+  assert.ok(stop.cycles > 40 * 1543 && stop.cycles < 41 * 1543);
+});
+
+test("a million instructions, from the middle of one on", async () => {
+  const calls = await bench("end: JUN end\n");
+  assert.equal((await calls.goOn({ kind: "count", count: 1000000 })).found.cycles, 2000000);
+  await calls.serve("run 1\n");
+  assert.equal((await calls.goOn({ kind: "count", count: 3 })).found.cycles, 5);
+  const mixed = await bench("go: NOP\nNOP\nJUN go\n");
+  assert.equal((await mixed.goOn({ kind: "count", count: 300000 })).found.cycles, 400000);
+});
+
+test("a change that is far away: a register, a whole port, a lamp, a character", async () => {
+  const told = async (program, place, lines = "") => {
+    const calls = await begin("three lamps", `asm\n${program}.\nreset\n${lines}`);
+    return await goOn(calls, { kind: "change", place });
+  };
+  const { lines: wait, cycles } = delay(4);
+  const write = `${wait}SRC P0\nLDM 7\nWMP\nWRM\nend: JUN end\n`;
+  for (const [place, after] of [["acc", 2], ["ram0.0", 3], ["ram0.0.2", 3], ["lamp 2", 3], ["lamps", 3], ["ram.0.0", 4]]) {
+    assert.deepEqual(await told(write, place), { cycles: cycles + after, isReached: true, end: "" }, place);
+  }
+  assert.deepEqual(await told(write, "acc", "break 8\n"), { cycles: 38, isReached: false, end: "break" });
+});
+
+test("a breakpoint and a watch of the user come first; a goal that never comes does nothing", async () => {
+  const calls = await begin("three lamps", "run 7\nbreak 0x016\n");
+  assert.deepEqual(await goOn(calls, { kind: "over" }), { cycles: 4, isReached: false, end: "break" });
+  assert.equal(counterOf(calls), "016");
+  assert.deepEqual(await goOn(calls, { kind: "change", place: "chain0.1" }), { cycles: 0, isReached: false, end: "lacks" });
+  const empty = await begin("empty bench", "wire\n[[rom]]\nchip = 0\nport = \"0000\"\n.\nasm\nx: JUN x\n.\n");
+  const before = Buffer.from(empty.session.file);
+  const told = await empty.goOn({ kind: "out" }, 5000);
+  assert.deepEqual([told.found.end, told.entries.length, Buffer.compare(before, empty.session.file)], ["bound", 0, 0]);
+});
+
+test("a goal among presses of keys comes at the cycle at which it is reached", async () => {
+  const calls = await begin("calculator");
+  calls.advance(100000);
+  const before = calls.ask("lamps\n")[0];
+  assert.equal((await calls.goOn({ kind: "change", place: "lamps" }, 100000)).found.end, "bound");
+  const begun = calls.session.count.total;
+  let told = calls.advance(5000, "2 1");
+  for (let frame = 0; !told.stop && frame < 100; frame++) told = calls.advance(1543);
+  assert.deepEqual([told.stop.why, told.stop.cycles], ["goal", calls.session.count.total - begun]);
+  assert.notEqual(calls.ask("lamps\n")[0], before);
+  // A cycle before it they were as before.
+  const again = await begin("calculator");
+  again.advance(100000);
+  again.press("2 1");
+  again.advance(told.stop.cycles - 1);
+  assert.equal(again.ask("lamps\n")[0], before);
+  again.advance(1);
+  assert.deepEqual(again.ask("state\n")[0].replace(/seq \d+/, ""), calls.ask("state\n")[0].replace(/seq \d+/, ""));
+});
+
+test("a reset ends a move, and time runs on", async () => {
+  const calls = await bench("end: JUN end\n");
+  assert.equal((await calls.goOn({ kind: "out" })).found.end, "bound");
+  assert.equal(calls.debugger.isMoving, true);
+  calls.advance(1543);
+  await calls.serve("reset\n");
+  assert.equal(calls.debugger.isMoving, false);
+});

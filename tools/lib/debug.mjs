@@ -1,0 +1,94 @@
+// tools/debug at work, by node: the prompt of page/src/prompt on the bench that is in the page, at a terminal, or with commands from standard
+// input. The environment has `board`, `program` and `session`, the names of files, "" for none.
+import { readFileSync } from "node:fs";
+import { createInterface } from "node:readline";
+import { Prompt } from "../../page/src/prompt/prompt.js";
+import { launch } from "../../page/src/adapter/launching.js";
+import { Words } from "../../page/src/words.js";
+import { Engine } from "../../page/src/worker/engine.js";
+import { host } from "./debug_host.mjs";
+import { dataOfPage, moduleOfPage } from "./page_parts.mjs";
+
+const { env } = process;
+const isByHand = process.stdin.isTTY === true && process.stdout.isTTY === true;
+const PROMPT = "(mcs4) ";
+
+function read(name) {
+  try {
+    return readFileSync(name, "utf8");
+  } catch {
+    return null;
+  }
+}
+
+/** The commands of a script: which line is refused is told with its number. */
+async function runScript(prompt, at) {
+  let isRefused = false;
+  for await (const line of createInterface({ input: process.stdin, crlfDelay: Infinity })) {
+    at.line += 1;
+    if (!(await prompt.take(line))) isRefused = true;
+    if (prompt.isEnded) break;
+  }
+  return isRefused ? 1 : 0;
+}
+
+/** Ctrl-C stops what runs; where nothing does, it drops the line. */
+async function runByHand(prompt) {
+  const terminal = createInterface({ input: process.stdin, output: process.stdout, prompt: PROMPT, historySize: 1000,
+    completer: (line) => prompt.complete(line) });
+  let turn = Promise.resolve();
+  terminal.on("SIGINT", () => {
+    if (prompt.machine.isMoving) prompt.machine.pause();
+    else {
+      terminal.write(null, { ctrl: true, name: "u" });
+      process.stdout.write("^C\n");
+      terminal.prompt();
+    }
+  });
+  terminal.on("line", (line) => {
+    turn = turn.then(async () => {
+      await prompt.take(line);
+      if (prompt.isEnded) terminal.close();
+      else terminal.prompt();
+    });
+  });
+  terminal.prompt();
+  await new Promise((settle) => {
+    terminal.on("close", settle);
+  });
+  if (!prompt.isEnded) process.stdout.write("\n");
+  if (prompt.machine.isMoving) prompt.machine.pause();
+  await turn;
+  return 0;
+}
+
+async function serve() {
+  const engine = await Engine.load(moduleOfPage());
+  const data = dataOfPage();
+  const given = { board: env.board || undefined, program: env.program || undefined, session: env.session || undefined, cwd: process.cwd() };
+  const launched = await launch(engine, given, host, new Words(data.refusals));
+  const at = { line: 0 };
+  const prompt = new Prompt(launched, data, {
+    print: (words) => process.stdout.write(`${words}\n`),
+    complain: (words) => process.stderr.write(isByHand ? `${words}\n` : `debug: line ${at.line}: ${words}\n`),
+    pause: host.pause,
+    source: () => (launched.program === "" ? null : read(launched.program)),
+    isByHand,
+  });
+  try {
+    await prompt.begin();
+    return await (isByHand ? runByHand(prompt) : runScript(prompt, at));
+  } finally {
+    if (launched.kept) await launched.kept.end();
+  }
+}
+
+process.stdout.on("error", () => process.exit(1));
+serve().then((status) => {
+  process.exitCode = status;
+  process.stdin.destroy();
+}, (fault) => {
+  process.stderr.write(`debug: ${fault instanceof Error ? fault.message : String(fault)}\n`);
+  process.exitCode = 1;
+  process.stdin.destroy();
+});

@@ -1,0 +1,21 @@
+// What the tools that run by node take out of the page: the proved module, and the tables that page/build has put beside it.
+import { readFileSync } from "node:fs";
+
+const PAGE = new URL("../../page/fethsaim.html", import.meta.url);
+
+/** The text of an element of the page. */
+function partOfPage(id) {
+  const found = new RegExp(`<script type="[a-z/]+" id="${id}">([^<]*)<`).exec(readFileSync(PAGE, "utf8"));
+  if (!found) throw new Error("page/fethsaim.html is not the page of the bench");
+  return found[1];
+}
+
+/** The proved module, as bytes. */
+export function moduleOfPage() {
+  return Buffer.from(partOfPage("module"), "base64");
+}
+
+/** The words of refusals, the tables of the manual, the examples. */
+export function dataOfPage() {
+  return JSON.parse(partOfPage("data"));
+}

@@ -1,0 +1,139 @@
+# Which program is started: need_program. A script reads this by `.`, after it has set `top`, the folder of the repository.
+# shellcheck shell=sh disable=SC2034
+
+# The program that was proved and built here, and a line with the checksums of its sources and its bytes.
+built=$top/crates/mcs4/out/mcs4
+built_from=$top/crates/mcs4/out/mcs4.from
+# The program that is shipped, the same for systems with another C library or an older one, that for aarch64, and their checksums.
+shipped=$top/shipped/mcs4
+static=$top/shipped/mcs4-static
+aarch64=$top/shipped/mcs4-aarch64
+sums=$top/shipped/SUMS
+
+# To compare all sources takes a tenth of a second. So what was found is remembered with the size and the times of each file that was
+# read, and of each folder in which others might come to stand; while they are the same, it is not compared again. For each tree there
+# is `NAME.names` (the program, and then what was read) and `NAME.seen` (what it looked like), in a folder that is its user's alone.
+# Where that cannot be written, each start compares again.
+case ${XDG_CACHE_HOME:-} in
+    /*) remembered=$XDG_CACHE_HOME/fethsaim ;;
+    *) case ${HOME:-} in
+        /?*) remembered=$HOME/.cache/fethsaim ;;
+        *) remembered= ;;
+    esac ;;
+esac
+names=
+rest=$top
+while [ "$rest" != "${rest#*/}" ]; do
+    names=$names${rest%%/*}%
+    rest=${rest#*/}
+done
+names=$remembered/$names$rest.names
+seen=${names%.names}.seen
+
+# A line for the folder of what is remembered, and one for each file and folder that is there of those whose names stand in a file behind
+# its first line.
+look() {
+    (CDPATH='' cd -- "$top" && read -r _ && LC_ALL=C exec xargs -0 stat -L -c '%a %i %s %Y %.9Z' -- "$remembered") < "$1" 2> /dev/null || :
+}
+
+# The program that an earlier start found, where nothing has changed since. What another user might have written is not trusted.
+recall() {
+    if [ -z "$remembered" ] || [ -h "$names" ] || [ -h "$seen" ]; then return 1; fi
+    if ! { [ -O "$remembered" ] && [ -O "$names" ] && [ -O "$seen" ]; }; then return 1; fi
+    look "$names" | {
+        read -r mode _
+        [ "$mode" = 700 ] && cmp -s - "$seen"
+    } || return 1
+    read -r program < "$names"
+    program=$top/$program
+}
+
+# The user's folder is there, and is the user's own; for root in the home of another user there is none.
+make_remembered() {
+    if [ -z "$remembered" ]; then return 1; fi
+    above=${remembered%/*}
+    if [ ! -e "$above" ]; then above=${above%/*}; fi
+    [ -O "$above" ] && (umask 077 && mkdir -p -- "$remembered") 2> /dev/null && [ -O "$remembered" ] && [ -w "$remembered" ]
+}
+
+# Puts the program that was found and what it looked like now into the place of what was remembered; not if a file has just changed: a
+# clock that ticks by seconds might not show its next change.
+remember() {
+    {
+        echo "${program#"$top/"}"
+        names_of_start
+    } > "$names.$$" && look "$names.$$" | sed 1d > "$seen.$$" && cmp -s "$seen.$$" "$seen.$$.before" &&
+        awk -v now="$(date +%s)" '$4 >= now - 3 || $5 >= now - 3 { young = 1 } END { exit young || NR < 10 }' "$seen.$$" &&
+        mv -f "$names.$$" "$names" && mv -f "$seen.$$" "$seen"
+}
+
+# Whether a program runs on this system: without words it tells its usage, with status 2. `said` is what it, or the system, has said.
+runs_here() {
+    status=0
+    said=$({ "$1" < /dev/null; } 2>&1) || status=$?
+    [ "$status" -eq 2 ]
+}
+
+# Finds the program: `program` is the one that was proved and built here, where the sources are still those that it was built from; else
+# the one in shipped/, where that was built from these sources and runs on this system; else there is none, and `fault` says why.
+find_program() {
+    program=
+    fault=
+    # What is installed has no sources to compare with.
+    if [ -f "$top/installed" ]; then
+        if [ ! -x "$shipped" ]; then
+            fault="it is not there; install it again"
+        elif [ ! -e /lib64/ld-linux-x86-64.so.2 ] && ! runs_here "$shipped"; then
+            fault="it does not run on this system, $(uname -s) on $(uname -m); install it again"
+        else
+            program=$shipped
+        fi
+        return
+    fi
+    if recall; then return; fi
+    . "$top/tools/lib/sums.sh"
+    kept=
+    if make_remembered; then
+        kept=1
+        (umask 077 && {
+            echo
+            names_of_start
+        } > "$names.$$" && look "$names.$$" | sed 1d > "$seen.$$.before") 2> /dev/null || kept=
+    fi
+    sources=$(sum_of_crate mcs4)
+    if is_built "$sources"; then
+        program=$built
+    elif [ -f "$aarch64" ] && [ "$(uname -s) $(uname -m)" = "Linux aarch64" ]; then
+        fault=$(fault_of_shipped "$(sum_of_aarch64 "$sources")" "$aarch64" aarch64 aarch64)
+        if [ -z "$fault" ]; then program=$aarch64; fi
+    else
+        fault=$(fault_of_shipped "$sources" "$shipped" program x86_64)
+        if [ -z "$fault" ]; then
+            program=$shipped
+        elif [ -f "$static" ] && [ -z "$(fault_of_shipped "$sources" "$static" static x86_64)" ]; then
+            program=$static
+            fault=
+        fi
+    fi
+    if [ -n "$kept" ]; then
+        if [ -n "$program" ]; then (umask 077 && remember) 2> /dev/null || :; fi
+        rm -f -- "$names.$$" "$seen.$$" "$seen.$$.before"
+    fi
+}
+
+# The program that is to be started: finds it, or says why there is none and proves and builds it first. That it is the shipped one is
+# told once to each user.
+need_program() {
+    find_program
+    if [ -n "$fault" ] && [ -f "$top/installed" ]; then
+        echo "mcs4: $shipped is not started: $fault" >&2
+        exit 126
+    elif [ -n "$fault" ]; then
+        echo "mcs4: the program in shipped/ is not started: $fault. It is proved and built here first" >&2
+        "$top/tools/build" >&2
+        program=$built
+    elif [ "$program" != "$built" ] && [ ! -f "$top/installed" ] && [ -n "$remembered" ] && [ ! -e "$remembered/told" ] && make_remembered && { : > "$remembered/told"; } 2> /dev/null; then
+        echo "mcs4: this is the program in shipped/. It was proved and built from these very sources, but not on this machine; tools/build" \
+            "proves and builds it here. This is said once" >&2
+    fi
+}
