@@ -58,15 +58,6 @@ function ask_all(line, lines,    n) {
     return n
 }
 
-# Sends a file of the folder, which has one command or text, and gives its answer.
-function ask_file(name,    line, file) {
-    file = ENVIRON["folder"] "/" name
-    while ((getline line < file) > 0) print line | bench
-    close(file)
-    fflush(bench)
-    return receive()
-}
-
 # --- what is known of the state; a command that changes it forgets it ---
 
 function forget(    name) {

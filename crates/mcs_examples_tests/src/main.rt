@@ -1,5 +1,5 @@
-//! Runs the examples on new sessions, and the calculator's keys, and compares all that is answered with what has to be. Each file
-//! of `data/` that is named here gets a line; the status is 1 where an answer differs.
+//! Presses the calculator's keys on new sessions, and compares all that is answered with what has to be. Each file of `data/` that
+//! is named here gets a line; the status is 1 where an answer differs.
 #![tactic(auto)]
 
 mod calculator;
@@ -13,30 +13,10 @@ use std::alloc::Global;
 use std::process::ExitCode;
 use std::{fs, io};
 
-/// The examples: `data/NAME.txt` is the script, `data/NAME.answers` what it has to be answered.
-const EXAMPLES: [&str; 8] = [
-    "first",
-    "lamps",
-    "running_light",
-    "stopwatch",
-    "traffic_light",
-    "die",
-    "counter",
-    "quotient",
-];
-
 /// What is done at the calculator: `data/NAME.keys`, each in a session of its own.
 const KEYED: [&str; 6] = [
     "chains_1", "chains_2", "by_hand", "bounces", "one_row", "two_rows",
 ];
-
-/// Looks at one example.
-fn is_example_right(rt: &HostRuntime, alloc: Global, name: &str) -> io::Result<bool> {
-    let script = fs::read_to_string(rt, format!(in alloc; "{name}.txt")?)?;
-    let wanted = fs::read_to_string(rt, format!(in alloc; "{name}.answers")?)?;
-    let told = answers_of(alloc, script.as_bytes())?;
-    compare(rt, name, told.as_slice(), wanted.as_bytes())
-}
 
 /// Looks at what is done at the calculator.
 fn is_keyed_right(rt: &HostRuntime, alloc: Global, name: &str) -> io::Result<bool> {
@@ -51,9 +31,6 @@ fn is_keyed_right(rt: &HostRuntime, alloc: Global, name: &str) -> io::Result<boo
 
 fn main(rt: HostRuntime) -> io::Result<ExitCode> {
     let mut is_right = true;
-    for name in EXAMPLES {
-        is_right &= is_example_right(&rt, rt.alloc(), name)?;
-    }
     for name in KEYED {
         is_right &= is_keyed_right(&rt, rt.alloc(), name)?;
     }
