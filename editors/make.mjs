@@ -6,7 +6,7 @@
 import { mkdirSync, writeFileSync } from "node:fs";
 import { dirname } from "node:path";
 import { fileURLToPath } from "node:url";
-import { FORMS } from "../page/src/board/face_words.js";
+import { KINDS } from "../page/src/board/face_words.js";
 import { instructionsOf } from "../page/src/help/manual.js";
 import { DIRECTIVES } from "../page/src/text/assembly.js";
 import { TOML_KEYS } from "../page/src/text/board_words.js";
@@ -14,7 +14,7 @@ import { dataOfPage } from "../tools/lib/page_parts.mjs";
 
 const OWN = dirname(fileURLToPath(import.meta.url));
 const INSTRUCTIONS = [...instructionsOf(dataOfPage().manual).keys()].sort();
-const FACE = Object.keys(FORMS).sort();
+const FACE = [...KINDS.keys()].sort();
 const TABLES = Object.keys(TOML_KEYS).sort();
 
 const NAME = "[A-Za-z_][A-Za-z0-9_]*";

@@ -15,7 +15,7 @@ BEGIN {
     for (i = 1; i <= group_count; i++) print group_kind[i] " " group_first[i] " " group_rows[i] " " group_columns[i]
     if (pin_kind != "") print "test " pin_kind " " pin_name " " pin_level
     for (name in port_name) print "port " name " " port_name[name]
-    n = split(face_faults face_notes, lines, "\n")
-    for (i = 1; i < n; i++) print "fault " lines[i]
+    for (i = 1; i <= face_fault_count; i++) print "fault " face_fault[i]
+    for (i = 1; i <= face_note_count; i++) print "fault " face_note[i]
     if (shown_count = split(ENVIRON["lamps"], patterns, " ")) for (i = 1; i <= shown_count; i++) print "shows " patterns[i] " " display_text(patterns[i])
 }

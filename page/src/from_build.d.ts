@@ -3,3 +3,8 @@ declare module "#answer-table" {
   const text: string;
   export default text;
 }
+
+declare module "#face-table" {
+  const text: string;
+  export default text;
+}

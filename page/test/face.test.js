@@ -49,9 +49,10 @@ test("a face takes no more time than its text has letters", () => {
     [`# lamp 0: ${words(500, "n")}\n# grid 0: ${words(500, "-")}\n${"# grid 1: n0\n".repeat(100000)}`, 501],
     ["# title: x\n# colour 0 to 9999: red\n".repeat(50000), 1001],
   ]) {
-    const begun = performance.now();
+    // The processor's time: other work on the machine is none of its own.
+    const begun = process.cpuUsage();
     assert.ok(new Face(text).faults.length >= faults);
-    assert.ok(performance.now() - begun < 1000);
+    assert.ok(process.cpuUsage(begun).user < 1000000);
   }
 });
 

@@ -1,7 +1,7 @@
 # A board as the bench tells it: reads the lines of the answer to `board`. Needs face.awk.
 #
 # take_board(lines, n) fills rom_port[c], ram_chips[b], chain_bits[k], chain_clock[k], key_rows, key_columns, lamp_count and
-# line_of_lamp[i]; check_face() adds to face_faults and face_notes what the comments name and the board has not.
+# line_of_lamp[i]; check_face() adds to face_fault[] and face_note[] what the comments name and the board has not.
 
 function take_board(lines, n,    i, words, table, rom, bank, marks) {
     key_rows = key_columns = lamp_count = chain_count = 0
@@ -32,33 +32,30 @@ function unquoted(word) {
 function check_face(    i, name, d) {
     for (i = 1; i <= key_count; i++) {
         name = key_names[i]
-        if (key_row[name] >= key_rows || key_column[name] >= key_columns) {
-            face_fault(key_line[name], "the key " name " is in row " key_row[name] ", column " key_column[name] ", and the board has " \
-                (key_rows ? key_rows " rows and " key_columns " columns" : "no keys"))
-        }
+        if (key_row[name] < key_rows && key_column[name] < key_columns) continue
+        face_says("row", key_line[name], key_rows ? "key not there" : "no keys", name, key_row[name], key_column[name], key_rows, key_columns)
     }
     for (name in lamp_number) {
-        if (lamp_number[name] >= lamp_count) face_fault(lamp_line[name], "the lamp " name " is number " lamp_number[name] ", and the board has " lamp_count)
+        if (lamp_number[name] >= lamp_count) face_says("lamp", lamp_line[name], "lamp not there", name, lamp_number[name], lamp_count)
     }
-    for (d = 1; d <= display_count; d++) {
-        if (display_end(d) > lamp_count) face_fault(display_line[d], "the display needs lamps up to number " display_end(d) - 1 ", and the board has " lamp_count)
-    }
-    check_lamps_of_face()
+    for (d = 1; d <= display_count; d++) check_group("display", display_line[d], display_end(d))
+    for (i = 1; i <= group_count; i++) check_group(group_kind[i], group_line[i], group_first[i] + group_rows[i] * group_columns[i])
+    check_places_of_face()
     for (name in port_name) {
-        if (!has_place(name)) face_note(port_line[name], "the board has no " name)
+        if (!has_place(name)) face_says("port", port_line[name], "port not there", name)
     }
 }
 
-# What else a face tells of lamps; of each line the highest number alone.
-function check_lamps_of_face(    i, n, most) {
+function check_group(kind, number, end) {
+    if (end > lamp_count) face_says(kind, number, "no lamps for group", kind, end - 1, lamp_count)
+}
+
+# What else a face tells of lamps; of the colours of a line the highest number alone.
+function check_places_of_face(    i, n, most) {
     for (n in lamp_colour) if (!(colour_line[n] in most) || n + 0 > most[colour_line[n]]) most[colour_line[n]] = n + 0
-    for (i in most) if (most[i] >= lamp_count) face_note(i, "a colour for lamp " most[i] ", and the board has " lamp_count)
+    for (i in most) if (most[i] >= lamp_count) face_says("colour", i, "no lamp for colour", most[i], lamp_count)
     for (i = 1; i <= grid_count; i++) {
-        if (grid_lamp[i] >= lamp_count) face_note(grid_line[grid_row[i]], "a place for lamp " grid_lamp[i] ", and the board has " lamp_count)
-    }
-    for (i = 1; i <= group_count; i++) {
-        n = group_first[i] + group_rows[i] * group_columns[i] - 1
-        if (n >= lamp_count) face_note(group_line[i], "the " group_kind[i] " needs lamps up to number " n ", and the board has " lamp_count)
+        if (grid_lamp[i] >= lamp_count) face_says("grid", grid_line[grid_row[i]], "no lamp for place", grid_lamp[i], lamp_count)
     }
 }
 

@@ -65,9 +65,8 @@ BEGIN {
     take_board(lines, n)
     read_face(ENVIRON["folder"] "/board_text")
     check_face()
-    if (face_faults != "") {
-        sub(/\n.*/, "", face_faults)
-        print ENVIRON["tool_name"] ": " ENVIRON["board_name"] ": " face_faults | "cat 1>&2"
+    if (face_fault_count) {
+        print ENVIRON["tool_name"] ": " ENVIRON["board_name"] ": " face_fault[1] | "cat 1>&2"
         close("cat 1>&2")
         exit 1
     }
@@ -90,6 +89,5 @@ BEGIN {
         cell(n, length(lamp_name[n]) + 5, lamp_name[n])
         end_row()
     }
-    n = split(face_notes, lines, "\n")
-    for (i = 1; i < n; i++) print "note " lines[i]
+    for (i = 1; i <= face_note_count; i++) print "note " face_note[i]
 }

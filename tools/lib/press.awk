@@ -22,10 +22,7 @@ BEGIN {
     take_board(board, n)
     read_face(ENVIRON["folder"] "/board_text")
     check_face()
-    if (face_faults != "") {
-        sub(/\n.*/, "", face_faults)
-        fault(": " face_faults)
-    }
+    if (face_fault_count) fault(": " face_fault[1])
     if (failed) exit 1
     count = split(ENVIRON["keys"], words)
     for (i = 1; i <= count; i++) {

@@ -8,10 +8,8 @@ function tell(what) {
 
 BEGIN {
     read_face(ENVIRON["folder"] "/board_text")
-    if (face_faults != "") {
-        sub(/\n.*/, "", face_faults)
-        tell(ENVIRON["board_name"] ": " face_faults)
-    } else if (!display_count) tell(ENVIRON["board_name"] " has no display: a comment `# display 0: 4 digits` makes one")
+    if (face_fault_count) tell(ENVIRON["board_name"] ": " face_fault[1])
+    else if (!display_count) tell(ENVIRON["board_name"] " has no display: a comment `# display 0: 4 digits` makes one")
     needed = 0
     for (d = 1; d <= display_count; d++) if (display_end(d) > needed) needed = display_end(d)
 }

@@ -13,12 +13,18 @@ BEGIN {
 # Reads the texts; ends with their faults, if there are any.
 function read_all_tests(    files, names, count, i) {
     read_known()
-    if (face_faults != "") end_with(prefixed(face_faults, ENVIRON["board_name"] ": "))
+    if (face_fault_count) end_with(faults_of_face())
     count = split(ENVIRON["tests"], files, "\n")
     split(ENVIRON["tests_named"], names, "\n")
     for (i = 1; i <= count; i++) if (files[i] != "") read_tests(files[i], names[i])
     if (fault_count > 20) test_faults = test_faults "and " fault_count - 20 " more\n"
     if (test_faults != "") end_with(test_faults)
+}
+
+function faults_of_face(    i, text) {
+    text = ""
+    for (i = 1; i <= face_fault_count; i++) text = text ENVIRON["board_name"] ": " face_fault[i] "\n"
+    return text
 }
 
 function prefixed(lines, before,    n, i, line, text) {

@@ -271,9 +271,7 @@ function know_session(    lines, n, i, same, known) {
 function take_face() {
     read_face(ENVIRON["folder"] "/board_text")
     check_face()
-    if (face_faults == "") return
-    sub(/\n.*/, "", face_faults)
-    die(ENVIRON["board_name"] ": " face_faults)
+    if (face_fault_count) die(ENVIRON["board_name"] ": " face_fault[1])
 }
 
 function print_recording(    cycles, n, k, cycle, at) {

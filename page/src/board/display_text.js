@@ -1,12 +1,8 @@
 // What the displays of a board show in words, by the rule of tools/display.
 
-/** @typedef {import("./face.js").Group} Group */
+import { SEGMENTS } from "./face_words.js";
 
-/** The digit of seven segments a to g, as a 7447 and its kin make it, with both forms of 6 and 9. */
-const SEGMENTS = new Map([
-  ["******.", "0"], [".**....", "1"], ["**.**.*", "2"], ["****..*", "3"], [".**..**", "4"], ["*.**.**", "5"], ["*.*****", "6"],
-  ["..*****", "6"], ["***....", "7"], ["*******", "8"], ["****.**", "9"], ["***..**", "9"], ["......*", "-"], [".......", " "],
-]);
+/** @typedef {import("./face.js").Group} Group */
 
 const LIT = "*".charCodeAt(0);
 

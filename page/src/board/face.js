@@ -1,18 +1,24 @@
-// The face of a board: what the comments of its text tell of names, colours and places. tools/lib/face.awk reads the same, and has the
-// grammar at its head; checks/faces has texts that both are tried with.
+// The face of a board: what the comments of its text tell of names, colours and places. Its words stand in tools/lib/face.txt, by which
+// tools/lib/face.awk reads the same; checks/faces has texts that both are tried with.
 
-import { COLOURS, FORMS, LISTS, MOST_ROWS, MOST_WORDS, NO_DISPLAY, NO_TEST, TOO_MANY } from "./face_words.js";
-import { headOf, isNumber, isPlace, sizeOf, wordsOf } from "./face_words.js";
+import { COLOURS, fitsHead, fitsWords, headOf, isNumber, limit, said, sizeOf, wordsOf } from "./face_words.js";
 
 /**
- * @typedef {{ line: number, words: string }} Fault
+ * A fault; `isRefused` where it is one of names or displays, on which tests hang.
+ * @typedef {{ line: number, words: string, isRefused: boolean }} Fault
+ * @typedef {import("./face_words.js").Kind} Kind
  * @typedef {{ text: string, line: number }} Told a word or words, and the line that tells them
  * @typedef {{ row: number, column: number, lamp: number, line: number }} GridPlace
  * @typedef {{ kind: string, first: number, rows: number, columns: number, line: number }} Group so many rows of so many lamps; of a
  *   display the digits, and the lamps of each: four or seven, and one more with points
  * @typedef {{ kind: string, name: string, level: number, line: number }} TestPin a `button` or a `switch`; TEST has this level while
  *   it is pressed
+ * @typedef {{ name: string, kind: Kind, place: string, words: string, line: number }} Line with the word that begins it, and what stands
+ *   behind that
  */
+
+/** So many words all lists of names, colours and places have together: several times what a board has use for. */
+const MOST_WORDS = limit("words");
 
 export class Face {
   /** @param {string} text of a board */
@@ -42,6 +48,8 @@ export class Face {
     this.lines = new Map();
     /** @type {{ row: number, column: number, word: string, line: number }[]} */
     this.gridWords = [];
+    /** Whether names or displays hang on the line that is read. */
+    this.isRefused = false;
     /** How many words of lists were read; from the line on that has too many nothing is read. */
     this.wordCount = 0;
     text.split("\n").forEach((line, at) => this.read(line.replace(/\r$/, ""), at + 1));
@@ -53,19 +61,20 @@ export class Face {
    * @param {string} words
    */
   fault(line, words) {
-    this.faults.push({ line, words });
+    this.faults.push({ line, words, isRefused: this.isRefused });
   }
 
   /**
    * Whether this is told for the first time; if not, that is a fault.
    * @param {string} name
    * @param {number} line
-   * @param {string} words go before the line where it stands
+   * @param {string} words the name of what is said then
+   * @param {...(string | number)} about
    */
-  isFirst(name, line, words) {
+  isFirst(name, line, words, ...about) {
     const before = this.lines.get(name);
     if (before === undefined) this.lines.set(name, line);
-    else this.fault(line, `${words} in line ${before}`);
+    else this.fault(line, said(words, ...about, before));
     return before === undefined;
   }
 
@@ -74,21 +83,17 @@ export class Face {
    * @param {number} line
    */
   read(text, line) {
-    const head = this.wordCount <= MOST_WORDS ? headOf(text) : null;
-    if (!head) return;
-    const { kind, place, last, words } = head;
+    const found = this.wordCount <= MOST_WORDS ? headOf(text) : null;
+    if (!found) return;
+    const { name, kind, place, last, words } = found;
     this.told += `${text}\n`;
-    if (LISTS.has(kind)) this.wordCount += wordsOf(words).filter((word) => word !== "_").length;
-    if (this.wordCount > MOST_WORDS) {
-      this.fault(line, TOO_MANY);
-      return;
-    }
-    if (kind === "title" && place === undefined) this.readTitle(words, line);
-    else if (kind === "test" && place === undefined) this.readTest(words, line);
-    else if (kind === "port" && isPlace(place) && !last) this.readPort(place.toLowerCase(), words, line);
-    else if (kind === "colour" && isNumber(place) && isNumber(last)) this.readRange(Number(place), Number(last), words, line);
-    else if (kind in NUMBERED && isNumber(place) && !last) NUMBERED[kind](this, Number(place), words, line);
-    else this.fault(line, FORMS[kind]);
+    this.isRefused = kind.isRefused;
+    if (kind.counts) this.wordCount += wordsOf(words).filter((word) => word !== "_").length;
+    if (this.wordCount > MOST_WORDS) this.fault(line, said("too many words"));
+    else if (!fitsHead(kind, place, last)) this.fault(line, kind.form);
+    else if (kind.size === "-" && !fitsWords(kind, wordsOf(words))) this.fault(line, kind.other);
+    else if (name === "colour" && last !== undefined) this.readRange(Number(place), Number(last), words, line, kind);
+    else READERS[name](this, { name, kind, place: (place || "").toLowerCase(), words, line });
   }
 
   /**
@@ -96,9 +101,7 @@ export class Face {
    * @param {number} line
    */
   readTitle(text, line) {
-    const title = wordsOf(text).join(" ");
-    if (title === "") this.fault(line, FORMS.title);
-    else if (this.isFirst("title", line, "the board has its title")) this.title = title;
+    if (this.isFirst("title", line, "second title")) this.title = wordsOf(text).join(" ");
   }
 
   /**
@@ -107,14 +110,10 @@ export class Face {
    * @param {number} line
    */
   readRow(row, text, line) {
-    if (!this.isFirst(`row ${row}`, line, `row ${row} has its names`)) return;
+    if (!this.isFirst(`row ${row}`, line, "second row", row)) return;
     wordsOf(text).forEach((name, column) => {
       if (name === "_") this.keys.set(`${row} ${column}`, { text: "", line });
-      else if (this.lines.has(`key ${name}`)) this.fault(line, `the key ${name} is named in line ${this.lines.get(`key ${name}`)}, too`);
-      else {
-        this.lines.set(`key ${name}`, line);
-        this.keys.set(`${row} ${column}`, { text: name, line });
-      }
+      else if (this.isFirst(`key ${name}`, line, "second key", name)) this.keys.set(`${row} ${column}`, { text: name, line });
     });
   }
 
@@ -128,9 +127,9 @@ export class Face {
       if (name === "_") return;
       const before = this.lines.get(`lamp ${name}`);
       const other = this.lamps.get(first + at);
-      if (before !== undefined) this.fault(line, `the lamp ${name} is named in line ${before}, too`);
-      else if (/^[*.?-]+$/.test(name)) this.fault(line, `${name} is a pattern of lamps, and no name`);
-      else if (other) this.fault(line, `lamp ${first + at} is named ${other.text} before`);
+      if (before !== undefined) this.fault(line, said("second name", name, before));
+      else if (/^[*.?-]+$/.test(name)) this.fault(line, said("a pattern", name));
+      else if (other) this.fault(line, said("named before", first + at, other.text));
       else {
         this.lines.set(`lamp ${name}`, line);
         this.lamps.set(first + at, { text: name, line });
@@ -145,9 +144,7 @@ export class Face {
    * @param {number} line
    */
   readColours(first, text, line) {
-    const words = wordsOf(text.toLowerCase());
-    if (words.length === 0) this.fault(line, FORMS.colour);
-    this.colour(first, words, line);
+    this.colour(first, wordsOf(text.toLowerCase()), line);
   }
 
   /**
@@ -156,11 +153,12 @@ export class Face {
    * @param {number} last
    * @param {string} text
    * @param {number} line
+   * @param {Kind} kind
    */
-  readRange(first, last, text, line) {
+  readRange(first, last, text, line, kind) {
     const words = wordsOf(text.toLowerCase());
-    if (words.length !== 1 || last < first) this.fault(line, FORMS.colour);
-    else this.colour(first, COLOURS.includes(words[0]) ? repeated(words[0], last - first + 1) : words, line);
+    if (words.length !== 1 || last < first) this.fault(line, kind.form);
+    else this.colour(first, COLOURS.has(words[0]) ? repeated(words[0], last - first + 1) : words, line);
   }
 
   /**
@@ -174,10 +172,9 @@ export class Face {
       lamp += 1;
       const before = this.colours.get(lamp);
       if (word === "_") continue;
-      if (!COLOURS.includes(word)) {
-        this.fault(line, `${word} is no colour; there are red, amber, yellow, green, blue and white`);
-      } else if (before) {
-        this.fault(line, `lamp ${lamp} has its colour in line ${before.line}`);
+      if (!COLOURS.has(word)) this.fault(line, said("no colour", word));
+      else if (before) {
+        this.fault(line, said("coloured before", lamp, before.line));
         return;
       } else this.colours.set(lamp, { text: word, line });
     }
@@ -189,8 +186,8 @@ export class Face {
    * @param {number} line
    */
   readGrid(row, text, line) {
-    if (row >= MOST_ROWS) this.fault(line, "a grid has rows 0 to 63");
-    else if (this.isFirst(`grid ${row}`, line, `row ${row} of the grid stands`)) {
+    if (row >= limit("rows")) this.fault(line, said("no such row"));
+    else if (this.isFirst(`grid ${row}`, line, "second row of grid", row)) {
       wordsOf(text).forEach((word, column) => {
         if (word !== "_") this.gridWords.push({ row, column, word, line });
       });
@@ -205,20 +202,17 @@ export class Face {
     const named = this.lampNumbers.get(word);
     if (named !== undefined) this.grid.push({ row, column, lamp: named, line });
     else if (isNumber(word)) this.grid.push({ row, column, lamp: Number(word), line });
-    else this.fault(line, `no lamp has the name ${word}`);
+    else this.fault(line, said("no such lamp", word));
   }
 
   /**
    * A display, a die, a bar or a matrix.
-   * @param {string} kind
-   * @param {number} first
-   * @param {string} text
-   * @param {number} line
+   * @param {Line} line
    */
-  readGroup(kind, first, text, line) {
-    const size = sizeOf(kind, wordsOf(text));
-    if (size) this.groups.push({ kind, first, ...size, line });
-    else this.fault(line, kind === "display" ? NO_DISPLAY : FORMS[kind]);
+  readGroup({ name, kind, place, words, line }) {
+    const size = sizeOf(kind, wordsOf(words));
+    if (size) this.groups.push({ kind: name, first: Number(place), ...size, line });
+    else this.fault(line, kind.other);
   }
 
   /**
@@ -226,11 +220,8 @@ export class Face {
    * @param {number} line
    */
   readTest(text, line) {
-    const found = /^(button|switch) (\S+)(?: to ([01]))?$/.exec(wordsOf(text).join(" "));
-    if (!found) this.fault(line, NO_TEST);
-    else if (this.isFirst("test", line, "what is at TEST stands")) {
-      this.test = { kind: found[1], name: found[2], level: Number(found[3] || 0), line };
-    }
+    const [kind, name, , level] = wordsOf(text);
+    if (this.isFirst("test", line, "second test")) this.test = { kind, name, level: Number(level || 0), line };
   }
 
   /**
@@ -239,9 +230,7 @@ export class Face {
    * @param {number} line
    */
   readPort(place, text, line) {
-    const name = wordsOf(text).join(" ");
-    if (name === "") this.fault(line, FORMS.port);
-    else if (this.isFirst(place, line, `${place} has its name`)) this.ports.set(place, { text: name, line });
+    if (this.isFirst(place, line, "second port", place)) this.ports.set(place, { text: wordsOf(text).join(" "), line });
   }
 }
 
@@ -253,19 +242,22 @@ function* repeated(word, count) {
   for (let at = 0; at < count; at++) yield word;
 }
 
+/** @type {(face: Face, line: Line) => void} */
+const readGroup = (face, line) => face.readGroup(line);
+
 /**
- * The kinds whose head has a number.
- * @type {Record<string, (face: Face, number: number, text: string, line: number) => void>}
+ * Who reads a line, by the word that begins it.
+ * @type {Record<string, (face: Face, line: Line) => void>}
  */
-const NUMBERED = {
-  row: (face, row, text, line) => face.readRow(row, text, line),
-  lamp: (face, first, text, line) => face.readLamps(first, text, line),
-  colour: (face, first, text, line) => face.readColours(first, text, line),
-  grid: (face, row, text, line) => face.readGrid(row, text, line),
-  display: (face, first, text, line) => face.readGroup("display", first, text, line),
-  die: (face, first, text, line) => face.readGroup("die", first, text, line),
-  bar: (face, first, text, line) => face.readGroup("bar", first, text, line),
-  matrix: (face, first, text, line) => face.readGroup("matrix", first, text, line),
+const READERS = {
+  title: (face, { words, line }) => face.readTitle(words, line),
+  row: (face, { place, words, line }) => face.readRow(Number(place), words, line),
+  lamp: (face, { place, words, line }) => face.readLamps(Number(place), words, line),
+  colour: (face, { place, words, line }) => face.readColours(Number(place), words, line),
+  grid: (face, { place, words, line }) => face.readGrid(Number(place), words, line),
+  display: readGroup, die: readGroup, bar: readGroup, matrix: readGroup,
+  test: (face, { words, line }) => face.readTest(words, line),
+  port: (face, { place, words, line }) => face.readPort(place, words, line),
 };
 
 /**

@@ -1,6 +1,7 @@
 // A face beside the board that it is told of: what the board has not, and which lamps stand where.
 
 import { sorted } from "./face.js";
+import { KINDS, said } from "./face_words.js";
 import { upTo } from "../bench/numbers.js";
 
 /**
@@ -36,30 +37,30 @@ export function endOf({ first, rows, columns }) {
 export function missingOf(face, board) {
   /** @type {Fault[]} */
   const faults = [];
-  const has = `, and the board has ${board.lamps.length}`;
+  const count = board.lamps.length;
+  /** @type {(kind: string, line: number, words: string, ...about: (string | number)[]) => void} */
+  const add = (kind, line, words, ...about) => {
+    faults.push({ line, words: said(words, ...about), isRefused: isRefused(kind) });
+  };
   for (const [place, { text, line }] of face.keys) {
     const [row, column] = place.split(" ").map(Number);
     if (text === "" || (row < board.rows && column < board.columns)) continue;
-    const keys = board.rows ? `${board.rows} rows and ${board.columns} columns` : "no keys";
-    faults.push({ line, words: `the key ${text} is in row ${row}, column ${column}, and the board has ${keys}` });
+    add("row", line, board.rows ? "key not there" : "no keys", text, row, column, board.rows, board.columns);
   }
-  for (const [lamp, { text, line }] of face.lamps) {
-    if (lamp >= board.lamps.length) faults.push({ line, words: `the lamp ${text} is number ${lamp}${has}` });
-  }
-  for (const [line, lamp] of lastColours(face)) {
-    if (lamp >= board.lamps.length) faults.push({ line, words: `a colour for lamp ${lamp}${has}` });
-  }
-  for (const { lamp, line } of face.grid) {
-    if (lamp >= board.lamps.length) faults.push({ line, words: `a place for lamp ${lamp}${has}` });
-  }
+  for (const [lamp, { text, line }] of face.lamps) if (lamp >= count) add("lamp", line, "lamp not there", text, lamp, count);
+  for (const [line, lamp] of lastColours(face)) if (lamp >= count) add("colour", line, "no lamp for colour", lamp, count);
+  for (const { lamp, line } of face.grid) if (lamp >= count) add("grid", line, "no lamp for place", lamp, count);
   for (const group of face.groups) {
-    const words = `the ${group.kind} needs lamps up to number ${endOf(group) - 1}${has}`;
-    if (endOf(group) > board.lamps.length) faults.push({ line: group.line, words });
+    if (endOf(group) > count) add(group.kind, group.line, "no lamps for group", group.kind, endOf(group) - 1, count);
   }
-  for (const [place, { line }] of face.ports) {
-    if (!hasPlace(board, place)) faults.push({ line, words: `the board has no ${place}` });
-  }
+  for (const [place, { line }] of face.ports) if (!hasPlace(board, place)) add("port", line, "port not there", place);
   return sorted(faults);
+}
+
+/** @param {string} kind the word that begins a line */
+function isRefused(kind) {
+  const found = KINDS.get(kind);
+  return found !== undefined && found.isRefused;
 }
 
 /**

@@ -1,57 +1,105 @@
-// How the lines of a face are written: their heads, the words after them, and what a line that is none is told.
+// The words of a face, by the table tools/lib/face.txt, which says what its columns are: heads of lines, the words after them, and what a
+// line that is none is told.
 
-export const COLOURS = ["red", "amber", "yellow", "green", "blue", "white"];
-export const MOST_ROWS = 64;
-/** So many words all lists of names, colours and places have together: several times what a board has use for. */
-export const MOST_WORDS = 1000;
-export const LISTS = new Set(["row", "lamp", "colour", "grid"]);
-export const TOO_MANY = "a face has at most 1,000 names, colours and places; from this line on it is not read";
-const HEAD = /^[ \t]*#[ \t]*([A-Za-z]+)(?:[ \t]+([^ \t:]+)(?:[ \t]+to[ \t]+([^ \t:]+))?)?[ \t]*:(.*)$/i;
-const PLACE = /^(rom([0-9]|1[0-5])|ram[0-7]\.[0-3]|chain[0-3])$/i;
+import table from "#face-table";
 
 /**
- * How each line is written.
- * @type {Record<string, string>}
+ * A word that begins a line: what follows it (`N`, `N to N`, `place`, or `-`), whether its words count towards the limit, whether names
+ * or displays hang on it, what the numbers of its words are, which words it has, and what is said of others.
+ * @typedef {{ head: string, counts: boolean, isRefused: boolean, size: string, words: RegExp | null, form: string, other: string }} Kind
  */
-export const FORMS = {
-  title: "it is written as `# title: Desk calculator`",
-  row: "it is written as `# row 0: 7 8 9`",
-  lamp: "it is written as `# lamp 0: red amber green`",
-  colour: "it is written as `# colour 0: red amber green` or `# colour 0 to 9: green`",
-  grid: "it is written as `# grid 0: red _ walk`",
-  display: "it is written as `# display 3: 8 digits`",
-  die: "it is written as `# die 0: 7 lamps`",
-  bar: "it is written as `# bar 0: 10 lamps`",
-  matrix: "it is written as `# matrix 0: 8 rows of 8`",
-  test: "it is written as `# test: button WALK`",
-  port: "it is written as `# port rom0: keys`",
-};
-const KINDS = new Set(Object.keys(FORMS));
-export const NO_DISPLAY = "no display: it is written as `# display 3: 8 digits`, and then `with points` or `of 7 segments`";
-export const NO_TEST = `${FORMS.test} or \`# test: switch RUN\`, and then \`to 1\` where TEST is 1 while it is pressed`;
+
+const rows = table.split("\n").filter((line) => line !== "" && !line.startsWith("#")).map((line) => line.split("\t"));
+
+/**
+ * The rows that begin with a word, without it.
+ * @param {string} word
+ */
+const rowsOf = (word) => rows.filter((row) => row[0] === word).map((row) => row.slice(1));
+
+/**
+ * @param {string[]} columns
+ * @returns {[string, Kind]}
+ */
+function kindOf([word, head, counts, weight, size, words, form, other]) {
+  return [word, {
+    head, counts: counts === "list", isRefused: weight === "refused", size, words: words === "-" ? null : new RegExp(words), form,
+    other: other === "-" ? form : other,
+  }];
+}
+
+/** @type {Map<string, Kind>} the kinds of lines, by the words that begin them */
+export const KINDS = new Map(rowsOf("kind").map(kindOf));
+export const COLOURS = new Set(rowsOf("colour").map(([word]) => word));
+/** @type {Map<string, string>} what segments a to g show */
+export const SEGMENTS = new Map(rowsOf("digit").map(([marks, sign]) => [marks, sign === "_" ? " " : sign]));
+const LIMITS = new Map(rowsOf("limit").map(([name, number]) => [name, Number(number)]));
+const HEADS = new Map(rowsOf("head").map(([name, expression]) => [name, new RegExp(expression)]));
+/** Words that mean another one. */
+const OTHERS = new Map(rowsOf("other").map(([word, meant]) => [word, meant]));
+const SAID = new Map(rowsOf("say").map(([name, words]) => [name, words]));
+const LINE = /^[ \t]*#[ \t]*([A-Za-z]+)(?:[ \t]+([^ \t:]+)(?:[ \t]+to[ \t]+([^ \t:]+))?)?[ \t]*:(.*)$/i;
+
+/** @param {string} name of a limit */
+export const limit = (name) => LIMITS.get(name) || 0;
+
+/**
+ * What is said of a fault.
+ * @param {string} name
+ * @param {...(string | number)} about
+ */
+export function said(name, ...about) {
+  return about.reduce((/** @type {string} */ words, each, at) => words.replace(`{${at + 1}}`, () => String(each)), SAID.get(name) || name);
+}
 
 /** @param {string} text */
 export const wordsOf = (text) => text.split(/[ \t]+/).filter(Boolean);
 
 /** @param {string | undefined} word */
-export const isNumber = (word) => word !== undefined && /^[0-9]{1,4}$/.test(word);
+export const isNumber = (word) => isHead("N", word);
+
+/**
+ * @param {string} name of what a head can have
+ * @param {string | undefined} word
+ */
+function isHead(name, word) {
+  const expression = HEADS.get(name);
+  return expression !== undefined && word !== undefined && expression.test(word.toLowerCase());
+}
+
+/**
+ * Whether this can stand between the word of a line and its colon.
+ * @param {Kind} kind
+ * @param {string | undefined} place
+ * @param {string | undefined} last after `to`
+ */
+export function fitsHead({ head }, place, last) {
+  if (head === "-") return place === undefined;
+  if (head === "N to N") return isNumber(place) && (last === undefined || isNumber(last));
+  return isHead(head, place) && last === undefined;
+}
+
+/**
+ * Whether a line of this kind has such words.
+ * @param {Kind} kind
+ * @param {string[]} words
+ */
+export function fitsWords({ words: expression }, words) {
+  return expression === null || expression.test(words.join(" "));
+}
 
 /**
  * The rows and columns that the words of a group tell; null where they tell none.
- * @param {string} kind
+ * @param {Kind} kind
  * @param {string[]} words
  */
 export function sizeOf(kind, words) {
-  const text = words.join(" ");
-  const matrix = /^([0-9]{1,4}) rows? of ([0-9]{1,4})$/.exec(text);
-  const row = /^([0-9]{1,4}) lamps?$/.exec(text);
-  const digits = /^([0-9]{1,4}) digits?( of 7 segments?)?( with points)?$/.exec(text);
-  let size = null;
-  if (kind === "matrix" && matrix) size = { rows: Number(matrix[1]), columns: Number(matrix[2]) };
-  if (kind === "bar" && row) size = { rows: 1, columns: Number(row[1]) };
-  if (kind === "die" && row && Number(row[1]) === 7) size = { rows: 1, columns: 7 };
-  if (kind === "display" && digits) size = { rows: Number(digits[1]), columns: (digits[2] ? 7 : 4) + (digits[3] ? 1 : 0) };
-  return size && size.rows * size.columns > 0 ? size : null;
+  if (!fitsWords(kind, words)) return null;
+  const [first, second] = words.filter(isNumber).map(Number);
+  const size = { rows: 1, columns: first };
+  if (kind.size === "rows") Object.assign(size, { rows: first, columns: second });
+  if (kind.size === "digits") Object.assign(size, { rows: first, columns: (second || 4) + (words.includes("points") ? 1 : 0) });
+  return size.rows * size.columns > 0 ? size : null;
 }
 
 /**
@@ -59,12 +107,11 @@ export function sizeOf(kind, words) {
  * @param {string} text
  */
 export function headOf(text) {
-  const found = HEAD.exec(text);
+  const found = LINE.exec(text);
   if (!found) return null;
-  const kind = found[1].toLowerCase().replace(/s$/, "").replace(/^color$/, "colour");
+  const word = found[1].toLowerCase().replace(/s$/, "");
+  const name = OTHERS.get(word) || word;
+  const kind = KINDS.get(name);
   const [, , place, last, words] = found;
-  return KINDS.has(kind) ? { kind, place, last, words } : null;
+  return kind ? { name, kind, place, last, words } : null;
 }
-
-/** @param {string | undefined} word */
-export const isPlace = (word) => word !== undefined && PLACE.test(word);

@@ -4,7 +4,6 @@ import { readBoard, refusalOf } from "../bench/answers.js";
 import { matchAnswers, readInputs } from "../bench/inputs.js";
 import { Face } from "../board/face.js";
 import { missingOf } from "../board/face_board.js";
-import { headOf } from "../board/face_words.js";
 import { SourceMap } from "../machine/source_map.js";
 import { faultsOfLines, sentText } from "../text/text_fault.js";
 import { romCodes } from "../worker/rom_codes.js";
@@ -20,21 +19,14 @@ import { romCodes } from "../worker/rom_codes.js";
  *   stands in ROM
  */
 
-/** What no name or display of a test can be found by. */
-const NAMING = new Set(["row", "lamp", "display"]);
-
 /**
  * What cannot be right with the names of keys and lamps, and with the displays.
- * @param {string} text
  * @param {Face} face
  * @param {import("../bench/answers.js").Board} board
  * @returns {TextFault[]}
  */
-function faultsOfNames(text, face, board) {
-  const lines = text.split("\n");
-  /** @type {(fault: { line: number }) => boolean} */
-  const names = ({ line }) => NAMING.has((headOf(lines[line - 1].replace(/\r$/, "")) || { kind: "" }).kind);
-  const found = [...face.faults, ...missingOf(face, board)].filter(names);
+function faultsOfNames(face, board) {
+  const found = [...face.faults, ...missingOf(face, board)].filter(({ isRefused }) => isRefused);
   return found.map(({ line, words }) => ({ text: "board", line, number: 0, words }));
 }
 
@@ -74,6 +66,6 @@ export function prepare(engine, { boardText, programText }) {
   const questions = `board\nmap\n${program}.\n`;
   const [board, map] = matchAnswers(readInputs(questions), engine.ask(file, questions).answers);
   const names = { face: new Face(boardText), board: readBoard(board), map: new SourceMap(map, program) };
-  const faults = faultsOfNames(boardText, names.face, names.board);
+  const faults = faultsOfNames(names.face, names.board);
   return { prepared: faults.length > 0 ? null : { file, names, codes: romCodes(engine, file) }, faults };
 }
