@@ -1,12 +1,12 @@
 // How the page is laid out: tabs and panels, as a user likes them, and how much room what stands above them leaves.
 
-import { Choices } from "./choices.js";
-import { block } from "./dom.js";
-import { NARROW, makeFolds } from "./folds.js";
-import { Menu } from "./menu.js";
+import { Choices } from "./ui/choices.js";
+import { block } from "./ui/dom.js";
+import { NARROW, makeFolds } from "./ui/folds.js";
+import { Menu } from "./ui/menu.js";
 import { PrintView } from "./print_view.js";
-import { Splitter } from "./splitter.js";
-import { Tabs } from "./tabs.js";
+import { Splitter } from "./ui/splitter.js";
+import { Tabs } from "./ui/tabs.js";
 
 /** @typedef {import("./print_view.js").Printed} Printed */
 

@@ -2,15 +2,15 @@
 
 import { Bench } from "./bench/bench.js";
 import { startWorker } from "./bench/early_replies.js";
-import { block, button, byId, element, field, isDialogOpen, onClick } from "./dom.js";
+import { block, button, byId, element, field, isDialogOpen, onClick } from "./ui/dom.js";
 import { Guide } from "./help/guide.js";
 import { Locks } from "./session/locks.js";
-import { Notice } from "./notice.js";
+import { Notice } from "./ui/notice.js";
 import { Page } from "./page.js";
 import { SPEEDS, speedOf } from "./time/speeds.js";
 import { Stepping } from "./time/stepping.js";
 import { inTime, MemoryStore, Store } from "./session/store.js";
-import { Words } from "./words.js";
+import { Words } from "./bench/words.js";
 
 /**
  * @typedef {import("./worker/examples.js").Example} Example
@@ -71,7 +71,7 @@ function listenToButtons(page) {
   onClick(button("run"), runOrStop);
   onClick(button("step"), () => running.step());
   onClick(button("reset"), () => serving.act("reset\n"));
-  onClick(button("test"), () => serving.act(`test ${page.machine.test.isOn ? 0 : 1}\n`));
+  onClick(button("test"), () => serving.act(`test ${page.lookView.test.isOn ? 0 : 1}\n`));
   onClick(button("from-rom"), () => page.texts.takeFromRom());
   onClick(button("share-button"), () => page.sharing.share().catch((fault) => recovery.failed(fault)));
   listenToChoices(page);

@@ -1,19 +1,19 @@
 // The page: its parts, and what they show of a session. All that is shown comes from answers of the bench.
 
-import { AskView } from "./ask_view.js";
+import { AskView } from "./ui/ask_view.js";
 import { Face } from "./board/face.js";
 import { exploreOf } from "./explore/explore_of_page.js";
 import { lampNames } from "./board/face_board.js";
 import { cellWords } from "./help/manual.js";
 import { BreakpointsOfPage } from "./machine/breakpoints_of_page.js";
 import { Layout } from "./layout.js";
-import { LogView } from "./log_view.js";
+import { LogView } from "./lines/log_view.js";
 import { usualOf } from "./machine/usual_of_page.js";
 import { Recovery } from "./recovery.js";
-import { Serving } from "./serving.js";
+import { Serving } from "./lines/serving.js";
 import { CurrentSession } from "./session/current_session.js";
 import {
-  boardViewOf, editorsOf, exportOf, historyOf, pressingOf, romFilesOf, sessionsControllerOf, sharingOf, sourceOf, textsOf, travelOf,
+  lookViewOf, editorsOf, exportOf, historyOf, pressingOf, romFilesOf, sessionsControllerOf, sharingOf, sourceOf, textsOf, travelOf,
   valuesOf, watchedOf,
 } from "./ties.js";
 import { CyclesView } from "./time/cycles_view.js";
@@ -21,18 +21,18 @@ import { testsOf } from "./testing/tests_of_page.js";
 import { TextLooks } from "./text/text_looks.js";
 import { Running } from "./time/running.js";
 import { scopeOf } from "./waves/scope_of_page.js";
-import { WorkView } from "./work_view.js";
+import { WorkView } from "./ui/work_view.js";
 
 /**
  * @typedef {import("./bench/bench.js").Bench} Bench
  * @typedef {import("./worker/examples.js").Example} Example
  * @typedef {import("./session/locks.js").Locks} Locks
  * @typedef {import("./help/manual.js").ManualSection} ManualSection
- * @typedef {import("./notice.js").Notice} Notice
+ * @typedef {import("./ui/notice.js").Notice} Notice
  * @typedef {import("./bench/protocol.js").Shown} Shown
  * @typedef {import("./session/store.js").SessionRecord} SessionRecord
  * @typedef {import("./session/store.js").SessionStore} SessionStore
- * @typedef {import("./words.js").Words} Words
+ * @typedef {import("./bench/words.js").Words} Words
  * @typedef {{ bench: Bench, makeBench: () => Bench, store: SessionStore, locks: Locks, words: Words, notice: Notice, examples: Example[],
  *   manual: ManualSection[] }} Parts `makeBench` makes another bench, in a worker of its own
  */
@@ -53,7 +53,7 @@ export class Page {
     this.running = new Running(this);
     this.serving = new Serving(this);
     this.pressing = pressingOf(this);
-    this.machine = boardViewOf(this);
+    this.lookView = lookViewOf(this);
     this.log = new LogView(words);
     this.layout = new Layout(() => this.printed());
     this.work = new WorkView();
@@ -143,11 +143,11 @@ export class Page {
     session.record.cycles = this.cycles.cycles.kept;
     this.history.showFuture(future);
     if (board) {
-      this.machine.draw(board, this.boardEditor.text);
-      this.history.draw(this.machine.board, lampNames(new Face(this.boardEditor.text), this.machine.board.lamps.length));
+      this.lookView.draw(board, this.boardEditor.text);
+      this.history.draw(this.lookView.board, lampNames(new Face(this.boardEditor.text), this.lookView.board.lamps.length));
       this.editors.look(board.length === 1);
     }
-    this.machine.show(look, isPassing);
+    this.lookView.show(look, isPassing);
     this.values.looked(total);
     this.scope.take(waves);
   }

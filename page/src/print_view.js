@@ -1,6 +1,6 @@
 // What is printed: the lamps as they are, and both texts whole, however much of them an editor shows.
 
-import { block, element } from "./dom.js";
+import { block, element } from "./ui/dom.js";
 
 /** @typedef {{ name: string, board: string, program: string }} Printed */
 

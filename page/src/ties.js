@@ -1,11 +1,11 @@
 // What the page's parts call of one another: each part gets calls, and knows no page.
 
 import { keyOfKeyboard } from "./board/board_keys.js";
-import { BoardView } from "./board/board_view.js";
+import { LookView } from "./look_view.js";
 import { Pressing, wantsKey } from "./board/pressing.js";
 import { Cancelled, WorkerDied } from "./bench/faults.js";
 import { wordsOfLastChange } from "./debug/stop_words.js";
-import { block, byId, isDialogOpen } from "./dom.js";
+import { block, byId, isDialogOpen } from "./ui/dom.js";
 import { wordsOfCell } from "./help/manual.js";
 import { LastChangeView } from "./machine/last_change_view.js";
 import { listenToCaret, listenToHere } from "./machine/run_to.js";
@@ -32,11 +32,11 @@ import { lineOfChange } from "./worker/key_queue.js";
 
 /**
  * @param {Page} page
- * @returns {BoardView}
+ * @returns {LookView}
  */
-export function boardViewOf(page) {
+export function lookViewOf(page) {
   const { running } = page;
-  return new BoardView({
+  return new LookView({
     listen: (node, key) => page.pressing.listen(node, key),
     isRunning: () => running.clock.isRunning,
     isFast: () => running.isFast,
@@ -60,7 +60,7 @@ export function pressingOf(page) {
   const { running } = page;
   return new Pressing({
     isRunning: () => running.clock.movesKeys,
-    isDown: (place) => page.machine.front.isDown(place),
+    isDown: (place) => page.lookView.front.isDown(place),
     press: (place) => running.queue("press", place),
     release: (place) => running.queue("release", place),
     change: (word, place) => {
@@ -69,7 +69,7 @@ export function pressingOf(page) {
     },
     meant: (event) => {
       if (event.ctrlKey || event.metaKey || event.altKey || !page.types || isDialogOpen()) return undefined;
-      return wantsKey(event.target, event.key) ? undefined : keyOfKeyboard(page.machine.front.keys, event.key);
+      return wantsKey(event.target, event.key) ? undefined : keyOfKeyboard(page.lookView.front.keys, event.key);
     },
   });
 }
@@ -92,7 +92,7 @@ export function travelOf(page) {
 
 /** @param {Page} page */
 export function historyOf(page) {
-  const { travel, machine, source, programEditor, running } = page;
+  const { travel, lookView, source, programEditor, running } = page;
   /** @type {(address: number) => void} */
   const runTo = (address) => {
     travel.goOn({ kind: "here", address });
@@ -102,7 +102,7 @@ export function historyOf(page) {
     const { map } = source;
     return map ? map.addressOf(programEditor.editor.editor.getCursor().line + 1) : undefined;
   };
-  listenToHere(machine.listing.block, (node) => machine.listing.rows.addressAt(node), runTo);
+  listenToHere(lookView.listing.block, (node) => lookView.listing.rows.addressAt(node), runTo);
   listenToCaret(block("program-editor"), addressOfCaret, runTo, (words) => running.tell(words));
   tellLastChanges(page);
   return new HistoryView({
@@ -114,10 +114,10 @@ export function historyOf(page) {
 }
 
 /** @param {Page} page */
-function tellLastChanges({ bench, machine, source, running, recovery }) {
+function tellLastChanges({ bench, lookView, source, running, recovery }) {
   return new LastChangeView([block("processor"), block("watched"), block("memory")], {
     isRunning: () => running.clock.isRunning,
-    pokedAt: (cell) => machine.editor.poked.get(cell),
+    pokedAt: (cell) => lookView.editor.poked.get(cell),
     wordsOf: async ({ place, name }, signal) => {
       try {
         return wordsOfLastChange(name, await bench.call("lastChange", [place], { signal }), source.map);
@@ -144,12 +144,12 @@ export function editorsOf(page, manual) {
     act: (lines) => page.serving.act(lines),
     stop: async () => (running.clock.isRunning ? running.stop() : undefined),
     run: () => running.run(),
-    counter: () => page.machine.counter,
+    counter: () => page.lookView.counter,
     toggleBreakpoint: (line) => page.breakpoints.toggleLine(line).catch((fault) => page.recovery.failed(fault)),
     editBreakpoint: (line) => page.breakpoints.editLine(line).catch((fault) => page.recovery.failed(fault)),
     meaningOf: (name) => page.source.meaningOf(name),
     valuesAt: (text, at) => page.values.at(text, at),
-    offer: (cell, { place, name }) => page.machine.editor.offer(cell, { place, name, digits: 1 }),
+    offer: (cell, { place, name }) => page.lookView.editor.offer(cell, { place, name, digits: 1 }),
     replaceBoard: (text, words) => page.texts.replace("board", text, words),
     hasFaults: (name, count) => page.layout.tabs.mark(name, count > 0 ? `${count} fault${count > 1 ? "s" : ""}` : ""),
     failed: (fault) => page.recovery.failed(fault),
@@ -165,7 +165,7 @@ export function sourceOf(page) {
     text: () => page.programEditor.sent,
     check: (text) => page.bench.call("checkProgram", [text]),
     changed: (map, words) => {
-      page.machine.nameLines(map, words);
+      page.lookView.nameLines(map, words);
       page.breakpoints.keeper.takeMap(map, words);
     },
     wordsOfRefusal: (number) => page.words.ofRefusal(number),
@@ -179,9 +179,9 @@ export function sourceOf(page) {
  * @returns {ValuesOfPage}
  */
 export function valuesOf(page) {
-  const { machine, running, source, editors } = page;
+  const { lookView, running, source, editors } = page;
   return new ValuesOfPage({
-    look: () => machine.reader.look,
+    look: () => lookView.reader.look,
     isRunning: () => running.clock.isRunning,
     nameOf: (word) => {
       const name = source.map && source.map.names.get(word);
@@ -200,9 +200,9 @@ export function valuesOf(page) {
  * @returns {WatchedView}
  */
 export function watchedOf(page) {
-  const { current, machine } = page;
+  const { current, lookView } = page;
   return new WatchedView({
-    offer: (cell, { place, name }) => machine.editor.offer(cell, { place, name, digits: 1 }),
+    offer: (cell, { place, name }) => lookView.editor.offer(cell, { place, name, digits: 1 }),
     standing: () => page.values.standing,
     keep: (texts) => {
       if (!current.session) return;
@@ -223,7 +223,7 @@ export function textsOf(page) {
     touch: () => current.touch(),
     keep: () => current.keep(),
     named: (boardText) => {
-      page.machine.readFace(boardText);
+      page.lookView.readFace(boardText);
       current.takeTitle(titleOf(boardText, page.programEditor.text));
       page.checkSource();
     },

@@ -2,7 +2,7 @@
 
 import assert from "node:assert/strict";
 import test from "node:test";
-import { Choices } from "../src/choices.js";
+import { Choices } from "../src/ui/choices.js";
 
 /** A store as the browser's own, in memory. */
 function fakeStore(text = null) {

@@ -4,7 +4,7 @@ import { findBoardFault } from "../src/bench/board_fault.js";
 import { BenchRefusal, BenchTrap, Cancelled, WorkerDied, packFault, unpackFault } from "../src/bench/faults.js";
 import { hex, numberOf, upTo } from "../src/bench/numbers.js";
 import { Ran, wordsOfRan } from "../src/bench/ran.js";
-import { Words } from "../src/words.js";
+import { Words } from "../src/bench/words.js";
 
 test("numbers", () => {
   assert.deepEqual(["12", "0x1E", "0XFF", "1E", "", "-1", "1.5"].map(numberOf), [12, 30, 255, NaN, NaN, NaN, NaN]);

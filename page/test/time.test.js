@@ -2,7 +2,7 @@ import assert from "node:assert/strict";
 import { test } from "node:test";
 import { Rate } from "../src/time/rate.js";
 import { MOST_AHEAD, MOST_DUE, REAL_CYCLES, RealTime } from "../src/time/real_time.js";
-import { wordsOfTime } from "../src/words.js";
+import { wordsOfTime } from "../src/bench/words.js";
 
 test("a second of frames is 92,593 cycles, whatever their length", () => {
   for (const frame of [1000 / 60, 1000 / 144, 7, 100]) {

@@ -4,7 +4,7 @@ import { readFileSync } from "node:fs";
 import { createInterface } from "node:readline";
 import { Prompt } from "../../page/src/prompt/prompt.js";
 import { launch } from "../../page/src/adapter/launching.js";
-import { Words } from "../../page/src/words.js";
+import { Words } from "../../page/src/bench/words.js";
 import { Engine } from "../../page/src/worker/engine.js";
 import { host } from "./debug_host.mjs";
 import { dataOfPage, moduleOfPage } from "./page_parts.mjs";

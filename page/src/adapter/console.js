@@ -12,7 +12,7 @@ import { valueOfExpression } from "./values.js";
 /**
  * @typedef {import("./machine.js").Machine} Machine
  * @typedef {import("./values.js").Known} Known
- * @typedef {import("../words.js").Words} Words
+ * @typedef {import("../bench/words.js").Words} Words
  *
  * What came of a line: words, whether the machine is another one now, and a move that begins once they are told.
  * @typedef {{ words: string, changes: boolean, move: (() => void) | null }} Done

@@ -9,7 +9,7 @@ import { Face } from "../board/face.js";
 import { placeOfLine } from "../debug/breakpoints.js";
 import { KINDS } from "../debug/usual_faults.js";
 import { instructionsOf } from "../help/manual.js";
-import { Words } from "../words.js";
+import { Words } from "../bench/words.js";
 import { Followed } from "./adapter_connection.js";
 import { Answering } from "./answering.js";
 import { ClientBreakpoints, dataOf, referenceOf } from "./client_breakpoints.js";

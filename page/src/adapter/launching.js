@@ -14,7 +14,7 @@ import { AdapterError, fieldOf, flagOf, textOrNone } from "./protocol.js";
 /**
  * @typedef {import("../bench/answers.js").Refusal} Refusal
  * @typedef {import("../worker/engine.js").Engine} Engine
- * @typedef {import("../words.js").Words} Words
+ * @typedef {import("../bench/words.js").Words} Words
  * @typedef {import("./kept_session.js").OpenFile} OpenFile
  *
  * What the host gives: the whole name of a file, beside a folder where it is not whole; a text, null where none can be read; a program

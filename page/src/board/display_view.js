@@ -1,7 +1,7 @@
 // The displays of a board: digits of seven segments, drawn, and what they show in words.
 
 import { Announcer } from "./announcer.js";
-import { Cell, block, element } from "../dom.js";
+import { Cell, block, element } from "../ui/dom.js";
 import { DisplayText, isLit, valueAt } from "./display_text.js";
 import { endOf } from "./face_board.js";
 import { minusOf } from "./lamps_view.js";

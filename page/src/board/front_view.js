@@ -2,7 +2,7 @@
 
 import { hintOfKeys, keysOf } from "./board_keys.js";
 import { DisplayView } from "./display_view.js";
-import { block, button, element, oneStop, pressedSwitch, setStop } from "../dom.js";
+import { block, button, element, oneStop, pressedSwitch, setStop } from "../ui/dom.js";
 import { moreThan, sorted } from "./face.js";
 import { missingOf } from "./face_board.js";
 import { LampsView } from "./lamps_view.js";
@@ -11,7 +11,7 @@ import { LampsView } from "./lamps_view.js";
  * @typedef {import("../bench/answers.js").Board} Board
  * @typedef {import("./board_keys.js").BoardKey} BoardKey
  * @typedef {import("./face.js").Face} Face
- * @typedef {BoardKey & { button: HTMLButtonElement, down: import("../dom.js").Switch }} ShownKey
+ * @typedef {BoardKey & { button: HTMLButtonElement, down: import("../ui/dom.js").Switch }} ShownKey
  */
 
 const TITLE = "Lamps and keys";

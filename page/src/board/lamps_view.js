@@ -1,6 +1,6 @@
 // The lamps of a board: where its face tells a place for them, there; all others in rows, with their names or those of their lines.
 
-import { block, element } from "../dom.js";
+import { block, element } from "../ui/dom.js";
 import { isLit } from "./display_text.js";
 import { endOf } from "./face_board.js";
 import { upTo } from "../bench/numbers.js";

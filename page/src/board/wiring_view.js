@@ -1,8 +1,8 @@
 // The wiring of the board as a picture, with the levels of its lines, and the same in words.
 
-import { Switch, block, element } from "../dom.js";
+import { Switch, block, element } from "../ui/dom.js";
 import { upTo } from "../bench/numbers.js";
-import { drawn } from "../svg.js";
+import { drawn } from "../ui/svg.js";
 import { HEAD, drawBoard, isHigh, isHighAtRom } from "./wiring.js";
 
 /**

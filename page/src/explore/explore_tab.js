@@ -1,6 +1,6 @@
 // Properties on the page: their text with its faults, a button that looks for what breaks them, in a worker of its own, and what was found.
 
-import { button, field, onClick } from "../dom.js";
+import { button, field, onClick } from "../ui/dom.js";
 import { BesideText } from "../text/beside_text.js";
 import { completeProperty, firstProperties, helpForProperty, propertyForms } from "../text/property_words.js";
 import { definePropertiesMode } from "../text/test_mode.js";

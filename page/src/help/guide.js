@@ -3,7 +3,7 @@
 import { partAtLine, placesOfParts } from "../bench/board_places.js";
 import { Face } from "../board/face.js";
 import { HelpView } from "./help_view.js";
-import { LinesView } from "./lines_view.js";
+import { LinesView } from "../lines/lines_view.js";
 import { linesOfBench } from "./manual.js";
 import { isOfTour } from "./tour.js";
 import { TourView } from "./tour_view.js";
@@ -27,13 +27,13 @@ export class Guide {
       help: (wanted) => this.help.open(wanted),
     });
     this.tour = new TourView({ begin: (example) => this.beginTour(example), put: (program) => this.put(program) });
-    page.machine.watcher = this.tour;
+    page.lookView.watcher = this.tour;
     page.running.ended = (why) => this.tour.seeEnd(why);
-    page.layout.tabs.whenShown("wiring", () => page.machine.wiring.setShown(true));
-    for (const name of ["program", "board"]) page.layout.tabs.whenShown(name, () => page.machine.wiring.setShown(false));
-    page.machine.wiring.setShown(page.layout.tabs.shown === "wiring");
-    page.machine.wiring.select = (name) => this.selectPart(name);
-    page.boardEditor.editor.caret = (line) => page.machine.wiring.mark(partAtLine(this.places, line));
+    page.layout.tabs.whenShown("wiring", () => page.lookView.wiring.setShown(true));
+    for (const name of ["program", "board"]) page.layout.tabs.whenShown(name, () => page.lookView.wiring.setShown(false));
+    page.lookView.wiring.setShown(page.layout.tabs.shown === "wiring");
+    page.lookView.wiring.select = (name) => this.selectPart(name);
+    page.boardEditor.editor.caret = (line) => page.lookView.wiring.mark(partAtLine(this.places, line));
     addEventListener("keydown", (event) => this.typed(event));
   }
 

@@ -1,6 +1,6 @@
 // The help: the manual's tables, with a search.
 
-import { Cell, below, block, button, element, field, onClick } from "../dom.js";
+import { Cell, below, block, button, element, field, onClick } from "../ui/dom.js";
 import { piecesOf, searched } from "./manual.js";
 
 /**

@@ -1,6 +1,6 @@
 // The first program in five steps, beside the bench.
 
-import { Cell, block, button, element, onClick } from "../dom.js";
+import { Cell, block, button, element, onClick } from "../ui/dom.js";
 import { FIRST_PROGRAM, TOUR, TourWatch } from "./tour.js";
 
 /**

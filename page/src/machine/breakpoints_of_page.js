@@ -30,7 +30,7 @@ export class BreakpointsOfPage {
         current.touch();
         current.keep();
       },
-      tell: (words) => this.page.machine.told.show(words),
+      tell: (words) => this.page.lookView.told.show(words),
       failed: (fault) => recovery.failed(fault),
     });
   }
@@ -43,7 +43,7 @@ export class BreakpointsOfPage {
       removeAll: () => this.keeper.removeAll(),
       forgetHits: () => this.keeper.forgetHits(),
       goTo: ({ line, address }) => {
-        if (address >= 0) this.page.machine.goTo.show(address);
+        if (address >= 0) this.page.lookView.goTo.show(address);
         if (line > 0) this.page.programEditor.reveal(line);
       },
     });
@@ -65,12 +65,12 @@ export class BreakpointsOfPage {
   }
 
   show() {
-    const { current, machine, programEditor } = this.page;
+    const { current, lookView, programEditor } = this.page;
     const { list, faults } = this.keeper;
     if (current.session) current.session.record.breakpoints = list.kept;
     const { lines, addresses } = marksOf(list.all, faults);
     programEditor.showBreakpoints(lines);
-    machine.showBreakpoints(addresses);
+    lookView.showBreakpoints(addresses);
     this.view.show(this.keeper);
   }
 

@@ -3,7 +3,7 @@
 
 import { wordsOfCycles } from "../time/cycles.js";
 import { wordsOfPlace } from "../debug/stop_words.js";
-import { Cell, Switch, block, button, element, onClick } from "../dom.js";
+import { Cell, Switch, block, button, element, onClick } from "../ui/dom.js";
 import { hex } from "../bench/numbers.js";
 import { markOf } from "./breakpoint_marks.js";
 

@@ -1,7 +1,7 @@
 // Cells that can be edited in place: a double click, or Enter or F2 on a cell, opens a small field over it; Enter pokes, Escape leaves.
 
-import { element } from "../dom.js";
-import { putBelow } from "../told_at.js";
+import { element } from "../ui/dom.js";
+import { putBelow } from "../ui/told_at.js";
 
 /**
  * A cell that can be poked: the place of `poke`, how it is called, and how many digits it has.

@@ -1,6 +1,6 @@
 // Which values differ from those at the stop before. While time runs nothing is marked, so that nothing flickers.
 
-/** @typedef {import("../dom.js").Cell} Cell */
+/** @typedef {import("../ui/dom.js").Cell} Cell */
 
 export class Changes {
   constructor() {

@@ -1,6 +1,6 @@
 // The field that the listing goes to an address by, and the button that sets a breakpoint there.
 
-import { Cell, block, button, byId, element, field, onClick } from "../dom.js";
+import { Cell, block, button, byId, element, field, onClick } from "../ui/dom.js";
 import { goalOf } from "./go_to.js";
 
 /**

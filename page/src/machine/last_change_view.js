@@ -1,8 +1,8 @@
 // While time stands still, the cell at the pointer or with the focus tells when its value changed last, and by which line: the past is
 // looked through for it, as far as it is remembered.
 
-import { element } from "../dom.js";
-import { putBelow } from "../told_at.js";
+import { element } from "../ui/dom.js";
+import { putBelow } from "../ui/told_at.js";
 
 /**
  * @typedef {import("./cell_editor.js").Poked} Poked

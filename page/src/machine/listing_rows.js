@@ -1,6 +1,6 @@
 // The rows of the listing that are seen: as many buttons as have room, each for the line that it shows.
 
-import { Cell, Switch, element, onClick, pressedSwitch } from "../dom.js";
+import { Cell, Switch, element, onClick, pressedSwitch } from "../ui/dom.js";
 
 /**
  * @typedef {import("./listing_names.js").NamedLine} NamedLine

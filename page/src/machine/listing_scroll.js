@@ -1,7 +1,7 @@
 // The scrolling of the listing: a box as high as all 4,096 bytes together, in which only the rows that are seen exist. The scroll bar, the
 // wheel and a finger move it as the browser does; keys go from row to row and from page to page.
 
-import { element } from "../dom.js";
+import { element } from "../ui/dom.js";
 
 /**
  * What it calls: so many rows have room; a user has scrolled to an address; a key wants to go so many rows on, or to an end.

@@ -1,6 +1,6 @@
 // The program as the bench lists it: the stretch round the counter, or where one has gone to, with its breakpoints.
 
-import { block, field } from "../dom.js";
+import { block, field } from "../ui/dom.js";
 import { namedLine, widthOfLabels } from "./listing_names.js";
 import { ListingReader } from "./listing_reader.js";
 import { ListingRows } from "./listing_rows.js";

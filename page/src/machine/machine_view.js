@@ -1,6 +1,6 @@
 // What is in the machine: registers, ports and chains, each from its answer.
 
-import { Cell, Switch, block, element, oneStop, setStop } from "../dom.js";
+import { Cell, Switch, block, element, oneStop, setStop } from "../ui/dom.js";
 import { upTo } from "../bench/numbers.js";
 
 /**

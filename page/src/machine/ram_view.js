@@ -1,6 +1,6 @@
 // The RAM of a board, bank by bank: each character with its address, watched by a click and edited in place.
 
-import { Cell, block, element, oneStop, pressedSwitch, setStop } from "../dom.js";
+import { Cell, block, element, oneStop, pressedSwitch, setStop } from "../ui/dom.js";
 import { hex, upTo } from "../bench/numbers.js";
 
 /**
@@ -8,7 +8,7 @@ import { hex, upTo } from "../bench/numbers.js";
  * @typedef {import("../bench/answers.js").Ram} Ram
  * @typedef {import("./cell_editor.js").CellEditor} CellEditor
  * @typedef {import("./changes.js").Changes} Changes
- * @typedef {import("../dom.js").Switch} Switch
+ * @typedef {import("../ui/dom.js").Switch} Switch
  * @typedef {{ bank: number, chip: number, register: number }} Register where a register is
  * @typedef {{ characters: Cell[], status: Cell[], shown: string }} ShownRegister
  */

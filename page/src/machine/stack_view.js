@@ -1,6 +1,6 @@
 // Where the processor is: the counter and the return addresses, with their names and lines of the source while time stands still.
 
-import { Cell, Switch, block, element, onClick, oneStop, setStop } from "../dom.js";
+import { Cell, Switch, block, element, onClick, oneStop, setStop } from "../ui/dom.js";
 import { linesOf, matchAnswers, readInputs } from "../bench/inputs.js";
 import { hex } from "../bench/numbers.js";
 import { areLive, callBefore, noteOfCounter, noteOfReturn } from "./returns.js";

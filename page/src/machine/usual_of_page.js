@@ -14,7 +14,7 @@ export function usualOf(page) {
   const { choices } = page.layout;
   return new UsualView({
     placeOf: (address) => wordsOfPlace(hex(address, 3), page.source.map),
-    goTo: (address) => page.machine.goTo.show(address),
+    goTo: (address) => page.lookView.goTo.show(address),
     stopAt: (kinds) => {
       page.bench.call("stopAtFaults", [kinds]).catch((fault) => page.recovery.failed(fault));
     },

@@ -1,7 +1,7 @@
 // Faults that everyone makes once, as they happen: a row for each that was told since time began to run, with its line, and a switch that
 // stops time at the next one of its kind.
 
-import { block, element, onClick } from "../dom.js";
+import { block, element, onClick } from "../ui/dom.js";
 import { KINDS } from "../debug/usual_faults.js";
 
 /**

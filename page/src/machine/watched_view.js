@@ -1,6 +1,6 @@
 // The list of watched expressions: each with its name and what it is now, edited in place.
 
-import { block, element, field, onClick } from "../dom.js";
+import { block, element, field, onClick } from "../ui/dom.js";
 import { MOST_WATCHED, readAllWatched, readWatched } from "../debug/watched.js";
 
 /**

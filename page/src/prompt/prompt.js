@@ -9,7 +9,7 @@ import { Face } from "../board/face.js";
 import { instructionsOf } from "../help/manual.js";
 import { Console } from "../adapter/console.js";
 import { Machine } from "../adapter/machine.js";
-import { Words } from "../words.js";
+import { Words } from "../bench/words.js";
 import { BreakpointCommands } from "./breakpoint_commands.js";
 import { ChangeCommands } from "./change_commands.js";
 import { COMMANDS, commandOf } from "./command_table.js";

@@ -3,7 +3,7 @@
 
 import { instructionsOf } from "../help/manual.js";
 import { boardTables } from "../text/text_help.js";
-import { Words } from "../words.js";
+import { Words } from "../bench/words.js";
 import { BoardLanguage } from "./board_language.js";
 import { cures, diagnosticsOf, faultOfLength } from "./diagnostics.js";
 import { boardUriOf, faultsOfProject, isBoard, isProgram, isProjectFile } from "./kinds.js";

@@ -1,6 +1,6 @@
 // Gives the user a file.
 
-import { element } from "../dom.js";
+import { element } from "../ui/dom.js";
 
 /** How long the bytes of a file are held for the browser, in milliseconds. */
 const HELD_TIME = 10000;

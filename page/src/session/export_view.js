@@ -1,6 +1,6 @@
 // The dialog that puts a part of the session into a file of its own: a text, or what stands in ROM.
 
-import { button, element, onClick } from "../dom.js";
+import { button, element, onClick } from "../ui/dom.js";
 import { download } from "./download.js";
 
 /**

@@ -1,7 +1,7 @@
 // Draws the picture of an example.
 
 import { galleryPicture } from "./gallery_picture.js";
-import { drawn } from "../svg.js";
+import { drawn } from "../ui/svg.js";
 
 /** @typedef {import("./gallery_picture.js").Shape} Shape */
 

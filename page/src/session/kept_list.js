@@ -1,6 +1,6 @@
 // The list of the sessions that are kept: opened and copied one by one, deleted one by one or several at once, and brought back.
 
-import { block, button, element, field } from "../dom.js";
+import { block, button, element, field } from "../ui/dom.js";
 import { pictureOf } from "./gallery_view.js";
 
 /**

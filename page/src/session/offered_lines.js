@@ -1,8 +1,8 @@
 // The lines of an example or of a file, put where they can be sent. What a user has typed there is not lost by it.
 
-import { byId } from "../dom.js";
+import { byId } from "../ui/dom.js";
 
-/** @typedef {import("../notice.js").Notice} Notice */
+/** @typedef {import("../ui/notice.js").Notice} Notice */
 
 export class OfferedLines {
   /** @param {Notice} notice */

@@ -1,7 +1,7 @@
 // Which openings of sessions came to an end. A session may hang the page, by a text that takes too long or a fault of the page's own: it
 // must not do so at each start. So a flag is set before a session is opened, and cleared once the page has shown it and is still there.
 
-import { ownStore } from "../choices.js";
+import { ownStore } from "../ui/choices.js";
 
 /** @typedef {Pick<Storage, "getItem" | "setItem" | "removeItem">} FlagStore */
 

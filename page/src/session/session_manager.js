@@ -16,7 +16,7 @@ import { NotKept, wordsOfStoreFault } from "./store.js";
  * @typedef {import("./locks.js").Release} Release
  * @typedef {import("./store.js").SessionRecord} SessionRecord
  * @typedef {import("./store.js").SessionStore} SessionStore
- * @typedef {import("../words.js").Words} Words
+ * @typedef {import("../bench/words.js").Words} Words
  *
  * What it calls: the session that is shown; it is kept; another one is shown in its place; one was left for a new one; something was
  * refused; texts of a file come into the editors, and an image into ROM; time runs at another speed.

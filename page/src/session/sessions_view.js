@@ -1,13 +1,13 @@
 // The dialog of sessions: those that are kept, the examples, and files; and the session's own bar. What can be opened.
 
 import { pictureOf } from "./gallery_view.js";
-import { block, button, byId, element, field, onClick } from "../dom.js";
+import { block, button, byId, element, field, onClick } from "../ui/dom.js";
 import { folderOfFiles, foldersOf, readFolder } from "./folder_files.js";
 import { KeptList } from "./kept_list.js";
 
 /**
  * @typedef {import("../worker/examples.js").Example} Example
- * @typedef {import("../notice.js").Notice} Notice
+ * @typedef {import("../ui/notice.js").Notice} Notice
  * @typedef {import("./store.js").SessionRecord} SessionRecord
  *
  * What it calls. A call that opens something gives false where that was refused.

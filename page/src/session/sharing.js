@@ -3,18 +3,18 @@
 import { addressOf } from "./address.js";
 import { readBoard, refusalOf } from "../bench/answers.js";
 import { titleOf, wordsOfBoard } from "./described.js";
-import { element } from "../dom.js";
+import { element } from "../ui/dom.js";
 import { shortName } from "./names.js";
 import { wordsOfLength } from "./project_file.js";
 import { LONGEST_LINK, SAFE_LINK, linkOf, readLink } from "./share_link.js";
 import { wordsOfLines } from "./texts_controller.js";
 
 /**
- * @typedef {import("../ask_view.js").AskView} AskView
+ * @typedef {import("../ui/ask_view.js").AskView} AskView
  * @typedef {import("../bench/bench.js").Bench} Bench
- * @typedef {import("../notice.js").Notice} Notice
+ * @typedef {import("../ui/notice.js").Notice} Notice
  * @typedef {import("./share_link.js").Texts} Texts
- * @typedef {import("../words.js").Words} Words
+ * @typedef {import("../bench/words.js").Words} Words
  *
  * What it calls: the session that is shown, by its name and texts; its own address is the one of the page again; a new session is made
  * of texts and of the file that has them; a project is saved.

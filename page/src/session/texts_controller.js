@@ -1,9 +1,9 @@
 // The texts of the editors, as the session that is shown has them: they are kept, and one that is replaced can be brought back.
 
 /**
- * @typedef {import("../ask_view.js").AskView} AskView
+ * @typedef {import("../ui/ask_view.js").AskView} AskView
  * @typedef {import("./kept_session.js").KeptSession} KeptSession
- * @typedef {import("../notice.js").Notice} Notice
+ * @typedef {import("../ui/notice.js").Notice} Notice
  * @typedef {{ text: string, open: (session: string, text: string) => void, replaceText: (text: string) => void }} TextEditor
  *
  * What it calls: the session that is shown; something is done in it; it is kept; names in the board's text may be others; a source

@@ -26,7 +26,7 @@ export function testsOf(page, manual) {
       if (report && report.coverage && programText === page.programEditor.text) page.programEditor.counts.show(report.coverage.lines);
       else page.programEditor.counts.clear();
     },
-    goTo: (address) => page.machine.goTo.show(address),
+    goTo: (address) => page.lookView.goTo.show(address),
     open: (name, file, texts) => page.sessionsController.manager.useNew(async () => newRecord(name, file, texts)),
     mark: (told) => page.layout.tabs.mark("tests", told),
     edited: () => page.texts.edited(),

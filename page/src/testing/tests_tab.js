@@ -1,7 +1,7 @@
 // The tests on the page: their text with its faults, a button that runs them in the worker, and what came of it.
 
 import { Cancelled } from "../bench/faults.js";
-import { button, onClick } from "../dom.js";
+import { button, onClick } from "../ui/dom.js";
 import { BesideText } from "../text/beside_text.js";
 import { defineTestMode } from "../text/test_mode.js";
 import { completeTest, helpForTest, testForms } from "../text/test_words.js";

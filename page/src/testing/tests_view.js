@@ -1,6 +1,6 @@
 // The results of tests on the page: a row for each, with what is wrong; what was run of the program; and where its cycles went.
 
-import { Cell, below, block, element, onClick } from "../dom.js";
+import { Cell, below, block, element, onClick } from "../ui/dom.js";
 import { hex } from "../bench/numbers.js";
 import { wordsOfCounts, wordsOfTime } from "./result_words.js";
 

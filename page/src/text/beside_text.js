@@ -2,7 +2,7 @@
 // is wrong in it while one types.
 
 import { Face, moreThan } from "../board/face.js";
-import { button, onClick } from "../dom.js";
+import { button, onClick } from "../ui/dom.js";
 import { EditorView } from "./editor_view.js";
 import { LiveFaults } from "./live_faults.js";
 

@@ -1,6 +1,6 @@
 // The texts of the board and of the program: an editor each, with its faults, its search, and words about what is pointed at.
 
-import { Cell, below, block, element, onClick } from "../dom.js";
+import { Cell, below, block, element, onClick } from "../ui/dom.js";
 import { CountMarks } from "./count_marks.js";
 import { FaultView } from "./fault_view.js";
 import { LineMarks } from "./line_marks.js";

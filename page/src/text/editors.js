@@ -6,7 +6,7 @@ import { counted, programTexts, wordsOfAssembled } from "./assembling.js";
 import { defineAssemblyMode } from "./assembly_mode.js";
 import { completeBoard } from "./board_completion.js";
 import { completeProgram } from "./completion.js";
-import { block, button, onClick } from "../dom.js";
+import { block, button, onClick } from "../ui/dom.js";
 import { EditorView } from "./editor_view.js";
 import { moreThan } from "../board/face.js";
 import { LiveFaults } from "./live_faults.js";
@@ -21,7 +21,7 @@ import { TOUR_BOARD } from "../help/tour.js";
  * @typedef {import("./program_faults.js").AllFaults} AllFaults
  * @typedef {import("../debug/breakpoints.js").Edit} Edit
  * @typedef {import("./text_fault.js").Fault} Fault
- * @typedef {import("../words.js").Words} Words
+ * @typedef {import("../bench/words.js").Words} Words
  *
  * What they call: a text was edited, the program by these edits; its bytes came into ROM, where `isBegun` with a reset; lines are sent,
  * which gives the first answer, or null where they failed; time is stopped, and runs; the counter, as it is written; a breakpoint is

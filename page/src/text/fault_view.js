@@ -1,6 +1,6 @@
 // The faults of a text: each one in the margin of its line, its word underlined, and all of them in a list below the text.
 
-import { element, onClick } from "../dom.js";
+import { element, onClick } from "../ui/dom.js";
 
 /**
  * @typedef {import("codemirror").Editor} Editor

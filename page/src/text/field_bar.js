@@ -1,6 +1,6 @@
 // A bar above a text with one field: a line to go to, another name.
 
-import { Cell, element, onClick } from "../dom.js";
+import { Cell, element, onClick } from "../ui/dom.js";
 
 /**
  * What is asked: its label, what stands in the field at first, the word of the button; and what is done with what was typed, which gives

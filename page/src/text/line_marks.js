@@ -1,7 +1,7 @@
 // Marks at the lines of a text: what stands in the gutters, and the line that comes next. They go with their lines while the text is
 // edited; each call says anew what is to be shown, and changes only what is another one.
 
-import { element } from "../dom.js";
+import { element } from "../ui/dom.js";
 
 /**
  * @typedef {import("codemirror").Editor} Editor

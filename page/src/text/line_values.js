@@ -1,6 +1,6 @@
 // Words behind lines of a text, greyed: what these lines have changed. They are no part of the text, and go with their lines.
 
-import { element } from "../dom.js";
+import { element } from "../ui/dom.js";
 
 /**
  * @typedef {import("codemirror").Editor} Editor

@@ -1,8 +1,8 @@
 // What the word at the pointer or the caret is, below a text: what it stands for now, in pieces, each value a cell that can be edited; then
 // what it means. At the pointer what it stands for is told right there, too.
 
-import { element } from "../dom.js";
-import { putBelow } from "../told_at.js";
+import { element } from "../ui/dom.js";
+import { putBelow } from "../ui/told_at.js";
 import { textOf } from "../debug/value_words.js";
 
 /**

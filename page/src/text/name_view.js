@@ -1,7 +1,7 @@
 // Names in a text: to where one is defined, all places of it, another name in all of them; and a line by its number.
 
 import CodeMirror from "codemirror";
-import { element, onClick } from "../dom.js";
+import { element, onClick } from "../ui/dom.js";
 import { FieldBar } from "./field_bar.js";
 import { definitionOf, faultOfRenaming, nameAt, referencesOf } from "./references.js";
 

@@ -1,7 +1,7 @@
 // The search in a text: a bar above it, the next and the one before, and how many there are; and another word in their place.
 
 import CodeMirror from "codemirror";
-import { Cell, element, onClick } from "../dom.js";
+import { Cell, element, onClick } from "../ui/dom.js";
 
 /** @typedef {import("codemirror").Editor} Editor */
 

@@ -1,9 +1,9 @@
 // How the texts look: the size of their letters, lines that wrap, and a panel of texts that fills the page.
 
-import { block, button, field, onClick } from "../dom.js";
+import { block, button, field, onClick } from "../ui/dom.js";
 
 /**
- * @typedef {import("../choices.js").Choices} Choices
+ * @typedef {import("../ui/choices.js").Choices} Choices
  * @typedef {import("codemirror").Editor} Editor
  */
 

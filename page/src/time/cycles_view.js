@@ -1,7 +1,7 @@
 // The counter of cycles: since a reset, since the last stop, and between two marks.
 
 import { Cycles, wordsOfCycles } from "./cycles.js";
-import { Cell, block, element, onClick } from "../dom.js";
+import { Cell, block, element, onClick } from "../ui/dom.js";
 
 /** @typedef {import("./cycles.js").KeptCycles} KeptCycles */
 

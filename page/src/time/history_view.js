@@ -1,6 +1,6 @@
 // The bar of steps and of the past: back and forward, so many instructions, and on or back to a change.
 
-import { button, byId, element, field, onClick } from "../dom.js";
+import { button, byId, element, field, onClick } from "../ui/dom.js";
 import { PLACES_TOLD, placeOf } from "../bench/places.js";
 import { upTo } from "../bench/numbers.js";
 

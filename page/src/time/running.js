@@ -2,8 +2,8 @@
 
 import { isStop, readRun, refusalOf } from "../bench/answers.js";
 import { wordsOfHalt, wordsOfMove, wordsOfPlace, wordsOfStop, wordsOfWhen } from "../debug/stop_words.js";
-import { Cell, block, button } from "../dom.js";
-import { wordsOfTime } from "../words.js";
+import { Cell, block, button } from "../ui/dom.js";
+import { wordsOfTime } from "../bench/words.js";
 import { Clock } from "./clock.js";
 import { Rate } from "./rate.js";
 
@@ -95,19 +95,19 @@ export class Running {
 
   /** @param {Speed} speed */
   async setSpeed(speed) {
-    const { bench, machine } = this.page;
+    const { bench, lookView } = this.page;
     if (!speed.isFull && this.clock.isFull && this.clock.isRunning) this.ran(await bench.call("halt", []));
     this.clock.setSpeed(speed);
     this.beginRate();
     bench.isRunning = speed.isFull && this.clock.isRunning;
-    machine.showListing();
+    lookView.showListing();
   }
 
   /** One instruction of the time that runs: breakpoints and watches stop it, as any run. */
   async instruct() {
-    const { bench, machine } = this.page;
+    const { bench, lookView } = this.page;
     this.ran(await bench.call("advance", [1]));
-    const { registers } = machine.reader;
+    const { registers } = lookView.reader;
     if (this.clock.isRunning && registers && registers.owed === "1") this.ran(await bench.call("advance", [1]));
   }
 
@@ -136,7 +136,7 @@ export class Running {
    * @param {string} words
    */
   halted(words) {
-    const { bench, current, machine } = this.page;
+    const { bench, current, lookView } = this.page;
     this.clock.stop();
     this.goal = null;
     bench.isRunning = false;
@@ -144,8 +144,8 @@ export class Running {
     this.runWord.set("Run");
     this.tell(words);
     this.showRate();
-    machine.showRest();
-    machine.showListing();
+    lookView.showRest();
+    lookView.showListing();
   }
 
   /** Lets no more time pass, and takes what it has done. */
@@ -167,7 +167,7 @@ export class Running {
     }
     // A breakpoint may have come first.
     if (current.session && current.session.record.runs) {
-      this.page.machine.showRest();
+      this.page.lookView.showRest();
       this.halted(wordsOfHalt(this.goal, this.page.cycles.cycles.total - this.begun, this.place));
     }
     await current.keep();
@@ -198,8 +198,8 @@ export class Running {
 
   /** Where time stands still, with its name and its line. */
   get place() {
-    const { machine, source } = this.page;
-    return wordsOfPlace(machine.counter, source.map);
+    const { lookView, source } = this.page;
+    return wordsOfPlace(lookView.counter, source.map);
   }
 
   /**

@@ -1,6 +1,6 @@
 // Steps: into, over and out of a subroutine, so many instructions, to a line, or until something changes.
 
-import { block, element, onClick } from "../dom.js";
+import { block, element, onClick } from "../ui/dom.js";
 
 /**
  * @typedef {import("../worker/going_back.js").BackGoal} BackGoal

@@ -1,6 +1,6 @@
 // The logic analyser: records the lines of the board over time, shows them, and saves them as a VCD file.
 
-import { Cell, block, button, byId, field, onClick } from "../dom.js";
+import { Cell, block, button, byId, field, onClick } from "../ui/dom.js";
 import { download } from "../session/download.js";
 import { LiveWaves } from "./live_waves.js";
 import { lineNamed, namedInEdge } from "./trigger.js";

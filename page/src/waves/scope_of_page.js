@@ -14,9 +14,9 @@ export function scopeOf(page) {
   /** @type {(values: string[]) => { board: string, program: string, values: string[] }} */
   const textsWith = (values) => ({ board: page.boardEditor.text, program: page.programEditor.text, values });
   const scope = new Scope({
-    goTo: (address) => page.machine.goTo.show(address),
+    goTo: (address) => page.lookView.goTo.show(address),
     name: () => page.current.name,
-    offered: () => catalogOf(page.machine.board, page.boardEditor.text),
+    offered: () => catalogOf(page.lookView.board, page.boardEditor.text),
     isOn: (isOn) => page.layout.tabs.mark("waves", isOn ? "records" : ""),
     begin: (wanted, values) => orTold(page, page.bench.call("recordLive", [textsWith(values), wanted])),
     end: () => orTold(page, page.bench.call("endRecording", [])),

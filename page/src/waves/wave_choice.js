@@ -1,6 +1,6 @@
 // Which lines and values of a recording are shown: a box to tick for each of them, by the parts of the board, and a search among them.
 
-import { Cell, block, button, element, field, onClick } from "../dom.js";
+import { Cell, block, button, element, field, onClick } from "../ui/dom.js";
 import { firstChoice, found, titleOf, valuesAmong } from "./wave_catalog.js";
 
 /**

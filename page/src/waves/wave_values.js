@@ -1,6 +1,6 @@
 // The values of the lines at the cursors, as a table. It is filled while it is open.
 
-import { Cell, block, byId, element } from "../dom.js";
+import { Cell, block, byId, element } from "../ui/dom.js";
 
 /** @typedef {import("./waves.js").Waves} Waves */
 

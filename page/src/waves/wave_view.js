@@ -1,6 +1,6 @@
 // Waves as they are seen: the canvas, the cursors, and their values in words.
 
-import { Cell, block, button, byId, field, onClick, pressedSwitch } from "../dom.js";
+import { Cell, block, button, byId, field, onClick, pressedSwitch } from "../ui/dom.js";
 import { AXIS, ROW, drawWaves } from "./wave_canvas.js";
 import { WavePointers } from "./wave_pointers.js";
 import { WaveValues } from "./wave_values.js";

@@ -1,7 +1,7 @@
 // The box for lines: Enter sends, the arrows bring back what was sent, and below it stands how a line goes on.
 
-import { Cell, block, button, byId, onClick } from "../dom.js";
-import { fittingLines } from "./manual.js";
+import { Cell, block, button, byId, onClick } from "../ui/dom.js";
+import { fittingLines } from "../help/manual.js";
 
 /**
  * What it calls: lines are sent, which gives the first answer, or null where they failed; that answer in words; the help is wanted.

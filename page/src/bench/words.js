@@ -1,6 +1,6 @@
 // What is told to people: refusals, faults, times.
 
-import { BenchRefusal, BenchTrap, Cancelled, WorkerDied } from "./bench/faults.js";
+import { BenchRefusal, BenchTrap, Cancelled, WorkerDied } from "./faults.js";
 
 /** The words of refusals and of faults. */
 export class Words {

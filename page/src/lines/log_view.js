@@ -1,13 +1,13 @@
 // The lines that were sent and their answers. Nothing is shown here before it is kept.
 
-import { refusalOf } from "./bench/answers.js";
-import { block, element } from "./dom.js";
-import { Ran, wordsOfRan } from "./bench/ran.js";
+import { refusalOf } from "../bench/answers.js";
+import { block, element } from "../ui/dom.js";
+import { Ran, wordsOfRan } from "../bench/ran.js";
 
 /**
- * @typedef {import("./worker/worker_session.js").Answered} Answered
- * @typedef {import("./bench/ran.js").RanEntry} RanEntry
- * @typedef {import("./words.js").Words} Words
+ * @typedef {import("../worker/worker_session.js").Answered} Answered
+ * @typedef {import("../bench/ran.js").RanEntry} RanEntry
+ * @typedef {import("../bench/words.js").Words} Words
  */
 
 /** Older entries go. */

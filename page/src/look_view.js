@@ -1,27 +1,27 @@
 // All that is shown of the board and its machine: one look after the other is read, and what is new in it goes to the view that shows it.
 
-import { readBoard, refusalOf } from "../bench/answers.js";
-import { CellEditor } from "../machine/cell_editor.js";
-import { Changes } from "../machine/changes.js";
-import { Cell, Switch, block, button } from "../dom.js";
-import { Face } from "./face.js";
-import { lampColours, lampNames } from "./face_board.js";
-import { FrontView } from "./front_view.js";
-import { GoToView } from "../machine/go_to_view.js";
-import { ListingView } from "../machine/listing_view.js";
-import { LookReader } from "../bench/look.js";
-import { PortsView, RegistersView } from "../machine/machine_view.js";
-import { hex } from "../bench/numbers.js";
-import { RamView } from "../machine/ram_view.js";
-import { StackView } from "../machine/stack_view.js";
-import { ToldAt } from "../told_at.js";
-import { WiringView } from "./wiring_view.js";
+import { readBoard, refusalOf } from "./bench/answers.js";
+import { CellEditor } from "./machine/cell_editor.js";
+import { Changes } from "./machine/changes.js";
+import { Cell, Switch, block, button } from "./ui/dom.js";
+import { Face } from "./board/face.js";
+import { lampColours, lampNames } from "./board/face_board.js";
+import { FrontView } from "./board/front_view.js";
+import { GoToView } from "./machine/go_to_view.js";
+import { ListingView } from "./machine/listing_view.js";
+import { LookReader } from "./bench/look.js";
+import { PortsView, RegistersView } from "./machine/machine_view.js";
+import { hex } from "./bench/numbers.js";
+import { RamView } from "./machine/ram_view.js";
+import { StackView } from "./machine/stack_view.js";
+import { ToldAt } from "./ui/told_at.js";
+import { WiringView } from "./board/wiring_view.js";
 
 /**
- * @typedef {import("./board_keys.js").BoardKey} BoardKey
- * @typedef {import("../bench/look.js").Changed} Changed
- * @typedef {import("../bench/look.js").ChangedFront} ChangedFront
- * @typedef {import("../machine/source_map.js").SourceMap} SourceMap
+ * @typedef {import("./board/board_keys.js").BoardKey} BoardKey
+ * @typedef {import("./bench/look.js").Changed} Changed
+ * @typedef {import("./bench/look.js").ChangedFront} ChangedFront
+ * @typedef {import("./machine/source_map.js").SourceMap} SourceMap
  *
  * What it calls: a button presses its key; whether time runs, and so fast that no line of the program is followed; questions are asked; a
  * line is served, which gives its answer, or null where it failed; a refusal is put into words; what a cell shows is told; the source
@@ -32,7 +32,7 @@ import { WiringView } from "./wiring_view.js";
  *   explain: (name: string) => string,
  *   isAt: (counter: number) => void, breakAt: (breakpoints: string[]) => void, toggleBreakpoint: (address: number) => void,
  *   wentTo: (address: number) => void,
- *   failed: (fault: unknown) => void }} BoardCalls
+ *   failed: (fault: unknown) => void }} LookCalls
  */
 
 /** @typedef {{ seeLamps: (lamps: string) => void, seeKeys: (keysDown: number) => void }} Watcher */
@@ -40,8 +40,8 @@ import { WiringView } from "./wiring_view.js";
 /** While time runs, what nobody can read in a frame is drawn so often, in milliseconds. */
 const DRAWN_TIME = 100;
 
-export class BoardView {
-  /** @param {BoardCalls} calls */
+export class LookView {
+  /** @param {LookCalls} calls */
   constructor(calls) {
     this.calls = calls;
     this.board = readBoard([]);
@@ -197,7 +197,7 @@ export class BoardView {
     if (registers || breakpoints || this.listing.lines.length === 0) this.showListing();
   }
 
-  /** @param {Map<number, import("../machine/breakpoint_marks.js").BreakpointMark>} marks of breakpoints, by their addresses */
+  /** @param {Map<number, import("./machine/breakpoint_marks.js").BreakpointMark>} marks of breakpoints, by their addresses */
   showBreakpoints(marks) {
     this.listing.breakpoints = new Map([...marks].map(([address, mark]) => [hex(address, 3), mark]));
     this.showListing();

@@ -1,14 +1,14 @@
 // Lines that change the session: they are served and kept, and then their answers are shown.
 
-import { refusalOf } from "./bench/answers.js";
-import { Cancelled } from "./bench/faults.js";
-import { putNames } from "./bench/names_in_lines.js";
+import { refusalOf } from "../bench/answers.js";
+import { Cancelled } from "../bench/faults.js";
+import { putNames } from "../bench/names_in_lines.js";
 
 /**
- * @typedef {import("./worker/worker_session.js").Answered} Answered
- * @typedef {import("./page.js").Page} Page
- * @typedef {import("./bench/protocol.js").ServedLines} ServedLines
- * @typedef {import("./bench/bench.js").Ways} Ways
+ * @typedef {import("../worker/worker_session.js").Answered} Answered
+ * @typedef {import("../page.js").Page} Page
+ * @typedef {import("../bench/protocol.js").ServedLines} ServedLines
+ * @typedef {import("../bench/bench.js").Ways} Ways
  */
 
 export class Serving {
@@ -63,9 +63,9 @@ export class Serving {
 
   /** @param {ServedLines} told */
   async take(told) {
-    const { current, log, machine, notice } = this.page;
-    if (told.touchesRom) machine.forgetRom();
-    const { counter } = machine;
+    const { current, log, lookView, notice } = this.page;
+    if (told.touchesRom) lookView.forgetRom();
+    const { counter } = lookView;
     this.page.show(told);
     this.tellCounter(counter, told.entries);
     if (told.touchesRom) this.page.checkSource();
@@ -81,8 +81,8 @@ export class Serving {
    * @param {Answered[]} entries
    */
   tellCounter(before, entries) {
-    const { machine, running } = this.page;
-    const { counter } = machine;
+    const { lookView, running } = this.page;
+    const { counter } = lookView;
     const isReset = entries.some(({ line, answers }) => line.trim() === "reset" && refusalOf(answers[0]) === null);
     const { isRunning } = running.clock;
     if (isReset) running.goal = null;
