@@ -8,11 +8,15 @@
  * @typedef {{ line: number, from: number, to: number }} Place
  */
 
-/** @type {Record<string, number>} */
-const MOST = { rom: 16, ram: 8, chain: 4, lamp: 64 };
+/**
+ * How many of each kind a board has at most.
+ * @type {Record<string, number>}
+ */
+export const MOST = { rom: 16, ram: 8, chain: 4, lamp: 64 };
 /** @type {Record<string, string>} */
 const NUMBERS = { rom: "chip", ram: "bank" };
-const BITS = 10;
+/** So many bits a chain has for each chip. */
+export const BITS = 10;
 
 /**
  * @param {number} number

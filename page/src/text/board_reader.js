@@ -8,12 +8,16 @@ import { tomlWords } from "./toml_words.js";
  * @typedef {import("./toml_words.js").TomlWord} TomlWord
  * @typedef {string | number | boolean | Value[] | Entry} Inner
  *
- * A value with its place; `whole` is false for a number that is not an integer.
- * @typedef {{ inner: Inner, whole: boolean, line: number, from: number, to: number }} Value
+ * Where something ends: its last line, and the character behind it there.
+ * @typedef {{ line: number, to: number }} End
+ *
+ * A value with its place, of an array or a table the opening bracket, and where it ends; `whole` is false for a number that is not an
+ * integer.
+ * @typedef {{ inner: Inner, whole: boolean, line: number, from: number, to: number, end: End }} Value
  * @typedef {{ name: string, line: number, from: number, to: number, value: Value }} Key
  *
- * A table with its place, and its keys.
- * @typedef {{ table: string, line: number, from: number, to: number, keys: Key[] }} Entry
+ * A table with its place, and its keys; one that is written as a value has an end.
+ * @typedef {{ table: string, line: number, from: number, to: number, keys: Key[], end?: End }} Entry
  *
  * @typedef {{ entries: Entry[], others: Key[], keys: Key[], faults: Fault[] }} BoardText the tables, the keys at the top that are no
  * tables, all keys at the top, and what is not TOML
@@ -52,6 +56,12 @@ class BoardReader {
 
   get word() {
     return this.words[this.at];
+  }
+
+  /** @returns {End} where the word ends that was taken last */
+  get lastEnd() {
+    const { line, to } = this.words[this.at - 1];
+    return { line, to };
   }
 
   /** @param {string} mark */
@@ -152,13 +162,13 @@ class BoardReader {
   readValue(key) {
     const { kind, text, line, from, to, fault } = this.word;
     const place = { line, from, to };
-    if (this.isMark("[")) return { inner: this.readArray(key), whole: true, ...place };
-    if (this.isMark("{")) return { inner: this.readTable(), whole: true, ...place };
+    if (this.isMark("[")) return { inner: this.readArray(key), whole: true, ...place, end: this.lastEnd };
+    if (this.isMark("{")) return { inner: this.readTable(), whole: true, ...place, end: this.lastEnd };
     if (kind === "end") throw new NotToml(this.word, `the value of ${key} is missing`);
     if (kind === "mark" || kind === "bad") throw new NotToml(this.word, fault || `a value stands here, not ${text}`);
     const inner = this.innerOf(kind, text);
     this.at += 1;
-    return { inner, whole: typeof inner !== "number" || INTEGER.test(text), ...place };
+    return { inner, whole: typeof inner !== "number" || INTEGER.test(text), ...place, end: { line, to } };
   }
 
   /**
@@ -210,7 +220,7 @@ class BoardReader {
       else if (!this.isMark("}")) throw new NotToml(this.word, this.word.fault || "a comma stands between two keys, } after the last");
     }
     this.at += 1;
-    return { table: "", line, from, to, keys };
+    return { table: "", line, from, to, keys, end: this.lastEnd };
   }
 }
 

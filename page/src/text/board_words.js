@@ -13,7 +13,7 @@ import { readBoardText } from "./board_reader.js";
  */
 
 /** @type {Record<string, { from: number, to: number }>} whole numbers, by table and key */
-const RANGES = {
+export const RANGES = {
   "rom.chip": { from: 0, to: 15 }, "ram.bank": { from: 0, to: 7 }, "ram.chips": { from: 1, to: 4 }, "chain.chips": { from: 1, to: 8 },
   "keys.chain": { from: 0, to: 3 }, "keys.first": { from: 0, to: 79 }, "keys.rows": { from: 1, to: 10 },
 };

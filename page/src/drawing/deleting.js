@@ -1,0 +1,239 @@
+// Parts that go from a board, and with each what hangs on it alone: a lamp without a line is none. The others keep their wires.
+
+import { Face } from "../board/face.js";
+import { endOf } from "../board/face_board.js";
+import { removeColumns, removeRows, renamePorts, renumberLamps, setWhole } from "./face_edits.js";
+import { readTarget } from "./board_lines.js";
+import { nameOfPart, setRows } from "./adding.js";
+import { removeElement, removePart, setValue, setWritten } from "./part_edits.js";
+import { ActRefusal } from "./sketch.js";
+
+/**
+ * @typedef {import("../bench/answers.js").Board} Board
+ * @typedef {import("./sketch.js").Sketch} Sketch
+ * @typedef {import("../text/board_reader.js").Value} Value
+ *
+ * What goes: ROMs by number, RAM chips as `bank.chip`, chains, columns and lamps.
+ * @typedef {{ roms: Set<number>, rams: Set<string>, chains: Set<number>, keys: boolean, columns: Set<number>, lamps: Set<number> }} Gone
+ */
+
+/** @returns {Gone} */
+function nothing() {
+  return { roms: new Set(), rams: new Set(), chains: new Set(), keys: false, columns: new Set(), lamps: new Set() };
+}
+
+/**
+ * @param {Gone} gone
+ * @param {string} line
+ */
+function isLineGone({ roms, rams, chains }, line) {
+  const [, kind, first, second] = /** @type {RegExpExecArray} */ (/^(rom|ram|chain)(\d+)\.(\d+)/.exec(line));
+  if (kind === "rom") return roms.has(Number(first));
+  return kind === "chain" ? chains.has(Number(first)) : rams.has(`${first}.${second}`);
+}
+
+/**
+ * The lamps of the display, the bar and so on that a lamp belongs to; the lamp alone where it belongs to none.
+ * @param {Face} face
+ * @param {number} lamp
+ */
+export function lampsWith(face, lamp) {
+  const group = face.groups.find((each) => each.first <= lamp && lamp < endOf(each));
+  return group ? Array.from({ length: endOf(group) - group.first }, (_, at) => group.first + at) : [lamp];
+}
+
+/**
+ * Adds to what goes all that hangs on it.
+ * @param {Board} board
+ * @param {Face} face
+ * @param {Gone} gone
+ */
+function spread(board, face, gone) {
+  board.chains.forEach(({ clock, data }, at) => {
+    if (isLineGone(gone, clock) || isLineGone(gone, data)) gone.chains.add(at);
+  });
+  const { matrix } = board;
+  if (matrix) {
+    matrix.columns.forEach((line, at) => isLineGone(gone, line) && gone.columns.add(at));
+    gone.keys = gone.keys || gone.chains.has(matrix.chain) || gone.columns.size === matrix.columns.length;
+  }
+  board.lamps.forEach((line, at) => {
+    if (!isLineGone(gone, line) && !gone.lamps.has(at)) return;
+    for (const lamp of lampsWith(face, at)) if (lamp < board.lamps.length) gone.lamps.add(lamp);
+  });
+}
+
+/**
+ * @param {Sketch} sketch
+ * @param {Gone} gone
+ */
+function removeAll(sketch, gone) {
+  const { matrix } = sketch.board;
+  if (gone.lamps.size > 0) removeLamps(sketch, gone.lamps);
+  if (gone.keys && matrix) removeKeys(sketch);
+  else if (gone.columns.size > 0) takeColumns(sketch, gone.columns);
+  for (const chain of descending(gone.chains)) removeChain(sketch, chain);
+  for (const rom of gone.roms) removeRom(sketch, rom);
+  for (const ram of gone.rams) removeRam(sketch, ram);
+}
+
+/** @param {Set<number>} numbers */
+function descending(numbers) {
+  return [...numbers].sort((one, other) => other - one);
+}
+
+/**
+ * @param {Sketch} sketch
+ * @param {Set<number>} lamps
+ */
+function removeLamps(sketch, lamps) {
+  sketch.edit(renumberLamps(sketch.draft, lamps));
+  for (const lamp of descending(lamps)) sketch.edit(removePart(sketch.draft, "lamp", lamp));
+}
+
+/** @param {Sketch} sketch */
+function removeKeys(sketch) {
+  sketch.edit(removeRows(sketch.draft, 0));
+  sketch.edit(removePart(sketch.draft, "keys", 0));
+}
+
+/**
+ * @param {Sketch} sketch
+ * @param {Set<number>} columns
+ */
+function takeColumns(sketch, columns) {
+  sketch.edit(removeColumns(sketch.draft, columns));
+  for (const column of descending(columns)) {
+    const { draft } = sketch;
+    sketch.edit(removeElement(draft, draft.keyOf(draft.entry("keys", 0), "columns").value, column));
+  }
+}
+
+/**
+ * The chains behind it have other numbers from then on, and so have their bits.
+ * @param {Sketch} sketch
+ * @param {number} chain
+ */
+function removeChain(sketch, chain) {
+  /** @type {(line: string) => string} */
+  const rename = (line) => line.replace(/^chain(\d+)/, (_, number) => `chain${Number(number) - (Number(number) > chain ? 1 : 0)}`);
+  const { draft } = sketch;
+  const values = draft.of("lamp").map((entry) => draft.keyOf(entry, "line").value);
+  const bits = values.filter(({ inner }) => rename(String(inner)) !== inner);
+  const numbers = draft.of("keys").map((entry) => draft.keyOf(entry, "chain").value).filter(({ inner }) => Number(inner) > chain);
+  sketch.edit([
+    ...bits.map((value) => setWritten(draft, value, rename(String(value.inner)))),
+    ...numbers.map((value) => setWritten(draft, value, Number(value.inner) - 1)),
+  ]);
+  sketch.edit(renamePorts(sketch.draft, (place) => (place === `chain${chain}` ? "" : rename(place))));
+  sketch.edit(removePart(sketch.draft, "chain", chain));
+}
+
+/**
+ * @param {Sketch} sketch
+ * @param {number} rom
+ */
+function removeRom(sketch, rom) {
+  sketch.edit(renamePorts(sketch.draft, (place) => (place === `rom${rom}` ? "" : place)));
+  const { draft } = sketch;
+  sketch.edit(removePart(draft, "rom", draft.of("rom").indexOf(draft.numbered("rom", rom))));
+}
+
+/**
+ * The last chip of its bank.
+ * @param {Sketch} sketch
+ * @param {string} ram
+ */
+function removeRam(sketch, ram) {
+  const [bank, chip] = ram.split(".").map(Number);
+  sketch.edit(renamePorts(sketch.draft, (place) => (place === `ram${ram}` ? "" : place)));
+  const { draft } = sketch;
+  const entry = draft.numbered("ram", bank);
+  sketch.edit(chip > 0 ? [setValue(draft, entry, "chips", chip)] : removePart(draft, "ram", draft.of("ram").indexOf(entry)));
+}
+
+/**
+ * What goes with a part that is named.
+ * @param {Board} board
+ * @param {Gone} gone
+ * @param {string} part
+ */
+function mark(board, gone, part) {
+  const [kind, number] = readTarget(part);
+  if (kind === "rom") gone.roms.add(number);
+  else if (kind === "chain") gone.chains.add(number);
+  else if (kind === "lamp") gone.lamps.add(number);
+  else if (kind === "column") gone.columns.add(number);
+  else if (kind === "keys") gone.keys = true;
+  else if (kind === "lamps") board.lamps.forEach((_, at) => gone.lamps.add(at));
+  else if (kind === "ram") markRam(board, gone, part.slice(4));
+}
+
+/**
+ * @param {Board} board
+ * @param {Gone} gone
+ * @param {string} ram
+ */
+function markRam({ banks }, gone, ram) {
+  const [bank, chip] = ram.split(".").map(Number);
+  const { chips } = banks.find((each) => each.bank === bank) || { chips: 0 };
+  if (chip !== chips - 1) throw new ActRefusal(`The chips of a bank are numbered from 0 on: delete RAM ${bank}.${chips - 1} first.`);
+  gone.rams.add(ram);
+}
+
+/**
+ * Takes a part away: `rom 1`, `ram 0.1`, `chain 0`, `keys`, `row 1` (the last one), `column 2`, `lamp 3`, `lamps`, `test`; gives in words
+ * what went with it.
+ * @param {Sketch} sketch
+ * @param {string} part
+ */
+export function deletePart(sketch, part) {
+  const { board } = sketch;
+  if (part === "test") {
+    sketch.edit(setWhole(sketch.draft, "test", "", ""));
+    return "";
+  }
+  if (part.startsWith("row ")) return deleteRow(sketch, Number(part.slice(4)));
+  const gone = nothing();
+  mark(board, gone, part);
+  // Chains hang on ROMs, keys and lamps on chains: the second time nothing new comes.
+  const face = new Face(sketch.text);
+  for (let times = 0; times < 2; times++) spread(board, face, gone);
+  const words = wordsOfGone(gone, part);
+  removeAll(sketch, gone);
+  return words;
+}
+
+/**
+ * @param {Sketch} sketch
+ * @param {number} row
+ */
+function deleteRow(sketch, row) {
+  const { matrix } = sketch.board;
+  if (!matrix || row !== matrix.rows - 1) throw new ActRefusal("The rows of the keys are numbered from 0 on: delete the last one first.");
+  setRows(sketch, row);
+  sketch.edit(removeRows(sketch.draft, row));
+  return "";
+}
+
+/**
+ * @param {number} count
+ * @param {string} what
+ */
+function counted(count, what) {
+  return `${count} ${what}${count > 1 ? "s" : ""}`;
+}
+
+/**
+ * What goes with a part that is deleted.
+ * @param {Gone} gone
+ * @param {string} part
+ */
+function wordsOfGone({ chains, keys, columns, lamps }, part) {
+  const others = [...chains].map((chain) => `chain ${chain}`).filter((name) => name !== part);
+  const further = part === "lamps" || (part.startsWith("lamp ") && lamps.size === 1) ? 0 : lamps.size;
+  if (keys && part !== "keys") others.push(nameOfPart("keys"));
+  else if (!keys && columns.size > 0 && !part.startsWith("column")) others.push(`${counted(columns.size, "column")} of the keys`);
+  if (further > 0) others.push(part.startsWith("lamp ") ? `all ${further} lamps of its display` : counted(further, "lamp"));
+  return others.join(", ").replace(/, ([^,]*)$/, " and $1");
+}

@@ -1,0 +1,231 @@
+// Names and colours of a board's parts as its face tells them: what changes them in the board's text, and what keeps them right when lamps,
+// keys or chains go.
+
+import { COLOURS } from "../board/face_words.js";
+import { addFaceLine, faceLines, numberOfLine, removeFaceLine, removeWords, setWord } from "./face_lines.js";
+
+/**
+ * @typedef {import("./board_draft.js").BoardDraft} BoardDraft
+ * @typedef {import("./face_lines.js").FaceLine} FaceLine
+ * @typedef {import("./text_edits.js").TextEdit} TextEdit
+ */
+
+export { COLOURS };
+/** Kinds whose head has the number of a lamp. */
+const OF_LAMPS = new Set(["lamp", "colour", "display", "die", "bar", "matrix"]);
+const NONE = "_";
+
+/**
+ * A name as a face has it: one word.
+ * @param {string} name
+ */
+export function wordOf(name) {
+  return name.trim().replace(/[ \t]+/g, "_");
+}
+
+/**
+ * A word of a list that is numbered from the place in its head on: where it stands, else behind the list that ends there, else in a line
+ * of its own.
+ * @param {BoardDraft} draft
+ * @param {"lamp" | "colour"} kind
+ * @param {number} lamp
+ * @param {string} text "" for none
+ * @returns {TextEdit[]}
+ */
+function setInList(draft, kind, lamp, text) {
+  const lists = faceLines(draft).filter((line) => line.kind === kind && line.place && !line.last);
+  const own = lists.find((line) => numberOfLine(line) <= lamp && lamp < numberOfLine(line) + line.words.length);
+  if (own) {
+    const others = own.words.filter((_, at) => numberOfLine(own) + at !== lamp);
+    if (text === "" && others.every((word) => word.text === NONE)) return [removeFaceLine(draft, own)];
+    return setWord(own.words[lamp - numberOfLine(own)], text || NONE);
+  }
+  if (text === "") return [];
+  const before = lists.find((line) => numberOfLine(line) + line.words.length === lamp);
+  if (before) return [{ from: before.end, to: before.end, insert: ` ${text}` }];
+  return addFaceLine(draft, kind, `# ${kind} ${lamp}: ${text}`);
+}
+
+/**
+ * The name of a lamp, on the grid, too.
+ * @param {BoardDraft} draft
+ * @param {number} lamp
+ * @param {string} name "" for none
+ */
+export function nameLamp(draft, lamp, name) {
+  const word = wordOf(name);
+  const lines = faceLines(draft);
+  const own = lines.find((line) => line.kind === "lamp" && numberOfLine(line) <= lamp && lamp < numberOfLine(line) + line.words.length);
+  const old = own && own.words[lamp - numberOfLine(own)].text;
+  const onGrid = lines.filter(({ kind }) => kind === "grid").flatMap(({ words }) => words)
+    .filter(({ text }) => text === old && text !== NONE);
+  return [...setInList(draft, "lamp", lamp, word), ...onGrid.flatMap((place) => setWord(place, word || String(lamp)))];
+}
+
+/**
+ * @param {BoardDraft} draft
+ * @param {number} lamp
+ * @param {string} colour "" for the usual one
+ * @returns {TextEdit[]}
+ */
+export function colourLamp(draft, lamp, colour) {
+  const range = faceLines(draft).find((line) => line.kind === "colour" && line.last && numberOfLine(line) <= lamp
+    && lamp <= Number(line.last.text));
+  if (!range || !range.place || !range.last) return setInList(draft, "colour", lamp, colour);
+  const first = numberOfLine(range);
+  const [old = { text: NONE }] = range.words;
+  const words = Array.from({ length: Number(range.last.text) - first + 1 }, (_, at) => (first + at === lamp ? colour || NONE : old.text));
+  const areAlike = words.every((word) => word === words[0]);
+  if (areAlike) return words[0] === NONE ? [removeFaceLine(draft, range)] : setWord(range.words[0], words[0]);
+  return [{ from: range.place.to, to: range.end, insert: `: ${words.join(" ")}` }];
+}
+
+/**
+ * The name of a key; keys of its row that have none yet get the one that they are shown with.
+ * @param {BoardDraft} draft
+ * @param {{ row: number, column: number }} key
+ * @param {string} name "" for a place without a key
+ * @returns {TextEdit[]}
+ */
+export function nameKey(draft, { row, column }, name) {
+  const word = wordOf(name) || NONE;
+  const line = faceLines(draft).find((each) => each.kind === "row" && numberOfLine(each) === row);
+  const count = line ? line.words.length : 0;
+  if (line && column < count) return setWord(line.words[column], word);
+  const before = Array.from({ length: column - count }, (_, at) => `${row}.${count + at}`);
+  const words = [...before, word].join(" ");
+  return line ? [{ from: line.end, to: line.end, insert: ` ${words}` }] : addFaceLine(draft, "row", `# row ${row}: ${words}`);
+}
+
+/**
+ * A line that tells its words whole, as `# port rom0: keys` and `# title: Lock`.
+ * @param {BoardDraft} draft
+ * @param {"title" | "test" | "port"} kind
+ * @param {string} place "" for none
+ * @param {string} words "" for no such line
+ * @returns {TextEdit[]}
+ */
+export function setWhole(draft, kind, place, words) {
+  const text = words.trim().replace(/[ \t]+/g, " ");
+  const line = faceLines(draft).find((each) => each.kind === kind && (each.place ? each.place.text.toLowerCase() : "") === place);
+  if (!line) return text === "" ? [] : addFaceLine(draft, kind, `# ${kind}${place && ` ${place}`}: ${text}`);
+  if (text === "") return [removeFaceLine(draft, line)];
+  const [first] = line.words;
+  return [{ from: first ? first.from : line.end, to: line.end, insert: first ? text : ` ${text}` }];
+}
+
+/**
+ * A display, a bar and so on, from a lamp on.
+ * @param {BoardDraft} draft
+ * @param {string} kind
+ * @param {number} first
+ * @param {string} words
+ */
+export function addGroup(draft, kind, first, words) {
+  return addFaceLine(draft, kind, `# ${kind} ${first}: ${words}`);
+}
+
+/**
+ * Lamps have gone: the others have other numbers.
+ * @param {BoardDraft} draft
+ * @param {Set<number>} gone
+ * @returns {TextEdit[]}
+ */
+export function renumberLamps(draft, gone) {
+  /** @type {(lamp: number) => number} */
+  const numberOf = (lamp) => lamp - [...gone].filter((each) => each < lamp).length;
+  return faceLines(draft).flatMap((line) => {
+    if (line.kind === "grid") return renumberGrid(draft, line, gone, numberOf);
+    if (!OF_LAMPS.has(line.kind) || !line.place || Number.isNaN(numberOfLine(line))) return [];
+    if (line.last) return renumberRange(draft, line, gone, numberOf);
+    return renumberList(draft, line, gone, numberOf);
+  });
+}
+
+/**
+ * A list of names or colours, or a group.
+ * @param {BoardDraft} draft
+ * @param {FaceLine} line
+ * @param {Set<number>} gone
+ * @param {(lamp: number) => number} numberOf
+ * @returns {TextEdit[]}
+ */
+function renumberList(draft, line, gone, numberOf) {
+  const first = numberOfLine(line);
+  const isGroup = line.kind !== "lamp" && line.kind !== "colour";
+  const kept = isGroup ? [...(gone.has(first) ? [] : [first])] : line.words.map((_, at) => first + at).filter((lamp) => !gone.has(lamp));
+  if (kept.length === 0) return [removeFaceLine(draft, line)];
+  const head = setWord(/** @type {import("./face_lines.js").PlacedWord} */ (line.place), String(numberOf(kept[0])));
+  return isGroup ? head : [...head, ...removeWords(line, (at) => gone.has(first + at))];
+}
+
+/**
+ * @param {BoardDraft} draft
+ * @param {FaceLine} line
+ * @param {Set<number>} gone
+ * @param {(lamp: number) => number} numberOf
+ * @returns {TextEdit[]}
+ */
+function renumberRange(draft, line, gone, numberOf) {
+  const { place, last } = line;
+  if (!place || !last) return [];
+  const lamps = Array.from({ length: Math.max(0, Number(last.text) - numberOfLine(line) + 1) }, (_, at) => numberOfLine(line) + at);
+  const kept = lamps.filter((lamp) => !gone.has(lamp));
+  if (kept.length === 0) return [removeFaceLine(draft, line)];
+  return [...setWord(place, String(numberOf(kept[0]))), ...setWord(last, String(numberOf(kept[kept.length - 1])))];
+}
+
+/**
+ * @param {BoardDraft} draft
+ * @param {FaceLine} line
+ * @param {Set<number>} gone
+ * @param {(lamp: number) => number} numberOf
+ * @returns {TextEdit[]}
+ */
+function renumberGrid(draft, line, gone, numberOf) {
+  const names = new Map(faceLines(draft).filter(({ kind, place, last }) => kind === "lamp" && place && !last)
+    .flatMap((list) => list.words.map(({ text }, at) => /** @type {[string, number]} */ ([text, numberOfLine(list) + at]))));
+  const texts = line.words.map(({ text }) => {
+    const named = names.get(text);
+    if (named !== undefined) return gone.has(named) ? NONE : text;
+    if (!/^\d+$/.test(text)) return text;
+    return gone.has(Number(text)) ? NONE : String(numberOf(Number(text)));
+  });
+  if (texts.every((text) => text === NONE)) return [removeFaceLine(draft, line)];
+  return line.words.flatMap((word, at) => setWord(word, texts[at]));
+}
+
+/**
+ * Ports and chains have gone, or have other numbers.
+ * @param {BoardDraft} draft
+ * @param {(place: string) => string} placeOf the place that one has from now on, "" for one that has gone
+ * @returns {TextEdit[]}
+ */
+export function renamePorts(draft, placeOf) {
+  return faceLines(draft).flatMap((line) => {
+    if (line.kind !== "port" || !line.place) return [];
+    const place = placeOf(line.place.text.toLowerCase());
+    return place === "" ? [removeFaceLine(draft, line)] : setWord(line.place, place);
+  });
+}
+
+/**
+ * Rows of keys have gone.
+ * @param {BoardDraft} draft
+ * @param {number} left so many are left
+ */
+export function removeRows(draft, left) {
+  return faceLines(draft).filter((line) => line.kind === "row" && numberOfLine(line) >= left).map((line) => removeFaceLine(draft, line));
+}
+
+/**
+ * Columns of keys have gone.
+ * @param {BoardDraft} draft
+ * @param {Set<number>} gone
+ */
+export function removeColumns(draft, gone) {
+  return faceLines(draft).filter(({ kind }) => kind === "row").flatMap((line) => {
+    const isEmpty = line.words.length > 0 && line.words.every((_, at) => gone.has(at));
+    return isEmpty ? [removeFaceLine(draft, line)] : removeWords(line, (at) => gone.has(at));
+  });
+}

@@ -1,0 +1,108 @@
+// The lines of a face in a board's text with the places of their words, and what changes one of them.
+
+import { headOf } from "../board/face_words.js";
+import { removeLines } from "./part_edits.js";
+
+/**
+ * @typedef {import("./board_draft.js").BoardDraft} BoardDraft
+ * @typedef {import("./text_edits.js").TextEdit} TextEdit
+ * @typedef {{ text: string, from: number, to: number }} PlacedWord
+ *
+ * A line of a face: its number in the text, what it tells, the place in its head with the last one of a range, where it has them, and its
+ * words; places are those of the text.
+ * @typedef {{ line: number, kind: string, place: PlacedWord | null, last: PlacedWord | null, words: PlacedWord[], end: number }} FaceLine
+ */
+
+const HEAD = /^[ \t]*#[ \t]*[A-Za-z]+[ \t]*/;
+
+/**
+ * The words of a text, with their places.
+ * @param {string} text
+ * @param {number} from where the text begins
+ * @returns {PlacedWord[]}
+ */
+function placedWords(text, from) {
+  return [...text.matchAll(/[^ \t\r]+/g)].map((found) => {
+    const at = from + (found.index || 0);
+    return { text: found[0], from: at, to: at + found[0].length };
+  });
+}
+
+/**
+ * @param {BoardDraft} draft
+ * @returns {FaceLine[]}
+ */
+export function faceLines(draft) {
+  return draft.lines.flatMap((text, at) => {
+    const head = headOf(text.replace(/\r$/, ""));
+    if (!head) return [];
+    const begin = draft.starts[at];
+    const [before] = HEAD.exec(text) || [""];
+    const colon = text.indexOf(":", before.length);
+    const [place = null, , last = null] = placedWords(text.slice(before.length, colon), begin + before.length);
+    const words = placedWords(text.slice(colon + 1), begin + colon + 1);
+    return [{ line: at + 1, kind: head.kind, place, last, words, end: begin + text.trimEnd().length }];
+  });
+}
+
+/**
+ * The number in the head of a line; NaN where it has none.
+ * @param {FaceLine} line
+ */
+export function numberOfLine({ place }) {
+  return place ? Number(place.text) : NaN;
+}
+
+/**
+ * A new line, behind the last one of its kind, else behind the last line of the face; without any, behind the comment at the top.
+ * @param {BoardDraft} draft
+ * @param {string} kind
+ * @param {string} text
+ * @returns {TextEdit[]}
+ */
+export function addFaceLine(draft, kind, text) {
+  const lines = faceLines(draft);
+  const last = lines.filter((line) => line.kind === kind).pop() || lines.pop();
+  if (last) return [{ from: last.end, to: last.end, insert: `\n${text}` }];
+  const first = draft.lines.findIndex((line) => !line.startsWith("#"));
+  const at = first < 0 ? draft.text.length : draft.starts[first];
+  const gap = first === 0 && draft.text.trim() !== "" && draft.lines[0].trim() !== "" ? "\n" : "";
+  return [{ from: at, to: at, insert: `${first < 0 ? "\n" : ""}${text}\n${gap}` }];
+}
+
+/**
+ * Takes a line of the face away.
+ * @param {BoardDraft} draft
+ * @param {FaceLine} line
+ */
+export function removeFaceLine(draft, { line }) {
+  return removeLines(draft, line, line);
+}
+
+/**
+ * Another word in the place of one.
+ * @param {PlacedWord} word
+ * @param {string} text
+ * @returns {TextEdit[]}
+ */
+export function setWord(word, text) {
+  return word.text === text ? [] : [{ from: word.from, to: word.to, insert: text }];
+}
+
+/**
+ * Takes words of a line away, each with the blanks before it.
+ * @param {FaceLine} line
+ * @param {(at: number) => boolean} goes
+ * @returns {TextEdit[]}
+ */
+export function removeWords({ words, place, last }, goes) {
+  const head = last || place;
+  return words.flatMap(({ from, to }, at) => {
+    if (!goes(at)) return [];
+    const before = words[at - 1] ? words[at - 1].to : from;
+    // The first word keeps the blank behind the colon for the one that follows it.
+    const next = words[at + 1];
+    if (at === 0 || words.slice(0, at).every((_, each) => goes(each))) return [{ from, to: next ? next.from : to, insert: "" }];
+    return head ? [{ from: before, to, insert: "" }] : [];
+  });
+}

@@ -1,0 +1,211 @@
+// How a part comes into a board's text, and goes from it: comments stay, and what is added is written as what stands there is.
+
+import { tomlWords } from "../text/toml_words.js";
+import { KEYS } from "./board_draft.js";
+
+/**
+ * @typedef {import("./board_draft.js").BoardDraft} BoardDraft
+ * @typedef {import("./board_draft.js").Kind} Kind
+ * @typedef {import("./text_edits.js").TextEdit} TextEdit
+ * @typedef {import("../text/board_reader.js").Entry} Entry
+ * @typedef {import("../text/board_reader.js").Value} Value
+ * @typedef {import("../text/toml_words.js").TomlWord} TomlWord
+ * @typedef {Record<string, string | number | string[]>} PartValues the values of a part by their keys
+ */
+
+/** Lines of arrays are made no longer than that. */
+const LONGEST_LINE = 100;
+const INDENT = "    ";
+
+/**
+ * @param {string | number | string[]} value
+ * @returns {string}
+ */
+export function written(value) {
+  return Array.isArray(value) ? `[${value.map(written).join(", ")}]` : JSON.stringify(value);
+}
+
+/**
+ * @param {Kind} kind
+ * @param {PartValues} values
+ */
+function linesOf(kind, values) {
+  return KEYS[kind].map((key) => `${key} = ${written(values[key])}`);
+}
+
+/** @param {string | undefined} line */
+function isBlank(line) {
+  return line !== undefined && line.trim() === "";
+}
+
+/**
+ * Whether tables follow one another without a blank line.
+ * @param {BoardDraft} draft
+ */
+function isCompact({ entries, lines }) {
+  const further = entries.filter(({ end }) => !end).slice(1);
+  return further.length > 0 && further.every(({ line }) => !isBlank(lines[line - 2]));
+}
+
+/**
+ * Another part of a kind, behind the last one.
+ * @param {BoardDraft} draft
+ * @param {Kind} kind
+ * @param {PartValues} values
+ * @returns {TextEdit[]}
+ */
+export function addPart(draft, kind, values) {
+  const array = draft.keys.find(({ name, value }) => name === kind && Array.isArray(value.inner));
+  if (array) return appendElement(draft, array.value, `{ ${linesOf(kind, values).join(", ")} }`);
+  const block = [kind === "keys" ? "[keys]" : `[[${kind}]]`, ...linesOf(kind, values)].join("\n");
+  const gap = isCompact(draft) ? "\n" : "\n\n";
+  const last = draft.of(kind).pop();
+  if (!last) return [atEnd(draft, gap, block)];
+  const line = draft.lastLine(last);
+  const at = draft.place(line, draft.lines[line - 1].length);
+  return [{ from: at, to: at, insert: gap + block }];
+}
+
+/**
+ * @param {BoardDraft} draft
+ * @param {string} gap
+ * @param {string} block
+ * @returns {TextEdit}
+ */
+function atEnd({ text, lines }, gap, block) {
+  const at = text.length;
+  if (text.trim() === "") return { from: 0, to: at, insert: `${block}\n` };
+  if (!text.endsWith("\n")) return { from: at, to: at, insert: `${gap}${block}\n` };
+  const isSpaced = isBlank(lines[lines.length - 2]);
+  return { from: at, to: at, insert: `${isSpaced ? "" : gap.slice(1)}${block}\n` };
+}
+
+/**
+ * The word behind a place, and the one before it, with their places; ends of lines are none.
+ * @param {BoardDraft} draft
+ * @param {number} from
+ * @param {number} to
+ */
+function around(draft, from, to) {
+  const words = tomlWords(draft.lines).filter(({ kind }) => kind !== "end");
+  /** @type {(word: TomlWord | undefined) => { text: string, from: number, to: number } | null} */
+  const placed = (word) => (word
+    ? { text: word.text, from: draft.place(word.line, word.from), to: draft.place(word.line, word.to) } : null);
+  const next = words.find((word) => draft.place(word.line, word.from) >= to);
+  const before = words.filter((word) => draft.place(word.line, word.to) <= from).pop();
+  return { before: placed(before), next: placed(next) };
+}
+
+/**
+ * Another element of an array, behind the last one: in its line where that has room, and none of the others has a line of its own.
+ * @param {BoardDraft} draft
+ * @param {Value} array
+ * @param {string} element
+ * @returns {TextEdit[]}
+ */
+export function appendElement(draft, array, element) {
+  const inner = /** @type {Value[]} */ (array.inner);
+  const last = inner[inner.length - 1];
+  if (!last) return [{ from: draft.startOf(array) + 1, to: draft.startOf(array) + 1, insert: element }];
+  const at = draft.endOf(last);
+  const line = draft.lines[last.end.line - 1];
+  const before = inner[inner.length - 2];
+  const hasOwnLine = before ? before.end.line < last.line : last.line > array.line;
+  const isShort = line.length + element.length + 2 <= LONGEST_LINE;
+  if (!hasOwnLine && isShort) return [{ from: at, to: at, insert: `, ${element}` }];
+  const { next } = around(draft, at, at);
+  const hasComma = next !== null && next.text === ",";
+  const indent = last.line > array.line ? (/^[ \t]*/.exec(line) || [""])[0] : INDENT;
+  // What closes the array goes on behind the new element.
+  const end = next && next.text === "]" && array.end.line === last.end.line ? at : draft.place(last.end.line, line.length);
+  const comma = { from: at, to: at, insert: "," };
+  return [{ from: end, to: end, insert: `\n${indent}${element}${hasComma ? "," : ""}` }, ...(hasComma ? [] : [comma])];
+}
+
+/**
+ * Takes whole lines away, and with them one of two blank lines that would follow one another.
+ * @param {BoardDraft} draft
+ * @param {number} first
+ * @param {number} last
+ * @returns {TextEdit}
+ */
+export function removeLines({ lines, starts, text }, first, last) {
+  const isBlankBefore = first === 1 || isBlank(lines[first - 2]);
+  const next = lines[last];
+  const isLast = next === undefined || (last === lines.length - 1 && next === "");
+  const begin = isLast && first > 1 && isBlankBefore ? first - 1 : first;
+  if (next === undefined) return { from: Math.max(0, starts[begin - 1] - 1), to: text.length, insert: "" };
+  const end = !isLast && isBlankBefore && isBlank(next) ? last + 1 : last;
+  return { from: starts[begin - 1], to: starts[end], insert: "" };
+}
+
+/**
+ * Takes a stretch of a line away; a line that is blank then goes, too.
+ * @param {BoardDraft} draft
+ * @param {number} from
+ * @param {number} to
+ * @returns {TextEdit}
+ */
+function removeStretch({ text }, from, to) {
+  const [before] = /** @type {RegExpExecArray} */ (/[ \t]*$/.exec(text.slice(0, from)));
+  const [after] = /** @type {RegExpExecArray} */ (/^[ \t]*/.exec(text.slice(to)));
+  const isFirst = from === before.length || text[from - before.length - 1] === "\n";
+  const isLast = to + after.length === text.length || text[to + after.length] === "\n";
+  if (isFirst && isLast) return { from: from - before.length, to: Math.min(text.length, to + after.length + 1), insert: "" };
+  return isLast ? { from: from - before.length, to, insert: "" } : { from, to: to + after.length, insert: "" };
+}
+
+/**
+ * Takes an element of an array away, and its comma.
+ * @param {BoardDraft} draft
+ * @param {Value} array
+ * @param {number} at
+ * @returns {TextEdit[]}
+ */
+export function removeElement(draft, array, at) {
+  const element = /** @type {Value[]} */ (array.inner)[at];
+  const [from, to] = [draft.startOf(element), draft.endOf(element)];
+  const { before, next } = around(draft, from, to);
+  if (next && next.text === ",") return [removeStretch(draft, from, next.to)];
+  if (!before || before.text !== ",") return [{ from, to, insert: "" }];
+  if (!draft.text.slice(before.to, from).includes("\n")) return [{ from: before.from, to, insert: "" }];
+  return [removeStretch(draft, from, to), { from: before.from, to: before.to, insert: "" }];
+}
+
+/**
+ * Takes a part away.
+ * @param {BoardDraft} draft
+ * @param {Kind} kind
+ * @param {number} at its place among those of its kind
+ * @returns {TextEdit[]}
+ */
+export function removePart(draft, kind, at) {
+  const entry = draft.entry(kind, at);
+  if (!entry.end) return [removeLines(draft, entry.line, draft.lastLine(entry))];
+  const key = draft.keys.find(({ name }) => name === kind);
+  if (!key) throw new Error(`the text has no ${kind}`);
+  if (kind === "keys") return [removeLines(draft, key.line, key.value.end.line)];
+  return removeElement(draft, key.value, at);
+}
+
+/**
+ * Another value of a part.
+ * @param {BoardDraft} draft
+ * @param {Entry} entry
+ * @param {string} name of its key
+ * @param {string | number} value
+ * @returns {TextEdit}
+ */
+export function setValue(draft, entry, name, value) {
+  return setWritten(draft, draft.keyOf(entry, name).value, value);
+}
+
+/**
+ * @param {BoardDraft} draft
+ * @param {Value} old
+ * @param {string | number} value
+ * @returns {TextEdit}
+ */
+export function setWritten(draft, old, value) {
+  return { from: draft.startOf(old), to: draft.endOf(old), insert: written(value) };
+}
