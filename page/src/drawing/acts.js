@@ -180,7 +180,7 @@ function rename(sketch, part, name) {
  * @param {string} colour
  */
 function setColour(sketch, lamp, colour) {
-  if (colour !== "" && !COLOURS.includes(colour)) throw new ActRefusal(`${colour} is no colour; there are ${COLOURS.join(", ")}.`);
+  if (colour !== "" && !COLOURS.has(colour)) throw new ActRefusal(`${colour} is no colour; there are ${[...COLOURS].join(", ")}.`);
   sketch.edit(colourLamp(sketch.draft, lamp, colour));
 }
 

@@ -1,7 +1,7 @@
 // Names and colours of a board's parts as its face tells them: what changes them in the board's text, and what keeps them right when lamps,
 // keys or chains go.
 
-import { COLOURS } from "../board/face_words.js";
+import { COLOURS, KINDS } from "../board/face_words.js";
 import { addFaceLine, faceLines, numberOfLine, removeFaceLine, removeWords, setWord } from "./face_lines.js";
 
 /**
@@ -11,8 +11,9 @@ import { addFaceLine, faceLines, numberOfLine, removeFaceLine, removeWords, setW
  */
 
 export { COLOURS };
-/** Kinds whose head has the number of a lamp. */
-const OF_LAMPS = new Set(["lamp", "colour", "display", "die", "bar", "matrix"]);
+/** Kinds whose head has the number of a row, of keys or of a grid; other numbers there are those of lamps. */
+const OF_ROWS = ["row", "grid"];
+const OF_LAMPS = new Set([...KINDS].filter(([name, { head }]) => head.startsWith("N") && !OF_ROWS.includes(name)).map(([name]) => name));
 const NONE = "_";
 
 /**

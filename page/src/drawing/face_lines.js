@@ -41,7 +41,7 @@ export function faceLines(draft) {
     const colon = text.indexOf(":", before.length);
     const [place = null, , last = null] = placedWords(text.slice(before.length, colon), begin + before.length);
     const words = placedWords(text.slice(colon + 1), begin + colon + 1);
-    return [{ line: at + 1, kind: head.kind, place, last, words, end: begin + text.trimEnd().length }];
+    return [{ line: at + 1, kind: head.name, place, last, words, end: begin + text.trimEnd().length }];
   });
 }
 
