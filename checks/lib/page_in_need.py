@@ -203,6 +203,7 @@ def check_no_locks(browser, page, folder):
     browser.reload()
     until_ready(browser)
     verdict("and what the second one wrote is there", lines_answered(browser, "regs"), re.compile(" r .{5}9"))
+    verdict("a page that was left holds up no other", reopen(browser, page.as_uri()), "")
 
 
 def check_blocked(kind, page, folder):

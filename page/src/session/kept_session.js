@@ -77,9 +77,12 @@ export class KeptSession {
     return this.waiting;
   }
 
-  /** The same for a page that is just going away and cannot wait. Some stores need the answer to the write before. */
+  /**
+   * The same for a page that is just going away and cannot wait. A store whose writes need an answer in between is asked for none: the
+   * answer would not come any more, and what was begun would hold the store against other pages.
+   */
   keepNow() {
-    return this.store.isWhole && !this.isUntouched ? this.write() : this.keep();
+    return this.store.isWhole && !this.isUntouched ? this.write() : Promise.resolve("");
   }
 
   get isUntouched() {
