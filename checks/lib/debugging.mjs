@@ -110,6 +110,39 @@ async function tryBreakpoints(name) {
   await client.end();
 }
 
+/** Back from arrival to arrival at a label, beside the stops of the program on its way there; with a condition, those where it holds. */
+async function tryArrivals(name, label, register) {
+  const { file, names } = fileOf(name);
+  const stops = "run 20000\nstate\n".repeat(40);
+  const wanted = mcs4("open", file, `state\nbreak ${names.get(label)}\n${stops}`).filter((each) => each.startsWith("state ")).map(valuesOf);
+  const client = new Client(DAP);
+  await client.begin(example(name));
+  await client.event("stopped");
+  const { breakpoints: [{ id }] } = await client.ask("setFunctionBreakpoints", { breakpoints: [{ name: label }] });
+  for (let stop = 0; stop < 40; stop++) await client.move("continue");
+  const back = [];
+  const ids = [];
+  for (let stop = 0; stop < 20; stop++) {
+    const { reason, hitBreakpointIds } = await client.move("reverseContinue");
+    back.push(await seen(client));
+    ids.push([reason, ...(hitBreakpointIds || [])]);
+  }
+  verdict(back, wanted.slice(20, 40).reverse().map(same), `${name}: back to 20 arrivals at ${label}`);
+  verdict(ids.filter(([reason, hit]) => reason !== "function breakpoint" || hit !== id), [], `${name}: each by that breakpoint`);
+  const value = wanted[10].r[register];
+  const held = wanted.slice(1, 20).filter(({ r }) => r[register] === value).reverse();
+  await client.ask("setFunctionBreakpoints", { breakpoints: [{ name: label, condition: `r${register} = ${parseInt(value, 16)}`, hitCondition: "90" }] });
+  const met = [];
+  for (let stop = 0; stop < held.length; stop++) {
+    await client.move("reverseContinue");
+    met.push(await seen(client));
+  }
+  verdict(met, held.map(same), `${name}: back to ${held.length} arrivals where a condition holds`);
+  const { reason } = await client.move("reverseContinue");
+  verdict([reason, await seen(client)], ["entry", same(wanted[0])], `${name}: and to the beginning`);
+  await client.end();
+}
+
 /** Values that are set and keys that go down, beside `poke`, `press` and `test`. */
 async function trySetting() {
   const { file } = fileOf("lock");
@@ -230,7 +263,7 @@ async function timed(count, act) {
 async function trySpeed() {
   const program = `${folder}/far.asm`;
   // R0 counts 12 * 16 ** 5 times, with NOP and ISZ of 3 cycles; each of R1 to R5 after 16 turns of the one before it, by 2.
-  const count = [0, 1, 2, 3, 4, 5].map((each) => `        ISZ R${each}, turn\n`).join("");
+  const count = [0, 1, 2, 3, 4, 5].map((each) => `count${each}: ISZ R${each}, turn\n`).join("");
   writeFileSync(program, `        FIM P0, 0\n        FIM P1, 0\n        FIM P2, 0x04\nturn:   NOP\n${count}far:    JUN far\n`);
   const client = new Client(DAP);
   await client.begin({ program, board: example("three_lamps").board });
@@ -242,6 +275,12 @@ async function trySpeed() {
   const time = (performance.now() - begun) / 1000;
   const backs = await timed(20, () => client.move("stepBack"));
   console.log(`speed: a step back after millions of cycles is told in ${spoken(backs)}`);
+  for (const breakpoint of [{ name: "count3" }, { name: "turn", condition: "r1 = 0 and r0 = 0" }]) {
+    await client.ask("setFunctionBreakpoints", { breakpoints: [breakpoint] });
+    const arrivals = await timed(20, () => client.move("reverseContinue"));
+    const what = breakpoint.condition ? "a condition that is asked 256 times" : "a breakpoint 12,000 cycles ago";
+    console.log(`speed: back to ${what} is told in ${spoken(arrivals)}`);
+  }
   const { result } = await client.ask("evaluate", { expression: "count 1", context: "repl" });
   verdict([stop.reason, /^count/.test(result)], ["function breakpoint", true], "a breakpoint far away");
   console.log(`speed: ${(FAR / 1e6).toFixed(1)} million cycles to a breakpoint in ${time.toFixed(2)} s`);
@@ -252,6 +291,8 @@ for (const name of ["lock", "calculator", "stacker", "three_lamps"]) {
   await trySteps(name);
   await tryBreakpoints(name);
 }
+await tryArrivals("lock", "scan", 5);
+await tryArrivals("stacker", "pause", 2);
 await trySetting();
 await trySession();
 await tryFiles();

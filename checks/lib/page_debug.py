@@ -125,6 +125,7 @@ def check_condition(browser):
     browser.click("#run")
     comes(browser, "it stops where its condition holds", STATUS, "Stopped at 011, at a breakpoint, where r9 = 9.")
     verdict("as the bench says", lines_answered(browser, "regs"), re.compile(" r .{9}9.{6} "))
+    check_back(browser)
     verdict("it is none of the session's file", lines_answered(browser, "breaks"), re.compile("breaks -$"))
     browser.script(FILL, CONDITION, "r44 = 9")
     comes(browser, "a condition that cannot be read says why, in its place", FAULTS, "It stops nothing: the registers are r0 to r15, not r44.")
@@ -152,6 +153,27 @@ def check_condition(browser):
     comes(browser, "switched off it is kept", LISTED, re.compile("^\u25cb "))
     browser.click("#run")
     browser.until(RUN_WORD, "Run")
+
+
+def check_back(browser):
+    """Back to the last arrival where a condition holds, however time went on; and to the beginning, where there is none."""
+    lines_answered(browser, "run 77")
+    browser.click("#back-breakpoint")
+    comes(browser, "back to the arrival where its condition holds", STATUS,
+          re.compile(r"^Back at 011, 77 cycles, .* before, at a breakpoint, where r9 = 9\.$"))
+    verdict("R9 is what it was", lines_answered(browser, "regs"), re.compile(" r .{9}9.{6} "))
+    browser.click("#forward")
+    browser.until(STATUS, re.compile("^Forward again"))
+    browser.click("#back-breakpoint")
+    browser.until(STATUS, re.compile("at a breakpoint, where r9 = 9"))
+    browser.click("#back-breakpoint")
+    comes(browser, "and to the one before it: R9 was counted 16 times on, by 11 cycles", STATUS, re.compile("^Back at 011, 176 cycles, "))
+    browser.script(FILL, CONDITION, "r9 = 9 and r9 = 8")
+    browser.click("#back-breakpoint")
+    comes(browser, "there is none where it never holds", STATUS,
+          re.compile("^Back at ..., .* where what is remembered begins: no breakpoint was passed since"))
+    browser.click("#forward")
+    comes(browser, "and forward again", STATUS, re.compile("^Forward again to 011"))
 
 
 def check_kept(browser):

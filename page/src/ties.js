@@ -86,6 +86,7 @@ export function travelOf(page) {
     counted: (tally) => page.breakpoints.count(tally),
     reasonOf: (stop, goal) => running.reasonOf(stop, goal),
     place: () => running.place,
+    breakpoint: (id) => page.breakpoints.keeper.list.get(id),
     tell: (words) => running.tell(words),
   });
 }

@@ -198,7 +198,15 @@ test("over, into, out, back and back again; goto; values are set", async () => {
   assert.deepEqual(await lines(), [30]);
   const back = await move("stepBack");
   assert.deepEqual([back.reason, await lines()], ["step", [83, 29]]);
-  await move("reverseContinue");
+  await ask("setFunctionBreakpoints", { breakpoints: [{ name: "show" }] });
+  const arrival = await move("reverseContinue");
+  assert.deepEqual([arrival.reason, arrival.hitBreakpointIds.length, await lines()], ["function breakpoint", 1, [80, 29]]);
+  const beginning = await move("reverseContinue");
+  assert.deepEqual([beginning.reason, await lines()], ["entry", [16]]);
+  assert.match(beginning.description, /^Back at 000 .*, where what is remembered begins: no breakpoint was passed since\.$/);
+  assert.match((await move("reverseContinue")).description, /^Nothing was done: what is remembered reaches no further back\.$/);
+  await ask("setFunctionBreakpoints", { breakpoints: [] });
+  for (const command of ["stepIn", "next", "next", "next", "stepIn"]) await move(command);
   assert.deepEqual(await lines(), [80, 29]);
   const { targets: [target] } = await ask("gotoTargets", { source: SOURCE, line: 57 });
   assert.equal((await move("goto", { threadId: 1, targetId: target.id })).reason, "goto");

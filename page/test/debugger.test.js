@@ -161,6 +161,101 @@ test("breakpoints are no part of the past: going back leaves them, and what come
   assert.deepEqual([bench.count.total, session.values(["r4", "pc"])], end);
 });
 
+/** The totals of cycles at which a breakpoint was arrived at, one stop of the bench after the other; the session stands at the last one. */
+async function arrivalsOf(session, count) {
+  const seen = [];
+  for (let stop = 0; stop < count; stop++) {
+    await session.go();
+    seen.push([session.debugger.session.count.total, session.values(["r4"])[0]]);
+  }
+  return seen;
+}
+
+const backToArrival = (session, place = "") => session.back({ kind: "arrival", place });
+
+test("back to the last arrival at a breakpoint: the stops of the way there, whatever was done between", async () => {
+  const session = open();
+  const { session: bench } = session.debugger;
+  session.breakpoints.add({ line: LINE.write });
+  await session.placeBreakpoints();
+  const seen = await arrivalsOf(session, 30);
+  session.breakpoints.add({ line: LINE.increment, isOn: false });
+  session.breakpoints.add({ line: LINE.back, note: "no stop" });
+  await session.placeBreakpoints();
+  await session.debugger.session.serve("poke r9 3\nrun 5\ntest 0\nrun 7\n", async () => true);
+  const { total } = bench.count;
+  for (const [at, [cycles, r4]] of [...seen].reverse().entries()) {
+    const from = bench.count.total;
+    const back = await backToArrival(session);
+    assert.deepEqual([bench.count.total, session.values(["r4"])[0], session.line], [cycles, r4, LINE.write]);
+    assert.deepEqual([back.isDone, back.end, back.id, back.cycles], [true, "break", 1, from - cycles]);
+    assert.match(back.words, at === 0 ? /^Back at 009 \(show \+ 1, line 9\), 12 cycles, 0.130 ms before, at a/ : /at a breakpoint\.$/);
+  }
+  const begin = await backToArrival(session);
+  assert.deepEqual([begin.isDone, begin.end, bench.count.total], [true, "beginning", 0]);
+  assert.match(begin.words, /^Back at 000 \(start, line 2\), .* before, where what is remembered begins: no breakpoint was passed/);
+  const none = await backToArrival(session);
+  assert.deepEqual([none.isDone, none.words], [false, "Nothing was done: what is remembered reaches no further back."]);
+  for (let times = 0; times < seen.length + 1; times++) session.forward();
+  assert.equal(bench.count.total, total);
+});
+
+test("back to an arrival: conditions are asked, counts are not, and breakpoints of then are not those of now", async () => {
+  const session = open();
+  const { session: bench } = session.debugger;
+  const first = session.breakpoints.add({ line: LINE.show });
+  await session.placeBreakpoints();
+  const seen = await arrivalsOf(session, 40);
+  session.breakpoints.remove(first.id);
+  const { id } = session.breakpoints.add({ line: LINE.show, condition: "r4 = 3", from: 100 });
+  await session.placeBreakpoints();
+  for (const [cycles] of seen.filter(([, r4]) => r4 === "3").reverse()) {
+    const back = await backToArrival(session);
+    assert.deepEqual([bench.count.total, back.id], [cycles, id]);
+    assert.match(back.words, /, at a breakpoint, where r4 = 3\.$/);
+  }
+  assert.equal((await backToArrival(session)).end, "beginning");
+  assert.deepEqual(bench.ask("breaks\n"), ["breaks -"]);
+});
+
+test("back to an arrival meets what is watched, by the bench or beside it, and stands before the change", async () => {
+  const session = open(PROGRAM.replace("BBL 0", "WRM\n BBL 0"));
+  const { session: bench } = session.debugger;
+  session.breakpoints.add({ line: LINE.show, condition: "r4 = 2" });
+  await session.placeBreakpoints();
+  await bench.serve("watch 0 0\nrun 100000\n", async () => true);
+  await bench.serve("unwatch 0 0\nrun 300\nwatch 0 0\n", async () => true);
+  const watched = await backToArrival(session);
+  assert.deepEqual([watched.end, watched.place, watched.line], ["change", "ram.0.0x00", ""]);
+  assert.match(watched.words, /: this instruction changes ram\.0\.0x00 from \w to \w\.$/);
+  const old = session.values(["ram.0.0x00"])[0];
+  await session.into();
+  assert.notEqual(session.values(["ram.0.0x00"])[0], old);
+  await bench.serve("unwatch 0 0\n", async () => true);
+  const beside = await backToArrival(session, "r4");
+  assert.equal(beside.place, "r4");
+  assert.equal((await backToArrival(session, "ram.7.0")).why, "lacks");
+  assert.match((await backToArrival(session, "ram1.0")).words, /^Nothing was done: this board has no ram1\.0\.$/);
+});
+
+test("back to an arrival is found in what is kept of a long run, at once", async () => {
+  // R0 to R3 count; `hit` comes once in 16 ** 4 turns.
+  const turns = [0, 1, 2, 3].map((each) => ` ISZ R${each}, turn\n`).join("");
+  const session = open(`start: FIM P0, 0\n FIM P1, 0\nturn: NOP\n${turns}hit: NOP\n JUN turn\n`);
+  const { session: bench } = session.debugger;
+  const hit = session.map.valueOf("hit");
+  session.breakpoints.add({ line: session.map.lineOf(hit) });
+  await session.placeBreakpoints();
+  const seen = await arrivalsOf(session, 3);
+  for (let frame = 0; bench.count.total < 10000000; frame++) {
+    if (session.debugger.advance(400000).stop) seen.push([bench.count.total, ""]);
+  }
+  for (const [cycles] of seen.reverse()) {
+    if (cycles === bench.count.total) continue;
+    assert.deepEqual([(await backToArrival(session)).end, bench.count.total, session.address], ["break", cycles, hit]);
+  }
+});
+
 test("a program that is assembled anew takes its breakpoints along", async () => {
   const session = open();
   session.breakpoints.add({ line: LINE.increment });

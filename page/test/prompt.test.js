@@ -87,6 +87,24 @@ test("moves, and the same way back", async () => {
   assert.deepEqual(await ask("finish"), ["refused: no call waits for its return here"]);
 });
 
+test("back to arrivals at breakpoints, to changes of what is watched, and to the stop before", async () => {
+  const { session, ask } = await prompted();
+  const total = () => session.debugger.session.count.total;
+  await ask("break next if r4 = 2", "continue");
+  const first = total();
+  await ask("run 50", "run 60");
+  const words = async (line) => (await ask(line)).find((each) => each.startsWith("Back at"));
+  assert.match(await words("back"), /^Back at the stop at .*, 60 cycles, .* before\.$/);
+  assert.match(await words("reverse-continue"), /^Back at 005 \(next, line \d+\), 50 cycles, .*, at a breakpoint, where r4 = 2\.$/);
+  assert.equal(total(), first);
+  await ask("watch lamps");
+  assert.match(await words("rc"), /: this instruction changes lamps from \.\.\. to \.\.\*\.$/);
+  assert.match(await words("rc"), /^Back at 000 .*, where what is remembered begins: no breakpoint was passed since\.$/);
+  assert.equal(total(), 0);
+  assert.deepEqual(await ask("rc"), ["refused: Nothing was done: what is remembered reaches no further back."]);
+  assert.match((await ask("rc 3")).join(), /^refused: reverse-continue stands alone/);
+});
+
 test("breakpoints with conditions, counts and notes; watches", async () => {
   const { ask, session } = await prompted();
   assert.match((await ask("break wait from 3"))[0], /^Breakpoint 1 at 014 \(wait, line \d+\)\.$/);

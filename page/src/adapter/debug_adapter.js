@@ -299,7 +299,7 @@ export class DebugAdapter {
       stepIn: move((machine) => machine.into()),
       stepOut: move((machine) => machine.go({ kind: "out" })),
       stepBack: move((machine) => machine.back({ kind: "instruction" })),
-      reverseContinue: move((machine) => machine.back({ kind: "stop" })),
+      reverseContinue: move((machine) => machine.back({ kind: "arrival", place: "" })),
       pause: () => {
         const { machine } = this.there;
         return new Followed(undefined, () => machine.pause());

@@ -21,7 +21,13 @@ import { fail, wordsOf } from "./protocol.js";
  */
 
 /** @type {Record<string, string>} what the protocol calls why a run stopped */
-const REASONS = { goal: "step", break: "breakpoint", watch: "data breakpoint", pause: "pause", lacks: "step" };
+const REASONS = {
+  goal: "step", break: "breakpoint", watch: "data breakpoint", pause: "pause", lacks: "step", arrival: "pause", beginning: "entry",
+};
+/** @type {Record<string, string>} why time stands where going back has led, by its goal, and by what was met on the way */
+const REACHED = { stop: "pause", arrival: "arrival" };
+/** @type {Record<string, string>} */
+const MET = { break: "break", change: "watch", beginning: "beginning" };
 /** What is shown is looked at so many milliseconds after it was last. */
 const LOOK_TIME = 100;
 
@@ -61,20 +67,20 @@ export class Machine {
 
   /** @param {BackGoal} goal */
   back(goal) {
-    this.begin(async () => this.wentBack(await this.session.back(goal, () => this.between()), goal.kind === "stop"), () => false);
+    this.begin(async () => this.wentBack(await this.session.back(goal, () => this.between()), REACHED[goal.kind] || "goal"), () => false);
   }
 
   forward() {
-    this.begin(async () => this.wentBack(this.session.forward(), false), () => false);
+    this.begin(async () => this.wentBack(this.session.forward(), "goal"), () => false);
   }
 
   /**
-   * @param {{ isDone: boolean, words: string }} went
-   * @param {boolean} isRun
+   * @param {{ isDone: boolean, words: string, end: string, id: number }} went
+   * @param {string} why time stands there, where nothing that is met on the way tells it
    */
-  wentBack({ isDone, words }, isRun) {
+  wentBack({ isDone, words, end, id }, why) {
     if (!isDone) this.calls.output(`${words}\n`, "console");
-    return { why: isRun ? "pause" : "goal", words, id: 0, tally: null };
+    return { why: MET[end] && why === "arrival" ? MET[end] : why, words, id, tally: null };
   }
 
   /**

@@ -77,7 +77,9 @@ export class Arrivals {
         count += 1;
         continue;
       }
-      const ran = this.run(engine, { lines, count, cycles: cyclesOfStep(step), done }, seen);
+      const before = done;
+      const ran = this.run(engine, this.copy, { lines, count, cycles: cyclesOfStep(step) },
+        (end, row, part) => end !== "break" || this.isStop(row, before + part, seen));
       if (ran < 0) return seen;
       done += ran;
       [lines, count] = ["", 0];
@@ -97,19 +99,20 @@ export class Arrivals {
   }
 
   /**
-   * Goes through a run on the copy; gives its cycles, -1 where something stops it.
+   * Goes through a run on a file that has the breakpoints; gives its cycles, -1 where a visit ends it.
    * @param {Engine} engine
-   * @param {{ lines: string, count: number, cycles: number, done: number }} step lines before it, how many answers they have, how many
-   *   cycles it has, and how many were done before
-   * @param {Seen} seen
+   * @param {Uint8Array} file
+   * @param {{ lines: string, count: number, cycles: number }} step lines before it, how many answers they have, how many cycles it has
+   * @param {(end: string, row: string[], ran: number) => boolean} visit is told of each stop, by the word of its answer, what stands at
+   *   `places` there, and how many cycles of the run were done; it says whether that is the end
    */
-  run(engine, { lines, count, cycles, done }, seen) {
+  run(engine, file, { lines, count, cycles }, visit) {
     let [before, skipped, ran, arrivals] = [lines, count, 0, 0];
     while (ran < cycles) {
       const left = cycles - ran;
       const runs = Math.min(left, MOST_RUNS, Math.max(1, Math.round(2 * this.density * left)));
       const pair = `run ${Math.floor(left / runs)}\n${this.probes.join("")}`;
-      const answers = new Answers(engine.serve(this.copy, before + pair.repeat(runs), this.copy).answers);
+      const answers = new Answers(engine.serve(file, before + pair.repeat(runs), file).answers);
       answers.skip(skipped);
       [before, skipped] = ["", 0];
       while (!answers.isEmpty) {
@@ -118,11 +121,28 @@ export class Arrivals {
         ran += part;
         if (end === "end") continue;
         arrivals += 1;
-        if (end !== "break" || this.isStop(row, done + ran, seen)) return -1;
+        if (visit(end, row, ran)) return -1;
       }
     }
     this.density = arrivals / cycles;
     return ran;
+  }
+
+  /**
+   * The breakpoint at which time has arrived, where its condition holds; null where there is none.
+   * @param {string[]} row what stands at `places`
+   */
+  heldAt(row) {
+    const found = this.at.get(parseInt(row[0], 16));
+    return found && found.holds(this.valuesFor(found, row)) ? found : null;
+  }
+
+  /**
+   * @param {SoftBreakpoint} breakpoint
+   * @param {string[]} row
+   */
+  valuesFor({ id }, row) {
+    return (this.looks.get(id) || []).map((at) => row[at]);
   }
 
   /**
@@ -136,7 +156,7 @@ export class Arrivals {
     // One that always stops; the session has it itself.
     if (!found) return true;
     const { id, holds, words, from } = found;
-    const values = (this.looks.get(id) || []).map((at) => row[at]);
+    const values = this.valuesFor(found, row);
     if (!holds(values)) return false;
     const hits = (seen.hits.get(id) || 0) + 1;
     seen.hits.set(id, hits);

@@ -164,7 +164,7 @@ export class DebugSession {
       if (frame.stop) return this.stopped(goal, frame.stop, tally);
       const isOver = done >= most;
       if (!isOver && await goesOn(done, frame.tally)) continue;
-      debug.drop();
+      debug.stopped();
       const words = wordsOfHalt(goal, done, this.placeWords);
       return { why: isOver ? "passed" : "pause", id: 0, cycles: done, returns: false, words, tally };
     }
@@ -198,7 +198,7 @@ export class DebugSession {
    */
   async back(goal, goesOn = always) {
     const went = await this.debugger.goBack(goal, (done = 0) => goesOn(done));
-    return { ...went, words: wordsOfGone(goal, went, this.placeWords) };
+    return { ...went, words: wordsOfGone(goal, went, this.placeWords, this.breakpoints.get(went.id)) };
   }
 
   forward() {

@@ -15,19 +15,21 @@
 import { readBoard, readCounter, readRun, refusalOf } from "../bench/answers.js";
 import { hex } from "../bench/numbers.js";
 import { placeOf } from "../bench/places.js";
-import { aimBack } from "../worker/going_back.js";
+import { NOTHING_TOLD, aimBack } from "../worker/going_back.js";
 import { runLines } from "../worker/key_queue.js";
 import { Answers, valuesOf } from "../worker/tracing.js";
 import { cyclesToGoal, seek, stepsUpTo } from "./ahead.js";
 import { Arrivals, MOST_NOTES, nothingSeen } from "./arrivals.js";
 import { MOST_PLACES } from "./conditions.js";
 import { watcherOf } from "./goals.js";
+import { lastArrival } from "./last_arrival.js";
 import { isSoft, softBreakpointOf } from "./soft_breakpoints.js";
 import { UsualFaults } from "./usual_faults.js";
 
 /**
  * @typedef {import("./arrivals.js").Logged} Logged
  * @typedef {import("./arrivals.js").Seen} Seen
+ * @typedef {import("./arrivals.js").SoftBreakpoint} SoftBreakpoint
  * @typedef {import("./conditions.js").Names} Names
  * @typedef {import("./goals.js").Found} Found
  * @typedef {import("./goals.js").Goal} Goal
@@ -313,11 +315,22 @@ export class Debugger {
   async goBack(goal, goesOn) {
     this.begin();
     const { session } = this;
-    const { moment, present: found, ...told } = await aimBack(session.engine, session, goal, goesOn);
+    const { moment, present: found, ...told } = goal.kind === "arrival" ? await lastArrival(session, this.stopping(), goal.place, goesOn)
+      : await aimBack(session.engine, session, goal, goesOn);
     if (!moment) return { ...told, isDone: false, wires: false, cycles: 0 };
     const present = found || await session.timeline.at(session.engine, moment, goesOn);
     session.timeline.goBack(moment, session);
     return { ...told, ...this.become(present) };
+  }
+
+  /**
+   * The breakpoints that stop time, as those with a condition: the bench's own where none were set.
+   * @returns {SoftBreakpoint[]}
+   */
+  stopping() {
+    const hard = this.hard || new Map(this.session.breaks.map((address) => [address, 0]));
+    const always = { from: 1, hits: 0, places: [], holds: () => true, words: null };
+    return [...[...hard].map(([address, id]) => ({ ...always, id, address })), ...this.arrivals.breakpoints.filter(({ words }) => !words)];
   }
 
   /**
@@ -342,8 +355,7 @@ export class Debugger {
   goForward() {
     this.begin();
     const present = this.session.timeline.goForward();
-    const told = { why: /** @type {"" } */ (""), from: "", to: "", line: "" };
-    return present ? { ...told, ...this.become(present) } : { ...told, isDone: false, wires: false, cycles: 0 };
+    return present ? { ...NOTHING_TOLD, ...this.become(present) } : { ...NOTHING_TOLD, isDone: false, wires: false, cycles: 0 };
   }
 
   /** @param {Present} present */

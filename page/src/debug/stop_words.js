@@ -35,18 +35,25 @@ export function wordsOfPlace(address, map) {
 /**
  * What going back or forward came to.
  * @param {BackGoal | { kind: "forward" }} goal
- * @param {Pick<Gone, "isDone" | "why" | "from" | "to" | "line" | "cycles">} gone
+ * @param {Pick<Gone, "isDone" | "why" | "place" | "from" | "to" | "line" | "end" | "cycles">} gone
  * @param {string} place where time stands still
+ * @param {{ condition: string }} [breakpoint] at which it arrived there
  */
-export function wordsOfGone(goal, { isDone, why, from, to, line, cycles }, place) {
+export function wordsOfGone(goal, gone, place, breakpoint) {
+  const { isDone, why, from, to, line, end, cycles } = gone;
   if (!isDone) return `Nothing was done: ${whyNot(goal, why)}.`;
   const over = cycles === 0 ? "" : `, ${wordsOfCycles(cycles)}`;
   if (goal.kind === "forward") return `Forward again to ${place}${over}${over && " later"}.`;
   const before = cycles === 0 ? "" : `${over} before`;
   if (goal.kind === "stop") return `Back at the stop at ${place}${before}.`;
   if (goal.kind === "instruction") return `Back at ${place}${before}: this instruction is not done.`;
+  if (end === "break") {
+    const when = wordsOfWhen(breakpoint && { ...breakpoint, from: 1, hits: 0 });
+    return `Back at ${place}${before}, at a breakpoint${when}.`;
+  }
+  if (end === "beginning") return `Back at ${place}${before}, where what is remembered begins: no breakpoint was passed since.`;
   const who = line ? `the line ${line}` : "this instruction";
-  return `Back at ${place}${before}: ${who} changes ${goal.place} from ${from} to ${to}.`;
+  return `Back at ${place}${before}: ${who} changes ${gone.place} from ${from} to ${to}.`;
 }
 
 /**
@@ -56,7 +63,7 @@ export function wordsOfGone(goal, { isDone, why, from, to, line, cycles }, place
 function whyNot(goal, why) {
   if (goal.kind === "forward") return "forward leads where going back came from, until something else is done";
   if (goal.kind === "stop") return "no stop before this one is remembered";
-  if (goal.kind === "instruction") return "what is remembered reaches no further back";
+  if (goal.kind === "instruction" || why === "short" && goal.kind === "arrival") return "what is remembered reaches no further back";
   if (why === "lacks") return `this board has no ${goal.place}`;
   return `${goal.place} has not changed as far back as is remembered`;
 }

@@ -24,9 +24,11 @@ finish fin | finish | up to the return from this subroutine |
 until u advance | until PLACE | up to a place in the program |
 reverse-step rs | reverse-step [N] | an instruction back |
 reverse-next rn | reverse-next [N] | an instruction back, past the subroutine that was called |
-reverse-continue rc | reverse-continue | back to the stop before |
-back | back PLACE | back to before the last change of a place | As back ram.0.0x12, back r4, back lamps: it finds the
- instruction that wrote it.
+reverse-continue rc | reverse-continue | back to the last arrival at a breakpoint | With its condition; a change of what is
+ watched is found, too. It goes to the beginning of what is remembered where there is none. How many hits a breakpoint is to have
+ (from N) is not asked.
+back | back [PLACE] | back to before the last change of a place | As back ram.0.0x12, back r4, back lamps: it finds the
+ instruction that wrote it. Without a place, to the stop before: what was done since is undone.
 forward | forward | to where going back came from |
 press | press KEY .. | keys are pressed, 43 ms each, and time passes | KEY is a name of the board's face, or row.column;
  press 12+3= presses five keys.

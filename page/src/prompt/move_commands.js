@@ -43,9 +43,13 @@ export class MoveCommands {
       },
       "reverse-step": back({ kind: "instruction" }),
       "reverse-next": (rest) => this.repeat(rest, () => machine.begin(async () => (
-        machine.wentBack(await backOver(this.prompt.session, () => machine.between()), false)), () => false)),
-      "reverse-continue": back({ kind: "stop" }),
+        machine.wentBack(await backOver(this.prompt.session, () => machine.between()), "goal")), () => false)),
+      "reverse-continue": (rest) => {
+        if (rest !== "") refuse("reverse-continue stands alone; reverse-step N goes back so many instructions");
+        return this.move(() => machine.back({ kind: "arrival", place: this.prompt.watched }));
+      },
       "back": (rest) => {
+        if (rest === "") return this.move(() => machine.back({ kind: "stop" }));
         const place = this.prompt.placeOfWords(rest, "back");
         return this.move(() => machine.back({ kind: "change", place }));
       },

@@ -38,6 +38,7 @@ export class HistoryView {
     /** @type {string[]} */
     this.lampNames = [];
     onClick(button("back-stop"), () => calls.goBack({ kind: "stop" }));
+    onClick(button("back-breakpoint"), () => calls.goBack({ kind: "arrival", place: "" }));
     onClick(button("back-instruction"), () => calls.goBack({ kind: "instruction" }));
     onClick(this.forward, () => calls.goForward());
     onClick(button("step-many"), () => this.stepMany());

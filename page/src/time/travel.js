@@ -12,11 +12,13 @@ import { wordsOfGone } from "../debug/stop_words.js";
  * @typedef {import("../debug/goals.js").Goal} Goal
  *
  * What it calls: time stands still; work that changes the session is done, kept and shown, or null is given; time runs up to a goal that
- * the bench knows; breakpoints did something; why time stopped, in words, and the place where it stands still; the status says something.
+ * the bench knows; breakpoints did something; why time stopped, in words; the place where it stands still; a breakpoint; the status says
+ * something.
  * @typedef {{ stand: () => Promise<void>,
  *   change: <Result extends ServedLines>(words: string, work: (ways: Ways) => Promise<Result>) => Promise<Result | null>,
  *   runTo: (goal: Goal) => void, counted: (tally: Tally) => void, reasonOf: (stop: Stop, goal: Goal) => string,
- *   place: () => string, tell: (words: string) => void }} TravelCalls
+ *   place: () => string, breakpoint: (id: number) => import("../debug/breakpoints.js").Breakpoint | undefined,
+ *   tell: (words: string) => void }} TravelCalls
  */
 
 export class Travel {
@@ -47,7 +49,7 @@ export class Travel {
   async goBack(goal) {
     await this.calls.stand();
     const gone = await this.calls.change("The past is done again on a copy.", (ways) => this.bench.call("goBack", [goal], ways));
-    if (gone) this.calls.tell(wordsOfGone(goal, gone, this.calls.place()));
+    if (gone) this.calls.tell(wordsOfGone(goal, gone, this.calls.place(), this.calls.breakpoint(gone.id)));
   }
 
   async goForward() {

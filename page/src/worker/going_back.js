@@ -1,4 +1,5 @@
-// Where going back leads to: the last stop, the beginning of the last instruction, or before the last change of a place.
+// Where going back leads to: the last stop, the beginning of the last instruction, before the last change of a place, or the last arrival
+// at a breakpoint (last_arrival.js).
 
 import { readBoard, readCounter } from "../bench/answers.js";
 import { Cancelled } from "../bench/faults.js";
@@ -13,27 +14,38 @@ import { cyclesOf, piecesOf, unitsBetween } from "./units.js";
  * @typedef {import("./timeline.js").Moment} Moment
  * @typedef {import("./timeline.js").Timeline} Timeline
  * @typedef {import("./units.js").Unit} Unit
- * @typedef {{ kind: "stop" } | { kind: "instruction" } | { kind: "change", place: string }} BackGoal
+ * @typedef {{ kind: "stop" } | { kind: "instruction" } | { kind: "change", place: string } | { kind: "arrival", place: string }} BackGoal
+ *   an arrival at a breakpoint, or before a change of what is watched, `place` too, "" for none
  *
- * The moment, or null and why there is none: the past does not reach so far, or the board lacks the place. Of a change, what it was from
- * and to, and the command that made it, "" where an instruction did.
- * @typedef {{ moment: Moment | null, why: "" | "short" | "lacks", from: string, to: string, line: string,
- *   present: import("./timeline.js").Present | null }} Aim `present` is what the session was then, where that is known
+ * The moment, or null and why there is none: the past does not reach so far, or the board lacks the place. Of a change, its place, what it
+ * was from and to, and the command that made it, "" where an instruction did. Of an arrival, what is there: a breakpoint, with its id, a
+ * change, or nothing but the beginning of what is remembered.
+ * @typedef {{ moment: Moment | null, why: "" | "short" | "lacks", place: string, from: string, to: string, line: string,
+ *   end: "" | "break" | "change" | "beginning", id: number, present: import("./timeline.js").Present | null }} Aim `present` is what the
+ *   session was then, where that is known
+ *
+ * Looks for something in the past: it begins at a moment, which is the session then; it gives the last that it finds among some steps,
+ * which follow each other, and does them on that session's file.
+ * @typedef {{ begin: (present: import("./timeline.js").Present) => void, among: (units: Unit[]) => Aim | null }} Finder
  */
 
-/** The cycles before the present that are looked through first; each further stretch is twice as long. */
+/** The cycles before the present that are looked through first; each further stretch is so many times as long. */
 const FIRST_BLOCK = 500;
+const LONGER = 8;
 const LARGEST_BLOCK = 4000000;
 /** So many cycles, and so many steps, are done at once. */
 const PIECE_CYCLES = 400000;
 const PIECE_UNITS = 500;
 
+/** @type {Omit<Aim, "moment" | "present">} what is told where nothing was looked for */
+export const NOTHING_TOLD = { why: "", place: "", from: "", to: "", line: "", end: "", id: 0 };
+
 /**
  * @param {Partial<Aim>} some
  * @returns {Aim}
  */
-function aim(some) {
-  return { moment: null, why: "", from: "", to: "", line: "", present: null, ...some };
+export function aim(some) {
+  return { moment: null, present: null, ...NOTHING_TOLD, ...some };
 }
 
 /**
@@ -52,82 +64,109 @@ async function lastInstruction(engine, timeline, goesOn) {
   return aim({ why: "short" });
 }
 
-/**
- * The last change among some steps, which are done on a file, and asked about ahead; null where there is none.
- * @param {Engine} engine
- * @param {Uint8Array} file
- * @param {Unit[]} units
- * @param {string[]} probes
- * @param {Place} place
- */
-function changeAmong(engine, file, units, probes, place) {
-  /** @type {(cycles: number) => string} */
-  const ask = (cycles) => `trace ${cycles} ${probes.join(" ")}\n`;
-  const lines = units.map(({ line, cycles }) => `${ask(Math.max(1, cycles))}${line}\n`).join("");
-  const answers = new Answers(engine.serve(file, lines + ask(1), file).answers);
-  /** @type {Aim | null} */
-  let found = null;
-  let row = "";
-  /** @type {(after: string, moment: Moment, line: string) => void} */
-  const see = (after, moment, line) => {
-    if (row !== "" && after !== row) found = aim({ moment, line, from: place.value(valuesOf(row)), to: place.value(valuesOf(after)) });
-    row = after;
-  };
-  for (const { line, cycles, moment } of units) {
-    const trace = answers.takeTrace();
-    answers.take();
-    if (row === "") row = trace.row;
-    if (cycles === 0) see(answers.seeTrace().row, moment, line.split("\n")[0]);
-    for (const traced of cycles === 0 ? [] : trace.lines.map(readTraced)) {
-      see(traced.row, { ...moment, cycles: moment.cycles + traced.cycles }, "");
-    }
+/** Finds the last change of a place. */
+export class LastChange {
+  /**
+   * @param {Engine} engine
+   * @param {Place} place
+   * @param {string[]} probes
+   */
+  constructor(engine, place, probes) {
+    this.engine = engine;
+    this.place = place;
+    this.probes = probes;
+    this.file = new Uint8Array(0);
   }
-  return found;
+
+  /** @param {import("./timeline.js").Present} present */
+  begin({ file }) {
+    this.file = file;
+  }
+
+  /** @param {Unit[]} units which are asked about ahead */
+  among(units) {
+    const { engine, file, place, probes } = this;
+    /** @type {(cycles: number) => string} */
+    const ask = (cycles) => `trace ${cycles} ${probes.join(" ")}\n`;
+    const lines = units.map(({ line, cycles }) => `${ask(Math.max(1, cycles))}${line}\n`).join("");
+    const answers = new Answers(engine.serve(file, lines + ask(1), file).answers);
+    /** @type {Aim | null} */
+    let found = null;
+    let row = "";
+    /** @type {(after: string, moment: Moment, line: string) => void} */
+    const see = (after, moment, line) => {
+      const [from, to] = [row, after].map((each) => place.value(valuesOf(each)));
+      if (row !== "" && after !== row) found = aim({ moment, line, place: place.name, from, to, end: "change" });
+      row = after;
+    };
+    for (const { line, cycles, moment } of units) {
+      const trace = answers.takeTrace();
+      answers.take();
+      if (row === "") row = trace.row;
+      if (cycles === 0) see(answers.seeTrace().row, moment, line.split("\n")[0]);
+      for (const traced of cycles === 0 ? [] : trace.lines.map(readTraced)) {
+        see(traced.row, { ...moment, cycles: moment.cycles + traced.cycles }, "");
+      }
+    }
+    return found;
+  }
 }
 
 /**
- * Before the last change of a place: block by block from the present on.
+ * What was last in the past: it is looked for block by block from the present on.
  * @param {Engine} engine
  * @param {Timeline} timeline
- * @param {string[]} probes
- * @param {Place} place
+ * @param {Finder} finder
  * @param {GoesOn} goesOn
+ * @returns {Promise<{ found: Aim | null, beginning: Moment }>} `beginning` of what is remembered, where nothing was found
  */
-async function lastChange(engine, timeline, probes, place, goesOn) {
+export async function lastInPast(engine, timeline, finder, goesOn) {
   let to = timeline.end;
-  for (let size = FIRST_BLOCK; ; size = Math.min(LARGEST_BLOCK, size * 2)) {
+  for (let size = FIRST_BLOCK; ; size = Math.min(LARGEST_BLOCK, size * LONGER)) {
     // At the beginning of a segment goes on at the end of the one before it.
     if (to.entry === 0 && to.cycles === 0) {
-      if (!timeline.segments[to.segment].follows) return aim({ why: "short" });
+      if (!timeline.segments[to.segment].follows) return { found: null, beginning: to };
       const { entries } = timeline.segments[to.segment - 1];
       to = { segment: to.segment - 1, entry: entries.length, cycles: 0 };
     }
     const wanted = timeline.before(size, to);
     const from = wanted && wanted.segment === to.segment ? wanted : { segment: to.segment, entry: 0, cycles: 0 };
-    const { file } = await timeline.at(engine, from, goesOn);
+    finder.begin(await timeline.at(engine, from, goesOn));
     /** @type {Aim | null} */
     let found = null;
     for (const units of piecesOf(unitsBetween(timeline, from, to), PIECE_CYCLES, PIECE_UNITS)) {
-      found = changeAmong(engine, file, units, probes, place) || found;
+      found = finder.among(units) || found;
       if (!(await goesOn(cyclesOf(units)))) throw new Cancelled();
     }
-    if (found) return found;
+    if (found) return { found, beginning: from };
     to = from;
   }
 }
 
 /**
+ * What finds the last change of a place; null where the board lacks it.
+ * @param {Engine} engine
+ * @param {Uint8Array} file
+ * @param {string} name
+ */
+export function changeFinder(engine, file, name) {
+  const place = placeOf(name);
+  const probes = place ? place.probesOn(readBoard(engine.ask(file, "board\n").answers)) : [];
+  return place && probes.length > 0 ? new LastChange(engine, place, probes) : null;
+}
+
+/**
  * @param {Engine} engine
  * @param {{ timeline: Timeline, file: Uint8Array }} session
- * @param {BackGoal} goal
+ * @param {Exclude<BackGoal, { kind: "arrival" }>} goal
  * @param {GoesOn} goesOn
  * @returns {Promise<Aim>}
  */
 export async function aimBack(engine, { timeline, file }, goal, goesOn) {
   if (goal.kind === "change") {
-    const place = placeOf(goal.place);
-    const probes = place ? place.probesOn(readBoard(engine.ask(file, "board\n").answers)) : [];
-    return place && probes.length > 0 ? lastChange(engine, timeline, probes, place, goesOn) : aim({ why: "lacks" });
+    const finder = changeFinder(engine, file, goal.place);
+    if (!finder) return aim({ why: "lacks", place: goal.place });
+    return (await lastInPast(engine, timeline, finder, goesOn)).found || aim({ why: "short", place: goal.place });
   }
   if (goal.kind === "instruction") return lastInstruction(engine, timeline, goesOn);
   const moment = timeline.lastStop();
