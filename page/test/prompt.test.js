@@ -5,6 +5,7 @@ import { test } from "node:test";
 import { DebugSession } from "../src/debug/debug_session.js";
 import { COMMANDS, commandOf, helpOf } from "../src/prompt/command_table.js";
 import { Prompt } from "../src/prompt/prompt.js";
+import { View, sizeOf } from "../src/prompt/view.js";
 import { countIn, cyclesIn, placeIn } from "../src/prompt/words_of_line.js";
 import { Engine } from "../src/worker/engine.js";
 import { dataOfPage } from "../../tools/lib/page_parts.mjs";
@@ -28,6 +29,7 @@ async function prompted({ board, program } = { board: BOARD, program: PROGRAM },
     pause: async () => {},
     source: () => PROGRAM.replace("time  = 0x0C", "time  = 0x0D"),
     isByHand,
+    view: null,
   };
   const prompt = new Prompt(launched, data, calls);
   await prompt.begin();
@@ -142,6 +144,38 @@ test("what is shown, printed and set", async () => {
   assert.match((await ask("bench poke r16 1"))[0], /^refused: no 11/);
   assert.match((await ask("load"))[0], /The source is in ROM/);
   assert.deepEqual(await ask("print time"), ["0x0D, 13"]);
+});
+
+test("the view: source, registers, lamps, in any size; values that are others stand out", async () => {
+  const { prompt, ask } = await prompted();
+  assert.match((await ask("view")).join(), /^refused: the view is for a terminal/);
+  assert.match((await ask("view far")).join(), /^refused: it is written as view, view on or view off$/);
+  const turned = [];
+  prompt.calls.view = { toggle: () => "no room", turn: (isOn) => { turned.push(isOn); return ""; } };
+  assert.deepEqual(await ask("tui enable", "layout src", "view off"), []);
+  assert.deepEqual([turned, await ask("view")], [[true, true, false], ["refused: no room"]]);
+  const plain = (text) => text;
+  const marks = { head: plain, here: (text) => `[${text}]`, other: (text) => `{${text}}` };
+  const view = new View(prompt);
+  assert.deepEqual(sizeOf(24, 80), { rows: 14, columns: 79 });
+  assert.deepEqual([sizeOf(11, 80), sizeOf(24, 39), sizeOf(undefined, undefined)], [null, null, null]);
+  view.lines(sizeOf(24, 80), marks);
+  await ask("until wait", "display r4", "hold 1");
+  const lines = view.lines(sizeOf(24, 80), marks);
+  assert.equal(lines.length, 14);
+  assert.match(lines[0], /^p\.asm {2}014 \(wait, line 20\) {2}9 cycles, 0\.097 ms *$/);
+  const here = lines.find((line) => line.startsWith("["));
+  assert.match(here, /^\[> {3}20 {2}014 {2}wait: {3}FIM P1, time\] +returns 009 000 000$/);
+  assert.match(lines.join("\n"), /\{acc 1\} {3}cy 0 .*\n.*\n.*P0 00 {2}P1 00\n.*\{P2 10\}/);
+  assert.deepEqual(lines.slice(-3), ["lamps ..* right", "r4 = 0x1", "-".repeat(79)]);
+  for (const [rows, columns] of [[12, 40], [24, 60], [50, 200]]) {
+    const size = sizeOf(rows, columns);
+    const told = view.lines(size, { head: plain, here: plain, other: plain });
+    assert.equal(told.length, size.rows);
+    assert.deepEqual(told.filter((line) => line.length > size.columns), []);
+    assert.match(told.join("\n"), /acc 1/);
+    assert.ok(told.some((line) => line.startsWith(">")));
+  }
 });
 
 test("keys", async () => {

@@ -8,6 +8,7 @@ import { Words } from "../../page/src/bench/words.js";
 import { Engine } from "../../page/src/worker/engine.js";
 import { host } from "./debug_host.mjs";
 import { dataOfPage, moduleOfPage } from "./page_parts.mjs";
+import { ViewOnTerminal } from "./view_on_terminal.mjs";
 
 const { env } = process;
 const isByHand = process.stdin.isTTY === true && process.stdout.isTTY === true;
@@ -32,10 +33,40 @@ async function runScript(prompt, at) {
   return isRefused ? 1 : 0;
 }
 
+/** The view as the commands of the prompt have it, once it is there. */
+const views = { toggle: () => views.own.toggle(), turn: (isOn) => views.own.turn(isOn), own: null };
+
+/** The terminal is as it was before, however the debugger ends or is put aside; Ctrl-L and another size draw the view anew. */
+function withView(prompt, terminal) {
+  const prompted = () => {
+    if (!prompt.machine.isMoving) terminal.prompt(true);
+  };
+  const view = new ViewOnTerminal(prompt, process.stdout, env, prompted);
+  views.own = view;
+  process.stdout.on("resize", () => view.again());
+  process.stdin.on("keypress", (_, key) => {
+    if (key && key.ctrl && key.name === "l") setImmediate(() => view.again());
+  });
+  terminal.on("SIGTSTP", () => {
+    view.leave();
+    process.stdin.setRawMode(false);
+    process.once("SIGCONT", () => {
+      process.stdin.setRawMode(true);
+      if (view.isOn) view.again();
+      else prompted();
+    });
+    process.kill(process.pid, "SIGTSTP");
+  });
+  process.on("exit", () => view.leave());
+  for (const signal of ["SIGTERM", "SIGHUP"]) process.once(signal, () => process.exit(1));
+  return view;
+}
+
 /** Ctrl-C stops what runs; where nothing does, it drops the line. */
 async function runByHand(prompt) {
   const terminal = createInterface({ input: process.stdin, output: process.stdout, prompt: PROMPT, historySize: 1000,
     completer: (line) => prompt.complete(line) });
+  const view = withView(prompt, terminal);
   let turn = Promise.resolve();
   terminal.on("SIGINT", () => {
     if (prompt.machine.isMoving) prompt.machine.pause();
@@ -48,6 +79,7 @@ async function runByHand(prompt) {
   terminal.on("line", (line) => {
     turn = turn.then(async () => {
       await prompt.take(line);
+      view.draw();
       if (prompt.isEnded) terminal.close();
       else terminal.prompt();
     });
@@ -74,6 +106,7 @@ async function serve() {
     pause: host.pause,
     source: () => (launched.program === "" ? null : read(launched.program)),
     isByHand,
+    view: isByHand ? views : null,
   });
   try {
     await prompt.begin();

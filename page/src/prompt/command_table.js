@@ -46,6 +46,8 @@ list l | list [PLACE] | the source round a line | Without a place the lines afte
  stands.
 info i | info WHAT | tells of registers, ram, ports, keys, breakpoints, watches, display, names, source, session |
 backtrace bt where | backtrace | the calls that wait for their return |
+view layout tui | view [on|off] | source, registers and lamps above, drawn anew after each command | Commands and their answers
+ scroll below it. It is for a terminal, of 40 columns and 12 rows at least; view once more, or view off, leaves it.
 load | load | the source is read anew, assembled and put into ROM | Breakpoints move with their lines.
 reset | reset | a power cycle |
 bench | bench LINE | a line of the bench, as it is | As bench state, bench count 20; @NAME in it is an address.

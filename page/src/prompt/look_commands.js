@@ -36,6 +36,7 @@ export class LookCommands {
       x: (rest) => this.examine(rest),
       list: (rest) => this.list(rest),
       info: (rest) => calls.print(this.info(rest)),
+      view: (rest) => this.view(rest),
       backtrace: () => calls.print(looks.frameLines(session)),
       help: (rest) => {
         if (rest !== "" && !commandOf(rest).command) refuse(commandOf(rest).words);
@@ -45,6 +46,18 @@ export class LookCommands {
         this.prompt.isEnded = true;
       },
     };
+  }
+
+  /** @param {string} rest also as gdb's layout and tui have it */
+  view(rest) {
+    const { view } = this.prompt.calls;
+    if (!/^(|on|off|enable|disable|src|regs|asm|split)$/.test(rest)) refuse("it is written as view, view on or view off");
+    if (!view) {
+      refuse("the view is for a terminal: it stands above the commands that are typed there");
+      return;
+    }
+    const words = rest === "" ? view.toggle() : view.turn(!/^(off|disable)$/.test(rest));
+    if (words) refuse(words);
   }
 
   /** @param {string} what */

@@ -22,10 +22,11 @@ import { refuse } from "./words_of_line.js";
 /**
  * @typedef {import("../adapter/launching.js").Launched} Launched
  *
- * What the host gives: where words go to; a turn for others; the text of the program as its file has it, null where there is none; and
- * whether somebody can stop what goes on without an end.
+ * What the host gives: where words go to; a turn for others; the text of the program as its file has it, null where there is none;
+ * whether somebody can stop what goes on without an end; and the view (view.js), null where no terminal has room for one: its calls give
+ * words of why it cannot be.
  * @typedef {{ print: (words: string) => void, complain: (words: string) => void, pause: () => Promise<void>, source: () => string | null,
- *   isByHand: boolean }} PromptCalls
+ *   isByHand: boolean, view: { toggle: () => string, turn: (isOn: boolean) => string } | null }} PromptCalls
  * @typedef {(rest: string) => void | Promise<void>} Act
  */
 
