@@ -154,6 +154,40 @@ def check_last_change(browser):
     browser.click("#forward")
 
 
+HEAT = "return document.getElementById('heat-told').textContent"
+CHOOSE = """
+const field = document.getElementById(arguments[0]);
+field.value = arguments[1];
+field.dispatchEvent(new Event("change"))"""
+WARM = "return [...document.querySelectorAll('.ram [data-warmth]')].map((cell) => `${cell.dataset.warmth} ${cell.title}`)"
+# By hand: of the 100 cycles 6 come before WRM at 006, which puts 7 where 3 was.
+HEATED = "once by 006 (turn + 4, line 6), 94 cycles, 1.015 ms ago"
+
+
+def check_heat(browser):
+    """Which characters of RAM have changed lately, and what they are called."""
+    lines_answered(browser, "reset")
+    lines_answered(browser, "poke ram.0.0x12 3")
+    lines_answered(browser, "run 100")
+    names = "return [...document.querySelectorAll('.cell-names:not([hidden])')].map((line) => line.textContent)"
+    comes(browser, "a character has the name that the source gives it", names, ["2 digit"])
+    browser.script(CHOOSE, "heat", "often")
+    browser.script(CHOOSE, "heat-cycles", "some")
+    comes(browser, "a number of cycles is wanted", HEAT, re.compile("^How many cycles"))
+    browser.script(CHOOSE, "heat-cycles", "100")
+    comes(browser, "what changed is told", HEAT, f"In the last 100 cycles, 1.080 ms, one character has changed: digit, {HEATED}.")
+    cell = f"5 digit, bank 0, chip 0, register 1, character 2: SRC byte 12; changed {HEATED}"
+    comes(browser, "and its cell is warm, and tells it", WARM, [cell])
+    browser.click("#run")
+    comes(browser, "none is warm while time runs", WARM, [])
+    browser.click("#run")
+    comes(browser, "and it is counted anew once it stops", HEAT, re.compile("^In the last 100 cycles, 1.080 ms, no character"))
+    lines_answered(browser, "poke st.0.1.2 4\nstep")
+    comes(browser, "also what a line did", WARM, re.compile("status character 2; changed once by the line poke st.0.1.2 4"))
+    browser.script(CHOOSE, "heat", "")
+    comes(browser, "and none where it is not wanted", WARM, [])
+
+
 def check(browser, page, _folder, _mcs4):
     browser.go("about:blank")
     browser.go(page.as_uri())
@@ -164,3 +198,4 @@ def check(browser, page, _folder, _mcs4):
     check_watched(browser)
     check_lines(browser)
     check_last_change(browser)
+    check_heat(browser)

@@ -13,8 +13,8 @@ import { Recovery } from "./recovery.js";
 import { Serving } from "./lines/serving.js";
 import { CurrentSession } from "./session/current_session.js";
 import {
-  lookViewOf, editorsOf, exportOf, historyOf, pressingOf, romFilesOf, sessionsControllerOf, sharingOf, sourceOf, textsOf, travelOf,
-  valuesOf, watchedOf,
+  editorsOf, exportOf, heatOf, historyOf, lookViewOf, nameCharacters, pressingOf, romFilesOf, sessionsControllerOf, sharingOf, sourceOf,
+  textsOf, travelOf, valuesOf, watchedOf,
 } from "./ties.js";
 import { CyclesView } from "./time/cycles_view.js";
 import { testsOf } from "./testing/tests_of_page.js";
@@ -58,12 +58,11 @@ export class Page {
     this.layout = new Layout(() => this.printed());
     this.work = new WorkView();
     this.editors = editorsOf(this, manual);
-    this.boardEditor = this.editors.board;
-    this.programEditor = this.editors.program;
     this.breakpoints = new BreakpointsOfPage(this);
     this.source = sourceOf(this);
     this.values = valuesOf(this);
     this.watched = watchedOf(this);
+    this.heat = heatOf(this);
     this.cycles = new CyclesView(() => this.current.keep());
     this.travel = travelOf(this);
     this.history = historyOf(this);
@@ -79,6 +78,14 @@ export class Page {
     this.sharing = sharingOf(this);
     this.scope = scopeOf(this);
     bench.listener = this.listener();
+  }
+
+  get boardEditor() {
+    return this.editors.board;
+  }
+
+  get programEditor() {
+    return this.editors.program;
   }
 
   get textEditors() {
@@ -122,6 +129,7 @@ export class Page {
     this.tests.forget();
     this.usual.clear();
     this.values.forget();
+    this.heat.clear();
     this.watched.open(record.watched);
     this.texts.show(record);
     this.explore.begin(record.id);
@@ -146,9 +154,11 @@ export class Page {
       this.lookView.draw(board, this.boardEditor.text);
       this.history.draw(this.lookView.board, lampNames(new Face(this.boardEditor.text), this.lookView.board.lamps.length));
       this.editors.look(board.length === 1);
+      nameCharacters(this);
     }
     this.lookView.show(look, isPassing);
     this.values.looked(total);
+    this.heat.looked();
     this.scope.take(waves);
   }
 }

@@ -7,7 +7,9 @@ import { Cancelled, WorkerDied } from "./bench/faults.js";
 import { wordsOfLastChange } from "./debug/stop_words.js";
 import { block, byId, isDialogOpen } from "./ui/dom.js";
 import { wordsOfCell } from "./help/manual.js";
+import { HeatView } from "./machine/heat_view.js";
 import { LastChangeView } from "./machine/last_change_view.js";
+import { namesOfCharacters } from "./machine/ram_names.js";
 import { listenToCaret, listenToHere } from "./machine/run_to.js";
 import { SourceSync } from "./machine/source_sync.js";
 import { ValuesOfPage } from "./machine/values_of_page.js";
@@ -158,6 +160,14 @@ export function editorsOf(page, manual) {
 }
 
 /**
+ * Characters of RAM are called as the list of values and the source call them.
+ * @param {Page} page
+ */
+export function nameCharacters({ lookView, watched, source }) {
+  lookView.ram.showNames(namesOfCharacters(lookView.board, watched.all, source.map));
+}
+
+/**
  * @param {Page} page
  * @returns {SourceSync}
  */
@@ -167,6 +177,7 @@ export function sourceOf(page) {
     check: (text) => page.bench.call("checkProgram", [text]),
     changed: (map, words) => {
       page.lookView.nameLines(map, words);
+      nameCharacters(page);
       page.breakpoints.keeper.takeMap(map, words);
     },
     wordsOfRefusal: (number) => page.words.ofRefusal(number),
@@ -198,6 +209,24 @@ export function valuesOf(page) {
 
 /**
  * @param {Page} page
+ * @returns {HeatView}
+ */
+export function heatOf(page) {
+  const { bench, lookView, running, recovery } = page;
+  return new HeatView(page.layout.choices, {
+    isRunning: () => running.clock.isRunning,
+    count: (cycles, signal) => bench.call("heat", [cycles], { signal }).catch((fault) => {
+      if (!(fault instanceof Cancelled) && !(fault instanceof WorkerDied)) recovery.failed(fault);
+      return null;
+    }),
+    show: (warm) => lookView.ram.showWarm(warm),
+    nameOf: (place) => lookView.ram.nameOf(place),
+    map: () => page.source.map,
+  });
+}
+
+/**
+ * @param {Page} page
  * @returns {WatchedView}
  */
 export function watchedOf(page) {
@@ -205,6 +234,7 @@ export function watchedOf(page) {
   return new WatchedView({
     offer: (cell, { place, name }) => lookView.editor.offer(cell, { place, name, digits: 1 }),
     standing: () => page.values.standing,
+    listed: () => nameCharacters(page),
     keep: (texts) => {
       if (!current.session) return;
       current.session.record.watched = texts;

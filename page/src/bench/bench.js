@@ -11,7 +11,7 @@ import { WorkerDied, unpackFault } from "./faults.js";
  * @typedef {import("./protocol.js").ToWorker} ToWorker
  * @typedef {"load" | "settled" | "make" | "texts" | "boardFault" | "open" | "serve" | "ask" | "source" | "record" | "advance"
  *   | "press" | "release" | "forget" | "run" | "pace" | "halt" | "checkProgram" | "leftovers"
- *   | "setBreakpoints" | "goOn" | "drop" | "goBack" | "lastChange" | "goForward" | "tryTexts" | "testFaults" | "runTests"
+ *   | "setBreakpoints" | "goOn" | "drop" | "goBack" | "lastChange" | "heat" | "goForward" | "tryTexts" | "testFaults" | "runTests"
  *   | "propertyFaults" | "explore" | "exploreOn" | "stopAtFaults"
  *   | "recordLive" | "endRecording"} CallName
  * @typedef {{ done: (result: any) => void, fail: (fault: Error) => void, progress: (done: number, total: number) => void }} Waiting

@@ -20,6 +20,17 @@ export function numberOf(word) {
 }
 
 /**
+ * The count that is written, perhaps with commas; 0 where it is none from 1 to the most.
+ * @param {string} text
+ * @param {number} most
+ */
+export function countOf(text, most) {
+  const plain = text.trim().replace(/,/g, "");
+  const count = /^[0-9]{1,9}$/.test(plain) ? Number(plain) : 0;
+  return count <= most ? count : 0;
+}
+
+/**
  * 0, 1, .. up to a number, which does not belong to it.
  * @param {number} count
  */

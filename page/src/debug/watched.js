@@ -9,7 +9,8 @@ import { NAME } from "../text/assembly.js";
 /**
  * @typedef {import("./standing.js").Standing} Standing
  * @typedef {import("./value_words.js").Piece} Piece
- * @typedef {{ name: string, text: string, pieces: (standing: Standing) => Piece[] }} Watched `text` is as it is kept
+ * `text` is as it is kept; `place` is what `poke` calls a character of RAM, "" for what is none.
+ * @typedef {{ name: string, text: string, place: string, pieces: (standing: Standing) => Piece[] }} Watched
  * @typedef {(standing: Standing) => Piece[]} Reader
  */
 
@@ -50,17 +51,25 @@ function machineReader([word, ...more]) {
 }
 
 /**
+ * What `poke` calls a character or a status character; "" where the words name none.
  * @param {string[]} words
+ */
+function characterPlace([kind, ...words]) {
+  const [bank, at, number = 0] = words.map(numberOf);
+  if (!(bank <= 7)) return "";
+  if (kind === "ram" && words.length === 2 && at <= 255) return `ram.${bank}.0x${hex(at, 2)}`;
+  return kind === "st" && words.length === 3 && at <= 15 && number <= 3 ? `st.${bank}.${at}.${number}` : "";
+}
+
+/**
+ * @param {string} place
  * @returns {Reader | null}
  */
-function memoryReader([kind, ...words]) {
-  const [bank, at, number = 0] = words.map(numberOf);
-  if (!(bank <= 7)) return null;
-  if (kind === "ram" && words.length === 2 && at <= 255) {
-    return cell(`ram.${bank}.0x${hex(at, 2)}`, (standing) => standing.character(bank, at));
-  }
-  if (kind !== "st" || words.length !== 3 || !(at <= 15) || !(number <= 3)) return null;
-  return cell(`st.${bank}.${at}.${number}`, (standing) => standing.status(bank, at, number));
+function memoryReader(place) {
+  if (place === "") return null;
+  const [kind, bank, at, number] = place.split(".");
+  if (kind === "ram") return cell(place, (standing) => standing.character(Number(bank), Number(at)));
+  return cell(place, (standing) => standing.status(Number(bank), Number(at), Number(number)));
 }
 
 /**
@@ -96,9 +105,10 @@ export function readWatched(text) {
   if (equals >= 0 && !NAME.test(name)) return { watched: null, fault: "A name has letters, digits and _, as in: count = R5." };
   const lower = place.toLowerCase();
   const words = lower.split(/[\s.]+/);
-  const pieces = machineReader(words) || portReader(lower) || memoryReader(words);
+  const character = characterPlace(words);
+  const pieces = machineReader(words) || portReader(lower) || memoryReader(character);
   if (!pieces) return { watched: null, fault: `${place === "" ? "Nothing" : place} is nothing to watch; there are ${WATCHED_FORMS}.` };
-  return { watched: { name: name || place, text: name ? `${name} = ${place}` : place, pieces }, fault: "" };
+  return { watched: { name: name || place, text: name ? `${name} = ${place}` : place, place: character, pieces }, fault: "" };
 }
 
 /**

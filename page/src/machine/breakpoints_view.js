@@ -4,7 +4,7 @@
 import { wordsOfCycles } from "../time/cycles.js";
 import { wordsOfPlace } from "../debug/stop_words.js";
 import { Cell, Switch, block, button, element, onClick } from "../ui/dom.js";
-import { hex } from "../bench/numbers.js";
+import { countOf, hex } from "../bench/numbers.js";
 import { markOf } from "./breakpoint_marks.js";
 
 /**
@@ -26,6 +26,7 @@ import { markOf } from "./breakpoint_marks.js";
 
 /** So many notes are shown, the last ones. */
 const MOST_NOTES = 200;
+const MOST_HITS = 999999999;
 
 /**
  * Where a breakpoint is, in words.
@@ -155,8 +156,7 @@ export class BreakpointsView {
    * @param {HTMLInputElement} field
    */
   changeFrom(id, field) {
-    const text = field.value.trim().replace(/,/g, "");
-    const from = text === "" ? 1 : /^\d{1,9}$/.test(text) ? Number(text) : 0;
+    const from = field.value.trim() === "" ? 1 : countOf(field.value, MOST_HITS);
     field.setAttribute("aria-invalid", String(from < 1));
     if (from >= 1) this.calls.change(id, { from });
   }

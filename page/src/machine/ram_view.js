@@ -8,9 +8,10 @@ import { hex, upTo } from "../bench/numbers.js";
  * @typedef {import("../bench/answers.js").Ram} Ram
  * @typedef {import("./cell_editor.js").CellEditor} CellEditor
  * @typedef {import("./changes.js").Changes} Changes
+ * @typedef {import("./heat_view.js").Warm} Warm
  * @typedef {import("../ui/dom.js").Switch} Switch
  * @typedef {{ bank: number, chip: number, register: number }} Register where a register is
- * @typedef {{ characters: Cell[], status: Cell[], shown: string }} ShownRegister
+ * @typedef {{ characters: Cell[], status: Cell[], names: HTMLElement, shown: string }} ShownRegister
  */
 
 const CHARACTERS = 16;
@@ -20,6 +21,22 @@ const PORT_WORDS = "No line changes what a port of a RAM chip puts out: a progra
 /** @param {Register} register */
 function wordsOf({ bank, chip, register }) {
   return `bank ${bank}, chip ${chip}, register ${register}`;
+}
+
+/**
+ * The names of a register's characters, each behind the character's number.
+ * @param {string} register as it is called here
+ * @param {ReadonlyMap<string, string[]>} names
+ */
+function namesIn(register, names) {
+  const [bank, chip, number] = register.split(".").map(Number);
+  const at = chip * 4 + number;
+  /** @type {(place: string, label: string) => string[]} */
+  const told = (place, label) => (names.get(place) || []).map((name) => `${label} ${name}`);
+  return [
+    ...upTo(CHARACTERS).flatMap((each) => told(`ram.${bank}.0x${hex(at * 16 + each, 2)}`, hex(each, 1))),
+    ...upTo(STATUS).flatMap((each) => told(`st.${bank}.${at}.${each}`, `status ${each}`)),
+  ];
 }
 
 export class RamView {
@@ -36,6 +53,12 @@ export class RamView {
     this.watched = new Map();
     /** @type {Map<string, ShownRegister>} */
     this.registers = new Map();
+    /** @type {Map<string, { node: HTMLElement, title: string }>} characters, by what `poke` calls them */
+    this.characters = new Map();
+    /** @type {ReadonlyMap<string, string[]>} what they are called */
+    this.names = new Map();
+    /** @type {ReadonlyMap<string, Warm>} those that have changed lately */
+    this.warm = new Map();
     /** @type {Map<string, Cell>} */
     this.ports = new Map();
     this.block = block("banks");
@@ -49,7 +72,9 @@ export class RamView {
   draw(board) {
     this.watched.clear();
     this.registers.clear();
+    this.characters.clear();
     this.ports.clear();
+    this.warm = new Map();
     this.block.replaceChildren(...board.banks.map((bank) => this.drawBank(bank)));
     block("memory-hint").hidden = board.banks.length === 0;
     if (board.banks.length === 0) this.block.textContent = "This board has no RAM.";
@@ -69,8 +94,10 @@ export class RamView {
     const { bank, chip, register } = at;
     const characters = upTo(CHARACTERS).map((character) => this.drawCharacter(at, character));
     const status = upTo(STATUS).map((character) => this.drawStatus(at, character));
-    this.registers.set(`${bank}.${chip}.${register}`, { characters, status, shown: "" });
+    const names = element("small", { className: "cell-names", hidden: true });
+    this.registers.set(`${bank}.${chip}.${register}`, { characters, status, names, shown: "" });
     const cells = [characters, status].map((some) => element("td", {}, ...some.map(({ node }) => node)));
+    cells[0].append(names);
     const row = element("tr", {}, element("th", { scope: "row", title: wordsOf(at) }, `${chip}.${register}`), ...cells);
     if (register === 0) row.append(this.drawPort(bank, chip));
     return row;
@@ -86,7 +113,7 @@ export class RamView {
     const button = element("button", { type: "button", title: `${wordsOf(at)}, character ${character}: SRC byte ${hex(source, 2)}` });
     const watched = pressedSwitch(button);
     this.watched.set(`${bank}.${hex(source, 2)}`, watched);
-    this.editor.offer(button, { place: `ram.${bank}.0x${hex(source, 2)}`, name: button.title, digits: 1 });
+    this.offer(`ram.${bank}.0x${hex(source, 2)}`, button);
     let wasOn = false;
     button.addEventListener("click", (event) => {
       if (event.detail > 0) button.blur();
@@ -105,8 +132,18 @@ export class RamView {
   drawStatus(at, character) {
     const button = element("button", { type: "button", className: "status", title: `${wordsOf(at)}, status character ${character}` });
     const place = `st.${at.bank}.${at.chip * 4 + at.register}.${character}`;
-    this.editor.offer(button, { place, name: button.title, digits: 1 });
+    this.offer(place, button);
     return new Cell(button);
+  }
+
+  /**
+   * A character of RAM, edited where it stands.
+   * @param {string} place what `poke` calls it
+   * @param {HTMLButtonElement} node
+   */
+  offer(place, node) {
+    this.editor.offer(node, { place, name: node.title, digits: 1 });
+    this.characters.set(place, { node, title: node.title });
   }
 
   /**
@@ -133,6 +170,53 @@ export class RamView {
       const port = this.ports.get(place);
       if (port) this.changes.set(port, value);
     }
+  }
+
+  /**
+   * What a character is called, else where it is.
+   * @param {string} place what `poke` calls it
+   */
+  nameOf(place) {
+    const [name] = this.names.get(place) || [];
+    const found = this.characters.get(place);
+    return name || (found ? found.title : place);
+  }
+
+  /** @param {ReadonlyMap<string, string[]>} names what characters are called */
+  showNames(names) {
+    this.names = names;
+    for (const place of this.characters.keys()) this.tellOf(place);
+    for (const [place, { names: line }] of this.registers) {
+      line.textContent = namesIn(place, names).join("  ");
+      line.hidden = line.textContent === "";
+    }
+  }
+
+  /** @param {ReadonlyMap<string, Warm>} warm those that have changed lately */
+  showWarm(warm) {
+    const before = this.warm;
+    this.warm = warm;
+    for (const place of new Set([...before.keys(), ...warm.keys()])) {
+      const found = this.characters.get(place);
+      if (!found) continue;
+      const { warmth } = warm.get(place) || { warmth: 0 };
+      if (warmth > 0) found.node.dataset.warmth = String(warmth);
+      else delete found.node.dataset.warmth;
+      this.tellOf(place);
+    }
+  }
+
+  /**
+   * What the title of a character says: what it is called, where it is, and how it has changed.
+   * @param {string} place
+   */
+  tellOf(place) {
+    const found = this.characters.get(place);
+    if (!found) return;
+    const names = this.names.get(place) || [];
+    const { words } = this.warm.get(place) || { words: "" };
+    found.node.title = [...names, found.title].join(", ") + (words && `; ${words}`);
+    found.node.classList.toggle("named", names.length > 0);
   }
 
   /** @param {string[]} names */

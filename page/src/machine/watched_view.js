@@ -8,8 +8,9 @@ import { MOST_WATCHED, readAllWatched, readWatched } from "../debug/watched.js";
  * @typedef {import("../debug/watched.js").Watched} Watched
  * @typedef {{ root: HTMLLIElement, value: HTMLElement, shape: string, cells: HTMLElement[] }} Row
  *
- * What it calls: a cell that shows a value can be edited; what stands in the machine, null while time runs; the texts are kept.
- * @typedef {{ offer: import("../text/meaning_view.js").Offer, standing: () => Standing | null,
+ * What it calls: a cell that shows a value can be edited; what stands in the machine, null while time runs; the list is another one; its
+ * texts are kept.
+ * @typedef {{ offer: import("../text/meaning_view.js").Offer, standing: () => Standing | null, listed: () => void,
  *   keep: (texts: string[]) => void }} WatchedCalls
  */
 
@@ -56,6 +57,7 @@ export class WatchedView {
     this.all = all;
     this.rows = all.map((watched) => this.rowOf(watched));
     this.list.replaceChildren(...this.rows.map(({ root }) => root));
+    this.calls.listed();
     this.show();
   }
 

@@ -2,7 +2,7 @@
 
 import { button, byId, element, field, onClick } from "../ui/dom.js";
 import { PLACES_TOLD, placeOf } from "../bench/places.js";
-import { upTo } from "../bench/numbers.js";
+import { countOf, upTo } from "../bench/numbers.js";
 
 /**
  * @typedef {import("../bench/answers.js").Board} Board
@@ -77,11 +77,9 @@ export class HistoryView {
   }
 
   stepMany() {
-    const text = this.count.value.trim().replace(/,/g, "");
-    const count = /^\d+$/.test(text) ? Number(text) : 0;
-    const isCount = count >= 1 && count <= MOST_INSTRUCTIONS;
-    this.count.setAttribute("aria-invalid", String(!isCount));
-    if (isCount) this.calls.goOn({ kind: "count", count });
+    const count = countOf(this.count.value, MOST_INSTRUCTIONS);
+    this.count.setAttribute("aria-invalid", String(count === 0));
+    if (count > 0) this.calls.goOn({ kind: "count", count });
     else this.calls.tell(`Nothing was done: give a number of instructions, 1 to ${MOST_INSTRUCTIONS.toLocaleString("en")}.`);
   }
 

@@ -1,5 +1,7 @@
 // What is told of recordings, in words.
 
+import { countOf } from "../bench/numbers.js";
+
 /**
  * @typedef {import("./waves.js").Instruction} Instruction
  * @typedef {import("./waves.js").Waves} Waves
@@ -94,8 +96,5 @@ export function recordedText({ span, isStuck }, wanted, isBefore) {
  * @param {string} text
  */
 export function readCycles(text) {
-  const plain = text.trim().replace(/,/g, "");
-  if (!/^[0-9]{1,8}$/.test(plain)) return 0;
-  const cycles = Number(plain);
-  return cycles <= MOST_CYCLES ? cycles : 0;
+  return countOf(text, MOST_CYCLES);
 }

@@ -11,6 +11,7 @@ import { findBoardFault } from "../bench/board_fault.js";
 import { Engine } from "./engine.js";
 import { linesOfExample } from "./examples.js";
 import { FullSpeed } from "./full_speed.js";
+import { heatOf } from "./heat.js";
 import { differenceOf, leftoversOf, readProgram } from "./program_check.js";
 import { sourceOfRom, textsOfFile } from "./sources.js";
 import { sentText } from "../text/text_fault.js";
@@ -303,6 +304,17 @@ export class BenchCalls {
     const all = this.session.timeline.cycles;
     let done = 0;
     return this.debugger.lastChange(place, (more = 0) => this.goesOn(done += more, all));
+  }
+
+  /**
+   * How often each character of RAM has changed in so many cycles up to here, and when and by what it did last.
+   * @param {number} cycles
+   */
+  heat(cycles) {
+    const { engine, session } = this;
+    const board = readBoard(session.lookQuestions.board);
+    let done = 0;
+    return heatOf(engine, session.timeline, board, cycles, (more = 0) => this.goesOn(done += more, cycles));
   }
 
   /**

@@ -4,7 +4,8 @@
 import { readBoard, readCounter } from "../bench/answers.js";
 import { Cancelled } from "../bench/faults.js";
 import { placeOf } from "../bench/places.js";
-import { Answers, readTraced, valuesOf } from "./tracing.js";
+import { changesIn } from "./past_changes.js";
+import { valuesOf } from "./tracing.js";
 import { cyclesOf, piecesOf, unitsBetween } from "./units.js";
 
 /**
@@ -86,28 +87,13 @@ export class LastChange {
   /** @param {Unit[]} units which are asked about ahead */
   among(units) {
     const { engine, file, place, probes } = this;
-    /** @type {(cycles: number) => string} */
-    const ask = (cycles) => `trace ${cycles} ${probes.join(" ")}\n`;
-    const lines = units.map(({ line, cycles }) => `${ask(Math.max(1, cycles))}${line}\n`).join("");
-    const answers = new Answers(engine.serve(file, lines + ask(1), file).answers);
     /** @type {Aim | null} */
     let found = null;
-    let row = "";
-    /** @type {(after: string, moment: Moment, line: string) => void} */
-    const see = (after, moment, line) => {
-      const [from, to] = [row, after].map((each) => place.value(valuesOf(each)));
-      if (row !== "" && after !== row) found = aim({ moment, line, place: place.name, from, to, end: "change" });
-      row = after;
-    };
-    for (const { line, cycles, moment } of units) {
-      const trace = answers.takeTrace();
-      answers.take();
-      if (row === "") row = trace.row;
-      if (cycles === 0) see(answers.seeTrace().row, moment, line.split("\n")[0]);
-      for (const traced of cycles === 0 ? [] : trace.lines.map(readTraced)) {
-        see(traced.row, { ...moment, cycles: moment.cycles + traced.cycles }, "");
-      }
-    }
+    changesIn(engine, file, units, [probes], ({ before, after, unit, cycles, line }) => {
+      const moment = { ...unit.moment, cycles: unit.moment.cycles + cycles };
+      const [from, to] = [before, after].map((row) => place.value(valuesOf(row)));
+      found = aim({ moment, line, place: place.name, from, to, end: "change" });
+    });
     return found;
   }
 }

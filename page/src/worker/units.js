@@ -27,6 +27,24 @@ export function unitsBetween(timeline, from, to) {
   return units;
 }
 
+/**
+ * The same steps, those of many cycles in parts.
+ * @param {Unit[]} units
+ * @param {number} most so many cycles a part has
+ */
+export function shortUnits(units, most) {
+  return units.flatMap((unit) => {
+    if (unit.cycles <= most) return [unit];
+    /** @type {Unit[]} */
+    const parts = [];
+    for (let done = 0; done < unit.cycles; done += most) {
+      const cycles = Math.min(most, unit.cycles - done);
+      parts.push({ line: `run ${cycles}`, cycles, moment: { ...unit.moment, cycles: unit.moment.cycles + done } });
+    }
+    return parts;
+  });
+}
+
 /** @param {Unit[]} units */
 export function cyclesOf(units) {
   return units.reduce((sum, { cycles }) => sum + cycles, 0);

@@ -1,0 +1,78 @@
+// How warm a cell is by how often, or how lately, it has changed, in five steps; and words on it. Without a document.
+
+import { hex } from "../bench/numbers.js";
+import { wordsOfPlace } from "../debug/stop_words.js";
+import { wordsOfCycles } from "../time/cycles.js";
+
+/**
+ * @typedef {import("../worker/heat.js").Heat} Heat
+ * @typedef {import("../worker/heat.js").Heated} Heated
+ * @typedef {import("./source_map.js").SourceMap} SourceMap
+ * @typedef {"often" | "lately"} HeatKind
+ */
+
+export const WARMEST = 5;
+
+/**
+ * Where a number is between 1 and the most, by its logarithm: 1 to the warmest.
+ * @param {number} number
+ * @param {number} most
+ */
+function step(number, most) {
+  return most <= 1 ? WARMEST : 1 + Math.min(WARMEST - 1, Math.floor(WARMEST * Math.log(number) / Math.log(most + 1)));
+}
+
+/**
+ * How warm each place is, 1 to the warmest, beside the one that has changed most often, or last; a place that has not changed is none of
+ * them.
+ * @param {Heat} heat
+ * @param {HeatKind} kind
+ * @returns {Map<string, number>}
+ */
+export function warmthOf({ cycles, cells }, kind) {
+  const most = Math.max(...cells.map(({ count }) => count));
+  const last = Math.min(...cells.map(({ ago }) => ago));
+  return new Map(cells.map(({ place, count, ago }) => (
+    [place, kind === "often" ? step(count, most) : WARMEST + 1 - step(1 + ago - last, cycles)])));
+}
+
+/**
+ * @param {Heated} cell
+ * @param {SourceMap | null} map
+ */
+function lastOf({ ago, address, line }, map) {
+  const who = line ? `the line ${line}` : wordsOfPlace(hex(address, 3), map);
+  return ago === 0 ? `by ${who}` : `by ${who}, ${wordsOfCycles(ago)} ago`;
+}
+
+/** @param {number} count */
+function times(count) {
+  return count === 1 ? "once" : `${count.toLocaleString("en")} times`;
+}
+
+/**
+ * How often, and last by what: `12 times, last by 00B (turn + 9, line 7), 320 cycles, 3.456 ms ago`.
+ * @param {Heated} cell
+ * @param {SourceMap | null} map
+ */
+export function wordsOfHeated(cell, map) {
+  return `${times(cell.count)}${cell.count === 1 ? "" : ", last"} ${lastOf(cell, map)}`;
+}
+
+/**
+ * What is told of all.
+ * @param {Heat} heat
+ * @param {number} wanted so many cycles
+ * @param {(place: string) => string} nameOf
+ * @param {SourceMap | null} map
+ */
+export function wordsOfHeat({ cycles, cells }, wanted, nameOf, map) {
+  if (cycles === 0) return "No cycle before this one is remembered.";
+  const reach = `In the last ${wordsOfCycles(cycles)}${cycles < wanted ? " (no more is remembered)" : ""},`;
+  if (cells.length === 0) return `${reach} no character of RAM has changed.`;
+  const most = cells.reduce((one, other) => (other.count > one.count ? other : one));
+  if (cells.length === 1) return `${reach} one character has changed: ${nameOf(most.place)}, ${wordsOfHeated(most, map)}.`;
+  const last = cells.reduce((one, other) => (other.ago < one.ago ? other : one));
+  const often = `most often ${nameOf(most.place)}, ${times(most.count)}`;
+  return `${reach} ${cells.length} characters have changed: ${often}; last ${nameOf(last.place)}, ${lastOf(last, map)}.`;
+}

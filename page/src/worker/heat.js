@@ -1,0 +1,133 @@
+// How often each character of RAM has changed lately, and when and by what it did last: the past is done again on a copy, and the bench
+// tells ahead what each step of it changes. A write of the same value is no change.
+
+import { Cancelled } from "../bench/faults.js";
+import { hex, upTo } from "../bench/numbers.js";
+import { changesIn } from "./past_changes.js";
+import { valuesOf } from "./tracing.js";
+import { cyclesOf, piecesOf, shortUnits, unitsBetween } from "./units.js";
+
+/**
+ * @typedef {import("../bench/answers.js").Board} Board
+ * @typedef {import("./engine.js").Engine} Engine
+ * @typedef {import("./past_changes.js").PastChange} PastChange
+ * @typedef {import("./timeline.js").GoesOn} GoesOn
+ * @typedef {import("./timeline.js").Moment} Moment
+ * @typedef {import("./timeline.js").Timeline} Timeline
+ * @typedef {import("./units.js").Unit} Unit
+ *
+ * A place that has changed, as `poke` calls it: how often; of the last time how many cycles ago, and the address of the instruction that
+ * did it, or -1 and the command.
+ * @typedef {{ place: string, count: number, ago: number, address: number, line: string }} Heated
+ * @typedef {{ cycles: number, cells: Heated[] }} Heat over so many cycles, fewer than wanted where the past does not reach so far
+ */
+
+/** As many places as `trace` takes. */
+const MOST_PLACES = 16;
+const REGISTERS = 4;
+const STATUS = 4;
+/** What is traced at once, over all groups of places. */
+const PIECE_CYCLES = 400000;
+const LEAST_PIECE = 1000;
+const PIECE_UNITS = 500;
+
+/**
+ * The places of `trace` for all characters of a board's RAM, as many together as it takes.
+ * @param {Board} board
+ */
+export function charactersOf({ banks }) {
+  return banks.flatMap(({ bank, chips }) => upTo(chips).flatMap((chip) => [
+    ...upTo(REGISTERS).map((register) => (
+      upTo(MOST_PLACES).map((at) => `ram.${bank}.0x${hex(chip * 64 + register * MOST_PLACES + at, 2)}`))),
+    upTo(REGISTERS).flatMap((register) => upTo(STATUS).map((at) => `st.${bank}.${chip * REGISTERS + register}.${at}`)),
+  ]));
+}
+
+/**
+ * Where so many cycles back is; where the past does not reach so far, its beginning.
+ * @param {Timeline} timeline
+ * @param {number} cycles
+ * @returns {Moment}
+ */
+function beginOf(timeline, cycles) {
+  const found = timeline.before(cycles);
+  if (found) return found;
+  let { segment } = timeline.end;
+  while (timeline.segments[segment].follows) segment -= 1;
+  return { segment, entry: 0, cycles: 0 };
+}
+
+/** Gathers changes into what is told of each place. */
+class Counting {
+  /** @param {string[][]} groups */
+  constructor(groups) {
+    this.groups = groups;
+    /** How many cycles are done. */
+    this.cycles = 0;
+    /** @type {Map<string, Heated & { at: number }>} */
+    this.cells = new Map();
+  }
+
+  /**
+   * @param {PastChange} change
+   * @param {number} begun the cycles that are done before its step
+   */
+  add({ group, before, after, cycles, address, line }, begun) {
+    const was = valuesOf(before);
+    valuesOf(after).forEach((value, number) => {
+      if (value === was[number]) return;
+      const place = this.groups[group][number];
+      const { count } = this.cells.get(place) || { count: 0 };
+      this.cells.set(place, { place, count: count + 1, ago: 0, at: begun + cycles, address, line });
+    });
+  }
+
+  /**
+   * Steps that are done on a file.
+   * @param {Engine} engine
+   * @param {Uint8Array} file
+   * @param {Unit[]} units
+   */
+  follow(engine, file, units) {
+    /** @type {Map<Unit, number>} how many cycles are done before each */
+    const begun = new Map();
+    for (const unit of units) {
+      begun.set(unit, this.cycles);
+      this.cycles += unit.cycles;
+    }
+    changesIn(engine, file, units, this.groups, (change) => this.add(change, begun.get(change.unit) || 0));
+  }
+
+  /** @returns {Heat} */
+  get heat() {
+    return { cycles: this.cycles, cells: [...this.cells.values()].map(({ at, ...cell }) => ({ ...cell, ago: this.cycles - at })) };
+  }
+}
+
+/**
+ * Looks through the past up to here.
+ * @param {Engine} engine
+ * @param {Timeline} timeline
+ * @param {Board} board
+ * @param {number} cycles
+ * @param {GoesOn} goesOn
+ * @returns {Promise<Heat>}
+ */
+export async function heatOf(engine, timeline, board, cycles, goesOn) {
+  const groups = charactersOf(board);
+  const counting = new Counting(groups);
+  if (groups.length === 0) return counting.heat;
+  const most = Math.max(LEAST_PIECE, Math.floor(PIECE_CYCLES / groups.length));
+  const { end } = timeline;
+  let from = beginOf(timeline, cycles);
+  for (; from.segment <= end.segment; from = { segment: from.segment + 1, entry: 0, cycles: 0 }) {
+    const { entries } = timeline.segments[from.segment];
+    const to = from.segment === end.segment ? end : { segment: from.segment, entry: entries.length, cycles: 0 };
+    const { file } = await timeline.at(engine, from, goesOn);
+    for (const units of piecesOf(shortUnits(unitsBetween(timeline, from, to), most), most, PIECE_UNITS)) {
+      counting.follow(engine, file, units);
+      if (!(await goesOn(cyclesOf(units)))) throw new Cancelled();
+    }
+  }
+  return counting.heat;
+}

@@ -1,0 +1,57 @@
+// What changed in a stretch of the past: its steps are done again on a copy of the session, and what each will change is asked ahead.
+
+import { Answers, readTraced } from "./tracing.js";
+
+/**
+ * @typedef {import("./engine.js").Engine} Engine
+ * @typedef {import("./tracing.js").Trace} Trace
+ * @typedef {import("./units.js").Unit} Unit
+ *
+ * A change: of which group, the rows of what is looked at before and after it, in which step, how many cycles of that are done before it,
+ * and the address of the instruction that made it, or -1 and the command that did.
+ * @typedef {{ group: number, before: string, after: string, unit: Unit, cycles: number, address: number, line: string }} PastChange
+ */
+
+/**
+ * What the bench tells ahead of each step, by group, and what stands at the places behind the last one.
+ * @param {Engine} engine
+ * @param {Uint8Array} file is what it is behind the steps afterwards
+ * @param {Unit[]} units
+ * @param {string[][]} groups
+ * @returns {Trace[][]}
+ */
+function tracesOf(engine, file, units, groups) {
+  /** @type {(cycles: number) => string} */
+  const ask = (cycles) => groups.map((places) => `trace ${cycles} ${places.join(" ")}\n`).join("");
+  const lines = units.map(({ line, cycles }) => `${ask(Math.max(1, cycles))}${line}\n`).join("");
+  const answers = new Answers(engine.serve(file, lines + ask(1), file).answers);
+  return [...units, null].map((unit) => {
+    const traces = groups.map(() => answers.takeTrace());
+    if (unit) answers.take();
+    return traces;
+  });
+}
+
+/**
+ * Does steps of the past on a file, and tells each change of what is looked at.
+ * @param {Engine} engine
+ * @param {Uint8Array} file
+ * @param {Unit[]} units
+ * @param {string[][]} groups places of `trace`, as many together as it takes
+ * @param {(change: PastChange) => void} see is told those of the first group first, each group's in their order
+ */
+export function changesIn(engine, file, units, groups, see) {
+  const traces = tracesOf(engine, file, units, groups);
+  groups.forEach((_, group) => {
+    let before = traces[0][group].row;
+    /** @type {(after: string, where: Omit<PastChange, "group" | "before" | "after">) => void} */
+    const take = (after, where) => {
+      if (after !== before) see({ group, before, after, ...where });
+      before = after;
+    };
+    units.forEach((unit, at) => {
+      if (unit.cycles === 0) take(traces[at + 1][group].row, { unit, cycles: 0, address: -1, line: unit.line.split("\n")[0] });
+      else for (const { row, cycles, address } of traces[at][group].lines.map(readTraced)) take(row, { unit, cycles, address, line: "" });
+    });
+  });
+}
