@@ -157,6 +157,43 @@ def check_names(browser):
     browser.keys([ESCAPE], 5, 5)
 
 
+FOLDED = "return [...document.querySelectorAll('#program-editor .folded-lines')].map((each) => each.textContent).join()"
+FOLDING = """; two lines
+; of comment
+
+start:  LDM 0
+loop:   IAC
+        JUN loop
+
+other:  NOP
+        BBL 0
+"""
+
+
+def check_folding(browser):
+    """Parts fold by the margin and by keys, what is in them stays, and what is to be seen unfolds."""
+    put(browser, PROGRAM, FOLDING)
+    browser.until("return document.querySelectorAll('#program-editor .CodeMirror-foldgutter-open').length", 4)
+    browser.click(f"{PROGRAM} .CodeMirror-foldgutter-open")
+    comes(browser, "a click in the margin folds lines", FOLDED, "\u2026 1 line")
+    verdict("and sets no breakpoint", browser.script(f"return document.querySelector('{PROGRAM} .mark-breakpoints') === null"), True)
+    browser.script(SET_CARET, PROGRAM, 5, 8)
+    keys = [CONTROL, SHIFT, "["]
+    browser.actions({"type": "key", "id": "keyboard", "actions": [
+        *[{"type": "keyDown", "value": key} for key in keys], *[{"type": "keyUp", "value": key} for key in reversed(keys)]]})
+    comes(browser, "the keys fold the part that the caret is in", FOLDED, "\u2026 1 line,\u2026 1 line")
+    verdict("the innermost one, whose first line the caret is in", browser.script(CARET, PROGRAM)[:1], [4])
+    verdict("the text is what it was", browser.script(TEXT_OF_EDITOR, PROGRAM), FOLDING)
+    browser.script(f"{EDITOR}editor.execCommand('foldAll')", PROGRAM)
+    browser.script(f"{EDITOR}editor.focus(); editor.setCursor(7, 2)", PROGRAM)
+    comes(browser, "all of it folds", FOLDED, "\u2026 1 line,\u2026 2 lines,\u2026 1 line")
+    browser.click(f"{PROGRAM} .send")
+    comes(browser, "it is assembled as it is", STATUS, re.compile("^Time runs"))
+    browser.click("#run")
+    browser.until(STATUS, re.compile("^Stopped"))
+    comes(browser, "and the line at which time stands still is unfolded", FOLDED, re.compile("^\u2026 1 line,\u2026 1 line$"))
+
+
 def check_numbers(browser):
     put(browser, PROGRAM, "\tNOP\n" * 200 + "; " + "a long line " * 40 + "\n\tNOP")
     time.sleep(0.3)
@@ -276,6 +313,7 @@ def check_editor(browser, page, _folder, _mcs4):
     check_faults(browser)
     check_typing(browser)
     check_names(browser)
+    check_folding(browser)
     check_numbers(browser)
     check_limits(browser)
     check_sessions(browser)

@@ -4,6 +4,7 @@
 import { Face, moreThan } from "../board/face.js";
 import { button, onClick } from "../ui/dom.js";
 import { EditorView } from "./editor_view.js";
+import { PARTS } from "./folding.js";
 import { LiveFaults } from "./live_faults.js";
 
 /**
@@ -37,6 +38,7 @@ export class BesideText {
       mark: "#",
       mode: kind.name,
       gutters: ["CodeMirror-linenumbers"],
+      folds: PARTS.tests,
       isUnsent: true,
       wordsAt: kind.wordsAt,
       complete: (lines, line, at) => kind.complete(lines, line, at, this.names()),

@@ -3,6 +3,7 @@
 import { Cell, below, block, element, onClick } from "../ui/dom.js";
 import { CountMarks } from "./count_marks.js";
 import { FaultView } from "./fault_view.js";
+import { keysOfFolding } from "./fold_view.js";
 import { LineMarks } from "./line_marks.js";
 import { LineValues } from "./line_values.js";
 import { MeaningView } from "./meaning_view.js";
@@ -23,10 +24,11 @@ import { LONGEST_KEPT, LONGEST_TEXT, alignedText, sentText } from "./text_fault.
  * @typedef {{ edited: (edits: Edit[]) => void, send: () => void, toggleBreakpoint: (line: number) => void,
  *   editBreakpoint?: (line: number) => void }} EditorCalls
  *
- * What kind of text it is: what its comments begin with, its mode, its gutters; whether a word (in upper case) is an instruction, where the
- * text has names; whether it is never sent, and so measured as it stands; what is said of a word, by its line (from 0) and its place in
- * that, what it stands for now, and how one of these values can be edited; and what a word can become.
- * @typedef {{ mark: import("./text_fault.js").CommentMark, mode: string, gutters: string[], isInstruction?: (word: string) => boolean,
+ * What kind of text it is: what its comments begin with, its mode, its gutters, what folds in it; whether a word (in upper case) is an
+ * instruction, where the text has names; whether it is never sent, and so measured as it stands; what is said of a word, by its line
+ * (from 0) and its place in that, what it stands for now, and how one of these values can be edited; and what a word can become.
+ * @typedef {{ mark: import("./text_fault.js").CommentMark, mode: string, gutters: string[],
+ *   folds?: import("./folding.js").Parts, isInstruction?: (word: string) => boolean,
  *   isUnsent?: boolean,
  *   wordsAt: (lines: string[], line: number, at: number) => string,
  *   valuesAt?: (text: string, at: number) => Piece[], offer?: import("./meaning_view.js").Offer,
@@ -54,8 +56,8 @@ export class EditorView {
     paper.append(place, list, element("div", { className: "strip" }, this.meaning.node, this.counter.node));
     this.told = new Cell(below(root, ".told", HTMLElement));
     const label = below(root, "h2", HTMLElement).textContent || "";
-    const { mode, gutters, isInstruction = () => false } = language;
-    this.editor = new TextEditor({ place, label, mode, gutters, keys: this.keys(), calls: this.textCalls() });
+    const { mode, gutters, folds, isInstruction = () => false } = language;
+    this.editor = new TextEditor({ place, label, mode, gutters, folds, keys: this.keys(), calls: this.textCalls() });
     const { editor } = this.editor;
     this.marks = new LineMarks(editor);
     this.counts = new CountMarks(editor, this.marks);
@@ -82,6 +84,7 @@ export class EditorView {
       ...withControl("G", () => this.names.goToLine()),
       ...withControl("/", () => this.editor.comment(this.language.mark)),
       ...(this.language.isInstruction ? this.keysOfNames() : {}),
+      ...(this.language.folds ? keysOfFolding(this.language.folds) : {}),
       "Ctrl-Space": () => this.complete(),
       "F9": (editor) => this.calls.toggleBreakpoint(editor.getCursor().line + 1),
       "Shift-F9": (editor) => this.askedFor(editor.getCursor().line + 1),

@@ -9,6 +9,7 @@ import { completeProgram } from "./completion.js";
 import { block, button, onClick } from "../ui/dom.js";
 import { EditorView } from "./editor_view.js";
 import { moreThan } from "../board/face.js";
+import { PARTS } from "./folding.js";
 import { LiveFaults } from "./live_faults.js";
 import { instructionsOf } from "../help/manual.js";
 import { MOST_FAULTS } from "./program_faults.js";
@@ -77,6 +78,7 @@ export class Editors {
       mark: ";",
       mode: "assembly",
       gutters: ["breakpoints", "CodeMirror-linenumbers", "addresses", "counts"],
+      folds: PARTS.program,
       isInstruction: (word) => this.instructions.has(word),
       wordsAt: (lines, line, at) => helpForProgram(lines, line, at, this.instructions, this.calls.meaningOf),
       valuesAt: (text, at) => this.calls.valuesAt(text, at),
@@ -98,6 +100,7 @@ export class Editors {
       mark: "#",
       mode: "toml",
       gutters: ["CodeMirror-linenumbers"],
+      folds: PARTS.board,
       wordsAt: (lines, line, at) => helpForBoard(lines, line, at, this.tables),
       complete: (lines, line, at) => completeBoard(lines, line, at, this.tables),
     }, {

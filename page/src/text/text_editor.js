@@ -3,6 +3,7 @@
 
 import CodeMirror from "codemirror";
 import { upTo } from "../bench/numbers.js";
+import { FOLD_GUTTER, offerFolding, unfold } from "./fold_view.js";
 import { LONGEST_KEPT, commented } from "./text_fault.js";
 
 /**
@@ -21,9 +22,10 @@ import { LONGEST_KEPT, commented } from "./text_fault.js";
  *   askedGutter: (line: number, event: Event) => void, clickedName: () => void,
  *   refused: (size: number) => void }} TextCalls
  *
- * What an editor is made of: its place, its name for those who do not see it, the mode of its text, the gutters beside the faults, and
- * its own keys.
- * @typedef {{ place: HTMLElement, label: string, mode: string, gutters: string[], keys: KeyMap, calls: TextCalls }} TextParts
+ * What an editor is made of: its place, its name for those who do not see it, the mode of its text, the gutters beside the faults, what
+ * folds in it, and its own keys.
+ * @typedef {{ place: HTMLElement, label: string, mode: string, gutters: string[], folds?: import("./folding.js").Parts, keys: KeyMap,
+ *   calls: TextCalls }} TextParts
  */
 
 /** How many documents are kept. */
@@ -54,7 +56,7 @@ export class TextEditor {
       inputStyle: "contenteditable",
       screenReaderLabel: parts.label,
       lineNumbers: true,
-      gutters: ["faults", ...parts.gutters],
+      gutters: ["faults", ...parts.gutters, ...(parts.folds ? [FOLD_GUTTER] : [])],
       indentUnit: INDENT,
       tabSize: INDENT,
       indentWithTabs: true,
@@ -63,6 +65,7 @@ export class TextEditor {
       configureMouse: () => ({ addNew: false }),
       extraKeys: { "Shift-Tab": "indentLess", ...parts.keys },
     });
+    if (parts.folds) offerFolding(this.editor, parts.folds);
     this.nameInput();
     this.listen();
   }
@@ -93,7 +96,7 @@ export class TextEditor {
       if ((event.ctrlKey || event.metaKey) && event.button === 0) setTimeout(calls.clickedName);
     });
     editor.on("keydown", (_, event) => this.typed(event));
-    editor.on("gutterClick", (_, line) => calls.clickedGutter(line + 1));
+    editor.on("gutterClick", (_, line, gutter) => gutter !== FOLD_GUTTER && calls.clickedGutter(line + 1));
     editor.on("gutterContextMenu", (_, line, gutter, event) => calls.askedGutter(line + 1, event));
     // A file that is dropped is the page's.
     editor.on("drop", (_, /** @type {DragEvent & { codemirrorIgnore?: boolean }} */ event) => {
@@ -174,16 +177,18 @@ export class TextEditor {
    * @param {{ from: number, to: number }} lines
    */
   select({ from, to }) {
+    for (const line of [from, to]) unfold(this.editor, line - 1);
     this.editor.setSelection({ line: from - 1, ch: 0 }, { line: to - 1, ch: (this.editor.getLine(to - 1) || "").length });
     this.editor.focus();
   }
 
   /**
-   * Brings a line into view, where it is not in it; neither the caret nor the page moves.
+   * Brings a line into view, where it is not in it; neither the caret nor the page moves. A part that it is folded away with unfolds.
    * @param {number} line from 1
    */
   reveal(line) {
     const { editor } = this;
+    unfold(editor, line - 1);
     const { top, clientHeight } = editor.getScrollInfo();
     const from = editor.heightAtLine(line - 1, "local");
     const room = editor.defaultTextHeight() * 2;
