@@ -124,7 +124,7 @@ test("the lines of a test have what a trace does not tell, and no words of their
   assert.equal(condition.holds([], beside), true);
   assert.equal(ofTest("cycles at most 6 ms").condition.holds([], beside), true);
   assert.equal(ofTest("cycles 537").condition.tell([], beside), "cycles are 538, and have to be 537");
-  assert.equal(ofTest("@end").condition.tell(["00B"], beside), "pc is 00B (end), within an instruction,, and has to be @end");
+  assert.equal(ofTest("@end").condition.tell(["00B"], beside), "pc is 00B (end), within an instruction, and has to be @end");
   assert.equal(ofTest("cycles").fault, "it is written as `cycles TIME`, `cycles at most TIME` or `cycles at least TIME`");
   assert.equal(ofTest("r9 = 3").fault, "r9 is one value");
   assert.equal(ofTest("at end").fault, "there is no place at; places are acc, cy, pc, dcl, test, r0 to r15, ram.B.S, st.B.H.K");

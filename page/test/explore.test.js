@@ -414,3 +414,14 @@ test("a search ends with its time, where it is stopped, and where its worker die
   assert.deepEqual(await run(stopped, controller), { faults: [], isStopped: true });
   assert.equal(ends.length, 3);
 });
+
+test("before a find stand shared steps in the place of `do`, and what is repeated", async () => {
+  const testText = "steps on\n  press A\n  reset\ntest it is lit\n  repeat 2\n    run 5\n    do on\n  end\n  save lit\n";
+  const propertiesText = "from lit\npress A B\nnever lamp on on\n";
+  const { readable, faults } = await readToExplore(engine, { ...texts, testText, propertiesText });
+  assert.deepEqual(faults, []);
+  assert.deepEqual(readable.campaign.before, ["  repeat 2", "  run 5", "  press A", "  reset", "  end"]);
+  // After a power cycle it is not known how many calls are open.
+  assert.equal(readable.campaign.calls.least, 0);
+  assert.ok(readable.campaign.calls.most > 0);
+});

@@ -19,6 +19,12 @@ const forms = testForms(manual);
 const completed = (line) => completeTest([line], 0, line.length, names, forms).list.map(({ text }) => text);
 const help = (line, at) => helpForTest([line], 0, at, forms);
 
+test("shared steps that stand before a line are completed", () => {
+  const lines = ["steps unlock", "  keys 1", " steps  lock", "test a", "  do ", "steps later"];
+  const names_ = (line) => completeTest(lines, line, lines[line].length, names, forms).list.map(({ text }) => text);
+  assert.deepEqual([names_(4), completed("do ")], [["unlock", "lock"], []]);
+});
+
 test("words of tests are completed with the names of board and program", () => {
   assert.deepEqual(completed("  e"), ["expect"]);
   assert.deepEqual(completed("re"), ["release", "reset"]);

@@ -63,6 +63,28 @@ test("a comment may stand behind a line, where no key has its mark as its name",
   assert.deepEqual([fault.line, more], [5, []]);
 });
 
+test("what is repeated, shared steps, and the label that was passed last", async () => {
+  const text = [
+    "steps wait", " run 538",
+    "test a", " run 7", " repeat 3", "  expect lamps right", "  repeat 3", "   do wait", "  end", " end",
+    " mark", " repeat 2", "  repeat 5", "   do wait", "   expect cycles at most 2000", "  end", " end",
+    "test b", " run 9", " until @first within 4",
+  ];
+  const { outcomes } = await runTests(engine, texts(text.join("\n")), always);
+  assert.deepEqual([outcomes[0].cycles, outcomes[0].failure.line], [7 + 13 * 538, 15]);
+  assert.equal(outcomes[0].failure.words,
+    "cycles are 2152, and have to be at most 2000; in turn 4 of 5 of line 13, in turn 1 of 2 of line 12");
+  assert.equal(outcomes[1].failure.words, "it did not come within 4 cycles: pc is 016 (turn), and has to be @first; "
+    + "the label passed last is turn, 2 cycles ago; @first was passed last 10 cycles ago");
+});
+
+test("a test that repeats for long can be left", async () => {
+  const text = "test a\n repeat 100000\n  run 100000\n end\n";
+  let asked = 0;
+  await assert.rejects(() => runTests(engine, texts(text), async () => ++asked < 3), Cancelled);
+  assert.equal(asked, 3);
+});
+
 test("faults of the texts are told, and nothing is run", async () => {
   const report = await runTests(engine, texts("test a\n  until lamps green within 10 ms\n  press x\n  run 10 years\n"), always);
   assert.deepEqual(report.faults.map(({ text, line, words }) => `${text}:${line}: ${words}`), [

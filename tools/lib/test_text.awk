@@ -1,8 +1,16 @@
 # Reads texts of tests. Needs numbers.awk, face.awk, board.awk and names.awk, which have read the board and the map of the program.
 #
 # read_tests(file, name), of a file that is told by this name, adds to: test_name[t], t from 1 to test_count, with its file's name,
-# test_file[t]; from_state[t], the state that it begins with, if any (of its own file: state_word tells its name); its steps, first_step[t] to last_step[t]; of a step, step_kind, step_line (its number), step_text, and what it needs.
-# Conditions have numbers: condition_kind[c] and so on. test_faults tells what is wrong, a line each.
+# test_file[t]; from_state[t], the state that it begins with, if any (of its own file: state_word tells its name); its steps,
+# first_step[t] to last_step[t]; of a step, step_kind, step_file, step_line (its number), step_text, and what it needs. Those of `repeat`
+# go to the step of its `end`, step_end[i]. Shared steps, of this text or one before it, are shared_first[name] to shared_last[name].
+# Conditions have numbers: condition_kind[c] and so on. A key that a value names is a word `{PLACE:KEY,KEY}`: chosen_by[word] is a condition
+# whose value it is, chosen_keys[word] the names. test_faults tells what is wrong, a line each; end_reading() ends all texts.
+
+BEGIN {
+    most_times = 100000
+    most_steps = 1000000
+}
 
 function test_fault(what) {
     if (++fault_count <= 20) test_faults = test_faults reading ":" reading_line ": " what "\n"
@@ -12,7 +20,7 @@ function read_tests(file, name,    line, words, count, any) {
     reading = name
     reading_count++
     reading_line = 0
-    any = 0
+    any = open_count = 0
     while ((getline line < file) > 0) {
         if (++reading_line == 1) sub(/^\357\273\277/, "", line)
         sub(/\r$/, "", line)
@@ -24,19 +32,41 @@ function read_tests(file, name,    line, words, count, any) {
             continue
         }
         count = split(line, words, /[ \t]+/)
-        if (words[1] == "test") {
+        if (words[1] == "test" || words[1] == "steps") {
             any = 1
-            begin_test(name, line)
+            close_repeats()
+            steps_read = 0
+            if (words[1] == "test") begin_test(name, line)
+            else begin_shared(name, words, count)
         } else if (!any) {
             test_fault("a text of tests begins with `test NAME`, and this is: " substr(line, 1, 60))
             break
         } else read_step(words, count, line)
     }
     close(file)
+    close_repeats()
     if (reading_line == 0 || (!any && test_faults == "")) {
         reading_line = 1
         test_fault("there is no line `test NAME`")
     }
+}
+
+# All texts are read: there has to be a test among them.
+function end_reading() {
+    if (test_count > 0 || test_faults != "") return
+    reading_line = 1
+    test_fault("there is no line `test NAME`")
+}
+
+# What is repeated ends where its test does.
+function close_repeats(    k, line) {
+    line = reading_line
+    for (k = 1; k <= open_count; k++) {
+        reading_line = step_line[open_repeat[k]]
+        test_fault("this `repeat` has no `end`")
+    }
+    reading_line = line
+    open_count = 0
 }
 
 # A line without its comment: from a mark with a blank on both sides on, but in a name, and where a key has the mark as its name.
@@ -62,6 +92,39 @@ function begin_test(file, line) {
     from_state[test_count] = ""
     first_step[test_count] = step_count + 1
     last_step[test_count] = step_count
+    reading_shared = 0
+}
+
+function begin_shared(file, words, count,    name) {
+    reading_shared = 1
+    shared_now = name = count == 2 ? words[2] : ""
+    if (count != 2) test_fault("shared steps have a name, one word: steps NAME")
+    else if (name in shared_first) test_fault("the steps " name " stand at " place_of(shared_file[name], shared_line[name]) " already")
+    shared_file[name] = file
+    shared_line[name] = reading_line
+    shared_first[name] = step_count + 1
+    shared_last[name] = step_count
+    shared_steps[name] = 0
+    if (count == 2 && !(name in shared_known)) shared_names[++shared_count] = name
+    shared_known[name] = 1
+}
+
+# A line of this text, or of another one.
+function place_of(file, line) {
+    return file == reading ? "line " line : file ":" line
+}
+
+# How often the lines here are done, and so many lines more.
+function times_here(    k, times) {
+    times = 1
+    for (k = 1; k <= open_count; k++) times *= step_times[open_repeat[k]]
+    return times
+}
+
+function add_steps(more) {
+    if (steps_read <= most_steps && steps_read + more > most_steps) test_fault("what is repeated here comes to more than 1,000,000 lines")
+    steps_read += more
+    if (reading_shared) shared_steps[shared_now] = steps_read
 }
 
 function read_step(words, count, line,    kind, i, name) {
@@ -69,10 +132,18 @@ function read_step(words, count, line,    kind, i, name) {
     i = ++step_count
     step_kind[i] = kind
     step_line[i] = reading_line
+    step_file[i] = reading
     step_text[i] = line
-    last_step[test_count] = i
+    if (reading_shared) shared_last[shared_now] = i
+    else last_step[test_count] = i
+    if (kind == "repeat") return read_repeat(i, words, count)
+    if (kind == "end") return read_end(i, count)
+    if (kind == "do") return read_do(i, words, count)
+    add_steps(times_here())
     if (kind == "from" || kind == "save") {
         if (count != 2) return test_fault("it is written as `" kind " STATE`, a word")
+        if (kind == "save" && open_count > 0) return test_fault("a state is saved once: `save` stands in no `repeat`")
+        if (reading_shared) return test_fault("shared steps have no states: `" kind "` stands in a test")
         name = step_name[i] = reading_count ":" words[2]
         if (kind == "save") {
             if (name in saved_by) return test_fault("the state " words[2] " is saved by the test before, `" test_name[saved_by[name]] "`")
@@ -102,7 +173,33 @@ function read_step(words, count, line,    kind, i, name) {
     else if (kind == "mark" || kind == "reset") {
         if (count != 1) return test_fault("`" kind "` stands alone")
     } else if (kind == "set") read_set(i, words, count)
-    else test_fault("no line of a test begins with `" substr(kind, 1, 30) "`; they begin with test, from, save, press, release, keys, pace, run, until, expect, mark, set or reset")
+    else test_fault("no line of a test begins with `" substr(kind, 1, 30) "`; they begin with test, steps, from, save, press, release, keys, pace, run, until, expect, mark, set, reset, do, repeat or end")
+}
+
+function read_repeat(i, words, count,    is_count) {
+    is_count = count == 2 && words[2] ~ /^[0-9]+$/ && length(words[2]) <= 6 && words[2] + 0 >= 1 && words[2] + 0 <= most_times
+    step_times[i] = is_count ? words[2] + 0 : 1
+    open_repeat[++open_count] = i
+    if (!is_count) test_fault("it is written as `repeat COUNT`, 1 to 100,000: the lines down to its `end` are done so often")
+}
+
+function read_end(i, count) {
+    if (count != 1) test_fault("`end` stands alone")
+    else if (open_count == 0) test_fault("there is no `repeat` for this `end`")
+    if (open_count > 0) step_end[open_repeat[open_count--]] = i
+}
+
+# Shared steps are known from their end on, so none lead to themselves.
+function read_do(i, words, count,    name, k, text) {
+    if (count != 2) return test_fault("it is written as `do STEPS`, the name of shared steps")
+    step_name[i] = name = words[2]
+    if (reading_shared && name == shared_now) return test_fault("the steps " name " cannot do themselves")
+    text = ""
+    for (k = 1; k <= shared_count; k++) if (!reading_shared || shared_names[k] != shared_now) text = text " " shared_names[k]
+    if (!(name in shared_known)) return test_fault("there are no steps " name " before this line" (text == "" ? "; `steps " name "` begins them" : "; there are:" text))
+    step_first[i] = shared_first[name]
+    step_last[i] = shared_last[name]
+    add_steps(times_here() * shared_steps[name])
 }
 
 function states(    name, text) {
@@ -163,10 +260,11 @@ function time_of(words, from, count,    word, unit, joined) {
 }
 
 # The names of keys, one a line. A word that is no key is taken letter by letter, where this is allowed.
-function keys_of(words, from, count, letters,    i, j, text) {
+function keys_of(words, from, count, letters,    i, j, text, faults) {
     text = ""
-    for (i = from; i <= count; i++) {
-        if (has_key(words[i])) text = text words[i] "\n"
+    faults = fault_count
+    for (i = from; i <= count && fault_count == faults; i++) {
+        if (has_key(words[i]) || is_chosen(words[i])) text = text words[i] "\n"
         else if (!letters || length(words[i]) == 1) no_key(words[i])
         else {
             for (j = 1; j <= length(words[i]); j++) {
@@ -179,6 +277,31 @@ function keys_of(words, from, count, letters,    i, j, text) {
         }
     }
     return text
+}
+
+# Whether a word names a key by a value of the machine: `{r4}` the one whose name the value is, `{r4:red,green}` one of these.
+function is_chosen(word,    place, at, list, words, count, k) {
+    if (word !~ /^\{[^{}]+\}$/) return 0
+    place = substr(word, 2, length(word) - 2)
+    at = index(place, ":")
+    list = at ? substr(place, at + 1) : ""
+    if (at) place = substr(place, 1, at - 1)
+    if (place !~ /^(acc|cy|dcl|r[0-9]+|(ram|st)\.[0-9A-Za-z.]+)$/ || (at && list == "")) {
+        test_fault("a key by a value is written as `{PLACE}` or `{PLACE:KEY,KEY}`; places are acc, cy, dcl, r0 to r15, ram.B.S and st.B.H.K")
+        return 1
+    }
+    chosen_keys[word] = list
+    chosen_place[word] = place
+    count = split(list, words, ",")
+    for (k = 1; k <= count; k++) {
+        if (has_key(words[k])) continue
+        no_key(words[k])
+        return 1
+    }
+    words[1] = place
+    words[2] = "0"
+    chosen_by[word] = condition_of(words, 1, 2)
+    return 1
 }
 
 function no_key(name,    i, text) {

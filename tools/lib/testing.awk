@@ -17,6 +17,7 @@ function read_all_tests(    files, names, count, i) {
     count = split(ENVIRON["tests"], files, "\n")
     split(ENVIRON["tests_named"], names, "\n")
     for (i = 1; i <= count; i++) if (files[i] != "") read_tests(files[i], names[i])
+    end_reading()
     if (fault_count > 20) test_faults = test_faults "and " fault_count - 20 " more\n"
     if (test_faults != "") end_with(test_faults)
 }
@@ -71,10 +72,9 @@ function run_test(t,    file, i, wrong) {
     if (some_change_rom) code_is_read = 0
     if (counting) know_code()
     begin_account()
-    for (i = first_step[t]; i <= last_step[t] && wrong == ""; i++) {
-        wrong = do_step(i)
-        if (wrong != "") tell_failure(t, i, wrong)
-    }
+    within_count = 0
+    wrong = do_steps(first_step[t], last_step[t])
+    if (wrong != "") tell_failure(t, failed_step, wrong)
     end_account()
     close_bench()
     if (wrong == "" && !quiet) print "ok " t " - " described(t)
@@ -91,6 +91,38 @@ function described(t,    text) {
 
 function copy_file(from, to) {
     if (system("cp \"$folder/" from "\" \"$folder/" to "\"") != 0) die("cannot copy a session in " ENVIRON["folder"])
+}
+
+# Does steps, up to one that fails, `failed_step`; returns what is wrong, or "".
+function do_steps(from, to,    i, turn, wrong) {
+    wrong = ""
+    for (i = from; i <= to && wrong == ""; i++) {
+        if (step_kind[i] == "repeat") {
+            within_count++
+            for (turn = 1; turn <= step_times[i] && wrong == ""; turn++) {
+                within[within_count] = "turn " turn " of " step_times[i] " of line " step_line[i]
+                wrong = do_steps(i + 1, step_end[i] - 1)
+            }
+            within_count--
+            i = step_end[i]
+        } else if (step_kind[i] == "do") {
+            within[++within_count] = "the steps " step_name[i] " of " (step_file[i] == step_file[step_first[i]] || step_first[i] > step_last[i] ? "line " : step_file[i] ":") step_line[i]
+            wrong = do_steps(step_first[i], step_last[i])
+            within_count--
+        } else {
+            wrong = do_step(i)
+            failed_step = i
+            if (wrong != "") wrong = wrong words_within()
+        }
+    }
+    return wrong
+}
+
+# Where a step stands that is done more than once, the innermost first.
+function words_within(    k, text) {
+    text = ""
+    for (k = within_count; k > 0; k--) text = text (text == "" ? "; in " : ", in ") within[k]
+    return text
 }
 
 # Does a step; returns what is wrong, or "".
@@ -136,11 +168,30 @@ function advance(n) {
 function do_keys(i, kind,    names, count, k, wrong) {
     count = split(step_keys[i], names, "\n")
     for (k = 1; k < count; k++) {
+        if ((wrong = choose(names, k)) != "") return wrong
         if (kind != "release") press(names[k])
         if (kind == "keys" && (wrong = advance(down)) != "") return wrong
         if (kind != "press") command(key_command("release", names[k]))
         if (kind == "keys" && (wrong = advance(up)) != "") return wrong
     }
+    return ""
+}
+
+# Puts the name of a key in the place of a word that a value chooses it by; returns why there is none, or "".
+function choose(names, k,    word, value, keys, count, digit, what) {
+    word = names[k]
+    if (has_key(word)) return ""
+    value = measured(chosen_by[word], condition_kind[chosen_by[word]]) + 0
+    what = chosen_place[word] " is " value ", and "
+    if (chosen_keys[word] != "") {
+        count = split(chosen_keys[word], keys, ",")
+        if (value >= count) return what word " has " count " key" (count == 1 ? "" : "s")
+        names[k] = keys[value + 1]
+        return ""
+    }
+    digit = sprintf("%X", value)
+    if (!has_key(value "") && !has_key(digit)) return what "the board has no key " value (value > 9 ? ", nor " digit : "")
+    names[k] = has_key(value "") ? value "" : digit
     return ""
 }
 
@@ -158,7 +209,106 @@ function do_until(i, c, limit,    begun, end, came) {
     if (!came) came = awaits_label(c) ? until_label(c, end) : until_change(c, end)
     if (came) return ""
     if (stop == "code") return "the run stopped after " elapsed - begun " cycles before a code that is no instruction, at " named_address(hex_number(now["pc"])) "; " told
-    return "it did not come within " limit " cycles: " told
+    return "it did not come within " limit " cycles: " told passed_words(c)
+}
+
+# Which label was passed last, and when; of a label that is awaited, when that was. All is done again, on a session of its own.
+function passed_words(c,    any, own, awaited, text) {
+    awaited = awaits_label(c) ? sprintf("%03X", condition_number[c]) : ""
+    begin_again("passed.mcs")
+    seek_passed(awaited, 0, 0)
+    any = last_any
+    own = last_own
+    begin_again("passed.mcs")
+    seek_passed(awaited, any, own)
+    end_again()
+    text = ""
+    if (any) text = "; the label passed last is " label_at[hex_number(passed_label)] ", " cycles_ago(passed_any)
+    if (awaited == "") return text
+    text = text "; " (condition_want[c] ~ /^@/ ? condition_want[c] : "pc " condition_number[c])
+    return text " was " (own ? "passed last " cycles_ago(passed_own) : "not passed in this test")
+}
+
+function cycles_ago(cycle,    ago) {
+    ago = elapsed - cycle
+    return ago " cycle" (ago == 1 ? "" : "s") " ago"
+}
+
+# What was done in this test is put aside, and a session is opened that begins as it did.
+function begin_again(file,    k) {
+    if (!past_count) {
+        for (k = 1; k <= done_count; k++) {
+            past_line[k] = done_line[k]
+            past_cycles[k] = done_cycles[k]
+        }
+        past_count = done_count
+        past_elapsed = elapsed
+    }
+    close_bench()
+    copy_file(begun_with, file)
+    done_count = elapsed = 0
+    open_bench("open", file)
+}
+
+# The session of the test goes on.
+function end_again(    k) {
+    close_bench()
+    for (k = 1; k <= past_count; k++) {
+        done_line[k] = past_line[k]
+        done_cycles[k] = past_cycles[k]
+    }
+    done_count = past_count
+    elapsed = past_elapsed
+    past_count = 0
+    open_bench("open", "test.mcs")
+}
+
+# Goes through all that was done: the pieces that pass a label, or the one that is awaited, are counted, the last ones in last_any and
+# last_own. Those of these numbers are looked at: passed_label, passed_any and passed_own are of them.
+function seek_passed(awaited, any, own,    k, i, left, n, piece, is_any, is_own) {
+    piece = last_any = last_own = 0
+    for (k = 1; k <= past_count; k++) {
+        if (past_line[k] != "run") {
+            command(past_line[k])
+            continue
+        }
+        for (left = past_cycles[k]; left > 0; left -= n) {
+            n = left < 100000 ? left : 100000
+            piece++
+            if (any || own) {
+                if (piece == any || piece == own) look_passed(awaited, n, piece == any, piece == own)
+                if (piece >= any && piece >= own) return
+            } else {
+                send("count " n)
+                take_count()
+                is_any = is_own = 0
+                for (i = 1; i <= begun_count; i++) {
+                    if (begun_at[i] == awaited) is_own = 1
+                    if (hex_number(begun_at[i]) in label_at) is_any = 1
+                }
+                if (is_any) last_any = piece
+                if (is_own) last_own = piece
+            }
+            run(n)
+        }
+    }
+}
+
+# The last labels in the next cycles, and when each was passed.
+function look_passed(awaited, n, is_any, is_own,    lines, blank, cycle, digits) {
+    send("trace " n)
+    lines = take_head("trace")
+    while (lines-- > 0) {
+        receive_row()
+        blank = index(reply, " ")
+        cycle = elapsed + substr(reply, 1, blank - 1)
+        digits = substr(reply, blank + 1, 3)
+        if (is_any && (hex_number(digits) in label_at)) {
+            passed_label = digits
+            passed_any = cycle
+        }
+        if (is_own && digits == awaited) passed_own = cycle
+    }
 }
 
 function awaits_label(c) {
@@ -255,7 +405,7 @@ function holds(c,    is, yes, kind) {
     else yes = is + 0 == condition_number[c]
     if (condition_not[c]) yes = !yes
     if (yes) return 1
-    if (kind == "at") is = named_address(is) (now["owed"] == "1" ? ", within an instruction," : "")
+    if (kind == "at") is = named_address(is) (now["owed"] == "1" ? ", within an instruction" : "")
     told = condition_what[c] " " (kind == "lamps" || kind == "cycles" ? "are " : "is ") (is == "" ? "dark" : is) ", and " \
         (kind == "lamps" || kind == "cycles" ? "have" : "has") " " (condition_not[c] ? "not " : "") "to be " condition_want[c]
     if (kind == "lamps") told = told named_lamps(is, condition_want[c])
@@ -332,13 +482,13 @@ function quoted(text) {
 # What is wrong goes to standard error, too: prove shows that, and keeps what is on standard output to itself.
 function tell_failure(t, i, wrong,    n, lines, k) {
     fflush()
-    print "# " test_file[t] ":" step_line[i] ": " test_name[t] ": " wrong | "cat 1>&2"
+    print "# " step_file[i] ":" step_line[i] ": " test_name[t] ": " wrong | "cat 1>&2"
     close("cat 1>&2")
     if (quiet) return
     print "not ok " t " - " described(t)
     print "  ---"
     print "  message: " quoted(wrong)
-    print "  at: " quoted(test_file[t] ":" step_line[i])
+    print "  at: " quoted(step_file[i] ":" step_line[i])
     print "  line: " quoted(step_text[i])
     if (is_open) {
         print "  cycles: " elapsed

@@ -174,7 +174,7 @@ export function counterTerm(address, want, names) {
   const digits = hex(address, 3);
   return {
     what: "pc", want, places: ["pc"],
-    measure: ([value], { owed }) => `${namedAddress(parseInt(value, 16), names)}${owed === "1" ? ", within an instruction," : ""}`,
+    measure: ([value], { owed }) => `${namedAddress(parseInt(value, 16), names)}${owed === "1" ? ", within an instruction" : ""}`,
     fits: (is, { owed }) => is.slice(0, 3) === digits && owed !== "1",
     single: { read: ([value]) => parseInt(value, 16), wanted: address },
     address,

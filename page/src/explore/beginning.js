@@ -4,7 +4,7 @@
 import { partsOfState, portsOf } from "../bench/state_line.js";
 import { Account, MOST_LEVELS } from "../testing/account.js";
 import { TestRun } from "../testing/test_run.js";
-import { readTests } from "../testing/test_text.js";
+import { ownLines, readTests } from "../testing/test_text.js";
 
 /**
  * @typedef {import("../testing/prepared.js").Prepared} Prepared
@@ -74,8 +74,8 @@ function upToStates(tests, state) {
  * @param {Test[]} tests
  */
 function linesOf(tests) {
-  const steps = tests.flatMap((test) => test.steps).filter(({ action }) => action.kind !== "from" && action.kind !== "save");
-  return steps.map(({ text }) => `  ${text}`);
+  const lines = tests.flatMap((test) => ownLines(test.steps)).filter(({ action }) => action.kind !== "from" && action.kind !== "save");
+  return lines.map(({ text }) => `  ${text}`);
 }
 
 /**
@@ -84,7 +84,7 @@ function linesOf(tests) {
  * @param {OpenCalls} account
  */
 function callsOf(tests, account) {
-  const isReset = tests.some(({ steps }) => steps.some(({ action }) => action.kind === "reset"));
+  const isReset = tests.some(({ steps }) => ownLines(steps).some(({ action }) => action.kind === "reset"));
   const { length } = account.open;
   return isReset ? { least: 0, most: MOST_LEVELS } : { least: length, most: length };
 }

@@ -5,7 +5,9 @@ import { LONGEST_RUN } from "../worker/key_queue.js";
 import { Answers, readTraced, valuesOf } from "../worker/tracing.js";
 import { cyclesOf } from "./account.js";
 import { lastInstructions } from "./last_instructions.js";
+import { wordsOfPassed } from "./last_passed.js";
 import { TestSession } from "./test_session.js";
+import { keysOf } from "./test_text.js";
 
 /**
  * @typedef {import("./account.js").Account} Account
@@ -13,6 +15,7 @@ import { TestSession } from "./test_session.js";
  * @typedef {import("../worker/engine.js").Engine} Engine
  * @typedef {import("./prepared.js").Prepared} Prepared
  * @typedef {import("./test_text.js").Action} Action
+ * @typedef {import("./test_text.js").ChosenKey} ChosenKey
  * @typedef {import("./test_text.js").Key} Key
  * @typedef {import("./test_text.js").Step} Step
  * @typedef {import("./test_text.js").Test} Test
@@ -66,7 +69,7 @@ export class TestRun {
     if (from !== "") session.readCodes();
     this.down = DOWN;
     this.up = UP;
-    const failure = await this.runSteps(session, steps);
+    const failure = await this.runSteps(session, steps, []);
     session.end();
     return { name, line, cycles: session.elapsed, failure };
   }
@@ -74,12 +77,35 @@ export class TestRun {
   /**
    * @param {TestSession} session
    * @param {Step[]} steps
+   * @param {string[]} within where they stand, the innermost first: what is repeated, and shared steps
    * @returns {Promise<Failure | null>}
    */
-  async runSteps(session, steps) {
+  async runSteps(session, steps, within) {
     for (const { line, text, action } of steps) {
+      if ("steps" in action) {
+        const failure = await this.runInner(session, action, line, within);
+        if (failure) return failure;
+        continue;
+      }
       const words = await this.do(session, action);
-      if (words !== "") return { line, text, words, ...this.toldOf(session) };
+      const where = within.length > 0 ? `; in ${within.join(", in ")}` : "";
+      if (words !== "") return { line, text, words: words + where, ...this.toldOf(session) };
+    }
+    return null;
+  }
+
+  /**
+   * @param {TestSession} session
+   * @param {Extract<Action, { steps: Step[] }>} action
+   * @param {number} line
+   * @param {string[]} within
+   */
+  async runInner(session, action, line, within) {
+    if (action.kind === "do") return this.runSteps(session, action.steps, [`the steps ${action.name} of line ${line}`, ...within]);
+    for (let turn = 1; turn <= action.times; turn++) {
+      const failure = await this.runSteps(session, action.steps, [`turn ${turn} of ${action.times} of line ${line}`, ...within]);
+      if (failure) return failure;
+      await this.breathe();
     }
     return null;
   }
@@ -103,7 +129,7 @@ export class TestRun {
   /**
    * Does a step; gives what is wrong, "" for nothing.
    * @param {TestSession} session
-   * @param {Action} action
+   * @param {Exclude<Action, { steps: Step[] }>} action
    * @returns {Promise<string>}
    */
   async do(session, action) {
@@ -143,12 +169,31 @@ export class TestRun {
   }
 
   /**
+   * The key that a value names now; or why there is none, in words.
    * @param {TestSession} session
-   * @param {Key[]} keys
+   * @param {ChosenKey} chosen
+   * @returns {{ key: Key | undefined, words: string }}
+   */
+  choose(session, { word, place, probe, keys }) {
+    const value = parseInt(valuesOf(new Answers(session.ask(`trace 1 ${probe}\n`)).takeTrace().row)[0], 16);
+    const what = `${place} is ${value}, and `;
+    if (keys.length > 0) return { key: keys[value], words: `${what}${word} has ${keys.length} key${keys.length === 1 ? "" : "s"}` };
+    const own = keysOf(this.prepared.names.face);
+    const digit = hex(value, 1);
+    const key = own.get(String(value)) || own.get(digit);
+    return { key, words: `${what}the board has no key ${value}${value > 9 ? `, nor ${digit}` : ""}` };
+  }
+
+  /**
+   * @param {TestSession} session
+   * @param {(Key | ChosenKey)[]} keys
    * @param {"keys" | "press" | "release"} kind
    */
   async doKeys(session, keys, kind) {
-    for (const { name, press, release } of keys) {
+    for (const each of keys) {
+      const { key, words } = "word" in each ? this.choose(session, each) : { key: each, words: "" };
+      if (!key) return words;
+      const { name, press, release } = key;
       if (kind !== "release") {
         session.command(press);
         this.account.pressed(name, session.elapsed);
@@ -177,7 +222,7 @@ export class TestRun {
     const { holds, told } = session.look(condition);
     if (holds) return "";
     if (stop === "code") return `the run stopped after ${session.elapsed - begun} cycles ${this.wordsOfCode(session)}; ${told}`;
-    return `it did not come within ${within} cycles: ${told}`;
+    return `it did not come within ${within} cycles: ${told}${wordsOfPassed(session, this.prepared.names.map, condition)}`;
   }
 
   /**

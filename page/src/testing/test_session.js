@@ -38,6 +38,10 @@ export class TestSession {
     this.ran = 0;
     /** @type {Kept} */
     this.kept = { file: file.slice(), elapsed: 0, done: [] };
+    /** How it began, and all that was done since; runs that follow each other are one. */
+    this.begun = file;
+    /** @type {Done[]} */
+    this.all = [];
     this.spare = new Uint8Array(file.length);
     this.counter = 0;
     this.owed = "0";
@@ -68,6 +72,7 @@ export class TestSession {
     if (!answer.startsWith("ok ")) throw new Error(`the bench answered ${answer} to: ${line}`);
     this.takeRegisters(regs);
     this.kept.done.push({ line, cycles: 0 });
+    this.all.push({ line, cycles: 0 });
   }
 
   /** Bytes in ROM are others now. */
@@ -110,8 +115,16 @@ export class TestSession {
       this.spare = old;
     }
     if (ran.cycles > 0) this.kept.done.push({ line: "run", cycles: ran.cycles });
+    this.note(ran.cycles);
     this.elapsed += ran.cycles;
     return ran;
+  }
+
+  /** @param {number} cycles of a run */
+  note(cycles) {
+    const last = this.all[this.all.length - 1];
+    if (last && last.line === "run") last.cycles += cycles;
+    else if (cycles > 0) this.all.push({ line: "run", cycles });
   }
 
   /** The last instruction is not done, and will not be. */

@@ -11,18 +11,31 @@ import { readSetting } from "./setting.js";
  * @typedef {{ line: number, words: string }} Fault
  * @typedef {{ name: string, press: string, release: string }} Key with the commands that move it
  *
+ * A key that a value names: the word of the line, the place, its word of `trace`, and the keys for the values from 0 on; without these, the
+ * key whose name is the value.
+ * @typedef {{ word: string, place: string, probe: string, keys: Key[] }} ChosenKey
+ *
  * What a step does.
- * @typedef {{ kind: "from" | "save", state: string } | { kind: "press" | "release" | "keys", keys: Key[] }
+ * @typedef {{ kind: "from" | "save", state: string } | { kind: "press" | "release" | "keys", keys: (Key | ChosenKey)[] }
  *   | { kind: "pace", down: number, up: number } | { kind: "run", cycles: number }
  *   | { kind: "until", condition: Condition, cycles: number } | { kind: "expect", condition: Condition }
- *   | { kind: "mark" | "reset" } | { kind: "set", command: string, changesRom: boolean }} Action
+ *   | { kind: "mark" | "reset" } | { kind: "set", command: string, changesRom: boolean }
+ *   | { kind: "repeat", times: number, steps: Step[] } | { kind: "do", name: string, steps: Step[] }} Action
  * @typedef {{ line: number, text: string, action: Action }} Step
+ *
+ * Shared steps, with how many lines are done by them, what is repeated as often as it is.
+ * @typedef {{ name: string, line: number, steps: Step[], lines: number }} Shared
  * @typedef {{ name: string, line: number, from: string, steps: Step[] }} Test `from` is the state that it begins with, "" for none
  * @typedef {{ tests: Test[], faults: Fault[] }} TestText
  */
 
 const NO_RUN = "it is written as `run TIME`, as in: run 500, run 20 ms, run 1.5 s";
-const FIRST_WORDS = "test, from, save, press, release, keys, pace, run, until, expect, mark, set or reset";
+const NO_REPEAT = "it is written as `repeat COUNT`, 1 to 100,000: the lines down to its `end` are done so often";
+const NO_CHOICE = "a key by a value is written as `{PLACE}` or `{PLACE:KEY,KEY}`; places are acc, cy, dcl, r0 to r15, ram.B.S and st.B.H.K";
+const FIRST_WORDS = "test, steps, from, save, press, release, keys, pace, run, until, expect, mark, set, reset, do, repeat or end";
+/** What is repeated is done so often at most, and all of a test comes to so many lines. */
+const MOST_TIMES = 100000;
+const MOST_LINES = 1000000;
 
 /** What is wrong with a line. */
 class BadLine extends Error {}
@@ -64,6 +77,17 @@ class TestReader {
     this.faults = [];
     /** @type {Map<string, Test>} by which test each state is saved */
     this.savedBy = new Map();
+    /** @type {Map<string, Shared>} */
+    this.shared = new Map();
+    /** @type {Shared | null} the shared steps that are being read, null in a test */
+    this.sharing = null;
+    /** @type {Step[]} the steps that the next one is added to */
+    this.steps = [];
+    /** @type {{ line: number, times: number, outer: Step[] }[]} what is repeated and has no end yet, the outermost first */
+    this.repeats = [];
+    /** How many lines are done by the test, or by the shared steps, so far. */
+    this.lines = 0;
+    this.hasBegun = false;
   }
 
   /** @returns {Test} the one that is being read */
@@ -83,9 +107,10 @@ class TestReader {
         if (!(fault instanceof BadLine)) throw fault;
         this.faults.push({ line: at + 1, words: fault.message });
         // What is no text of tests has no lines of one.
-        if (this.tests.length === 0 && /^[\t -~]*$/.test(lines[at])) return;
+        if (!this.hasBegun && /^[\t -~]*$/.test(lines[at])) return;
       }
     }
+    this.closeRepeats();
     if (this.tests.length === 0 && this.faults.length === 0) this.faults.push({ line: 1, words: "there is no line `test NAME`" });
   }
 
@@ -108,16 +133,118 @@ class TestReader {
   readLine(text, line) {
     if (/[^\t -~]/.test(text)) fail("a byte that is neither a tab nor a printing character of ASCII");
     const words = text.split(/[ \t]+/);
-    if (words[0] === "test") {
-      const name = text.replace(/^test[ \t]*/, "");
-      this.tests.push({ name, line, from: "", steps: [] });
-      if (name === "") fail("a test has a name: test NAME");
-    } else if (this.tests.length === 0) {
+    if (words[0] === "test" || words[0] === "steps") {
+      this.begin();
+      if (words[0] === "steps") this.beginShared(words, line);
+      else this.beginTest(text.replace(/^test[ \t]*/, ""), line);
+    } else if (!this.hasBegun) {
       fail(`a text of tests begins with \`test NAME\`, and this is: ${text.slice(0, 60)}`);
+    } else if (words[0] === "end") {
+      this.endRepeat(words);
     } else {
-      this.test.steps.push({ line, text, action: { kind: "mark" } });
-      this.test.steps[this.test.steps.length - 1].action = this.readAction(words);
+      this.readStep(words, text, line);
     }
+  }
+
+  /** A test, or shared steps, begin: what came before has ended. */
+  begin() {
+    this.closeRepeats();
+    this.hasBegun = true;
+    this.lines = 0;
+  }
+
+  /**
+   * @param {string} name
+   * @param {number} line
+   */
+  beginTest(name, line) {
+    this.sharing = null;
+    this.steps = [];
+    this.tests.push({ name, line, from: "", steps: this.steps });
+    if (name === "") fail("a test has a name: test NAME");
+  }
+
+  /**
+   * @param {string[]} words
+   * @param {number} line
+   */
+  beginShared(words, line) {
+    const name = words.length === 2 ? words[1] : "";
+    const before = this.shared.get(name);
+    this.steps = [];
+    this.sharing = { name, line, steps: this.steps, lines: 0 };
+    this.shared.set(name, this.sharing);
+    if (name === "") fail("shared steps have a name, one word: steps NAME");
+    if (before) fail(`the steps ${name} stand at line ${before.line} already`);
+  }
+
+  // --- what is repeated ---
+
+  closeRepeats() {
+    for (const { line } of this.repeats.splice(0)) this.faults.push({ line, words: "this `repeat` has no `end`" });
+  }
+
+  /** @param {string[]} words */
+  endRepeat(words) {
+    const open = this.repeats.pop();
+    if (open) this.steps = open.outer;
+    if (words.length > 1) fail("`end` stands alone");
+    if (!open) fail("there is no `repeat` for this `end`");
+  }
+
+  /**
+   * So many lines more are done, as often as what is repeated here.
+   * @param {number} more
+   */
+  addLines(more) {
+    const before = this.lines;
+    this.lines += this.repeats.reduce((product, { times }) => product * times, more);
+    if (this.sharing) this.sharing.lines = this.lines;
+    if (before <= MOST_LINES && this.lines > MOST_LINES) fail("what is repeated here comes to more than 1,000,000 lines");
+  }
+
+  /**
+   * @param {string[]} words
+   * @param {string} text
+   * @param {number} line
+   */
+  readStep(words, text, line) {
+    /** @type {Step} */
+    const step = { line, text, action: { kind: "mark" } };
+    this.steps.push(step);
+    if (words[0] === "repeat") {
+      const isCount = words.length === 2 && /^\d{1,6}$/.test(words[1]) && Number(words[1]) >= 1 && Number(words[1]) <= MOST_TIMES;
+      const times = isCount ? Number(words[1]) : 1;
+      const outer = this.steps;
+      this.steps = [];
+      step.action = { kind: "repeat", times, steps: this.steps };
+      this.repeats.push({ line, times, outer });
+      if (!isCount) fail(NO_REPEAT);
+    } else if (words[0] === "do") {
+      step.action = this.readDo(words);
+    } else {
+      this.addLines(1);
+      step.action = this.readAction(words);
+    }
+  }
+
+  /**
+   * Shared steps are known from their end on, so none lead to themselves.
+   * @param {string[]} words
+   * @returns {Action}
+   */
+  readDo(words) {
+    if (words.length !== 2) fail("it is written as `do STEPS`, the name of shared steps");
+    const [, name] = words;
+    if (this.sharing && this.sharing.name === name) fail(`the steps ${name} cannot do themselves`);
+    const there = [...this.shared.keys()].filter((each) => each !== "" && (!this.sharing || each !== this.sharing.name));
+    const found = this.shared.get(name);
+    if (!found) {
+      const which = there.length > 0 ? `; there are: ${there.join(" ")}` : `; \`steps ${name}\` begins them`;
+      return fail(`there are no steps ${name} before this line${which}`);
+    }
+    this.addLines(found.lines);
+    return { kind: "do", name, steps: found.steps };
   }
 
   /**
@@ -145,13 +272,15 @@ class TestReader {
   readState(kind, words) {
     const [state] = words;
     if (words.length !== 1) fail(`it is written as \`${kind} STATE\`, a word`);
+    if (kind === "save" && this.repeats.length > 0) fail("a state is saved once: `save` stands in no `repeat`");
+    if (this.sharing) fail(`shared steps have no states: \`${kind}\` stands in a test`);
     const before = this.savedBy.get(state);
     if (kind === "save") {
       if (before) fail(`the state ${state} is saved by the test before, \`${before.name}\``);
       this.savedBy.set(state, this.test);
       return { kind, state };
     }
-    if (this.test.steps.length > 1) fail("`from` stands right below `test`");
+    if (this.test.steps.length > 1 || this.repeats.length > 0) fail("`from` stands right below `test`");
     const there = this.savedBy.size > 0 ? `; there is: ${[...this.savedBy.keys()].join(" ")}` : "";
     if (!before) fail(`no test before it saves a state ${state}${there}`);
     if (before === this.test) fail("a test cannot begin with a state of its own");
@@ -168,11 +297,26 @@ class TestReader {
   readKeys(kind, words) {
     if (words.length === 0) fail(`it is written as \`${kind} ${kind === "keys" ? "KEYS" : "KEY .."}\``);
     const keys = words.flatMap((word) => {
-      const key = this.keys.get(word);
+      const key = this.keys.get(word) || this.chosenKey(word);
       if (key) return [key];
       return kind === "keys" ? [...word].map((letter) => this.keys.get(letter) || this.noKey(letter, word)) : [this.noKey(word, word)];
     });
     return { kind, keys };
+  }
+
+  /**
+   * A word that names a key by a value: `{r4}` the one whose name the value is, `{r4:red,green}` one of these; null where it is none.
+   * @param {string} word
+   * @returns {ChosenKey | null}
+   */
+  chosenKey(word) {
+    const [, inner] = /^\{([^{}]+)\}$/.exec(word) || [];
+    if (inner === undefined) return null;
+    const [, place, list] = /^([^:]*)(?::(.*))?$/.exec(inner) || ["", ""];
+    if (!/^(acc|cy|dcl|r[0-9]+|(ram|st)\.[0-9A-Za-z.]+)$/.test(place) || list === "") return fail(NO_CHOICE);
+    const keys = list === undefined ? [] : list.split(",").map((name) => this.keys.get(name) || this.noKey(name, name));
+    const [probe] = this.readCondition([place, "0"]).places;
+    return { word, place, probe, keys };
   }
 
   /**
@@ -217,6 +361,19 @@ function readPace(words) {
   const isWhole = down.cycles > 0 && up.cycles > 0 && down.words + up.words === words.length;
   return isWhole ? { kind: "pace", down: down.cycles, up: up.cycles }
     : fail("it is written as `pace TIME TIME`: how long a key is down, and how long it is up after it");
+}
+
+/**
+ * What steps do, without shared steps: the lines of these stand in the place of `do`.
+ * @param {Step[]} steps
+ * @returns {{ text: string, action: Action }[]}
+ */
+export function ownLines(steps) {
+  return steps.flatMap(({ text, action }) => {
+    if (action.kind === "do") return ownLines(action.steps);
+    if (action.kind !== "repeat") return [{ text, action }];
+    return [{ text, action }, ...ownLines(action.steps), { text: "end", action }];
+  });
 }
 
 /**

@@ -7,7 +7,7 @@ import CodeMirror from "codemirror";
  * the words; and whether a line may begin with a condition.
  */
 const TESTS = {
-  first: /^(test|from|save|press|release|keys|pace|run|until|expect|mark|set|reset)$/,
+  first: /^(test|steps|from|save|press|release|keys|pace|run|until|expect|mark|set|reset|do|repeat|end)$/,
   others: /^(not|within|lamps?|display|cycles|at|most|least|on|off|none|in|out)$/,
   named: "test",
   whole: /^(test|press|release|keys)$/,

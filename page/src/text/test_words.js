@@ -115,7 +115,9 @@ export function completeWord(line, at, fitting) {
  * @returns {Completion}
  */
 export function completeTest(lines, line, at, names, forms) {
-  return completeWord(lines[line], at, (before, begun) => wordsAfter(before, begun, names, forms));
+  const shared = lines.slice(0, line).flatMap((each) => (/^\s*steps\s+(\S+)\s*$/.exec(each) || []).slice(1));
+  return completeWord(lines[line], at, (before, begun) => (
+    before.length === 1 && before[0] === "do" ? alone(shared) : wordsAfter(before, begun, names, forms)));
 }
 
 /**

@@ -1,0 +1,69 @@
+// Which label a session under test has passed last, and when: all that was done in the test is done once more, and counted by pieces.
+
+import { LONGEST_RUN } from "../worker/key_queue.js";
+import { Answers, readTraced } from "../worker/tracing.js";
+
+/**
+ * @typedef {import("../debug/conditions.js").Condition} Condition
+ * @typedef {import("../machine/source_map.js").SourceMap} SourceMap
+ * @typedef {import("./test_session.js").Done} Done
+ * @typedef {import("./test_session.js").TestSession} TestSession
+ * @typedef {{ address: number, cycles: number }} Passed after so many cycles of the test
+ */
+
+/**
+ * What was done in a test, in pieces as long as the bench takes.
+ * @param {Done[]} done
+ * @returns {Generator<Done>}
+ */
+function* piecesOf(done) {
+  for (const { line, cycles } of done) {
+    if (line !== "run") yield { line, cycles: 0 };
+    for (let left = cycles; left > 0; left -= LONGEST_RUN) yield { line: "run", cycles: Math.min(left, LONGEST_RUN) };
+  }
+}
+
+/**
+ * The last time that one of some addresses was passed; null where none was.
+ * @param {TestSession} session
+ * @param {Set<number>} addresses
+ * @returns {Passed | null}
+ */
+export function lastPassed({ engine, begun, all }, addresses) {
+  const file = begun.slice();
+  const before = begun.slice();
+  let [found, elapsed, from] = [0, 0, 0];
+  for (const { line, cycles } of piecesOf(all)) {
+    if (cycles === 0) {
+      engine.serve(file, `${line}\n`, file);
+      continue;
+    }
+    const { lines } = new Answers(engine.ask(file, `count ${cycles}\n`).answers).takeTrace();
+    if (lines.some((told) => addresses.has(parseInt(told.slice(0, 3), 16)))) {
+      before.set(file);
+      [found, from] = [cycles, elapsed];
+    }
+    engine.serve(file, `run ${cycles}\n`, file);
+    elapsed += cycles;
+  }
+  if (found === 0) return null;
+  const { lines } = new Answers(engine.ask(before, `trace ${found}\n`).answers).takeTrace();
+  const last = [...lines].reverse().map(readTraced).find(({ address }) => addresses.has(address));
+  return last ? { address: last.address, cycles: from + last.cycles } : null;
+}
+
+/**
+ * @param {TestSession} session
+ * @param {SourceMap} map
+ * @param {Condition} condition that was awaited
+ */
+export function wordsOfPassed(session, map, { address, text }) {
+  const labels = [...map.names.values()].filter(({ isLabel }) => isLabel);
+  const any = lastPassed(session, new Set(labels.map(({ value }) => value)));
+  const ago = (/** @type {Passed} */ { cycles }) => `${session.elapsed - cycles} cycle${session.elapsed - cycles === 1 ? "" : "s"} ago`;
+  const named = any && labels.find(({ value }) => value === any.address);
+  const last = any && named ? `; the label passed last is ${named.name}, ${ago(any)}` : "";
+  if (address < 0) return last;
+  const own = lastPassed(session, new Set([address]));
+  return `${last}; ${text.startsWith("@") ? text : `pc ${address}`} was ${own ? `passed last ${ago(own)}` : "not passed in this test"}`;
+}
