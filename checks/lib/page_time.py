@@ -250,7 +250,8 @@ def check_back(browser):
     until_ready(browser)
     verdict("the present is what is kept", re.search("r [0-9A-F]{5}9", lines_answered(browser, "regs")) is not None, True)
     browser.click("#back-stop")
-    comes(browser, "a page that was loaded anew remembers nothing", STATUS, "Nothing was done: no stop before this one is remembered.")
+    comes(browser, "a page that was loaded anew goes back through the reload", STATUS, re.compile("^Back at the stop at 000"))
+    verdict("to what was then", re.search("r [0-9A-F]{5}9", lines_answered(browser, "regs")), None)
 
 
 def check_never(browser):
@@ -268,7 +269,10 @@ def check_never(browser):
     browser.until(STATUS, re.compile("^Time runs, up to"))
     browser.reload()
     until_ready(browser)
-    stand(browser)
+    comes(browser, "a reload ends it, which is told", STATUS, re.compile("^Stopped at 000: the return from the subroutine was not reached, as "
+                                                                         "the page was loaded anew"))
+    browser.click("#back-stop")
+    comes(browser, "and nothing is lost", STATUS, re.compile("^Back at the stop at 000, [0-9,]+ cycles"))
     verdict("no breakpoint and no watch is left", state(browser)[-len("breaksbreaks -watcheswatches -"):], "breaksbreaks -watcheswatches -")
 
 

@@ -4,6 +4,7 @@ import { Bench } from "./bench/bench.js";
 import { startWorker } from "./bench/early_replies.js";
 import { block, button, byId, element, field, isDialogOpen, onClick } from "./ui/dom.js";
 import { Guide } from "./help/guide.js";
+import { fromBase64 } from "./session/base64.js";
 import { Locks } from "./session/locks.js";
 import { Notice } from "./ui/notice.js";
 import { Page } from "./page.js";
@@ -60,7 +61,7 @@ function textOf(id) {
  */
 function benchMaker(examples) {
   const address = URL.createObjectURL(new Blob([textOf("worker")], { type: "text/javascript" }));
-  const module = Uint8Array.from(atob(textOf("module")), (letter) => letter.charCodeAt(0)).buffer;
+  const module = fromBase64(textOf("module")).buffer;
   return () => new Bench(() => startWorker(address), module, examples);
 }
 

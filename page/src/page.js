@@ -12,6 +12,7 @@ import { usualOf } from "./machine/usual_of_page.js";
 import { Recovery } from "./recovery.js";
 import { Serving } from "./lines/serving.js";
 import { CurrentSession } from "./session/current_session.js";
+import { KeptPast } from "./session/kept_past.js";
 import {
   editorsOf, exportOf, heatOf, historyOf, lookViewOf, nameCharacters, pressingOf, romFilesOf, sessionsControllerOf, sharingOf, sourceOf,
   textsOf, travelOf, valuesOf, watchedOf,
@@ -49,6 +50,7 @@ export class Page {
     /** Whether the keyboard presses keys of the board. */
     this.types = true;
     this.current = new CurrentSession(this);
+    this.past = new KeptPast();
     this.recovery = new Recovery(this);
     this.running = new Running(this);
     this.serving = new Serving(this);
@@ -123,6 +125,7 @@ export class Page {
    * @param {SessionRecord} record
    */
   begin(record) {
+    this.past.begin(record.id);
     this.breakpoints.open(record);
     this.pressing.forget();
     this.scope.forget();
@@ -143,10 +146,11 @@ export class Page {
    * @param {Shown} shown
    * @param {boolean} [isPassing] whether time has come here and goes on
    */
-  show({ look, file, board, total, reset, future, waves }, isPassing = false) {
+  show({ look, file, board, total, reset, future, past, waves }, isPassing = false) {
     const { session } = this.current;
     if (!session) return;
     this.bench.giveBack(session.take(file));
+    this.past.take(past, { file: session.record.file, total, reset });
     this.cycles.take({ total, reset }, this.running.clock.isRunning);
     session.record.cycles = this.cycles.cycles.kept;
     this.history.showFuture(future);

@@ -83,6 +83,7 @@ export function travelOf(page) {
     stand: async () => {
       if (running.clock.isRunning) await running.stop();
     },
+    aim: (goal) => running.aim(goal),
     change: (words, work) => page.serving.change(words, work),
     runTo: (goal) => running.run(goal),
     counted: (tally) => page.breakpoints.count(tally),

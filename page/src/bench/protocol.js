@@ -7,10 +7,10 @@
  * @typedef {import("./ran.js").RanEntry} RanEntry
  *
  * What a session is now: the answers of a look, the bytes of its file (transferred), the answer to `board` where it may be new, the
- * cycles that were counted, in all and up to the last reset, how many times forward is possible, and what was recorded since it was told
- * last, null where nothing is recorded.
+ * cycles that were counted, in all and up to the last reset, how many times forward is possible, what has come to the past since it was
+ * told last, and what was recorded since then, null where nothing is recorded.
  * @typedef {{ look: string[], file: ArrayBuffer, board: string[] | null, total: number, reset: number, future: number,
- *   waves: import("../worker/live_recorder.js").LivePart | null }} Shown
+ *   past: import("../worker/timeline.js").News, waves: import("../worker/live_recorder.js").LivePart | null }} Shown
  *
  * What time has done: the lines, the cycles, the answer that ended the run early ("" where none did), whether a key was changed; why time
  * stopped, if it did, and what breakpoints did.

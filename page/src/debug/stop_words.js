@@ -145,3 +145,14 @@ export function wordsOfWhen(breakpoint) {
 export function wordsOfHalt(goal, cycles, place) {
   return goal ? `Stopped at ${place}, after ${wordsOfCycles(cycles)}; ${wordsOfGoal(goal)} was not reached.` : `Stopped at ${place}.`;
 }
+
+/**
+ * A move was under way as the page was loaded anew, or as another session was shown.
+ * @param {Goal} goal
+ * @param {boolean} ran whether time ran up to it; else it was looked for
+ * @param {string} place
+ */
+export function wordsOfBroken(goal, ran, place) {
+  const what = `${wordsOfGoal(goal)} was ${ran ? "not reached" : "looked for, and nothing was done"}`;
+  return `Stopped at ${place}: ${what}, as the page was loaded anew or another session was shown.`;
+}

@@ -1,6 +1,7 @@
 // The session that is shown: another one is shown in its place, it is kept, and its name stands where names stand.
 
 import { field, block } from "../ui/dom.js";
+import { wordsOfBroken } from "../debug/stop_words.js";
 import { NONE } from "../time/cycles.js";
 import { addressOf } from "./address.js";
 import { KeptSession } from "./kept_session.js";
@@ -44,8 +45,17 @@ export class CurrentSession {
     block("session-bar").hidden = false;
     this.page.checkSource();
     await this.keep();
-    if (record.runs) running.run();
-    else running.halted("Stopped.");
+    const { goal, runs } = record;
+    if (runs && !goal) running.run();
+    else running.halted(goal ? wordsOfBroken(goal, runs, running.place) : "Stopped.");
+    await this.remember();
+  }
+
+  /** What was done before the page was loaded anew can be gone back to. */
+  async remember() {
+    const { bench, past } = this.page;
+    const recalled = past.recalled();
+    if (recalled.length > 0 && await bench.call("recall", [recalled]).catch(() => false)) past.goOn(recalled);
   }
 
   /** Keeps the session that is left. Whether its time runs stays in its record, so that it goes on when it is come back to. */
@@ -138,6 +148,8 @@ export class CurrentSession {
 
   /** The same for a page that is just going away. */
   keepNow() {
-    if (this.session) this.session.keepNow();
+    if (!this.session) return;
+    this.session.keepNow();
+    this.page.past.leave();
   }
 }

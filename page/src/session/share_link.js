@@ -1,6 +1,7 @@
 // A link: a name, the board's text and the program's, compressed into the part of an address that browsers send to nobody. It begins with
 // the way in which it is packed, 1 for deflate and 0 for none. Within stand the lines of a project up to its session, after their checksum.
 
+import { fromBase64, toBase64 } from "./base64.js";
 import { checksum } from "./checksum.js";
 import { Lines, TextTooLong, linesOfTexts, readTexts } from "./project_file.js";
 
@@ -41,16 +42,14 @@ function streamOf(name) {
 
 /** @param {Uint8Array} bytes */
 function toLetters(bytes) {
-  let letters = "";
-  for (const byte of bytes) letters += String.fromCharCode(byte);
-  return btoa(letters).replace(/\+/g, "-").replace(/\//g, "_").replace(/=+$/, "");
+  return toBase64(bytes).replace(/\+/g, "-").replace(/\//g, "_").replace(/=+$/, "");
 }
 
 /** @param {string} letters */
 function fromLetters(letters) {
   if (!/^[\w-]*$/.test(letters)) throw new NotALink(DAMAGED);
   try {
-    return Uint8Array.from(atob(letters.replace(/-/g, "+").replace(/_/g, "/")), (letter) => letter.charCodeAt(0));
+    return fromBase64(letters.replace(/-/g, "+").replace(/_/g, "/"));
   } catch {
     throw new NotALink(DAMAGED);
   }

@@ -75,6 +75,7 @@ export class Running {
     if (!current.session || this.clock.isRunning) return;
     current.session.record.runs = true;
     this.goal = goal;
+    this.aim(goal);
     this.begun = this.page.cycles.cycles.total;
     this.page.usual.clear();
     if (!goal) bench.call("drop", []).catch((fault) => recovery.failed(fault));
@@ -84,6 +85,14 @@ export class Running {
     this.beginRate();
     bench.isRunning = this.clock.isFull;
     current.keep();
+  }
+
+  /** @param {Goal | null} goal that a move has; it is kept with the session, for words where the move does not come to its end */
+  aim(goal) {
+    const { session } = this.page.current;
+    if (!session) return;
+    if (goal) session.record.goal = goal;
+    else delete session.record.goal;
   }
 
   /** By the button. */
@@ -141,6 +150,7 @@ export class Running {
     this.goal = null;
     bench.isRunning = false;
     if (current.session) current.session.record.runs = false;
+    this.aim(null);
     this.runWord.set("Run");
     this.tell(words);
     this.showRate();

@@ -11,10 +11,10 @@ import { wordsOfGone } from "../debug/stop_words.js";
  * @typedef {import("../bench/protocol.js").ServedLines} ServedLines
  * @typedef {import("../debug/goals.js").Goal} Goal
  *
- * What it calls: time stands still; work that changes the session is done, kept and shown, or null is given; time runs up to a goal that
- * the bench knows; breakpoints did something; why time stopped, in words; the place where it stands still; a breakpoint; the status says
- * something.
- * @typedef {{ stand: () => Promise<void>,
+ * What it calls: time stands still; a goal is looked for, or not any more; work that changes the session is done, kept and shown, or null
+ * is given; time runs up to a goal that the bench knows; breakpoints did something; why time stopped, in words; the place where it stands
+ * still; a breakpoint; the status says something.
+ * @typedef {{ stand: () => Promise<void>, aim: (goal: Goal | null) => void,
  *   change: <Result extends ServedLines>(words: string, work: (ways: Ways) => Promise<Result>) => Promise<Result | null>,
  *   runTo: (goal: Goal) => void, counted: (tally: Tally) => void, reasonOf: (stop: Stop, goal: Goal) => string,
  *   place: () => string, breakpoint: (id: number) => import("../debug/breakpoints.js").Breakpoint | undefined,
@@ -37,7 +37,9 @@ export class Travel {
    */
   async goOn(goal) {
     await this.calls.stand();
+    this.calls.aim(goal);
     const told = await this.calls.change("The goal is looked for.", (ways) => this.bench.call("goOn", [goal], ways));
+    this.calls.aim(null);
     if (!told) return;
     const { cycles, isReached, end, id, returns } = told.found;
     this.calls.counted(told.tally);

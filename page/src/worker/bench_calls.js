@@ -8,6 +8,7 @@ import { Exploring, readExplored, readToExplore } from "../explore/exploring.js"
 import { SourceMap } from "../machine/source_map.js";
 import { WorkerSession } from "./worker_session.js";
 import { findBoardFault } from "../bench/board_fault.js";
+import { BenchRefusal } from "../bench/faults.js";
 import { Engine } from "./engine.js";
 import { linesOfExample } from "./examples.js";
 import { FullSpeed } from "./full_speed.js";
@@ -92,7 +93,8 @@ export class BenchCalls {
     new Uint8Array(buffer).set(file);
     const board = tellsBoard ? lookQuestions.board : null;
     const waves = this.recordedPart();
-    return { look, file: buffer, board, total: count.total, reset: count.reset, future: timeline.future.length, waves };
+    const past = timeline.takeNews();
+    return { look, file: buffer, board, total: count.total, reset: count.reset, future: timeline.future.length, past, waves };
   }
 
   /** What was recorded since it was told last; null where nothing is recorded. */
@@ -227,6 +229,20 @@ export class BenchCalls {
     this.opened.usual.stops = new Set(this.stopKinds);
     this.fullSpeed.stop();
     return this.shown(look, true);
+  }
+
+  /**
+   * What was done before the session was opened, as the page has kept it; gives whether it is remembered from here on.
+   * @param {import("./timeline.js").Recalled[]} segments
+   */
+  recall(segments) {
+    try {
+      return this.session.timeline.recall(this.engine, segments);
+    } catch (fault) {
+      // Bytes that hold no session.
+      if (fault instanceof BenchRefusal) return false;
+      throw fault;
+    }
   }
 
   /**

@@ -1,11 +1,12 @@
 // The past of a session, for going back: its file at some moments, and what was accepted after each of them, which is done again on a copy
-// of that file. Of a long past the stops stay longest. It is in memory alone, as long as the session is open in this worker.
+// of that file. Of a long past the stops stay longest. It is in memory alone, as long as the session is open in this worker; the page is
+// told what comes to it (session/kept_past.js), and can give it back after a reload.
 
 import { Cancelled } from "../bench/faults.js";
+import { CycleCount } from "./accepted.js";
 
 /**
  * @typedef {import("./accepted.js").Accepted} Accepted
- * @typedef {import("./accepted.js").CycleCount} CycleCount
  * @typedef {import("./engine.js").Engine} Engine
  * @typedef {{ line: string, cycles: number, resets: boolean, isStop: boolean }} Entry a command; `isStop`: time stood still before it
  * @typedef {{ file: Uint8Array, count: CycleCount, entries: Entry[], cycles: number, letters: number, follows: boolean,
@@ -15,6 +16,9 @@ import { Cancelled } from "../bench/faults.js";
  *   segment, and so many cycles of it
  * @typedef {{ segment: number, entry: number, cycles: number }} Moment after so many entries of a segment, and so many cycles of the next
  * @typedef {{ file: Uint8Array, count: CycleCount }} Present
+ * @typedef {{ isAnew: boolean, entries: Entry[] }} News what was done since it was told last; `isAnew`: the past before it is another one
+ * @typedef {{ file: Uint8Array, total: number, reset: number, entries: Entry[] }} Recalled a segment that the page gives back: the file,
+ *   the cycles that were counted up to it, and what came after it
  * @typedef {(done?: number) => Promise<boolean>} GoesOn is told how many cycles were looked through, and says whether to go on
  */
 
@@ -43,6 +47,32 @@ export class Timeline {
     this.isStopped = true;
     /** @type {({ segments: Segment[] } & Present)[]} where forward leads to, the next one last */
     this.future = [];
+    /** @type {News} */
+    this.news = { isAnew: true, entries: [] };
+  }
+
+  /** What was done since this was asked last. */
+  takeNews() {
+    const { news } = this;
+    this.news = { isAnew: false, entries: [] };
+    return news;
+  }
+
+  /**
+   * The past before the first segment, as the page has it; gives whether it is taken, which it is where it ends at that segment.
+   * @param {Engine} engine
+   * @param {Recalled[]} recalled each follows the one before it
+   */
+  recall(engine, recalled) {
+    const before = recalled.map(segmentOf);
+    const [first] = this.segments;
+    const last = before[before.length - 1];
+    if (!last || first.follows) return false;
+    const end = last.file.slice();
+    engine.serve(end, last.entries.map(({ line }) => `${line}\n`).join(""), end);
+    if (stateOf(engine, end) !== stateOf(engine, first.file)) return false;
+    this.segments = [...before, { ...first, follows: true }, ...this.segments.slice(1)];
+    return true;
   }
 
   get last() {
@@ -69,9 +99,12 @@ export class Timeline {
     this.future = [];
     const { last } = this;
     const isTooLong = accepted.length > SEGMENT_ENTRIES || accepted.some(({ line }) => line.length > LONGEST_LINE);
-    if (!isTooLong) {
+    if (isTooLong) this.news = { isAnew: true, entries: [] };
+    else {
       for (const { line, cycles, resets } of accepted) {
-        last.entries.push({ line, cycles, resets, isStop: this.isStopped });
+        const entry = { line, cycles, resets, isStop: this.isStopped };
+        last.entries.push(entry);
+        this.news.entries.push(entry);
         last.cycles += cycles;
         last.letters += line.length;
         this.isStopped = false;
@@ -183,6 +216,7 @@ export class Timeline {
     const cycles = entries.reduce((sum, entry) => sum + entry.cycles, 0);
     const marks = whole.marks.filter(({ entry }) => entry <= moment.entry);
     this.segments = [...segments.slice(0, moment.segment), { ...whole, entries, cycles, marks }];
+    this.news = { isAnew: true, entries: [] };
     this.isStopped = true;
   }
 
@@ -194,9 +228,34 @@ export class Timeline {
     const next = this.future.pop();
     if (!next) return null;
     this.segments = next.segments;
+    this.news = { isAnew: true, entries: [] };
     this.isStopped = true;
     return next;
   }
+}
+
+/**
+ * @param {Recalled} recalled
+ * @param {number} at
+ * @returns {Segment}
+ */
+function segmentOf({ file, total, reset, entries }, at) {
+  const [cycles, letters] = [entries.map((entry) => entry.cycles), entries.map(({ line }) => line.length)].map(sumOf);
+  return { ...segmentAt({ file, count: new CycleCount(total, reset) }, at > 0), entries, cycles, letters };
+}
+
+/** @param {number[]} numbers */
+function sumOf(numbers) {
+  return numbers.reduce((sum, number) => sum + number, 0);
+}
+
+/**
+ * What a session is, but for how many commands it has taken.
+ * @param {Engine} engine
+ * @param {Uint8Array} file
+ */
+function stateOf(engine, file) {
+  return engine.ask(file, "state\n").answers[0].replace(/ seq \d+/, "");
 }
 
 /**

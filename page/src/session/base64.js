@@ -1,0 +1,19 @@
+// Bytes as letters of ASCII.
+
+/** So many bytes are letters at once. */
+const PIECE = 8192;
+
+/** @param {Uint8Array} bytes */
+export function toBase64(bytes) {
+  let letters = "";
+  for (let at = 0; at < bytes.length; at += PIECE) letters += String.fromCharCode(...bytes.subarray(at, at + PIECE));
+  return btoa(letters);
+}
+
+/**
+ * It throws where the text is none of bytes.
+ * @param {string} text
+ */
+export function fromBase64(text) {
+  return Uint8Array.from(atob(text), (letter) => letter.charCodeAt(0));
+}
