@@ -33,7 +33,8 @@ RINGS = "return [...document.querySelectorAll('#front .bulb')].map((bulb) => get
 COLOURS = "return [...document.querySelectorAll('#front .bulb')].map((bulb) => getComputedStyle(bulb).getPropertyValue('--glow'))"
 FILLED = """
 return [...document.querySelectorAll("#front .bulb")].map((bulb) => {
-  const filled = !/rgba\\(.*, 0\\)|transparent/.test(getComputedStyle(bulb).backgroundColor);
+  const fill = getComputedStyle(bulb, "::after");
+  const filled = fill.opacity > 0.7 && !/rgba\\(.*, 0\\)|transparent/.test(fill.backgroundColor);
   return filled === bulb.getAttribute("aria-label").endsWith(", lit");
 }).every(Boolean)
 """

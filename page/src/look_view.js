@@ -25,13 +25,13 @@ import { WiringView } from "./board/wiring_view.js";
  *
  * What it calls: a button presses its key; whether time runs, and so fast that no line of the program is followed; questions are asked; a
  * line is served, which gives its answer, or null where it failed; a refusal is put into words; what a cell shows is told; the source
- * is told where the counter is, or that the listing went to an address; the bench tells its breakpoints; one is set or taken away; a call
- * failed.
+ * is told where the counter is, or that the listing went to an address; the bench tells its breakpoints; one is set or taken away; how long
+ * lamps are lit is asked for, by a face and its number; how many milliseconds so many cycles take; a call failed.
  * @typedef {{ listen: (node: HTMLButtonElement, key: BoardKey) => void, isRunning: () => boolean, isFast: () => boolean,
  *   ask: (lines: string) => Promise<string[]>, act: (line: string) => Promise<string | null>, wordsOfRefusal: (number: number) => string,
  *   explain: (name: string) => string,
  *   isAt: (counter: number) => void, breakAt: (breakpoints: string[]) => void, toggleBreakpoint: (address: number) => void,
- *   wentTo: (address: number) => void,
+ *   wentTo: (address: number) => void, watchLamps: (face: string, number: number) => void, timeOf: (cycles: number) => number,
  *   failed: (fault: unknown) => void }} LookCalls
  */
 
@@ -49,7 +49,7 @@ export class LookView {
     /** When all was drawn last. */
     this.drawn = 0;
     this.changes = new Changes();
-    this.front = new FrontView(calls.listen);
+    this.front = new FrontView(calls.listen, calls.watchLamps);
     this.told = new ToldAt();
     this.editor = new CellEditor({
       poke: async (place, value) => this.refusalOf(await calls.act(`poke ${place} ${value}\n`)),
@@ -146,9 +146,12 @@ export class LookView {
    * Shows a look: lamps, displays and keys at once; all else at once, too, but where time runs by.
    * @param {string[]} look
    * @param {boolean} [isPassing] whether time has come here and goes on, so that another look follows
+   * @param {import("./worker/shining.js").Shone | null} [shone] what was lit in that time
    */
-  show(look, isPassing = false) {
-    this.showFront(this.reader.take(look));
+  show(look, isPassing = false, shone = null) {
+    const changed = this.reader.take(look);
+    this.showLamps(changed.lamps, isPassing && this.calls.isRunning() ? shone : null);
+    this.showFront(changed);
     if (isPassing && this.calls.isFast() && performance.now() - this.drawn < DRAWN_TIME) return;
     this.showRest();
     if (this.calls.isRunning()) this.changes.runs();
@@ -161,9 +164,20 @@ export class LookView {
     this.showChanged(this.reader.readRest());
   }
 
+  /**
+   * Shows lamps as an eye sees them where time passes, else as they are at this instant.
+   * @param {string | undefined} lamps where they are others than before
+   * @param {import("./worker/shining.js").Shone | null} shone
+   */
+  showLamps(lamps, shone) {
+    const { front } = this;
+    const marks = lamps === undefined ? front.marks : lamps;
+    if (shone && shone.face === front.faces) front.shine(marks, shone, this.calls.timeOf(shone.cycles));
+    else if (lamps !== undefined || front.isShining) front.showLamps(marks);
+  }
+
   /** @param {ChangedFront} changed */
   showFront({ lamps, keys, test }) {
-    if (lamps !== undefined) this.front.showLamps(lamps);
     if (keys) this.front.showKeys(keys);
     if (test !== undefined) {
       this.testWord.set(`TEST ${test}`);

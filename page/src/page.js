@@ -145,8 +145,9 @@ export class Page {
    * Takes what the session is now, and shows it.
    * @param {Shown} shown
    * @param {boolean} [isPassing] whether time has come here and goes on
+   * @param {import("./worker/shining.js").Shone | null} [shone] what was lit in that time
    */
-  show({ look, file, board, total, reset, future, past, waves }, isPassing = false) {
+  show({ look, file, board, total, reset, future, past, waves }, isPassing = false, shone = null) {
     const { session } = this.current;
     if (!session) return;
     this.bench.giveBack(session.take(file));
@@ -160,7 +161,7 @@ export class Page {
       this.editors.look(board.length === 1);
       nameCharacters(this);
     }
-    this.lookView.show(look, isPassing);
+    this.lookView.show(look, isPassing, shone);
     this.values.looked(total);
     this.heat.looked();
     this.scope.take(waves);

@@ -50,6 +50,10 @@ export function lookViewOf(page) {
     breakAt: (breakpoints) => page.breakpoints.keeper.take(breakpoints),
     toggleBreakpoint: (address) => page.breakpoints.keeper.toggleAddress(address),
     wentTo: (address) => page.source.reveal(address),
+    watchLamps: (face, number) => {
+      page.bench.call("watchLamps", [face, number]).catch((fault) => page.recovery.failed(fault));
+    },
+    timeOf: (cycles) => running.clock.timeOf(cycles),
     failed: (fault) => page.recovery.failed(fault),
   });
 }

@@ -280,35 +280,55 @@ function display_end(d) {
 
 # What the displays show while these lamps are lit: a minus where the lamp `minus` is lit, the number, then the names of other lit lamps
 # that have one. Leading zeros are dark, and so is a point after the last digit. Lamps that are no digit are shown as `?`.
-function display_text(lamps,    d, i, digit, number, text, at, name) {
+function display_text(lamps,    d, i, text, at, is_seen) {
     text = ""
     for (d = 1; d <= display_count; d++) {
-        number = ""
-        for (i = 0; i < display_digits[d]; i++) {
-            at = display_first[d] + i * display_width[d] + 1
-            digit = substr(lamps, at, display_width[d] >= 7 ? 7 : 4)
-            number = number (display_width[d] >= 7 ? segments_digit(digit) : bits_digit(digit))
-            if (display_width[d] == 5 && substr(lamps, at + 4, 1) == "*") number = number "."
-            if (display_width[d] == 8 && substr(lamps, at + 7, 1) == "*") number = number "."
-        }
-        sub(/\.$/, "", number)
-        if (display_width[d] < 7) sub(/^0+/, "", number)
-        else gsub(/^ +/, "", number)
-        if (number == "" || number ~ /^\./) number = (display_width[d] < 7 ? "0" : "") number
-        text = text (d > 1 ? " " : "") number
+        read_digits(d, lamps, digit_seen)
+        text = text (d > 1 ? " " : "") number_on(d, digit_seen)
     }
-    if (("minus" in lamp_number) && lit("minus", lamps)) text = "-" text
-    for (at = 0; at < length(lamps); at++) {
-        if (!(at in lamp_name) || lamp_name[at] == "minus" || !lit(lamp_name[at], lamps)) continue
+    for (at = 0; at < length(lamps); at++) is_seen[at] = substr(lamps, at + 1, 1) == "*"
+    return named_text(text, length(lamps), is_seen)
+}
+
+# What each digit of a display shows at an instant: its segments, and its point; of one in BCD a sign, a blank for a leading zero.
+function read_digits(d, lamps, shown,    i, at, width, point, is_leading, value) {
+    width = display_width[d]
+    is_leading = 1
+    for (i = 0; i < display_digits[d]; i++) {
+        at = display_first[d] + i * width + 1
+        point = (width == 5 || width == 8) && substr(lamps, at + width - 1, 1) == "*" ? "." : ""
+        if (width >= 7) {
+            shown[i] = substr(lamps, at, 7) point
+            continue
+        }
+        value = bits_digit(substr(lamps, at, 4))
+        if (value != "0" || point != "" || i == display_digits[d] - 1) is_leading = 0
+        shown[i] = is_leading ? " " : value (i == display_digits[d] - 1 ? "" : point)
+    }
+}
+
+# The number that digits show.
+function number_on(d, shown,    i, text) {
+    text = ""
+    for (i = 0; i < display_digits[d]; i++) {
+        if (display_width[d] < 7) text = text shown[i]
+        else text = text segments_digit(substr(shown[i], 1, 7)) substr(shown[i], 8)
+    }
+    sub(/\.$/, "", text)
+    sub(/^ +/, "", text)
+    return text
+}
+
+# The number with a minus before it, and the names of other lamps that are seen after it.
+function named_text(text, count, is_seen,    at, name) {
+    if (("minus" in lamp_number) && is_seen[lamp_number["minus"]]) text = "-" text
+    for (at = 0; at < count; at++) {
+        if (!(at in lamp_name) || lamp_name[at] == "minus" || !is_seen[at]) continue
         name = lamp_name[at]
         gsub(/_/, " ", name)
         text = text " " name
     }
     return text
-}
-
-function lit(name, lamps) {
-    return substr(lamps, lamp_number[name] + 1, 1) == "*"
 }
 
 function bits_digit(lamps,    value) {

@@ -1,9 +1,11 @@
 // The displays of a board: digits of seven segments, drawn, and what they show in words.
 
 import { Announcer } from "./announcer.js";
-import { Cell, block, element } from "../ui/dom.js";
-import { DisplayText, isLit, valueAt } from "./display_text.js";
-import { endOf } from "./face_board.js";
+import { Cell, Switch, block, element } from "../ui/dom.js";
+import { SEEN_PART, shineOf } from "./brightness.js";
+import { MINUS, NOT_LIT, POINT, isLit, patternsAt } from "./digit_patterns.js";
+import { DisplayText } from "./display_text.js";
+import { fittingGroups } from "./face_board.js";
 import { minusOf } from "./lamps_view.js";
 import { upTo } from "../bench/numbers.js";
 
@@ -18,27 +20,19 @@ const SHAPES = [
   "M5 3 8 1h20l3 2-4 4H9z", "M32 4l2 3v20l-2 2-3-3V8z", "M32 31l2 2v20l-2 3-3-4V34z", "M5 57l4-4h18l4 4-3 2H8z",
   "M4 31l3 3v18l-3 4-2-3V33z", "M4 4l3 4v18l-3 3-2-2V7z", "M5 30l4-3h18l4 3-4 3H9z", "M38 54h5v5h-5z",
 ];
-const MINUS = 64;
-const POINT = 128;
-/** Which segments are lit for 0 to 9, a bit for each, as a 7447 and its kin make them; and for what is no digit. */
-const DIGITS = ["abcdef", "bc", "abged", "abgcd", "fgbc", "afgcd", "afgedc", "abc", "abcdefg", "abcdfg"].map(bitsOf);
-const NO_DIGIT = bitsOf("abge");
-
-/** @param {string} letters of segments */
-function bitsOf(letters) {
-  return [..."abcdefg"].reduce((bits, letter, at) => bits + (letters.includes(letter) ? 1 << at : 0), 0);
-}
-
-/** A digit that is drawn. */
+/** A digit that is drawn. It changes the page only where a segment is brighter or darker now than it was before. */
 class Digit {
   /**
    * @param {boolean} isSign whether it is a minus alone
    * @param {boolean} hasPoint
    */
   constructor(isSign, hasPoint) {
-    this.bits = 0;
+    /** How bright each segment is, and whether it counts as lit. */
+    this.shines = SHAPES.map(() => 0);
+    this.lit = 0;
     this.node = document.createElementNS(SVG, "svg");
     this.node.setAttribute("viewBox", isSign ? "2 0 32 60" : "0 0 44 60");
+    this.smeared = new Switch((isOn) => this.node.classList.toggle("smeared", isOn));
     this.segments = SHAPES.map((shape, at) => {
       const segment = document.createElementNS(SVG, "path");
       segment.setAttribute("d", shape);
@@ -48,53 +42,52 @@ class Digit {
     });
   }
 
-  /** @param {number} bits */
-  set(bits) {
-    const changed = bits ^ this.bits;
-    if (changed === 0) return;
-    this.bits = bits;
+  /** @param {number} pattern what is lit at this instant */
+  set(pattern) {
+    const lit = pattern === NOT_LIT ? 0 : pattern;
+    this.smeared.set(false);
+    this.show(lit, this.segments.map((_, at) => (lit & (1 << at) ? 1 : 0)));
+  }
+
+  /** @param {import("./brightness.js").SeenDigit} seen */
+  shine(seen) {
+    this.smeared.set(seen.isSmeared);
+    this.show(seen.pattern, seen.segments);
+  }
+
+  /**
+   * @param {number} lit the segments that count as lit
+   * @param {number[]} parts of the time for which each segment is lit
+   */
+  show(lit, parts) {
     for (let at = 0; at < this.segments.length; at++) {
-      if (changed & (1 << at)) this.segments[at].classList.toggle("lit", (bits & (1 << at)) !== 0);
+      const shine = shineOf(parts[at]);
+      if (shine !== this.shines[at]) this.segments[at].style.setProperty("--shine", String(shine));
+      this.shines[at] = shine;
+      if ((lit ^ this.lit) & (1 << at)) this.segments[at].classList.toggle("lit");
     }
+    this.lit = lit;
   }
 }
 
-/** A display that is drawn. Of digits in BCD, leading zeros and a point after the last digit are dark. */
+/** A display that is drawn. */
 class Display {
   /** @param {Group} group */
   constructor(group) {
     this.group = group;
-    this.hasPoints = group.columns === 5 || group.columns === 8;
-    this.digits = upTo(group.rows).map(() => new Digit(false, this.hasPoints));
+    const hasPoints = group.columns === 5 || group.columns === 8;
+    this.digits = upTo(group.rows).map(() => new Digit(false, hasPoints));
   }
 
   /** @param {string} marks */
   show(marks) {
-    const { first, columns } = this.group;
-    let isLeading = true;
-    for (let place = 0; place < this.digits.length; place++) {
-      const at = first + place * columns;
-      const point = this.hasPoints && isLit(marks, at + columns - 1) ? POINT : 0;
-      if (columns >= 7) {
-        this.digits[place].set(segmentsAt(marks, at) + point);
-        continue;
-      }
-      const isLast = place === this.digits.length - 1;
-      const value = valueAt(marks, at);
-      isLeading = isLeading && value === 0 && point === 0 && !isLast;
-      this.digits[place].set(isLeading ? 0 : (value < 10 ? DIGITS[value] : NO_DIGIT) + (isLast ? 0 : point));
-    }
+    patternsAt(this.group, marks).forEach((pattern, place) => this.digits[place].set(pattern));
   }
-}
 
-/**
- * @param {string} marks
- * @param {number} at
- */
-function segmentsAt(marks, at) {
-  let bits = 0;
-  for (let segment = 0; segment < 7; segment++) if (isLit(marks, at + segment)) bits |= 1 << segment;
-  return bits;
+  /** @param {import("./brightness.js").SeenDigit[]} seen */
+  shine(seen) {
+    seen.forEach((digit, place) => this.digits[place].shine(digit));
+  }
 }
 
 export class DisplayView {
@@ -114,7 +107,7 @@ export class DisplayView {
    * @param {Face} face
    */
   draw(lines, face) {
-    const groups = face.groups.filter((group) => group.kind === "display" && endOf(group) <= lines.length);
+    const groups = fittingGroups(face, lines.length).filter(({ kind }) => kind === "display");
     this.displays = groups.map((group) => new Display(group));
     this.text = new DisplayText(groups, [...face.lamps].map(([at, { text }]) => ({ at, text })));
     this.minus = minusOf(face);
@@ -130,12 +123,29 @@ export class DisplayView {
     this.announcer.begin();
   }
 
-  /** @param {string} marks a `*` for each lamp that is lit */
+  /** @param {string} marks a `*` for each lamp that is lit at this instant */
   show(marks) {
     if (this.displays.length === 0) return;
     for (const display of this.displays) display.show(marks);
-    this.sign.set(this.minus >= 0 && isLit(marks, this.minus) ? MINUS : 0);
-    const { number, names } = this.text.read(marks);
+    this.showSign(this.minus >= 0 && isLit(marks, this.minus) ? 1 : 0);
+    this.tell(this.text.read(marks));
+  }
+
+  /** @param {import("./brightness.js").Brightness} brightness */
+  shine(brightness) {
+    if (this.displays.length === 0) return;
+    this.displays.forEach((display, at) => display.shine(brightness.digits[at]));
+    if (this.minus >= 0) this.showSign(brightness.lamps[this.minus]);
+    this.tell(this.text.words(brightness.patterns, (lamp) => brightness.lamps[lamp] >= SEEN_PART));
+  }
+
+  /** @param {number} part of the time for which the minus is lit */
+  showSign(part) {
+    this.sign.show(part >= SEEN_PART ? MINUS : 0, SHAPES.map((_, at) => (1 << at === MINUS ? part : 0)));
+  }
+
+  /** @param {{ number: string, names: string }} words */
+  tell({ number, names }) {
     this.words.set(number);
     this.announcer.tell(names ? `${number} ${names}` : number);
   }

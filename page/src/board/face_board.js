@@ -29,6 +29,15 @@ export function endOf({ first, rows, columns }) {
 }
 
 /**
+ * The groups that a board of so many lamps has.
+ * @param {Face} face
+ * @param {number} count
+ */
+export function fittingGroups(face, count) {
+  return face.groups.filter((group) => endOf(group) <= count);
+}
+
+/**
  * What the comments name and the board has not.
  * @param {Face} face
  * @param {Board} board

@@ -1,16 +1,17 @@
 // The front of a board: its title, its displays and lamps, and its keys, with what is at its TEST pin.
 
 import { hintOfKeys, keysOf } from "./board_keys.js";
+import { Brightness, PERSISTENCE } from "./brightness.js";
 import { DisplayView } from "./display_view.js";
-import { block, button, element, oneStop, pressedSwitch, setStop } from "../ui/dom.js";
-import { moreThan, sorted } from "./face.js";
+import { Cell, block, button, element, oneStop, pressedSwitch, setStop } from "../ui/dom.js";
+import { Face, moreThan, sorted } from "./face.js";
 import { missingOf } from "./face_board.js";
 import { LampsView } from "./lamps_view.js";
 
 /**
  * @typedef {import("../bench/answers.js").Board} Board
  * @typedef {import("./board_keys.js").BoardKey} BoardKey
- * @typedef {import("./face.js").Face} Face
+ * @typedef {import("../worker/shining.js").Shone} Shone
  * @typedef {BoardKey & { button: HTMLButtonElement, down: import("../ui/dom.js").Switch }} ShownKey
  */
 
@@ -26,13 +27,20 @@ function isBare({ roms, banks, chains, lamps }) {
   return [roms, banks, chains, lamps].every((parts) => parts.length === 0);
 }
 
+const AS_SEEN = `What is lit shines by the part of the time for which it is lit, as an eye sees it: over ${PERSISTENCE} ms.`;
+const AT_INSTANT = "Time stands still: what is lit at this instant.";
+
 /** Longer legends are written smaller. */
 const SHORT_LEGEND = 4;
 
 export class FrontView {
-  /** @param {(button: HTMLButtonElement, key: BoardKey) => void} listen makes a button press its key */
-  constructor(listen) {
+  /**
+   * @param {(button: HTMLButtonElement, key: BoardKey) => void} listen makes a button press its key
+   * @param {(face: string, number: number) => void} watch how long lamps are lit is asked for from here on, by this face
+   */
+  constructor(listen, watch) {
     this.listen = listen;
+    this.watch = watch;
     /** @type {ShownKey[]} with what is at TEST, if the face tells that */
     this.keys = [];
     /** @type {Set<string>} the keys that the bench tells to be down, as `row.column` */
@@ -46,6 +54,12 @@ export class FrontView {
     this.columns = 1;
     this.lamps = new LampsView();
     this.display = new DisplayView();
+    /** How many faces were drawn: the number of the last one. */
+    this.faces = 0;
+    this.brightness = new Brightness(new Face(""), 0);
+    /** Whether lamps are shown as an eye sees them, and not as they are at an instant. */
+    this.isShining = false;
+    this.shineTold = new Cell(block("shine-told"));
     this.block = block("keys");
     oneStop(this.block, () => this.columns);
   }
@@ -84,6 +98,11 @@ export class FrontView {
     (heading.querySelector("button") || heading).textContent = face.title || TITLE;
     this.display.draw(board.lamps, face);
     this.lamps.draw(board.lamps, face);
+    this.faces += 1;
+    this.brightness = new Brightness(face, board.lamps.length);
+    this.isShining = false;
+    block("shine-told").hidden = board.lamps.length === 0;
+    this.watch(face.told, this.faces);
     this.drawKeys(board, face);
     this.drawFaults(board, face);
   }
@@ -137,11 +156,29 @@ export class FrontView {
     return { ...key, button: node, down: pressedSwitch(node) };
   }
 
-  /** @param {string} marks a `*` for each lamp that is lit */
+  /** @param {string} marks a `*` for each lamp that is lit at this instant */
   showLamps(marks) {
     this.marks = marks;
+    this.isShining = false;
+    this.shineTold.set(AT_INSTANT);
     this.lamps.show(marks);
     this.display.show(marks);
+  }
+
+  /**
+   * Shows what an eye sees of the time that has passed.
+   * @param {string} marks what is lit at its end
+   * @param {Shone} shone
+   * @param {number} time that it took, in milliseconds
+   */
+  shine(marks, shone, time) {
+    if (!this.isShining) this.brightness.begin(this.marks);
+    this.isShining = true;
+    this.marks = marks;
+    this.shineTold.set(AS_SEEN);
+    this.brightness.add(shone, time);
+    this.lamps.shine(this.brightness);
+    this.display.shine(this.brightness);
   }
 
   /**

@@ -1,8 +1,9 @@
 // The lamps of a board: where its face tells a place for them, there; all others in rows, with their names or those of their lines.
 
 import { block, element } from "../ui/dom.js";
-import { isLit } from "./display_text.js";
-import { endOf } from "./face_board.js";
+import { SEEN_PART, shineOf } from "./brightness.js";
+import { isLit } from "./digit_patterns.js";
+import { endOf, fittingGroups } from "./face_board.js";
 import { upTo } from "../bench/numbers.js";
 
 /**
@@ -10,7 +11,7 @@ import { upTo } from "../bench/numbers.js";
  * @typedef {import("./face.js").Group} Group
  */
 
-/** A lamp that is drawn. It changes the page only where it is lit or dark now and was not before. */
+/** A lamp that is drawn. It changes the page only where it is brighter or darker now than it was before. */
 class Lamp {
   /**
    * @param {number} at its number
@@ -21,14 +22,21 @@ class Lamp {
   constructor(at, name, line, colour) {
     this.at = at;
     this.isLit = false;
+    this.shine = 0;
     this.words = { lit: `${name}, lit`, dark: `${name}, dark` };
     this.node = element("span", { className: `bulb ${colour}`, title: line });
     this.node.setAttribute("role", "img");
     this.node.setAttribute("aria-label", this.words.dark);
   }
 
-  /** @param {boolean} isOn */
-  set(isOn) {
+  /** @param {number} part of the time for which it is lit */
+  show(part) {
+    const shine = shineOf(part);
+    if (shine === this.shine) return;
+    this.shine = shine;
+    this.node.style.setProperty("--shine", String(shine));
+    this.node.classList.toggle("full", shine === 1);
+    const isOn = part >= SEEN_PART;
     if (this.isLit === isOn) return;
     this.isLit = isOn;
     this.node.classList.toggle("lit", isOn);
@@ -59,7 +67,7 @@ export class LampsView {
     this.lamps = [];
     this.lines = lines;
     this.face = face;
-    const groups = face.groups.filter((group) => endOf(group) <= lines.length);
+    const groups = fittingGroups(face, lines.length);
     const grid = face.grid.filter(({ lamp }) => lamp < lines.length);
     const placed = new Set(grid.map(({ lamp }) => lamp));
     for (const group of groups) for (let at = group.first; at < endOf(group); at++) placed.add(at);
@@ -140,9 +148,14 @@ export class LampsView {
     });
   }
 
-  /** @param {string} marks a `*` for each lamp that is lit */
+  /** @param {string} marks a `*` for each lamp that is lit at this instant */
   show(marks) {
-    for (const lamp of this.lamps) lamp.set(isLit(marks, lamp.at));
+    for (const lamp of this.lamps) lamp.show(isLit(marks, lamp.at) ? 1 : 0);
+  }
+
+  /** @param {import("./brightness.js").Brightness} brightness */
+  shine(brightness) {
+    for (const lamp of this.lamps) lamp.show(brightness.lamps[lamp.at]);
   }
 }
 

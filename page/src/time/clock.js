@@ -48,6 +48,14 @@ export class Clock {
     return this.isFull ? performance.now() : this.time.reached;
   }
 
+  /**
+   * How many milliseconds so many cycles take at this speed; at full speed, or where an instruction takes a second, all that an eye needs.
+   * @param {number} cycles
+   */
+  timeOf(cycles) {
+    return this.isFull || this.speed.byInstruction ? Infinity : (1000 * cycles) / this.time.perSecond;
+  }
+
   start() {
     this.isRunning = true;
     this.goOn();

@@ -193,7 +193,7 @@ export class Running {
     log.collect(frame.ran);
     this.page.usual.show(frame.tally.usual);
     if (frame.stop) this.clock.stop();
-    this.page.show(frame, true);
+    this.page.show(frame, true, frame.shone);
     this.page.breakpoints.count(frame.tally);
     if (frame.stop) {
       this.halted(this.reasonOf(frame.stop));

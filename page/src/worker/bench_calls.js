@@ -20,6 +20,7 @@ import { readTested, runTests } from "../testing/testing.js";
 import { tryTexts } from "./trying.js";
 import { recordedProgram } from "../waves/wave_program.js";
 import { LiveRecorder } from "./live_recorder.js";
+import { Shining } from "./shining.js";
 import { readTrigger } from "../waves/trigger.js";
 import { recordAfter, recordBefore } from "./wave_recorder.js";
 
@@ -471,6 +472,17 @@ export class BenchCalls {
     return { ...told, ...this.shown(look, false) };
   }
 
+  /**
+   * From here on, while time runs, it is told how long lamps are lit; where the board has any.
+   * @param {string} boardText has the face
+   * @param {number} number of the face, which is told again
+   */
+  watchLamps(boardText, number) {
+    if (!this.opened) return;
+    const { lamps } = readBoard(this.session.lookQuestions.board);
+    this.session.shining = lamps.length > 0 ? new Shining(new Face(boardText), lamps.length, number) : null;
+  }
+
   /** @param {string} place a key, which goes down while time runs */
   press(place) {
     this.session.queue.press(place);
@@ -531,6 +543,6 @@ export class BenchCalls {
     this.fullSpeed.batch(this.debugger);
     if (!this.fullSpeed.isToBeTold(this.spare.length > 0)) return null;
     const { look, ...told } = this.fullSpeed.take();
-    return { ...told, ...this.shown(look, false) };
+    return { ...told, shone: this.session.shineAhead(), ...this.shown(look, false) };
   }
 }

@@ -16,12 +16,12 @@ const LARGEST_BATCH = 8000000;
 const HIDDEN_TIME = 1000;
 
 /**
- * Nothing done yet: the cycles, the answer that ended the run early, why time stopped, what breakpoints did, whether a key was changed, and
- * the answers of the last look.
+ * Nothing done yet: the cycles, the answer that ended the run early, why time stopped, what breakpoints did, whether a key was changed, the
+ * answers of the last look, and what was lit, which is not asked for here.
  * @returns {Omit<DebugFrame, "ran">}
  */
 function nothing() {
-  return { cycles: 0, end: "", stop: null, tally: NO_TALLY, changesKeys: false, look: [] };
+  return { cycles: 0, end: "", stop: null, tally: NO_TALLY, changesKeys: false, look: [], shone: null };
 }
 
 export class FullSpeed {
@@ -55,6 +55,7 @@ export class FullSpeed {
     const { end, stop, look } = frame;
     this.since = {
       cycles: cycles + frame.cycles, end, stop, look, tally: bothTallies(tally, frame.tally), changesKeys: changesKeys || frame.changesKeys,
+      shone: null,
     };
     if (stop) this.isOn = false;
     const wanted = this.size * Math.min(2, Math.max(0.5, BATCH_TIME / Math.max(1, time)));

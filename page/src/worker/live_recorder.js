@@ -2,8 +2,8 @@
 // but where it is to stop at the end of a recording with a trigger. What was recorded is taken part by part.
 
 import { readBoard, readRun } from "../bench/answers.js";
-import { cyclesOfStep } from "../debug/ahead.js";
 import { linesOfBoard } from "../waves/wave_lines.js";
+import { askedLines, partedAnswers } from "./asking.js";
 import { Answers, readTraced, valuesOf } from "./tracing.js";
 import { listedAt } from "./wave_recorder.js";
 import { WaveTaking } from "./wave_taking.js";
@@ -111,37 +111,12 @@ export class LiveRecorder {
     return `${this.taking.questions(cycles)}${this.places ? `trace ${cycles} ${this.places}\n` : ""}`;
   }
 
-  /**
-   * The lines of steps, with the questions.
-   * @param {Step[]} steps
-   */
-  linesOf(steps) {
-    return steps.map((step) => (
-      step.change ? `${step.line}\nstate\n` : `${this.questions(cyclesOfStep(step))}${step.line}\n`)).join("");
+  get count() {
+    return 1 + this.taking.groups.length + Number(this.places !== "");
   }
 
-  /**
-   * Parts the answers: those to the steps and to all that comes after them, and, step by step, those to the questions.
-   * @param {Step[]} steps
-   * @param {string[]} all
-   */
-  parted(steps, all) {
-    const questions = 1 + this.taking.groups.length + Number(this.places !== "");
-    const answers = new Answers(all);
-    /** @type {string[]} */
-    const own = [];
-    const traced = steps.map(({ change }) => {
-      if (change) {
-        own.push(answers.take());
-        return [answers.take()];
-      }
-      const from = answers.at;
-      for (let count = 0; count < questions; count++) answers.takeTrace();
-      const told = all.slice(from, answers.at);
-      own.push(answers.take());
-      return told;
-    });
-    return { answers: [...own, ...all.slice(answers.at)], traced };
+  get seesChanges() {
+    return true;
   }
 
   /**
@@ -259,8 +234,8 @@ export class LiveRecorder {
       /** @type {Step[]} */
       const steps = units.map(({ line, cycles }) => (
         { line: cycles > 0 ? `run ${cycles}` : line, change: cycles > 0 ? null : { place: "", word: "press" } }));
-      const served = engine.serve(file, `${this.linesOf(steps)}state\n`, file);
-      const { traced, answers } = this.parted(steps, served.answers);
+      const served = engine.serve(file, `${askedLines(steps, [this])}state\n`, file);
+      const { told: [traced], answers } = partedAnswers(steps, [this], served.answers);
       this.take(steps, traced, answers);
       this.stops = false;
     }

@@ -1,7 +1,8 @@
 // The session in the worker: the bytes of its file, the keys that wait, and the calls on them. A call is done whole or not at all.
 
 import { CycleCount, acceptedOf } from "./accepted.js";
-import { stepsUpTo } from "../debug/ahead.js";
+import { askedLines, partedAnswers } from "./asking.js";
+import { cyclesOfStep, stepsUpTo } from "../debug/ahead.js";
 import { isStop, readBoard, readMarks, readRun, refusalOf } from "../bench/answers.js";
 import { Cancelled } from "../bench/faults.js";
 import { endOfInputs, linesOf, matchAnswers, readInputs } from "../bench/inputs.js";
@@ -9,6 +10,7 @@ import { KeyQueue } from "./key_queue.js";
 import { lookOf, questionsOf } from "../bench/look.js";
 import { PieceSize } from "./pieces.js";
 import { romCodes } from "./rom_codes.js";
+import { MOST_SHONE } from "./shining.js";
 import { SEGMENT_ENTRIES, Timeline } from "./timeline.js";
 
 /**
@@ -18,13 +20,15 @@ import { SEGMENT_ENTRIES, Timeline } from "./timeline.js";
  * @typedef {import("../bench/inputs.js").Input} Input
  * @typedef {import("./key_queue.js").Step} Step
  * @typedef {import("./live_recorder.js").LiveRecorder} LiveRecorder
+ * @typedef {import("./shining.js").Shining} Shining
+ * @typedef {import("./shining.js").Shone} Shone
  * @typedef {import("../bench/ran.js").RanEntry} RanEntry
  * @typedef {{ line: string, textLines: number, answers: string[] }} Answered an input, how many lines its text had, and its answers
  * @typedef {{ entries: Answered[], first: string, status: number, touchesRom: boolean, wires: boolean }} Told what came of lines:
  *   the last inputs, the first answer, the status of the shell's end, and whether bytes of ROM or the board may be others now
  * @typedef {Told & { look: string[] }} ToldAndSeen
- * @typedef {{ ran: RanEntry[], cycles: number, end: string, changesKeys: boolean, look: string[] }} Frame what came of cycles; `end` is
- *   the answer that ended the run early, "" where none did
+ * @typedef {{ ran: RanEntry[], cycles: number, end: string, changesKeys: boolean, look: string[], shone: Shone | null }} Frame what came of
+ *   cycles; `end` is the answer that ended the run early, "" where none did; `shone` what was lit, null where that is not asked for
  */
 
 /** So many of the inputs that were served are told. */
@@ -35,6 +39,9 @@ const MOST_FOLLOWED = 2000000;
 const FIRST_PIECE = 4096;
 const LEAST_PIECE = 256;
 const LARGEST_PIECE = 1 << 20;
+
+/** An eye needs 30 ms, which are so many cycles in real time. */
+const CYCLES_OF_EYE = 2778;
 
 /** @type {Record<string, true>} */
 const TOUCHES_ROM = { poke: true, wire: true, asm: true };
@@ -61,6 +68,8 @@ export class WorkerSession {
     this.readCodes = null;
     /** @type {LiveRecorder | null} records what is done */
     this.recorder = null;
+    /** @type {Shining | null} adds up what is lit while time runs, where somebody looks */
+    this.shining = null;
   }
 
   /** What records, where it goes on. */
@@ -105,7 +114,7 @@ export class WorkerSession {
    * @returns {Frame}
    */
   advanceBy(planned) {
-    const { steps, answers, look } = this.serveSteps(planned);
+    const { steps, answers, look, shone } = this.serveSteps(planned);
     this.adopt();
     const runs = answers.map(readRun);
     /** @type {(at: number) => number} */
@@ -123,6 +132,7 @@ export class WorkerSession {
       end: isStop(last) ? last : "",
       changesKeys: steps.some((step) => step.change !== null),
       look,
+      shone,
     };
   }
 
@@ -151,6 +161,7 @@ export class WorkerSession {
     this.unrecorded = [];
     this.readCodes = null;
     if (this.recorder) this.recorder.stop("back");
+    if (wires) this.shining = null;
     return wires;
   }
 
@@ -190,15 +201,32 @@ export class WorkerSession {
       served = this.trySteps(done);
     }
     const answers = served.answers.slice(0, done.length);
-    return { steps: done, answers, look: lookOf(this.lookQuestions.inputs, served.answers.slice(done.length)) };
+    const look = lookOf(this.lookQuestions.inputs, served.answers.slice(done.length));
+    return { steps: done, answers, look, shone: served.shining && served.shining.take(served.lit) };
+  }
+
+  /**
+   * What adds up what is lit in some steps; null where nobody looks, or they are too many for an eye.
+   * @param {Step[]} steps
+   */
+  shiningIn(steps) {
+    return steps.reduce((sum, step) => sum + cyclesOfStep(step), 0) <= MOST_SHONE ? this.shining : null;
+  }
+
+  /** What will be lit in the time that an eye needs; null where nobody looks. */
+  shineAhead() {
+    const { shining } = this;
+    return shining && shining.take([this.ask(shining.questions(CYCLES_OF_EYE))]);
   }
 
   /** @param {Step[]} steps */
   trySteps(steps) {
     const { recording } = this;
-    const lines = recording ? recording.linesOf(steps) : linesOf(steps.map((step) => step.line));
-    const { answers } = this.engine.serve(this.file, lines + this.lookQuestions.lines, this.next);
-    return recording ? recording.parted(steps, answers) : { answers, traced: [] };
+    const shining = this.shiningIn(steps);
+    const askers = [...(shining ? [shining] : []), ...(recording ? [recording] : [])];
+    const lines = askedLines(steps, askers) + this.lookQuestions.lines;
+    const { answers, told } = partedAnswers(steps, askers, this.engine.serve(this.file, lines, this.next).answers);
+    return { answers, shining, lit: shining ? told[0] : [], traced: recording ? told[askers.length - 1] : [] };
   }
 
   /**
@@ -250,6 +278,7 @@ export class WorkerSession {
     this.timeline.stop();
     // What waits for its time was meant for the keys of the other board.
     if (told.wires) this.queue.clear();
+    if (told.wires) this.shining = null;
     if (before) this.follow(before, told.accepted);
     return { ...told.told(), look };
   }

@@ -1,0 +1,133 @@
+"""How bright lamps are in a browser: while time runs, by the part of the time for which they are lit, as `trace` tells it; at a stop, the
+instant. A display that is written anew in each turn of the main loop shows its number all the time."""
+
+import re
+
+from page_in_browser import DIGITS, SPEED, STATUS, lines_answered, told_of, until_ready
+from verdicts import comes, verdict
+
+ROM = '[[rom]]\nchip = 0\nport = "0000"\n'
+PULSES_BOARD = ROM + "".join(f'[[lamp]]\nline = "rom0.{line}"\n' for line in range(4))
+# Lamp 0 is lit for 3 cycles in a turn, lamp 1 for the rest of them, lamp 2 always, lamp 3 never.
+PULSES = "FIM P0, 0\nSRC P0\nloop: LDM 5\nWRR\nNOP\nLDM 6\nWRR\nFIM P1, 0\nwait: ISZ R2, wait\nJUN loop\n"
+REFRESHED_BOARD = f"""# display 0: 2 digits of 7 segments
+{ROM}[[chain]]
+clock = "rom0.0"
+data = "rom0.1"
+chips = 2
+""" + "".join(f'[[lamp]]\nline = "chain0.{13 - at}"\n' for at in range(14))
+# Shifts 42 out all the time, segment by segment.
+REFRESHED = """
+        FIM P4, 0x42
+        FIM P0, 0xF0
+        FIM P7, 0
+        SRC P7
+loop:   LD R8
+        JMS digit
+        LD R9
+        JMS digit
+        JUN loop
+digit:  XCH R1
+        FIN P2
+        LDM 12
+        XCH R7
+        LD R5
+        JMS bits
+        LDM 13
+        XCH R7
+        LD R4
+bits:   RAR
+        XCH R6
+        TCC
+        RAL
+        WRR
+        IAC
+        WRR
+        XCH R6
+        ISZ R7, bits
+        BBL 0
+        ORG 0xF0
+        DB 0x3F, 0x06, 0x5B, 0x4F, 0x66, 0x6D, 0x7D, 0x07, 0x7F, 0x6F
+"""
+TOLD = "return document.getElementById('shine-told').textContent"
+# From here on: in each frame, how bright each lamp is, and what the display shows.
+WATCH = """
+window.shines = [];
+window.numbers = [];
+const begun = performance.now();
+const look = () => {
+  window.shines.push([...document.querySelectorAll("#front .bulb")].map((bulb) => Number(bulb.style.getPropertyValue("--shine"))));
+  window.numbers.push(document.getElementById("digits").textContent);
+  if (performance.now() - begun < arguments[0]) requestAnimationFrame(look);
+  else window.watched = true;
+};
+window.watched = false;
+requestAnimationFrame(look);
+"""
+SHINES = "return [...document.querySelectorAll('#front .bulb')].map((bulb) => Number(bulb.style.getPropertyValue('--shine')))"
+
+
+def parts_lit(answer):
+    """The part of the time for which each lamp is lit, by an answer to `trace n lamps`, as the log has it."""
+    head = re.search(r"trace ran (\d+) end lines \d+ ([.*]+)", answer)
+    rows = re.findall(r"(\d+) [0-9A-F]{3} ([.*]+)", answer[head.end():])
+    total, marks, since = int(head.group(1)), head.group(2), 0
+    lit = [0] * len(marks)
+    for end, after in [*((int(cycles) + 1, after) for cycles, after in rows), (total, "")]:
+        lit = [each + (end - since if mark == "*" else 0) for each, mark in zip(lit, marks)]
+        marks, since = after, end
+    return [each / total for each in lit]
+
+
+def watched(browser, milliseconds):
+    browser.script(WATCH, milliseconds)
+    browser.until("return window.watched", True)
+
+
+def parts_seen(browser):
+    """The least and the most of what each lamp shines, as the part of the time that it tells."""
+    frames = browser.script("return window.shines")
+    return [(min(each) ** 2.2, max(each) ** 2.2) for each in zip(*frames)]
+
+
+def check_pulses(browser, speed):
+    browser.script(SPEED, speed)
+    comes(browser, f"at {speed} speed lamps are as an eye sees them", TOLD, re.compile("as an eye sees it: over 30 ms"))
+    watched(browser, 500)
+    watched(browser, 1500)
+    seen = parts_seen(browser)
+    wanted = parts_lit(lines_answered(browser, "trace 4100 lamps"))
+    verdict(f"at {speed} speed each lamp shines as trace tells it, to 2 %: {seen} of {wanted}",
+            all(abs(each - part) < 0.02 for pair, part in zip(seen, wanted) for each in pair), True)
+
+
+def check_instant(browser):
+    browser.click("#run")
+    comes(browser, "time stands still", STATUS, re.compile("^Stopped"))
+    marks = re.search(r"lamps ([.*]+)", lines_answered(browser, "lamps")).group(1)
+    verdict("then lamps are as they are at this instant", browser.script(SHINES), [1 if mark == "*" else 0 for mark in marks])
+    verdict("and that is told", browser.script(TOLD), "Time stands still: what is lit at this instant.")
+    browser.click("#run")
+
+
+def check_refreshed(browser):
+    told_of(browser, "#board-editor", REFRESHED_BOARD)
+    told_of(browser, "#program-editor", REFRESHED)
+    comes(browser, "a display that is written anew all the time shows its number", DIGITS, "42")
+    watched(browser, 2000)
+    verdict("in each frame", browser.script("return [...new Set(window.numbers)].join(' ')"), "42")
+    lit = "return [...document.querySelectorAll('#glass svg')].map((digit) => digit.querySelectorAll('.lit').length).join(' ')"
+    verdict("and its segments have outlines", [browser.script(lit), browser.script("return document.querySelectorAll('.smeared').length")],
+            ["4 5", 2])
+
+
+def check(browser, page, _folder, _mcs4):
+    browser.go(page.as_uri() + "#example=empty%20bench")
+    until_ready(browser)
+    told_of(browser, "#board-editor", PULSES_BOARD)
+    told_of(browser, "#program-editor", PULSES)
+    for speed in ("real", "tenth", "full"):
+        check_pulses(browser, speed)
+    browser.script(SPEED, "real")
+    check_instant(browser)
+    check_refreshed(browser)

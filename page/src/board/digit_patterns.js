@@ -1,0 +1,82 @@
+// What is drawn of a display: a pattern for each digit, in which segment a is 1, b is 2, up to g, 64; the point is 128.
+
+import { SEGMENTS } from "./face_words.js";
+
+/** @typedef {import("./face.js").Group} Group */
+
+export const MINUS = 64;
+export const POINT = 128;
+/** A digit that is not lit at this instant, since its line is 0. */
+export const NOT_LIT = -1;
+const LIT = "*".charCodeAt(0);
+
+/** @type {Map<number, string>} what the patterns of seven segments show */
+const SIGNS = new Map([...SEGMENTS].map(([marks, sign]) => [segmentsAt(marks, 0), sign]));
+/** What is lit for 0 to 9; the first form of a digit is that of a 7447. */
+const DIGITS = [..."0123456789"].map((digit) => [...SIGNS].filter(([, sign]) => sign === digit).map(([pattern]) => pattern)[0]);
+/** Four lamps that are no digit: a, b, e and g. */
+const NO_DIGIT = 1 + 2 + 16 + 64;
+
+/**
+ * @param {string} marks a `*` for each lamp that is lit
+ * @param {number} at
+ */
+export function isLit(marks, at) {
+  return marks.charCodeAt(at) === LIT;
+}
+
+/**
+ * @param {string} marks
+ * @param {number} at
+ */
+function segmentsAt(marks, at) {
+  let bits = 0;
+  for (let segment = 0; segment < 7; segment++) if (isLit(marks, at + segment)) bits |= 1 << segment;
+  return bits;
+}
+
+/**
+ * The value of four lamps, the one for 8 first.
+ * @param {string} marks
+ * @param {number} at
+ */
+function valueAt(marks, at) {
+  return (isLit(marks, at) ? 8 : 0) + (isLit(marks, at + 1) ? 4 : 0) + (isLit(marks, at + 2) ? 2 : 0) + (isLit(marks, at + 3) ? 1 : 0);
+}
+
+/**
+ * The pattern of each digit at an instant. Of digits in BCD, leading zeros and a point after the last digit are dark.
+ * @param {Group} display
+ * @param {string} marks a `*` for each lamp that is lit
+ * @returns {number[]}
+ */
+export function patternsAt({ first, rows, columns }, marks) {
+  const hasPoints = columns === 5 || columns === 8;
+  const patterns = [];
+  let isLeading = true;
+  for (let place = 0; place < rows; place++) {
+    const at = first + place * columns;
+    const point = hasPoints && isLit(marks, at + columns - 1) ? POINT : 0;
+    if (columns >= 7) {
+      patterns.push(segmentsAt(marks, at) + point);
+      continue;
+    }
+    const isLast = place === rows - 1;
+    const value = valueAt(marks, at);
+    isLeading = isLeading && value === 0 && point === 0 && !isLast;
+    patterns.push(isLeading ? 0 : (value < 10 ? DIGITS[value] : NO_DIGIT) + (isLast ? 0 : point));
+  }
+  return patterns;
+}
+
+/**
+ * The number that patterns show: without what is dark at the left, and without a point at the end. What is no digit is a `?`.
+ * @param {number[]} patterns
+ */
+export function numberOf(patterns) {
+  const signs = patterns.map((pattern) => {
+    const bits = pattern === NOT_LIT ? 0 : pattern & ~POINT;
+    return `${SIGNS.get(bits) ?? "?"}${pattern !== NOT_LIT && pattern & POINT ? "." : ""}`;
+  });
+  return signs.join("").replace(/\.$/, "").replace(/^ +/, "");
+}

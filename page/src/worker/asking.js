@@ -1,0 +1,56 @@
+// Steps with questions before each run, in the same call: what the bench tells that the run will do.
+
+import { cyclesOfStep } from "../debug/ahead.js";
+import { Answers } from "./tracing.js";
+
+/**
+ * @typedef {import("./key_queue.js").Step} Step
+ *
+ * Who asks: so many questions before a run of so many cycles, as lines, each answered as `trace` is; `seesChanges`: and for the state after
+ * each change of a key.
+ * @typedef {{ questions: (cycles: number) => string, count: number, seesChanges: boolean }} Asker
+ */
+
+/**
+ * The lines of steps, with the questions.
+ * @param {Step[]} steps
+ * @param {Asker[]} askers
+ */
+export function askedLines(steps, askers) {
+  const afterChange = askers.some(({ seesChanges }) => seesChanges) ? "state\n" : "";
+  return steps.map((step) => {
+    if (step.change) return `${step.line}\n${afterChange}`;
+    return `${askers.map((asker) => asker.questions(cyclesOfStep(step))).join("")}${step.line}\n`;
+  }).join("");
+}
+
+/**
+ * Parts the answers: those to the steps and to all that comes after them; and of each asker, step by step, those to its questions.
+ * @param {Step[]} steps
+ * @param {Asker[]} askers
+ * @param {string[]} all
+ * @returns {{ answers: string[], told: string[][][] }}
+ */
+export function partedAnswers(steps, askers, all) {
+  const answers = new Answers(all);
+  /** @type {string[]} */
+  const own = [];
+  /** @type {string[][][]} */
+  const told = askers.map(() => []);
+  const seesChanges = askers.some((asker) => asker.seesChanges);
+  for (const { change } of steps) {
+    if (change) {
+      own.push(answers.take());
+      const state = seesChanges ? [answers.take()] : [];
+      askers.forEach((asker, at) => told[at].push(asker.seesChanges ? state : []));
+      continue;
+    }
+    askers.forEach(({ count }, at) => {
+      const from = answers.at;
+      for (let question = 0; question < count; question++) answers.takeTrace();
+      told[at].push(all.slice(from, answers.at));
+    });
+    own.push(answers.take());
+  }
+  return { answers: [...own, ...all.slice(answers.at)], told };
+}
