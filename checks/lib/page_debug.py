@@ -127,6 +127,7 @@ def check_condition(browser):
     verdict("as the bench says", lines_answered(browser, "regs"), re.compile(" r .{9}9.{6} "))
     check_back(browser)
     verdict("it is none of the session's file", lines_answered(browser, "breaks"), re.compile("breaks -$"))
+    check_typed(browser)
     browser.script(FILL, CONDITION, "r44 = 9")
     comes(browser, "a condition that cannot be read says why, in its place", FAULTS, "It stops nothing: the registers are r0 to r15, not r44.")
     browser.script(FILL, CONDITION, "rom3 in 1")
@@ -153,6 +154,16 @@ def check_condition(browser):
     comes(browser, "switched off it is kept", LISTED, re.compile("^\u25cb "))
     browser.click("#run")
     browser.until(RUN_WORD, "Run")
+
+
+def check_typed(browser):
+    """A run that is typed ends at it, too, and says so."""
+    browser.script(FILL, CONDITION, "r9 = 9")
+    lines_answered(browser, "reset")
+    verdict("a line's run ends where the condition holds", lines_answered(browser, "run 100000"), re.compile(r"run (\d+)ok \d+ ran \1 end$"))
+    comes(browser, "and the status says so", WHOLE_STATUS,
+          "Stopped at 011 (wait, line 14), at a breakpoint, where r9 = 9. The line run 100000 ended there.")
+    verdict("the bench stands there", lines_answered(browser, "regs"), re.compile(" r .{9}9.{6} "))
 
 
 def check_back(browser):

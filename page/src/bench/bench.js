@@ -9,8 +9,8 @@ import { WorkerDied, unpackFault } from "./faults.js";
  * @typedef {import("./protocol.js").Frame} Frame
  * @typedef {import("./protocol.js").ToPage} ToPage
  * @typedef {import("./protocol.js").ToWorker} ToWorker
- * @typedef {"load" | "settled" | "make" | "texts" | "boardFault" | "open" | "recall" | "serve" | "ask" | "source" | "record" | "advance"
- *   | "press" | "release" | "forget" | "run" | "pace" | "halt" | "checkProgram" | "leftovers"
+ * @typedef {"load" | "settled" | "make" | "texts" | "boardFault" | "open" | "recall" | "serve" | "serveTyped" | "ask" | "source"
+ *   | "record" | "advance" | "press" | "release" | "forget" | "run" | "pace" | "halt" | "checkProgram" | "leftovers"
  *   | "setBreakpoints" | "goOn" | "drop" | "goBack" | "lastChange" | "heat" | "goForward" | "tryTexts" | "testFaults" | "runTests"
  *   | "propertyFaults" | "explore" | "exploreOn" | "stopAtFaults"
  *   | "recordLive" | "endRecording" | "watchLamps"} CallName

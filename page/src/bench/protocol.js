@@ -21,6 +21,7 @@
  *
  * @typedef {Told & Shown} ServedLines
  * @typedef {Omit<import("../worker/going_back.js").Aim, "moment" | "present">} AimTold
+ * @typedef {ServedLines & { typed: import("../debug/debugger.js").Typed }} TypedLines and what breakpoints did
  * @typedef {ServedLines & AimTold & { isDone: boolean, cycles: number }} Gone where going back or forward has led, over how many cycles
  * @typedef {ServedLines & { found: import("../debug/debugger.js").Went["found"], tally: Tally }} ReachedLines and how the goal was reached
  * @typedef {ServedLines & { faults: [number, string][] }} BrokenLines and which breakpoints cannot be read, by their ids, and why

@@ -172,6 +172,18 @@ export class Arrivals {
     return true;
   }
 
+  /** How many hits there were of each, in their order. */
+  get hits() {
+    return this.breakpoints.map(({ hits }) => hits);
+  }
+
+  /** @param {number[]} hits those of before, since what was counted did not come about */
+  takeBack(hits) {
+    this.breakpoints.forEach((breakpoint, at) => {
+      breakpoint.hits = hits[at];
+    });
+  }
+
   /**
    * What was seen has come about.
    * @param {Seen} seen

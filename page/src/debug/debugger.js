@@ -24,6 +24,7 @@ import { MOST_PLACES } from "./conditions.js";
 import { watcherOf } from "./goals.js";
 import { lastArrival } from "./last_arrival.js";
 import { isSoft, softBreakpointOf } from "./soft_breakpoints.js";
+import { planTyped } from "./typed_lines.js";
 import { UsualFaults } from "./usual_faults.js";
 
 /**
@@ -52,6 +53,8 @@ import { UsualFaults } from "./usual_faults.js";
  * What breakpoints did: hits by their ids since it was told last, notes, and how many notes there were; and faults that everyone makes
  * once, as they happened (usual_faults.js).
  * @typedef {{ hits: [number, number][], notes: Logged[], noted: number, usual: UsualFault[] }} Tally
+ * Of lines that were typed: where a breakpoint ended the last one, its id and the line, else 0 and ""; the cycles, what breakpoints did.
+ * @typedef {{ id: number, cut: string, cycles: number, tally: Tally }} Typed
  * @typedef {Frame & { stop: Stop | null, tally: Tally }} DebugFrame
  * @typedef {{ found: Found & { id: number, returns: boolean }, told: (Told & { look: string[] }) | null, tally: Tally }} Went nothing was
  *   told where nothing was done
@@ -302,6 +305,27 @@ export class Debugger {
       if (done < cycles && !(await goesOn(done))) break;
     }
     return all;
+  }
+
+  /**
+   * Serves lines that were typed, all of them or none. A run among them ends at each breakpoint that it comes to.
+   * @param {string} lines
+   * @param {(done: number) => Promise<boolean>} goesOn is told how many characters are done
+   * @returns {Promise<{ told: Told & { look: string[] }, typed: Typed }>}
+   */
+  async serveTyped(lines, goesOn) {
+    const { session, arrivals } = this;
+    const before = session.count.total;
+    const hits = arrivals.hits;
+    try {
+      const { lines: served, runs, id, cut } = await planTyped(session.engine, session.file, arrivals, lines, goesOn);
+      const told = await session.serve(served, goesOn);
+      const tallies = runs.map(({ seen, done }) => this.tallyOf(seen, null, before + done));
+      return { told, typed: { id, cut, cycles: session.count.total - before, tally: tallies.reduce(bothTallies, NO_TALLY) } };
+    } catch (fault) {
+      arrivals.takeBack(hits);
+      throw fault;
+    }
   }
 
   // --- the past ---

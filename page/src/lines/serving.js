@@ -29,14 +29,24 @@ export class Serving {
   }
 
   /**
-   * Lines that were typed, in which `@NAME` stands for a name's value.
+   * Lines that were typed, in which `@NAME` stands for a name's value. A run among them ends at each breakpoint.
    * @param {string} typed
    */
   async send(typed) {
-    const { lines, words } = putNames(typed, this.page.source.map);
-    if (words === "") return this.act(lines);
-    this.page.notice.show(words);
-    return null;
+    const { bench, breakpoints, notice, running, source } = this.page;
+    const { lines, words } = putNames(typed, source.map);
+    if (words !== "") {
+      notice.show(words);
+      return null;
+    }
+    const told = await this.change("Lines are served.", (ways) => bench.call("serveTyped", [lines], ways));
+    if (!told) return null;
+    const { id, cut, cycles, tally } = told.typed;
+    breakpoints.count(tally);
+    if (id !== 0 && !running.clock.isRunning) {
+      running.tell(`${running.reasonOf({ why: "break", id, cycles, returns: false }, null)} The line ${cut} ended there.`);
+    }
+    return told.first;
   }
 
   /**

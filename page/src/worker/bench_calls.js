@@ -3,7 +3,7 @@
 import { CycleCount } from "./accepted.js";
 import { readBoard, refusalOf } from "../bench/answers.js";
 import { Face } from "../board/face.js";
-import { Debugger, nearOf } from "../debug/debugger.js";
+import { Debugger, NO_TALLY, nearOf } from "../debug/debugger.js";
 import { Exploring, readExplored, readToExplore } from "../explore/exploring.js";
 import { SourceMap } from "../machine/source_map.js";
 import { WorkerSession } from "./worker_session.js";
@@ -41,6 +41,7 @@ import { recordAfter, recordBefore } from "./wave_recorder.js";
  * @typedef {import("../bench/protocol.js").Gone} Gone
  * @typedef {import("../debug/goals.js").Goal} Goal
  * @typedef {import("../bench/protocol.js").ServedLines} ServedLines
+ * @typedef {import("../bench/protocol.js").TypedLines} TypedLines
  * @typedef {import("../bench/protocol.js").Shown} Shown
  * @typedef {{ board: string, program: string, values?: string[] }} WaveTexts the texts that have the names of a recording's lines, and
  *   what is recorded beside the lines of the board, by its names
@@ -251,9 +252,33 @@ export class BenchCalls {
    * @param {string} lines
    * @returns {Promise<ServedLines>}
    */
-  async serve(lines) {
+  serve(lines) {
+    return this.served(() => this.session.serve(lines, (done) => this.goesOn(done, lines.length)));
+  }
+
+  /**
+   * The same of lines that were typed, whose runs end at each breakpoint.
+   * @param {string} lines
+   * @returns {Promise<TypedLines>}
+   */
+  async serveTyped(lines) {
+    const typed = { id: 0, cut: "", cycles: 0, tally: NO_TALLY };
+    const told = await this.served(async () => {
+      const served = await this.debugger.serveTyped(lines, (done) => this.goesOn(done, lines.length));
+      Object.assign(typed, served.typed);
+      return served.told;
+    });
+    return { ...told, typed };
+  }
+
+  /**
+   * What came of lines, and what is shown then.
+   * @param {() => Promise<import("./worker_session.js").ToldAndSeen>} serve
+   * @returns {Promise<ServedLines>}
+   */
+  async served(serve) {
     const { reset } = this.session.count;
-    const { look, ...told } = await this.session.serve(lines, (done) => this.goesOn(done, lines.length));
+    const { look, ...told } = await serve();
     this.debugger.usual.forget();
     // After a reset no subroutine returns.
     if (this.session.count.reset !== reset) this.debugger.begin();

@@ -17,7 +17,7 @@ import { packFault } from "../bench/faults.js";
 const PROGRESS_TIME = 100;
 
 /** @type {Record<string, true>} calls that change the session beside the time that runs */
-const CHANGES = { serve: true, goOn: true, goBack: true, goForward: true };
+const CHANGES = { serve: true, serveTyped: true, goOn: true, goBack: true, goForward: true };
 
 /**
  * Whether a call lets time pass from a key on, whose lamps are waited for.
