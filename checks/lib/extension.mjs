@@ -52,9 +52,20 @@ const vscode = {
       factories.provider = provider;
       return disposable;
     },
+    registerDebugAdapterTrackerFactory: (type) => {
+      factories.tracker = type;
+      return disposable;
+    },
+    onDidReceiveDebugSessionCustomEvent: () => disposable, onDidTerminateDebugSession: () => disposable,
   },
   commands: { registerCommand: () => disposable },
-  window: { activeTextEditor: { document }, showErrorMessage: (words) => console.log(`fault: ${words}`) },
+  window: {
+    registerWebviewViewProvider: (id) => {
+      factories.view = id;
+      return disposable;
+    },
+    activeTextEditor: { document }, showErrorMessage: (words) => console.log(`fault: ${words}`),
+  },
   Uri: { parse: (words) => ({ text: words, toString: () => words }) },
   DiagnosticSeverity: { Error: 0, Warning: 1, Information: 2 }, CodeActionKind: { QuickFix: "quickfix" },
   MarkdownString: class { appendText(words) { this.words = words; } },
@@ -90,6 +101,7 @@ verdict(data.length % 5 === 0 && data.length > 0, true, "colours by what a word 
 verdict(factories.mcs4.createDebugAdapterDescriptor().given, [`${TOP}mcs4`, ["dap"]], "the debug adapter");
 verdict(factories.provider.resolveDebugConfiguration(undefined, {}).program, "/tmp/a.asm", "F5 debugs the program that is shown");
 const own = JSON.parse(readFileSync(`${TOP}editors/vscode/package.json`, "utf8"));
+verdict([factories.view, factories.tracker], [own.contributes.views.debug[0].id, "mcs4"], "the view of lamps and keys");
 const named = [...own.contributes.grammars, ...own.contributes.languages.map(({ configuration }) => ({ path: configuration })), { path: own.main }];
 for (const { path } of named) verdict(readFileSync(`${TOP}editors/vscode/${path}`, "utf8").length > 0, true, `${path} is there`);
 await extension.deactivate();

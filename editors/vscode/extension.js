@@ -1,6 +1,7 @@
 // The extension: it starts the language server and the debug adapter of the bench.
 "use strict";
 const vscode = require("vscode");
+const { BoardView } = require("./board_view.js");
 const { LanguageClient } = require("./language_client.js");
 
 const LANGUAGES = ["mcs4", "mcs4-board"];
@@ -41,6 +42,7 @@ exports.activate = (context) => {
     }),
     vscode.debug.registerDebugConfigurationProvider("mcs4", { resolveDebugConfiguration: resolved }),
     vscode.commands.registerCommand("mcs4.pressKey", pressKey),
+    ...new BoardView(vscode, __dirname).register(),
   );
   return client.begin();
 };

@@ -4,6 +4,9 @@ declare module "#answer-table" {
   export default text;
 }
 
+/** What Visual Studio Code gives to the script of a view. */
+declare function acquireVsCodeApi(): { postMessage(message: { place: string, isDown: boolean } | { isReady: true }): void };
+
 declare module "#face-table" {
   const text: string;
   export default text;

@@ -276,6 +276,50 @@ test("time that runs is paused; what is done meanwhile is done between pieces", 
   await ask("disconnect", {});
 });
 
+test("a client that draws the board is told it once, what changes, and moves keys by their places", async () => {
+  const { begin, ask, answer, move, evaluate, told, until } = served();
+  assert.equal((await answer("watchBoard")).message, "initialize comes first");
+  await begin();
+  const { board, boardText, ...shown } = await ask("watchBoard");
+  assert.deepEqual([board[0], boardText], ["board", FILES["/lock/board.toml"]]);
+  assert.deepEqual(shown, { lamps: "...", keys: [], test: "1", isRunning: false });
+  const news = () => told.filter(({ event }) => event === "boardShown").map(({ body }) => body);
+  await ask("changeKey", { place: "1 1", isDown: true });
+  assert.deepEqual(news(), [{ keys: ["1.1"] }]);
+  assert.match(await evaluate("state", "repl"), / keys 1\.1 /);
+  await ask("changeKey", { place: "1 1", isDown: false });
+  await ask("changeKey", { place: "test 0", isDown: true });
+  assert.deepEqual(news().slice(1), [{ keys: [] }, { test: "0" }]);
+  for (const place of ["1", "1 1\nreset", "", "test 2"]) {
+    assert.match((await answer("changeKey", { place, isDown: true })).message, /place/);
+  }
+  assert.match((await answer("changeKey", { place: "9 9", isDown: true })).message, /^no 41: /);
+  await ask("setFunctionBreakpoints", { breakpoints: [{ name: "digit" }] });
+  await move("continue");
+  await until(({ event, body }) => event === "boardShown" && body.isRunning === false && news().length > 4);
+  assert.ok(news().some(({ lamps }) => lamps === "*.."));
+  assert.equal(news().filter((each) => each.board).length, 0);
+  await ask("restart", {});
+  await until(({ event, body }) => event === "boardShown" && body.board);
+});
+
+test("in real time a cycle takes as long as on a real board", async () => {
+  const { adapter, begin, ask, until, stops } = served();
+  await begin({ ...LOCK, realTime: true });
+  const before = stops().length;
+  const from = performance.now();
+  await ask("continue", { threadId: 1 });
+  await new Promise((settle) => {
+    setTimeout(settle, 300);
+  });
+  await ask("pause", { threadId: 1 });
+  await until(() => stops().length > before);
+  const time = performance.now() - from;
+  const { total } = adapter.there.launched.session.debugger.session.count;
+  // A sixtieth of a second is done at once.
+  assert.ok(total > 1000 && total * 0.0108 < time + 17, `${total} cycles in ${time} ms`);
+});
+
 test("a session file has at each stop what was done; its breakpoints are as they were", async () => {
   const file = new FakeFile(engine.begin());
   const program = FILES["/lock/lock.asm"].replace(/[ \t]*;.*/g, "");

@@ -18,6 +18,7 @@ import { differenceWords, launch } from "./launching.js";
 import { Machine } from "./machine.js";
 import { NOT_STOPPED, fail, fieldOf, listOf, needNumber, needText, textOrNone } from "./protocol.js";
 import { Scopes } from "./scopes.js";
+import { ShownBoard, changeKey } from "./shown_board.js";
 
 /**
  * @typedef {import("./adapter_connection.js").Act} Act
@@ -81,6 +82,8 @@ export class DebugAdapter {
     this.leaving = null;
     /** @type {Ended | null} the last stop */
     this.ended = null;
+    /** @type {ShownBoard | null} where the client draws the board */
+    this.shownBoard = null;
     connection.requests = { ...this.lifeRequests(), ...this.breakpointRequests(), ...this.moveRequests(), ...this.askRequests() };
   }
 
@@ -134,7 +137,8 @@ export class DebugAdapter {
       stopped: (ended) => this.stopped(ended),
       output: (words, category) => this.output(words, category),
       pause: this.host.pause,
-    });
+      looked: () => this.tellBoard(),
+    }, launched.isRealTime);
     const breakpoints = new ClientBreakpoints(session);
     await breakpoints.place();
     const face = new Face(session.boardText);
@@ -144,6 +148,8 @@ export class DebugAdapter {
     });
     const answering = new Answering(launched, new Scopes(session, face), known, this.firstLine);
     this.open = { launched, machine, breakpoints, console: lines, answering };
+    if (this.shownBoard) this.shownBoard = new ShownBoard(machine);
+    this.tellBoard();
   }
 
   /** @param {Launched} launched */
@@ -383,6 +389,11 @@ export class DebugAdapter {
       evaluate: (args) => this.evaluate(args),
       pressKey: (args) => this.moveKey("press", args),
       releaseKey: (args) => this.moveKey("release", args),
+      watchBoard: () => {
+        this.shownBoard = new ShownBoard(this.there.machine);
+        return this.shownBoard.take();
+      },
+      changeKey: (args) => this.changeKey(args),
     };
   }
 
@@ -440,7 +451,23 @@ export class DebugAdapter {
     return { words };
   }
 
+  /** @param {any} args a key by its place, as a view of the board moves it */
+  async changeKey(args) {
+    const { machine, console: lines } = this.there;
+    const place = needText(args, "place");
+    await machine.quietly(() => changeKey(machine, lines, place, fieldOf(args, "isDown") === true));
+    if (!machine.isMoving) await machine.stand();
+    return {};
+  }
+
   // --- what is told ---
+
+  /** What is new of the board, where the client draws it. */
+  tellBoard() {
+    const { shownBoard } = this;
+    const news = shownBoard ? shownBoard.take() : {};
+    if (Object.keys(news).length > 0) this.connection.tell("boardShown", news);
+  }
 
   /**
    * Time stands here, for another reason than that it was stopped.
@@ -456,6 +483,7 @@ export class DebugAdapter {
     const { open } = this;
     if (!open) return;
     this.ended = ended;
+    this.tellBoard();
     const found = ended.reason === "breakpoint" ? open.breakpoints.ofStop(ended.id) : { id: 0, reason: ended.reason };
     this.connection.tell("stopped", {
       reason: found.reason, description: ended.words, threadId: THREAD, allThreadsStopped: true,

@@ -26,7 +26,7 @@ import { AdapterError, fieldOf, flagOf, textOrNone } from "./protocol.js";
  * What was launched: `program` is the name of its file, "" where its text was made of what stands in ROM.
  * `nameOf` gives the whole name of a file.
  * @typedef {{ session: DebugSession, kept: KeptSession | null, program: string, board: string, stopsOnEntry: boolean, isDebugged: boolean,
- *   nameOf: (name: string) => string }} Launched
+ *   isRealTime: boolean, nameOf: (name: string) => string }} Launched
  *
  * @typedef {{ board: string, program: string, session: string, load: boolean }} Wanted whole names, "" for none
  */
@@ -210,6 +210,7 @@ export async function launch(engine, args, host, words) {
   session.debugger.usual.map = session.map;
   return {
     session, kept, program: wanted.program, board: wanted.board, stopsOnEntry: flagOf(args, "stopOnEntry", true),
-    isDebugged: fieldOf(args, "noDebug") !== true, nameOf: (name) => host.nameOf(name, textOrNone(args, "cwd")),
+    isDebugged: fieldOf(args, "noDebug") !== true, isRealTime: flagOf(args, "realTime", false),
+    nameOf: (name) => host.nameOf(name, textOrNone(args, "cwd")),
   };
 }

@@ -2,6 +2,7 @@
 // is told once it stops.
 
 import { Cancelled } from "../bench/faults.js";
+import { CYCLE_TIME } from "../time/cycles.js";
 import { Shown } from "./shown.js";
 import { fail, wordsOf } from "./protocol.js";
 
@@ -17,7 +18,7 @@ import { fail, wordsOf } from "./protocol.js";
  * @typedef {{ reason: string, words: string, id: number }} Ended
  *
  * @typedef {{ stopped: (ended: Ended) => void, output: (words: string, category: "console" | "stdout" | "stderr") => void,
- *   pause: () => Promise<void> }} MachineCalls `pause` lets others have their turn
+ *   pause: () => Promise<void>, looked: () => void }} MachineCalls `pause` lets others have their turn; what is shown may be another now
  */
 
 /** @type {Record<string, string>} what the protocol calls why a run stopped */
@@ -30,14 +31,21 @@ const REACHED = { stop: "pause", arrival: "arrival" };
 const MET = { break: "break", change: "watch", beginning: "beginning" };
 /** What is shown is looked at so many milliseconds after it was last. */
 const LOOK_TIME = 100;
+/** In real time so many cycles are done at once: a sixtieth of a second. */
+const REAL_PIECE = 1543;
 
 export class Machine {
   /**
    * @param {DebugSession} session
    * @param {KeptSession | null} kept what writes it to its file
    * @param {MachineCalls} calls
+   * @param {boolean} [isRealTime] whether time runs as slowly as on a real 4004
    */
-  constructor(session, kept, calls) {
+  constructor(session, kept, calls, isRealTime = false) {
+    this.isRealTime = isRealTime;
+    if (isRealTime) session.largestPiece = REAL_PIECE;
+    /** When the move began. */
+    this.begun = 0;
     this.session = session;
     this.kept = kept;
     this.calls = calls;
@@ -58,7 +66,8 @@ export class Machine {
 
   /** @param {Goal | null} goal null: on to a stop */
   go(goal) {
-    this.begin(() => this.session.go(goal, (_, tally) => this.between(tally)), () => goal === null || this.session.debugger.isMoving);
+    const runs = () => goal === null || this.session.debugger.isMoving;
+    this.begin(() => this.session.go(goal, (done, tally) => this.between(tally, done)), runs);
   }
 
   into() {
@@ -93,6 +102,7 @@ export class Machine {
     this.isToPause = false;
     this.isOpen = isOpen;
     this.noted = 0;
+    this.begun = performance.now();
     this.move = this.run(act);
   }
 
@@ -135,13 +145,25 @@ export class Machine {
   /**
    * Between two pieces of work.
    * @param {Tally} [tally] of the last piece
+   * @param {number} [done] cycles of time that runs
    */
-  async between(tally) {
+  async between(tally, done = 0) {
     if (tally) this.tellTally(tally, tally.noted);
     if (performance.now() - this.looked >= LOOK_TIME && this.isOpen()) this.tellShown();
+    if (this.isRealTime && tally) await this.waitFor(done);
     await this.calls.pause();
     if (this.isOpen()) await this.doWaiting();
     return !this.isToPause;
+  }
+
+  /**
+   * A real 4004 has done so many cycles, too.
+   * @param {number} cycles
+   */
+  async waitFor(cycles) {
+    this.calls.looked();
+    const left = cycles * CYCLE_TIME - (performance.now() - this.begun);
+    if (left > 0) await new Promise((settle) => { setTimeout(settle, left); });
   }
 
   pause() {
@@ -179,6 +201,7 @@ export class Machine {
     this.looked = performance.now();
     const words = this.shown.take();
     if (words) this.calls.output(`${words}\n`, "stdout");
+    this.calls.looked();
   }
 
   /**

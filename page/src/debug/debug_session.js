@@ -53,6 +53,8 @@ export class DebugSession {
     this.refused = [];
     this.boardText = board;
     this.program = program;
+    /** So many cycles of time that runs are done at once. */
+    this.largestPiece = LARGEST_PIECE;
     if (!file) {
       this.put(engine, own, "wire", sentText(board, "#"));
       this.put(engine, own, "asm", sentText(program, ";"));
@@ -153,7 +155,7 @@ export class DebugSession {
    */
   async runOn(goal, goesOn, most = Infinity) {
     const debug = this.debugger;
-    const piece = new PieceSize(FIRST_PIECE, 1, LARGEST_PIECE);
+    const piece = new PieceSize(Math.min(FIRST_PIECE, this.largestPiece), 1, this.largestPiece);
     /** @type {Tally} */
     let tally = NO_TALLY;
     for (let done = 0; ;) {

@@ -71,6 +71,7 @@ export class Prompt {
       },
       output: (words, category) => this.output(words, category),
       pause: () => this.turn(),
+      looked: () => {},
     });
   }
 

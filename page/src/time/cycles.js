@@ -2,6 +2,8 @@
 
 /** A 4004 takes so many microseconds for a cycle: eight periods of 1.35. */
 const MICROSECONDS = 10.8;
+/** The same in milliseconds. */
+export const CYCLE_TIME = MICROSECONDS / 1000;
 
 /**
  * What is kept beside a session: the cycles in all, those up to the last reset and up to the beginning of the last stretch of time, and

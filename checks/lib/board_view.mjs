@@ -1,0 +1,54 @@
+// The view of lamps and keys of the extension for Visual Studio Code, with stand-ins for the editor: `node board_view.mjs FOLDER`, FOLDER
+// that of the extension, unpacked from its .vsix. It is the extension's own module on the real debug adapter, which debugs the lock in real
+// time. Lines of standard input are JSON: { said } what the view's page says, { ask, args } a request to the adapter, { end }. Lines of
+// standard output: { html } of the view, { post } what its page is told, { asked, body } the answer to a request, { stopped }, { error }.
+import { createRequire } from "node:module";
+import { createInterface } from "node:readline";
+import { Client } from "./dap_client.mjs";
+
+const TOP = new URL("../..", import.meta.url).pathname;
+const [folder] = process.argv.slice(2);
+const { BoardView } = createRequire(import.meta.url)(`${folder}/board_view.js`);
+
+const say = (message) => process.stdout.write(`${JSON.stringify(message)}\n`);
+const listeners = {};
+const listening = (name) => (act) => {
+  listeners[name] = act;
+  return { dispose: () => {} };
+};
+const vscode = {
+  Uri: { file: (path) => ({ path }) },
+  window: { registerWebviewViewProvider: (_, provider) => listening("view")(provider), showErrorMessage: (error) => say({ error }) },
+  debug: {
+    onDidReceiveDebugSessionCustomEvent: listening("event"), onDidTerminateDebugSession: listening("end"),
+    registerDebugAdapterTrackerFactory: (_, factory) => listening("tracker")(factory),
+  },
+};
+new BoardView(vscode, folder).register();
+const webview = {
+  cspSource: "file:", asWebviewUri: ({ path }) => path.split("/").pop(),
+  postMessage: (post) => say({ post }), onDidReceiveMessage: listening("said"),
+};
+listeners.view.resolveWebviewView({ webview, onDidDispose: listening("closed") });
+say({ html: webview.html });
+
+const client = new Client(`${TOP}tools/dap`);
+const session = { customRequest: (command, args) => client.ask(command, args) };
+const tracker = listeners.tracker.createDebugAdapterTracker(session);
+client.check = (message) => {
+  tracker.onDidSendMessage(message);
+  if (message.event === "boardShown") listeners.event({ session, event: message.event, body: message.body });
+  if (message.event === "stopped") say({ stopped: message.body.reason });
+};
+const lock = { board: `${TOP}examples/lock/board.toml`, program: `${TOP}examples/lock/lock.asm` };
+await client.begin({ ...lock, realTime: true });
+
+for await (const line of createInterface({ input: process.stdin })) {
+  const { said, ask, args, end } = JSON.parse(line);
+  if (said) await listeners.said(said);
+  if (ask) say({ asked: ask, body: await client.ask(ask, args).catch(({ message }) => message) });
+  if (end) break;
+}
+await client.end();
+listeners.end(session);
+process.stdin.destroy();

@@ -1,0 +1,123 @@
+"""Tries the view of lamps and keys of the extension for Visual Studio Code: `python3 board_view.py FOLDER`, FOLDER that of the extension,
+unpacked from its .vsix. Its page is opened in Chromium with a stand-in for what the editor gives it (acquireVsCodeApi); what it says goes to
+the extension's own module, on the real debug adapter (board_view.mjs), and back. A line `ok WORDS` or `fault: WORDS` for each thing."""
+
+import json
+import pathlib
+import queue
+import subprocess
+import sys
+import tempfile
+import threading
+import time
+
+sys.dont_write_bytecode = True
+from web_driver import Chromium  # noqa: E402
+
+LIB = pathlib.Path(__file__).resolve().parent
+STUB = """window.said = [];
+window.acquireVsCodeApi = () => ({ postMessage: (message) => window.said.push(message) });
+window.broken = [];
+addEventListener("securitypolicyviolation", (event) => window.broken.push(event.violatedDirective));
+addEventListener("error", (event) => window.broken.push(event.message));
+"""
+TAKE = "return window.said.splice(0)"
+POST = "dispatchEvent(new MessageEvent('message', { data: arguments[0] }))"
+KEYS = "return [...document.querySelectorAll('#keys button')].map((each) => each.textContent).join(' ')"
+DOWN = "return [...document.querySelectorAll('#keys [aria-pressed=true]')].map((each) => each.textContent).join(' ')"
+LAMPS = "return [...document.querySelectorAll('.bulb')].map((each) => each.getAttribute('aria-label')).join('; ')"
+HIDDEN = "return [document.getElementById('front').hidden, document.getElementById('nothing').hidden]"
+WAIT = 60
+
+
+def verdict(found, wanted, what):
+    print(f"ok {what}" if found == wanted else f"fault: {what}: is {found!r}, has to be {wanted!r}")
+
+
+class Bridge:
+    """The page in the browser, and the extension in node: what one says is told to the other."""
+
+    def __init__(self, folder, browser):
+        self.browser = browser
+        self.child = subprocess.Popen(["node", LIB / "board_view.mjs", folder], stdin=subprocess.PIPE, stdout=subprocess.PIPE, text=True)
+        self.lines = queue.Queue()
+        threading.Thread(target=lambda: [self.lines.put(line) for line in self.child.stdout], daemon=True).start()
+        self.html = json.loads(self.lines.get(timeout=WAIT))["html"]
+        self.told = []
+
+    def send(self, **message):
+        self.child.stdin.write(json.dumps(message) + "\n")
+        self.child.stdin.flush()
+
+    def pump(self):
+        for said in self.browser.script(TAKE):
+            self.send(said=said)
+        while not self.lines.empty():
+            message = json.loads(self.lines.get())
+            if "post" in message:
+                self.browser.script(POST, message["post"])
+            else:
+                self.told.append(message)
+
+    def until(self, code, wanted, what):
+        """What a script answers comes to be this, while messages go to and fro."""
+        end = time.monotonic() + WAIT
+        found = None
+        while time.monotonic() < end:
+            self.pump()
+            found = self.browser.script(code)
+            if found == wanted:
+                break
+            time.sleep(0.02)
+        verdict(found, wanted, what)
+
+    def ask(self, name, **words):
+        self.send(ask=name, args=words)
+        end = time.monotonic() + WAIT
+        while time.monotonic() < end:
+            self.pump()
+            found = next((each for each in self.told if each.get("asked") == name), None)
+            if found:
+                self.told.remove(found)
+                return found.get("body")
+            time.sleep(0.02)
+        return None
+
+
+def main():
+    folder = pathlib.Path(sys.argv[1]).resolve()
+    with tempfile.TemporaryDirectory() as profile:
+        browser = Chromium(profile, profile, ["--window-size=500,800"])
+        try:
+            bridge = Bridge(folder, browser)
+            (folder / "stub.js").write_text(STUB)
+            page = folder / "opened.html"
+            page.write_text(bridge.html.replace('<link rel', '<script src="stub.js"></script>\n<link rel', 1))
+            browser.go(page.as_uri())
+            bridge.until(HIDDEN, [False, True], "the board stands there once a program is debugged")
+            verdict(browser.script(KEYS), "1 2 3 4 5 6 7 8 9 * 0 #", "its keys by their names")
+            bridge.until(LAMPS, "locked, dark; open, dark; alarm, dark", "its lamps")
+            browser.click("#keys button:nth-child(5)")
+            bridge.until(DOWN, "5", "while time stands a key stays down")
+            state = bridge.ask("evaluate", expression="state", context="repl")["result"]
+            verdict(" keys 1.1 " in state, True, "and is down in the machine")
+            browser.click("#keys button:nth-child(5)")
+            bridge.until(DOWN, "", "and goes up by another click")
+            bridge.ask("continue", threadId=1)
+            bridge.until(LAMPS, "locked, lit; open, dark; alarm, dark", "while time runs the lamps are lit")
+            browser.keys([*"4711#"])
+            bridge.until(LAMPS, "locked, dark; open, lit; alarm, dark", "the keyboard presses the keys: the lock is open")
+            if len(sys.argv) > 2:
+                pathlib.Path(sys.argv[2]).write_bytes(browser.picture())
+            bridge.until(LAMPS, "locked, lit; open, dark; alarm, dark", "and is locked again after a while")
+            bridge.ask("pause", threadId=1)
+            verdict(browser.script("return window.broken"), [], "nothing that its policy forbids, and no fault")
+            bridge.send(end=True)
+            bridge.until(HIDDEN, [True, False], "once nothing is debugged it says so")
+            bridge.child.wait(WAIT)
+            verdict([each for each in bridge.told if "error" in each], [], "no fault is shown")
+        finally:
+            browser.end()
+
+
+main()
