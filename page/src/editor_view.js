@@ -30,7 +30,8 @@ const pressing = new Pressing({
     return keyOfKeyboard(front.keys, event.key);
   },
 });
-const front = new FrontView((node, key) => pressing.listen(node, key));
+/** Lamps are shown as they are at the moments that are told. */
+const front = new FrontView((node, key) => pressing.listen(node, key), () => {});
 pressing.listenToKeyboard();
 button("test").addEventListener("click", () => tell(`test ${front.level === "1" ? 0 : 1}`, true));
 
