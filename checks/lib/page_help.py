@@ -13,6 +13,7 @@ LINES = "return document.getElementById('lines').value"
 DONE = "return document.getElementById('tour-told').textContent"
 TITLE = "return document.getElementById('tour-title').textContent"
 ROWS = "return document.querySelectorAll('#help-sections tbody tr').length"
+SHOW_IN_BOARD = "#chosen [aria-label='Show in Board']"
 HIGH = "return [...document.querySelectorAll('#wiring-picture .high')].length"
 SELECTED = "return document.querySelector('#board-editor .CodeMirror').CodeMirror.getSelection()"
 
@@ -63,11 +64,13 @@ def check_wiring(browser):
     verdict("and told in words", browser.text("#wiring-words"), re.compile("ROM 0 · 4001: line rom0.0, an (in|out)put, "))
     browser.script("document.querySelector('#wiring-picture .part.of-rom').focus()")
     browser.keys([ENTER])
-    comes(browser, "Enter on a part selects its lines in the board's text", SELECTED, re.compile(r"^\[\[rom\]\]\nchip = 0\n"))
+    browser.click(SHOW_IN_BOARD)
+    comes(browser, "a part that is chosen by Enter has its lines in the board's text", SELECTED, re.compile(r"^\[\[rom\]\]\nchip = 0\n"))
     browser.click("#wiring-tab")
     browser.script("document.querySelector('#wiring-picture .of-test').focus()")
     browser.keys([ENTER])
-    comes(browser, "and on the button at TEST its line", SELECTED, "# test: button WALK")
+    browser.click(SHOW_IN_BOARD)
+    comes(browser, "and the button at TEST its line", SELECTED, "# test: button WALK")
     browser.click("#wiring-tab")
     verdict("and the part where the caret stands is marked",
             browser.script("return document.querySelectorAll('#wiring-picture .marked').length") >= 1, True)

@@ -5,7 +5,6 @@ import { CellEditor } from "./machine/cell_editor.js";
 import { Changes } from "./machine/changes.js";
 import { Cell, Switch, block, button } from "./ui/dom.js";
 import { Face } from "./board/face.js";
-import { lampColours, lampNames } from "./board/face_board.js";
 import { FrontView } from "./board/front_view.js";
 import { GoToView } from "./machine/go_to_view.js";
 import { ListingView } from "./machine/listing_view.js";
@@ -114,8 +113,7 @@ export class LookView {
     this.front.draw(this.board, face);
     this.ram.draw(this.board);
     this.ports.draw(this.board, face);
-    const count = this.board.lamps.length;
-    this.wiring.draw(this.board, { names: lampNames(face, count), colours: lampColours(face, count), test: face.test });
+    this.wiring.forget();
     this.forgetRom();
   }
 

@@ -136,6 +136,7 @@ async function start(words, notice, { examples, manual }) {
   const bench = makeBench();
   const [store] = await Promise.all([openStore(locks.areThere), bench.start()]);
   const page = new Page({ bench, makeBench, store, locks, words, notice, examples, manual });
+  bench.listener = page.listener();
   if (!store.keeps) notice.show(NO_STORE, "store");
   new Guide(page, manual);
   page.pressing.listenToKeyboard();

@@ -3,6 +3,7 @@
 import { AskView } from "./ui/ask_view.js";
 import { Face } from "./board/face.js";
 import { exploreOf } from "./explore/explore_of_page.js";
+import { DrawingOfPage } from "./drawing/drawing_of_page.js";
 import { lampNames } from "./board/face_board.js";
 import { cellWords } from "./help/manual.js";
 import { BreakpointsOfPage } from "./machine/breakpoints_of_page.js";
@@ -78,8 +79,8 @@ export class Page {
     this.export = exportOf(this);
     this.sessionsController = sessionsControllerOf(this, parts);
     this.sharing = sharingOf(this);
+    this.drawing = new DrawingOfPage(this);
     this.scope = scopeOf(this);
-    bench.listener = this.listener();
   }
 
   get boardEditor() {
@@ -98,7 +99,10 @@ export class Page {
     return this.sessionsController.view;
   }
 
-  /** @returns {import("./bench/bench.js").Listener} */
+  /**
+   * What the bench tells by itself.
+   * @returns {import("./bench/bench.js").Listener}
+   */
   listener() {
     return {
       frame: (frame) => this.running.ran(frame),
@@ -135,6 +139,7 @@ export class Page {
     this.heat.clear();
     this.watched.open(record.watched);
     this.texts.show(record);
+    this.drawing.begin();
     this.explore.begin(record.id);
     this.source.forget();
     this.log.clear();
@@ -157,6 +162,7 @@ export class Page {
     this.history.showFuture(future);
     if (board) {
       this.lookView.draw(board, this.boardEditor.text);
+      this.drawing.wired(board);
       this.history.draw(this.lookView.board, lampNames(new Face(this.boardEditor.text), this.lookView.board.lamps.length));
       this.editors.look(board.length === 1);
       nameCharacters(this);

@@ -147,6 +147,7 @@ export function editorsOf(page, manual) {
     edited: (edits) => {
       page.breakpoints.keeper.edited(edits);
       page.texts.edited();
+      page.drawing.edited();
     },
     assembled: (isBegun) => page.breakpoints.assembled(isBegun),
     act: (lines) => page.serving.act(lines),

@@ -5,7 +5,9 @@
  * @typedef {import("./face.js").TestPin} TestPin
  *
  * A pin of a part. `line` is the line of the board that it is at, as the board's text names it ("" for the TEST pin); a lamp has a colour.
- * @typedef {{ line: string, label: string, colour?: string, x: number, y: number }} Pin
+ * Its own name is that line where the part drives it or reads it, else what it is: `clock 0`, `data 0`, `row 1`, `column 2`, `lamp 3`.
+ * @typedef {{ id: string, line: string, label: string, colour?: string, x: number, y: number }} Pin
+ * @typedef {Omit<Pin, "x" | "y">} PinToPut
  *
  * A part: its name in the text (`rom 1`, `ram 0.2`, `chain 0`, `keys`, `lamps`, `test`, `processor`), what it is called, and where it
  * stands.
@@ -19,12 +21,19 @@
  * What a face tells: what the lamps are called, "" for one without a name, their colours, "" for one that has none of its own, and what
  * is at the TEST pin.
  * @typedef {{ names: string[], colours: string[], test: TestPin | null }} Appearance
+ *
+ * @typedef {{ x: number, y: number }} Place
+ *
+ * Where parts stand that were dragged, by their names.
+ * @typedef {Map<string, Place>} Moved
  */
 
 export const PIN_STEP = 18;
 export const HEAD = 26;
 const GAP = 14;
 const EDGE = 10;
+/** So many bits of a chain that nothing uses are drawn, to be wired. */
+const FREE_BITS = 6;
 /** The columns of parts: how wide their parts are, and how much room the wires have before them. */
 const COLUMNS = [
   { room: 0, width: 84 },
@@ -51,8 +60,8 @@ class Column {
   /**
    * Adds a part with pins at its left and its right side.
    * @param {Pick<Part, "id" | "kind" | "title" | "says">} part
-   * @param {{ line: string, label: string, colour?: string }[]} left
-   * @param {{ line: string, label: string }[]} right
+   * @param {PinToPut[]} left
+   * @param {PinToPut[]} right
    * @returns {Part}
    */
   add(part, left, right) {
@@ -60,7 +69,7 @@ class Column {
     const y = this.bottom;
     const height = HEAD + Math.max(left.length, right.length, 1) * PIN_STEP;
     this.bottom += height + GAP;
-    /** @type {(pinX: number) => (pin: { line: string, label: string, colour?: string }, at: number) => Pin} */
+    /** @type {(pinX: number) => (pin: PinToPut, at: number) => Pin} */
     const put = (pinX) => (pin, at) => ({ ...pin, x: pinX, y: y + HEAD + at * PIN_STEP + PIN_STEP / 2 });
     return { ...part, x, y, width, height, pins: [...left.map(put(x)), ...right.map(put(x + width))] };
   }
@@ -126,7 +135,7 @@ class Uses {
  * @param {string} chip `rom1` or `ram0.2`
  */
 function linesOfPort(chip) {
-  return [0, 1, 2, 3].map((number) => ({ line: `${chip}.${number}`, label: String(number) }));
+  return [0, 1, 2, 3].map((number) => ({ id: `${chip}.${number}`, line: `${chip}.${number}`, label: String(number) }));
 }
 
 /**
@@ -136,7 +145,7 @@ function linesOfPort(chip) {
 function drawProcessor(column, test) {
   const says = ["it reads the ROMs' bytes and ports, writes the ports, and reads and writes RAM",
     test ? `its input TEST is at the ${test.kind} ${nameOf(test)}` : "TEST is its own input"];
-  return column.add({ id: "processor", kind: "processor", title: "4004", says }, [], [{ line: "", label: "TEST" }]);
+  return column.add({ id: "processor", kind: "processor", title: "4004", says }, [], [{ id: "TEST", line: "", label: "TEST" }]);
 }
 
 /** @param {TestPin} test */
@@ -153,7 +162,7 @@ function drawTest(column, test) {
   const name = nameOf(test);
   const title = name.length > LONGEST_NAME ? `${name.slice(0, LONGEST_NAME - 1)}…` : name;
   const says = [`the ${test.kind} ${name} puts TEST to ${test.level} while it is pressed`];
-  return column.add({ id: "test", kind: "test", title, says }, [], [{ line: "", label: test.kind }]);
+  return column.add({ id: "test", kind: "test", title, says }, [], [{ id: "test", line: "", label: test.kind }]);
 }
 
 /**
@@ -180,18 +189,20 @@ function drawRam(column, bank, chip, uses) {
 }
 
 /**
- * A chain with the bits that something uses.
+ * A chain with the bits that something uses, and some of the others.
  * @param {Column} column
  * @param {Board["chains"][number]} chain
  * @param {number} at
  * @param {Uses} uses
  */
 function drawChain(column, { clock, data, chips }, at, uses) {
-  const bits = Array.from({ length: chips * 10 }, (_, bit) => ({ line: `chain${at}.${bit}`, label: `bit ${bit}` }));
+  const bits = Array.from({ length: chips * 10 }, (_, bit) => (
+    { id: `chain${at}.${bit}`, line: `chain${at}.${bit}`, label: `bit ${bit}` }));
   const used = bits.filter(({ line }) => uses.of(line).length > 0).sort((one, other) => uses.placeOf(one.line) - uses.placeOf(other.line));
+  const free = bits.filter(({ line }) => uses.of(line).length === 0).slice(0, FREE_BITS);
   const says = [`its clock is ${clock}`, `its data is ${data}`, ...used.map(({ line, label }) => uses.say(label, line))];
-  const inputs = [{ line: clock, label: "clock" }, { line: data, label: "data" }];
-  return column.add({ id: `chain ${at}`, kind: "chain", title: `Chain ${at} · ${chips} × 4003`, says }, inputs, used);
+  const inputs = [{ id: `clock ${at}`, line: clock, label: "clock" }, { id: `data ${at}`, line: data, label: "data" }];
+  return column.add({ id: `chain ${at}`, kind: "chain", title: `Chain ${at} · ${chips} × 4003`, says }, inputs, [...used, ...free]);
 }
 
 /**
@@ -199,8 +210,9 @@ function drawChain(column, { clock, data, chips }, at, uses) {
  * @param {NonNullable<Board["matrix"]>} matrix
  */
 function drawKeys(column, { chain, first, rows, columns }) {
-  const rowPins = Array.from({ length: rows }, (_, row) => ({ line: `chain${chain}.${first + row}`, label: `row ${row}` }));
-  const columnPins = columns.map((line, at) => ({ line, label: `column ${at}` }));
+  const rowPins = Array.from({ length: rows }, (_, row) => (
+    { id: `row ${row}`, line: `chain${chain}.${first + row}`, label: `row ${row}` }));
+  const columnPins = columns.map((line, at) => ({ id: `column ${at}`, line, label: `column ${at}` }));
   const says = [...rowPins.map(({ line, label }) => `${label} is driven by ${line}`), ...columnPins.map(({ line, label }) => (
     `${label} is read at ${line}`))];
   return column.add({ id: "keys", kind: "keys", title: `Keys · ${rows} × ${columns.length}`, says }, [...rowPins, ...columnPins], []);
@@ -212,7 +224,7 @@ function drawKeys(column, { chain, first, rows, columns }) {
  * @param {Appearance} look
  */
 function drawLamps(column, lamps, { names, colours }) {
-  const pins = lamps.map((line, at) => ({ line, label: names[at] || `lamp ${at}`, colour: colours[at] || "red" }));
+  const pins = lamps.map((line, at) => ({ id: `lamp ${at}`, line, label: names[at] || `lamp ${at}`, colour: colours[at] || "red" }));
   const says = pins.map(({ line, label }) => `${label} is at ${line}`);
   return column.add({ id: "lamps", kind: "lamps", title: `Lamps · ${lamps.length}`, says }, pins, []);
 }
@@ -227,7 +239,7 @@ function wiresOf(parts) {
   for (const part of parts) {
     if (part.id === "test") sources.set("", part.pins[0]);
     const owner = part.id.replace(" ", "");
-    for (const pin of part.pins) if (pin.line.startsWith(`${owner}.`)) sources.set(pin.line, pin);
+    for (const pin of part.pins) if (pin.line !== "" && pin.id === pin.line && pin.line.startsWith(`${owner}.`)) sources.set(pin.line, pin);
   }
   /** @type {Wire[]} */
   const wires = [];
@@ -254,12 +266,28 @@ function columnsOf(areUsed) {
 }
 
 /**
+ * Puts parts where they were dragged to; their pins go with them.
+ * @param {Part[]} parts
+ * @param {Moved} moved
+ */
+function moveParts(parts, moved) {
+  for (const part of parts) {
+    const place = moved.get(part.id);
+    if (!place) continue;
+    const [right, down] = [place.x - part.x, place.y - part.y];
+    Object.assign(part, place);
+    for (const pin of part.pins) Object.assign(pin, { x: pin.x + right, y: pin.y + down });
+  }
+}
+
+/**
  * The drawing of a board.
  * @param {Board} board
  * @param {Appearance} look
+ * @param {Moved} [moved]
  * @returns {Picture}
  */
-export function drawBoard(board, look = { names: [], colours: [], test: null }) {
+export function drawBoard(board, look = { names: [], colours: [], test: null }, moved = new Map()) {
   const uses = new Uses(board);
   const hasChips = board.roms.length + board.banks.length > 0;
   const hasFront = board.matrix !== null || board.lamps.length > 0;
@@ -274,8 +302,10 @@ export function drawBoard(board, look = { names: [], colours: [], test: null }) 
   board.chains.forEach((chain, at) => parts.push(drawChain(third, chain, at, uses)));
   if (board.matrix) parts.push(drawKeys(fourth, board.matrix));
   if (board.lamps.length > 0) parts.push(drawLamps(fourth, board.lamps, look));
+  moveParts(parts, moved);
   const width = Math.max(...parts.map((part) => part.x + part.width)) + EDGE;
-  return { parts, wires: wiresOf(parts), width, height: Math.max(...columns.map(({ bottom }) => bottom)) };
+  const height = Math.max(...parts.map((part) => part.y + part.height)) + GAP;
+  return { parts, wires: wiresOf(parts), width, height };
 }
 
 /**

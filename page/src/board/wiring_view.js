@@ -17,8 +17,10 @@ import { HEAD, drawBoard, isHigh, isHighAtRom } from "./wiring.js";
 
 /** How far a wire between parts of one column goes out. */
 const OUT = 12;
+/** How far from a pin it is still the pin that is pointed at. */
+const REACH = 9;
 
-/** @param {Wire} wire */
+/** @param {Pick<Wire, "from" | "to">} wire */
 function pathOf({ from, to }) {
   if (from.x === to.x) return `M${from.x} ${from.y}C${from.x + OUT} ${from.y} ${to.x + OUT} ${to.y} ${to.x} ${to.y}`;
   const bend = Math.max(30, Math.abs(to.x - from.x) / 2);
@@ -27,14 +29,16 @@ function pathOf({ from, to }) {
 
 export class WiringView {
   constructor() {
-    /** @type {(name: string) => void} a part, or a lamp, was chosen: `rom 1`, `ram 0`, `chain 0`, `keys`, `lamp 3`, `test` */
-    this.select = () => {};
     this.root = block("wiring-picture");
     this.words = block("wiring-words");
     /** @type {Map<string, Switch>} whether a line is at 1, by its name; the pin TEST is "" */
     this.levels = new Map();
-    /** @type {Map<string, SVGElement>} */
+    /** @type {Map<string, SVGElement>} parts and pins by their names, in the order in which they are drawn */
+    this.items = new Map();
+    /** @type {Map<string, Part>} */
     this.parts = new Map();
+    /** @type {WeakMap<Element, string>} the part or the pin that an element is drawn for */
+    this.names = new WeakMap();
     /** @type {{ mask: string, levels: Levels }[]} the lines of each ROM, with its port in the board's text */
     this.roms = [];
     /** @type {Levels[]} */
@@ -42,6 +46,8 @@ export class WiringView {
     /** @type {Map<string, Levels>} the lines of each RAM chip, by `bank.chip` */
     this.rams = new Map();
     this.marked = "";
+    /** The part or the pin that the Tab key comes to. */
+    this.stop = "";
     /** Levels are shown while the picture is in front; what was told last is shown when it comes there. */
     this.isShown = false;
     /** @type {Ports | null} */
@@ -49,12 +55,24 @@ export class WiringView {
     /** @type {Map<string, string>} */
     this.ramPorts = new Map();
     this.isTestHigh = false;
+    /** Whether a part is being dragged: until it is dropped the picture has the size that it had. */
+    this.isHeld = false;
+    /** What the picture shows of its plane. */
+    this.viewBox = "";
+    /** A wire that is being drawn. */
+    this.pencil = drawn("path", { class: "wire pencil" });
   }
 
   /** @param {boolean} isShown whether the picture is in front */
   setShown(isShown) {
     this.isShown = isShown;
     if (isShown) this.showLevels();
+  }
+
+  /** Another board is wired: what was told of the one before is not of it. */
+  forget() {
+    this.ports = null;
+    this.ramPorts.clear();
   }
 
   showLevels() {
@@ -71,30 +89,40 @@ export class WiringView {
    * Draws another board.
    * @param {Board} board
    * @param {import("./wiring.js").Appearance} look
+   * @param {{ moved: import("./wiring.js").Moved, isWired: boolean }} how what was dragged stands where; and whether this board is the one
+   *   that is wired, so that its lines have levels
    */
-  draw(board, look) {
-    const { parts, wires, width, height } = drawBoard(board, look);
-    this.parts.clear();
+  draw(board, look, { moved, isWired }) {
+    const { parts, wires, width, height } = drawBoard(board, look, moved);
+    const focused = document.activeElement instanceof Element ? this.nameAt(document.activeElement) : "";
+    this.items.clear();
     this.levels.clear();
-    this.ports = null;
-    this.ramPorts.clear();
+    this.parts = new Map(parts.map((part) => [part.id, part]));
     /** @type {Map<string, SVGElement[]>} */
     const nodes = new Map();
-    const wireNodes = wires.map((wire) => this.drawWire(wire, nodes));
+    const wireNodes = wires.flatMap((wire) => this.drawWire(wire, nodes));
     const partNodes = parts.map((part) => this.drawPart(part, nodes));
     for (const [line, some] of nodes) {
       this.levels.set(line, new Switch((isOn) => some.forEach((node) => node.classList.toggle("high", isOn))));
     }
-    this.groupLevels(board);
-    const picture = drawn("svg", { viewBox: `0 0 ${width} ${height}`, role: "group", "aria-label": "The board's parts and wires" });
-    picture.append(...wireNodes, ...partNodes);
+    this.groupLevels(isWired ? board : null);
+    if (!this.isHeld) {
+      this.viewBox = `0 0 ${width} ${height}`;
+      this.root.style.setProperty("--picture-width", `${width}px`);
+    }
+    const picture = drawn("svg", { viewBox: this.viewBox, role: "group", "aria-label": "The board's parts and wires" });
+    picture.append(...wireNodes, ...partNodes, this.pencil);
     this.root.replaceChildren(picture);
     this.words.replaceChildren(...parts.map(({ title, says }) => element("li", {}, `${title}: ${says.join("; ")}.`)));
-    this.makeOneStop([...this.parts.values()]);
+    this.setStop(this.items.has(focused) ? focused : this.stop);
+    if (focused) this.focus(this.stop);
+    this.showMark();
+    if (this.isShown) this.showLevels();
   }
 
-  /** @param {Board} board */
-  groupLevels({ roms, chains, banks }) {
+  /** @param {Board | null} board null where it is not wired */
+  groupLevels(board) {
+    const { roms, chains, banks } = board || { roms: [], chains: [], banks: [] };
     /** @type {(owner: string, count: number) => Levels} */
     const levelsOf = (owner, count) => upTo(count).map((line) => this.levels.get(`${owner}.${line}`));
     this.roms = roms.map(({ chip, port }) => ({ mask: port, levels: levelsOf(`rom${chip}`, 4) }));
@@ -104,13 +132,16 @@ export class WiringView {
   }
 
   /**
+   * A wire, and around it what is pointed at for it.
    * @param {Wire} wire
    * @param {Map<string, SVGElement[]>} nodes
    */
   drawWire(wire, nodes) {
     const path = drawn("path", { class: "wire", d: pathOf(wire) });
+    const reach = drawn("path", { class: "reach", d: pathOf(wire) });
+    this.names.set(reach, wire.to.id);
     nodes.set(wire.line, [...(nodes.get(wire.line) || []), path]);
-    return path;
+    return [path, reach];
   }
 
   /**
@@ -120,19 +151,20 @@ export class WiringView {
   drawPart(part, nodes) {
     const { id, kind, title, x, y, width, height, says } = part;
     const words = `${title}: ${says.join("; ")}`;
-    const group = drawn("g", { class: `part of-${kind}`, role: "button", tabindex: -1, "aria-label": words });
+    const box = drawn("g", { class: `part of-${kind}`, role: "button", tabindex: -1, "aria-label": words });
     const head = drawn("text", { class: "title", x: x + width / 2, y: y + HEAD - 9 }, title);
-    group.append(drawn("rect", { x, y, width, height, rx: 4 }), head);
-    for (const pin of part.pins) group.append(this.drawPin(part, pin, nodes));
-    const [name] = id === "lamps" ? ["lamp 0"] : id.split(".");
-    group.addEventListener("click", () => this.select(name));
-    group.addEventListener("keydown", (event) => {
-      if (event.key !== "Enter" && event.key !== " ") return;
-      event.preventDefault();
-      this.select(name);
-    });
-    this.parts.set(id, group);
-    return group;
+    box.append(drawn("rect", { x, y, width, height, rx: 4 }), head);
+    this.name(box, id);
+    return drawn("g", {}, box, ...part.pins.map((pin) => this.drawPin(part, pin, nodes)));
+  }
+
+  /**
+   * @param {SVGElement} node
+   * @param {string} name of a part or a pin
+   */
+  name(node, name) {
+    this.items.set(name, node);
+    this.names.set(node, name);
   }
 
   /**
@@ -144,38 +176,89 @@ export class WiringView {
   drawPin(part, pin, nodes) {
     const isLeft = pin.x === part.x;
     const isLamp = part.kind === "lamps";
-    const dot = drawn("circle", { class: isLamp ? `lamp ${pin.colour}` : "pin", cx: pin.x, cy: pin.y, r: isLamp ? 6 : 4 });
+    const place = { cx: pin.x, cy: pin.y };
+    const dot = drawn("circle", { class: isLamp ? `lamp ${pin.colour}` : "pin", ...place, r: isLamp ? 6 : 4 });
     const side = isLeft ? "at-left" : "at-right";
     const label = drawn("text", { class: side, x: pin.x + (isLeft ? 10 : -10), y: pin.y + 4 }, pin.label);
     nodes.set(pin.line, [...(nodes.get(pin.line) || []), dot]);
-    // The name of the part says where each of its lines goes.
-    const node = drawn("g", { "aria-hidden": "true" }, drawn("title", {}, pin.line || "the TEST pin"), dot, label);
-    if (isLamp) {
-      const number = part.pins.indexOf(pin);
-      node.addEventListener("click", (event) => {
-        event.stopPropagation();
-        this.select(`lamp ${number}`);
-      });
-    }
+    const reach = drawn("circle", { class: "reach", ...place, r: REACH });
+    const words = `${part.title}, ${pin.label}${pin.line && pin.id !== pin.line ? `, at ${pin.line}` : ""}`;
+    const node = drawn("g", { "class": "at-pin", "role": "button", "tabindex": -1, "aria-label": words },
+      drawn("title", {}, pin.line || "the TEST pin"), dot, label, reach);
+    this.name(node, pin.id);
     return node;
   }
 
   /**
-   * The parts are one stop of the Tab key; arrows go from one part to the next.
-   * @param {SVGElement[]} parts
+   * The part or the pin that an element is drawn for; "" for none.
+   * @param {Element | null} node
    */
-  makeOneStop(parts) {
-    if (parts.length > 0) parts[0].setAttribute("tabindex", "0");
-    /** @type {Record<string, number>} */
-    const step = { ArrowLeft: -1, ArrowUp: -1, ArrowRight: 1, ArrowDown: 1 };
-    parts.forEach((part, at) => part.addEventListener("keydown", (event) => {
-      const next = event.key in step ? parts[at + step[event.key]] : undefined;
-      if (!next) return;
-      event.preventDefault();
-      part.setAttribute("tabindex", "-1");
-      next.setAttribute("tabindex", "0");
-      next.focus();
-    }));
+  nameAt(node) {
+    for (let each = node; each && each !== this.root; each = each.parentElement) {
+      const name = this.names.get(each);
+      if (name !== undefined) return name;
+    }
+    return "";
+  }
+
+  /**
+   * All items are one stop of the Tab key.
+   * @param {string} name
+   */
+  setStop(name) {
+    const old = this.items.get(this.stop);
+    if (old) old.setAttribute("tabindex", "-1");
+    const [first = ""] = this.items.keys();
+    this.stop = this.items.has(name) ? name : first;
+    const node = this.items.get(this.stop);
+    if (node) node.setAttribute("tabindex", "0");
+  }
+
+  /** @param {string} name of a part or a pin */
+  focus(name) {
+    const node = this.items.get(name);
+    if (!node) return;
+    this.setStop(name);
+    node.focus();
+  }
+
+  /**
+   * What is chosen, the pin that a wire begins at, and those where it can end.
+   * @param {string} chosen
+   * @param {string} begun
+   * @param {Set<string>} ends
+   */
+  showChoice(chosen, begun, ends) {
+    for (const [name, node] of this.items) {
+      node.classList.toggle("chosen", name === chosen);
+      node.classList.toggle("begun", begun !== "" && name === begun);
+      node.classList.toggle("can-end", ends.has(name));
+    }
+    this.root.classList.toggle("wiring-on", begun !== "");
+    if (chosen) this.setStop(chosen);
+    if (begun === "") this.drawPencil("", null);
+  }
+
+  /**
+   * The wire that is being drawn, from a pin to where the pointer is.
+   * @param {string} name of the pin, "" for no wire
+   * @param {import("./wiring.js").Place | null} to
+   */
+  drawPencil(name, to) {
+    const pin = [...this.parts.values()].flatMap(({ pins }) => pins).find(({ id }) => id === name);
+    this.pencil.setAttribute("d", pin && to ? pathOf({ from: pin, to: { ...pin, ...to } }) : "");
+  }
+
+  /**
+   * A place on the screen as one of the picture.
+   * @param {{ clientX: number, clientY: number }} event
+   */
+  placeOf({ clientX, clientY }) {
+    const picture = this.root.querySelector("svg");
+    const matrix = picture && picture.getScreenCTM();
+    if (!matrix) return { x: 0, y: 0 };
+    const { x, y } = new DOMPoint(clientX, clientY).matrixTransform(matrix.inverse());
+    return { x, y };
   }
 
   /**
@@ -185,8 +268,15 @@ export class WiringView {
   mark(name) {
     if (name === this.marked) return;
     this.marked = name;
-    const id = name.startsWith("lamp ") ? "lamps" : name;
-    for (const [own, node] of this.parts) node.classList.toggle("marked", id !== "" && (own === id || own.startsWith(`${id}.`)));
+    this.showMark();
+  }
+
+  showMark() {
+    const id = this.marked.startsWith("lamp ") ? "lamps" : this.marked;
+    for (const own of this.parts.keys()) {
+      const node = this.items.get(own);
+      if (node) node.classList.toggle("marked", id !== "" && (own === id || own.startsWith(`${id}.`)));
+    }
   }
 
   /** @param {Ports} ports */

@@ -167,6 +167,17 @@ function mark(board, gone, part) {
   else if (kind === "keys") gone.keys = true;
   else if (kind === "lamps") board.lamps.forEach((_, at) => gone.lamps.add(at));
   else if (kind === "ram") markRam(board, gone, part.slice(4));
+  else throw new ActRefusal(whyItStays(part));
+}
+
+/**
+ * What is no part of its own.
+ * @param {string} part
+ */
+function whyItStays(part) {
+  if (part === "processor" || part === "TEST") return "The processor is on each board.";
+  if (/^(clock|data)/.test(part)) return "A chain has a clock and its data: wire it to another line, or delete the chain.";
+  return "A line goes with its chip alone.";
 }
 
 /**

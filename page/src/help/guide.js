@@ -32,7 +32,7 @@ export class Guide {
     page.layout.tabs.whenShown("wiring", () => page.lookView.wiring.setShown(true));
     for (const name of ["program", "board"]) page.layout.tabs.whenShown(name, () => page.lookView.wiring.setShown(false));
     page.lookView.wiring.setShown(page.layout.tabs.shown === "wiring");
-    page.lookView.wiring.select = (name) => this.selectPart(name);
+    page.drawing.foundInText = (name) => this.selectPart(name);
     page.boardEditor.editor.caret = (line) => page.lookView.wiring.mark(partAtLine(this.places, line));
     addEventListener("keydown", (event) => this.typed(event));
   }

@@ -173,6 +173,27 @@ export class TextEditor {
   }
 
   /**
+   * Edits that are told one after the other, as one step that can be undone.
+   * @param {import("../drawing/text_edits.js").TextEdit[]} edits
+   */
+  edit(edits) {
+    const { editor } = this;
+    editor.operation(() => {
+      for (const { from, to, insert } of edits) editor.replaceRange(insert, editor.posFromIndex(from), editor.posFromIndex(to), "draw");
+    });
+  }
+
+  /**
+   * The last step is undone, or done again; false where there is none.
+   * @param {"undo" | "redo"} which
+   */
+  step(which) {
+    if (this.editor.historySize()[which] === 0) return false;
+    this.editor[which]();
+    return true;
+  }
+
+  /**
    * Selects whole lines, and brings them into view.
    * @param {{ from: number, to: number }} lines
    */

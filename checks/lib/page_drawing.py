@@ -1,0 +1,255 @@
+"""Boards that are drawn in a browser: by mouse alone, by the keyboard alone and by fingers, from an empty bench to four keys, four lamps and a
+running program; each act is an edit of the board's text, which is undone as any other."""
+
+import re
+import time
+
+from page_in_browser import ENTER, ESCAPE, PUT_INTO_EDITOR, STATUS, TAB, TEXT_OF_EDITOR, choose_example, focused, show_text, until_ready
+from verdicts import comes, verdict
+
+CONTROL, SHIFT, DELETE, LEFT, UP, RIGHT, DOWN = "\ue009", "\ue008", "\ue017", "\ue012", "\ue013", "\ue014", "\ue015"
+BOARD = "#board-editor"
+SAID = "return document.getElementById('drawing-told').textContent"
+STATE = "return document.getElementById('drawing-state').textContent"
+BULBS = "return [...document.querySelectorAll('#front .bulb')].map((bulb) => (bulb.classList.contains('lit') ? '*' : '.')).join('')"
+KEYS = "return document.querySelectorAll('#keys .key').length"
+HIGH = "return document.querySelectorAll('#wiring-picture .high').length"
+FOCUS = "return document.activeElement.getAttribute('aria-label')"
+TITLE = "return document.querySelector('#chosen > b').textContent"
+OFFERED = "return [...document.querySelectorAll('#wiring-picture .can-end')].map((each) => each.getAttribute('aria-label'))"
+DISABLED = "return [...document.querySelectorAll('#shelf button:disabled')].map((each) => `${each.textContent}: ${each.title}`)"
+PLACE_OF_KEYS = """
+const box = document.querySelector("#wiring-picture .of-keys rect");
+return [box.getAttribute("x"), box.getAttribute("y")].map(Number)"""
+MIDDLE = "const box = document.querySelector(arguments[0]).getBoundingClientRect(); return [box.x + box.width / 2, box.y + box.height / 2]"
+# What is drawn in the picture, beside what is written in the text.
+LINES = "return [...document.querySelectorAll('#wiring-words li')].map((each) => each.textContent).join(' ')"
+# It shows on the lamps which keys are down.
+PROGRAM = """        FIM P0, 0x00    ; ROM 0 and RAM chip 0
+        FIM P1, 0x10    ; ROM 1
+        SRC P0
+        LDM 3           ; data and clock up:
+        WRR             ; bit 0 of the chain drives the row of the keys
+read:   SRC P1
+        RDR
+        SRC P0
+        WMP
+        JUN read
+"""
+DRAWN = """[[rom]]
+chip = 0
+port = "0000"
+
+[[rom]]
+chip = 1
+port = "iiii"
+
+[[chain]]
+clock = "rom0.0"
+data = "rom0.1"
+chips = 1
+
+[keys]
+chain = 0
+first = 0
+rows = 1
+columns = ["rom1.0", "rom1.1", "rom1.2", "rom1.3"]
+
+[[ram]]
+bank = 0
+chips = 1
+
+[[lamp]]
+line = "ram0.0.0"
+
+[[lamp]]
+line = "ram0.0.1"
+
+[[lamp]]
+line = "ram0.0.2"
+
+[[lamp]]
+line = "ram0.0.3"
+"""
+
+
+def pin(label):
+    """The pin of the picture whose label begins so."""
+    return f"#wiring-picture .at-pin[aria-label^='{label}']"
+
+
+def text_of(browser):
+    return browser.script(TEXT_OF_EDITOR, BOARD)
+
+
+def drag(browser, one, other, kind="mouse"):
+    """From the middle of one element to that of another, or by so many pixels."""
+    browser.show("#wiring-picture")
+    time.sleep(browser.settles)
+    begin = browser.script(MIDDLE, one)
+    end = browser.script(MIDDLE, other) if isinstance(other, str) else [begin[0] + other[0], begin[1] + other[1]]
+    places = [[round(begin[each] + part * (end[each] - begin[each])) for each in (0, 1)] for part in (0, 0.5, 1)]
+    first, *way = [{"type": "pointerMove", "duration": 80, "x": x, "y": y} for x, y in places]
+    browser.actions({"type": "pointer", "id": f"drawing {kind}", "parameters": {"pointerType": kind}, "actions": [
+        first, {"type": "pointerDown", "button": 0}, *way, {"type": "pointerUp", "button": 0}]})
+
+
+def press(browser, selector):
+    """A click at the middle of an element; a driver's own would ask for the one that lies above all others there."""
+    drag(browser, selector, (0, 0))
+
+
+def check_by_mouse(browser):
+    """From nothing to a program that runs, without a word of TOML."""
+    choose_example(browser, "empty bench")
+    browser.click("#first-drawing")
+    comes(browser, "an empty bench leads to the shelf", "return isShown(document.getElementById('shelf'))", True)
+    comes(browser, "and all of it is offered", DISABLED, [])
+    browser.click("#shelf-keys")
+    comes(browser, "keys come with what they need", SAID, "The keys were added, with ROM 0, chain 0 and ROM 1.")
+    for lamp in range(4):
+        browser.click("#shelf-lamp")
+        comes(browser, f"lamp {lamp} comes", SAID, re.compile(f"^Lamp {lamp} was added"))
+    verdict("the text is as one writes it", text_of(browser), DRAWN)
+    verdict("a second matrix is not offered, and says why", browser.script(DISABLED),
+            ["Keys: A board has one key matrix: give it more rows and columns."])
+    verdict("it is not wired yet, and says so", browser.script(STATE), re.compile("^Not wired yet"))
+    browser.type_into("#chosen [aria-label=name]", "fourth one" + ENTER)
+    comes(browser, "a lamp is named", SAID, "Lamp 3 is called fourth one.")
+    browser.type_into("#chosen [aria-label=colour]", "green")
+    comes(browser, "and coloured", SAID, "Lamp 3 is green.")
+    verdict("as the face has it", text_of(browser).split("\n")[:3], ["# lamp 3: fourth_one", "# colour 3: green", ""])
+    browser.click("#drawing-wire")
+    comes(browser, "it is wired", SAID, "The board is wired.")
+    comes(browser, "four keys", KEYS, 4)
+    comes(browser, "and four lamps", BULBS, "....")
+    verdict("which is said no more", browser.script(STATE), "")
+    show_text(browser, "program")
+    browser.script(PUT_INTO_EDITOR, "#program-editor", PROGRAM)
+    browser.click("#program-editor .send")
+    comes(browser, "the program runs", STATUS, re.compile("^Time runs"))
+    time.sleep(0.3)
+    browser.script("window.seen = new Set(); new MutationObserver(() => window.seen.add([...document.querySelectorAll('#front .bulb')]"
+                   ".map((bulb) => (bulb.classList.contains('lit') ? '*' : '.')).join(''))).observe(document.getElementById('lamps'),"
+                   " { subtree: true, attributes: true })")
+    browser.keys(["3"], 400)
+    comes(browser, "a key lights its lamp", "return [...window.seen].join(' ')", re.compile(r"\.\.\*\."))
+
+
+def check_wires(browser):
+    """Wires by dragging and by clicks, and what cannot be."""
+    choose_example(browser, "lock")
+    show_text(browser, "wiring")
+    before = text_of(browser)
+    comes(browser, "lines at 1 are coloured", "return document.querySelectorAll('#wiring-picture .high').length > 0", True)
+    drag(browser, f"{pin('ROM 0 · 4001, out 2')} circle", f"{pin('Lamps · 3, open')} circle")
+    comes(browser, "a wire is dragged from pin to pin", SAID, "Line rom0.2 is wired to lamp 1.")
+    verdict("it is one word of the text", text_of(browser), before.replace('"ram0.0.1"', '"rom0.2"'))
+    comes(browser, "the picture has it", LINES, re.compile("open is at rom0.2"))
+    verdict("levels of a board that is not wired are not shown", browser.script(HIGH) <= 1, True)
+    drag(browser, f"{pin('ROM 1 · 4001, in 0')} circle", f"{pin('Chain 0 · 1 × 4003, clock')} circle")
+    comes(browser, "one from an input to a clock is none", SAID, "No wire was drawn.")
+    press(browser, f"{pin('ROM 1 · 4001, in 0')} circle")
+    comes(browser, "nor is it offered", OFFERED, ["Keys · 4 × 3, column 1, at rom1.1", "Keys · 4 × 3, column 2, at rom1.2"])
+    press(browser, f"{pin('Keys · 4 × 3, column 2')} circle")
+    comes(browser, "a wire by one click after the other", SAID, "Line rom1.0 is wired to column 2 of the keys.")
+    browser.click("#drawing-undo")
+    comes(browser, "it is undone", SAID, "Undone.")
+    browser.click("#drawing-undo")
+    comes(browser, "and the one before it", LINES, re.compile("open is at ram0.0.1"))
+    verdict("the text is as it was", text_of(browser), before)
+    browser.click("#drawing-redo")
+    comes(browser, "and done again", LINES, re.compile("open is at rom0.2"))
+    check_part_is_dragged(browser)
+
+
+def check_part_is_dragged(browser):
+    before = browser.script(PLACE_OF_KEYS)
+    drag(browser, "#wiring-picture .of-keys .title", (-30, 90))
+    comes(browser, "a part is dragged", f"{PLACE_OF_KEYS}[1] > {before[1] + 40}", True)
+    there = browser.script(PLACE_OF_KEYS)
+    time.sleep(1)
+    browser.reload()
+    until_ready(browser)
+    comes(browser, "and stands there after a reload", PLACE_OF_KEYS, there)
+    browser.click("#drawing-tidy")
+    comes(browser, "until it is tidied", PLACE_OF_KEYS, before)
+
+
+def check_by_keyboard(browser):
+    """The same by keys alone: a part, a wire, its end, a deletion, and back."""
+    choose_example(browser, "lock")
+    browser.script("document.getElementById('wiring-tab').click(); document.getElementById('wiring-tab').focus()")
+    before = text_of(browser)
+    verdict("Tab comes to the shelf", focused(browser, TAB, "e.id === 'shelf-lamp'", 14), True)
+    browser.keys([ENTER])
+    comes(browser, "Enter adds a lamp", SAID, "Lamp 3 was added.")
+    verdict("Tab comes to the picture", focused(browser, TAB, "e.closest('#wiring-picture') !== null", 20), True)
+    comes(browser, "at the lamp that is chosen", FOCUS, re.compile("^Lamps · 4, lamp 3"))
+    browser.keys([UP, UP, UP, UP])
+    comes(browser, "arrows go from pin to part", FOCUS, re.compile("^Lamps · 4: locked is at"))
+    browser.keys([LEFT, LEFT, LEFT])
+    comes(browser, "and from part to part", FOCUS, re.compile("^RAM 0.0 · 4002: line"))
+    browser.keys([RIGHT])
+    comes(browser, "and back", FOCUS, re.compile("^Chain 0"))
+    browser.keys([DOWN])
+    comes(browser, "to its clock", FOCUS, re.compile("clock, at rom0.0$"))
+    browser.keys([ENTER])
+    comes(browser, "Enter begins a wire", SAID, re.compile("^A wire begins at the clock of chain 0: it can end at 8 pins"))
+    browser.keys([UP])
+    comes(browser, "arrows go to where it can end", FOCUS, "RAM 0.0 · 4002, out 3")
+    browser.keys([ENTER])
+    comes(browser, "Enter ends it", SAID, "Line ram0.0.3 is wired to the clock of chain 0.")
+    comes(browser, "the focus stays", FOCUS, "RAM 0.0 · 4002, out 3")
+    browser.keys([ENTER])
+    comes(browser, "another one is begun", SAID, re.compile("^A wire begins"))
+    browser.keys([ESCAPE])
+    comes(browser, "and left by Escape", SAID, "No wire was drawn.")
+    browser.keys([DELETE])
+    comes(browser, "a line cannot be deleted", SAID, re.compile("goes with its chip alone"))
+    browser.chord(CONTROL, "z")
+    comes(browser, "Ctrl Z takes the wire back", SAID, "Undone.")
+    browser.chord(CONTROL, "z")
+    comes(browser, "and the lamp", LINES, re.compile("Lamps · 3"))
+    verdict("the text is as it was", text_of(browser), before)
+    browser.script("document.querySelector('#wiring-picture .of-chain').focus()")
+    browser.keys([DELETE])
+    comes(browser, "what hangs on a part goes with it", SAID, "Chain 0 was deleted, and with it the keys.")
+    browser.chord(CONTROL, "z")
+    comes(browser, "and comes back with it", LINES, re.compile("Keys · 4 × 3"))
+    verdict("nothing is lost", text_of(browser), before)
+
+
+def check_by_fingers(browser):
+    """One pin after the other is touched."""
+    browser.fingers([f"{pin('RAM 0.0 · 4002, out 3')} circle"], 60)
+    comes(browser, "a finger begins a wire", SAID, re.compile("^A wire begins at line ram0.0.3"))
+    browser.fingers([f"{pin('Lamps · 3, alarm')} circle"], 60)
+    comes(browser, "and another touch ends it", SAID, "Line ram0.0.3 is wired to lamp 2.")
+    browser.fingers(["#drawing-undo"], 60)
+    comes(browser, "a button undoes it", SAID, "Undone.")
+
+
+def check_faults(browser):
+    """A text with faults is not drawn in; the picture stays, and goes on once they are gone."""
+    text = text_of(browser)
+    browser.script(PUT_INTO_EDITOR, BOARD, f"{text}\n[[lamp]]\n")
+    comes(browser, "a text with faults says so", STATE, re.compile("^The bench refuses the board's text"))
+    verdict("and nothing can be added", len(browser.script(DISABLED)), 10)
+    browser.script(PUT_INTO_EDITOR, BOARD, text.replace("# title: Lock", "# title: Other"))
+    comes(browser, "without them it goes on", STATE, "")
+    browser.script("document.querySelector('#wiring-picture [tabindex=\"0\"]').focus()")
+    browser.keys([ESCAPE])
+    comes(browser, "what is typed in the text is drawn", "const field = document.querySelector('#chosen [aria-label=title]'); return field && field.value",
+          "Other")
+
+
+def check(browser, page, _folder, _mcs4):
+    browser.go(page.as_uri())
+    until_ready(browser)
+    check_by_mouse(browser)
+    check_wires(browser)
+    check_by_keyboard(browser)
+    if browser.has_fingers:
+        check_by_fingers(browser)
+    check_faults(browser)
