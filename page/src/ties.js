@@ -4,6 +4,7 @@ import { keyOfKeyboard } from "./board/board_keys.js";
 import { LookView } from "./look_view.js";
 import { Pressing, wantsKey } from "./board/pressing.js";
 import { Cancelled, WorkerDied } from "./bench/faults.js";
+import { countOfFaults } from "./bench/words.js";
 import { wordsOfLastChange } from "./debug/stop_words.js";
 import { block, byId, isDialogOpen } from "./ui/dom.js";
 import { wordsOfCell } from "./help/manual.js";
@@ -160,7 +161,7 @@ export function editorsOf(page, manual) {
     valuesAt: (text, at) => page.values.at(text, at),
     offer: (cell, { place, name }) => page.lookView.editor.offer(cell, { place, name, digits: 1 }),
     replaceBoard: (text, words) => page.texts.replace("board", text, words),
-    hasFaults: (name, count) => page.layout.tabs.mark(name, count > 0 ? `${count} fault${count > 1 ? "s" : ""}` : ""),
+    hasFaults: (name, count) => page.layout.tabs.mark(name, count > 0 ? countOfFaults(count) : ""),
     failed: (fault) => page.recovery.failed(fault),
   });
 }

@@ -41,6 +41,11 @@ export class Words {
   }
 }
 
+/** @param {number} count of faults in a text */
+export function countOfFaults(count) {
+  return `${count} fault${count === 1 ? "" : "s"}`;
+}
+
 /**
  * A time in its two largest parts, as `1 hour 2 minutes`, from a second on.
  * @param {number} milliseconds

@@ -3,7 +3,7 @@
 
 import { Cancelled } from "../bench/faults.js";
 import { LONGEST_RUN } from "../worker/key_queue.js";
-import { PieceSize } from "../worker/pieces.js";
+import { FIRST_CYCLES, PieceSize } from "../worker/pieces.js";
 import { Answers } from "../worker/tracing.js";
 import { LARGEST_PIECE, watcherOf } from "./goals.js";
 
@@ -14,8 +14,6 @@ import { LARGEST_PIECE, watcherOf } from "./goals.js";
  * @typedef {import("./goals.js").Goal} Goal
  * @typedef {import("./goals.js").Watcher} Watcher
  */
-
-const FIRST_PIECE = 1000;
 
 /**
  * The lines of a piece.
@@ -62,7 +60,7 @@ export async function seek(engine, file, goal, goesOn, most, codes) {
   const watcher = watcherOf(engine, file, goal, codes);
   if (!watcher) return { cycles: 0, isReached: false, end: "lacks" };
   if (watcher.first) engine.serve(copy, watcher.first, copy);
-  const piece = new PieceSize(FIRST_PIECE, 1, LARGEST_PIECE);
+  const piece = new PieceSize(FIRST_CYCLES, 1, LARGEST_PIECE);
   for (let done = 0; done < most;) {
     const cycles = Math.min(piece.size, watcher.most(), most - done);
     const found = piece.measure(() => foundIn(new Answers(engine.serve(copy, linesOf(watcher, cycles), copy).answers), watcher));

@@ -17,6 +17,7 @@ import { hex } from "../bench/numbers.js";
 import { placeOf } from "../bench/places.js";
 import { NOTHING_TOLD, aimBack } from "../worker/going_back.js";
 import { runLines } from "../worker/key_queue.js";
+import { LOOKED_CYCLES } from "../worker/pieces.js";
 import { Answers, valuesOf } from "../worker/tracing.js";
 import { cyclesToGoal, seek, stepsUpTo } from "./ahead.js";
 import { Arrivals, MOST_NOTES, nothingSeen } from "./arrivals.js";
@@ -67,8 +68,6 @@ export const NEAR = 92593;
 /** A change that needs no key, so many; of instructions that are counted, all. */
 const NEAR_CHANGE = 10000000;
 const ALL = 100000000;
-/** What is looked through for breakpoints at once. */
-const PIECE_CYCLES = 400000;
 
 /** @type {Tally} */
 export const NO_TALLY = { hits: [], notes: [], noted: 0, usual: [] };
@@ -293,7 +292,7 @@ export class Debugger {
     const { engine, file } = this.session;
     const copy = file.slice();
     for (let done = 0; done < cycles;) {
-      const piece = Math.min(PIECE_CYCLES, cycles - done);
+      const piece = Math.min(LOOKED_CYCLES, cycles - done);
       const steps = runLines(piece).trimEnd().split("\n").map((line) => ({ line, change: null }));
       const seen = this.arrivals.look(engine, copy, steps);
       for (const [id, hits] of seen.hits) all.hits.set(id, (all.hits.get(id) || 0) + hits);

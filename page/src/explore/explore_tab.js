@@ -1,5 +1,6 @@
 // Properties on the page: their text with its faults, a button that looks for what breaks them, in a worker of its own, and what was found.
 
+import { countOfFaults } from "../bench/words.js";
 import { button, field, onClick } from "../ui/dom.js";
 import { BesideText } from "../text/beside_text.js";
 import { completeProperty, firstProperties, helpForProperty, propertyForms } from "../text/property_words.js";
@@ -43,7 +44,18 @@ export class ExploreTab {
   constructor(manual, calls) {
     this.calls = calls;
     definePropertiesMode();
-    this.beside = this.makeText(propertyForms(manual));
+    this.beside = new BesideText({
+      name: "properties",
+      firstButton: "first-properties",
+      firstText: firstProperties,
+      forms: propertyForms(manual),
+      wordsAt: helpForProperty,
+      complete: completeProperty,
+    }, calls, {
+      faults: () => calls.faults(this.texts),
+      counted: (count) => this.mark(count),
+      send: () => this.exploreOrStop(),
+    });
     this.editor = this.beside.editor;
     this.view = new ExploreView({
       goTo: (line) => this.editor.editor.select({ from: line, to: line }),
@@ -60,26 +72,6 @@ export class ExploreTab {
     /** @type {AbortController | null} what ends the search that is under way */
     this.controller = null;
     onClick(button("clear-finds"), () => this.clear());
-  }
-
-  /** @param {ReturnType<typeof propertyForms>} forms */
-  makeText(forms) {
-    const { calls } = this;
-    return new BesideText({
-      name: "properties",
-      firstButton: "first-properties",
-      firstText: firstProperties,
-      wordsAt: (lines, line, at) => helpForProperty(lines, line, at, forms),
-      complete: (lines, line, at, names) => completeProperty(lines, line, at, names, forms),
-    }, {
-      boardText: () => calls.texts().boardText,
-      labels: calls.labels,
-      faults: () => calls.faults(this.texts),
-      counted: (count) => this.mark(count),
-      send: () => this.exploreOrStop(),
-      edited: calls.edited,
-      failed: calls.failed,
-    });
   }
 
   /** @returns {ExploredTexts} */
@@ -100,7 +92,7 @@ export class ExploreTab {
   /** @param {number} count how many faults the text has */
   mark(count) {
     const { shown } = this;
-    if (count > 0) this.calls.mark(`${count} fault${count > 1 ? "s" : ""}`);
+    if (count > 0) this.calls.mark(countOfFaults(count));
     else this.calls.mark(shown && shown.report ? markOfReport(shown.report) : "");
   }
 

@@ -1,6 +1,7 @@
 // The tests on the page: their text with its faults, a button that runs them in the worker, and what came of it.
 
 import { Cancelled } from "../bench/faults.js";
+import { countOfFaults } from "../bench/words.js";
 import { button, onClick } from "../ui/dom.js";
 import { BesideText } from "../text/beside_text.js";
 import { defineTestMode } from "../text/test_mode.js";
@@ -35,7 +36,18 @@ export class TestsTab {
   constructor(manual, calls) {
     this.calls = calls;
     defineTestMode();
-    this.beside = this.makeText(testForms(manual));
+    this.beside = new BesideText({
+      name: "tests",
+      firstButton: "first-test",
+      firstText: () => FIRST_TEST,
+      forms: testForms(manual),
+      wordsAt: helpForTest,
+      complete: completeTest,
+    }, calls, {
+      faults: () => calls.faults(this.texts),
+      counted: (count) => this.mark(count),
+      send: () => this.run().catch(calls.failed),
+    });
     this.editor = this.beside.editor;
     this.view = new TestsView({
       goTo: (line) => this.editor.editor.select({ from: line, to: line }),
@@ -50,26 +62,6 @@ export class TestsTab {
     onClick(button("clear-tests"), () => this.clear());
   }
 
-  /** @param {ReturnType<typeof testForms>} forms */
-  makeText(forms) {
-    const { calls } = this;
-    return new BesideText({
-      name: "tests",
-      firstButton: "first-test",
-      firstText: () => FIRST_TEST,
-      wordsAt: (lines, line, at) => helpForTest(lines, line, at, forms),
-      complete: (lines, line, at, names) => completeTest(lines, line, at, names, forms),
-    }, {
-      boardText: () => calls.texts().boardText,
-      labels: calls.labels,
-      faults: () => calls.faults(this.texts),
-      counted: (count) => this.mark(count),
-      send: () => this.run().catch(calls.failed),
-      edited: calls.edited,
-      failed: calls.failed,
-    });
-  }
-
   /** @returns {TestedTexts} */
   get texts() {
     return { ...this.calls.texts(), testText: this.editor.text };
@@ -82,7 +74,7 @@ export class TestsTab {
 
   /** @param {number} count how many faults the text has */
   mark(count) {
-    if (count > 0) this.calls.mark(`${count} fault${count > 1 ? "s" : ""}`);
+    if (count > 0) this.calls.mark(countOfFaults(count));
     else if (!this.tested) this.calls.mark("");
   }
 

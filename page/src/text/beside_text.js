@@ -12,39 +12,46 @@ import { LiveFaults } from "./live_faults.js";
  * @typedef {import("./completion.js").Completion} Completion
  * @typedef {{ keys: string[], lamps: string[], labels: string[] }} Names of the board and of the program
  *
- * What kind of text it is: its name, which its editor and its mode have too; the button that gives a text to begin with, and that text;
- * what a word of it means, and what it can become.
- * @typedef {{ name: "tests" | "properties", firstButton: string, firstText: (names: Names) => string,
- *   wordsAt: (lines: string[], line: number, at: number) => string,
- *   complete: (lines: string[], line: number, at: number, names: Names) => Completion }} Kind
+ * What it calls as each such text does: the texts that it stands beside; the labels of the program; it was edited; a call failed.
+ * @typedef {{ texts: () => { boardText: string }, labels: () => string[], edited: () => void, failed: (fault: unknown) => void }} TextCalls
  *
- * What it calls: the text of the board; the labels of the program; the faults of all three texts; how many of them are of this one; it is
- * sent; it was edited; a call failed.
- * @typedef {{ boardText: () => string, labels: () => string[], faults: () => Promise<TextFault[]>, counted: (count: number) => void,
- *   send: () => void, edited: () => void, failed: (fault: unknown) => void }} BesideCalls
+ * What it calls of its own: the faults of all texts; how many of them are of this one; it is sent.
+ * @typedef {{ faults: () => Promise<TextFault[]>, counted: (count: number) => void, send: () => void }} OwnCalls
+ */
+
+/**
+ * What kind of text it is: its name, which its editor and its mode have too; the button that gives a text to begin with, and that text;
+ * the forms that its lines have; what a word of it means, and what it can become.
+ * @template Forms
+ * @typedef {{ name: "tests" | "properties", firstButton: string, firstText: (names: Names) => string, forms: Forms,
+ *   wordsAt: (lines: string[], line: number, at: number, forms: Forms) => string,
+ *   complete: (lines: string[], line: number, at: number, names: Names, forms: Forms) => Completion }} Kind
  */
 
 const MOST_FAULTS = 20;
 
+/** @template Forms */
 export class BesideText {
   /**
-   * @param {Kind} kind
-   * @param {BesideCalls} calls
+   * @param {Kind<Forms>} kind
+   * @param {TextCalls} calls
+   * @param {OwnCalls} own
    */
-  constructor(kind, calls) {
+  constructor(kind, calls, own) {
     this.kind = kind;
     this.calls = calls;
+    this.own = own;
     this.editor = new EditorView(`${kind.name}-editor`, {
       mark: "#",
       mode: kind.name,
       gutters: ["CodeMirror-linenumbers"],
       folds: PARTS.tests,
       isUnsent: true,
-      wordsAt: kind.wordsAt,
-      complete: (lines, line, at) => kind.complete(lines, line, at, this.names()),
+      wordsAt: (lines, line, at) => kind.wordsAt(lines, line, at, kind.forms),
+      complete: (lines, line, at) => kind.complete(lines, line, at, this.names(), kind.forms),
     }, {
       edited: () => this.edited(),
-      send: calls.send,
+      send: own.send,
       toggleBreakpoint: () => {},
     });
     this.faults = new LiveFaults(() => this.find(), (faults) => this.showFaults(faults), calls.failed);
@@ -53,7 +60,7 @@ export class BesideText {
 
   /** @returns {Names} */
   names() {
-    const face = new Face(this.calls.boardText());
+    const face = new Face(this.calls.texts().boardText);
     const keys = [...face.keys.values()].map(({ text }) => text).filter((name) => name !== "");
     return { keys: face.test ? [...keys, face.test.name] : keys, lamps: [...face.lampNumbers.keys()], labels: this.calls.labels() };
   }
@@ -77,7 +84,7 @@ export class BesideText {
 
   /** The faults of this text; board and program have their own. Without a text nothing is wrong. */
   async find() {
-    return this.editor.text.trim() === "" ? [] : this.calls.faults();
+    return this.editor.text.trim() === "" ? [] : this.own.faults();
   }
 
   /** @param {TextFault[]} faults of all three texts */
@@ -88,6 +95,6 @@ export class BesideText {
       return { number, line, from: text.length - text.trimStart().length, to: text.length, words };
     });
     this.editor.showFaults(told.slice(0, MOST_FAULTS), moreThan(told, MOST_FAULTS));
-    this.calls.counted(told.length);
+    this.own.counted(told.length);
   }
 }

@@ -5,6 +5,7 @@ import { readBoard, readCounter } from "../bench/answers.js";
 import { Cancelled } from "../bench/faults.js";
 import { placeOf } from "../bench/places.js";
 import { changesIn } from "./past_changes.js";
+import { LOOKED_CYCLES, LOOKED_UNITS } from "./pieces.js";
 import { valuesOf } from "./tracing.js";
 import { cyclesOf, piecesOf, unitsBetween } from "./units.js";
 
@@ -34,9 +35,6 @@ import { cyclesOf, piecesOf, unitsBetween } from "./units.js";
 const FIRST_BLOCK = 500;
 const LONGER = 8;
 const LARGEST_BLOCK = 4000000;
-/** So many cycles, and so many steps, are done at once. */
-const PIECE_CYCLES = 400000;
-const PIECE_UNITS = 500;
 
 /** @type {Omit<Aim, "moment" | "present">} what is told where nothing was looked for */
 export const NOTHING_TOLD = { why: "", place: "", from: "", to: "", line: "", end: "", id: 0 };
@@ -120,7 +118,7 @@ export async function lastInPast(engine, timeline, finder, goesOn) {
     finder.begin(await timeline.at(engine, from, goesOn));
     /** @type {Aim | null} */
     let found = null;
-    for (const units of piecesOf(unitsBetween(timeline, from, to), PIECE_CYCLES, PIECE_UNITS)) {
+    for (const units of piecesOf(unitsBetween(timeline, from, to), LOOKED_CYCLES, LOOKED_UNITS)) {
       found = finder.among(units) || found;
       if (!(await goesOn(cyclesOf(units)))) throw new Cancelled();
     }

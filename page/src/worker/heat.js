@@ -4,6 +4,7 @@
 import { Cancelled } from "../bench/faults.js";
 import { hex, upTo } from "../bench/numbers.js";
 import { changesIn } from "./past_changes.js";
+import { FIRST_CYCLES, LOOKED_CYCLES, LOOKED_UNITS } from "./pieces.js";
 import { valuesOf } from "./tracing.js";
 import { cyclesOf, piecesOf, shortUnits, unitsBetween } from "./units.js";
 
@@ -26,10 +27,6 @@ import { cyclesOf, piecesOf, shortUnits, unitsBetween } from "./units.js";
 const MOST_PLACES = 16;
 const REGISTERS = 4;
 const STATUS = 4;
-/** What is traced at once, over all groups of places. */
-const PIECE_CYCLES = 400000;
-const LEAST_PIECE = 1000;
-const PIECE_UNITS = 500;
 
 /**
  * The places of `trace` for all characters of a board's RAM, as many together as it takes.
@@ -117,14 +114,14 @@ export async function heatOf(engine, timeline, board, cycles, goesOn) {
   const groups = charactersOf(board);
   const counting = new Counting(groups);
   if (groups.length === 0) return counting.heat;
-  const most = Math.max(LEAST_PIECE, Math.floor(PIECE_CYCLES / groups.length));
+  const most = Math.max(FIRST_CYCLES, Math.floor(LOOKED_CYCLES / groups.length));
   const { end } = timeline;
   let from = beginOf(timeline, cycles);
   for (; from.segment <= end.segment; from = { segment: from.segment + 1, entry: 0, cycles: 0 }) {
     const { entries } = timeline.segments[from.segment];
     const to = from.segment === end.segment ? end : { segment: from.segment, entry: entries.length, cycles: 0 };
     const { file } = await timeline.at(engine, from, goesOn);
-    for (const units of piecesOf(shortUnits(unitsBetween(timeline, from, to), most), most, PIECE_UNITS)) {
+    for (const units of piecesOf(shortUnits(unitsBetween(timeline, from, to), most), most, LOOKED_UNITS)) {
       counting.follow(engine, file, units);
       if (!(await goesOn(cyclesOf(units)))) throw new Cancelled();
     }

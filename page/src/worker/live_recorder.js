@@ -7,6 +7,7 @@ import { askedLines, partedAnswers } from "./asking.js";
 import { Answers, readTraced, valuesOf } from "./tracing.js";
 import { listedAt } from "./wave_recorder.js";
 import { WaveTaking } from "./wave_taking.js";
+import { RECORDED_CYCLES, RECORDED_UNITS } from "./pieces.js";
 
 /**
  * @typedef {import("./accepted.js").Accepted} Accepted
@@ -27,9 +28,6 @@ import { WaveTaking } from "./wave_taking.js";
 
 /** Moments have 32 bits. */
 const LONGEST = 4000000000;
-/** So many commands, and so many cycles, are followed at once. */
-const PIECE_UNITS = 50;
-const PIECE_CYCLES = 50000;
 
 export class LiveRecorder {
   /**
@@ -229,7 +227,8 @@ export class LiveRecorder {
     else if (accepted.some(({ line }) => /^\s*(asm|poke\s+rom)/.test(line))) this.stop("program");
     for (let at = 0; at < accepted.length && this.isOn;) {
       const begun = at;
-      for (let cycles = 0; at < accepted.length && at - begun < PIECE_UNITS && cycles < PIECE_CYCLES; at++) cycles += accepted[at].cycles;
+      const end = Math.min(accepted.length, begun + RECORDED_UNITS);
+      for (let cycles = 0; at < end && cycles < RECORDED_CYCLES; at++) cycles += accepted[at].cycles;
       const units = accepted.slice(begun, at);
       /** @type {Step[]} */
       const steps = units.map(({ line, cycles }) => (

@@ -2,6 +2,14 @@
 
 /** A piece takes about so many milliseconds. */
 const PIECE_TIME = 40;
+/** The first piece where cycles are gone through one by one. */
+export const FIRST_CYCLES = 1000;
+/** So many cycles, and so many steps, are looked through at once, of the past or ahead. */
+export const LOOKED_CYCLES = 400000;
+export const LOOKED_UNITS = 500;
+/** And so many are recorded. */
+export const RECORDED_CYCLES = 50000;
+export const RECORDED_UNITS = 50;
 
 export class PieceSize {
   /**

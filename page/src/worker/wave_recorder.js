@@ -6,7 +6,7 @@ import { Cancelled } from "../bench/faults.js";
 import { linesOf } from "../bench/inputs.js";
 import { linesOfBoard } from "../waves/wave_lines.js";
 import { LONGEST_RUN } from "./key_queue.js";
-import { PieceSize } from "./pieces.js";
+import { FIRST_CYCLES, PieceSize, RECORDED_CYCLES, RECORDED_UNITS } from "./pieces.js";
 import { Answers } from "./tracing.js";
 import { piecesOf, unitsBetween } from "./units.js";
 import { WaveTaking } from "./wave_taking.js";
@@ -38,11 +38,6 @@ import { WaveTaking } from "./wave_taking.js";
  * Is told how many cycles are done, and says whether to go on.
  * @typedef {(done: number) => Promise<boolean>} GoesOn
  */
-
-const FIRST_PIECE = 1000;
-/** So many cycles, and so many steps, of the past are recorded at once. */
-const PIECE_CYCLES = 50000;
-const PIECE_UNITS = 200;
 
 class WaveRecorder {
   /**
@@ -122,7 +117,7 @@ export async function recordAfter(engine, file, cycles, texts, goesOn) {
   engine.serve(copy, linesWithoutStops(engine.ask(copy, "breaks\nwatches\n").answers), copy);
   const recorder = new WaveRecorder(engine, copy, texts);
   const { taking } = recorder;
-  const piece = new PieceSize(FIRST_PIECE, FIRST_PIECE, LONGEST_RUN);
+  const piece = new PieceSize(FIRST_CYCLES, FIRST_CYCLES, LONGEST_RUN);
   while (taking.elapsed < cycles && !taking.isStuck) {
     const some = Math.min(piece.size, cycles - taking.elapsed);
     piece.measure(() => recorder.record([{ line: `run ${some}`, cycles: some }]));
@@ -177,7 +172,7 @@ export async function recordBefore(engine, timeline, cycles, texts, goesOn) {
   const from = beginningBefore(timeline, cycles);
   const { file } = await timeline.at(engine, from, () => goesOn(0));
   const recorder = new WaveRecorder(engine, file, texts);
-  for (const units of piecesOf(unitsFrom(timeline, from), PIECE_CYCLES, PIECE_UNITS)) {
+  for (const units of piecesOf(unitsFrom(timeline, from), RECORDED_CYCLES, RECORDED_UNITS)) {
     recorder.record(units);
     if (!(await goesOn(recorder.taking.elapsed))) throw new Cancelled();
   }
