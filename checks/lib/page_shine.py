@@ -3,7 +3,7 @@ instant. A display that is written anew in each turn of the main loop shows its 
 
 import re
 
-from page_in_browser import DIGITS, SPEED, STATUS, lines_answered, told_of, until_ready
+from page_in_browser import DIGITS, SPEED, STATUS, choose_example, lines_answered, told_of, until_ready
 from verdicts import comes, verdict
 
 ROM = '[[rom]]\nchip = 0\nport = "0000"\n'
@@ -121,6 +121,35 @@ def check_refreshed(browser):
             ["4 5", 2])
 
 
+def check_clock(browser):
+    choose_example(browser, "clock")
+    comes(browser, "four digits that are lit by turns show a time", DIGITS, re.compile(r"^12\.?00$"))
+    watched(browser, 1500)
+    verdict("in each frame, with its point or without", browser.script("return [...new Set(window.numbers)].sort().join(' ')"), "12.00 1200")
+    browser.script(SPEED, "full")
+    comes(browser, "at full speed, too", DIGITS, re.compile(r"^(1[2-9]|[02][0-9])\.?[0-5][0-9]$"))
+    browser.script(SPEED, "real")
+    browser.click("#run")
+    comes(browser, "time stands still", STATUS, re.compile("^Stopped"))
+    digits = "return [...document.querySelectorAll('#glass svg')].filter((digit) => digit.querySelector('.lit')).length"
+    verdict("at an instant at most one digit is lit", browser.script(digits) <= 1, True)
+
+
+def check_pictures(browser):
+    choose_example(browser, "pictures")
+    rows = ("const bulbs = [...document.querySelectorAll('.matrix .bulb')].map((bulb) => (bulb.classList.contains('lit') ? '*' : '.'));"
+            "return Array.from({ length: 8 }, (_, row) => bulbs.slice(8 * row, 8 * row + 8).join('')).join(' ')")
+    comes(browser, "a matrix whose rows are lit by turns shows a heart", rows,
+          "........ .**..**. ******** ******** .******. ..****.. ...**... ........")
+    verdict("each lamp names both of its lines", browser.script("return document.querySelectorAll('.matrix .bulb')[13].title"),
+            "ram0.1.2 and ram0.2.1")
+    browser.keys(["n"], 100)
+    comes(browser, "NEXT brings another picture", rows, "..****.. .*....*. *.*..*.* *......* *.*..*.* *..**..* .*....*. ..****..")
+    browser.click("#run")
+    comes(browser, "time stands still", STATUS, re.compile("^Stopped"))
+    verdict("at an instant at most one row is lit", sum("*" in row for row in browser.script(rows).split()) <= 1, True)
+
+
 def check(browser, page, _folder, _mcs4):
     browser.go(page.as_uri() + "#example=empty%20bench")
     until_ready(browser)
@@ -131,3 +160,5 @@ def check(browser, page, _folder, _mcs4):
     browser.script(SPEED, "real")
     check_instant(browser)
     check_refreshed(browser)
+    check_clock(browser)
+    check_pictures(browser)

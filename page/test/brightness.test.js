@@ -6,6 +6,7 @@ import { numberOf } from "../src/board/digit_patterns.js";
 import { DisplayText } from "../src/board/display_text.js";
 import { Face } from "../src/board/face.js";
 import { BenchCalls } from "../src/worker/bench_calls.js";
+import { SeenText } from "../src/worker/seen_text.js";
 import { moduleOfPage } from "./page_session.js";
 
 /** A frame of a screen that shows 60 a second, in cycles and in milliseconds. */
@@ -16,6 +17,18 @@ const FRAME_TIME = 1000 / 60;
 const PULSES = {
   board: `[[rom]]\nchip = 0\nport = "0000"\n${[0, 1, 2, 3].map((line) => `[[lamp]]\nline = "rom0.${line}"\n`).join("")}`,
   program: "FIM P0, 0\nSRC P0\nloop: LDM 5\nWRR\nNOP\nLDM 6\nWRR\nFIM P1, 0\nwait: ISZ R2, wait\nJUN loop\n",
+};
+
+/** Two rows of three lamps: row 0 is lit for 5 cycles in a turn with columns 0 and 2, row 1 for 10 with column 1; then all is dark. */
+const SCANNED = {
+  board: `# matrix 0: 2 rows of 3 scanned by 4\n[[rom]]\nchip = 0\nport = "0000"\n[[ram]]\nbank = 0\nchips = 2\n${
+    ["ram0.0.0", "ram0.0.1", "ram0.0.2", "ram0.0.3", "ram0.1.0", "ram0.1.1"].map((line) => `[[lamp]]\nline = "${line}"\n`).join("")}`,
+  program: `FIM P0, 0\nFIM P1, 0x40
+loop:   LDM 5\nSRC P0\nWMP\nLDM 1\nSRC P1\nWMP
+        NOP\nNOP\nNOP\nLDM 0\nWMP
+        LDM 2\nSRC P0\nWMP\nSRC P1\nWMP
+        NOP\nNOP\nNOP\nNOP\nNOP\nNOP\nNOP\nNOP\nLDM 0\nWMP
+        JUN loop\n`,
 };
 
 /** A display of two digits behind two 4003; in each turn of the main loop all of it is written anew, lamp by lamp. */
@@ -92,9 +105,43 @@ test("what an eye sees is the part of the time that trace tells, to 2 %", async 
   }
 });
 
+test("a lamp between two lines is lit where both are 1, to the cycle", async () => {
+  const calls = await begin(SCANNED);
+  calls.advance(100);
+  for (const cycles of [1, 26, FRAME, 333]) {
+    const marks = calls.ask(`lamps\n${"run 1\nlamps\n".repeat(cycles)}`).filter((line) => line.startsWith("lamps")).slice(0, cycles);
+    const wanted = [4, 5].flatMap((row) => [0, 1, 2].map((column) => (
+      marks.filter((line) => line["lamps ".length + row] === "*" && line["lamps ".length + column] === "*").length)));
+    assert.deepEqual(calls.advance(cycles).shone.scanned, [wanted]);
+  }
+  const seen = new Brightness(new Face(SCANNED.board), 6);
+  for (let frame = 0; frame < 20; frame++) seen.add(calls.advance(FRAME).shone, FRAME_TIME);
+  const turn = 28;
+  seen.scanned[0].forEach((part, at) => assert.ok(Math.abs(part - [5, 0, 5, 0, 10, 0][at] / turn) < 0.02, String(seen.scanned[0])));
+});
+
+test("digits that are lit by turns show what they show longest while they are lit", () => {
+  const face = new Face("# display 0: 3 digits of 7 segments with points scanned by 8\n# lamp 11: minus\n");
+  const text = new DisplayText(face.groups, [{ at: 11, text: "minus" }]);
+  const marks = (segments, digits, minus) => segments.padEnd(8, ".") + digits + minus;
+  const trace = (...rows) => [`trace ran ${rows.length * 100} end lines ${rows.length - 1} ${rows[0]}`,
+    ...rows.slice(1).map((row, at) => `${at * 100 + 99} 000 ${row}`)];
+  const read = (...rows) => {
+    const { number, names } = new SeenText(face, 12).read(trace(...rows));
+    return [number, names];
+  };
+  // 4, with a ghost of the digit before; 2 with its point; and the third one is never lit.
+  const four = marks(".**..**", "*..", "*");
+  const two = marks("**.**.**", ".*.", ".");
+  const ghost = marks(".**..**", ".*.", "*");
+  assert.deepEqual(read(four, ghost, two, two), ["-42. ", ""]);
+  assert.deepEqual(read(marks("***....", "***", ".")), ["777", ""]);
+  assert.equal(text.read(two).number, "2. ");
+});
+
 test("a lamp that is lit from now on is seen to 63 % after the persistence, and fades so", () => {
   const seen = new Brightness(new Face(""), 1);
-  const pass = (lit, time) => seen.add({ face: 0, cycles: 100, lamps: [lit * 100], digits: [] }, time);
+  const pass = (lit, time) => seen.add({ face: 0, cycles: 100, lamps: [lit * 100], digits: [], scanned: [] }, time);
   for (let part = 0; part < 10; part++) pass(1, PERSISTENCE / 10);
   assert.ok(Math.abs(seen.lamps[0] - (1 - Math.exp(-1))) < 1e-9);
   pass(1, Infinity);

@@ -22,7 +22,7 @@ function told(face, faults, patterns) {
   return [
     ...(title ? [`title ${title}`] : []), ...list("key", face.keys).filter((line) => !line.endsWith(" ")), ...list("lamp", face.lamps),
     ...list("colour", face.colours), ...face.grid.map(({ row, column, lamp }) => `grid ${row} ${column} ${lamp}`),
-    ...face.groups.map(({ kind, first, rows, columns }) => `${kind} ${first} ${rows} ${columns}`),
+    ...face.groups.map(({ kind, first, rows, columns, by }) => `${kind} ${first} ${rows} ${columns}${by < 0 ? "" : ` by ${by}`}`),
     ...(pin ? [`test ${pin.kind} ${pin.name} ${pin.level}`] : []), ...list("port", face.ports),
     ...faults.map(({ line, words }) => `fault line ${line}: ${words}`),
     ...patterns.map((pattern) => {
@@ -32,7 +32,7 @@ function told(face, faults, patterns) {
   ].sort();
 }
 
-for (const name of ["all", "faults", "many", "none", "shows"]) {
+for (const name of ["all", "faults", "many", "none", "scanned", "shows"]) {
   test(`a face as the tools read it: ${name}`, () => {
     const text = sample(`${name}.face`);
     const wanted = sample(`${name}.told`).split("\n").filter(Boolean);

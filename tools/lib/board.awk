@@ -39,7 +39,7 @@ function check_face(    i, name, d) {
         if (lamp_number[name] >= lamp_count) face_says("lamp", lamp_line[name], "lamp not there", name, lamp_number[name], lamp_count)
     }
     for (d = 1; d <= display_count; d++) check_group("display", display_line[d], display_end(d))
-    for (i = 1; i <= group_count; i++) check_group(group_kind[i], group_line[i], group_first[i] + group_rows[i] * group_columns[i])
+    for (i = 1; i <= group_count; i++) check_group(group_kind[i], group_line[i], group_end(group_first[i], group_rows[i], group_columns[i], group_by[i]))
     check_places_of_face()
     for (name in port_name) {
         if (!has_place(name)) face_says("port", port_line[name], "port not there", name)

@@ -248,34 +248,66 @@ function read_port(number, place, text) {
 }
 
 # A display, a die, a bar or a matrix.
-function read_group(number, kind, first, text,    words, count, i, n, size, rows, columns) {
+function read_group(number, kind, first, text,    words, count, i, n, size, rows, columns, by) {
     count = split(text, words)
     n = 0
+    by = -1
+    if (text ~ / scanned by /) {
+        by = is_number(words[count]) ? words[count] + 0 : -2
+        count -= 3
+    }
     for (i = 1; i <= count; i++) if (is_number(words[i])) size[++n] = words[i] + 0
     rows = kind_size[kind] == "lamps" ? 1 : size[1]
     columns = kind_size[kind] == "lamps" ? size[1] : kind_size[kind] == "rows" ? size[2] : (n > 1 ? size[2] : 4) + (text ~ / points/)
-    if (rows * columns == 0) {
+    if (rows * columns == 0 || by == -2) {
         face_told(kind, number, kind_other[kind])
         return
     }
+    if (by >= 0 && !can_be_scanned(kind, number, first, rows, columns, by)) return
     if (kind == "display") {
         display_count++
         display_line[display_count] = number
         display_first[display_count] = first
         display_digits[display_count] = rows
         display_width[display_count] = columns
+        display_by[display_count] = by
+        if (by >= 0) is_scanned_display = 1
         return
     }
     group_kind[++group_count] = kind
     group_first[group_count] = first
     group_rows[group_count] = rows
     group_columns[group_count] = columns
+    group_by[group_count] = by
     group_line[group_count] = number
+}
+
+# Whether what is scanned is not too large, and no lamp is named twice.
+function can_be_scanned(kind, number, first, rows, columns, by,    twice, is_display) {
+    is_display = kind == "display"
+    twice = first > by ? first : by
+    if (rows > face_limit["scanned"] || columns > face_limit["scanned"]) face_says(kind, number, "too many scanned", is_display ? "digits" : "rows")
+    else if (twice < first + columns && twice < by + rows) {
+        face_says(kind, number, "scanned twice", twice, is_display ? "a segment" : "a column", is_display ? "a digit" : "a row")
+    } else return 1
+    return 0
+}
+
+# The number behind that of the last lamp of a group.
+function group_end(first, rows, columns, by) {
+    if (by < 0) return first + rows * columns
+    return first + columns > by + rows ? first + columns : by + rows
+}
+
+# Whether a lamp is one of a group.
+function is_of_group(n, first, rows, columns, by) {
+    if (by < 0) return n >= first && n < first + rows * columns
+    return (n >= first && n < first + columns) || (n >= by && n < by + rows)
 }
 
 # The lamps that a display needs.
 function display_end(d) {
-    return display_first[d] + display_digits[d] * display_width[d]
+    return group_end(display_first[d], display_digits[d], display_width[d], display_by[d])
 }
 
 # What the displays show while these lamps are lit: a minus where the lamp `minus` is lit, the number, then the names of other lit lamps
@@ -290,9 +322,17 @@ function display_text(lamps,    d, i, text, at, is_seen) {
     return named_text(text, length(lamps), is_seen)
 }
 
-# What each digit of a display shows at an instant: its segments, and its point; of one in BCD a sign, a blank for a leading zero.
+# What each digit of a display shows at an instant: its segments, and its point; of one in BCD a sign, a blank for a leading zero. Of
+# digits that are lit by turns "" is one that is not lit.
 function read_digits(d, lamps, shown,    i, at, width, point, is_leading, value) {
     width = display_width[d]
+    if (display_by[d] >= 0) {
+        at = display_first[d] + 1
+        point = (width == 5 || width == 8) && substr(lamps, at + width - 1, 1) == "*" ? "." : ""
+        value = (width >= 7 ? substr(lamps, at, 7) : bits_digit(substr(lamps, at, 4))) point
+        for (i = 0; i < display_digits[d]; i++) shown[i] = substr(lamps, display_by[d] + i + 1, 1) == "*" ? value : ""
+        return
+    }
     is_leading = 1
     for (i = 0; i < display_digits[d]; i++) {
         at = display_first[d] + i * width + 1
@@ -311,7 +351,8 @@ function read_digits(d, lamps, shown,    i, at, width, point, is_leading, value)
 function number_on(d, shown,    i, text) {
     text = ""
     for (i = 0; i < display_digits[d]; i++) {
-        if (display_width[d] < 7) text = text shown[i]
+        if (shown[i] == "") text = text " "
+        else if (display_width[d] < 7) text = text shown[i]
         else text = text segments_digit(substr(shown[i], 1, 7)) substr(shown[i], 8)
     }
     sub(/\.$/, "", text)

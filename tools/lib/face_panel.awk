@@ -5,7 +5,8 @@
 #     key ROW COLUMN NAME
 #     test LEVEL NAME        what is at TEST, and its level while it is pressed
 #     colour LAMP WORD
-#     front CELL CELL ..     a row of lamps: `N,WIDTH,NAME` is lamp N with its name, without one a dot, `-,WIDTH,` a space
+#     front CELL CELL ..     a row of lamps: `N,WIDTH,NAME` is lamp N with its name, without one a dot, `-,WIDTH,` a space. Behind the
+#                            lamps of the board are numbered those of groups that are scanned, row by row
 #     note WORDS             what is told and cannot be
 
 function cell(lamp, width, name) {
@@ -56,6 +57,11 @@ function grid(    i, row, column, last_row, last_column) {
     end_row()
 }
 
+function take_group(first, rows, columns, by) {
+    take(first, by < 0 ? rows * columns : columns)
+    if (by >= 0) take(by, rows)
+}
+
 function take(first, count,    i) {
     for (i = first; i < first + count; i++) taken[i] = 1
 }
@@ -74,13 +80,19 @@ BEGIN {
     for (i = 1; i <= key_count; i++) print "key " key_row[key_names[i]] " " key_column[key_names[i]] " " key_names[i]
     if (pin_kind != "") print "test " pin_level " " pin_name
     for (n in lamp_colour) print "colour " n " " lamp_colour[n]
-    for (i = 1; i <= display_count; i++) take(display_first[i], display_digits[i] * display_width[i])
+    for (i = 1; i <= display_count; i++) take_group(display_first[i], display_digits[i], display_width[i], display_by[i])
+    scanned = lamp_count
     if (display_count && ("minus" in lamp_number)) taken[lamp_number["minus"]] = 1
     for (i = 1; i <= group_count; i++) {
-        if (group_first[i] + group_rows[i] * group_columns[i] > lamp_count) continue
-        take(group_first[i], group_rows[i] * group_columns[i])
-        if (group_kind[i] == "die") die(group_first[i])
-        else dots(group_first[i], group_rows[i], group_columns[i])
+        first = group_first[i]
+        if (group_by[i] >= 0) {
+            first = scanned
+            scanned += group_rows[i] * group_columns[i]
+        }
+        if (group_end(group_first[i], group_rows[i], group_columns[i], group_by[i]) > lamp_count) continue
+        take_group(group_first[i], group_rows[i], group_columns[i], group_by[i])
+        if (group_kind[i] == "die") die(first)
+        else dots(first, group_rows[i], group_columns[i])
     }
     for (i = 1; i <= grid_count; i++) taken[grid_lamp[i]] = 1
     if (grid_count) grid()

@@ -11,6 +11,7 @@ function take_shone(line,    word) {
         split("", shone_part)
         split("", shone_for)
         split("", shone_forms)
+        split("", shone_pair)
         shone_cycles = word[3]
         shone_left = word[6]
         shone_marks = word[7] == "-" ? "" : word[7]
@@ -33,12 +34,24 @@ function add_shone(end,    cycles, i, d, shown) {
     shone_at = end
     if (cycles == 0 && shone_cycles > 0) return
     for (i = 0; i < shone_count; i++) if (substr(shone_marks, i + 1, 1) == "*") shone_lit[i] += cycles
+    for (i = 1; i <= group_count; i++) if (group_by[i] >= 0) add_pairs(i, shone_cycles ? cycles : 1)
     for (d = 1; d <= display_count; d++) {
         if (display_end(d) > shone_count) continue
         read_digits(d, shone_marks, shown)
         for (i = 0; i < display_digits[d]; i++) {
+            if (shown[i] == "") continue
             if (!((d, i, shown[i]) in shone_for)) shone_form[d, i, ++shone_forms[d, i]] = shown[i]
             shone_for[d, i, shown[i]] += cycles
+        }
+    }
+}
+
+# The lamps of a group that is scanned: shone_pair[group, row, column] is how long each is lit, in the cycles of `shone_cycles`.
+function add_pairs(g, cycles,    row, column) {
+    for (row = 0; row < group_rows[g]; row++) {
+        if (substr(shone_marks, group_by[g] + row + 1, 1) != "*") continue
+        for (column = 0; column < group_columns[g]; column++) {
+            if (substr(shone_marks, group_first[g] + column + 1, 1) == "*") shone_pair[g, row, column] += cycles
         }
     }
 }
@@ -47,7 +60,7 @@ function shone_text(    d, i, n, text, longest, is_seen) {
     text = ""
     for (d = 1; d <= display_count; d++) {
         for (i = 0; i < display_digits[d]; i++) {
-            longest[i] = shone_form[d, i, 1]
+            longest[i] = shone_forms[d, i] ? shone_form[d, i, 1] : ""
             for (n = 2; n <= shone_forms[d, i]; n++) {
                 if (shone_for[d, i, shone_form[d, i, n]] > shone_for[d, i, longest[i]]) longest[i] = shone_form[d, i, n]
             }

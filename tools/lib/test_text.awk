@@ -454,7 +454,9 @@ function lamps_condition(c, words, from, to,    i, pattern, n) {
 }
 
 function is_of_display(n,    d) {
-    for (d = 1; d <= display_count; d++) if (n >= display_first[d] && n < display_end(d) && !(n in lamp_name)) return 1
+    for (d = 1; d <= display_count; d++) {
+        if (is_of_group(n, display_first[d], display_digits[d], display_width[d], display_by[d]) && !(n in lamp_name)) return 1
+    }
     return 0
 }
 

@@ -1,4 +1,4 @@
-# Runs tests. Needs numbers.awk, face.awk, board.awk, names.awk, known.awk, bench.awk, code.awk, ahead.awk, trace.awk, test_text.awk, and
+# Runs tests. Needs numbers.awk, face.awk, shone.awk, board.awk, names.awk, known.awk, bench.awk, code.awk, ahead.awk, trace.awk, test_text.awk, and
 # account.awk or what takes its place. The environment has the files of the texts, one a line (`tests`), and their names (`tests_named`).
 # The session with board and program is `base.mcs` in the folder; each test has a copy of it, or of the state that it is from.
 
@@ -334,6 +334,7 @@ function set_stop(word, at) {
 
 # What the condition is about is traced; first for a short time, since it may come soon.
 function until_change(c, end,    n, k, cycle) {
+    if (condition_kind[c] == "display" && is_scanned_display) return until_seen(c, end)
     know_code()
     forget_places()
     add_places_of(c)
@@ -347,6 +348,26 @@ function until_change(c, end,    n, k, cycle) {
         if (cycle || (n == 1 && holds(c))) break
     }
     return holds(c)
+}
+
+# What an eye sees of a display whose digits are lit by turns: it is looked at every 1,000 cycles.
+function until_seen(c, end,    came) {
+    know_code()
+    came = 0
+    stop = "end"
+    while (elapsed < end && stop == "end" && !came) {
+        run_counted(end - elapsed < 1000 ? end - elapsed : 1000)
+        came = holds(c)
+    }
+    return came
+}
+
+# What the displays show to an eye in the 30 ms that come next, if nothing is pressed.
+function seen_text() {
+    send("trace 2778 lamps")
+    receive()
+    while (!take_shone(reply)) receive_row()
+    return shone_text()
 }
 
 # How long it takes, at most so many cycles, until the condition holds; 0 where it does not within n cycles.
@@ -443,7 +464,7 @@ function measured(c, kind,    text, i, place) {
     if (kind == "lamps" || kind == "lamp" || kind == "display") {
         know("state")
         if (kind == "lamps") return now["lamps"]
-        if (kind == "display") return display_text(now["lamps"])
+        if (kind == "display") return is_scanned_display ? seen_text() : display_text(now["lamps"])
         return substr(now["lamps"], place + 1, 1) == "*" ? "on" : "off"
     }
     if (kind == "at") {

@@ -3,6 +3,7 @@
 import { readMarks } from "../bench/answers.js";
 import { DisplayText } from "../board/display_text.js";
 import { Face } from "../board/face.js";
+import { SEEN_QUESTION, SeenText, hasScannedDisplay } from "../worker/seen_text.js";
 
 /** @typedef {import("../debug/debug_session.js").DebugSession} DebugSession */
 
@@ -11,6 +12,8 @@ export class Shown {
   constructor(session) {
     this.session = session;
     const face = new Face(session.boardText);
+    this.face = face;
+    this.isScanned = hasScannedDisplay(face);
     this.displays = face.groups.filter(({ kind }) => kind === "display");
     this.names = [...face.lamps].map(([at, { text }]) => ({ at, text }));
     this.reader = new DisplayText(this.displays, this.names);
@@ -22,13 +25,21 @@ export class Shown {
     return readMarks(this.session.debugger.session.ask("lamps\n")[0]).join("");
   }
 
-  /** What a display shows, and the names of the lamps that are lit beside it; without a display the marks of all lamps, too. */
+  /**
+   * What a display shows, and the names of the lamps that are lit beside it; without a display the marks of all lamps, too. Where its
+   * digits are lit by turns, it is what an eye sees.
+   */
   now() {
     const { marks } = this;
     if (marks === "") return "";
-    const { number, names } = this.reader.read(marks);
+    const { number, names } = this.isScanned ? this.seen(marks.length) : this.reader.read(marks);
     if (this.displays.length > 0) return `display ${number}${names && ` ${names}`}`;
     return `lamps ${marks}${names && ` ${names}`}`;
+  }
+
+  /** @param {number} count of lamps */
+  seen(count) {
+    return new SeenText(this.face, count).read(this.session.debugger.session.ask(SEEN_QUESTION));
   }
 
   /** What is shown, where it is not what was told last; else "". */

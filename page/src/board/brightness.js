@@ -1,6 +1,6 @@
 // How bright the lamps of a board are to an eye, by how long they were lit: what was seen before fades, and what is lit now comes.
 
-import { fittingGroups } from "./face_board.js";
+import { fittingGroups, isScanned } from "./face_board.js";
 import { isLit } from "./digit_patterns.js";
 
 /**
@@ -81,7 +81,11 @@ export class Brightness {
   constructor(face, count) {
     /** @type {number[]} the part of the time for which each lamp is lit */
     this.lamps = new Array(count).fill(0);
-    this.displays = fittingGroups(face, count).filter(({ kind }) => kind === "display");
+    const groups = fittingGroups(face, count);
+    this.displays = groups.filter(({ kind }) => kind === "display");
+    /** @type {number[][]} the part of the time for which each lamp of other groups that are scanned is lit, row by row */
+    this.scanned = groups.filter((group) => isScanned(group) && group.kind !== "display")
+      .map(({ rows, columns }) => new Array(rows * columns).fill(0));
     /** @type {SeenDigit[][]} */
     this.digits = [];
     this.begin("");
@@ -94,16 +98,22 @@ export class Brightness {
   begin(marks) {
     this.lamps = this.lamps.map((_, at) => (isLit(marks, at) ? 1 : 0));
     this.digits = this.displays.map(({ rows }) => Array.from({ length: rows }, () => new SeenDigit()));
+    this.scanned = this.scanned.map((lamps) => lamps.map(() => 0));
   }
 
   /**
    * @param {Shone} shone
    * @param {number} time that it took, in milliseconds
    */
-  add({ cycles, lamps, digits }, time) {
+  add({ cycles, lamps, digits, scanned }, time) {
     if (cycles === 0) return;
     const kept = Math.exp(-time / PERSISTENCE);
-    for (let at = 0; at < this.lamps.length; at++) this.lamps[at] = this.lamps[at] * kept + (lamps[at] / cycles) * (1 - kept);
+    /** @type {(parts: number[], lit: number[]) => void} */
+    const fade = (parts, lit) => {
+      for (let at = 0; at < parts.length; at++) parts[at] = parts[at] * kept + (lit[at] / cycles) * (1 - kept);
+    };
+    fade(this.lamps, lamps);
+    this.scanned.forEach((parts, at) => fade(parts, scanned[at]));
     this.digits.forEach((display, at) => display.forEach((digit, place) => digit.add(digits[at][place], cycles, kept)));
   }
 

@@ -36,6 +36,14 @@ function segmentsAt(marks, at) {
 }
 
 /**
+ * Whether digits of so many lamps have points.
+ * @param {number} columns
+ */
+export function hasPoints(columns) {
+  return columns === 5 || columns === 8;
+}
+
+/**
  * The value of four lamps, the one for 8 first.
  * @param {string} marks
  * @param {number} at
@@ -50,13 +58,32 @@ function valueAt(marks, at) {
  * @param {string} marks a `*` for each lamp that is lit
  * @returns {number[]}
  */
-export function patternsAt({ first, rows, columns }, marks) {
-  const hasPoints = columns === 5 || columns === 8;
+export function patternsAt(display, marks) {
+  return display.by < 0 ? patternsOfAll(display, marks) : patternsOfScanned(display, marks);
+}
+
+/**
+ * Of digits that are lit by turns: all have the same lines, and no digit knows of another.
+ * @param {Group} display
+ * @param {string} marks
+ */
+function patternsOfScanned({ first, rows, columns, by }, marks) {
+  const value = valueAt(marks, first);
+  const segments = columns >= 7 ? segmentsAt(marks, first) : value < 10 ? DIGITS[value] : NO_DIGIT;
+  const point = hasPoints(columns) && isLit(marks, first + columns - 1) ? POINT : 0;
+  return Array.from({ length: rows }, (_, place) => (isLit(marks, by + place) ? segments + point : NOT_LIT));
+}
+
+/**
+ * @param {Group} display
+ * @param {string} marks
+ */
+function patternsOfAll({ first, rows, columns }, marks) {
   const patterns = [];
   let isLeading = true;
   for (let place = 0; place < rows; place++) {
     const at = first + place * columns;
-    const point = hasPoints && isLit(marks, at + columns - 1) ? POINT : 0;
+    const point = hasPoints(columns) && isLit(marks, at + columns - 1) ? POINT : 0;
     if (columns >= 7) {
       patterns.push(segmentsAt(marks, at) + point);
       continue;

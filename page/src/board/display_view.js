@@ -3,9 +3,9 @@
 import { Announcer } from "./announcer.js";
 import { Cell, Switch, block, element } from "../ui/dom.js";
 import { SEEN_PART, shineOf } from "./brightness.js";
-import { MINUS, NOT_LIT, POINT, isLit, patternsAt } from "./digit_patterns.js";
+import { MINUS, NOT_LIT, POINT, hasPoints, isLit, patternsAt } from "./digit_patterns.js";
 import { DisplayText } from "./display_text.js";
-import { fittingGroups } from "./face_board.js";
+import { fittingGroups, isScanned } from "./face_board.js";
 import { minusOf } from "./lamps_view.js";
 import { upTo } from "../bench/numbers.js";
 
@@ -49,10 +49,13 @@ class Digit {
     this.show(lit, this.segments.map((_, at) => (lit & (1 << at) ? 1 : 0)));
   }
 
-  /** @param {import("./brightness.js").SeenDigit} seen */
-  shine(seen) {
+  /**
+   * @param {import("./brightness.js").SeenDigit} seen
+   * @param {number} turns it is lit in one of so many turns
+   */
+  shine(seen, turns) {
     this.smeared.set(seen.isSmeared);
-    this.show(seen.pattern, seen.segments);
+    this.show(seen.pattern, seen.segments.map((part) => part * turns));
   }
 
   /**
@@ -75,8 +78,7 @@ class Display {
   /** @param {Group} group */
   constructor(group) {
     this.group = group;
-    const hasPoints = group.columns === 5 || group.columns === 8;
-    this.digits = upTo(group.rows).map(() => new Digit(false, hasPoints));
+    this.digits = upTo(group.rows).map(() => new Digit(false, hasPoints(group.columns)));
   }
 
   /** @param {string} marks */
@@ -86,7 +88,9 @@ class Display {
 
   /** @param {import("./brightness.js").SeenDigit[]} seen */
   shine(seen) {
-    seen.forEach((digit, place) => this.digits[place].shine(digit));
+    // By turns each of them can be lit for its part of the time alone.
+    const turns = isScanned(this.group) ? this.group.rows : 1;
+    seen.forEach((digit, place) => this.digits[place].shine(digit, turns));
   }
 }
 

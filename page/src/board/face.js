@@ -9,8 +9,9 @@ import { COLOURS, fitsHead, fitsWords, headOf, isNumber, limit, said, sizeOf, wo
  * @typedef {import("./face_words.js").Kind} Kind
  * @typedef {{ text: string, line: number }} Told a word or words, and the line that tells them
  * @typedef {{ row: number, column: number, lamp: number, line: number }} GridPlace
- * @typedef {{ kind: string, first: number, rows: number, columns: number, line: number }} Group so many rows of so many lamps; of a
- *   display the digits, and the lamps of each: four or seven, and one more with points
+ * @typedef {{ kind: string, first: number, rows: number, columns: number, by: number, line: number }} Group so many rows of so many
+ *   lamps; of a display the digits, and the lamps of each: four or seven, and one more with points. One that is scanned has one row of
+ *   lamps alone, and from lamp `by` on, which is else -1, one for each row: what is in a row is lit where its lamp and its row's are
  * @typedef {{ kind: string, name: string, level: number, line: number }} TestPin a `button` or a `switch`; TEST has this level while
  *   it is pressed
  * @typedef {{ name: string, kind: Kind, place: string, words: string, line: number }} Line with the word that begins it, and what stands
@@ -211,8 +212,24 @@ export class Face {
    */
   readGroup({ name, kind, place, words, line }) {
     const size = sizeOf(kind, wordsOf(words));
-    if (size) this.groups.push({ kind: name, first: Number(place), ...size, line });
-    else this.fault(line, kind.other);
+    const group = size && { kind: name, first: Number(place), ...size, line };
+    if (!group) this.fault(line, kind.other);
+    else if (group.by < 0 || this.canBeScanned(group)) this.groups.push(group);
+  }
+
+  /**
+   * Whether what is scanned is not too large, and no lamp is named twice; else that is a fault.
+   * @param {Group} group
+   */
+  canBeScanned({ kind, first, rows, columns, by, line }) {
+    const [row, column] = kind === "display" ? ["digits", "a segment"] : ["rows", "a column"];
+    const most = limit("scanned");
+    const isSmall = rows <= most && columns <= most;
+    const twice = Math.max(first, by);
+    const isTwice = twice < Math.min(first + columns, by + rows);
+    if (!isSmall) this.fault(line, said("too many scanned", row));
+    else if (isTwice) this.fault(line, said("scanned twice", twice, column, row === "digits" ? "a digit" : "a row"));
+    return isSmall && !isTwice;
   }
 
   /**

@@ -23,10 +23,25 @@ function hasPlace(board, place) {
   return board.banks.some(({ bank, chips }) => Number(bank) === first && second < chips);
 }
 
-/** @param {Group} group */
-export function endOf({ first, rows, columns }) {
-  return first + rows * columns;
+/**
+ * The number behind that of the last lamp.
+ * @param {Group} group
+ */
+export function endOf({ first, rows, columns, by }) {
+  return by < 0 ? first + rows * columns : Math.max(first + columns, by + rows);
 }
+
+/**
+ * The numbers of its lamps.
+ * @param {Group} group
+ */
+export function lampsOf({ first, rows, columns, by }) {
+  const from = (/** @type {number} */ begin, /** @type {number} */ count) => upTo(count).map((at) => begin + at);
+  return by < 0 ? from(first, rows * columns) : [...from(first, columns), ...from(by, rows)];
+}
+
+/** @param {Group} group */
+export const isScanned = ({ by }) => by >= 0;
 
 /**
  * The groups that a board of so many lamps has.

@@ -89,14 +89,18 @@ export function fitsWords({ words: expression }, words) {
 }
 
 /**
- * The rows and columns that the words of a group tell; null where they tell none.
+ * The rows and columns that the words of a group tell, and the lamp from which on it is scanned, -1 where it is not; null where they tell
+ * none.
  * @param {Kind} kind
  * @param {string[]} words
  */
 export function sizeOf(kind, words) {
   if (!fitsWords(kind, words)) return null;
-  const [first, second] = words.filter(isNumber).map(Number);
-  const size = { rows: 1, columns: first };
+  const end = words.indexOf("scanned");
+  const by = end < 0 ? "" : words[words.length - 1];
+  if (by && !isNumber(by)) return null;
+  const [first, second] = words.slice(0, end < 0 ? words.length : end).filter(isNumber).map(Number);
+  const size = { rows: 1, columns: first, by: by ? Number(by) : -1 };
   if (kind.size === "rows") Object.assign(size, { rows: first, columns: second });
   if (kind.size === "digits") Object.assign(size, { rows: first, columns: (second || 4) + (words.includes("points") ? 1 : 0) });
   return size.rows * size.columns > 0 ? size : null;

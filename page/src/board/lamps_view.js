@@ -3,7 +3,7 @@
 import { block, element } from "../ui/dom.js";
 import { SEEN_PART, shineOf } from "./brightness.js";
 import { isLit } from "./digit_patterns.js";
-import { endOf, fittingGroups } from "./face_board.js";
+import { fittingGroups, isScanned, lampsOf } from "./face_board.js";
 import { upTo } from "../bench/numbers.js";
 
 /**
@@ -11,16 +11,21 @@ import { upTo } from "../bench/numbers.js";
  * @typedef {import("./face.js").Group} Group
  */
 
+/**
+ * How a lamp is seen: whether it is lit at an instant, by the marks of all lamps, and for which part of the time it is.
+ * @typedef {{ isLit: (marks: string) => boolean, part: (brightness: import("./brightness.js").Brightness) => number }} Seen
+ */
+
 /** A lamp that is drawn. It changes the page only where it is brighter or darker now than it was before. */
 class Lamp {
   /**
-   * @param {number} at its number
+   * @param {Seen} seen
    * @param {string} name
    * @param {string} line
    * @param {string} colour
    */
-  constructor(at, name, line, colour) {
-    this.at = at;
+  constructor(seen, name, line, colour) {
+    this.seen = seen;
     this.isLit = false;
     this.shine = 0;
     this.words = { lit: `${name}, lit`, dark: `${name}, dark` };
@@ -42,6 +47,22 @@ class Lamp {
     this.node.classList.toggle("lit", isOn);
     this.node.setAttribute("aria-label", isOn ? this.words.lit : this.words.dark);
   }
+}
+
+/**
+ * The list of a group's lamps.
+ * @param {Group} group
+ * @param {(at: number, place: string) => HTMLElement} lamp
+ */
+function listOf({ kind, rows, columns }, lamp) {
+  const cells = upTo(rows * columns).map((at) => {
+    const place = rows > 1 ? `row ${Math.floor(at / columns)}, column ${at % columns}` : `lamp ${at + 1} of ${columns}`;
+    return element("li", {}, lamp(at, place));
+  });
+  const list = element("ul", { className: `group ${kind}` }, ...cells);
+  list.setAttribute("aria-label", kind);
+  list.style.setProperty("--columns", String(columns));
+  return list;
 }
 
 /** @param {string} line `ram0.3.2` is line 2 of the port `ram0.3` */
@@ -70,9 +91,11 @@ export class LampsView {
     const groups = fittingGroups(face, lines.length);
     const grid = face.grid.filter(({ lamp }) => lamp < lines.length);
     const placed = new Set(grid.map(({ lamp }) => lamp));
-    for (const group of groups) for (let at = group.first; at < endOf(group); at++) placed.add(at);
+    for (const group of groups) for (const lamp of lampsOf(group)) placed.add(lamp);
     if (groups.some(({ kind }) => kind === "display")) placed.add(minusOf(face));
-    const drawn = groups.filter(({ kind }) => kind !== "display").map((group) => this.drawGroup(group));
+    let scanned = 0;
+    const drawn = groups.filter(({ kind }) => kind !== "display").map((group) => (
+      isScanned(group) ? this.drawScanned(group, scanned++) : this.drawGroup(group)));
     if (grid.length > 0) drawn.push(this.drawGrid(grid));
     block("groups").replaceChildren(...drawn);
     block("lamps").replaceChildren(...this.drawRows(upTo(lines.length).filter((at) => !placed.has(at))));
@@ -89,8 +112,18 @@ export class LampsView {
    * @param {string} name what it is called where it has none
    */
   lamp(at, name) {
+    return this.add(at, { isLit: (marks) => isLit(marks, at), part: ({ lamps }) => lamps[at] }, this.nameOf(at) || name, this.lines[at]);
+  }
+
+  /**
+   * @param {number} at the lamp that it has its colour of
+   * @param {Seen} seen
+   * @param {string} name
+   * @param {string} line
+   */
+  add(at, seen, name, line) {
     const colour = this.face && this.face.colours.get(at);
-    const lamp = new Lamp(at, this.nameOf(at) || name, this.lines[at], colour ? colour.text : "red");
+    const lamp = new Lamp(seen, name, line, colour ? colour.text : "red");
     this.lamps.push(lamp);
     return lamp.node;
   }
@@ -99,15 +132,25 @@ export class LampsView {
    * A die, a bar or a matrix.
    * @param {Group} group
    */
-  drawGroup({ kind, first, rows, columns }) {
-    const cells = upTo(rows * columns).map((at) => {
-      const place = rows > 1 ? `row ${Math.floor(at / columns)}, column ${at % columns}` : `lamp ${at + 1} of ${columns}`;
-      return element("li", {}, this.lamp(first + at, place));
+  drawGroup(group) {
+    return listOf(group, (at, place) => this.lamp(group.first + at, place));
+  }
+
+  /**
+   * One whose rows are lit by turns: each of its lamps can be lit for its part of the time alone.
+   * @param {Group} group
+   * @param {number} number of those that are scanned
+   */
+  drawScanned(group, number) {
+    const { first, rows, columns, by } = group;
+    return listOf(group, (at, place) => {
+      const [column, row] = [first + (at % columns), by + Math.floor(at / columns)];
+      const seen = {
+        isLit: (/** @type {string} */ marks) => isLit(marks, column) && isLit(marks, row),
+        part: (/** @type {import("./brightness.js").Brightness} */ { scanned }) => Math.min(1, scanned[number][at] * rows),
+      };
+      return this.add(column, seen, place, `${this.lines[column]} and ${this.lines[row]}`);
     });
-    const list = element("ul", { className: `group ${kind}` }, ...cells);
-    list.setAttribute("aria-label", kind);
-    list.style.setProperty("--columns", String(columns));
-    return list;
   }
 
   /** @param {Face["grid"]} grid */
@@ -150,12 +193,12 @@ export class LampsView {
 
   /** @param {string} marks a `*` for each lamp that is lit at this instant */
   show(marks) {
-    for (const lamp of this.lamps) lamp.show(isLit(marks, lamp.at) ? 1 : 0);
+    for (const lamp of this.lamps) lamp.show(lamp.seen.isLit(marks) ? 1 : 0);
   }
 
   /** @param {import("./brightness.js").Brightness} brightness */
   shine(brightness) {
-    for (const lamp of this.lamps) lamp.show(brightness.lamps[lamp.at]);
+    for (const lamp of this.lamps) lamp.show(lamp.seen.part(brightness));
   }
 }
 

@@ -3,12 +3,14 @@
 
 import { hex, numberOf, upTo } from "../bench/numbers.js";
 import { DisplayText } from "../board/display_text.js";
+import { lampsOf } from "../board/face_board.js";
+import { SeenText, hasScannedDisplay } from "../worker/seen_text.js";
 import { wholeDuration } from "./durations.js";
 
 /**
  * @typedef {import("./conditions.js").Names} Names
  * @typedef {import("./conditions.js").Beside} Beside
- * @typedef {{ what: string, isMany?: boolean, want: string, places: string[], beside?: "test" | "owed" | "cycles",
+ * @typedef {{ what: string, isMany?: boolean, want: string, places: string[], beside?: "test" | "owed" | "cycles" | "seen",
  *   measure: (values: string[], beside: Beside) => string, fits: (is: string, beside: Beside) => boolean,
  *   single?: { read: (values: string[]) => number, wanted: number }, address?: number,
  *   remark?: (is: string) => string }} Term `want` is what it has to be, in words,
@@ -69,7 +71,7 @@ const marksOf = (value) => (value === "-" ? "" : value);
  */
 function isOfDisplay(at, { face }) {
   if (face.lamps.has(at)) return false;
-  return face.groups.some((group) => group.kind === "display" && at >= group.first && at < group.first + group.rows * group.columns);
+  return face.groups.some((group) => group.kind === "display" && lampsOf(group).includes(at));
 }
 
 /**
@@ -114,24 +116,30 @@ export function lampTerm([, name, want, ...more], names) {
 }
 
 /**
- * `display 42`, `display 0 overflow`: as tools/display prints it.
+ * What is shown, with the names of lamps behind it.
+ * @param {{ number: string, names: string }} shown
+ */
+const shownWords = ({ number, names }) => (names === "" ? number : `${number} ${names}`);
+
+/**
+ * `display 42`, `display 0 overflow`: as tools/display prints it. Where digits are lit by turns, it is what an eye sees.
  * @param {string[]} words
  * @param {Names} names
  * @returns {Term}
  */
-export function displayTerm([, ...words], { face }) {
+export function displayTerm([, ...words], { face, board }) {
   const displays = face.groups.filter(({ kind }) => kind === "display");
   if (displays.length === 0) fail("the board's text names no display (`# display 0: 4 digits`)");
   if (words.length === 0) fail("it is written as `display TEXT`, as in: display -18");
   const reader = new DisplayText(displays, [...face.lamps].map(([at, { text }]) => ({ at, text })));
   const want = words.join(" ");
-  return {
-    what: "display", want, places: ["lamps"], fits: (is) => is === want,
-    measure: ([marks]) => {
-      const { number, names } = reader.read(marksOf(marks));
-      return names === "" ? number : `${number} ${names}`;
-    },
-  };
+  /** @type {(is: string) => boolean} */
+  const fits = (is) => is === want;
+  if (hasScannedDisplay(face)) {
+    const seen = new SeenText(face, board.lamps.length);
+    return { what: "display", want, places: [], beside: "seen", fits, measure: (_, beside) => shownWords(seen.read(beside.seen)) };
+  }
+  return { what: "display", want, places: ["lamps"], fits, measure: ([marks]) => shownWords(reader.read(marksOf(marks))) };
 }
 
 /**

@@ -1,6 +1,7 @@
 // A text of properties: what may be changed on the board, what makes a state new, and what must hold. Its lines are in the manual
 // ("Looking for what breaks it").
 
+import { hasScannedDisplay } from "../worker/seen_text.js";
 import { conditionOf } from "../debug/conditions.js";
 import { durationOf, wholeDuration } from "../debug/durations.js";
 import { keysOf, namesOfInputs, pinOf } from "./inputs.js";
@@ -244,6 +245,9 @@ const PROPERTIES = {
     if (rest === "") fail("it is written as `model COMMAND`: the command gets keys, and prints what the display has to show");
     if (!reader.names.face.groups.some(({ kind }) => kind === "display")) {
       fail("the board's text names no display (`# display 0: 4 digits`)");
+    }
+    if (hasScannedDisplay(reader.names.face)) {
+      fail("the display's digits are lit by turns, and a model needs one that shows its number at once");
     }
     reader.command = rest;
     return model(text);

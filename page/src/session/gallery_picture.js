@@ -3,7 +3,7 @@
 
 import { placesOfParts } from "../bench/board_places.js";
 import { Face } from "../board/face.js";
-import { endOf } from "../board/face_board.js";
+import { endOf, isScanned, lampsOf } from "../board/face_board.js";
 import { upTo } from "../bench/numbers.js";
 
 /**
@@ -55,12 +55,14 @@ class Drawing {
 
   drawGroups() {
     for (const group of this.face.groups.filter((each) => endOf(each) <= this.lampCount)) {
-      for (let lamp = group.first; lamp < endOf(group); lamp++) this.drawn.add(lamp);
+      for (const lamp of lampsOf(group)) this.drawn.add(lamp);
       if (group.kind === "display") this.drawDisplay(group.rows);
       else if (group.kind === "die") this.drawAt(upTo(7).map((at) => ({ lamp: group.first + at, column: PIPS[at][0], row: PIPS[at][1] })));
       else {
         const { first, rows, columns } = group;
-        this.drawAt(upTo(rows * columns).map((at) => ({ lamp: first + at, column: at % columns, row: Math.floor(at / columns) })));
+        // What is scanned has the colours of its columns.
+        const lampAt = (/** @type {number} */ at) => first + (isScanned(group) ? at % columns : at);
+        this.drawAt(upTo(rows * columns).map((at) => ({ lamp: lampAt(at), column: at % columns, row: Math.floor(at / columns) })));
       }
     }
   }

@@ -29,6 +29,8 @@ import { keysOf } from "./test_text.js";
 
 /** How long a key is down (43 ms) and up (173 ms) by `keys`, in cycles. */
 const DOWN = 4000;
+/** How often it is looked for what an eye sees. */
+const LOOK_CYCLES = 1000;
 const UP = 16000;
 
 /** The tests of a text on one board with one program. */
@@ -249,6 +251,7 @@ export class TestRun {
    * @param {number} end
    */
   async untilChange(session, condition, end) {
+    if (condition.needs.includes("seen")) return this.untilSeen(session, condition, end);
     let stop = "end";
     // What no trace tells (TEST, a cycle that is owed) can change with the first cycle alone.
     let piece = condition.places.length > 0 ? 1000 : 1;
@@ -258,6 +261,21 @@ export class TestRun {
       const cycles = condition.places.length > 0 ? this.cyclesToChange(session, condition, piece, most) : 0;
       stop = await session.run(cycles || piece);
       if (cycles > 0 || (piece === 1 && session.look(condition).holds)) break;
+    }
+    return stop;
+  }
+
+  /**
+   * What an eye sees of a display whose digits are lit by turns: it is looked at every so many cycles.
+   * @param {TestSession} session
+   * @param {Condition} condition
+   * @param {number} end
+   */
+  async untilSeen(session, condition, end) {
+    let stop = "end";
+    while (session.elapsed < end && stop === "end") {
+      stop = await session.run(Math.min(LOOK_CYCLES, end - session.elapsed));
+      if (session.look(condition).holds) break;
     }
     return stop;
   }

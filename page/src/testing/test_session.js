@@ -1,6 +1,7 @@
 // A session under test: in memory, with what was done on it since a moment that is kept, so that the last instructions can be told. Each
 // run is counted before it is done.
 
+import { SEEN_QUESTION } from "../worker/seen_text.js";
 import { readCounter } from "../bench/answers.js";
 import { romCodes } from "../worker/rom_codes.js";
 import { LONGEST_RUN } from "../worker/key_queue.js";
@@ -141,12 +142,13 @@ export class TestSession {
    * @param {Condition} condition
    */
   look(condition) {
-    const { places } = condition;
+    const { places, needs } = condition;
+    const seen = needs.includes("seen") ? this.ask(SEEN_QUESTION) : [];
     const answers = this.ask(`${places.length > 0 ? `trace 1 ${places.join(" ")}\n` : ""}regs\n`);
     const values = places.length > 0 ? valuesOf(new Answers(answers).takeTrace().row) : [];
     const [, , , , , , , owed, , , , test] = answers[answers.length - 1].split(" ", 12);
     /** @type {Beside} */
-    const beside = { test, owed, cycles: this.elapsed - this.marked };
+    const beside = { test, owed, cycles: this.elapsed - this.marked, seen };
     return { holds: condition.holds(values, beside), told: condition.tell(values, beside) };
   }
 

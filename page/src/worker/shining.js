@@ -1,18 +1,20 @@
 // How long each lamp of a board is lit while time runs, and each digit of a display shows what: by the answers to `trace`, before each run.
 
 import { patternsAt, NOT_LIT, isLit } from "../board/digit_patterns.js";
-import { fittingGroups } from "../board/face_board.js";
+import { fittingGroups, isScanned } from "../board/face_board.js";
 import { Answers, readTraced } from "./tracing.js";
 
 /**
  * @typedef {import("../board/face.js").Face} Face
  * @typedef {import("../board/face.js").Group} Group
  *
- * What was lit in so many cycles, in cycles: of each lamp; of each digit of each display the patterns that were shown, and how long.
- * `face`: by which face, as the page numbers them.
- * @typedef {{ face: number, cycles: number, lamps: number[], digits: [number, number][][][] }} Shone
+ * What was lit in so many cycles, in cycles: of each lamp; of each digit of each display the patterns that were shown, and how long; of
+ * each other group that is scanned its lamps, row by row. `face`: by which face, as the page numbers them.
+ * @typedef {{ face: number, cycles: number, lamps: number[], digits: [number, number][][][], scanned: number[][] }} Shone
  */
 
+/** An eye needs 30 ms, which are so many cycles in real time. */
+export const CYCLES_OF_EYE = 2778;
 /** Of steps that have more cycles nobody is asked: time at full speed is looked at in another way. */
 export const MOST_SHONE = 20000;
 
@@ -53,6 +55,39 @@ class Digits {
   }
 }
 
+/** Adds up how long the lamps of a group that is scanned are lit. */
+class ScannedLamps {
+  /** @param {Group} group */
+  constructor(group) {
+    this.group = group;
+    /** @type {number[]} */
+    this.lit = [];
+    this.begin();
+  }
+
+  begin() {
+    this.lit = new Array(this.group.rows * this.group.columns).fill(0);
+  }
+
+  /**
+   * @param {string} marks
+   * @param {number} cycles
+   */
+  add(marks, cycles) {
+    const { first, rows, columns, by } = this.group;
+    for (let row = 0; row < rows; row++) {
+      if (!isLit(marks, by + row)) continue;
+      for (let column = 0; column < columns; column++) if (isLit(marks, first + column)) this.lit[row * columns + column] += cycles;
+    }
+  }
+
+  take() {
+    const { lit } = this;
+    this.begin();
+    return lit;
+  }
+}
+
 export class Shining {
   /**
    * @param {Face} face
@@ -61,7 +96,9 @@ export class Shining {
    */
   constructor(face, count, number) {
     this.number = number;
-    this.displays = fittingGroups(face, count).filter(({ kind }) => kind === "display").map((group) => new Digits(group));
+    const groups = fittingGroups(face, count);
+    this.displays = groups.filter(({ kind }) => kind === "display").map((group) => new Digits(group));
+    this.scanned = groups.filter((group) => isScanned(group) && group.kind !== "display").map((group) => new ScannedLamps(group));
     this.cycles = 0;
     /** @type {number[]} */
     this.lamps = new Array(count).fill(0);
@@ -89,10 +126,10 @@ export class Shining {
    */
   take(told) {
     for (const answers of told) if (answers.length > 0) this.add(answers);
-    const { number, cycles, lamps, displays } = this;
+    const { number, cycles, lamps, displays, scanned } = this;
     this.cycles = 0;
     this.lamps = lamps.map(() => 0);
-    return { face: number, cycles, lamps, digits: displays.map((display) => display.take()) };
+    return { face: number, cycles, lamps, digits: displays.map((each) => each.take()), scanned: scanned.map((each) => each.take()) };
   }
 
   /** @param {string[]} answers to one question; what an instruction changes is there once its first cycle is over */
@@ -106,7 +143,8 @@ export class Shining {
       marks = traced.row.slice(1);
       from = traced.cycles + 1;
     }
-    this.addMarks(marks, cyclesOf(answers[0]) - from);
+    // Where nothing runs, what is lit at this instant.
+    this.addMarks(marks, cyclesOf(answers[0]) === 0 ? 1 : cyclesOf(answers[0]) - from);
   }
 
   /**
@@ -118,5 +156,6 @@ export class Shining {
     this.cycles += cycles;
     for (let at = 0; at < this.lamps.length; at++) if (isLit(marks, at)) this.lamps[at] += cycles;
     for (const display of this.displays) display.add(marks, cycles);
+    for (const group of this.scanned) group.add(marks, cycles);
   }
 }

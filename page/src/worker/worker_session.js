@@ -10,7 +10,7 @@ import { KeyQueue } from "./key_queue.js";
 import { lookOf, questionsOf } from "../bench/look.js";
 import { PieceSize } from "./pieces.js";
 import { romCodes } from "./rom_codes.js";
-import { MOST_SHONE } from "./shining.js";
+import { CYCLES_OF_EYE, MOST_SHONE } from "./shining.js";
 import { SEGMENT_ENTRIES, Timeline } from "./timeline.js";
 
 /**
@@ -39,9 +39,6 @@ const MOST_FOLLOWED = 2000000;
 const FIRST_PIECE = 4096;
 const LEAST_PIECE = 256;
 const LARGEST_PIECE = 1 << 20;
-
-/** An eye needs 30 ms, which are so many cycles in real time. */
-const CYCLES_OF_EYE = 2778;
 
 /** @type {Record<string, true>} */
 const TOUCHES_ROM = { poke: true, wire: true, asm: true };

@@ -1,0 +1,41 @@
+// What the displays of a board show to an eye, in words: by what is lit in the 30 ms that come next, if nothing is pressed.
+
+import { Brightness, SEEN_PART } from "../board/brightness.js";
+import { DisplayText } from "../board/display_text.js";
+import { isScanned } from "../board/face_board.js";
+import { CYCLES_OF_EYE, Shining } from "./shining.js";
+
+/**
+ * @typedef {import("../board/face.js").Face} Face
+ */
+
+/** The question, which is answered as any `trace`. */
+export const SEEN_QUESTION = `trace ${CYCLES_OF_EYE} lamps\n`;
+
+/**
+ * Whether some digits are lit by turns, so that no instant shows a number.
+ * @param {Face} face
+ */
+export function hasScannedDisplay(face) {
+  return face.groups.some((group) => group.kind === "display" && isScanned(group));
+}
+
+export class SeenText {
+  /**
+   * @param {Face} face
+   * @param {number} count of the board's lamps
+   */
+  constructor(face, count) {
+    this.face = face;
+    this.count = count;
+    const displays = face.groups.filter(({ kind }) => kind === "display");
+    this.text = new DisplayText(displays, [...face.lamps].map(([at, { text }]) => ({ at, text })));
+  }
+
+  /** @param {string[]} answers to the question */
+  read(answers) {
+    const brightness = new Brightness(this.face, this.count);
+    brightness.add(new Shining(this.face, this.count, 0).take([answers]), Infinity);
+    return this.text.words(brightness.patterns, (lamp) => brightness.lamps[lamp] >= SEEN_PART);
+  }
+}
