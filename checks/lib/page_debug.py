@@ -168,7 +168,9 @@ def check_typed(browser):
 
 def check_back(browser):
     """Back to the last arrival where a condition holds, however time went on; and to the beginning, where there is none."""
-    lines_answered(browser, "run 77")
+    # To the next arrival, and on: R9 is counted 16 times on, by 11 cycles.
+    for cycles in (150, 26, 77):
+        lines_answered(browser, f"run {cycles}")
     browser.click("#back-breakpoint")
     comes(browser, "back to the arrival where its condition holds", STATUS,
           re.compile(r"^Back at 011, 77 cycles, .* before, at a breakpoint, where r9 = 9\.$"))
@@ -178,7 +180,7 @@ def check_back(browser):
     browser.click("#back-breakpoint")
     browser.until(STATUS, re.compile("at a breakpoint, where r9 = 9"))
     browser.click("#back-breakpoint")
-    comes(browser, "and to the one before it: R9 was counted 16 times on, by 11 cycles", STATUS, re.compile("^Back at 011, 176 cycles, "))
+    comes(browser, "and to the one before it", STATUS, re.compile("^Back at 011, 176 cycles, "))
     browser.script(FILL, CONDITION, "r9 = 9 and r9 = 8")
     browser.click("#back-breakpoint")
     comes(browser, "there is none where it never holds", STATUS,
