@@ -8,6 +8,7 @@ import { Face } from "../src/board/face.js";
 import { actOn } from "../src/drawing/acts.js";
 import { sourcesOf } from "../src/drawing/board_lines.js";
 import { Drawing } from "../src/drawing/drawing.js";
+import { titleOf } from "../src/session/described.js";
 import { fieldsOf } from "../src/drawing/fields.js";
 import { edited, inverseOf } from "../src/drawing/text_edits.js";
 import { Engine } from "../src/worker/engine.js";
@@ -145,6 +146,11 @@ test("acts that follow one another at once are done one after the other", async 
   const desk = await drawn();
   await Promise.all([1, 2, 3, 4].map(() => desk.drawing.act({ kind: "add", part: "lamp" })));
   assert.deepEqual(desk.shown.board.lamps, ["ram0.0.0", "ram0.0.1", "ram0.0.2", "ram0.0.3"]);
+});
+
+test("a line of a face is no title", () => {
+  assert.deepEqual([titleOf("# lamp 0: a\n[[rom]]\n", "; a program. x\n"), titleOf("# My board\n# lamp 0: a\n", "")],
+    ["A program.", "My board."]);
 });
 
 test("a board is known to be the one that is wired", async () => {

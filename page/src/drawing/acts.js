@@ -208,7 +208,9 @@ function perform(sketch, act) {
   switch (act.kind) {
     case "add": {
       const part = addFromShelf(sketch, act);
-      return [part, doneTo(part, "added")];
+      const isDisplay = act.part === "digit" || act.part === "segments";
+      const digits = act.digits || 1;
+      return [part, isDisplay ? `A display of ${digits} digit${digits > 1 ? "s" : ""} was added` : doneTo(part, "added")];
     }
     case "copy": {
       const part = copy(sketch, act.part);

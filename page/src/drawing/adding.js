@@ -70,6 +70,8 @@ function alsoAdd(sketch, add) {
  * @param {string} part
  */
 export function nameOfPart(part) {
+  if (part === "test") return "what is at TEST";
+  if (part === "title") return "the board";
   if (part === "keys" || part === "lamps") return `the ${part}`;
   return part.replace(/^(rom|ram) /, (kind) => kind.toUpperCase());
 }

@@ -1,11 +1,12 @@
 // What texts are, in words for someone who has not seen them yet.
 
 import { Face } from "../board/face.js";
+import { headOf } from "../board/face_words.js";
 
 /** @typedef {import("../bench/answers.js").Board} Board */
 
 /**
- * The first sentence of the comment that a text begins with, "" where there is none.
+ * The first sentence of the comment that a text begins with, "" where there is none. A line of a face is no sentence.
  * @param {string} text
  * @param {string} mark begins a comment
  */
@@ -13,7 +14,7 @@ function firstSentence(text, mark) {
   const comment = [];
   for (const line of text.split("\n")) {
     const words = line.startsWith(mark) ? line.replace(/^[#; ]+|[#; ]+$/g, "") : "";
-    if (words === "") break;
+    if (words === "" || headOf(line)) break;
     comment.push(words);
   }
   const [sentence] = comment.join(" ").split(/[.:](?: |$)/);
