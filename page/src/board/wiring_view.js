@@ -37,6 +37,8 @@ export class WiringView {
     this.items = new Map();
     /** @type {Map<string, Part>} */
     this.parts = new Map();
+    /** @type {Map<string, string[]>} the pins that a line goes to */
+    this.takers = new Map();
     /** @type {WeakMap<Element, string>} the part or the pin that an element is drawn for */
     this.names = new WeakMap();
     /** @type {{ mask: string, levels: Levels }[]} the lines of each ROM, with its port in the board's text */
@@ -101,6 +103,7 @@ export class WiringView {
     /** @type {Map<string, SVGElement[]>} */
     const nodes = new Map();
     const wireNodes = wires.flatMap((wire) => this.drawWire(wire, nodes));
+    this.takers = takersOf(wires);
     const partNodes = parts.map((part) => this.drawPart(part, nodes));
     for (const [line, some] of nodes) {
       this.levels.set(line, new Switch((isOn) => some.forEach((node) => node.classList.toggle("high", isOn))));
@@ -182,11 +185,21 @@ export class WiringView {
     const label = drawn("text", { class: side, x: pin.x + (isLeft ? 10 : -10), y: pin.y + 4 }, pin.label);
     nodes.set(pin.line, [...(nodes.get(pin.line) || []), dot]);
     const reach = drawn("circle", { class: "reach", ...place, r: REACH });
-    const words = `${part.title}, ${pin.label}${pin.line && pin.id !== pin.line ? `, at ${pin.line}` : ""}`;
+    const words = `${part.title}, ${pin.label}, ${this.wordsOfPin(pin)}`;
     const node = drawn("g", { "class": "at-pin", "role": "button", "tabindex": -1, "aria-label": words },
       drawn("title", {}, pin.line || "the TEST pin"), dot, label, reach);
     this.name(node, pin.id);
     return node;
+  }
+
+  /**
+   * What a pin is wired to.
+   * @param {Pin} pin
+   */
+  wordsOfPin({ id, line }) {
+    if (line !== "" && id !== line) return `at ${line}`;
+    const takers = (this.takers.get(line) || []).filter((taker) => taker !== id);
+    return takers.length > 0 ? `wired to ${takers.join(" and ")}` : "not wired";
   }
 
   /**
@@ -296,6 +309,17 @@ export class WiringView {
     this.isTestHigh = isOn;
     if (this.isShown) this.showLevels();
   }
+}
+
+/**
+ * The pins that each line goes to.
+ * @param {Wire[]} wires
+ */
+function takersOf(wires) {
+  /** @type {Map<string, string[]>} */
+  const takers = new Map();
+  for (const { line, to } of wires) takers.set(line, [...(takers.get(line) || []), to.id]);
+  return takers;
 }
 
 /**
