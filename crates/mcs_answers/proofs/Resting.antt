@@ -20,7 +20,8 @@ use Rattle.mcs_ahead.specs.declared.probe.Probe.{Probe}
 use Rattle.mcs_ahead.specs.declared.probe.Probe.TheVariants as place
 use Rattle.mcs_ahead.specs.Probes.{level_on, levels_on, probe_text, row}
 use Rattle.mcs_trace.proofs.Steps.{rests, with_owed}
-use Rattle.mcs_answers.specs.Resting.{Keeps, Rests, RowKeeps, RowRests, WritesPort, WritesStatus}
+use Rattle.mcs_answers.specs.declared.traces.Seen.{Seen}
+use Rattle.mcs_answers.specs.Resting.{Keeps, Rests, RowKeeps, RowRests, SeesToo, WritesPort, WritesStatus, touches}
 
 -- what holds of the bus that an instruction leaves, by what it does to it
 by-bus : (op : Op) (s : Regs) (m : BusState) (P : Op → BusState → Type 0)
@@ -321,3 +322,136 @@ kept-of stops left t u w probes (Some op) h is same =
 pub row-stays : (stops : Stops) (left : ℕ) (t u : Machine) (w : Went) (before after : Regs) (probes : List Probe) → WentTo stops left t u w → before ≡ t.0 → after ≡ u.0 → RowRests w.op before after probes ⊎ RowKeeps w.op probes → row probes t ≡ row probes u
 row-stays stops left t u w before after probes h e f (inl same) = row-of stops left t u w before after probes w.op h e f refl same
 row-stays stops left t u w before after probes h e f (inr same) = kept-of stops left t u w probes w.op h refl same
+
+-- ---- what is seen of a row
+
+-- what leaves all that is seen leaves what was seen before
+fewer : (seen more : Seen) → (more.ports ≡ false → seen.ports ≡ false) → (more.ram ≡ false → seen.ram ≡ false) → (more.status ≡ false → seen.status ≡ false) → (more.src ≡ false → seen.src ≡ false) → (more.returns ≡ false → seen.returns ≡ false)
+    → (op : Op) → touches more op ≡ false → touches seen op ≡ false
+fewer seen more ports ram status src returns Nop e = refl
+fewer seen more ports ram status src returns (Jcn a b) e = refl
+fewer seen more ports ram status src returns (Fim a b) e = refl
+fewer seen more ports ram status src returns (Src a) e = src e
+fewer seen more ports ram status src returns (Fin a) e = refl
+fewer seen more ports ram status src returns (Jin a) e = refl
+fewer seen more ports ram status src returns (Jun a b) e = refl
+fewer seen more ports ram status src returns (Jms a b) e = returns e
+fewer seen more ports ram status src returns (Inc a) e = refl
+fewer seen more ports ram status src returns (Isz a b) e = refl
+fewer seen more ports ram status src returns (Add a) e = refl
+fewer seen more ports ram status src returns (Sub a) e = refl
+fewer seen more ports ram status src returns (Ld a) e = refl
+fewer seen more ports ram status src returns (Xch a) e = refl
+fewer seen more ports ram status src returns (Bbl a) e = returns e
+fewer seen more ports ram status src returns (Ldm a) e = refl
+fewer seen more ports ram status src returns Wrm e = ram e
+fewer seen more ports ram status src returns Wmp e = ports e
+fewer seen more ports ram status src returns Wrr e = ports e
+fewer seen more ports ram status src returns Wr0 e = status e
+fewer seen more ports ram status src returns Wr1 e = status e
+fewer seen more ports ram status src returns Wr2 e = status e
+fewer seen more ports ram status src returns Wr3 e = status e
+fewer seen more ports ram status src returns Sbm e = refl
+fewer seen more ports ram status src returns Rdm e = refl
+fewer seen more ports ram status src returns Rdr e = refl
+fewer seen more ports ram status src returns Adm e = refl
+fewer seen more ports ram status src returns Rd0 e = refl
+fewer seen more ports ram status src returns Rd1 e = refl
+fewer seen more ports ram status src returns Rd2 e = refl
+fewer seen more ports ram status src returns Rd3 e = refl
+fewer seen more ports ram status src returns Clb e = refl
+fewer seen more ports ram status src returns Clc e = refl
+fewer seen more ports ram status src returns Iac e = refl
+fewer seen more ports ram status src returns Cmc e = refl
+fewer seen more ports ram status src returns Cma e = refl
+fewer seen more ports ram status src returns Ral e = refl
+fewer seen more ports ram status src returns Rar e = refl
+fewer seen more ports ram status src returns Tcc e = refl
+fewer seen more ports ram status src returns Dac e = refl
+fewer seen more ports ram status src returns Tcs e = refl
+fewer seen more ports ram status src returns Stc e = refl
+fewer seen more ports ram status src returns Daa e = refl
+fewer seen more ports ram status src returns Kbp e = refl
+fewer seen more ports ram status src returns Dcl e = refl
+
+-- what touches nothing that is seen, of something that is seen
+off : (seen : Seen) (op other : Op) (b : Bool) → touches seen op ≡ false → touches seen other ≡ b → b ≡ true → op ≡ other → ⊥
+off seen op other b e is on same = let h = sym (ap (touches seen) same) ∙ e in absurd (cc)
+
+off-port : (seen : Seen) (op : Op) → touches seen op ≡ false → seen.ports ≡ true → WritesPort op → ⊥
+off-port seen op e on (inl same) = off seen op Wmp seen.ports e refl on same
+off-port seen op e on (inr same) = off seen op Wrr seen.ports e refl on same
+
+off-status : (seen : Seen) (op : Op) → touches seen op ≡ false → seen.status ≡ true → WritesStatus op → ⊥
+off-status seen op e on (inl same) = off seen op Wr0 seen.status e refl on same
+off-status seen op e on (inr (inl same)) = off seen op Wr1 seen.status e refl on same
+off-status seen op e on (inr (inr (inl same))) = off seen op Wr2 seen.status e refl on same
+off-status seen op e on (inr (inr (inr same))) = off seen op Wr3 seen.status e refl on same
+
+never : {A : Type 0} → true ≡ false → A
+never e = absurd (cc)
+
+same-flag : (b : Bool) → b ≡ false → b ≡ false
+same-flag b e = e
+
+pub sees-rom : (seen : Seen) (at : ℕ) → SeesToo seen seen (place.Rom at)
+sees-rom seen at = record {
+  registers = λ e. e;
+  others = λ op e. e;
+  place = λ _ op e. outside-keeps op (place.Rom at) (λ before after. rom-rests op before after at);
+}
+
+pub sees-ram : (seen : Seen) (bank src : ℕ) → SeesToo seen (record seen { ram = true }) (place.Ram bank src)
+sees-ram seen bank src =
+    let more : Seen = record seen { ram = true } in
+    record {
+      registers = λ e. e;
+      others = fewer seen more (same-flag seen.ports) never (same-flag seen.status) (same-flag seen.src) (same-flag seen.returns);
+      place = λ _ op e. outside-keeps op (place.Ram bank src) (λ before after. ram-rests op before after bank src (off more op Wrm true e refl refl));
+    }
+
+pub sees-status : (seen : Seen) (bank high k : ℕ) → SeesToo seen (record seen { status = true }) (place.Status bank high k)
+sees-status seen bank high k =
+    let more : Seen = record seen { status = true } in
+    record {
+      registers = λ e. e;
+      others = fewer seen more (same-flag seen.ports) (same-flag seen.ram) never (same-flag seen.src) (same-flag seen.returns);
+      place = λ _ op e. outside-keeps op (place.Status bank high k) (λ before after. status-rests op before after bank high k (off-status more op e refl));
+    }
+
+-- a place at lines
+pub sees-port : (seen : Seen) (p : Probe) → ((op : Op) (before after : Regs) → (WritesPort op → ⊥) → Rests op before after p) → SeesToo seen (record seen { ports = true }) p
+sees-port seen p h =
+    let more : Seen = record seen { ports = true } in
+    record {
+      registers = λ e. e;
+      others = fewer seen more never (same-flag seen.ram) (same-flag seen.status) (same-flag seen.src) (same-flag seen.returns);
+      place = λ _ op e. outside-keeps op p (λ before after. h op before after (off-port more op e refl));
+    }
+
+pub sees-src : (seen : Seen) → SeesToo seen (record seen { src = true }) place.Src
+sees-src seen =
+    let more : Seen = record seen { src = true } in
+    record {
+      registers = λ e. e;
+      others = fewer seen more (same-flag seen.ports) (same-flag seen.ram) (same-flag seen.status) never (same-flag seen.returns);
+      place = λ _ op e. outside-keeps op place.Src (λ before after. src-rests op before after (λ k. off more op (Src k) true e refl refl));
+    }
+
+pub sees-returns : (seen : Seen) → SeesToo seen (record seen { returns = true }) place.Returns
+sees-returns seen =
+    let more : Seen = record seen { returns = true } in
+    record {
+      registers = λ e. e;
+      others = fewer seen more (same-flag seen.ports) (same-flag seen.ram) (same-flag seen.status) (same-flag seen.src) never;
+      place = λ _ op e. returns-keep op (λ high low. off more op (Jms high low) true e refl refl) (λ digit. off more op (Bbl digit) true e refl refl);
+    }
+
+pub sees-registers : (seen : Seen) (p : Probe) → SeesToo seen (record seen { registers = true }) p
+sees-registers seen p =
+    let more : Seen = record seen { registers = true } in
+    record {
+      registers = never;
+      others = fewer seen more (same-flag seen.ports) (same-flag seen.ram) (same-flag seen.status) (same-flag seen.src) (same-flag seen.returns);
+      place = λ e. never e;
+    }

@@ -1,12 +1,13 @@
 -- Which instructions surely leave what stands at a place as it is.
-use Rattle.std.specs.Prelude.{◌≡◌, ◌⊎◌, List, Option, Some, None}
+use Rattle.std.specs.Prelude.{◌≡◌, ◌⊎◌, Bool, false, List, Option, Some, None}
 use Rattle.mcs_model.specs.declared.op.Op.{Op}
-use Rattle.mcs_model.specs.declared.op.Op.TheVariants.{Wmp, Wrr, Wr0, Wr1, Wr2, Wr3}
+use Rattle.mcs_model.specs.declared.op.Op.TheVariants.{Src, Jms, Bbl, Wrm, Wmp, Wrr, Wr0, Wr1, Wr2, Wr3}
 use Rattle.mcs_model.specs.declared.regs.Regs.{Regs}
 use Rattle.mcs_model.specs.Bus.{BusState}
 use Rattle.mcs_model.specs.Effect.{bus_after, effect}
 use Rattle.mcs_ahead.specs.declared.probe.Probe.{Probe}
 use Rattle.mcs_ahead.specs.Probes.{probe_text, row}
+use Rattle.mcs_answers.specs.declared.traces.Seen.{Seen}
 
 abbrev pub WritesPort : Op → Type 0
 WritesPort op = (op ≡ Wmp) ⊎ (op ≡ Wrr)
@@ -35,3 +36,31 @@ abbrev pub RowKeeps : Option Op → List Probe → Type 0
 RowKeeps None probes = ⊥
 RowKeeps (Some op) probes =
     (regs : Regs) (m : BusState) → row probes (effect op regs m) ≡ row probes (regs, m)
+
+-- ---- what is seen of a row
+
+-- whether an instruction may change what is seen outside the registers, or the return addresses
+abbrev pub touches : Seen → Op → Bool
+touches seen Wmp = seen.ports
+touches seen Wrr = seen.ports
+touches seen Wrm = seen.ram
+touches seen Wr0 = seen.status
+touches seen Wr1 = seen.status
+touches seen Wr2 = seen.status
+touches seen Wr3 = seen.status
+touches seen (Src pair) = seen.src
+touches seen (Jms high low) = seen.returns
+touches seen (Bbl digit) = seen.returns
+touches seen op = false
+
+-- what is seen where one place more is looked at: that, and all that was seen before
+pub record SeesToo (seen more : Seen) (probe : Probe) : Type 0 where
+  pub registers : more.registers ≡ false → seen.registers ≡ false
+  pub others : (op : Op) → touches more op ≡ false → touches seen op ≡ false
+  pub place : more.registers ≡ false → (op : Op) → touches more op ≡ false → Keeps op probe
+
+-- what is seen of a row: an instruction that touches none of it leaves the row as it is
+abbrev pub SeesAll : Seen → List Probe → Type 0
+SeesAll seen probes =
+    seen.registers ≡ false → (op : Op) → touches seen op ≡ false → (regs : Regs) (m : BusState)
+    → row probes (effect op regs m) ≡ row probes (regs, m)

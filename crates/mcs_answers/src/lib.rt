@@ -12,6 +12,7 @@ mod queries;
 mod ram;
 mod registers;
 mod size;
+mod standing;
 mod state;
 mod state_lists;
 mod traces;

@@ -14,7 +14,7 @@ use mcs_model::limits::LAMPS;
 use mcs_nibble::{Addr, Bit};
 
 /// The mark of a lamp.
-fn lamp_mark(level: Bit) -> u8
+pub(crate) fn lamp_mark(level: Bit) -> u8
     ensures { result ≡ lamp_mark level }
 {
     if level == Bit::ONE { b'*' } else { b'.' }

@@ -1,16 +1,16 @@
 //! The answer to `trace`.
-ghost use Rattle.std.specs.Prelude.{◌≡◌, ◌⊎◌, ℕ, ◌+◌, ◌*◌, ◌<◌, ◌≤◌, ◌++◌, ◌↔◌, [], codes, length, true, IfOk};
+ghost use Rattle.std.specs.Prelude.{◌≡◌, ◌⊎◌, ℕ, ◌+◌, ◌*◌, ◌<◌, ◌≤◌, ◌++◌, ◌↔◌, [], codes, length, map, true, IfOk};
 ghost use Rattle.std.specs.Fmt.{decimal};
 ghost use Rattle.arrayvec.specs.ArrayVec.{array_vec_len};
 ghost use Rattle.mcs_model.specs.Command.{machine_of};
-ghost use Rattle.mcs_model.specs.QueryText.{address_text, as_line};
+ghost use Rattle.mcs_model.specs.QueryText.{address_text, as_line, one_word};
 ghost use Rattle.mcs_model.specs.declared.board.Line.TheVariants as line;
 ghost use Rattle.mcs_bench.specs.Runs.{stop_by};
 ghost use Rattle.mcs_ahead.specs.Probes.{levels_on, probe_text, row};
 ghost use Rattle.mcs_answers.specs.AheadTexts.{is_told, trace_answer};
-ghost use Rattle.mcs_answers.specs.Resting.{Keeps, Rests, RowKeeps, RowRests, WritesPort, WritesStatus};
+ghost use Rattle.mcs_answers.specs.Resting.{Rests, RowKeeps, RowRests, SeesAll, SeesToo, WritesPort, WritesStatus, touches};
 ghost use Rattle.mcs_answers.specs.Traced.{IsTraced, cycle_lines, line_when};
-ghost use Rattle.mcs_model.specs.declared.op.Op.TheVariants.{Bbl, Jms, Src, Wrm};
+ghost use Rattle.mcs_model.specs.declared.op.Op.TheVariants.{Src, Wrm};
 ghost use Rattle.mcs_model.specs.declared.regs.Regs.{Regs};
 ghost use Rattle.std.specs.List.{flat_map};
 
@@ -19,7 +19,8 @@ use crate::digits::{put, put_address, put_byte, put_digit};
 use crate::lists::put_lamp_marks;
 use crate::numbers::put_counted;
 use crate::size::{ANSWER_BYTES, PROBE_BYTES};
-use crate::state_lists::{put_address_list, put_chain_bits};
+use crate::standing::stands;
+use crate::state_lists::put_chain_bits;
 use arrayvec::ArrayVec;
 use mcs_ahead::{PROBES, Probe};
 use mcs_bench::Bench;
@@ -50,6 +51,19 @@ fn ram_levels(bench: &Bench, bank: u8, chip: u8) -> u8
         + 2 * bench.level(Line::Ram(bank, chip, 1)).get()
         + 4 * bench.level(Line::Ram(bank, chip, 2)).get()
         + 8 * bench.level(Line::Ram(bank, chip, 3)).get()
+}
+
+/// Adds the return addresses, after a space.
+fn put_returns(answer: &mut ArrayVec<u8, ANSWER_BYTES>, ret: [Addr; 3])
+    requires { array_vec_len answer.old + 12 ≤ ANSWER_BYTES }
+    ensures text { answer.new.items
+        ≡ answer.old.items ++ codes " " ++ one_word (map address_text ret) }
+    ensures count { length answer.new.items ≡ length answer.old.items + 12 }
+{
+    let [first, second, third] = ret;
+    put_address(answer, b" ", first);
+    put_address(answer, b",", second);
+    put_address(answer, b",", third);
 }
 
 /// Adds what stands at a place, after a space.
@@ -83,7 +97,7 @@ fn put_probe(answer: &mut ArrayVec<u8, ANSWER_BYTES>, probe: Probe, bench: &Benc
             put(answer, b" ");
             put_lamp_marks(answer, bench);
         }
-        Probe::Returns => put_address_list(answer, b" ", &regs.ret),
+        Probe::Returns => put_returns(answer, regs.ret),
     }
 }
 
@@ -147,14 +161,6 @@ fn writes_src(op: &Op) -> bool
     matches!(op, Op::Src(_))
 }
 
-/// Whether an instruction is JMS or BBL, which alone change the return addresses.
-fn moves_returns(op: &Op) -> bool
-    ensures jms { (high low : ℕ) → op.now ≡ Jms high low → result ≡ true }
-    ensures bbl { (digit : ℕ) → op.now ≡ Bbl digit → result ≡ true }
-{
-    matches!(op, Op::Jms(_, _) | Op::Bbl(_))
-}
-
 /// Whether an instruction surely leaves what stands at a place outside the processor as it is; no of any other place.
 #[inline(always)]
 fn keeps_outside(probe: Probe, op: &Op) -> bool
@@ -174,31 +180,113 @@ fn keeps_outside(probe: Probe, op: &Op) -> bool
     }
 }
 
-/// Whether an instruction alone tells that it leaves what stands at a place as it is; of a register it tells nothing.
+/// What a row has places of: for each kind of instructions whether one of it may change the row.
+#[derive(Clone, Copy)]
+struct Seen {
+    /// Lines, ports, chains or lamps.
+    ports: bool,
+    /// RAM characters.
+    ram: bool,
+    /// Status characters.
+    status: bool,
+    /// The SRC byte that the ROMs keep.
+    src: bool,
+    /// The return addresses.
+    returns: bool,
+    /// Any other register, which each instruction may change.
+    registers: bool,
+}
+
+/// Whether an instruction may change what is seen outside the registers, or the return addresses.
 #[inline(always)]
-fn keeps(probe: Probe, op: &Op) -> bool
-    ensures { result ≡ true → Keeps op.now probe }
+fn touches(seen: &Seen, op: &Op) -> bool
+    ensures { result ≡ touches seen.now op.now }
 {
-    match probe {
-        Probe::Returns => !moves_returns(op),
-        _ => keeps_outside(probe, op),
+    match op {
+        Op::Wmp | Op::Wrr => seen.ports,
+        Op::Wrm => seen.ram,
+        Op::Wr0 | Op::Wr1 | Op::Wr2 | Op::Wr3 => seen.status,
+        Op::Src(_) => seen.src,
+        Op::Jms(_, _) | Op::Bbl(_) => seen.returns,
+        _ => false,
     }
 }
 
-/// The same of all places; no where no instruction was begun.
+/// What is seen where one place more is looked at.
+fn seen_too(seen: Seen, probe: Probe) -> Seen
+    ensures { SeesToo seen result probe }
+{
+    match probe {
+        Probe::Rom(_) => seen,
+        Probe::Ram(_, _) => Seen { ram: true, ..seen },
+        Probe::Status(_, _, _) => Seen {
+            status: true,
+            ..seen
+        },
+        Probe::Level(_) => Seen {
+            ports: true,
+            ..seen
+        },
+        Probe::RomPort(_) => Seen {
+            ports: true,
+            ..seen
+        },
+        Probe::RamPort(_, _) => Seen {
+            ports: true,
+            ..seen
+        },
+        Probe::Chain(_) => Seen {
+            ports: true,
+            ..seen
+        },
+        Probe::Src => Seen { src: true, ..seen },
+        Probe::Lamps => Seen {
+            ports: true,
+            ..seen
+        },
+        Probe::Returns => Seen {
+            returns: true,
+            ..seen
+        },
+        _ => Seen {
+            registers: true,
+            ..seen
+        },
+    }
+}
+
+/// What is seen of a row.
+fn seen_of(probes: &[Probe]) -> Seen
+    ensures { SeesAll result probes.now }
+{
+    let mut seen = Seen {
+        ports: false,
+        ram: false,
+        status: false,
+        src: false,
+        returns: false,
+        registers: false,
+    };
+    for probe in probes {
+        seen = seen_too(seen, *probe);
+    }
+    seen
+}
+
+/// Whether an instruction alone tells that it leaves a row as it is, by what is seen of it; no where no instruction was
+/// begun.
 #[inline(always)]
-fn all_keep(probes: &[Probe], op: Option<Op>) -> bool
+fn all_keep(probes: &[Probe], seen: &Seen, op: Option<Op>) -> bool
+    requires { SeesAll seen.now probes.now }
     ensures { result ≡ true → RowKeeps op probes.now }
 {
     match op {
         None => false,
         Some(op) => {
-            for probe in probes {
-                if !keeps(*probe, &op) {
-                    return false;
-                }
+            if seen.registers {
+                return false;
             }
-            true
+            !touches(seen, &op)
         }
     }
 }
@@ -241,30 +329,19 @@ fn all_rest(probes: &[Probe], op: Option<Op>, before: &Regs, after: &Regs) -> bo
 #[inline(always)]
 fn row_stays<const REGISTERS: bool>(
     probes: &[Probe],
+    seen: &Seen,
     op: Option<Op>,
     before: &Regs,
     after: &Regs,
 ) -> bool
+    requires { SeesAll seen.now probes.now }
     ensures { result ≡ true → RowRests op before.now after.now probes.now ⊎ RowKeeps op probes.now }
 {
     if REGISTERS {
         all_rest(probes, op, before, after)
     } else {
-        all_keep(probes, op)
+        all_keep(probes, seen, op)
     }
-}
-
-/// Whether any of the places is a register.
-fn has_register(probes: &[Probe]) -> bool {
-    for probe in probes {
-        if matches!(
-            probe,
-            Probe::Acc | Probe::Cy | Probe::Pc | Probe::Register(_) | Probe::Dcl
-        ) {
-            return true;
-        }
-    }
-    false
 }
 
 /// What a run would come to, and how many of its instructions are told.
@@ -338,6 +415,9 @@ fn add_began(
         (cycle_lines probes.now owed cycles at before.old.items
         (row probes.now (machine_of bench.now)))) }
 {
+    if !probes.is_empty() && stands(before.as_slice(), probes, bench) {
+        return Ok(0);
+    }
     if owed != 0 {
         before.clear();
         put_row(before, probes, bench);
@@ -386,10 +466,12 @@ fn add_lines<const REGISTERS: bool>(
     text: &mut Vec<u8>,
     n: u32,
     probes: &[Probe],
+    seen: &Seen,
     bench: &Bench,
 ) -> Result<Traced, AllocError>
     requires empty { text.old.items ≡ [] }
     requires room { length probes.now ≤ PROBES }
+    requires seen { SeesAll seen.now probes.now }
     ensures { IfOk result (λ traced. IsTraced probes.now n bench.now traced text.new.items) }
 {
     let mut lines = 0u32;
@@ -405,7 +487,7 @@ fn add_lines<const REGISTERS: bool>(
                 return Ok(came_to(&copy, done, None, lines));
             }
             Some(went) => {
-                let rests = row_stays::<REGISTERS>(probes, went.op, &regs, &copy.regs());
+                let rests = row_stays::<REGISTERS>(probes, seen, went.op, &regs, &copy.regs());
                 lines += add_went(
                     text,
                     &mut before,
@@ -438,10 +520,11 @@ fn add_lines_of(
     requires room { length probes.now ≤ PROBES }
     ensures { IfOk result (λ traced. IsTraced probes.now n bench.now traced text.new.items) }
 {
-    if has_register(probes) {
-        add_lines::<true>(alloc, text, n, probes, bench)
+    let seen = seen_of(probes);
+    if seen.registers {
+        add_lines::<true>(alloc, text, n, probes, &seen, bench)
     } else {
-        add_lines::<false>(alloc, text, n, probes, bench)
+        add_lines::<false>(alloc, text, n, probes, &seen, bench)
     }
 }
 
