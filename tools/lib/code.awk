@@ -1,8 +1,8 @@
 # What stands in ROM. Needs numbers.awk and bench.awk.
 #
 # read_code() reads all of it: code[at], the byte at each address, and code_digits[at], its hexadecimal digits; by the digits of an
-# address, address_of[digits], cycles_at[digits], how long an instruction there takes, and link_at[digits]: of a JMS the address that it
-# goes to, of a BBL "back".
+# address, address_of[digits], cycles_at[digits], how long an instruction there takes, and link_at[digits]: of a JMS one more than
+# the address that it goes to, of a BBL -1. `code_reads` is how often it was read.
 
 function read_code(    at, n, i, lines, digits, byte, value, takes, links) {
     for (at = 0; at < 4096; at++) {
@@ -23,12 +23,13 @@ function read_code(    at, n, i, lines, digits, byte, value, takes, links) {
         if (!(at in code_digits)) code_digits[at] = "00"
         code[at] = value[code_digits[at]]
     }
+    code_reads++
     split("", link_at)
     for (at = 0; at < 4096; at++) {
         byte = code[at]
         digits = digits_of[at]
         cycles_at[digits] = takes[byte]
-        if (byte in links) link_at[digits] = is_call(byte) ? target_of(at, byte) : "back"
+        if (byte in links) link_at[digits] = is_call(byte) ? target_of(at, byte) + 1 : -1
     }
 }
 

@@ -31,7 +31,8 @@ function run_counted(n,    end, k) {
 function ask_run(n,    links) {
     if (!lamps_known) know_lamps()
     send("regs\ncount " n "\ntrace " n " ret" (waiting == "" ? "" : lamp_places))
-    take_registers(receive())
+    receive()
+    owed = substr(reply, index(reply, " owed ") + 6, 1)
     links = count_own()
     keep_routines()
     links -= follow_links(take_head("trace"))
@@ -69,26 +70,45 @@ function port_of(line) {
     return line
 }
 
-# Reads the answer to `count`: the cycles of each instruction; returns how often a JMS or a BBL is done. A cycle that is owed at the
-# beginning is one of the instruction before, whose address is not known (`own_at[""]`) where a session begins within it; `owes` is 1
-# where the last instruction owes one in the end.
-function count_own(    lines, digits, times, cycles, sum, links) {
-    sum = links = 0
-    if (now["owed"] == "1") own_at[owing]++
+# Reads the answer to `count`; returns how often a JMS or a BBL is done. A cycle that is owed at the beginning is one of the instruction
+# before, whose address is not known (`own_at[""]`) where a session begins within it; `owes` is 1 where the last instruction owes one in
+# the end. Most rows come often: how often each came is counted, and what one tells is worked out once. (One loop without calls, since
+# this and the next one are most of the work.)
+function count_own(    lines, facts, sum) {
+    if (rows_of != code_reads) add_rows()
+    sum = 0
+    if (owed == "1") own_at[owing]++
     for (lines = take_head("count"); lines > 0; lines--) {
-        receive_row()
-        digits = substr(reply, 1, 3)
-        # (the number that the rest begins with)
-        times = substr(reply, 5) + 0
-        cycles = cycles_at[digits] * times
-        sum += cycles
-        own_at[digits] += cycles
-        if (!(digits in link_at)) continue
-        links += times
-        if (link_at[digits] != "back") calls[link_at[digits]] += times
+        if ((getline reply) <= 0) has_ended()
+        if (!(facts = row_facts[reply])) facts = learn_row()
+        sum += facts
+        row_times[reply]++
     }
-    owes = sum - (ahead_ran - now["owed"])
-    return links
+    owes = sum % 1048576 - (ahead_ran - owed)
+    return int(sum / 1048576)
+}
+
+# What a row of `count` tells, as one number, so that a sum has both: its cycles, and 2^20 times how often a JMS or a BBL is done.
+function learn_row(    digits, times) {
+    if (reply ~ /^e/) has_ended()
+    digits = substr(reply, 1, 3)
+    # (the number that the rest begins with)
+    times = substr(reply, 5) + 0
+    row_cycles[reply] = cycles_at[digits] * times
+    if (link_at[digits] > 0) row_call[reply] = link_at[digits] - 1
+    return row_facts[reply] = row_cycles[reply] + (link_at[digits] ? 1048576 * times : 0)
+}
+
+# Adds up what the rows have told; with another program in ROM, they tell something else.
+function add_rows(    row) {
+    for (row in row_times) {
+        own_at[substr(row, 1, 3)] += row_times[row] * row_cycles[row]
+        if (row in row_call) calls[row_call[row]] += row_times[row] * substr(row, 5)
+    }
+    split("", row_times)
+    split("", row_facts)
+    split("", row_call)
+    rows_of = code_reads
 }
 
 # A run whose last instruction is not done in the end: its last cycle is one of the next run.
@@ -104,24 +124,34 @@ function run_inside(n,    words) {
 }
 
 # Rows of a trace, from one routine into another, and back; returns how many are those of a JMS or a BBL. `other_cycle` is the last other
-# one's. (In one loop, since this is most of the work.)
-function follow_links(lines,    digits, links, other) {
+# one's. (One loop without calls, in which only numbers are compared.)
+function follow_links(lines,    link, links, other, at, took, i) {
     links = 0
     other = ""
-    while (lines-- > 0) {
-        receive_row()
-        digits = substr(reply, index(reply, " ") + 1, 3)
-        if (!(digits in link_at)) {
+    for (; lines > 0; lines--) {
+        if ((getline reply) <= 0) has_ended()
+        if (link = link_at[substr(reply, index(reply, " ") + 1, 3)]) {
+            links++
+            if (link > 0) {
+                if (depth == 3) forget_oldest()
+                routine[++depth] = link
+                # (the number that the row begins with)
+                entered[depth] = elapsed + reply + 2
+            } else if (depth > 0) {
+                at = routine[depth]
+                # A routine that is called within itself counts once.
+                for (i = 1; i < depth; i++) if (routine[i] == at) break
+                if (i == depth) {
+                    took = elapsed + reply + 1 - entered[depth]
+                    spent[at] += took
+                    if (took > longest[at]) longest[at] = took
+                }
+                depth--
+            }
+        } else {
+            if (reply ~ /^e/) has_ended()
             other = reply
-            continue
         }
-        links++
-        # (the number that the row begins with)
-        if (link_at[digits] != "back") {
-            if (depth == 3) forget_oldest()
-            routine[++depth] = link_at[digits]
-            entered[depth] = elapsed + reply + 2
-        } else if (depth > 0) leave_routine(elapsed + reply + 1)
     }
     other_cycle = other == "" ? "" : other + 0
     return links
@@ -149,8 +179,8 @@ function bring_back_routines(    i) {
 # What the calls that a run came back from have taken.
 function add_calls(    at) {
     for (at in spent) {
-        with_calls[at] += spent[at]
-        if (longest[at] > longest_call[at]) longest_call[at] = longest[at]
+        with_calls[at - 1] += spent[at]
+        if (longest[at] > longest_call[at - 1]) longest_call[at - 1] = longest[at]
     }
     split("", spent)
     split("", longest)
@@ -213,6 +243,7 @@ function milliseconds(cycles) {
 }
 
 function print_profile(    i, n, at, order, j, label, digits) {
+    add_rows()
     for (digits in own_at) if (digits != "") own[label_below(address_of[digits])] += own_at[digits]
     put_text(sprintf("%d cycles, %s\n\n", total, milliseconds(total)))
     put_text(sprintf("%-17s %-4s %10s %6s %9s %10s %10s\n", "label", "at", "own", "own %", "calls", "with calls", "longest"))
