@@ -3,6 +3,7 @@
 import { Switch, block, element } from "../ui/dom.js";
 import { upTo } from "../bench/numbers.js";
 import { drawn } from "../ui/svg.js";
+import { pathText, routeOf } from "./routes.js";
 import { HEAD, drawBoard, isHigh, isHighAtRom } from "./wiring.js";
 
 /**
@@ -15,17 +16,8 @@ import { HEAD, drawBoard, isHigh, isHighAtRom } from "./wiring.js";
  * @typedef {(Switch | undefined)[]} Levels the lines of a port or of a chain that are drawn
  */
 
-/** How far a wire between parts of one column goes out. */
-const OUT = 12;
 /** How far from a pin it is still the pin that is pointed at. */
 const REACH = 9;
-
-/** @param {Pick<Wire, "from" | "to">} wire */
-function pathOf({ from, to }) {
-  if (from.x === to.x) return `M${from.x} ${from.y}C${from.x + OUT} ${from.y} ${to.x + OUT} ${to.y} ${to.x} ${to.y}`;
-  const bend = Math.max(30, Math.abs(to.x - from.x) / 2);
-  return `M${from.x} ${from.y}C${from.x + bend} ${from.y} ${to.x - bend} ${to.y} ${to.x} ${to.y}`;
-}
 
 export class WiringView {
   constructor() {
@@ -102,7 +94,7 @@ export class WiringView {
     this.parts = new Map(parts.map((part) => [part.id, part]));
     /** @type {Map<string, SVGElement[]>} */
     const nodes = new Map();
-    const wireNodes = wires.flatMap((wire) => this.drawWire(wire, nodes));
+    const wireNodes = wires.flatMap((wire, at) => this.drawWire(wire, pathText(routeOf(wire, parts, at)), nodes));
     this.takers = takersOf(wires);
     const partNodes = parts.map((part) => this.drawPart(part, nodes));
     for (const [line, some] of nodes) {
@@ -137,11 +129,12 @@ export class WiringView {
   /**
    * A wire, and around it what is pointed at for it.
    * @param {Wire} wire
+   * @param {string} d where it runs
    * @param {Map<string, SVGElement[]>} nodes
    */
-  drawWire(wire, nodes) {
-    const path = drawn("path", { class: "wire", d: pathOf(wire) });
-    const reach = drawn("path", { class: "reach", d: pathOf(wire) });
+  drawWire(wire, d, nodes) {
+    const path = drawn("path", { class: "wire", d });
+    const reach = drawn("path", { class: "reach", d });
     this.names.set(reach, wire.to.id);
     nodes.set(wire.line, [...(nodes.get(wire.line) || []), path]);
     return [path, reach];
@@ -259,7 +252,7 @@ export class WiringView {
    */
   drawPencil(name, to) {
     const pin = [...this.parts.values()].flatMap(({ pins }) => pins).find(({ id }) => id === name);
-    this.pencil.setAttribute("d", pin && to ? pathOf({ from: pin, to: { ...pin, ...to } }) : "");
+    this.pencil.setAttribute("d", pin && to ? pathText(routeOf({ from: pin, to }, [], 0)) : "");
   }
 
   /**

@@ -1,0 +1,115 @@
+// Where a wire runs in the picture of the wiring: straight to its pin, or, where a part would lie over it, through the gap above or below
+// that part. Nothing here draws.
+
+/**
+ * @typedef {import("./wiring.js").Place} Place
+ * @typedef {import("./wiring.js").Part} Part
+ * @typedef {Pick<Part, "x" | "y" | "width" | "height">} Box
+ * @typedef {{ from: Place, to: Place }} Ends
+ * @typedef {[Place, Place, Place, Place]} Curve from a place to the last one, as a cubic of Bezier has them
+ */
+
+/** How far a wire between parts of one column goes out, and how far from a part one turns that goes round it. */
+const OUT = 12;
+const ASIDE = 8;
+/** The least that a curve is bent. */
+const BEND = 30;
+/** How far from a part a wire runs along it, and how far apart wires are that run there. */
+const LANE = 5;
+const LANES = [0, -2, 2, -4, 4];
+/** So many places of a curve are looked at. */
+const LOOKS = 24;
+
+/**
+ * @param {Ends} ends
+ * @returns {Curve}
+ */
+function straight({ from, to }) {
+  if (from.x === to.x) return [from, { x: from.x + OUT, y: from.y }, { x: to.x + OUT, y: to.y }, to];
+  const bend = Math.max(BEND, Math.abs(to.x - from.x) / 2);
+  return [from, { x: from.x + bend, y: from.y }, { x: to.x - bend, y: to.y }, to];
+}
+
+/**
+ * A curve that is level at both ends.
+ * @param {Place} from
+ * @param {Place} to
+ * @returns {Curve}
+ */
+function level(from, to) {
+  const x = (from.x + to.x) / 2;
+  return [from, { x, y: from.y }, { x, y: to.y }, to];
+}
+
+/**
+ * A place of a curve.
+ * @param {Curve} curve
+ * @param {number} part of it, 0 to 1
+ * @returns {Place}
+ */
+export function placeOf(curve, part) {
+  const rest = 1 - part;
+  const weights = [rest ** 3, 3 * rest ** 2 * part, 3 * rest * part ** 2, part ** 3];
+  /** @type {(of: (place: Place) => number) => number} */
+  const sum = (of) => curve.reduce((all, place, at) => all + weights[at] * of(place), 0);
+  return { x: sum(({ x }) => x), y: sum(({ y }) => y) };
+}
+
+/**
+ * @param {Place} place
+ * @param {Box} box
+ */
+function isIn({ x, y }, box) {
+  return x > box.x && x < box.x + box.width && y > box.y && y < box.y + box.height;
+}
+
+/**
+ * Whether a curve runs below a part.
+ * @param {Curve} curve
+ * @param {Box} box
+ */
+export function isBelow(curve, box) {
+  return Array.from({ length: LOOKS - 1 }, (_, at) => placeOf(curve, (at + 1) / LOOKS)).some((place) => isIn(place, box));
+}
+
+/**
+ * Where a wire can run along parts that stand between its ends, as near to both as can be.
+ * @param {Ends} ends
+ * @param {Box[]} between
+ */
+function laneBeside({ from, to }, between) {
+  const lanes = between.flatMap(({ y, height }) => [y - LANE, y + height + LANE]);
+  const free = lanes.filter((lane) => between.every(({ y, height }) => lane < y || lane > y + height));
+  /** @type {(lane: number) => number} */
+  const way = (lane) => Math.abs(lane - from.y) + Math.abs(lane - to.y);
+  return free.reduce((one, other) => (way(other) < way(one) ? other : one));
+}
+
+/**
+ * The curves of a wire.
+ * @param {Ends} ends
+ * @param {Box[]} boxes of the parts
+ * @param {number} number of the wire: neighbours that run along a part are apart
+ * @returns {Curve[]}
+ */
+export function routeOf(ends, boxes, number) {
+  const { from, to } = ends;
+  const curve = straight(ends);
+  const between = boxes.filter(({ x, width }) => x > from.x && x + width < to.x);
+  if (!between.some((box) => isBelow(curve, box))) return [curve];
+  const left = Math.min(...between.map(({ x }) => x)) - ASIDE;
+  const right = Math.max(...between.map(({ x, width }) => x + width)) + ASIDE;
+  if (left <= from.x || right >= to.x) return [curve];
+  const y = laneBeside(ends, between) + LANES[number % LANES.length];
+  return [level(from, { x: left, y }), level({ x: left, y }, { x: right, y }), level({ x: right, y }, to)];
+}
+
+/**
+ * As a path of SVG has it.
+ * @param {Curve[]} curves
+ */
+export function pathText(curves) {
+  /** @type {(place: Place) => string} */
+  const told = ({ x, y }) => `${x} ${y}`;
+  return `M${told(curves[0][0])}${curves.map(([, ...places]) => `C${places.map(told).join(" ")}`).join("")}`;
+}
