@@ -10,6 +10,7 @@ import { sourcesOf } from "../src/drawing/board_lines.js";
 import { Drawing } from "../src/drawing/drawing.js";
 import { titleOf } from "../src/session/described.js";
 import { fieldsOf } from "../src/drawing/fields.js";
+import { lampLabels } from "../src/drawing/lamp_labels.js";
 import { edited, inverseOf } from "../src/drawing/text_edits.js";
 import { Engine } from "../src/worker/engine.js";
 
@@ -146,6 +147,14 @@ test("acts that follow one another at once are done one after the other", async 
   const desk = await drawn();
   await Promise.all([1, 2, 3, 4].map(() => desk.drawing.act({ kind: "add", part: "lamp" })));
   assert.deepEqual(desk.shown.board.lamps, ["ram0.0.0", "ram0.0.1", "ram0.0.2", "ram0.0.3"]);
+});
+
+test("lamps of a display are called by what they are in it", () => {
+  const labels = (text, count) => lampLabels(new Face(text), count);
+  assert.deepEqual(labels("# lamp 0: minus\n# display 1: 2 digits with points\n", 9), ["minus", "digit 0: 8", "digit 0: 4", "digit 0: 2",
+    "digit 0: 1", "digit 0: point", "digit 1: 8", "digit 1: 4", "digit 1: 2"]);
+  assert.deepEqual(labels("# display 0: 1 digit of 7 segments\n# bar 7: 2 lamps\n", 9),
+    [..."abcdefg"].map((name) => `digit 0: ${name}`).concat("", ""));
 });
 
 test("a line of a face is no title", () => {

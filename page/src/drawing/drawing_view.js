@@ -1,7 +1,8 @@
 // What stands around the picture of a board: the shelf of parts, what can be set of the part that is chosen, and what was done.
 
 import { Cell, block, button, element, field, onClick } from "../ui/dom.js";
-import { lampColours, lampNames } from "../board/face_board.js";
+import { lampColours } from "../board/face_board.js";
+import { lampLabels } from "./lamp_labels.js";
 
 /**
  * @typedef {import("./acts.js").Act} Act
@@ -106,7 +107,7 @@ export class DrawingView {
     if (!shown) return;
     const { board, face, isWired, chosen, begun, ends } = shown;
     const count = board.lamps.length;
-    const look = { names: lampNames(face, count), colours: lampColours(face, count), test: face.test };
+    const look = { names: lampLabels(face, count), colours: lampColours(face, count), test: face.test };
     const drawn = JSON.stringify([board, look, isWired, [...moved]]);
     if (drawn !== this.drawn) this.picture.draw(board, look, { moved, isWired });
     this.drawn = drawn;
