@@ -2,6 +2,7 @@
 
 import { AskView } from "./ui/ask_view.js";
 import { Face } from "./board/face.js";
+import { currentSessionOf, recoveryOf, runningOf, servingOf } from "./core.js";
 import { exploreOf } from "./explore/explore_of_page.js";
 import { DrawingOfPage } from "./drawing/drawing_of_page.js";
 import { lampNames } from "./board/face_board.js";
@@ -10,9 +11,6 @@ import { BreakpointsOfPage } from "./machine/breakpoints_of_page.js";
 import { Layout } from "./layout.js";
 import { LogView } from "./lines/log_view.js";
 import { usualOf } from "./machine/usual_of_page.js";
-import { Recovery } from "./recovery.js";
-import { Serving } from "./lines/serving.js";
-import { CurrentSession } from "./session/current_session.js";
 import { KeptPast } from "./session/kept_past.js";
 import {
   editorsOf, exportOf, heatOf, historyOf, lookViewOf, nameCharacters, pressingOf, romFilesOf, sessionsControllerOf, sharingOf, sourceOf,
@@ -21,7 +19,6 @@ import {
 import { CyclesView } from "./time/cycles_view.js";
 import { testsOf } from "./testing/tests_of_page.js";
 import { TextLooks } from "./text/text_looks.js";
-import { Running } from "./time/running.js";
 import { scopeOf } from "./waves/scope_of_page.js";
 import { WorkView } from "./ui/work_view.js";
 
@@ -50,11 +47,11 @@ export class Page {
     this.notice = notice;
     /** Whether the keyboard presses keys of the board. */
     this.types = true;
-    this.current = new CurrentSession(this);
     this.past = new KeptPast();
-    this.recovery = new Recovery(this);
-    this.running = new Running(this);
-    this.serving = new Serving(this);
+    this.current = currentSessionOf(this);
+    this.recovery = recoveryOf(this);
+    this.running = runningOf(this);
+    this.serving = servingOf(this);
     this.pressing = pressingOf(this);
     this.lookView = lookViewOf(this);
     this.log = new LogView(words);

@@ -1,11 +1,31 @@
 // What is done where something fails: a call, or the worker that the bench is in.
 
-/** @typedef {import("./page.js").Page} Page */
+/**
+ * @typedef {import("./bench/bench.js").Bench} Bench
+ * @typedef {import("./bench/protocol.js").Frame} Frame
+ * @typedef {import("./bench/words.js").Words} Words
+ * @typedef {import("./session/kept_session.js").KeptSession} KeptSession
+ * @typedef {import("./session/store.js").SessionRecord} SessionRecord
+ * @typedef {import("./ui/notice.js").Notice} Notice
+ *
+ * What it calls: the session that is shown; whether time runs; no more of it passes; it stands still, and words tell why; it has done
+ * something; a session is opened in another worker, and shown.
+ * @typedef {{ session: () => KeptSession | null, isRunning: () => boolean, stopClock: () => void, halted: (words: string) => void,
+ *   ran: (frame: Frame) => void, openAgain: (record: SessionRecord) => Promise<void> }} RecoveryCalls
+ */
 
 export class Recovery {
-  /** @param {Page} page */
-  constructor(page) {
-    this.page = page;
+  /**
+   * @param {Bench} bench
+   * @param {Words} words
+   * @param {Notice} notice
+   * @param {RecoveryCalls} calls
+   */
+  constructor(bench, words, notice, calls) {
+    this.bench = bench;
+    this.words = words;
+    this.notice = notice;
+    this.calls = calls;
     /** Whether another worker is being started in the place of one that died. */
     this.isRestarting = false;
   }
@@ -15,31 +35,31 @@ export class Recovery {
    * @param {unknown} fault
    */
   failed(fault) {
-    const { bench, current, notice, running, words } = this.page;
+    const { bench, notice, words, calls } = this;
     console.error(fault);
     // What the dead worker owed, and what another one cannot answer yet: it is told below.
     if (this.isRestarting) return;
     notice.show(words.ofFailure(fault));
-    if (!current.session) return;
-    const { isRunning } = running.clock;
-    running.halted("Stopped.");
+    if (!calls.session()) return;
+    const isRunning = calls.isRunning();
+    calls.halted("Stopped.");
     // What time has done before is not lost.
-    if (isRunning) bench.call("halt", []).then((frame) => running.ran(frame)).catch(() => {});
+    if (isRunning) bench.call("halt", []).then(calls.ran).catch(() => {});
   }
 
   /** The worker died. The newest that it told is here: the session goes on from there. */
   async restart() {
-    const { bench, current, notice, running, words } = this.page;
+    const { bench, notice, words, calls } = this;
     this.isRestarting = true;
-    running.clock.stop();
+    calls.stopClock();
     try {
       await bench.start();
       notice.show("The bench's worker has stopped and was started anew. The session is as it was before.");
-      if (!current.session) return;
-      this.page.show(await current.callOpen(current.session.record));
-      this.page.breakpoints.keeper.again();
+      const session = calls.session();
+      if (!session) return;
+      await calls.openAgain(session.record);
       this.isRestarting = false;
-      running.halted("Stopped.");
+      calls.halted("Stopped.");
     } catch (fault) {
       notice.show(`The bench has stopped and could not be started anew: ${words.ofFault(fault)}. Save the session to a file.`);
     } finally {

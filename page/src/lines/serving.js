@@ -6,15 +6,38 @@ import { putNames } from "../bench/names_in_lines.js";
 
 /**
  * @typedef {import("../worker/worker_session.js").Answered} Answered
- * @typedef {import("../page.js").Page} Page
+ * @typedef {import("../bench/words.js").Words} Words
+ * @typedef {import("../debug/debugger.js").Stop} Stop
+ * @typedef {import("../debug/debugger.js").Tally} Tally
+ * @typedef {import("../machine/source_map.js").SourceMap} SourceMap
+ * @typedef {import("../ui/notice.js").Notice} Notice
+ * @typedef {import("../bench/bench.js").Bench} Bench
  * @typedef {import("../bench/protocol.js").ServedLines} ServedLines
  * @typedef {import("../bench/bench.js").Ways} Ways
+ *
+ * What it calls: the program that stands in ROM; long work tells how far it is, and can be cancelled; the counter that is shown; what the
+ * session is now is shown; whether the source is what stands in ROM; the session is kept, which gives its fault; answers are logged;
+ * breakpoints did something; whether time runs, and to no goal any more; why it stopped, in words; the status says something; a call
+ * failed.
+ * @typedef {{ map: () => SourceMap | null,
+ *   work: <Result>(words: string, work: (ways: Ways) => Promise<Result>) => Promise<Result>, counter: () => string,
+ *   show: (told: ServedLines) => void, checkSource: () => void, keep: () => Promise<string>,
+ *   log: (entries: Answered[], fault: string) => void, counted: (tally: Tally) => void, isRunning: () => boolean, forgetGoal: () => void,
+ *   reasonOf: (stop: Stop) => string, tell: (words: string) => void, failed: (fault: unknown) => void }} ServingCalls
  */
 
 export class Serving {
-  /** @param {Page} page */
-  constructor(page) {
-    this.page = page;
+  /**
+   * @param {Bench} bench
+   * @param {Words} words
+   * @param {Notice} notice
+   * @param {ServingCalls} calls
+   */
+  constructor(bench, words, notice, calls) {
+    this.bench = bench;
+    this.words = words;
+    this.notice = notice;
+    this.calls = calls;
   }
 
   /**
@@ -24,7 +47,7 @@ export class Serving {
    * @returns {Promise<string | null>}
    */
   async act(lines) {
-    const told = await this.change("Lines are served.", (ways) => this.page.bench.call("serve", [lines], ways));
+    const told = await this.change("Lines are served.", (ways) => this.bench.call("serve", [lines], ways));
     return told && told.first;
   }
 
@@ -33,18 +56,18 @@ export class Serving {
    * @param {string} typed
    */
   async send(typed) {
-    const { bench, breakpoints, notice, running, source } = this.page;
-    const { lines, words } = putNames(typed, source.map);
+    const { calls } = this;
+    const { lines, words } = putNames(typed, calls.map());
     if (words !== "") {
-      notice.show(words);
+      this.notice.show(words);
       return null;
     }
-    const told = await this.change("Lines are served.", (ways) => bench.call("serveTyped", [lines], ways));
+    const told = await this.change("Lines are served.", (ways) => this.bench.call("serveTyped", [lines], ways));
     if (!told) return null;
     const { id, cut, cycles, tally } = told.typed;
-    breakpoints.count(tally);
-    if (id !== 0 && !running.clock.isRunning) {
-      running.tell(`${running.reasonOf({ why: "break", id, cycles, returns: false }, null)} The line ${cut} ended there.`);
+    calls.counted(tally);
+    if (id !== 0 && !calls.isRunning()) {
+      calls.tell(`${calls.reasonOf({ why: "break", id, cycles, returns: false })} The line ${cut} ended there.`);
     }
     return told.first;
   }
@@ -57,14 +80,13 @@ export class Serving {
    * @returns {Promise<Result | null>}
    */
   async change(words, work) {
-    const { notice, recovery } = this.page;
     let told;
     try {
-      told = await this.page.work.show(words, (signal, progress) => work({ signal, progress }));
+      told = await this.calls.work(words, work);
     } catch (fault) {
       // Time that runs goes on where lines were cancelled.
-      if (fault instanceof Cancelled) notice.show(this.page.words.ofFailure(fault));
-      else recovery.failed(fault);
+      if (fault instanceof Cancelled) this.notice.show(this.words.ofFailure(fault));
+      else this.calls.failed(fault);
       return null;
     }
     await this.take(told);
@@ -73,16 +95,14 @@ export class Serving {
 
   /** @param {ServedLines} told */
   async take(told) {
-    const { current, log, lookView, notice } = this.page;
-    if (told.touchesRom) lookView.forgetRom();
-    const { counter } = lookView;
-    this.page.show(told);
+    const { calls } = this;
+    const counter = calls.counter();
+    calls.show(told);
     this.tellCounter(counter, told.entries);
-    if (told.touchesRom) this.page.checkSource();
-    current.touch();
-    const fault = await current.keep();
-    if (told.status !== 0) notice.show("Not all lines were served: at most 16,777,216 bytes are read at once.");
-    log.show(told.entries, fault);
+    if (told.touchesRom) calls.checkSource();
+    const fault = await calls.keep();
+    if (told.status !== 0) this.notice.show("Not all lines were served: at most 16,777,216 bytes are read at once.");
+    calls.log(told.entries, fault);
   }
 
   /**
@@ -91,12 +111,12 @@ export class Serving {
    * @param {Answered[]} entries
    */
   tellCounter(before, entries) {
-    const { lookView, running } = this.page;
-    const { counter } = lookView;
+    const { calls } = this;
+    const counter = calls.counter();
     const isReset = entries.some(({ line, answers }) => line.trim() === "reset" && refusalOf(answers[0]) === null);
-    const { isRunning } = running.clock;
-    if (isReset) running.goal = null;
-    if (isReset) running.tell(isRunning ? "Time runs. The board was reset." : `The board was reset; it stands at ${counter}.`);
-    else if (counter !== before && !isRunning) running.tell(`Stopped at ${counter}.`);
+    const isRunning = calls.isRunning();
+    if (isReset) calls.forgetGoal();
+    if (isReset) calls.tell(isRunning ? "Time runs. The board was reset." : `The board was reset; it stands at ${counter}.`);
+    else if (counter !== before && !isRunning) calls.tell(`Stopped at ${counter}.`);
   }
 }

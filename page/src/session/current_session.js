@@ -9,15 +9,33 @@ import { shortName } from "./names.js";
 
 /**
  * @typedef {import("./locks.js").Release} Release
- * @typedef {import("../page.js").Page} Page
+ * @typedef {import("../bench/bench.js").Bench} Bench
+ * @typedef {import("../bench/ran.js").RanEntry} RanEntry
+ * @typedef {import("./kept_past.js").KeptPast} KeptPast
  * @typedef {import("../bench/protocol.js").Shown} Shown
  * @typedef {import("./store.js").SessionRecord} SessionRecord
+ * @typedef {import("./store.js").SessionStore} SessionStore
+ *
+ * What it calls: another session is shown from here on; what it is now is shown; whether the source is what stands in ROM; time runs, or
+ * stands still, and words tell why; no more of it passes; the place where it stands still; something was done in the session; what time
+ * has done since that was logged last, and it is logged; why the session is not kept, "" where it is.
+ * @typedef {{ begin: (record: SessionRecord) => void, show: (shown: Shown) => void, checkSource: () => void, run: () => void,
+ *   halted: (words: string) => void, standStill: () => Promise<void>, place: () => string, touched: () => void, ran: () => RanEntry[],
+ *   showRan: (ran: RanEntry[], fault: string) => void, notKept: (words: string) => void }} CurrentCalls
  */
 
 export class CurrentSession {
-  /** @param {Page} page */
-  constructor(page) {
-    this.page = page;
+  /**
+   * @param {Bench} bench
+   * @param {SessionStore} store
+   * @param {CurrentCalls} calls
+   * @param {KeptPast} past
+   */
+  constructor(bench, store, calls, past) {
+    this.bench = bench;
+    this.store = store;
+    this.calls = calls;
+    this.past = past;
     /** @type {KeptSession | null} */
     this.session = null;
     /** When it was kept last. */
@@ -31,36 +49,36 @@ export class CurrentSession {
    * @param {string} example where nothing was done yet in a session of an example, its name
    */
   async use(record, release, example) {
-    const { bench, running, store } = this.page;
+    const { bench, store, calls } = this;
     await bench.call("settled", [record.file]);
     const old = this.session;
     if (old) await this.leave();
     const shown = await this.open(record);
     if (old) old.release();
     this.session = new KeptSession(store, record, release, example);
-    this.page.begin(record);
-    this.page.show(shown);
+    calls.begin(record);
+    calls.show(shown);
     this.showName();
     block("bench").hidden = false;
     block("session-bar").hidden = false;
-    this.page.checkSource();
+    calls.checkSource();
     await this.keep();
     const { goal, runs } = record;
-    if (runs && !goal) running.run();
-    else running.halted(goal ? wordsOfBroken(goal, runs, running.place) : "Stopped.");
+    if (runs && !goal) calls.run();
+    else calls.halted(goal ? wordsOfBroken(goal, runs, calls.place()) : "Stopped.");
     await this.remember();
   }
 
   /** What was done before the page was loaded anew can be gone back to. */
   async remember() {
-    const { bench, past } = this.page;
+    const { bench, past } = this;
     const recalled = past.recalled();
     if (recalled.length > 0 && await bench.call("recall", [recalled]).catch(() => false)) past.goOn(recalled);
   }
 
   /** Keeps the session that is left. Whether its time runs stays in its record, so that it goes on when it is come back to. */
   async leave() {
-    await this.page.running.standStill();
+    await this.calls.standStill();
     await this.keep();
   }
 
@@ -72,7 +90,7 @@ export class CurrentSession {
     try {
       return await this.callOpen(record);
     } catch (fault) {
-      if (this.session) this.page.running.halted("Stopped.");
+      if (this.session) this.calls.halted("Stopped.");
       throw fault;
     }
   }
@@ -82,7 +100,7 @@ export class CurrentSession {
    * @returns {Promise<Shown>}
    */
   callOpen({ file, cycles = NONE }) {
-    return this.page.bench.call("open", [file, cycles.total, cycles.reset]);
+    return this.bench.call("open", [file, cycles.total, cycles.reset]);
   }
 
   get name() {
@@ -127,7 +145,7 @@ export class CurrentSession {
   /** Something is done in it: from here on it is kept. */
   touch() {
     if (!this.session) return;
-    this.page.sessionsController.touched();
+    this.calls.touched();
     if (!this.session.touch()) return;
     this.showName();
     this.keep();
@@ -136,13 +154,12 @@ export class CurrentSession {
   /** Writes it to the store; what time has done is in the log once that is through. */
   async keep() {
     if (!this.session) return "";
-    const { log, notice } = this.page;
+    const { calls } = this;
     this.kept = performance.now();
-    const ran = log.take();
+    const ran = calls.ran();
     const fault = await this.session.keep();
-    log.showRan(ran, fault);
-    if (fault) notice.show(`This session is not kept: ${fault}. It is still in this page; save it to a file.`, "kept");
-    else notice.hide("kept");
+    calls.showRan(ran, fault);
+    calls.notKept(fault && `This session is not kept: ${fault}. It is still in this page; save it to a file.`);
     return fault;
   }
 
@@ -150,6 +167,6 @@ export class CurrentSession {
   keepNow() {
     if (!this.session) return;
     this.session.keepNow();
-    this.page.past.leave();
+    this.past.leave();
   }
 }

@@ -1,7 +1,7 @@
 // Time that runs: by the clock or at full speed, up to a stop, and what is told of it.
 
 import { isStop, readRun, refusalOf } from "../bench/answers.js";
-import { wordsOfHalt, wordsOfMove, wordsOfPlace, wordsOfStop, wordsOfWhen } from "../debug/stop_words.js";
+import { wordsOfHalt, wordsOfMove, wordsOfStop, wordsOfWhen } from "../debug/stop_words.js";
 import { Cell, block, button } from "../ui/dom.js";
 import { wordsOfTime } from "../bench/words.js";
 import { Clock } from "./clock.js";
@@ -11,8 +11,17 @@ import { Rate } from "./rate.js";
  * @typedef {import("../bench/protocol.js").Frame} Frame
  * @typedef {import("../bench/protocol.js").Stop} Stop
  * @typedef {import("../debug/goals.js").Goal} Goal
- * @typedef {import("../page.js").Page} Page
+ * @typedef {import("../bench/bench.js").Bench} Bench
+ * @typedef {import("../debug/breakpoints.js").Breakpoint} Breakpoint
+ * @typedef {import("../session/current_session.js").CurrentSession} CurrentSession
  * @typedef {import("./speeds.js").Speed} Speed
+ *
+ * What it calls: time begins to run; what it has done is shown, logged and counted; what is drawn more seldom is drawn now, and the
+ * listing; whether an instruction is in its middle; the cycles that were counted; where time stands still, with its name and its line; a
+ * breakpoint; what a refusal means; a step is served; a call failed.
+ * @typedef {{ began: () => void, took: (frame: Frame) => void, drawRest: () => void, drawListing: () => void, isOwed: () => boolean,
+ *   cycles: () => number, place: () => string, breakpoint: (id: number) => Breakpoint | undefined,
+ *   wordsOfRefusal: (number: number) => string, step: () => Promise<string | null>, failed: (fault: unknown) => void }} RunningCalls
  */
 
 /** How often the session is kept while time runs. */
@@ -21,9 +30,15 @@ const KEEP_TIME = 1000;
 const TOLD_TIME = 8000;
 
 export class Running {
-  /** @param {Page} page */
-  constructor(page) {
-    this.page = page;
+  /**
+   * @param {Bench} bench
+   * @param {CurrentSession} current
+   * @param {RunningCalls} calls
+   */
+  constructor(bench, current, calls) {
+    this.bench = bench;
+    this.current = current;
+    this.calls = calls;
     /** @type {(why: string) => void} time has stopped by itself */
     this.ended = () => {};
     /** @type {Goal | null} up to which time runs */
@@ -38,13 +53,13 @@ export class Running {
   }
 
   makeClock() {
-    const { page } = this;
+    const { bench, calls } = this;
     return new Clock({
-      advance: async (cycles, key) => this.ran(await page.bench.call("advance", [cycles, key])),
+      advance: async (cycles, key) => this.ran(await bench.call("advance", [cycles, key])),
       instruct: () => this.instruct(),
-      runFull: () => page.bench.call("run", [document.hidden]),
+      runFull: () => bench.call("run", [document.hidden]),
       stoodStill: (time, wasHidden) => this.stoodStill(time, wasHidden),
-      failed: (fault) => page.recovery.failed(fault),
+      failed: calls.failed,
     });
   }
 
@@ -71,14 +86,14 @@ export class Running {
 
   /** @param {Goal | null} [goal] up to which time runs; the bench knows it */
   run(goal = null) {
-    const { bench, current, recovery } = this.page;
+    const { bench, current, calls } = this;
     if (!current.session || this.clock.isRunning) return;
     current.session.record.runs = true;
     this.goal = goal;
     this.aim(goal);
-    this.begun = this.page.cycles.cycles.total;
-    this.page.usual.clear();
-    if (!goal) bench.call("drop", []).catch((fault) => recovery.failed(fault));
+    this.begun = calls.cycles();
+    calls.began();
+    if (!goal) bench.call("drop", []).catch(calls.failed);
     this.runWord.set("Stop");
     this.tell(goal ? wordsOfMove(goal) : "Time runs.");
     this.clock.start();
@@ -89,42 +104,46 @@ export class Running {
 
   /** @param {Goal | null} goal that a move has; it is kept with the session, for words where the move does not come to its end */
   aim(goal) {
-    const { session } = this.page.current;
+    const { session } = this.current;
     if (!session) return;
     if (goal) session.record.goal = goal;
     else delete session.record.goal;
   }
 
+  /** A reset: no subroutine returns after it. */
+  forgetGoal() {
+    this.goal = null;
+  }
+
   /** By the button. */
   runOrStop() {
-    this.page.current.touch();
+    this.current.touch();
     if (this.clock.isRunning) this.stop();
     else this.run();
   }
 
   /** @param {Speed} speed */
   async setSpeed(speed) {
-    const { bench, lookView } = this.page;
+    const { bench } = this;
     if (!speed.isFull && this.clock.isFull && this.clock.isRunning) this.ran(await bench.call("halt", []));
     this.clock.setSpeed(speed);
     this.beginRate();
     bench.isRunning = speed.isFull && this.clock.isRunning;
-    lookView.showListing();
+    this.calls.drawListing();
   }
 
   /** One instruction of the time that runs: breakpoints and watches stop it, as any run. */
   async instruct() {
-    const { bench, lookView } = this.page;
+    const { bench, calls } = this;
     this.ran(await bench.call("advance", [1]));
-    const { registers } = lookView.reader;
-    if (this.clock.isRunning && registers && registers.owed === "1") this.ran(await bench.call("advance", [1]));
+    if (this.clock.isRunning && calls.isOwed()) this.ran(await bench.call("advance", [1]));
   }
 
   /** @param {boolean} isHidden */
   setHidden(isHidden) {
-    const { bench, current, recovery } = this.page;
+    const { bench, current, calls } = this;
     if (isHidden) this.clock.hide();
-    if (this.clock.isFull && this.clock.isRunning) bench.call("pace", [isHidden]).catch((fault) => recovery.failed(fault));
+    if (this.clock.isFull && this.clock.isRunning) bench.call("pace", [isHidden]).catch(calls.failed);
     if (isHidden) current.keepNow();
   }
 
@@ -145,7 +164,7 @@ export class Running {
    * @param {string} words
    */
   halted(words) {
-    const { bench, current, lookView } = this.page;
+    const { bench, current, calls } = this;
     this.clock.stop();
     this.goal = null;
     bench.isRunning = false;
@@ -154,31 +173,31 @@ export class Running {
     this.runWord.set("Run");
     this.tell(words);
     this.showRate();
-    lookView.showRest();
-    lookView.showListing();
+    calls.drawRest();
+    calls.drawListing();
   }
 
   /** Lets no more time pass, and takes what it has done. */
   async standStill() {
     if (!this.clock.isRunning) return;
     this.clock.stop();
-    this.page.bench.isRunning = false;
-    this.ran(await this.page.bench.call("halt", []));
+    this.bench.isRunning = false;
+    this.ran(await this.bench.call("halt", []));
   }
 
   /** Stops time, and keeps what it has done. */
   async stop() {
-    const { current, recovery } = this.page;
+    const { current, calls } = this;
     try {
       await this.standStill();
     } catch (fault) {
-      recovery.failed(fault);
+      calls.failed(fault);
       return;
     }
     // A breakpoint may have come first.
     if (current.session && current.session.record.runs) {
-      this.page.lookView.showRest();
-      this.halted(wordsOfHalt(this.goal, this.page.cycles.cycles.total - this.begun, this.place));
+      calls.drawRest();
+      this.halted(wordsOfHalt(this.goal, calls.cycles() - this.begun, this.place));
     }
     await current.keep();
   }
@@ -188,13 +207,10 @@ export class Running {
    * @param {Frame} frame
    */
   ran(frame) {
-    const { current, log } = this.page;
+    const { current } = this;
     const isNewRate = this.rate.add(frame.cycles, this.clock.now);
-    log.collect(frame.ran);
-    this.page.usual.show(frame.tally.usual);
     if (frame.stop) this.clock.stop();
-    this.page.show(frame, true, frame.shone);
-    this.page.breakpoints.count(frame.tally);
+    this.calls.took(frame);
     if (frame.stop) {
       this.halted(this.reasonOf(frame.stop));
       this.ended(frame.stop.why);
@@ -208,8 +224,7 @@ export class Running {
 
   /** Where time stands still, with its name and its line. */
   get place() {
-    const { lookView, source } = this.page;
-    return wordsOfPlace(lookView.counter, source.map);
+    return this.calls.place();
   }
 
   /**
@@ -218,13 +233,13 @@ export class Running {
    */
   reasonOf(stop, goal = this.goal) {
     const refusal = refusalOf(stop.why);
-    if (refusal) return `Stopped: ${stop.why}: ${this.page.words.ofRefusal(refusal.number)}.`;
-    return wordsOfStop(goal, stop, this.place, wordsOfWhen(this.page.breakpoints.keeper.list.get(stop.id || 0)));
+    if (refusal) return `Stopped: ${stop.why}: ${this.calls.wordsOfRefusal(refusal.number)}.`;
+    return wordsOfStop(goal, stop, this.place, wordsOfWhen(this.calls.breakpoint(stop.id || 0)));
   }
 
   async step() {
     if (this.clock.isRunning) await this.stop();
-    const answer = await this.page.serving.act("step\n");
+    const answer = await this.calls.step();
     if (answer === null) return;
     const run = readRun(answer);
     const cycles = run ? run.cycles : 0;
@@ -238,9 +253,9 @@ export class Running {
    * @param {string} place
    */
   queue(word, place) {
-    const { bench, current, recovery } = this.page;
+    const { bench, current, calls } = this;
     current.touch();
     if (word === "press" && this.clock.hurry(place)) return;
-    bench.call(word, [place]).catch((fault) => recovery.failed(fault));
+    bench.call(word, [place]).catch(calls.failed);
   }
 }
