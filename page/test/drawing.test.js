@@ -7,6 +7,7 @@ import { Face, faceFaults } from "../src/board/face.js";
 import { missingOf } from "../src/board/face_board.js";
 import { SHELF, actOn, isReadAlike } from "../src/drawing/acts.js";
 import { linesOf, mayWire, sourcesOf, targetsOf, wiringOf } from "../src/drawing/board_lines.js";
+import { fieldsOf } from "../src/drawing/fields.js";
 import { edited, inverseOf } from "../src/drawing/text_edits.js";
 import { headOf } from "../src/board/face_words.js";
 import { sentText } from "../src/text/text_fault.js";
@@ -264,6 +265,56 @@ onBench("what may be wired is what the bench takes, and all of it is offered", (
       assert.equal(mayWire(board, line, target), told[at].first.startsWith("ok"), `${name}: ${line.name} to ${target}: ${told[at].first}`);
     });
   }
+});
+
+/** Numbers that look like chance, and are the same in each run. */
+function chances(seed) {
+  let state = seed;
+  return (list) => {
+    state = (Math.imul(state, 1103515245) + 12345) >>> 0;
+    return list[(state >>> 8) % list.length];
+  };
+}
+
+/** Something that a hand may do on a board: what the shelf, a pin, a field or a button offers. */
+function anyAct(pick, board, face) {
+  const lines = linesOf(board).map((line) => line.name);
+  const parts = ["", ...board.roms.map(({ chip }) => `rom ${chip}`), ...board.banks.map(({ bank }) => `ram ${bank}.0`),
+    ...board.chains.map((_, at) => `chain ${at}`), ...(board.matrix ? ["keys"] : []), ...wiringOf(board).keys(), ...lines];
+  const { fields, buttons } = fieldsOf(board, face, pick(parts));
+  const line = pick([...lines, ""]);
+  const field = pick([...fields, null]);
+  const words = ["", "a", "b c", "0", "3", "x:y", "#", "_", "red", "**"];
+  return pick([
+    { kind: "add", part: pick(SHELF), digits: pick([1, 2, 3]) },
+    { kind: "wire", line, target: pick([...targetsOf(board, line), "lamp 0"]) },
+    ...(field ? [field.act(field.options ? pick(field.options).value : pick(words))] : []),
+    ...buttons.map(({ act }) => act).slice(0, 1 + Number(pick([0, 0, 1]))),
+  ]);
+}
+
+onBench("whatever is done one after the other, the bench takes the text, comments stay, and all of it can be undone", () => {
+  let [done, refused] = [0, 0];
+  for (let seed = 1; seed <= 30; seed++) {
+    const pick = chances(seed);
+    const begun = pick(["", ...examples.map(({ text }) => text)]);
+    let text = begun;
+    const back = [];
+    for (let step = 0; step < 25; step++) {
+      const board = readBoard(ask([text])[0].board);
+      const act = anyAct(pick, board, new Face(text));
+      if (actOn(text, act).refusal) refused += 1;
+      else {
+        const next = check(`seed ${seed}`, text, act);
+        assert.deepEqual(comments(next.text), comments(text), `seed ${seed}: ${JSON.stringify(act)}`);
+        back.unshift(...inverseOf(text, next.edits));
+        ({ text } = next);
+        done += 1;
+      }
+    }
+    assert.equal(edited(text, back), begun);
+  }
+  assert.ok(done > 400 && refused > 20, `${done} done, ${refused} refused`);
 });
 
 onBench("a wire that cannot be is refused in words", () => {

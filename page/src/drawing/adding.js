@@ -138,7 +138,8 @@ export function addChain(sketch, chips = 1) {
 function freeBits(board, count) {
   const free = new Set(freeLines(board).map(({ name }) => name));
   for (const [chain, { chips }] of board.chains.entries()) {
-    const first = upTo(BITS * chips - count + 1).find((bit) => upTo(count).every((more) => free.has(`chain${chain}.${bit + more}`)));
+    const begins = upTo(Math.max(0, BITS * chips - count + 1));
+    const first = begins.find((bit) => upTo(count).every((more) => free.has(`chain${chain}.${bit + more}`)));
     if (first !== undefined) return { chain, first };
   }
   return null;
