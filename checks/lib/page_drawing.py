@@ -160,6 +160,11 @@ def check_wires(browser):
     verdict("the text is as it was", text_of(browser), before)
     browser.click("#drawing-redo")
     comes(browser, "and done again", LINES, re.compile("open is at rom0.2"))
+    browser.click("#shelf-ram")
+    comes(browser, "after a click on the shelf", LINES, re.compile("RAM 0.1"))
+    browser.chord(CONTROL, "z")
+    comes(browser, "Ctrl Z undoes it, too", SAID, "Undone.")
+    verdict("and nothing else", browser.script(LINES), re.compile("open is at rom0.2"))
     check_part_is_dragged(browser)
 
 

@@ -1,6 +1,7 @@
 // The board that is drawn in the page: it is the text of the editor Board, and its picture stands in Wiring.
 
-import { button, onClick } from "../ui/dom.js";
+import { wantsKey } from "../board/pressing.js";
+import { button, isDialogOpen, onClick } from "../ui/dom.js";
 import { Drawing } from "./drawing.js";
 import { DrawingView } from "./drawing_view.js";
 import { PictureInput } from "./picture_input.js";
@@ -25,6 +26,7 @@ export class DrawingOfPage {
     this.input = this.makeInput();
     page.layout.tabs.whenShown("wiring", () => this.look());
     onClick(button("first-drawing"), () => page.layout.tabs.choose("wiring"));
+    addEventListener("keydown", (event) => this.typed(event));
   }
 
   makeDrawing() {
@@ -68,6 +70,16 @@ export class DrawingOfPage {
       left: () => drawing.leave(),
       step: (which) => this.tried(drawing.step(which)),
     });
+  }
+
+  /**
+   * While the picture is in front, Ctrl Z is its own wherever no text is typed.
+   * @param {KeyboardEvent} event
+   */
+  typed(event) {
+    const isOurs = this.page.layout.tabs.shown === "wiring" && !isDialogOpen() && !wantsKey(event.target, event.key);
+    if (!isOurs || event.defaultPrevented || !(event.ctrlKey || event.metaKey)) return;
+    if (this.input.doesWithControl(event)) event.preventDefault();
   }
 
   /** @param {Promise<void>} work */
