@@ -207,7 +207,7 @@ const rule = (attribute, pattern, { context = "#stay", isLoose = false } = {}) =
 const languageOfKate = (name, extensions, contexts, items, comment) => `<?xml version="1.0" encoding="UTF-8"?>
 <!DOCTYPE language>
 <!-- ${WARNING} -->
-<language name="${name}" section="Assembler" version="1" kateversion="5.0" extensions="${extensions}" casesensitive="true">
+<language name="${name}" section="Assembler" version="2" kateversion="5.0" extensions="${extensions}" priority="10" casesensitive="true">
   <highlighting>
     <contexts>
 ${contexts}

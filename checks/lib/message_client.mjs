@@ -24,15 +24,25 @@ export class MessageClient {
     });
   }
 
-  take(bytes) {
-    this.input = this.input.length === 0 ? bytes : Buffer.concat([this.input, bytes]);
+  /** The whole messages in bytes, and the bytes behind them. */
+  static messagesIn(bytes) {
+    const messages = [];
+    let rest = bytes;
     for (;;) {
-      const end = this.input.indexOf("\r\n\r\n");
+      const end = rest.indexOf("\r\n\r\n");
       if (end < 0) break;
-      const size = Number(/^Content-Length: (\d+)$/m.exec(this.input.subarray(0, end).toString())[1]);
-      if (this.input.length < end + 4 + size) break;
-      const message = JSON.parse(this.input.subarray(end + 4, end + 4 + size).toString());
-      this.input = this.input.subarray(end + 4 + size);
+      const size = Number(/^Content-Length: (\d+)$/m.exec(rest.subarray(0, end).toString())[1]);
+      if (rest.length < end + 4 + size) break;
+      messages.push(JSON.parse(rest.subarray(end + 4, end + 4 + size).toString()));
+      rest = rest.subarray(end + 4 + size);
+    }
+    return { messages, rest };
+  }
+
+  take(bytes) {
+    const { messages, rest } = MessageClient.messagesIn(this.input.length === 0 ? bytes : Buffer.concat([this.input, bytes]));
+    this.input = rest;
+    for (const message of messages) {
       this.check(message);
       this.received.push(message);
     }

@@ -1,0 +1,191 @@
+// Drives Kate's language client on a display of its own: `node editors_kate.mjs FOLDER`. In FOLDER/home stand Kate's settings, as the manual
+// has them; in FOLDER/bin `mcs4`, which writes all that Kate sends to FOLDER/sent and all that it is told to FOLDER/told. What was seen goes
+// to standard output, a line for each thing. It waits for what stands in these files, and on the screen, for no time of its own.
+import { spawn, spawnSync } from "node:child_process";
+import { cpSync, existsSync, mkdirSync, readFileSync, rmSync, writeFileSync } from "node:fs";
+import { MessageClient } from "./message_client.mjs";
+
+/** So many milliseconds it waits for each thing. */
+const PATIENCE = 90000;
+/** The title of Kate's question. */
+const QUESTION = "LSP server start requested";
+const folder = process.argv[2];
+/** What ends the processes that it started. */
+const ends = new Set();
+const say = (line) => process.stdout.write(`${line}\n`);
+const shortly = () => new Promise((resume) => setTimeout(resume, 100));
+
+/** What `look` finds, once that is something. */
+async function once(what, look) {
+  for (const end = Date.now() + PATIENCE; Date.now() < end;) {
+    const found = look();
+    if (found) return found;
+    await shortly();
+  }
+  throw new Error(`${what}: not after ${PATIENCE} ms`);
+}
+
+/** The messages in one of both files. */
+function messagesOf(name) {
+  const file = `${folder}/${name}`;
+  return existsSync(file) ? MessageClient.messagesIn(readFileSync(file)).messages : [];
+}
+
+const sent = (method) => messagesOf("sent").filter((each) => each.method === method);
+const lastFaults = () => messagesOf("told").filter((each) => each.method === "textDocument/publishDiagnostics").at(-1)?.params.diagnostics;
+
+// --- a display, and its picture
+
+/** Starts a display, with its picture in FOLDER. */
+async function startDisplay() {
+  const server = spawn("Xvfb", ["-displayfd", "3", "-screen", "0", "1280x800x24", "-nolisten", "tcp", "-fbdir", folder],
+    { stdio: ["ignore", "ignore", "ignore", "pipe"] });
+  ends.add(() => server.kill());
+  let number = "";
+  server.stdio[3].on("data", (bytes) => {
+    number += bytes;
+  });
+  await once("the display", () => number.endsWith("\n"));
+  return `:${number.trim()}`;
+}
+
+/** The points of the screen in the colour that Kate's own theme gives to a line with a fault, #FFE5E5 and, where the cursor stands, a shade
+    of it: a picture of XWD, which has its header's length first, and the number of its colours in the twentieth word. */
+function marked() {
+  const picture = readFileSync(`${folder}/Xvfb_screen0`);
+  const begin = picture.readUInt32BE(0) + 12 * picture.readUInt32BE(19 * 4);
+  let count = 0;
+  for (let at = begin; at + 3 < picture.length; at += 4) {
+    const [blue, green, red] = picture.subarray(at, at + 3);
+    if (red >= 240 && red - green >= 20 && green - blue <= 6 && blue - green <= 6 && green > 200) count += 1;
+  }
+  return count;
+}
+
+/** A line with a fault is many hundred points broad and some high. */
+const isMarked = () => marked() > 2000;
+
+// --- Kate
+
+class Kate {
+  constructor(display, file, more = []) {
+    this.environment = { ...process.env, HOME: `${folder}/home`, XDG_RUNTIME_DIR: `${folder}/run`, PATH: `${folder}/bin:${process.env.PATH}`,
+      DISPLAY: display, QT_QPA_PLATFORM: "xcb", LANG: "C.UTF-8" };
+    for (const name of ["XDG_CONFIG_HOME", "XDG_DATA_HOME", "XDG_STATE_HOME", "XDG_CACHE_HOME", "WAYLAND_DISPLAY", "LC_ALL", "LANGUAGE"]) {
+      delete this.environment[name];
+    }
+    for (const name of ["sent", "told"]) rmSync(`${folder}/${name}`, { force: true });
+    this.file = file;
+    // A group of its own, so that the end takes what it started, too.
+    this.child = spawn("dbus-run-session", ["--", "kate", "-n", ...more, file],
+      { cwd: `${folder}/lock`, env: this.environment, stdio: "ignore", detached: true });
+    this.child.on("error", () => {});
+    ends.add(() => this.end());
+  }
+
+  xdotool(...words) {
+    return spawnSync("xdotool", words, { env: this.environment, encoding: "utf8", timeout: PATIENCE }).stdout ?? "";
+  }
+
+  /** The window with these words in its title, if it is there. */
+  window(title) {
+    return this.xdotool("search", "--onlyvisible", "--name", title).trim().split("\n").at(-1);
+  }
+
+  /** Keys for the window with these words in its title. */
+  async keys(title, ...keys) {
+    const window = await once(`the window ${title}`, () => this.window(title));
+    this.xdotool("windowfocus", "--sync", window, "key", "--delay", "100", ...keys);
+  }
+
+  /** The text's faults; and, where Kate asks whether it may start the server: yes. */
+  async answered() {
+    let asked = false;
+    const faults = await once("faults", () => {
+      const window = this.window(QUESTION);
+      if (window) {
+        asked = true;
+        this.xdotool("windowfocus", "--sync", window, "key", "Return");
+      }
+      return lastFaults();
+    });
+    say(`${this.file}: ${asked ? "asked" : "did not ask"} before it started the server`);
+    return faults;
+  }
+
+  end() {
+    try {
+      process.kill(-this.child.pid, "SIGKILL");
+    } catch {
+      // It has gone.
+    }
+  }
+}
+
+function tellFaults(faults) {
+  for (const { range, message } of faults) say(`fault ${range.start.line + 1}:${range.start.character}-${range.end.character} ${message}`);
+  if (faults.length === 0) say("no fault");
+}
+
+/** A program with a fault is opened; the fault is marked; it is mended by typing, and the mark goes. */
+async function program(display) {
+  const kate = new Kate(display, "wrong.asm", ["-l", "39", "-c", "9"]);
+  try {
+    await once("the question", () => kate.window(QUESTION));
+    say(isMarked() ? "a line is marked too early" : "no line is marked");
+    const faults = await kate.answered();
+    const [{ params: { textDocument: opened } }] = sent("textDocument/didOpen");
+    say(`initialize ${sent("initialize").length}, opened ${opened.uri.split("/").at(-1)} as ${opened.languageId}`);
+    tellFaults(faults);
+    await once("a mark", isMarked);
+    say("a line is marked");
+    await kate.keys("wrong.asm", "Delete", "Delete", "Delete", "J", "U", "N");
+    tellFaults(await once("no faults", () => lastFaults().length === 0 && lastFaults()));
+    const changes = sent("textDocument/didChange").at(-1).params.contentChanges;
+    say(`changed to ${changes.at(-1).text.split("\n")[38].trim()}`);
+    await once("no mark", () => !isMarked());
+    say("no line is marked");
+  } finally {
+    kate.end();
+  }
+}
+
+/** With the grammars, and a server for their kinds of texts alone, Kate asks for it: so it takes a text to be of its grammar. */
+async function grammar(display, file) {
+  const settings = `${folder}/home/.config/kate/lspclient/settings.json`;
+  const own = JSON.parse(readFileSync(settings, "utf8"));
+  own.servers.mcs4.highlightingModeRegex = file === "board.toml" ? "^MCS-4 board$" : "^MCS-4 program$";
+  writeFileSync(settings, JSON.stringify(own));
+  const kate = new Kate(display, file);
+  try {
+    const faults = await kate.answered();
+    say(`by the grammar: ${file}`);
+    tellFaults(faults);
+    await kate.keys(file, "ctrl+q");
+    await once("the end", () => kate.child.exitCode !== null);
+    say(`shutdown ${sent("shutdown").length}, exit ${sent("exit").length}`);
+  } finally {
+    kate.end();
+  }
+}
+
+async function main() {
+  mkdirSync(`${folder}/run`, { mode: 0o700 });
+  try {
+    const name = await startDisplay();
+    await program(name);
+    cpSync(new URL("../../editors/kate", import.meta.url), `${folder}/home/.local/share/org.kde.syntax-highlighting/syntax`, { recursive: true });
+    await grammar(name, "lock.asm");
+    await grammar(name, "board.toml");
+    say("end");
+  } catch (fault) {
+    say(`the check failed: ${fault.message}`);
+  }
+}
+
+for (const signal of ["SIGHUP", "SIGINT", "SIGTERM"]) process.on(signal, () => process.exit(1));
+process.on("exit", () => {
+  for (const end of ends) end();
+});
+await main();
+process.exit(0);
