@@ -240,7 +240,7 @@ def check_faults(browser):
     text = text_of(browser)
     browser.script(PUT_INTO_EDITOR, BOARD, f"{text}\n[[lamp]]\n")
     comes(browser, "a text with faults says so", STATE, re.compile("^The bench refuses the board's text"))
-    verdict("and nothing can be added", len(browser.script(DISABLED)), 10)
+    verdict("and nothing can be added", len(browser.script(DISABLED)), 11)
     browser.script(PUT_INTO_EDITOR, BOARD, text.replace("# title: Lock", "# title: Other"))
     comes(browser, "without them it goes on", STATE, "")
     browser.script("document.querySelector('#wiring-picture [tabindex=\"0\"]').focus()")

@@ -238,7 +238,9 @@ function checkLeft(old, oldFace, { board, text }, part) {
   const goneChains = old.chains.map(({ clock, data }, at) => isGone(clock) || isGone(data) || part === `chain ${at}`);
   const newLine = (line) => line.replace(/^chain(\d+)/, (_, at) => `chain${at - goneChains.slice(0, at).filter(Boolean).length}`);
   const isLineGone = (line) => isGone(line) || (line.startsWith("chain") && goneChains[Number(/\d+/.exec(line)[0])]);
-  const groupOf = (lamp) => oldFace.groups.find(({ first, rows, columns }) => first <= lamp && lamp < first + rows * columns);
+  const isIn = ({ first, rows, columns, by }, lamp) => (by < 0 ? first <= lamp && lamp < first + rows * columns
+    : (first <= lamp && lamp < first + columns) || (by <= lamp && lamp < by + rows));
+  const groupOf = (lamp) => oldFace.groups.find((group) => isIn(group, lamp));
   const goes = old.lamps.map((line, at) => isLineGone(line) || part === `lamp ${at}`);
   const isWith = (at, other) => goes[other] && groupOf(at) && groupOf(at) === groupOf(other);
   const gone = old.lamps.map((_, at) => goes[at] || old.lamps.some((__, other) => isWith(at, other)));
@@ -250,7 +252,8 @@ function checkLeft(old, oldFace, { board, text }, part) {
   });
   assert.deepEqual(board.chains, old.chains.filter((_, at) => !goneChains[at]), part);
   const groups = oldFace.groups.filter(({ first }) => !gone[first]);
-  assert.deepEqual(face.groups.map(({ kind, first }) => [kind, first]), groups.map(({ kind, first }) => [kind, kept.indexOf(first)]));
+  assert.deepEqual(face.groups.map(({ kind, first, by }) => [kind, first, by]),
+    groups.map(({ kind, first, by }) => [kind, kept.indexOf(first), by < 0 ? by : kept.indexOf(by)]));
   assert.deepEqual(face.grid.map(({ row, column, lamp }) => [row, column, lamp]),
     oldFace.grid.filter(({ lamp }) => !gone[lamp]).map(({ row, column, lamp }) => [row, column, kept.indexOf(lamp)]));
 }
@@ -366,6 +369,22 @@ onBench("a display of digits, and of seven segments", () => {
   }
   assert.match(actOn("", { kind: "add", part: "segments", digits: 10 }).refusal, /at most 64/);
   assert.match(actOn("", { kind: "add", part: "digit", digits: 0.5 }).refusal, /whole number/);
+});
+
+onBench("a display that is lit by turns comes, is counted anew, and goes whole", () => {
+  const { text, board } = check("nothing", "", { kind: "add", part: "scanned", digits: 2 });
+  const [{ kind, rows, columns, by }] = new Face(text).groups;
+  assert.deepEqual([kind, rows, columns, by, board.lamps.length], ["display", 2, 7, 7, 9]);
+  const later = text.replace("# display 0: 2 digits of 7 segments scanned by 7\n", "# display 1: 2 digits of 7 segments scanned by 8\n")
+    .replace("[[lamp]]\n", '[[lamp]]\nline = "rom0.3"\n\n[[lamp]]\n');
+  const { text: before } = check("one lamp before it", later, { kind: "delete", part: "lamp 0" });
+  assert.equal(before, text);
+  for (const lamp of [1, 5, 8, 9]) {
+    const { board: left, text: gone } = check("its lamps", later, { kind: "delete", part: `lamp ${lamp}` });
+    assert.deepEqual([left.lamps, new Face(gone).groups], [["rom0.3"], []]);
+  }
+  assert.match(actOn(text, { kind: "copy", part: "lamp 0" }).refusal, /belong together/);
+  assert.match(actOn("", { kind: "add", part: "scanned", digits: 17 }).refusal, /1 to 16/);
 });
 
 onBench("a name that the face cannot have is refused in its words", () => {

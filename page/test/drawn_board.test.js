@@ -153,6 +153,8 @@ test("lamps of a display are called by what they are in it", () => {
   const labels = (text, count) => lampLabels(new Face(text), count);
   assert.deepEqual(labels("# lamp 0: minus\n# display 1: 2 digits with points\n", 9), ["minus", "digit 0: 8", "digit 0: 4", "digit 0: 2",
     "digit 0: 1", "digit 0: point", "digit 1: 8", "digit 1: 4", "digit 1: 2"]);
+  assert.deepEqual(labels("# display 0: 2 digits scanned by 4\n", 6), [..."8421"].map((lamp) => `all digits: ${lamp}`)
+    .concat("digit 0", "digit 1"));
   assert.deepEqual(labels("# display 0: 1 digit of 7 segments\n# bar 7: 2 lamps\n", 9),
     [..."abcdefg"].map((name) => `digit 0: ${name}`).concat("", ""));
 });

@@ -4,9 +4,10 @@
 import { readBoard } from "../bench/answers.js";
 import { Face } from "../board/face.js";
 import { bitOf, linesOf, mayWire, nameOfTarget, readTarget, wiringOf } from "./board_lines.js";
-import { INPUTS, OUTPUTS, addChain, addColumn, addDisplay, addKeys, addLamp, addRam, addRom, nameOfPart, needRom, setChips, setRows,
+import {
+  INPUTS, OUTPUTS, addChain, addColumn, addDisplay, addKeys, addLamp, addRam, addRom, addScanned, nameOfPart, needRom, setChips, setRows,
 } from "./adding.js";
-import { deletePart } from "./deleting.js";
+import { deletePart, displayAt, lampsWith } from "./deleting.js";
 import { COLOURS, colourLamp, nameKey, nameLamp, setWhole, wordOf } from "./face_edits.js";
 import { setValue, setWritten } from "./part_edits.js";
 import { ActRefusal, Sketch } from "./sketch.js";
@@ -27,7 +28,7 @@ import { ActRefusal, Sketch } from "./sketch.js";
  *   | { kind: "port", line: string, as: string } | { kind: "chips", chain: number, chips: number } | { kind: "rows", rows: number }
  *   | { kind: "column" } | { kind: "delete", part: string } | { kind: "copy", part: string }
  *   | { kind: "name", part: string, name: string } | { kind: "colour", lamp: number, colour: string }} Act
- * @typedef {"rom" | "inputs" | "ram" | "chain" | "keys" | "lamp" | "digit" | "segments" | "button" | "switch"} Shelved
+ * @typedef {"rom" | "inputs" | "ram" | "chain" | "keys" | "lamp" | "digit" | "segments" | "scanned" | "button" | "switch"} Shelved
  *
  * What came of it: the edits, one after the other, the part that it is about, and in words what was done; or why nothing was.
  * @typedef {{ edits: TextEdit[], text: string, part: string, words: string, refusal: "" }} Done
@@ -35,7 +36,7 @@ import { ActRefusal, Sketch } from "./sketch.js";
  */
 
 /** @type {Shelved[]} */
-export const SHELF = ["rom", "inputs", "ram", "chain", "keys", "lamp", "digit", "segments", "button", "switch"];
+export const SHELF = ["rom", "inputs", "ram", "chain", "keys", "lamp", "button", "switch", "digit", "segments", "scanned"];
 
 /**
  * @param {Sketch} sketch
@@ -44,6 +45,7 @@ export const SHELF = ["rom", "inputs", "ram", "chain", "keys", "lamp", "digit", 
  */
 function addFromShelf(sketch, { part, line, digits = 1 }) {
   switch (part) {
+    case "scanned": return addScanned(sketch, digits);
     case "rom": return addRom(sketch, OUTPUTS);
     case "inputs": return addRom(sketch, INPUTS);
     case "ram":
@@ -134,8 +136,9 @@ function copy(sketch, part) {
   if (kind === "ram") return addRam(sketch);
   if (kind === "chain") return addChain(sketch, board.chains[number].chips);
   if (kind !== "lamp") throw new ActRefusal("A board has this once.");
-  const display = face.groups.find((group) => group.kind === "display" && group.first === number);
+  const display = displayAt(face, number);
   if (display) return addDisplay(sketch, display.columns < 7 ? "digit" : "segments", display.rows);
+  if (lampsWith(face, number).length > 1) throw new ActRefusal("Lamps that belong together are copied in the board's text.");
   return addLamp(sketch, "", (face.colours.get(number) || { text: "" }).text);
 }
 
@@ -208,7 +211,7 @@ function perform(sketch, act) {
   switch (act.kind) {
     case "add": {
       const part = addFromShelf(sketch, act);
-      const isDisplay = act.part === "digit" || act.part === "segments";
+      const isDisplay = ["digit", "segments", "scanned"].includes(act.part);
       const digits = act.digits || 1;
       return [part, isDisplay ? `A display of ${digits} digit${digits > 1 ? "s" : ""} was added` : doneTo(part, "added")];
     }

@@ -1,6 +1,7 @@
 // Parts that come to a board, each at lines that nothing takes yet. Where these are too few, the chips come with it that have them.
 
 import { upTo } from "../bench/numbers.js";
+import { limit } from "../board/face_words.js";
 import { BITS, MOST } from "../text/board_parts.js";
 import { RANGES } from "../text/board_words.js";
 import { addGroup, colourLamp } from "./face_edits.js";
@@ -245,6 +246,26 @@ export function addDisplay(sketch, kind, digits) {
   if (kind === "digit") for (let digit = 0; digit < digits; digit++) putLamps(sketch, portOfDigit(sketch));
   else putLamps(sketch, bitsOfSegments(sketch, digits * LINES_OF_DIGIT.segments));
   const words = `${digits} digit${digits > 1 ? "s" : ""}${kind === "segments" ? " of 7 segments" : ""}`;
+  sketch.edit(addGroup(sketch.draft, "display", at, words));
+  return `lamp ${at}`;
+}
+
+/**
+ * A display whose digits are lit by turns: seven lines for the segments of all of them, and a line for each.
+ * @param {Sketch} sketch
+ * @param {number} digits
+ */
+export function addScanned(sketch, digits) {
+  const most = limit("scanned");
+  if (!Number.isInteger(digits) || digits < 1 || digits > most) throw new ActRefusal(`Digits that are lit by turns are 1 to ${most}.`);
+  const count = LINES_OF_DIGIT.segments + digits;
+  needRoom(sketch, count);
+  needRom(sketch);
+  const at = sketch.board.lamps.length;
+  /** @type {(board: Board) => string[]} */
+  const find = (board) => freeForLamps(board).filter((line) => line.startsWith("ram"));
+  putLamps(sketch, need(sketch, count, find, () => addRam(sketch)));
+  const words = `${digits} digit${digits > 1 ? "s" : ""} of 7 segments scanned by ${at + LINES_OF_DIGIT.segments}`;
   sketch.edit(addGroup(sketch.draft, "display", at, words));
   return `lamp ${at}`;
 }

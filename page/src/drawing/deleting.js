@@ -1,7 +1,7 @@
 // Parts that go from a board, and with each what hangs on it alone: a lamp without a line is none. The others keep their wires.
 
 import { Face } from "../board/face.js";
-import { endOf } from "../board/face_board.js";
+import { isScanned, lampsOf } from "../board/face_board.js";
 import { removeColumns, removeRows, renamePorts, renumberLamps, setWhole } from "./face_edits.js";
 import { readTarget } from "./board_lines.js";
 import { nameOfPart, setRows } from "./adding.js";
@@ -38,8 +38,18 @@ function isLineGone({ roms, rams, chains }, line) {
  * @param {number} lamp
  */
 export function lampsWith(face, lamp) {
-  const group = face.groups.find((each) => each.first <= lamp && lamp < endOf(each));
-  return group ? Array.from({ length: endOf(group) - group.first }, (_, at) => group.first + at) : [lamp];
+  const all = face.groups.map(lampsOf).find((lamps) => lamps.includes(lamp));
+  return all || [lamp];
+}
+
+/**
+ * The display whose first lamp this is, where another one like it can come from the shelf; undefined for none.
+ * @param {Face} face
+ * @param {number} lamp
+ */
+export function displayAt(face, lamp) {
+  return face.groups.find((group) => group.kind === "display" && group.first === lamp && (group.columns === 4 || group.columns === 7)
+    && !isScanned(group));
 }
 
 /**
@@ -57,10 +67,12 @@ function spread(board, face, gone) {
     matrix.columns.forEach((line, at) => isLineGone(gone, line) && gone.columns.add(at));
     gone.keys = gone.keys || gone.chains.has(matrix.chain) || gone.columns.size === matrix.columns.length;
   }
-  board.lamps.forEach((line, at) => {
-    if (!isLineGone(gone, line) && !gone.lamps.has(at)) return;
-    for (const lamp of lampsWith(face, at)) if (lamp < board.lamps.length) gone.lamps.add(lamp);
-  });
+  board.lamps.forEach((line, at) => isLineGone(gone, line) && gone.lamps.add(at));
+  // Lamps of a set, to which others are added that may be of another one.
+  for (const at of gone.lamps) {
+    const groups = face.groups.map(lampsOf).filter((lamps) => lamps.includes(at));
+    for (const lamp of groups.flat()) if (lamp < board.lamps.length) gone.lamps.add(lamp);
+  }
 }
 
 /**

@@ -27,10 +27,11 @@ const SHELF = {
   lamp: ["Lamp", "at the chosen output line, else at the next free one"],
   digit: ["Digits", "a display whose digits are numbers of four lines each"],
   segments: ["7 segments", "a display whose digits are seven lines each"],
+  scanned: ["Scanned", "digits that are lit by turns: seven lines for all of them, and a line for each"],
   button: ["Button", "at the processor's TEST pin; it springs back"],
   switch: ["Switch", "at the processor's TEST pin; it stays"],
 };
-const WITH_DIGITS = new Set(["digit", "segments"]);
+const WITH_DIGITS = new Set(["digit", "segments", "scanned"]);
 
 export class DrawingView {
   /**

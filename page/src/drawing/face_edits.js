@@ -157,7 +157,10 @@ function renumberList(draft, line, gone, numberOf) {
   const kept = isGroup ? [...(gone.has(first) ? [] : [first])] : line.words.map((_, at) => first + at).filter((lamp) => !gone.has(lamp));
   if (kept.length === 0) return [removeFaceLine(draft, line)];
   const head = setWord(/** @type {import("./face_lines.js").PlacedWord} */ (line.place), String(numberOf(kept[0])));
-  return isGroup ? head : [...head, ...removeWords(line, (at) => gone.has(first + at))];
+  if (!isGroup) return [...head, ...removeWords(line, (at) => gone.has(first + at))];
+  // `scanned by N`: the lamp from which on the digits or the rows are.
+  const by = line.words[line.words.findIndex(({ text }) => text === "scanned") + 2];
+  return line.words.some(({ text }) => text === "scanned") && by ? [...head, ...setWord(by, String(numberOf(Number(by.text))))] : head;
 }
 
 /**

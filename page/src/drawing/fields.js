@@ -4,7 +4,7 @@
 import { upTo } from "../bench/numbers.js";
 import { COLOURS } from "../board/face_words.js";
 import { RANGES } from "../text/board_words.js";
-import { lampsWith } from "./deleting.js";
+import { displayAt, lampsWith } from "./deleting.js";
 import { linesOf, nameOfTarget, readTarget, sourcesOf, wiringOf } from "./board_lines.js";
 
 /**
@@ -153,8 +153,8 @@ function ofLamp(board, face, lamp) {
     choice("colour", colour ? colour.text : "red", [...COLOURS], (value) => ({ kind: "colour", lamp: all[0], colour: value })),
     lineField(board, part, "lamp"),
   ];
-  const buttons = isOne ? [copyOf(part), deletionOf(part)]
-    : [{ ...copyOf(`lamp ${all[0]}`), word: "Copy the display" }, deletionOf(part, `Delete its ${all.length} lamps`)];
+  const copies = displayAt(face, all[0]) ? [{ ...copyOf(`lamp ${all[0]}`), word: "Copy the display" }] : [];
+  const buttons = isOne ? [copyOf(part), deletionOf(part)] : [...copies, deletionOf(part, `Delete its ${all.length} lamps`)];
   return { title: `Lamp ${lamp}`, part, fields, buttons };
 }
 

@@ -1,6 +1,7 @@
 // What lamps are called in the picture: by their names, those of displays by their digit and what they are in it.
 
-import { lampNames } from "../board/face_board.js";
+import { isScanned, lampNames, lampsOf } from "../board/face_board.js";
+import { upTo } from "../bench/numbers.js";
 
 /** @typedef {import("../board/face.js").Face} Face */
 
@@ -15,12 +16,23 @@ const POINT = "point";
  */
 export function lampLabels(face, count) {
   const labels = lampNames(face, count);
-  for (const { kind, first, rows, columns } of face.groups) {
-    if (kind !== "display") continue;
-    const lamps = [...(columns < SEGMENTS.length ? OF_NUMBER : SEGMENTS), POINT];
-    for (let at = 0; at < rows * columns && first + at < count; at++) {
-      labels[first + at] = labels[first + at] || `digit ${Math.floor(at / columns)}: ${lamps[at % columns]}`;
-    }
+  for (const group of face.groups) {
+    if (group.kind !== "display") continue;
+    const own = labelsOf(group);
+    lampsOf(group).forEach((lamp, at) => {
+      if (lamp < count) labels[lamp] = labels[lamp] || own[at];
+    });
   }
   return labels;
+}
+
+/**
+ * The labels of the lamps of a display.
+ * @param {import("../board/face.js").Group} group
+ */
+function labelsOf(group) {
+  const { rows, columns } = group;
+  const lamps = [...(columns < SEGMENTS.length ? OF_NUMBER : SEGMENTS), POINT].slice(0, columns);
+  if (isScanned(group)) return [...lamps.map((lamp) => `all digits: ${lamp}`), ...upTo(rows).map((digit) => `digit ${digit}`)];
+  return upTo(rows).flatMap((digit) => lamps.map((lamp) => `digit ${digit}: ${lamp}`));
 }
