@@ -7,6 +7,8 @@ import { MessageClient } from "./message_client.mjs";
 
 /** So many milliseconds it waits for each thing. */
 const PATIENCE = 90000;
+/** So many milliseconds after which a key that did nothing is pressed again, and a command for the display is given up. */
+const AGAIN = 20000;
 /** The title of Kate's question. */
 const QUESTION = "LSP server start requested";
 const folder = process.argv[2];
@@ -84,7 +86,7 @@ class Kate {
   }
 
   xdotool(...words) {
-    return spawnSync("xdotool", words, { env: this.environment, encoding: "utf8", timeout: PATIENCE }).stdout ?? "";
+    return spawnSync("xdotool", words, { env: this.environment, encoding: "utf8", timeout: AGAIN }).stdout ?? "";
   }
 
   /** The window with these words in its title, if it is there. */
@@ -95,17 +97,18 @@ class Kate {
   /** Keys for the window with these words in its title. */
   async keys(title, ...keys) {
     const window = await once(`the window ${title}`, () => this.window(title));
-    this.xdotool("windowfocus", "--sync", window, "key", "--delay", "100", ...keys);
+    this.xdotool("windowfocus", window, "key", "--delay", "100", ...keys);
   }
 
   /** The text's faults; and, where Kate asks whether it may start the server: yes. */
   async answered() {
-    let asked = false;
+    let asked = 0;
     const faults = await once("faults", () => {
-      const window = this.window(QUESTION);
+      // One key alone, since a second one would go into the text.
+      const window = Date.now() - asked > AGAIN && this.window(QUESTION);
       if (window) {
-        asked = true;
-        this.xdotool("windowfocus", "--sync", window, "key", "Return");
+        asked = Date.now();
+        this.xdotool("windowfocus", window, "key", "Return");
       }
       return lastFaults();
     });
