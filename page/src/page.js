@@ -11,6 +11,7 @@ import { BreakpointsOfPage } from "./machine/breakpoints_of_page.js";
 import { Layout } from "./layout.js";
 import { LogView } from "./lines/log_view.js";
 import { usualOf } from "./machine/usual_of_page.js";
+import { drawSound } from "./board/sound_of_page.js";
 import { KeptPast } from "./session/kept_past.js";
 import {
   editorsOf, exportOf, heatOf, historyOf, lookViewOf, nameCharacters, pressingOf, romFilesOf, sessionsControllerOf, sharingOf, sourceOf,
@@ -162,6 +163,7 @@ export class Page {
       this.drawing.wired(board);
       this.history.draw(this.lookView.board, lampNames(new Face(this.boardEditor.text), this.lookView.board.lamps.length));
       this.editors.look(board.length === 1);
+      drawSound(this, this.boardEditor.text);
       nameCharacters(this);
     }
     this.lookView.show(look, isPassing, shone);

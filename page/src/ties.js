@@ -1,5 +1,6 @@
 // What the page's parts call of one another: each part gets calls, and knows no page.
 
+import { drawSound } from "./board/sound_of_page.js";
 import { keyOfKeyboard } from "./board/board_keys.js";
 import { LookView } from "./look_view.js";
 import { Pressing, wantsKey } from "./board/pressing.js";
@@ -262,6 +263,7 @@ export function textsOf(page) {
     keep: () => current.keep(),
     named: (boardText) => {
       page.lookView.readFace(boardText);
+      drawSound(page, boardText);
       current.takeTitle(titleOf(boardText, page.programEditor.text));
       page.checkSource();
     },

@@ -5,6 +5,7 @@ import { Brightness, PERSISTENCE, shineOf } from "../src/board/brightness.js";
 import { numberOf } from "../src/board/digit_patterns.js";
 import { DisplayText } from "../src/board/display_text.js";
 import { Face } from "../src/board/face.js";
+import { SoundPieces, samplesOf } from "../src/board/sound_samples.js";
 import { BenchCalls } from "../src/worker/bench_calls.js";
 import { SeenText } from "../src/worker/seen_text.js";
 import { moduleOfPage } from "./page_session.js";
@@ -137,6 +138,30 @@ test("digits that are lit by turns show what they show longest while they are li
   assert.deepEqual(read(four, ghost, two, two), ["-42. ", ""]);
   assert.deepEqual(read(marks("***....", "***", ".")), ["777", ""]);
   assert.equal(text.read(two).number, "2. ");
+});
+
+test("the edges of a line are told to the cycle, and its samples have its pitch", async () => {
+  const calls = await begin(PULSES);
+  calls.listenTo("rom0.0");
+  let level = -1;
+  for (const cycles of [3, 40, FRAME, 1]) {
+    const told = calls.ask(`lamps\n${"run 1\nlamps\n".repeat(cycles)}`).filter((line) => line.startsWith("lamps")).slice(0, cycles);
+    const wanted = told.map((line) => (line["lamps ".length] === "*" ? 1 : -1));
+    assert.deepEqual([...samplesOf(calls.advance(cycles).heard)], wanted);
+  }
+  const pieces = new SoundPieces(4200);
+  let [rises, count] = [0, 0];
+  for (let frame = 0; frame < 60; frame++) {
+    for (const sample of pieces.add(calls.advance(FRAME).heard) || []) {
+      rises += Number(sample > level && level === -1 && count > 0);
+      level = sample;
+      count += 1;
+    }
+  }
+  // A turn of the program takes 41 cycles.
+  assert.ok(Math.abs(rises / count - 1 / 41) < 0.01 / 41, `${rises} in ${count}`);
+  calls.listenTo("");
+  assert.equal(calls.advance(100).heard, null);
 });
 
 test("a lamp that is lit from now on is seen to 63 % after the persistence, and fades so", () => {

@@ -23,6 +23,7 @@ function told(face, faults, patterns) {
     ...(title ? [`title ${title}`] : []), ...list("key", face.keys).filter((line) => !line.endsWith(" ")), ...list("lamp", face.lamps),
     ...list("colour", face.colours), ...face.grid.map(({ row, column, lamp }) => `grid ${row} ${column} ${lamp}`),
     ...face.groups.map(({ kind, first, rows, columns, by }) => `${kind} ${first} ${rows} ${columns}${by < 0 ? "" : ` by ${by}`}`),
+    ...(face.buzzer ? [`buzzer ${face.buzzer.place} ${face.buzzer.name}`] : []),
     ...(pin ? [`test ${pin.kind} ${pin.name} ${pin.level}`] : []), ...list("port", face.ports),
     ...faults.map(({ line, words }) => `fault line ${line}: ${words}`),
     ...patterns.map((pattern) => {

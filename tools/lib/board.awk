@@ -41,6 +41,7 @@ function check_face(    i, name, d) {
     for (d = 1; d <= display_count; d++) check_group("display", display_line[d], display_end(d))
     for (i = 1; i <= group_count; i++) check_group(group_kind[i], group_line[i], group_end(group_first[i], group_rows[i], group_columns[i], group_by[i]))
     check_places_of_face()
+    if (buzzer_line && !has_output(buzzer_place)) face_says("buzzer", buzzer_line, "no line for buzzer", buzzer_place)
     for (name in port_name) {
         if (!has_place(name)) face_says("port", port_line[name], "port not there", name)
     }
@@ -66,6 +67,16 @@ function has_place(place,    number) {
     if (place ~ /^rom/) return (number in rom_port)
     if (place ~ /^chain/) return number + 0 < chain_count
     return substr(number, 3) + 0 < ram_chips[substr(number, 1, 1)] + 0
+}
+
+# Whether the board has an output line: `rom0.3`, `ram0.1.3` or `chain0.5`.
+function has_output(line,    place, bit) {
+    bit = line
+    sub(/.*\./, "", bit)
+    place = substr(line, 1, length(line) - length(bit) - 1)
+    if (!has_place(place)) return 0
+    if (place ~ /^chain/) return bit + 0 < chain_bits[substr(place, 6)]
+    return place ~ /^ram/ || substr(rom_port[substr(place, 4)], 4 - bit, 1) != "i"
 }
 
 # The lines of a file: lines[1] to lines[n], where n is returned.

@@ -3,7 +3,7 @@
 #
 # read_face(file) fills key_row[name], key_column[name], key_name[row, column], lamp_name[n], lamp_number[name]; the displays, whose count
 # is display_count; lamp_colour[n]; the places on the grid, whose count is grid_count; the groups, whose count is group_count; face_title,
-# pin_kind, pin_name, pin_level, port_name[place]. face_fault[1] to face_fault[face_fault_count] tell what cannot be right with the names
+# pin_kind, pin_name, pin_level, buzzer_place, port_name[place]. face_fault[1] to face_fault[face_fault_count] tell what cannot be right with the names
 # and the displays, and face_note[] what cannot be with the rest, which no number hangs on. The environment has `board_before`, where the
 # text is a part of a file: how many lines of it stand before the text.
 
@@ -85,6 +85,7 @@ function read_face_line(number, line,    head, words, count, kind) {
     else if (kind == "colour") read_colours(number, words[2] + 0, count == 4 ? words[4] + 0 : -1, line)
     else if (kind == "grid") read_grid(number, words[2] + 0, line)
     else if (kind == "test") read_test(number, line)
+    else if (kind == "buzzer") read_buzzer(number, words[2], line)
     else if (kind == "port") read_port(number, words[2], line)
     else read_group(number, kind, words[2] + 0, line)
 }
@@ -237,6 +238,15 @@ function read_test(number, text,    words, count) {
     pin_kind = words[1]
     pin_name = words[2]
     pin_level = count == 4 ? words[4] + 0 : 0
+}
+
+function read_buzzer(number, place, text) {
+    if (buzzer_line) face_says("buzzer", number, "second buzzer", buzzer_line)
+    else {
+        buzzer_line = number
+        buzzer_place = place
+        buzzer_name = text
+    }
 }
 
 function read_port(number, place, text) {

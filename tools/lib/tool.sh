@@ -225,9 +225,12 @@ need_bench() {
     bench_found=1
     if [ -z "$mcs4" ]; then
         top=${tools%/*}
+        # A tool has a variable of this name, too: the text of a program.
+        text_of_program=${program:-}
         . "$lib/start.sh"
         need_program
         mcs4=$program
+        program=$text_of_program
         return
     fi
     : > "$folder/version"

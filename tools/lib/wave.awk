@@ -1,6 +1,6 @@
 # The lines of a board over time, as VCD (tools/wave). Needs numbers.awk, face.awk, board.awk, names.awk, bench.awk, code.awk, ahead.awk and
 # check_program.awk. `start.mcs` in the folder is a copy of the session. The environment has `cycles`, `wanted` (names of lines, "" for
-# all), `lines_alone`, `board_name` and `program_name` ("" where none is given).
+# all), `lines_alone`, `board_name` and `program_name` ("" where none is given), and `sound`, where the edges of a buzzer are wanted alone.
 #
 # A line has a name, a place of a trace (line_place), none where it stands still, and among the lamps its number (line_lamp). A value has so
 # many bits (line_width), and a pair the place of its lower register (line_low).
@@ -299,9 +299,48 @@ function print_recording(    cycles, n, k, cycle, at) {
     close("cat 1>&2")
 }
 
-function record() {
+# The line of the buzzer: the one that is wanted, or that of the board's text.
+function choose_buzzer(    name) {
+    name = ENVIRON["wanted"]
+    if (name == "" && ENVIRON["board_name"] == "") die("no line of a buzzer is given; name it, or give --board BOARD, whose text has a comment `# buzzer rom0.3: NAME`")
+    else if (name == "" && buzzer_place == "") die(ENVIRON["board_name"] " has no buzzer: a comment `# buzzer rom0.3: NAME` makes one")
+    else if (name == "" && !has_output(buzzer_place)) die(ENVIRON["board_name"] ": line " buzzer_line ": the board has no output line " buzzer_place)
+    else if (name != "" && (name !~ /^(rom|ram|chain)[0-9.]*\.[0-9]+$/ || !has_output(name))) die("the board has no output line " name "; a buzzer is at one, as rom0.3, ram0.1.3 or chain0.5")
+    return name == "" ? buzzer_place : name
+}
+
+# The level at first, the cycles before each edge, and how many there are in all.
+function print_edges(line,    cycles, n, k, level) {
+    cycles = ENVIRON["cycles"] + 0
+    stop = "end"
+    forget_places()
+    add_place(line)
+    while (elapsed < cycles && stop == "end") {
+        n = cycles - elapsed < 20000 ? cycles - elapsed : 20000
+        ask_places(n)
+        if (level == "") print level = place_value[1]
+        for (k = 1; k <= event_count; k++) {
+            take_event(event_cycle[k])
+            if (changed_count) print elapsed + event_cycle[k] + 1
+        }
+        run(n)
+    }
+    print elapsed
+    if (elapsed == cycles) return
+    print "wave: the session stopped after " elapsed " cycles, before a code that is no instruction" | "cat 1>&2"
+    close("cat 1>&2")
+}
+
+function record(    line) {
     know_session()
     if (ended) return
+    if (ENVIRON["sound"] != "") {
+        line = choose_buzzer()
+        if (ended) return
+        clear_stops()
+        print_edges(line)
+        return
+    }
     find_lines()
     if (ENVIRON["lines_alone"]) {
         for (i = 1; i <= line_count; i++) print line_name[i]

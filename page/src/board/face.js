@@ -39,6 +39,8 @@ export class Face {
     this.groups = [];
     /** @type {TestPin | null} */
     this.test = null;
+    /** @type {{ place: string, name: string, line: number } | null} what sounds by the edges of a line */
+    this.buzzer = null;
     /** @type {Map<string, Told>} the names of ports and chains, by `rom0`, `ram0.0`, `chain0` */
     this.ports = new Map();
     /** @type {Fault[]} */
@@ -246,6 +248,15 @@ export class Face {
    * @param {string} text
    * @param {number} line
    */
+  readBuzzer(place, text, line) {
+    if (this.isFirst("buzzer", line, "second buzzer")) this.buzzer = { place, name: wordsOf(text).join(" "), line };
+  }
+
+  /**
+   * @param {string} place
+   * @param {string} text
+   * @param {number} line
+   */
   readPort(place, text, line) {
     if (this.isFirst(place, line, "second port", place)) this.ports.set(place, { text: wordsOf(text).join(" "), line });
   }
@@ -274,6 +285,7 @@ const READERS = {
   grid: (face, { place, words, line }) => face.readGrid(Number(place), words, line),
   display: readGroup, die: readGroup, bar: readGroup, matrix: readGroup,
   test: (face, { words, line }) => face.readTest(words, line),
+  buzzer: (face, { place, words, line }) => face.readBuzzer(place, words, line),
   port: (face, { place, words, line }) => face.readPort(place, words, line),
 };
 

@@ -24,6 +24,19 @@ function hasPlace(board, place) {
 }
 
 /**
+ * Whether the board has an output line: `rom0.3`, `ram0.1.3` or `chain0.5`.
+ * @param {Board} board
+ * @param {string} line
+ */
+export function hasOutput(board, line) {
+  const [place, bit] = [line.slice(0, line.lastIndexOf(".")), Number(line.slice(line.lastIndexOf(".") + 1))];
+  if (!hasPlace(board, place)) return false;
+  const number = Number(place.slice(-1));
+  if (place.startsWith("chain")) return bit < 10 * board.chains[number].chips;
+  return place.startsWith("ram") || board.roms.some(({ chip, port }) => `rom${Number(chip)}` === place && port[3 - bit] !== "i");
+}
+
+/**
  * The number behind that of the last lamp.
  * @param {Group} group
  */
@@ -77,6 +90,8 @@ export function missingOf(face, board) {
   for (const group of face.groups) {
     if (endOf(group) > count) add(group.kind, group.line, "no lamps for group", group.kind, endOf(group) - 1, count);
   }
+  const { buzzer } = face;
+  if (buzzer && !hasOutput(board, buzzer.place)) add("buzzer", buzzer.line, "no line for buzzer", buzzer.place);
   for (const [place, { line }] of face.ports) if (!hasPlace(board, place)) add("port", line, "port not there", place);
   return sorted(faults);
 }

@@ -4,8 +4,10 @@ import { isStop, readRun, refusalOf } from "../bench/answers.js";
 import { wordsOfHalt, wordsOfMove, wordsOfStop, wordsOfWhen } from "../debug/stop_words.js";
 import { Cell, block, button } from "../ui/dom.js";
 import { wordsOfTime } from "../bench/words.js";
+import { Sound } from "../board/sound.js";
 import { Clock } from "./clock.js";
 import { Rate } from "./rate.js";
+import { REAL } from "./speeds.js";
 
 /**
  * @typedef {import("../bench/protocol.js").Frame} Frame
@@ -47,6 +49,12 @@ export class Running {
     this.begun = 0;
     this.rate = new Rate(0);
     this.clock = this.makeClock();
+    this.sound = new Sound({
+      listen: (line) => {
+        bench.call("listenTo", [line]).catch(calls.failed);
+      },
+      isReal: () => this.clock.speed === REAL,
+    });
     this.status = new Cell(block("status"));
     this.rateTold = new Cell(block("rate"));
     this.runWord = new Cell(button("run"));
@@ -127,6 +135,7 @@ export class Running {
     const { bench } = this;
     if (!speed.isFull && this.clock.isFull && this.clock.isRunning) this.ran(await bench.call("halt", []));
     this.clock.setSpeed(speed);
+    this.sound.check();
     this.beginRate();
     bench.isRunning = speed.isFull && this.clock.isRunning;
     this.calls.drawListing();
@@ -210,6 +219,7 @@ export class Running {
     const { current } = this;
     const isNewRate = this.rate.add(frame.cycles, this.clock.now);
     if (frame.stop) this.clock.stop();
+    this.sound.hear(frame.heard);
     this.calls.took(frame);
     if (frame.stop) {
       this.halted(this.reasonOf(frame.stop));

@@ -21,6 +21,7 @@ import { tryTexts } from "./trying.js";
 import { recordedProgram } from "../waves/wave_program.js";
 import { LiveRecorder } from "./live_recorder.js";
 import { Shining } from "./shining.js";
+import { Sounding } from "./sounding.js";
 import { readTrigger } from "../waves/trigger.js";
 import { recordAfter, recordBefore } from "./wave_recorder.js";
 
@@ -506,6 +507,14 @@ export class BenchCalls {
     if (!this.opened) return;
     const { lamps } = readBoard(this.session.lookQuestions.board);
     this.session.shining = lamps.length > 0 ? new Shining(new Face(boardText), lamps.length, number) : null;
+  }
+
+  /**
+   * From here on, while time runs, the edges of a line are told.
+   * @param {string} line "" for none
+   */
+  listenTo(line) {
+    if (this.opened) this.session.sounding = line === "" ? null : new Sounding(line);
   }
 
   /** @param {string} place a key, which goes down while time runs */

@@ -22,13 +22,16 @@ import { SEGMENT_ENTRIES, Timeline } from "./timeline.js";
  * @typedef {import("./live_recorder.js").LiveRecorder} LiveRecorder
  * @typedef {import("./shining.js").Shining} Shining
  * @typedef {import("./shining.js").Shone} Shone
+ * @typedef {import("./sounding.js").Heard} Heard
+ * @typedef {import("./sounding.js").Sounding} Sounding
  * @typedef {import("../bench/ran.js").RanEntry} RanEntry
  * @typedef {{ line: string, textLines: number, answers: string[] }} Answered an input, how many lines its text had, and its answers
  * @typedef {{ entries: Answered[], first: string, status: number, touchesRom: boolean, wires: boolean }} Told what came of lines:
  *   the last inputs, the first answer, the status of the shell's end, and whether bytes of ROM or the board may be others now
  * @typedef {Told & { look: string[] }} ToldAndSeen
- * @typedef {{ ran: RanEntry[], cycles: number, end: string, changesKeys: boolean, look: string[], shone: Shone | null }} Frame what came of
- *   cycles; `end` is the answer that ended the run early, "" where none did; `shone` what was lit, null where that is not asked for
+ * @typedef {{ ran: RanEntry[], cycles: number, end: string, changesKeys: boolean, look: string[], shone: Shone | null,
+ *   heard: Heard | null }} Frame what came of cycles; `end` is the answer that ended the run early, "" where none did; `shone` what was
+ *   lit, and `heard` what a line did, null where that is not asked for
  */
 
 /** So many of the inputs that were served are told. */
@@ -65,6 +68,8 @@ export class WorkerSession {
     this.readCodes = null;
     /** @type {LiveRecorder | null} records what is done */
     this.recorder = null;
+    /** @type {Sounding | null} tells the edges of a line while time runs, where somebody listens */
+    this.sounding = null;
     /** @type {Shining | null} adds up what is lit while time runs, where somebody looks */
     this.shining = null;
   }
@@ -111,7 +116,7 @@ export class WorkerSession {
    * @returns {Frame}
    */
   advanceBy(planned) {
-    const { steps, answers, look, shone } = this.serveSteps(planned);
+    const { steps, answers, look, shone, heard } = this.serveSteps(planned);
     this.adopt();
     const runs = answers.map(readRun);
     /** @type {(at: number) => number} */
@@ -130,6 +135,7 @@ export class WorkerSession {
       changesKeys: steps.some((step) => step.change !== null),
       look,
       shone,
+      heard,
     };
   }
 
@@ -158,7 +164,7 @@ export class WorkerSession {
     this.unrecorded = [];
     this.readCodes = null;
     if (this.recorder) this.recorder.stop("back");
-    if (wires) this.shining = null;
+    if (wires) this.shining = this.sounding = null;
     return wires;
   }
 
@@ -199,15 +205,19 @@ export class WorkerSession {
     }
     const answers = served.answers.slice(0, done.length);
     const look = lookOf(this.lookQuestions.inputs, served.answers.slice(done.length));
-    return { steps: done, answers, look, shone: served.shining && served.shining.take(served.lit) };
+    const { shining, sounding, toldTo } = served;
+    return {
+      steps: done, answers, look, shone: shining && shining.take(toldTo(shining)), heard: sounding && sounding.take(toldTo(sounding)),
+    };
   }
 
   /**
-   * What adds up what is lit in some steps; null where nobody looks, or they are too many for an eye.
+   * What adds up what is lit in some steps, and what a line does; null where nobody asks, or they are too many for an eye.
    * @param {Step[]} steps
    */
-  shiningIn(steps) {
-    return steps.reduce((sum, step) => sum + cyclesOfStep(step), 0) <= MOST_SHONE ? this.shining : null;
+  sensesIn(steps) {
+    const areFew = steps.reduce((sum, step) => sum + cyclesOfStep(step), 0) <= MOST_SHONE;
+    return { shining: areFew ? this.shining : null, sounding: areFew ? this.sounding : null };
   }
 
   /** What will be lit in the time that an eye needs; null where nobody looks. */
@@ -219,11 +229,14 @@ export class WorkerSession {
   /** @param {Step[]} steps */
   trySteps(steps) {
     const { recording } = this;
-    const shining = this.shiningIn(steps);
-    const askers = [...(shining ? [shining] : []), ...(recording ? [recording] : [])];
+    const { shining, sounding } = this.sensesIn(steps);
+    /** @type {import("./asking.js").Asker[]} */
+    const askers = [shining, sounding, recording].flatMap((asker) => asker || []);
     const lines = askedLines(steps, askers) + this.lookQuestions.lines;
     const { answers, told } = partedAnswers(steps, askers, this.engine.serve(this.file, lines, this.next).answers);
-    return { answers, shining, lit: shining ? told[0] : [], traced: recording ? told[askers.length - 1] : [] };
+    /** @type {(asker: import("./asking.js").Asker) => string[][]} */
+    const toldTo = (asker) => told[askers.indexOf(asker)];
+    return { answers, shining, sounding, toldTo, traced: recording ? told[askers.length - 1] : [] };
   }
 
   /**
@@ -275,7 +288,7 @@ export class WorkerSession {
     this.timeline.stop();
     // What waits for its time was meant for the keys of the other board.
     if (told.wires) this.queue.clear();
-    if (told.wires) this.shining = null;
+    if (told.wires) this.shining = this.sounding = null;
     if (before) this.follow(before, told.accepted);
     return { ...told.told(), look };
   }

@@ -1,0 +1,83 @@
+"""The buzzer of a board in a browser: its samples and when they are played, muted until it is asked for, at other speeds, and where there is
+no Web Audio."""
+
+import re
+
+from page_in_browser import SPEED, choose_example, told_of, until_ready
+from verdicts import comes, verdict
+
+BOARD = '# buzzer rom0.0: the buzzer\n[[rom]]\nchip = 0\nport = "0000"\n'
+# A wave of 198 cycles.
+PITCH = 92593 / 198
+TONE = """
+        FIM P0, 0
+        SRC P0
+loop:   LD R4
+        CMA
+        XCH R4
+        LD R4
+        WRR
+        FIM P1, 0xD6
+wait:   ISZ R3, wait
+        ISZ R2, wait
+        JUN loop
+"""
+# From here on: what is played, and from when on.
+WATCH = """
+window.played = [];
+const start = AudioBufferSourceNode.prototype.start;
+AudioBufferSourceNode.prototype.start = function (when) {
+  const samples = this.buffer.getChannelData(0);
+  const edges = [];
+  for (let at = 1; at < samples.length; at++) if (samples[at] !== samples[at - 1]) edges.push(at);
+  window.played.push({ when, rate: this.buffer.sampleRate, count: samples.length, edges, first: samples[0] });
+  return start.call(this, when);
+};
+"""
+PRESSED = "return document.getElementById('sound-button').getAttribute('aria-pressed')"
+TOLD = "return document.getElementById('sound-told').textContent"
+PLAYED = "return window.played.length"
+
+
+def check_tone(browser):
+    told_of(browser, "#board-editor", BOARD)
+    told_of(browser, "#program-editor", TONE)
+    comes(browser, "a board with a buzzer has a button for it", "return document.getElementById('sound').hidden", False)
+    verdict("with its name, and it is muted", [browser.text("#sound-button"), browser.script(PRESSED)], ["Sound of the buzzer", "false"])
+    browser.script(WATCH)
+    browser.click("#sound-button")
+    comes(browser, "it is heard once that is asked for", PLAYED, re.compile("^[5-9]$|^..$"))
+    played = browser.script("return window.played")
+    lengths = [each["count"] / each["rate"] for each in played]
+    edges = sum(len(each["edges"]) for each in played)
+    pitch = edges / 2 / sum(lengths)
+    verdict(f"its pitch is right to 1 %: {pitch:.1f} Hz", abs(pitch - PITCH) < PITCH / 100, True)
+    verdict("a sample is a cycle", sorted({each["rate"] for each in played}), [92593])
+    follow = [abs(one["when"] + length - other["when"]) < 1e-6 for one, other, length in zip(played, played[1:], lengths)]
+    verdict(f"pieces follow each other without a gap: {follow}", sum(follow) * 2 >= len(follow), True)
+
+
+def check_speeds(browser):
+    browser.script(SPEED, "tenth")
+    comes(browser, "at other speeds it is silent, which is told", TOLD, "silent: it sounds in real time alone")
+    browser.script("window.played = []")
+    comes(browser, "and stays on", PRESSED, "true")
+    browser.script(SPEED, "real")
+    comes(browser, "in real time it is heard again", PLAYED, re.compile("^[1-9]"))
+    verdict("and nothing is told", browser.script(TOLD), "")
+    browser.click("#sound-button")
+    verdict("a second press mutes it", browser.script(PRESSED), "false")
+
+
+def check(browser, page, _folder, _mcs4):
+    browser.go(page.as_uri() + "#example=empty%20bench")
+    until_ready(browser)
+    verdict("a board without a buzzer has no button for it", browser.script("return document.getElementById('sound').hidden"), True)
+    check_tone(browser)
+    check_speeds(browser)
+    choose_example(browser, "music box")
+    comes(browser, "a music box has a buzzer", "return document.getElementById('sound').hidden", False)
+    browser.script("window.AudioContext = undefined")
+    browser.click("#sound-button")
+    verdict("without Web Audio it is told where else it is heard", browser.script(TOLD), re.compile("no sound .Web Audio.*mcs4 wave --wav"))
+    verdict("and nothing is pressed", browser.script(PRESSED), "false")

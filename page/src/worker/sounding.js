@@ -1,0 +1,47 @@
+// The edges of a line while time runs, by the answers to `trace` before each run.
+
+import { Answers, readTraced } from "./tracing.js";
+
+/**
+ * What a line was in so many cycles: its level at first, and after how many cycles each edge came.
+ * @typedef {{ cycles: number, level: number, edges: number[] }} Heard
+ */
+
+export class Sounding {
+  /** @param {string} line `rom0.3`, `ram0.1.3` or `chain0.5` */
+  constructor(line) {
+    this.line = line;
+  }
+
+  // --- as an asker ---
+
+  get count() {
+    return 1;
+  }
+
+  get seesChanges() {
+    return false;
+  }
+
+  /** @param {number} cycles */
+  questions(cycles) {
+    return `trace ${cycles} ${this.line}\n`;
+  }
+
+  /**
+   * What the line was by the answers to the questions before runs; what an instruction changes is there once its first cycle is over.
+   * @param {string[][]} told step by step
+   * @returns {Heard}
+   */
+  take(told) {
+    const heard = { cycles: 0, level: 0, edges: /** @type {number[]} */ ([]) };
+    for (const answers of told) {
+      if (answers.length === 0) continue;
+      const { row, lines } = new Answers(answers).takeTrace();
+      if (heard.cycles === 0) heard.level = Number(row.slice(1));
+      for (const line of lines) heard.edges.push(heard.cycles + readTraced(line).cycles + 1);
+      heard.cycles += Number(answers[0].split(" ", 3)[2]);
+    }
+    return heard;
+  }
+}
