@@ -15,7 +15,7 @@ pub cut_behind : (first second : List DiskCall) (old mid new : List DiskCall) �
 cut_behind first [] old mid new is none = absurd none
 cut_behind first (Wrote at from ∷ second) old mid new is (inl failed) = inl (subst (λ (l : List DiskCall). FailureOf (Wrote at from) l new) (ap (λ (l : List DiskCall). second ++ l) is ∙ sym (append_assoc second first old)) failed)
 cut_behind first (WasRead ∷ second) old mid new is (inl failed) = inl (failed ∙ ap (λ (l : List DiskCall). second ++ l) is ∙ sym (append_assoc second first old))
-cut_behind first (Failed at from ∷ second) old mid new is (inl failed) = inl (failed ∙ ap (λ (l : List DiskCall). second ++ l) is ∙ sym (append_assoc second first old))
+cut_behind first (Failed at from now ∷ second) old mid new is (inl failed) = inl (failed ∙ ap (λ (l : List DiskCall). second ++ l) is ∙ sym (append_assoc second first old))
 cut_behind first (Synced ∷ second) old mid new is (inl failed) = inl (failed ∙ ap (λ (l : List DiskCall). second ++ l) is ∙ sym (append_assoc second first old))
 cut_behind first (call ∷ second) old mid new is (inr before) = inr (cut_behind first second old mid new is before)
 
@@ -76,9 +76,9 @@ one_then old mid new first second =
 one_of_cut : (plan old new : List DiskCall) → EachOne old plan → CutShort plan old new → OneUnsynced old new
 one_of_cut [] old new ones none = absurd none
 one_of_cut (Wrote at from ∷ plan) old new ones (inl (inl same)) = one_by_one old new plan same ones.1
-one_of_cut (Wrote at from ∷ plan) old new ones (inl (inr torn)) = one_by_one old new (Failed at from ∷ plan) torn ones
+one_of_cut (Wrote at from ∷ plan) old new ones (inl (inr torn)) = one_by_one old new (Failed at from torn.0 ∷ plan) torn.1 ones
 one_of_cut (WasRead ∷ plan) old new ones (inl same) = one_by_one old new plan same ones.1
-one_of_cut (Failed at from ∷ plan) old new ones (inl same) = one_by_one old new plan same ones.1
+one_of_cut (Failed at from now ∷ plan) old new ones (inl same) = one_by_one old new plan same ones.1
 one_of_cut (Synced ∷ plan) old new ones (inl same) = one_by_one old new plan same ones.1
 one_of_cut (call ∷ plan) old new ones (inr before) = one_of_cut plan old new ones.1 before
 

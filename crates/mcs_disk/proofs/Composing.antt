@@ -1,14 +1,17 @@
--- Stretches of calls, one after another. `new` is a state of an honest disk wherever its laws are
--- asked for.
-use Rattle.std.proofs.Common.{inl, inr, ⊎_elim, ◌+◌, ℕ, List, refl, arith, ◌∙◌, ap, min, Result}
+-- Stretches of calls, one after another.
+use Rattle.std.proofs.Common.{◌≡◌, ◌⊎◌, inl, inr, ⊎_elim, ◌+◌, ◌≤◌, ℕ, List, [], ◌∷◌, ◌++◌, refl, arith, sym, ◌∙◌, ap, subst, append_assoc, length, min, Result, Ok, Err, IsErr}
 use Rattle.std.proofs.lemmas.Result.{on_ok_weaker}
-use Rattle.mcs_disk.specs.Disk.{DiskState, IsLater, IsLawful, most_faults}
-use Rattle.mcs_disk.specs.Moments.{AddsNoImage, Changes, CountsFault, Either, KeepsEarlierImages, LeavesOnly, ReadsOnly}
+use Rattle.mcs_disk.specs.CallList.{CutShort, DiskCall, Failed, Makes, Synced, WasRead, Wrote, writes_of}
+use Rattle.mcs_disk.specs.Disk.{DiskState, IsCall, IsLater, bytes_of, images_of, images_since, most_faults, size_of, time_of}
+use Rattle.mcs_disk.specs.Calls.{bytes_after, clock_of, images_after, since_after}
+use Rattle.mcs_disk.specs.Moments.{AddsNoImage, Changes, CountsFault, Either, IsDurable, IsUntouched, LeavesOnly, ReadsOnly}
+use Rattle.mcs_disk.proofs.CallLaws.{Quiet, clock_of-more, lawful, quiet, quiet_bytes, quiet_durable, quiet_images, quiet_since, since_before, since_more, since_sized}
+use Rattle.mcs_disk.proofs.Calling.{reads_write_nothing, syncs_write_nothing}
 
 -- a count of faults, by another name of the failure
 pub counts_as : (old new : DiskState) (F G : Type 0) → (F → G) → (G → F) → CountsFault old new F → CountsFault old new G
 counts_as old new F G to from counts = record {
-  size = counts.size;
+  start = counts.start;
   honest = counts.honest;
   fault = λ failed. counts.fault (from failed);
   no_fault = λ none. counts.no_fault (λ failed. none (to failed));
@@ -17,84 +20,145 @@ counts_as old new F G to from counts = record {
 -- calls of which none failed, and then some
 pub counts_then : (old mid new : DiskState) (F G : Type 0) → ¬ F → CountsFault old mid F → CountsFault mid new G → CountsFault old new G
 counts_then old mid new F G none first second = record {
-  size = second.size ∙ first.size;
+  start = second.start ∙ first.start;
   honest = (λ h. first.honest.0 (second.honest.0 h), λ h. second.honest.1 (first.honest.1 h));
   fault = λ it. second.fault it ∙ ap (λ (n : ℕ). min (n + 1) most_faults) (first.no_fault none);
   no_fault = λ no. second.no_fault no ∙ first.no_fault none;
 }
 
+-- ---- later
+
+-- what is said of the calls so far and some more
+pub of_more : (P : List ℕ → List DiskCall → Type 0) (old new : DiskState) (x : IsLater old new) → P new.start new.calls → P old.start (x.added ++ old.calls)
+of_more P old new x it = subst (λ (s : List ℕ). P s (x.added ++ old.calls)) x.start (subst (P new.start) x.all it)
+
+pub to_more : (P : List ℕ → List DiskCall → Type 0) (old new : DiskState) (x : IsLater old new) → P old.start (x.added ++ old.calls) → P new.start new.calls
+to_more P old new x it = subst (P new.start) (sym x.all) (subst (λ (s : List ℕ). P s (x.added ++ old.calls)) (sym x.start) it)
+
 pub no_later : (disk : DiskState) → IsLater disk disk
-no_later disk = record { clock = omega arith; keeps = λ t c le left. left }
+no_later disk = record { start = refl; added = []; all = refl }
 
 pub later_then : (old mid new : DiskState) → IsLater old mid → IsLater mid new → IsLater old new
 later_then old mid new first second = record {
-  clock = omega (arith, first.clock, second.clock);
-  keeps = λ t c le left. second.keeps t c (omega (arith, le, first.clock)) (first.keeps t c le left);
+  start = second.start ∙ first.start;
+  added = second.added ++ first.added;
+  all = second.all ∙ ap (λ (l : List DiskCall). second.added ++ l) first.all ∙ sym (append_assoc second.added first.added old.calls);
 }
+
+pub later_time : (old new : DiskState) → IsLater old new → time_of old ≤ time_of new
+later_time old new x = to_more (λ start calls. clock_of old.calls ≤ clock_of calls) old new x (clock_of-more x.added old.calls)
+
+pub later_keeps : (old new : DiskState) → IsLater old new → (t : ℕ) (c : List ℕ) → t ≤ time_of old → images_since t old c → images_since t new c
+later_keeps old new x t c le left = to_more (λ start calls. since_after start calls t c) old new x (since_more old.start x.added old.calls t c le left)
+
+pub later_before : (old new : DiskState) → IsLater old new → (t : ℕ) (c : List ℕ) → images_since t new c → images_since t old c ⊎ images_since (time_of old) new c
+later_before old new x t c left =
+    ⊎_elim (λ past. inl past) (λ now. inr (to_more (λ start calls. since_after start calls (clock_of old.calls) c) old new x now))
+    (since_before old.start x.added old.calls t c (of_more (λ start calls. since_after start calls t c) old new x left))
+
+-- what a power cut leaves has the size of the disk
+pub since_size : (disk : DiskState) (t : ℕ) (c : List ℕ) → images_since t disk c → length c ≡ size_of disk
+since_size disk t c left = since_sized disk.start disk.calls t c left
+
+-- what is left by a cut now, of a durable disk
+pub durable_now : (disk : DiskState) → IsDurable disk → (c : List ℕ) → images_of disk c → c ≡ bytes_of disk
+durable_now disk durable c now = durable c ((lawful disk).counts_now (time_of disk) c now)
+
+pub fresh_durable : (disk : DiskState) → disk.calls ≡ [] → IsDurable disk
+fresh_durable disk none = subst (λ (l : List DiskCall). (c : List ℕ) → since_after disk.start l (clock_of l) c → c ≡ bytes_after disk.start l) (sym none) (λ c left. left)
+
+pub synced_durable : (disk : DiskState) (calls : List DiskCall) → disk.calls ≡ Synced ∷ calls → IsDurable disk
+synced_durable disk calls made = subst (λ (l : List DiskCall). (c : List ℕ) → since_after disk.start l (clock_of l) c → c ≡ bytes_after disk.start l) (sym made) held
+  where
+    held : (c : List ℕ) → since_after disk.start (Synced ∷ calls) (clock_of (Synced ∷ calls)) c → c ≡ bytes_after disk.start (Synced ∷ calls)
+    held c (inl now) = now
+    held c (inr past) = absurd (omega (arith, past.0))
+
+-- ---- calls that were made
+
+cut_added : (plan old new : List DiskCall) → CutShort plan old new → (added : List DiskCall) × (new ≡ added ++ old)
+cut_added [] old new none = absurd none
+cut_added (Wrote at from ∷ plan) old new (inl (inl same)) = (plan, same)
+cut_added (Wrote at from ∷ plan) old new (inl (inr torn)) = (Failed at from torn.0 ∷ plan, torn.1)
+cut_added (WasRead ∷ plan) old new (inl same) = (plan, same)
+cut_added (Failed at from now ∷ plan) old new (inl same) = (plan, same)
+cut_added (Synced ∷ plan) old new (inl same) = (plan, same)
+cut_added (call ∷ plan) old new (inr before) = cut_added plan old new before
+
+pub makes_later : {T E : Type 0} (plan : List DiskCall) (old new : DiskState) (result : Result T E) → new.start ≡ old.start → Makes plan old.calls new.calls result → IsLater old new
+makes_later plan old new (Ok x) same made = record { start = same; added = plan; all = made.all }
+makes_later plan old new (Err e) same made = let cut = cut_added plan old.calls new.calls made.cut in record { start = same; added = cut.0; all = cut.1 }
+
+call_counts : {T E : Type 0} (old new : DiskState) (result : Result T E) → IsCall old new result → CountsFault old new (IsErr result)
+call_counts old new (Ok x) call = record { start = call.start; honest = call.honest; fault = λ failed. absurd (cc failed); no_fault = λ none. call.no_fault }
+call_counts old new (Err e) call = record { start = call.start; honest = call.honest; fault = λ failed. call.fault; no_fault = λ none. absurd (none refl) }
+
+pub read_reads : {T E : Type 0} (old new : DiskState) (result : Result T E) → IsCall old new result → Makes (WasRead ∷ []) old.calls new.calls result → ReadsOnly old new (IsErr result)
+read_reads old new result call made = record {
+  tells = call_counts old new result call;
+  rests = record { later = makes_later _ old new result call.start made; unwritten = reads_write_nothing old.calls new.calls result made };
+}
+
+pub sync_reads : {T E : Type 0} (old new : DiskState) (result : Result T E) → IsCall old new result → Makes (Synced ∷ []) old.calls new.calls result → ReadsOnly old new (IsErr result)
+sync_reads old new result call made = record {
+  tells = call_counts old new result call;
+  rests = record { later = makes_later _ old new result call.start made; unwritten = syncs_write_nothing old.calls new.calls result made };
+}
+
+-- ---- reads and syncs
 
 -- calls that rest, one after another
 pub rests_then : (old mid new : DiskState) → AddsNoImage old mid → AddsNoImage mid new → AddsNoImage old new
-rests_then old mid new first second = record {
-  bytes = second.bytes ∙ first.bytes;
-  images = λ c now. first.images c (second.images c now);
-  later = later_then old mid new first.later second.later;
-  nothing_else = λ t c le left. first.nothing_else t c le (second.nothing_else t c (omega (arith, le, first.later.clock)) left);
-}
+rests_then old mid new first second = record { later = later_then old mid new first.later second.later; unwritten = second.unwritten ∙ first.unwritten }
 
 -- calls that never were
 pub rests_still : (disk : DiskState) → AddsNoImage disk disk
-rests_still disk = record { bytes = refl; images = λ c left. left; later = no_later disk; nothing_else = λ t c le left. left }
+rests_still disk = record { later = no_later disk; unwritten = refl }
+
+none_written : (old new : DiskState) (rests : AddsNoImage old new) → Quiet rests.later.added
+none_written old new rests = quiet rests.later.added old.calls (ap writes_of (sym rests.later.all) ∙ rests.unwritten)
+
+pub rests_bytes : (old new : DiskState) → AddsNoImage old new → bytes_of new ≡ bytes_of old
+rests_bytes old new rests = to_more (λ start calls. bytes_after start calls ≡ bytes_of old) old new rests.later (quiet_bytes old.start rests.later.added old.calls (none_written old new rests))
+
+pub rests_images : (old new : DiskState) → AddsNoImage old new → (c : List ℕ) → images_of new c → images_of old c
+rests_images old new rests c now = quiet_images old.start rests.later.added old.calls c (none_written old new rests) (of_more (λ start calls. images_after start calls c) old new rests.later now)
+
+pub rests_since : (old new : DiskState) → AddsNoImage old new → (t : ℕ) (c : List ℕ) → images_since t new c → images_since t old c
+rests_since old new rests t c left = quiet_since old.start rests.later.added old.calls t c (none_written old new rests) (of_more (λ start calls. since_after start calls t c) old new rests.later left)
+
+pub rests_durable : (old new : DiskState) → AddsNoImage old new → IsDurable old → IsDurable new
+rests_durable old new rests held = to_more (λ start calls. (c : List ℕ) → since_after start calls (clock_of calls) c → c ≡ bytes_after start calls) old new rests.later
+    (quiet_durable old.start rests.later.added old.calls (none_written old new rests) held)
 
 pub reads_as : (old new : DiskState) (F G : Type 0) → (F → G) → (G → F) → ReadsOnly old new F → ReadsOnly old new G
-reads_as old new F G to from reads = record {
-  tells = counts_as old new F G to from reads.tells;
-  unwritten = reads.unwritten;
-  rests = reads.rests;
-  durable = λ h no. reads.durable h (λ failed. no (to failed));
-}
+reads_as old new F G to from reads = record { tells = counts_as old new F G to from reads.tells; rests = reads.rests }
 
 -- calls that only read, one after another, of which none of the first has failed
 pub reads_then : (old mid new : DiskState) (F G : Type 0) → ¬ F → ReadsOnly old mid F → ReadsOnly mid new G → ReadsOnly old new G
 reads_then old mid new F G none first second = record {
   tells = counts_then old mid new F G none first.tells second.tells;
-  unwritten = second.unwritten ∙ first.unwritten;
-  rests = λ h. rests_then old mid new (first.rests h) (second.rests (first.tells.honest.1 h));
-  durable = λ h no held. second.durable (first.tells.honest.1 h) no (first.durable h none held);
+  rests = rests_then old mid new first.rests second.rests;
 }
 
--- calls that rest are a stretch
-pub rests_leave : (old new : DiskState) → AddsNoImage old new → KeepsEarlierImages old new
-rests_leave old new rests = record {
-  later = rests.later;
-  each = λ c left. tt;
-  before = λ t c le left. inl (rests.nothing_else t c le left);
-}
+-- ---- what a stretch leaves
 
 -- what a stretch leaves, seen as less
 pub leaves_map : (old new : DiskState) (P Q : List ℕ → Type 0) → ((c : List ℕ) → P c → Q c) → LeavesOnly old new P → LeavesOnly old new Q
-leaves_map old new P Q weaker stretch = record {
-  later = stretch.later;
-  each = λ c left. weaker c (stretch.each c left);
-  before = stretch.before;
-}
+leaves_map old new P Q weaker stretch = record { later = stretch.later; each = λ c left. weaker c (stretch.each c left) }
 
 -- two stretches that leave nothing else, one after another
-pub leaves_then : (old mid new : DiskState) (P : List ℕ → Type 0) → IsLawful new → LeavesOnly old mid P → LeavesOnly mid new P → LeavesOnly old new P
-leaves_then old mid new P lawful first second = record {
+pub leaves_then : (old mid new : DiskState) (P : List ℕ → Type 0) → LeavesOnly old mid P → LeavesOnly mid new P → LeavesOnly old new P
+leaves_then old mid new P first second = record {
   later = later_then old mid new first.later second.later;
-  each = λ c left. ⊎_elim (λ past. first.each c past) (λ now. second.each c now) (second.before old.clock c first.later.clock left);
-  before = λ t c le left.
-      ⊎_elim
-      (λ past. ⊎_elim (λ there. inl there) (λ here. inr (second.later.keeps old.clock c first.later.clock here)) (first.before t c le past))
-      (λ now. inr (lawful.longer old.clock mid.clock c first.later.clock now))
-      (second.before t c (omega (arith, le, first.later.clock)) left);
+  each = λ c left. ⊎_elim (λ past. first.each c past) (λ now. second.each c now) (later_before mid new second.later (time_of old) c left);
 }
 
 -- a change, seen as one of less
 pub changes_map : {T E : Type 0} (steps : ℕ) (old new : DiskState) (P Q R S : List ℕ → Type 0) (result : Result T E)
     → ((c : List ℕ) → P c → R c) → ((c : List ℕ) → Q c → S c) → Changes steps old new P Q result → Changes steps old new R S result
 changes_map steps old new P Q R S result before after change = record {
-  after = on_ok_weaker result (λ (there : Q new.bytes). after new.bytes there) change.after;
+  after = on_ok_weaker result (λ (there : Q (bytes_of new)). after (bytes_of new) there) change.after;
   durable = change.durable;
   ticks = change.ticks;
   moments = leaves_map old new (Either P Q) (Either R S) (λ c. ⊎_elim (λ p. inl (before c p)) (λ q. inr (after c q))) change.moments;

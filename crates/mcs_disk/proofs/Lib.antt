@@ -1,3 +1,4 @@
+pub mod CallLaws
 pub mod Calling
 pub mod Composing
 pub mod Kept

@@ -8,9 +8,9 @@ pub data DiskCall : Type 0 where
   WasRead : DiskCall
   -- these bytes were written from this offset on
   Wrote : ℕ → List ℕ → DiskCall
-  -- a write of these bytes from this offset on failed, or was cut off, and any bytes may have come
-  -- into its range
-  Failed : ℕ → List ℕ → DiskCall
+  -- a write of these bytes from this offset on failed, or was cut off: any bytes may have come into
+  -- its range, and these last ones are what a read gives there, where it gives others than before
+  Failed : ℕ → List ℕ → List ℕ → DiskCall
   -- all that the disk holds was made stable
   Synced : DiskCall
 
@@ -19,7 +19,7 @@ abbrev pub writes_of : List DiskCall → ℕ
 writes_of [] = 0
 writes_of (WasRead ∷ calls) = writes_of calls
 writes_of (Wrote at from ∷ calls) = writes_of calls + 1
-writes_of (Failed at from ∷ calls) = writes_of calls + 1
+writes_of (Failed at from now ∷ calls) = writes_of calls + 1
 writes_of (Synced ∷ calls) = writes_of calls
 
 -- how many of these calls are writes that no sync has followed
@@ -27,7 +27,7 @@ abbrev pub unsynced : List DiskCall → ℕ
 unsynced [] = 0
 unsynced (WasRead ∷ calls) = unsynced calls
 unsynced (Wrote at from ∷ calls) = unsynced calls + 1
-unsynced (Failed at from ∷ calls) = unsynced calls + 1
+unsynced (Failed at from now ∷ calls) = unsynced calls + 1
 unsynced (Synced ∷ calls) = 0
 
 -- After each of the calls that this stretch adds to the old ones, at most one write is not yet
@@ -40,7 +40,8 @@ pub record OneUnsynced (old new : List DiskCall) : Type 0 where
 
 -- what a call that failed adds: nothing, or, of a write, that any bytes may have come into its range
 abbrev pub FailureOf : DiskCall → List DiskCall → List DiskCall → Type 0
-FailureOf (Wrote at from) old new = (new ≡ old) ⊎ (new ≡ Failed at from ∷ old)
+FailureOf (Wrote at from) old new =
+    (new ≡ old) ⊎ ((now : List ℕ) × (new ≡ Failed at from now ∷ old))
 FailureOf call old new = new ≡ old
 
 -- one of these calls failed, and those before it alone were made

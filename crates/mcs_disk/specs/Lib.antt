@@ -1,5 +1,4 @@
 pub mod CallList
-pub mod CallLaws
 pub mod Calls
 pub mod Disk
 pub mod Fuse

@@ -21,8 +21,8 @@ pub enum Call {
     Sync,
 }
 
-/// The calls on a disk, for contracts alone: no memory holds them. A disk that keeps such a record
-/// is told by it (`called_disk`).
+/// What a disk held before any call, and the calls on it since, for contracts alone: no memory holds
+/// them.
 #[derive(Drop)]
 pub struct CallRecord {
     marker: PhantomData<u8>,

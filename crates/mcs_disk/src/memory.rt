@@ -1,10 +1,9 @@
 //! A disk in memory.
-ghost use Rattle.std.specs.Prelude.{◌≡◌, ◌+◌, ◌≤◌, [], ◌∷◌, length, IfOk, IsOk, OnOk};
-ghost use Rattle.mcs_disk.specs.Disk.{IsCall, Reads, Writes, Syncs};
-ghost use Rattle.mcs_disk.specs.Moments.{IsFresh, IsNew};
+ghost use Rattle.std.specs.Prelude.{◌≡◌, ◌+◌, ◌≤◌, [], ◌∷◌, length, replicate, IfOk, IsOk, OnOk};
+ghost use Rattle.mcs_disk.specs.Disk.{IsCall, bytes_of, part, size_of};
+ghost use Rattle.mcs_disk.specs.Moments.{IsFresh};
 ghost use Rattle.mcs_disk.specs.Calls.{bytes_after};
 ghost use Rattle.mcs_disk.specs.CallList.{WasRead, Wrote, Synced, Makes};
-ghost use Rattle.mcs_disk.specs.CallLaws.{lawful};
 
 use crate::call_record::{Call, CallRecord};
 use crate::{Disk, DiskFault, overwrite};
@@ -19,6 +18,7 @@ pub struct MemDisk {
     pub(crate) bytes: Vec<u8>,
     pub(crate) history: CallRecord,
     ghost kept: { bytes.items ≡ bytes_after history.start history.calls },
+    ghost sized: { length bytes.items ≡ length history.start },
 }
 
 impl MemDisk {
@@ -26,7 +26,7 @@ impl MemDisk {
 
     /// A disk of `size` bytes of 0.
     pub fn new(alloc: Global, size: usize) -> Result<MemDisk, AllocError>
-        ensures { IfOk result (λ disk. IsNew size (mem_disk_state disk)) }
+        ensures { IfOk result (λ disk. IsFresh (replicate size 0) (mem_disk_state disk)) }
     {
         Ok(MemDisk::with_bytes(vec![in alloc; 0u8; size]?))
     }
@@ -41,7 +41,7 @@ impl MemDisk {
 
     /// The bytes that it holds.
     pub fn bytes(&self) -> &[u8]
-        ensures { result.now ≡ (mem_disk_state self.now).bytes }
+        ensures { result.now ≡ bytes_of (mem_disk_state self.now) }
     {
         self.bytes.as_slice()
     }
@@ -52,20 +52,18 @@ impl Disk for MemDisk {
 
     ghost state = { mem_disk_state };
 
-    ghost lawful = { λ d honest. lawful _ 0 d.bytes.items d.history.start d.history.calls d.kept };
-
     fn size(&self) -> usize {
         self.bytes.len()
     }
 
     fn read(&mut self, at: usize, into: &mut [u8]) -> Result<(), DiskFault>
-        requires { at + length into.old ≤ (mem_disk_state self.old).size }
+        requires { at + length into.old ≤ size_of (mem_disk_state self.old) }
         ensures call { IsCall (mem_disk_state self.old) (mem_disk_state self.new) result }
         ensures noted { Makes (WasRead ∷ []) (mem_disk_state self.old).calls
             (mem_disk_state self.new).calls result }
         ensures honest { (mem_disk_state self.old).honest
-            → Reads at into.old into.new (mem_disk_state self.old) (mem_disk_state self.new)
-            result }
+            → OnOk result
+            (into.new ≡ part at (length into.old) (bytes_of (mem_disk_state self.old))) }
         ensures answered { IsOk result }
     {
         into.copy_from_slice(&self.bytes[at..at + into.len()]);
@@ -74,12 +72,10 @@ impl Disk for MemDisk {
     }
 
     fn write(&mut self, at: usize, from: &[u8]) -> Result<(), DiskFault>
-        requires { at + length from.now ≤ (mem_disk_state self.old).size }
+        requires { at + length from.now ≤ size_of (mem_disk_state self.old) }
         ensures call { IsCall (mem_disk_state self.old) (mem_disk_state self.new) result }
         ensures noted { Makes (Wrote at from.now ∷ []) (mem_disk_state self.old).calls
             (mem_disk_state self.new).calls result }
-        ensures honest { (mem_disk_state self.old).honest
-            → Writes at from.now (mem_disk_state self.old) (mem_disk_state self.new) result }
         ensures answered { IsOk result }
     {
         self.history.note(&Call::Write(at), from);
@@ -91,8 +87,6 @@ impl Disk for MemDisk {
         ensures call { IsCall (mem_disk_state self.old) (mem_disk_state self.new) result }
         ensures noted { Makes (Synced ∷ []) (mem_disk_state self.old).calls
             (mem_disk_state self.new).calls result }
-        ensures honest { (mem_disk_state self.old).honest
-            → Syncs (mem_disk_state self.old) (mem_disk_state self.new) result }
         ensures answered { IsOk result }
     {
         self.history.note(&Call::Sync, &[]);

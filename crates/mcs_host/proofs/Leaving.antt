@@ -1,16 +1,8 @@
 -- What is found in a file that was left after some first part of its calls.
 use Rattle.std.proofs.Common.{◌≡◌, ◌⊎◌, inl, inr, ℕ, ◌≤◌, List, [], ◌∷◌, ◌++◌, sym, subst, arith}
 use Rattle.mcs_disk.specs.Calls.{DiskCall, WasRead, Wrote, Failed, Synced, images_after, clock_of, since_after}
-use Rattle.mcs_disk.specs.CallLaws.{counts_now}
+use Rattle.mcs_disk.proofs.CallLaws.{clock_of-more, counts_now}
 use Rattle.mcs_host.specs.Ending.{IsCutInWrite}
-
--- a later call takes nothing back
-clock_of-more : (more calls : List DiskCall) → clock_of calls ≤ clock_of (more ++ calls)
-clock_of-more [] calls = omega arith
-clock_of-more (WasRead ∷ more) calls = omega (arith, clock_of-more more calls)
-clock_of-more (Wrote at from ∷ more) calls = omega (arith, clock_of-more more calls)
-clock_of-more (Failed at from ∷ more) calls = omega (arith, clock_of-more more calls)
-clock_of-more (Synced ∷ more) calls = omega (arith, clock_of-more more calls)
 
 -- what was an image after the calls that were made is one since then, whatever comes after them
 pub image_since : (start : List ℕ) (more calls : List DiskCall) (t : ℕ) (c : List ℕ) → t ≤ clock_of calls → images_after start calls c → since_after start (more ++ calls) t c

@@ -1,5 +1,5 @@
 -- How a file is left, and what is found in it then. (Our own choice.)
-use Rattle.std.specs.Prelude.{◌≡◌, ◌⊎◌, ℕ, ◌≤◌, List, ◌∷◌, ◌++◌}
+use Rattle.std.specs.Prelude.{◌≡◌, ◌⊎◌, ℕ, ◌≤◌, List, [], ◌∷◌, ◌++◌}
 use Rattle.mcs_disk.specs.Calls.{DiskCall, Wrote, Failed, clock_of, images_after}
 use Rattle.mcs_disk.specs.Disk.{DiskState}
 use Rattle.mcs_host.specs.HostCalls.{HostState}
@@ -25,7 +25,7 @@ pub record IsCutInWrite (calls cut : List DiskCall) : Type 0 where
   pub bytes : List ℕ
   pub before : List DiskCall
   pub whole : calls ≡ Wrote at bytes ∷ before
-  pub torn : cut ≡ Failed at bytes ∷ before
+  pub torn : cut ≡ Failed at bytes [] ∷ before
 
 -- The file was left at a clock of t or later, after some first part of its calls. Lists of calls
 -- have the newest first, so that part is the tail of the list; the newest call of it may be a write

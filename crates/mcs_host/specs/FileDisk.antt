@@ -1,8 +1,7 @@
 -- What contracts see of a file of the host as a disk. (Our own choice.)
 use Rattle.std.specs.Prelude.{◌≡◌, ◌<ℤ◌, ℕ, ℤ, List, [], pos}
 use Rattle.mcs_disk.specs.Disk.{DiskState}
-use Rattle.mcs_disk.specs.Moments.{IsDurable}
-use Rattle.mcs_disk.specs.Calls.{called_disk, images_after}
+use Rattle.mcs_disk.specs.Calls.{images_after}
 use Rattle.mcs_disk.specs.declared.call_record.CallRecord.{CallRecord}
 use Rattle.mcs_host.specs.declared.ending.Ending.{Ending}
 
@@ -12,19 +11,20 @@ use Rattle.mcs_host.specs.declared.ending.Ending.{Ending}
 abbrev pub IsHonest : CallRecord → Ending → Type 0
 IsHonest history end = images_after history.start end.calls_by_the_end end.found
 
--- what contracts see of a file that has that many faults, these bytes, this record of calls and
--- this end
-abbrev pub file_state : ℕ → List ℕ → CallRecord → Ending → DiskState
-file_state faults bytes history end =
-    called_disk (IsHonest history end) faults bytes history.start history.calls
+-- what contracts see of a file that has that many faults, this record of calls and this end
+abbrev pub file_state : ℕ → CallRecord → Ending → DiskState
+file_state faults history end = record {
+  faults = faults;
+  honest = IsHonest history end;
+  start = history.start;
+  calls = history.calls;
+}
 
 -- the host's number of a file that has none of a standard stream: not 0, 1 or 2
 abbrev pub IsApart : ℤ → Type 0
 IsApart number = pos 2 <ℤ number
 
--- a disk that no call has reached, all of whose bytes are there after a power cut
+-- a disk that no call has reached, so all of its bytes are there after a power cut
 pub record IsOpened (disk : DiskState) : Type 0 where
   pub faults : disk.faults ≡ 0
   pub calls : disk.calls ≡ []
-  pub clock : disk.clock ≡ 0
-  pub durable : IsDurable disk

@@ -7,4 +7,4 @@ use Rattle.mcs_host.specs.declared.host_file.HostFile as host_file
 module _ {H : Type 0} {g : host_file.Ghosts H} where
   -- what they see of it as a disk
   abbrev pub host_disk : HostDisk H g → DiskState
-  host_disk disk = file_state disk.faults disk.bytes.items disk.history disk.end
+  host_disk disk = file_state disk.faults disk.history disk.end

@@ -1,6 +1,6 @@
 //! A session file of the system, as a disk.
 ghost use Rattle.std.specs.Prelude.{◌≡◌, ◌<◌, ◌≤◌, ◌+◌, ℕ, List, [], ◌∷◌, IfOk, OnOk, IsTrue, is_ok, length};
-ghost use Rattle.mcs_disk.specs.Disk.{part, IsCall, Reads, Syncs, Torn, Writes};
+ghost use Rattle.mcs_disk.specs.Disk.{part, IsCall, Torn, bytes_of, size_of, images_of};
 ghost use Rattle.mcs_disk.specs.CallList.{WasRead, Wrote, Synced, Makes};
 
 use crate::file_fault::FileFault;
@@ -40,9 +40,9 @@ impl FileDisk {
         make: bool,
     ) -> Result<FileDisk, FileFault>
         ensures opened { IfOk result (λ disk. IsOpened (as_disk disk)) }
-        ensures at_most { IfOk result (λ disk. (as_disk disk).size ≤ FILE_SIZE + 1) }
-        ensures not_empty { IsTrue make → IfOk result (λ disk. 0 < (as_disk disk).size) }
-        ensures asked { IfOk result (λ disk. IsOpening make file.now (as_disk disk).bytes
+        ensures at_most { IfOk result (λ disk. size_of (as_disk disk) ≤ FILE_SIZE + 1) }
+        ensures not_empty { IsTrue make → IfOk result (λ disk. 0 < size_of (as_disk disk)) }
+        ensures asked { IfOk result (λ disk. IsOpening make file.now (bytes_of (as_disk disk))
             disk.on.is_name_stable (as_host_file disk)) }
     {
         let on = HostDisk::open_at(rt, alloc, file, make)?;
@@ -61,27 +61,23 @@ impl FileDisk {
 impl Disk for FileDisk {
     ghost use Rattle.mcs_host.specs.Ending.{as_disk, as_host_file};
     ghost use Rattle.mcs_host.specs.HostCalls.{AsksToRead, SyncData, WriteAt, asked};
-    ghost use Rattle.mcs_disk.specs.CallLaws.{lawful};
 
     ghost state = { as_disk };
-
-    ghost lawful = { λ d honest. lawful _ d.on.faults d.on.bytes.items d.on.history.start
-        d.on.history.calls d.on.kept };
 
     fn size(&self) -> usize {
         self.on.size()
     }
 
     fn read(&mut self, at: usize, into: &mut [u8]) -> Result<(), DiskFault>
-        requires { at + length into.old ≤ (as_disk self.old).size }
+        requires { at + length into.old ≤ size_of (as_disk self.old) }
         ensures call { IsCall (as_disk self.old) (as_disk self.new) result }
         ensures noted { Makes (WasRead ∷ []) (as_disk self.old).calls (as_disk self.new).calls
             result }
-        ensures honest { (as_disk self.old).honest → Reads at into.old into.new
-            (as_disk self.old) (as_disk self.new) result }
+        ensures honest { (as_disk self.old).honest → OnOk result
+            (into.new ≡ part at (length into.old) (bytes_of (as_disk self.old))) }
         // On every file, honest or not.
         ensures given { OnOk result
-            (into.new ≡ part at (length into.old) (as_disk self.old).bytes) }
+            (into.new ≡ part at (length into.old) (bytes_of (as_disk self.old))) }
         ensures asked { AsksToRead at into.new result
             (as_host_file self.old) (as_host_file self.new) }
     {
@@ -89,15 +85,13 @@ impl Disk for FileDisk {
     }
 
     fn write(&mut self, at: usize, from: &[u8]) -> Result<(), DiskFault>
-        requires { at + length from.now ≤ (as_disk self.old).size }
+        requires { at + length from.now ≤ size_of (as_disk self.old) }
         ensures call { IsCall (as_disk self.old) (as_disk self.new) result }
         ensures noted { Makes (Wrote at from.now ∷ []) (as_disk self.old).calls
             (as_disk self.new).calls result }
-        ensures honest { (as_disk self.old).honest → Writes at from.now
-            (as_disk self.old) (as_disk self.new) result }
         // Also where the write failed: it may have reached any part of the range.
-        ensures torn { (d c : List ℕ) → (as_disk self.old).images d
-            → Torn at (length from.now) d c → (as_disk self.new).images c }
+        ensures torn { (d c : List ℕ) → images_of (as_disk self.old) d
+            → Torn at (length from.now) d c → images_of (as_disk self.new) c }
         ensures asked { as_host_file self.new
             ≡ asked (WriteAt at from.now (is_ok result)) (as_host_file self.old) }
     {
@@ -108,8 +102,6 @@ impl Disk for FileDisk {
         ensures call { IsCall (as_disk self.old) (as_disk self.new) result }
         ensures noted { Makes (Synced ∷ []) (as_disk self.old).calls (as_disk self.new).calls
             result }
-        ensures honest { (as_disk self.old).honest
-            → Syncs (as_disk self.old) (as_disk self.new) result }
         ensures asked { as_host_file self.new
             ≡ asked (SyncData (is_ok result)) (as_host_file self.old) }
     {

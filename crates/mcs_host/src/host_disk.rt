@@ -1,6 +1,6 @@
 //! An open file of the host, as a disk.
 ghost use Rattle.std.specs.Prelude.{◌≡◌, ◌↔◌, ◌<◌, ◌≤◌, ◌^◌, ◌+◌, ℕ, List, [], ◌∷◌, IfOk, OnOk, IsTrue, is_ok, length, min, vec_len};
-ghost use Rattle.mcs_disk.specs.Disk.{most_faults, part, IsCall, Reads, Torn, Writes, Syncs};
+ghost use Rattle.mcs_disk.specs.Disk.{most_faults, part, IsCall, Torn, bytes_of, size_of, images_of};
 ghost use Rattle.mcs_disk.specs.CallList.{WasRead, Wrote, Synced, Makes};
 ghost use Rattle.mcs_disk.specs.Calls.{bytes_after};
 ghost use Rattle.mcs_host.specs.FileDisk.{IsApart};
@@ -29,6 +29,7 @@ pub struct HostDisk<H: HostFile> {
     end: Ending,
     is_name_stable: bool,
     ghost kept: { bytes.items ≡ bytes_after history.start history.calls },
+    ghost sized: { length bytes.items ≡ length history.start },
     ghost apart: { IsApart (H.HostFile.state file).number },
 }
 
@@ -45,9 +46,9 @@ impl<H: HostFile> HostDisk<H> {
         make: bool,
     ) -> Result<HostDisk<H>, FileFault>
         ensures opened { IfOk result (λ disk. IsOpened (host_disk disk)) }
-        ensures at_most { IfOk result (λ disk. (host_disk disk).size ≤ FILE_SIZE + 1) }
-        ensures not_empty { IsTrue make → IfOk result (λ disk. 0 < (host_disk disk).size) }
-        ensures asked { IfOk result (λ disk. IsOpening make file.now (host_disk disk).bytes
+        ensures at_most { IfOk result (λ disk. size_of (host_disk disk) ≤ FILE_SIZE + 1) }
+        ensures not_empty { IsTrue make → IfOk result (λ disk. 0 < size_of (host_disk disk)) }
+        ensures asked { IfOk result (λ disk. IsOpening make file.now (bytes_of (host_disk disk))
             disk.is_name_stable (H.HostFile.state disk.file)) }
     {
         // First, so that where there is no memory the host is asked for nothing.
@@ -105,27 +106,23 @@ fn zeros(alloc: Global, size: usize) -> Result<Vec<u8>, AllocError>
 impl<H: HostFile> Disk for HostDisk<H> {
     ghost use Rattle.mcs_host.specs.HostDisk.{host_disk};
     ghost use Rattle.mcs_host.specs.HostCalls.{AsksToRead, SyncData, WriteAt, asked};
-    ghost use Rattle.mcs_disk.specs.CallLaws.{lawful};
 
     ghost state = { host_disk };
-
-    ghost lawful = { λ d honest. lawful _ d.faults d.bytes.items d.history.start
-        d.history.calls d.kept };
 
     fn size(&self) -> usize {
         self.bytes.len()
     }
 
     fn read(&mut self, at: usize, into: &mut [u8]) -> Result<(), DiskFault>
-        requires { at + length into.old ≤ (host_disk self.old).size }
+        requires { at + length into.old ≤ size_of (host_disk self.old) }
         ensures call { IsCall (host_disk self.old) (host_disk self.new) result }
         ensures noted { Makes (WasRead ∷ []) (host_disk self.old).calls (host_disk self.new).calls
             result }
-        ensures honest { (host_disk self.old).honest → Reads at into.old into.new
-            (host_disk self.old) (host_disk self.new) result }
+        ensures honest { (host_disk self.old).honest → OnOk result
+            (into.new ≡ part at (length into.old) (bytes_of (host_disk self.old))) }
         // On every file, honest or not.
         ensures given { OnOk result
-            (into.new ≡ part at (length into.old) (host_disk self.old).bytes) }
+            (into.new ≡ part at (length into.old) (bytes_of (host_disk self.old))) }
         ensures asked { AsksToRead at into.new result
             (H.HostFile.state self.old.file) (H.HostFile.state self.new.file) }
     {
@@ -138,15 +135,13 @@ impl<H: HostFile> Disk for HostDisk<H> {
     }
 
     fn write(&mut self, at: usize, from: &[u8]) -> Result<(), DiskFault>
-        requires { at + length from.now ≤ (host_disk self.old).size }
+        requires { at + length from.now ≤ size_of (host_disk self.old) }
         ensures call { IsCall (host_disk self.old) (host_disk self.new) result }
         ensures noted { Makes (Wrote at from.now ∷ []) (host_disk self.old).calls
             (host_disk self.new).calls result }
-        ensures honest { (host_disk self.old).honest → Writes at from.now
-            (host_disk self.old) (host_disk self.new) result }
         // Also where the write failed: it may have reached any part of the range.
-        ensures torn { (d c : List ℕ) → (host_disk self.old).images d
-            → Torn at (length from.now) d c → (host_disk self.new).images c }
+        ensures torn { (d c : List ℕ) → images_of (host_disk self.old) d
+            → Torn at (length from.now) d c → images_of (host_disk self.new) c }
         ensures asked { H.HostFile.state self.new.file
             ≡ asked (WriteAt at from.now (is_ok result)) (H.HostFile.state self.old.file) }
     {
@@ -164,8 +159,6 @@ impl<H: HostFile> Disk for HostDisk<H> {
         ensures call { IsCall (host_disk self.old) (host_disk self.new) result }
         ensures noted { Makes (Synced ∷ []) (host_disk self.old).calls (host_disk self.new).calls
             result }
-        ensures honest { (host_disk self.old).honest
-            → Syncs (host_disk self.old) (host_disk self.new) result }
         ensures asked { H.HostFile.state self.new.file
             ≡ asked (SyncData (is_ok result)) (H.HostFile.state self.old.file) }
     {

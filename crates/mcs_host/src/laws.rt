@@ -1,6 +1,7 @@
 //! What the premise on a file, that it is honest, says and gives, and that it can hold. The
 //! contract of each call is the law; the call does nothing.
 ghost use Rattle.std.specs.Prelude.{◌≡◌, ◌↔◌, ℕ, List};
+ghost use Rattle.mcs_disk.specs.Disk.{bytes_of, images_of, images_since};
 ghost use Rattle.mcs_disk.specs.PowerCut.{IsLeftByCut};
 ghost use Rattle.mcs_host.specs.Ending.{IsFoundAfterTheEnd, IsFoundWith, IsLeftSince, as_disk, as_host_file, found_in};
 ghost use Rattle.mcs_host.specs.FileDisk.{IsApart, IsOpened};
@@ -11,7 +12,7 @@ use crate::FileDisk;
 /// is found in it is an image since t.
 pub fn what_is_found_is_an_image()
     ensures { (t : ℕ) (file : FileDisk) → (as_disk file).honest
-        → IsLeftSince t file → (as_disk file).since t (found_in file) }
+        → IsLeftSince t file → images_since t (as_disk file) (found_in file) }
 {}
 
 /// The file that is opened again with what is found in it, and is honest from then on, is what a
@@ -20,7 +21,7 @@ pub fn opened_again_is_left_by_cut()
     ensures { (t : ℕ) (file again : FileDisk) → (as_disk file).honest
         → IsLeftSince t file → (as_disk again).honest
         → IsOpened (as_disk again)
-        → (as_disk again).bytes ≡ found_in file
+        → bytes_of (as_disk again) ≡ found_in file
         → IsLeftByCut t (as_disk file) (as_disk again) }
 {}
 
@@ -34,7 +35,7 @@ pub fn honest_where_an_image_is_found()
 /// have left, there is an honest file of which all that was told is the same, and in which that
 /// image is found after the end. So no answer of a file refutes the premise.
 pub fn each_image_may_be_found()
-    ensures { (file : FileDisk) (c : List ℕ) → (as_disk file).images c
+    ensures { (file : FileDisk) (c : List ℕ) → images_of (as_disk file) c
         → (like : FileDisk) × (as_disk like).honest × IsFoundWith c file like }
 {}
 

@@ -36,19 +36,8 @@ impl NotingDisk {
 }
 
 impl Disk for NotingDisk {
-    // Contracts see its size, its faults and the calls on it alone.
-    ghost state = { λ d. record {
-      size = (⟦<MemDisk as Disk>⟧.state d.disk).size;
-      faults = (⟦<MemDisk as Disk>⟧.state d.disk).faults;
-      calls = (⟦<MemDisk as Disk>⟧.state d.disk).calls;
-      honest = ⊥;
-      bytes = [];
-      clock = 0;
-      images = λ _. ⊥;
-      since = λ _ _. ⊥;
-    } };
-
-    ghost lawful = { λ _ honest. absurd honest };
+    // Contracts see the disk in it, and that it owes nothing of what an honest disk owes.
+    ghost state = { λ d. record (⟦<MemDisk as Disk>⟧.state d.disk) { honest = ⊥ } };
 
     fn size(&self) -> usize {
         self.disk.size()

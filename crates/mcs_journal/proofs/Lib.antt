@@ -3,6 +3,7 @@ pub mod Asking
 pub mod Headers
 pub mod Logs
 pub mod NextRecord
+pub mod Committing
 pub mod Contents
 pub mod Parts
 pub mod Refusing

@@ -1,8 +1,8 @@
 -- What `create` and `open` answer follows from what their parts answered.
 use Rattle.std.proofs.Common.{◌≡◌, ◌≢◌, inr, ⊎_elim, refl, ◌∙◌, ap, Result, Ok, Err, IsErrOf}
-use Rattle.mcs_disk.specs.Disk.{DiskState, IsCall, part}
+use Rattle.mcs_disk.specs.Disk.{DiskState, IsCall, part, bytes_of, size_of}
 use Rattle.mcs_disk.specs.Moments.{CountsFault, AddsNoImage}
-use Rattle.mcs_disk.proofs.Composing.{counts_as, rests_leave}
+use Rattle.mcs_disk.proofs.Composing.{counts_as}
 use Rattle.mcs_journal.specs.StoreCalls.{RefusesCreate, RefusesOpen, HoldsNone}
 use Rattle.mcs_journal.specs.File.{IsBlank}
 use Rattle.mcs_journal.specs.declared.format.TheConstants.{FILE_SIZE, NAME}
@@ -18,18 +18,18 @@ pub counts_err : {T E : Type 0} (old new : DiskState) (result : Result T E) (dev
 counts_err old new result device fault is counts = counts_as old new (IsErrOf result device) (fault ≡ device) (λ failed. cc) (λ same. is ∙ ap Err same) counts
 
 pub call_counts_ok : {T E : Type 0} (old new : DiskState) (x : T) → IsCall {T = T} {E = E} old new (Ok x) → CountsFault old new ⊥
-call_counts_ok old new x call = record { size = call.size; honest = call.honest; fault = λ none. absurd none; no_fault = λ none. call.no_fault }
+call_counts_ok old new x call = record { start = call.start; honest = call.honest; fault = λ none. absurd none; no_fault = λ none. call.no_fault }
 
 pub call_counts_err : {T E : Type 0} (old new : DiskState) (e : E) (failed : Type 0) → failed → IsCall {T = T} {E = E} old new (Err e) → CountsFault old new failed
-call_counts_err old new e failed here call = record { size = call.size; honest = call.honest; fault = λ it. call.fault; no_fault = λ none. absurd (none here) }
+call_counts_err old new e failed here call = record { start = call.start; honest = call.honest; fault = λ it. call.fault; no_fault = λ none. absurd (none here) }
 
-pub refuses_create : (fault : CreateFault) (old new : DiskState) → AddsNoImage old new → (fault ≡ create_fault.NotBlank → IsBlank old.size old.bytes → ⊥) → RefusesCreate fault old new
+pub refuses_create : (fault : CreateFault) (old new : DiskState) → AddsNoImage old new → (fault ≡ create_fault.NotBlank → IsBlank (size_of old) (bytes_of old) → ⊥) → RefusesCreate fault old new
 refuses_create create_fault.NotBlank old new rests not_blank = (not_blank refl, rests)
-refuses_create create_fault.Device old new rests not_blank = rests_leave old new rests
+refuses_create create_fault.Device old new rests not_blank = rests.later
 refuses_create create_fault.NoMemory old new rests not_blank = tt
 
-pub refuses_open : (fault : OpenFault) (disk : DiskState) → disk.size ≡ FILE_SIZE → (fault ≡ open_fault.NotASession → part 0 8 disk.bytes ≢ NAME)
-    → (fault ≡ open_fault.Damaged → part 0 8 disk.bytes ≡ NAME) → (fault ≡ open_fault.Damaged → HoldsNone disk) → RefusesOpen fault disk
+pub refuses_open : (fault : OpenFault) (disk : DiskState) → size_of disk ≡ FILE_SIZE → (fault ≡ open_fault.NotASession → part 0 8 (bytes_of disk) ≢ NAME)
+    → (fault ≡ open_fault.Damaged → part 0 8 (bytes_of disk) ≡ NAME) → (fault ≡ open_fault.Damaged → HoldsNone disk) → RefusesOpen fault disk
 refuses_open open_fault.NotASession disk sized unnamed named none = inr (unnamed refl)
 refuses_open open_fault.Damaged disk sized unnamed named none = (⊎_elim (λ other. other sized) (λ other. other (named refl)), none refl)
 refuses_open open_fault.Device disk sized unnamed named none = tt

@@ -1,37 +1,36 @@
 -- A change of a durable disk in two commits.
-use Rattle.std.proofs.Common.{◌≡◌, inl, inr, ⊎_elim, ◌+◌, ℕ, List, length, arith, Result, Ok, subst, sym}
+use Rattle.std.proofs.Common.{◌≡◌, inl, ⊎_elim, ◌+◌, ℕ, List, length, arith, Result, Ok, subst, sym}
 use Rattle.std.proofs.lemmas.Result.{on_ok_weaker}
-use Rattle.mcs_disk.specs.Disk.{DiskState, Torn, IsLawful, part}
-use Rattle.mcs_disk.specs.CallLaws.{untorn}
+use Rattle.mcs_disk.specs.Disk.{DiskState, Torn, part, bytes_of, time_of}
+use Rattle.mcs_disk.proofs.CallLaws.{untorn}
 use Rattle.mcs_disk.specs.Moments.{LeavesOnly, Changes, Either, IsDurable}
-use Rattle.mcs_disk.proofs.Composing.{leaves_then}
+use Rattle.mcs_disk.proofs.Composing.{leaves_then, durable_now}
 use Rattle.mcs_journal.specs.Writing.{Commits}
 
 -- a commit on a durable disk, each torn write of which has P
 commit_leaves : {T E : Type 0} (old new : DiskState) (P : List ℕ → Type 0) (at : ℕ) (from : List ℕ) (result : Result T E)
-    → IsDurable old → ((c : List ℕ) → Torn at (length from) old.bytes c → P c) → Commits at from old new result → LeavesOnly old new P
+    → IsDurable old → ((c : List ℕ) → Torn at (length from) (bytes_of old) c → P c) → Commits at from old new result → LeavesOnly old new P
 commit_leaves old new P at from result durable torn step = record {
   later = step.later;
   each = λ c left.
       ⊎_elim
-      (λ past. torn c (subst (Torn at (length from) old.bytes) (sym (durable.fresh c past)) (untorn at (length from) old.bytes)))
-      (λ now. torn c (subst (λ (f : List ℕ). Torn at (length from) f c) (durable.only (now.1.0) (now.1.1)) (now.1.2)))
-      (step.moments old.clock c (omega arith) left);
-  before = λ t c le left. ⊎_elim (λ past. inl past) (λ now. inr now.0) (step.moments t c le left);
+      (λ past. torn c (subst (Torn at (length from) (bytes_of old)) (sym (durable c past)) (untorn at (length from) (bytes_of old))))
+      (λ now. torn c (subst (λ (f : List ℕ). Torn at (length from) f c) (durable_now old durable (now.0) (now.1)) (now.2)))
+      (step.each c left);
 }
 
 -- The first commit leaves the old and the second the old or the new.
 module _ (old mid : DiskState) (Before After : List ℕ → Type 0) (at : ℕ) (from : List ℕ) (durable : IsDurable old)
-    (torn : (c : List ℕ) → Torn at (length from) old.bytes c → Before c) where
+    (torn : (c : List ℕ) → Torn at (length from) (bytes_of old) c → Before c) where
   pub first_step : {T E : Type 0} (result : Result T E) → Commits at from old mid result → LeavesOnly old mid (Either Before After)
   first_step result step = commit_leaves old mid (Either Before After) at from result durable (λ c tear. inl (torn c tear)) step
 
-  pub both_steps : {T E U V : Type 0} (x : U) (new : DiskState) (place : ℕ) (last : List ℕ) (result : Result T E) → IsLawful new
-      → ((c : List ℕ) → Torn place (length last) mid.bytes c → Either Before After c) → (part place (length last) new.bytes ≡ last → Torn place (length last) mid.bytes new.bytes → After new.bytes)
+  pub both_steps : {T E U V : Type 0} (x : U) (new : DiskState) (place : ℕ) (last : List ℕ) (result : Result T E)
+      → ((c : List ℕ) → Torn place (length last) (bytes_of mid) c → Either Before After c) → (part place (length last) (bytes_of new) ≡ last → Torn place (length last) (bytes_of mid) (bytes_of new) → After (bytes_of new))
       → Commits {T = U} {E = V} at from old mid (Ok x) → Commits place last mid new result → Changes 4 old new Before After result
-  both_steps x new place last result law either_way done first second = record {
-    after = on_ok_weaker result (λ (here : part place (length last) new.bytes ≡ last). done here second.outside) second.written;
+  both_steps x new place last result either_way done first second = record {
+    after = on_ok_weaker result (λ (here : part place (length last) (bytes_of new) ≡ last). done here second.outside) second.written;
     durable = second.durable;
-    ticks = on_ok_weaker result (λ (two : new.clock ≡ mid.clock + 2). omega (arith, two, first.ticks)) second.ticks;
-    moments = leaves_then old mid new (Either Before After) law (first_step (Ok x) first) (commit_leaves mid new (Either Before After) place last result first.durable either_way second);
+    ticks = on_ok_weaker result (λ (two : time_of new ≡ time_of mid + 2). omega (arith, two, first.ticks)) second.ticks;
+    moments = leaves_then old mid new (Either Before After) (first_step (Ok x) first) (commit_leaves mid new (Either Before After) place last result first.durable either_way second);
   }

@@ -1,7 +1,7 @@
 -- What contracts see of a store, and what its fields keep. (Our own choice.)
 use Rattle.std.specs.Prelude.{◌≡◌, ℕ, ◌+◌, ◌≤◌, Bool, List, length, IsTrue}
 use Rattle.mcs_disk.specs.CallList.{unsynced}
-use Rattle.mcs_disk.specs.Disk.{DiskState}
+use Rattle.mcs_disk.specs.Disk.{DiskState, bytes_of, size_of}
 use Rattle.mcs_disk.specs.Moments.{IsDurable}
 use Rattle.mcs_journal.specs.File.{Holds, slot_of, frames_of}
 use Rattle.mcs_journal.specs.declared.format.TheConstants.{FILE_SIZE, LOG_SIZE, BUFFER_SIZE}
@@ -20,10 +20,10 @@ pub record StoreView (D : Type 0) : Type 0 where
 -- frames take in the log
 pub record IsIntactStore (disk : DiskState) (slot : Slot) (used : ℕ) : Type 0 where
   pub durable : IsDurable disk
-  pub active : slot_of disk.bytes ≡ slot
+  pub active : slot_of (bytes_of disk) ≡ slot
   pub snap : List ℕ
   pub records : List (List ℕ)
-  pub holds : Holds disk.bytes snap records
+  pub holds : Holds (bytes_of disk) snap records
   pub count : used ≡ length (frames_of records)
 
 -- the invariant of a store: its disk has the size of a session file, the log has room for one more
@@ -31,7 +31,7 @@ pub record IsIntactStore (disk : DiskState) (slot : Slot) (used : ℕ) : Type 0 
 -- on its disk, and on an honest disk it is intact
 pub record IsStore (disk : DiskState) (live : Bool) (slot : Slot) (used : ℕ) (buffer : List ℕ)
     : Type 0 where
-  pub disk_size : disk.size ≡ FILE_SIZE
+  pub disk_size : size_of disk ≡ FILE_SIZE
   pub within : used + 1 ≤ LOG_SIZE
   pub room : length buffer ≡ BUFFER_SIZE
   pub synced : IsTrue live → unsynced disk.calls ≡ 0

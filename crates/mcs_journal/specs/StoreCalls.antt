@@ -1,7 +1,7 @@
 -- What `create` and `open` answer, by what the disk holds. (Our own choice.)
 use Rattle.std.specs.Prelude.{◌≡◌, ◌≢◌, ◌⊎◌, ◌+◌, ℕ, List, []}
-use Rattle.mcs_disk.specs.Disk.{DiskState, part}
-use Rattle.mcs_disk.specs.Moments.{IsDurable, AddsNoImage, KeepsEarlierImages}
+use Rattle.mcs_disk.specs.Disk.{DiskState, part, bytes_of, size_of, time_of, IsLater}
+use Rattle.mcs_disk.specs.Moments.{IsDurable, AddsNoImage}
 use Rattle.mcs_journal.specs.File.{Holds, IsBlank}
 use Rattle.mcs_journal.specs.declared.format.TheConstants.{FILE_SIZE, NAME}
 use Rattle.mcs_journal.specs.declared.fault.OpenFault.{OpenFault}
@@ -11,11 +11,11 @@ use Rattle.mcs_journal.specs.declared.fault.CreateFault.TheVariants as create_fa
 
 -- not a session file: its size or its name is another
 abbrev pub IsNoSession : DiskState → Type 0
-IsNoSession disk = (disk.size ≢ FILE_SIZE) ⊎ (part 0 8 disk.bytes ≢ NAME)
+IsNoSession disk = (size_of disk ≢ FILE_SIZE) ⊎ (part 0 8 (bytes_of disk) ≢ NAME)
 
 -- the disk holds no contents: no snapshot with its records
 abbrev pub HoldsNone : DiskState → Type 0
-HoldsNone disk = (snap : List ℕ) (records : List (List ℕ)) → Holds disk.bytes snap records → ⊥
+HoldsNone disk = (snap : List ℕ) (records : List (List ℕ)) → Holds (bytes_of disk) snap records → ⊥
 
 -- what a refusal of `open` says of the disk
 abbrev pub RefusesOpen : OpenFault → DiskState → Type 0
@@ -26,20 +26,20 @@ RefusesOpen open_fault.NoMemory disk = Unit {0}
 
 -- the disk held these contents and was not written, and every image holds them
 pub record Opens (old new : DiskState) (snap : List ℕ) (records : List (List ℕ)) : Type 0 where
-  pub holds : Holds old.bytes snap records
+  pub holds : Holds (bytes_of old) snap records
   pub rests : AddsNoImage old new
   pub durable : IsDurable new
 
 -- what a refusal of `create` says of the disk, and of what it did there
 abbrev pub RefusesCreate : CreateFault → DiskState → DiskState → Type 0
-RefusesCreate create_fault.NotBlank old new = ¬ (IsBlank old.size old.bytes) × AddsNoImage old new
-RefusesCreate create_fault.Device old new = KeepsEarlierImages old new
+RefusesCreate create_fault.NotBlank old new = ¬ (IsBlank (size_of old) (bytes_of old)) × AddsNoImage old new
+RefusesCreate create_fault.Device old new = IsLater old new
 RefusesCreate create_fault.NoMemory old new = Unit {0}
 
 -- the disk was blank, and now, five steps later, every image holds this snapshot and no records
 pub record Creates (old new : DiskState) (snap : List ℕ) : Type 0 where
-  pub blank : IsBlank old.size old.bytes
-  pub holds : Holds new.bytes snap []
+  pub blank : IsBlank (size_of old) (bytes_of old)
+  pub holds : Holds (bytes_of new) snap []
   pub durable : IsDurable new
-  pub ticks : new.clock ≡ old.clock + 5
-  pub moments : KeepsEarlierImages old new
+  pub ticks : time_of new ≡ time_of old + 5
+  pub moments : IsLater old new

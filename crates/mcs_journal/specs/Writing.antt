@@ -1,6 +1,6 @@
 -- The parts of a file that the steps of reading and writing speak of.
 use Rattle.std.specs.Prelude.{◌≡◌, ℕ, ◌+◌, ◌≤◌, List, ◌⊎◌, length, slice_index, Result, OnOk}
-use Rattle.mcs_disk.specs.Disk.{DiskState, IsLater, part, Torn}
+use Rattle.mcs_disk.specs.Disk.{DiskState, IsLater, part, Torn, bytes_of, time_of, images_of, images_since}
 use Rattle.mcs_disk.specs.Moments.{IsDurable}
 use Rattle.mcs_journal.specs.File.{IsRecord, frame_of, frames_of, slot_at, be32, slot_of}
 use Rattle.mcs_journal.specs.declared.format.TheConstants.{AREA_SIZE, LOG_SIZE, MOST_SNAPSHOT, NAME, BUFFER_SIZE, ZEROS}
@@ -51,15 +51,15 @@ pub record IsSnapshot (file : List ℕ) (start : ℕ) (snap : List ℕ) : Type 0
   pub snap_length : part start 4 file ≡ be32 (length snap)
   pub snap_bytes : part (start + 4) (length snap) file ≡ snap
 
--- A write of these bytes, and a sync. At any moment since an earlier time an image is one of before, or
--- since this step began one of before with the written range torn.
+-- A write of these bytes, and a sync. At any moment since it began an image is one of before, or one of
+-- these with the written range torn.
 pub record Commits {T E : Type 0} (at : ℕ) (from : List ℕ) (old new : DiskState)
     (result : Result T E) : Type 0 where
-  pub written : OnOk result (part at (length from) new.bytes ≡ from)
-  pub outside : Torn at (length from) old.bytes new.bytes
+  pub written : OnOk result (part at (length from) (bytes_of new) ≡ from)
+  pub outside : Torn at (length from) (bytes_of old) (bytes_of new)
   pub durable : OnOk result (IsDurable new)
-  pub ticks : OnOk result (new.clock ≡ old.clock + 2)
+  pub ticks : OnOk result (time_of new ≡ time_of old + 2)
   pub later : IsLater old new
-  pub moments : (t : ℕ) (c : List ℕ) → t ≤ old.clock → new.since t c
-      → old.since t c
-      ⊎ (new.since old.clock c × ((d : List ℕ) × old.images d × Torn at (length from) d c))
+  pub each : (c : List ℕ) → images_since (time_of old) new c
+      → images_since (time_of old) old c
+      ⊎ ((d : List ℕ) × images_of old d × Torn at (length from) d c)

@@ -1,6 +1,7 @@
 //! Laws of the file format, and of what a power cut leaves of it. The contract of each call is the
 //! law; the call does nothing.
 ghost use Rattle.std.specs.Prelude.{◌⊎◌, ◌≡◌, ◌∷◌, [], ℕ, List, codes};
+ghost use Rattle.mcs_disk.specs.Disk.{bytes_of, time_of};
 ghost use Rattle.mcs_disk.specs.Moments.{Either, IsDurable, LeavesOnly};
 ghost use Rattle.mcs_disk.specs.PowerCut.{IsLeftByCut};
 ghost use Rattle.mcs_journal.specs.declared.format.TheConstants.{AREA_SIZE, COMMITTED, FILE_SIZE, FIRST_SLOT, HEADER_SIZE, LOG_SIZE, MOST_RECORD, MOST_SNAPSHOT, NAME, NOT_COMMITTED, RECORD_PLACE, SECOND_SLOT, SELECTOR_PLACE, SNAPSHOT_PLACE, BUFFER_SIZE, ZEROS, ZEROS_PLACE};
@@ -37,8 +38,8 @@ pub fn cut_leaves_old_or_new_contents<D: Disk, E: Disk>()
     ensures { (snap other : List ℕ) (records more : List (List ℕ)) (old new : D) (found : E)
         → LeavesOnly (D.state old) (D.state new)
         (Either (λ c. Holds c snap records) (λ c. Holds c other more))
-        → IsLeftByCut (D.state old).clock (D.state new) (E.state found)
-        → Holds (E.state found).bytes snap records ⊎ Holds (E.state found).bytes other more }
+        → IsLeftByCut (time_of (D.state old)) (D.state new) (E.state found)
+        → Holds (bytes_of (E.state found)) snap records ⊎ Holds (bytes_of (E.state found)) other more }
 {}
 
 /// The contents of a durable disk, as [`append`](crate::Store::append) and
@@ -46,7 +47,7 @@ pub fn cut_leaves_old_or_new_contents<D: Disk, E: Disk>()
 /// leaves from then on.
 pub fn cut_leaves_durable_contents<D: Disk, E: Disk>()
     ensures { (snap : List ℕ) (records : List (List ℕ)) (disk : D) (found : E)
-        → IsDurable (D.state disk) → Holds (D.state disk).bytes snap records
-        → IsLeftByCut (D.state disk).clock (D.state disk) (E.state found)
-        → Holds (E.state found).bytes snap records }
+        → IsDurable (D.state disk) → Holds (bytes_of (D.state disk)) snap records
+        → IsLeftByCut (time_of (D.state disk)) (D.state disk) (E.state found)
+        → Holds (bytes_of (E.state found)) snap records }
 {}

@@ -1,6 +1,6 @@
 //! Reads the contents of a disk: its snapshot and records. Nothing here writes.
 ghost use Rattle.std.specs.Prelude.{◌≡◌, ◌≢◌, ◌≤◌, ◌<◌, ◌+◌, ◌*◌, ◌^◌, List, [], ◌∷◌, ◌++◌, ℕ, length, slice_index, IfOk, IfSome, IfNone, OnOk, OnErr, IsErr, IsErrOf};
-ghost use Rattle.mcs_disk.specs.Disk.{part};
+ghost use Rattle.mcs_disk.specs.Disk.{part, bytes_of, size_of, time_of};
 ghost use Rattle.mcs_disk.specs.Moments.{IsDurable, ReadsOnly};
 ghost use Rattle.mcs_journal.specs.declared.format.TheConstants.{FILE_SIZE};
 ghost use Rattle.mcs_journal.specs.File.{Holds, IsLog, slot_of, frames_of, start_of};
@@ -20,13 +20,13 @@ use std::alloc::Global;
 
 /// Reads the bytes from `at` on; a disk at rest stays so.
 pub fn read_at<D: Disk>(disk: &mut D, at: usize, into: &mut [u8]) -> Result<(), DiskFault>
-    requires { at + length into.old ≤ (D.state disk.old).size }
+    requires { at + length into.old ≤ size_of (D.state disk.old) }
     ensures reads { ReadsOnly (D.state disk.old) (D.state disk.new) (IsErr result) }
     ensures calls { Makes (WasRead ∷ []) (D.state disk.old).calls (D.state disk.new).calls result }
     ensures ticks { (D.state disk.old).honest
-        → OnOk result ((D.state disk.new).clock ≡ (D.state disk.old).clock + 1) }
+        → OnOk result (time_of (D.state disk.new) ≡ time_of (D.state disk.old) + 1) }
     ensures given { (D.state disk.old).honest
-        → OnOk result (into.new ≡ part at (length into.old) (D.state disk.old).bytes) }
+        → OnOk result (into.new ≡ part at (length into.old) (bytes_of (D.state disk.old))) }
 {
     disk.read(at, into)
 }
@@ -39,8 +39,8 @@ pub fn read_record<D: Disk>(
     at: usize,
     room: usize,
 ) -> Result<Option<Bytes>, OpenFault>
-    requires inside { at + room ≤ (D.state disk.old).size }
-    requires fits { (D.state disk.old).size < 2 ^ 64 }
+    requires inside { at + room ≤ size_of (D.state disk.old) }
+    requires fits { size_of (D.state disk.old) < 2 ^ 64 }
     requires some { 1 ≤ room }
     ensures reads { ReadsOnly (D.state disk.old) (D.state disk.new)
         (IsErrOf result OpenFault.Device) }
@@ -52,11 +52,11 @@ pub fn read_record<D: Disk>(
         (OnlyRead (D.state disk.old).calls (D.state disk.new).calls) }
     ensures fits_in { IfOk result (λ o. IfSome o (λ r. length r + 4 ≤ room)) }
     ensures closed { (D.state disk.old).honest
-        → IfOk result (λ o. IfNone o (slice_index (D.state disk.old).bytes at ≢ 1)) }
+        → IfOk result (λ o. IfNone o (slice_index (bytes_of (D.state disk.old)) at ≢ 1)) }
     ensures next { (D.state disk.old).honest
-        → IfOk result (λ o. IfSome o (λ r. IsNext (D.state disk.old).bytes at r)) }
+        → IfOk result (λ o. IfSome o (λ r. IsNext (bytes_of (D.state disk.old)) at r)) }
     ensures damaged { (D.state disk.old).honest → IsErrOf result OpenFault.Damaged
-        → IsNoRecord (D.state disk.old).bytes at room }
+        → IsNoRecord (bytes_of (D.state disk.old)) at room }
     ensures named { IsErrOf result OpenFault.NotASession → ⊥ }
 {
     let mut commit_byte = [0u8];
@@ -87,8 +87,8 @@ pub struct Log {
 
 /// Reads the log at `at`, up to the first commit byte that is not 1.
 pub fn read_log<D: Disk>(alloc: Global, disk: &mut D, at: usize) -> Result<Log, OpenFault>
-    requires inside { at + LOG_SIZE ≤ (D.state disk.old).size }
-    requires fits { (D.state disk.old).size < 2 ^ 64 }
+    requires inside { at + LOG_SIZE ≤ size_of (D.state disk.old) }
+    requires fits { size_of (D.state disk.old) < 2 ^ 64 }
     ensures reads { ReadsOnly (D.state disk.old) (D.state disk.new)
         (IsErrOf result OpenFault.Device) }
     ensures calls { IfOk result (λ log. (D.state disk.new).calls
@@ -97,10 +97,10 @@ pub fn read_log<D: Disk>(alloc: Global, disk: &mut D, at: usize) -> Result<Log, 
         (OnlyRead (D.state disk.old).calls (D.state disk.new).calls) }
     ensures within { IfOk result (λ log. log.used + 1 ≤ LOG_SIZE) }
     ensures found { (D.state disk.old).honest
-        → IfOk result (λ log. IsLog log.records.items (part at LOG_SIZE (D.state disk.old).bytes)
+        → IfOk result (λ log. IsLog log.records.items (part at LOG_SIZE (bytes_of (D.state disk.old)))
         × (log.used ≡ length (frames_of log.records.items))) }
     ensures damaged { (D.state disk.old).honest → IsErrOf result OpenFault.Damaged
-        → (records : List (List ℕ)) → IsLog records (part at LOG_SIZE (D.state disk.old).bytes)
+        → (records : List (List ℕ)) → IsLog records (part at LOG_SIZE (bytes_of (D.state disk.old)))
         → ⊥ }
     ensures named { IsErrOf result OpenFault.NotASession → ⊥ }
 {
@@ -115,19 +115,19 @@ pub fn read_log<D: Disk>(alloc: Global, disk: &mut D, at: usize) -> Result<Log, 
 
 /// Reads the header: the slot that its selector names.
 pub fn read_header<D: Disk>(disk: &mut D) -> Result<Slot, OpenFault>
-    requires size { (D.state disk.old).size ≡ FILE_SIZE }
+    requires size { size_of (D.state disk.old) ≡ FILE_SIZE }
     ensures reads { ReadsOnly (D.state disk.old) (D.state disk.new)
         (IsErrOf result OpenFault.Device) }
     ensures calls { OnOk result ((D.state disk.new).calls ≡ many_reads 1 ++ (D.state disk.old).calls) }
     ensures refused_calls { OnErr result
         (OnlyRead (D.state disk.old).calls (D.state disk.new).calls) }
     ensures header { (D.state disk.old).honest
-        → IfOk result (λ slot. IsHeader (D.state disk.old).bytes slot) }
+        → IfOk result (λ slot. IsHeader (bytes_of (D.state disk.old)) slot) }
     ensures no_session { (D.state disk.old).honest → IsErrOf result OpenFault.NotASession
-        → part 0 8 (D.state disk.old).bytes ≢ NAME }
+        → part 0 8 (bytes_of (D.state disk.old)) ≢ NAME }
     ensures damaged { (D.state disk.old).honest → IsErrOf result OpenFault.Damaged
-        → (part 0 8 (D.state disk.old).bytes ≡ NAME)
-        × (part 9 7 (D.state disk.old).bytes ≢ ZEROS) }
+        → (part 0 8 (bytes_of (D.state disk.old)) ≡ NAME)
+        × (part 9 7 (bytes_of (D.state disk.old)) ≢ ZEROS) }
 {
     let mut header = [0u8; HEADER_SIZE];
     read_at(disk, 0, &mut header)?;
@@ -142,17 +142,17 @@ pub fn read_header<D: Disk>(disk: &mut D) -> Result<Slot, OpenFault>
 
 /// Reads the snapshot of the slot that starts there.
 pub fn read_snapshot<D: Disk>(alloc: Global, disk: &mut D, start: usize) -> Result<Bytes, OpenFault>
-    requires inside { start + AREA_SIZE ≤ (D.state disk.old).size }
-    requires fits { (D.state disk.old).size < 2 ^ 64 }
+    requires inside { start + AREA_SIZE ≤ size_of (D.state disk.old) }
+    requires fits { size_of (D.state disk.old) < 2 ^ 64 }
     ensures reads { ReadsOnly (D.state disk.old) (D.state disk.new)
         (IsErrOf result OpenFault.Device) }
     ensures calls { OnOk result ((D.state disk.new).calls ≡ many_reads 2 ++ (D.state disk.old).calls) }
     ensures refused_calls { OnErr result
         (OnlyRead (D.state disk.old).calls (D.state disk.new).calls) }
     ensures snap { (D.state disk.old).honest
-        → IfOk result (λ snap. IsSnapshot (D.state disk.old).bytes start snap) }
+        → IfOk result (λ snap. IsSnapshot (bytes_of (D.state disk.old)) start snap) }
     ensures damaged { (D.state disk.old).honest → IsErrOf result OpenFault.Damaged
-        → (snap : List ℕ) → IsSnapshot (D.state disk.old).bytes start snap → ⊥ }
+        → (snap : List ℕ) → IsSnapshot (bytes_of (D.state disk.old)) start snap → ⊥ }
     ensures named { IsErrOf result OpenFault.NotASession → ⊥ }
 {
     let mut prefix = [0u8; SNAPSHOT_PLACE];
@@ -178,7 +178,7 @@ pub struct Found {
 ///
 /// Without the sync, what is read may be lost by a power cut that comes after the answer.
 pub fn read_contents<D: Disk>(alloc: Global, disk: &mut D) -> Result<Found, OpenFault>
-    requires size { (D.state disk.old).size ≡ FILE_SIZE }
+    requires size { size_of (D.state disk.old) ≡ FILE_SIZE }
     ensures reads { ReadsOnly (D.state disk.old) (D.state disk.new)
         (IsErrOf result OpenFault.Device) }
     ensures calls { IfOk result (λ found. (D.state disk.new).calls
@@ -188,19 +188,19 @@ pub fn read_contents<D: Disk>(alloc: Global, disk: &mut D) -> Result<Found, Open
     ensures within { IfOk result (λ found. found.log.used + 1 ≤ LOG_SIZE) }
     ensures durable { (D.state disk.old).honest → OnOk result (IsDurable (D.state disk.new)) }
     ensures active { (D.state disk.old).honest
-        → IfOk result (λ found. slot_of (D.state disk.old).bytes ≡ found.slot) }
+        → IfOk result (λ found. slot_of (bytes_of (D.state disk.old)) ≡ found.slot) }
     ensures count { (D.state disk.old).honest
         → IfOk result (λ found. found.log.used ≡ length (frames_of found.log.records.items)) }
     ensures holds { (D.state disk.old).honest
         → IfOk result (λ found. Holds
-        (D.state disk.old).bytes found.snap found.log.records.items) }
+        (bytes_of (D.state disk.old)) found.snap found.log.records.items) }
     ensures damaged { (D.state disk.old).honest → IsErrOf result OpenFault.Damaged
         → (snap : List ℕ) (records : List (List ℕ))
-        → Holds (D.state disk.old).bytes snap records → ⊥ }
+        → Holds (bytes_of (D.state disk.old)) snap records → ⊥ }
     ensures session { (D.state disk.old).honest → IsErrOf result OpenFault.Damaged
-        → part 0 8 (D.state disk.old).bytes ≡ NAME }
+        → part 0 8 (bytes_of (D.state disk.old)) ≡ NAME }
     ensures no_session { (D.state disk.old).honest → IsErrOf result OpenFault.NotASession
-        → part 0 8 (D.state disk.old).bytes ≢ NAME }
+        → part 0 8 (bytes_of (D.state disk.old)) ≢ NAME }
 {
     disk.sync()?;
     let slot = read_header(disk)?;

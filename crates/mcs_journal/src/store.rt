@@ -1,5 +1,6 @@
 //! A store: a snapshot and records on a disk.
 ghost use Rattle.std.specs.Prelude.{◌≡◌, ◌≢◌, ◌⊎◌, ◌≤◌, ◌+◌, ◌↔◌, List, [], ◌∷◌, ◌++◌, ℕ, length, is_ok, IsTrue, IsErr, IsErrAnd, OnOk, OnErr, IfErr, IfOk};
+ghost use Rattle.mcs_disk.specs.Disk.{bytes_of, size_of};
 ghost use Rattle.mcs_disk.specs.Moments.{Changes, CountsFault, AddsNoImage, WritesNothing};
 ghost use Rattle.mcs_journal.specs.StoreCalls.{Creates, Opens, RefusesCreate, RefusesOpen};
 ghost use Rattle.mcs_disk.specs.CallList.{WasRead, Makes, OneUnsynced, unsynced};
@@ -69,7 +70,7 @@ impl<D: Disk + Drop> Store<D> {
             refused.0 ≡ CreateFault.NoMemory → refused.1 ≡ disk) }
         ensures unwritten { IfErr result (λ refused. refused.0 ≢ CreateFault.Device
             → WritesNothing (D.state disk) (D.state refused.1)) }
-        ensures wrong_size { (D.state disk).size ≢ FILE_SIZE → IsErrAnd result (λ refused.
+        ensures wrong_size { size_of (D.state disk) ≢ FILE_SIZE → IsErrAnd result (λ refused.
             ((refused.0 ≡ CreateFault.NotBlank) ⊎ (refused.0 ≡ CreateFault.NoMemory))
             × (refused.1 ≡ disk)) }
         ensures slot { IfOk result (λ store. store.slot ≡ Slot.A) }
@@ -125,7 +126,7 @@ impl<D: Disk + Drop> Store<D> {
             WritesNothing (D.state disk) (D.state opened.store.disk)) }
         ensures refused_unwritten { IfErr result (λ refused.
             WritesNothing (D.state disk) (D.state refused.1)) }
-        ensures wrong_size { (D.state disk).size ≢ FILE_SIZE → IsErrAnd result (λ refused.
+        ensures wrong_size { size_of (D.state disk) ≢ FILE_SIZE → IsErrAnd result (λ refused.
             ((refused.0 ≡ OpenFault.NotASession) ⊎ (refused.0 ≡ OpenFault.NoMemory))
             × (refused.1 ≡ disk)) }
         ensures calls { IfOk result (λ opened. (D.state opened.store.disk).calls
@@ -178,7 +179,7 @@ impl<D: Disk + Drop> Store<D> {
         ensures is { result ≡ self.now.live }
         ensures synced { IsTrue self.now.live → unsynced (D.state self.now.disk).calls ≡ 0 }
         ensures slot { IsTrue self.now.live → (D.state self.now.disk).honest
-            → self.now.slot ≡ slot_of (D.state self.now.disk).bytes }
+            → self.now.slot ≡ slot_of (bytes_of (D.state self.now.disk)) }
     {
         self.live
     }
@@ -189,7 +190,7 @@ impl<D: Disk + Drop> Store<D> {
         ensures room { IsTrue result ↔ HasRoom self.now.used len }
         ensures used { IsTrue self.now.live → (D.state self.now.disk).honest
             → (snap : List ℕ) (records : List (List ℕ))
-            → Holds (D.state self.now.disk).bytes snap records
+            → Holds (bytes_of (D.state self.now.disk)) snap records
             → self.now.used ≡ length (frames_of records) }
     {
         self.used + RECORD_PLACE + len + 1 <= LOG_SIZE
@@ -213,7 +214,7 @@ impl<D: Disk + Drop> Store<D> {
             (D.state self.new.disk).calls }
         ensures appends { (D.state self.old.disk).honest
             → (snap : List ℕ) (records : List (List ℕ))
-            → Holds (D.state self.old.disk).bytes snap records
+            → Holds (bytes_of (D.state self.old.disk)) snap records
             → Changes 4 (D.state self.old.disk) (D.state self.new.disk)
             (λ c. Holds c snap records)
             (λ c. Holds c snap (records ++ payload.now ∷ [])) result }
@@ -249,7 +250,7 @@ impl<D: Disk + Drop> Store<D> {
             (D.state self.new.disk).calls }
         ensures replaces { (D.state self.old.disk).honest
             → (old_snap : List ℕ) (records : List (List ℕ))
-            → Holds (D.state self.old.disk).bytes old_snap records
+            → Holds (bytes_of (D.state self.old.disk)) old_snap records
             → Changes 4 (D.state self.old.disk) (D.state self.new.disk)
             (λ c. Holds c old_snap records)
             (λ c. Holds c snap.now []) result }

@@ -2,8 +2,8 @@
 //! makes them count. Each step is a write and a sync, so that the second byte never reaches the
 //! disk before the bytes that it speaks of.
 ghost use Rattle.std.specs.Prelude.{◌≡◌, ◌⊎◌, ◌≤◌, ◌+◌, List, [], ◌∷◌, ◌++◌, ℕ, length, take, slice_index, OnOk, IsErrOf};
-ghost use Rattle.mcs_disk.specs.Disk.{IsCall};
-ghost use Rattle.mcs_disk.specs.Moments.{Changes, IsDurable, KeepsEarlierImages, ReadsOnly};
+ghost use Rattle.mcs_disk.specs.Disk.{IsCall, bytes_of, size_of, time_of, IsLater};
+ghost use Rattle.mcs_disk.specs.Moments.{Changes, IsDurable, ReadsOnly};
 ghost use Rattle.mcs_journal.specs.declared.format.TheConstants.{FILE_SIZE, MOST_RECORD, MOST_SNAPSHOT, BUFFER_SIZE};
 ghost use Rattle.mcs_journal.specs.File.{Holds, IsBlank, IsRecord, be16, slot_of};
 ghost use Rattle.mcs_disk.specs.CallList.{WasRead, Makes};
@@ -21,7 +21,7 @@ use mcs_disk::{Disk, DiskFault};
 
 /// Writes, and syncs.
 pub fn commit<D: Disk>(disk: &mut D, at: usize, from: &[u8]) -> Result<(), DiskFault>
-    requires { at + length from.now ≤ (D.state disk.old).size }
+    requires { at + length from.now ≤ size_of (D.state disk.old) }
     ensures call { IsCall (D.state disk.old) (D.state disk.new) result }
     ensures calls { Makes (commit_calls at from.now) (D.state disk.old).calls
         (D.state disk.new).calls result }
@@ -53,19 +53,19 @@ pub fn add_record<D: Disk>(
     commit_at: usize,
     payload: &[u8],
 ) -> Result<(), DiskFault>
-    requires inside { commit_at + length payload.now + 4 ≤ (D.state disk.old).size }
-    requires small { (D.state disk.old).size ≡ FILE_SIZE }
+    requires inside { commit_at + length payload.now + 4 ≤ size_of (D.state disk.old) }
+    requires small { size_of (D.state disk.old) ≡ FILE_SIZE }
     requires room { length payload.now + 3 ≤ length buffer.old }
     requires good { IsRecord payload.now }
     ensures call { IsCall (D.state disk.old) (D.state disk.new) result }
     ensures calls { Makes (append_calls commit_at payload.now) (D.state disk.old).calls
         (D.state disk.new).calls result }
     ensures selector { (D.state disk.old).honest → 16 ≤ commit_at
-        → slice_index (D.state disk.new).bytes 8 ≡ slice_index (D.state disk.old).bytes 8 }
+        → slice_index (bytes_of (D.state disk.new)) 8 ≡ slice_index (bytes_of (D.state disk.old)) 8 }
     ensures changes { (D.state disk.old).honest → IsDurable (D.state disk.old)
         → (snap : List ℕ) (records : List (List ℕ))
-        → Holds (D.state disk.old).bytes snap records
-        → IsCommitPlace (D.state disk.old).bytes records commit_at (length payload.now)
+        → Holds (bytes_of (D.state disk.old)) snap records
+        → IsCommitPlace (bytes_of (D.state disk.old)) records commit_at (length payload.now)
         → Changes 4 (D.state disk.old) (D.state disk.new) (λ c. Holds c snap records)
         (λ c. Holds c snap (records ++ payload.now ∷ [])) result }
 {
@@ -96,18 +96,18 @@ pub fn replace_contents<D: Disk>(
     other: Slot,
     snap: &[u8],
 ) -> Result<(), DiskFault>
-    requires size { (D.state disk.old).size ≡ FILE_SIZE }
+    requires size { size_of (D.state disk.old) ≡ FILE_SIZE }
     requires room { length buffer.old ≡ BUFFER_SIZE }
     requires short { length snap.now ≤ MOST_SNAPSHOT }
     ensures call { IsCall (D.state disk.old) (D.state disk.new) result }
     ensures calls { MakesWithArea snap.now (replace_calls other) (D.state disk.old).calls
         (D.state disk.new).calls result }
     ensures named { (D.state disk.old).honest
-        → OnOk result (slot_of (D.state disk.new).bytes ≡ other) }
+        → OnOk result (slot_of (bytes_of (D.state disk.new)) ≡ other) }
     ensures changes { (D.state disk.old).honest → IsDurable (D.state disk.old)
         → (old_snap : List ℕ) (records : List (List ℕ))
-        → Holds (D.state disk.old).bytes old_snap records
-        → other ≡ other_slot (slot_of (D.state disk.old).bytes)
+        → Holds (bytes_of (D.state disk.old)) old_snap records
+        → other ≡ other_slot (slot_of (bytes_of (D.state disk.old)))
         → Changes 4 (D.state disk.old) (D.state disk.new) (λ c. Holds c old_snap records)
         (λ c. Holds c snap.now []) result }
 {
@@ -118,18 +118,18 @@ pub fn replace_contents<D: Disk>(
 
 /// The disk has the size of a session file, and its first 16 bytes are 0.
 pub fn check_blank<D: Disk>(disk: &mut D) -> Result<(), CreateFault>
-    requires size { (D.state disk.old).size ≡ FILE_SIZE }
+    requires size { size_of (D.state disk.old) ≡ FILE_SIZE }
     ensures reads { ReadsOnly (D.state disk.old) (D.state disk.new)
         (IsErrOf result CreateFault.Device) }
     ensures calls { Makes (WasRead ∷ []) (D.state disk.old).calls (D.state disk.new).calls result
         ⊎ (IsErrOf result CreateFault.NotBlank
         × ((D.state disk.new).calls ≡ WasRead ∷ (D.state disk.old).calls)) }
     ensures ticks { (D.state disk.old).honest
-        → OnOk result ((D.state disk.new).clock ≡ (D.state disk.old).clock + 1) }
+        → OnOk result (time_of (D.state disk.new) ≡ time_of (D.state disk.old) + 1) }
     ensures blank { (D.state disk.old).honest
-        → OnOk result (IsBlank (D.state disk.old).size (D.state disk.old).bytes) }
+        → OnOk result (IsBlank (size_of (D.state disk.old)) (bytes_of (D.state disk.old))) }
     ensures not_blank { (D.state disk.old).honest → IsErrOf result CreateFault.NotBlank
-        → IsBlank (D.state disk.old).size (D.state disk.old).bytes → ⊥ }
+        → IsBlank (size_of (D.state disk.old)) (bytes_of (D.state disk.old)) → ⊥ }
     ensures no_memory { IsErrOf result CreateFault.NoMemory → ⊥ }
 {
     let mut header = [0u8; HEADER_SIZE];
@@ -143,7 +143,7 @@ pub fn check_blank<D: Disk>(disk: &mut D) -> Result<(), CreateFault>
 /// Writes the first contents into the first slot: the snapshot and no records. Then it writes the
 /// header that names the slot.
 pub fn write_first<D: Disk>(disk: &mut D, buffer: &mut [u8], snap: &[u8]) -> Result<(), DiskFault>
-    requires size { (D.state disk.old).size ≡ FILE_SIZE }
+    requires size { size_of (D.state disk.old) ≡ FILE_SIZE }
     requires room { length buffer.old ≡ BUFFER_SIZE }
     requires short { length snap.now ≤ MOST_SNAPSHOT }
     ensures call { IsCall (D.state disk.old) (D.state disk.new) result }
@@ -151,13 +151,13 @@ pub fn write_first<D: Disk>(disk: &mut D, buffer: &mut [u8], snap: &[u8]) -> Res
         (D.state disk.new).calls result }
     ensures room { length buffer.new ≡ BUFFER_SIZE }
     ensures goes_on { (D.state disk.old).honest
-        → KeepsEarlierImages (D.state disk.old) (D.state disk.new) }
+        → IsLater (D.state disk.old) (D.state disk.new) }
     ensures ticks { (D.state disk.old).honest
-        → OnOk result ((D.state disk.new).clock ≡ (D.state disk.old).clock + 4) }
+        → OnOk result (time_of (D.state disk.new) ≡ time_of (D.state disk.old) + 4) }
     ensures made { (D.state disk.old).honest
-        → OnOk result (Holds (D.state disk.new).bytes snap.now []) }
+        → OnOk result (Holds (bytes_of (D.state disk.new)) snap.now []) }
     ensures named { (D.state disk.old).honest
-        → OnOk result (slot_of (D.state disk.new).bytes ≡ Slot.A) }
+        → OnOk result (slot_of (bytes_of (D.state disk.new)) ≡ Slot.A) }
     ensures durable { (D.state disk.old).honest → OnOk result (IsDurable (D.state disk.new)) }
 {
     encode_snapshot(buffer, snap);

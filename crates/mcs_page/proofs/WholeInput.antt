@@ -1,5 +1,6 @@
 -- A shell that served its input leaves the disk its size, and the session open.
 use Rattle.std.proofs.Common.{◌≡◌, ◌∙◌, ℕ, List, Option, length, ap}
+use Rattle.mcs_disk.specs.Disk.{size_of}
 use Rattle.mcs_disk.specs.States.{mem_disk_state}
 use Rattle.mcs_disk.specs.declared.memory.MemDisk.{MemDisk}
 use Rattle.mcs_page.specs.Page.{IsServedWhole, ResumesSession}
@@ -21,12 +22,12 @@ carries WriteFault reader reader' a b whole ran = absurd whole
 carries DeviceFault reader reader' a b whole ran = absurd whole
 carries NoMemory reader reader' a b whole ran = absurd whole
 
-pub keeps_size : (end : ShellEnd) (reader reader' : Option (List ℕ)) (a b : ShellState) → IsServedWhole end → RanShell end reader reader' a b → b.session.disk.size ≡ a.session.disk.size
+pub keeps_size : (end : ShellEnd) (reader reader' : Option (List ℕ)) (a b : ShellState) → IsServedWhole end → RanShell end reader reader' a b → size_of b.session.disk ≡ size_of a.session.disk
 keeps_size end reader reader' a b whole ran = (carries end reader reader' a b whole ran).size
 
 pub keeps_open : (end : ShellEnd) (reader reader' : Option (List ℕ)) (a b : ShellState) → IsServedWhole end → RanShell end reader reader' a b → b.session.bench.live ≡ a.session.bench.live
 keeps_open end reader reader' a b whole ran = ap (λ (s : SessionBench). s.live) (carries end reader reader' a b whole ran).bench
 
 -- the disk of a session has the size of its file
-pub size_resumed : (file : List ℕ) (session : SessionView MemDisk) → ResumesSession file session → (mem_disk_state session.disk).size ≡ length file
-size_resumed file session resumed = resumed.begun.counts.size ∙ ap (λ (f : List ℕ). length f) resumed.held.bytes
+pub size_resumed : (file : List ℕ) (session : SessionView MemDisk) → ResumesSession file session → size_of (mem_disk_state session.disk) ≡ length file
+size_resumed file session resumed = ap (λ (f : List ℕ). length f) (resumed.begun.counts.start ∙ resumed.held.start)

@@ -1,6 +1,6 @@
 -- What a call of the page does with the bytes of a session file.
 use Rattle.std.specs.Prelude.{◌≡◌, ◌≤◌, ◌<◌, ℕ, List, [], IsTrue, Option, Some, length, take, drop}
-use Rattle.mcs_disk.specs.Disk.{DiskState}
+use Rattle.mcs_disk.specs.Disk.{DiskState, bytes_of, size_of}
 use Rattle.mcs_journal.specs.declared.fault.OpenFault.{OpenFault}
 use Rattle.mcs_journal.specs.declared.fault.OpenFault.TheVariants as open_fault
 use Rattle.mcs_model.specs.BenchState.{BenchState, new_bench_state}
@@ -21,7 +21,7 @@ use Rattle.mcs_shell.specs.declared.ends.ShellEnd.TheVariants.{End, InputLimit}
 -- an honest disk that has these bytes
 pub record HasBytes (file : List ℕ) (disk : DiskState) : Type 0 where
   pub honest : disk.honest
-  pub bytes : disk.bytes ≡ file
+  pub bytes : bytes_of disk ≡ file
 
 -- the bytes of a file that holds the session of a new bench
 abbrev pub IsNewFile : List ℕ → Type 0
@@ -62,7 +62,7 @@ pub record ServesAllInput (file input : List ℕ) (end : ShellEnd) (answers : Li
   pub whole : IsServedWhole end
   pub went : RunsOnFile file input end answers left
   pub is_open : IsTrue left.live
-  pub size : (mem_disk_state left.disk).size ≡ length file
+  pub size : size_of (mem_disk_state left.disk) ≡ length file
 
 -- the input was served, and the answers are that many bytes at the front of the buffer
 pub record AnswersInBuffer (file input : List ℕ) (end : ShellEnd) (count : ℕ)
@@ -98,7 +98,7 @@ IsWhyNotServed (NoRoom count) file input room = LacksBufferRoom file input count
 -- the disk of a session stood for its state, and these bytes hold a snapshot of that state and no
 -- records
 pub record SettlesTo (session : SessionView MemDisk) (file : List ℕ) : Type 0 where
-  pub stood : StandsFor (mem_disk_state session.disk).bytes session.state
+  pub stood : StandsFor (bytes_of (mem_disk_state session.disk)) session.state
   pub holds : HoldsState file session.state
 
 -- the file stood for a state, and now it holds a snapshot of that state and no records

@@ -1,5 +1,6 @@
 //! Sessions on disks in memory, from the bytes of a file and back.
 ghost use Rattle.std.specs.Prelude.{◌≡◌, length, IfErr, IfOk, IsTrue};
+ghost use Rattle.mcs_disk.specs.Disk.{bytes_of, size_of};
 ghost use Rattle.mcs_disk.specs.Moments.{IsFresh};
 ghost use Rattle.mcs_disk.specs.States.{mem_disk_state};
 ghost use Rattle.mcs_page.specs.Page.{IsFileRefused, ResumesSession, SettlesTo};
@@ -38,8 +39,8 @@ pub(crate) fn resume(alloc: Global, file: &[u8]) -> Result<Session<MemDisk>, Ope
 
 /// Puts the bytes of a disk in the place of a file's.
 pub(crate) fn write_back(disk: &MemDisk, file: &mut [u8])
-    requires size { length file.old ≡ (mem_disk_state disk.now).size }
-    ensures written { file.new ≡ (mem_disk_state disk.now).bytes }
+    requires size { length file.old ≡ size_of (mem_disk_state disk.now) }
+    ensures written { file.new ≡ bytes_of (mem_disk_state disk.now) }
 {
     file.copy_from_slice(disk.bytes());
 }
@@ -48,7 +49,7 @@ pub(crate) fn write_back(disk: &MemDisk, file: &mut [u8])
 /// place of a file's. On a disk that has no fault it cannot fail.
 pub(crate) fn settle_into(mut session: Session<MemDisk>, file: &mut [u8])
     requires open { IsTrue session.live }
-    requires size { length file.old ≡ (mem_disk_state session.disk).size }
+    requires size { length file.old ≡ size_of (mem_disk_state session.disk) }
     ensures settled { SettlesTo session file.new }
 {
     let Ok(()) = session.settle() else {

@@ -1,6 +1,7 @@
 -- What a session's disk stands for when it is made and opened.
 use Rattle.std.proofs.Common.{◌≡◌, inl, inr, ⊎_elim, Bool, true, false, None, ap, List, [], ◌∷◌, ℕ, sym, ◌∙◌, subst, refl, arith}
-use Rattle.mcs_disk.specs.Disk.{DiskState, IsLawful}
+use Rattle.mcs_disk.proofs.CallLaws.{lawful, size_of-bytes}
+use Rattle.mcs_disk.specs.Disk.{DiskState, bytes_of, time_of, images_since}
 use Rattle.mcs_disk.specs.Moments.{IsDurable, AddsNoImage, WritesNothing}
 use Rattle.mcs_journal.specs.StoreCalls.{Creates, IsNoSession, Opens, RefusesOpen}
 use Rattle.mcs_journal.specs.File.{Holds}
@@ -11,7 +12,7 @@ use Rattle.mcs_model.specs.BenchState.{BenchState, new_bench_state}
 use Rattle.mcs_codec.specs.Codec.{SpellsState, SpellsState1}
 use Rattle.mcs_codec.proofs.StateCodec.{same_state}
 use Rattle.mcs_disk.specs.Moments.{Either, LeavesOnly}
-use Rattle.mcs_disk.proofs.Composing.{leaves_map, leaves_then}
+use Rattle.mcs_disk.proofs.Composing.{leaves_map, leaves_then, rests_bytes, rests_since}
 use Rattle.mcs_model.specs.declared.command.Command.{Command}
 use Rattle.mcs_model.specs.Command.{refusal, after}
 use Rattle.mcs_model.specs.Fold.{fold}
@@ -36,8 +37,8 @@ not_both snap s version_1 a b =
 pub stands_by : (snap : List ℕ) (records : List (List ℕ)) (s : BenchState) → RecordsStandFor false snap records s → (c : List ℕ) → Holds c snap records → StandsFor c s
 stands_by snap records s p c held = record { snap = snap; records = records; holds = held; stand = p }
 
-pub at_of : (disk : DiskState) (s : BenchState) → IsDurable disk → StandsFor disk.bytes s → DiskStandsFor disk s
-at_of disk s durable stands image now = subst (λ (f : List ℕ). StandsFor f s) (sym (durable.fresh image now)) stands
+pub at_of : (disk : DiskState) (s : BenchState) → IsDurable disk → StandsFor (bytes_of disk) s → DiskStandsFor disk s
+at_of disk s durable stands image now = subst (λ (f : List ℕ). StandsFor f s) (sym (durable image now)) stands
 
 -- a snapshot with no records after it
 stand_new : (snap : List ℕ) (s : BenchState) → SpellsState snap s → RecordsStandFor false snap [] s
@@ -46,9 +47,9 @@ stand_new snap s spells = record { start = s; snapshot = spells; commands = []; 
 pub stands_new : (file snap : List ℕ) (s : BenchState) → SpellsState snap s → Holds file snap [] → StandsFor file s
 stands_new file snap s spells held = record { snap = snap; records = []; holds = held; stand = stand_new snap s spells }
 
-pub recorded_new : (disk : DiskState) (snap : List ℕ) (s : BenchState) → SpellsState snap s → Holds disk.bytes snap [] → IsDurable disk → IsRecorded disk 0 s
+pub recorded_new : (disk : DiskState) (snap : List ℕ) (s : BenchState) → SpellsState snap s → Holds (bytes_of disk) snap [] → IsDurable disk → IsRecorded disk 0 s
 unfolding stands_new stand_new
-recorded_new disk snap s spells held durable = record { durable = durable; stands = stands_new disk.bytes snap s spells held; count = refl }
+recorded_new disk snap s spells held durable = record { durable = durable; stands = stands_new (bytes_of disk) snap s spells held; count = refl }
 
 -- its log is empty
 pub empty_uses : (file : List ℕ) (s : BenchState) → HoldsState file s → UsesLog file empty_log
@@ -57,35 +58,34 @@ empty_uses file s held = record { state = s; stands = stands_new file held.snap 
 
 pub created : (old new : DiskState) (snap : List ℕ) (s : BenchState) → SpellsState snap s → s ≡ new_bench_state → Creates old new snap → CreatesSession old new
 created old new snap s spells is made =
-    let stands : StandsFor new.bytes new_bench_state = subst (λ (t : BenchState). StandsFor new.bytes t) is (stands_new new.bytes snap s spells made.holds) in
+    let stands : StandsFor (bytes_of new) new_bench_state = subst (λ (t : BenchState). StandsFor (bytes_of new) t) is (stands_new (bytes_of new) snap s spells made.holds) in
     record { blank = made.blank; stands = stands; at = at_of new new_bench_state made.durable stands; ticks = made.ticks; moments = made.moments }
 
 pub recorded_opened : (old new : DiskState) (snap : List ℕ) (records : List (List ℕ)) (cycles : ℕ) (s : BenchState) → Opens old new snap records → IsReplayed false snap records cycles s → IsRecorded new cycles s
 recorded_opened old new snap records cycles s opened replayed =
-    let held : Holds new.bytes snap records = subst (λ (f : List ℕ). Holds f snap records) (sym opened.rests.bytes) opened.holds in
+    let held : Holds (bytes_of new) snap records = subst (λ (f : List ℕ). Holds f snap records) (sym (rests_bytes old new opened.rests)) opened.holds in
     record { durable = opened.durable; stands = record { snap = snap; records = records; holds = held; stand = replayed.stand }; count = replayed.count }
 
 -- a disk whose bytes are those of before, by a store that was opened on it
-pub held_on : (old new : DiskState) (snap : List ℕ) (records : List (List ℕ)) → Opens old new snap records → Holds new.bytes snap records
-held_on old new snap records opened = subst (λ (f : List ℕ). Holds f snap records) (sym opened.rests.bytes) opened.holds
+pub held_on : (old new : DiskState) (snap : List ℕ) (records : List (List ℕ)) → Opens old new snap records → Holds (bytes_of new) snap records
+held_on old new snap records opened = subst (λ (f : List ℕ). Holds f snap records) (sym (rests_bytes old new opened.rests)) opened.holds
 
 -- calls that rest leave what there was
 rests_may : (old new : DiskState) (s : BenchState) → AddsNoImage old new → MayMigrate old new s
 rests_may old new s rests = record {
   later = rests.later;
-  each = λ c left. inl (rests.nothing_else old.clock c (omega arith) left);
-  before = λ t c le left. inl (rests.nothing_else t c le left);
+  each = λ c left. inl (rests_since old new rests (time_of old) c left);
 }
 
 -- a file of the last version
 pub opened_session : (old new : DiskState) (snap : List ℕ) (records : List (List ℕ)) (cycles : ℕ) (s : BenchState) → WritesNothing old new → Opens old new snap records → IsReplayed false snap records cycles s → OpensSession old new s
 opened_session old new snap records cycles s unwritten opened replayed = record {
-  stands = inl (stands_by snap records s replayed.stand old.bytes opened.holds);
+  stands = inl (stands_by snap records s replayed.stand (bytes_of old) opened.holds);
   moments = rests_may old new s opened.rests;
   rests = λ _. opened.rests;
   unwritten = λ _. unwritten;
   migrated = λ version_1. absurd (not_both snap replayed.stand.start version_1.stand.start replayed.stand.snapshot (subst (λ (x : List ℕ). SpellsState1 x version_1.stand.start) (same_snap _ _ _ _ _ version_1.holds opened.holds) version_1.stand.snapshot));
-  at = at_of new s opened.durable (stands_by snap records s replayed.stand new.bytes (held_on old new snap records opened));
+  at = at_of new s opened.durable (stands_by snap records s replayed.stand (bytes_of new) (held_on old new snap records opened));
 }
 
 -- ---- version 1
@@ -141,34 +141,34 @@ holds_state : (file : List ℕ) (s : BenchState) → HoldsState file s → Stand
 holds_state file s held = stands_new file held.snap s held.spells held.holds
 
 -- the store was opened, and what it held was replaced or not
-migrates : (old mid new : DiskState) (snap : List ℕ) (records : List (List ℕ)) (s : BenchState) → IsLawful new → Opens old mid snap records → RecordsStandFor true snap records s
+migrates : (old mid new : DiskState) (snap : List ℕ) (records : List (List ℕ)) (s : BenchState) → Opens old mid snap records → RecordsStandFor true snap records s
     → LeavesOnly mid new (Either (λ c. Holds c snap records) (λ c. HoldsState c s)) → MayMigrate old new s
-migrates old mid new snap records s lawful opened stand moments =
-    leaves_then old mid new (Either (old.since old.clock) (λ file. StandsByEither file s)) lawful (rests_may old mid s opened.rests)
-    (leaves_map mid new (Either (λ c. Holds c snap records) (λ c. HoldsState c s)) (Either (old.since old.clock) (λ file. StandsByEither file s))
+migrates old mid new snap records s opened stand moments =
+    leaves_then old mid new (Either (images_since (time_of old) old) (λ file. StandsByEither file s)) (rests_may old mid s opened.rests)
+    (leaves_map mid new (Either (λ c. Holds c snap records) (λ c. HoldsState c s)) (Either (images_since (time_of old) old) (λ file. StandsByEither file s))
     (λ c. ⊎_elim (λ there. inr (inr (by_first c snap records s there stand))) (λ here. inr (inl (holds_state c s here)))) moments)
 
 -- a file of version 1, whose lifted state is the only thing on the disk
-pub migrated_session : (old mid new : DiskState) (snap : List ℕ) (records : List (List ℕ)) (cycles : ℕ) (s : BenchState) → IsLawful new → Opens old mid snap records → IsReplayed true snap records cycles s
-    → LeavesOnly mid new (Either (λ c. Holds c snap records) (λ c. HoldsState c s)) → HoldsState new.bytes s → IsDurable new → OpensSession old new s
-migrated_session old mid new snap records cycles s lawful opened replayed moments held durable = record {
-  stands = inr (by_first old.bytes snap records s opened.holds replayed.stand);
-  moments = migrates old mid new snap records s lawful opened replayed.stand moments;
+pub migrated_session : (old mid new : DiskState) (snap : List ℕ) (records : List (List ℕ)) (cycles : ℕ) (s : BenchState) → Opens old mid snap records → IsReplayed true snap records cycles s
+    → LeavesOnly mid new (Either (λ c. Holds c snap records) (λ c. HoldsState c s)) → HoldsState (bytes_of new) s → IsDurable new → OpensSession old new s
+migrated_session old mid new snap records cycles s opened replayed moments held durable = record {
+  stands = inr (by_first (bytes_of old) snap records s opened.holds replayed.stand);
+  moments = migrates old mid new snap records s opened replayed.stand moments;
   rests = λ last. absurd (of_last last);
   unwritten = λ last. absurd (of_last last);
   migrated = λ _. held;
-  at = at_of new s durable (holds_state new.bytes s held);
+  at = at_of new s durable (holds_state (bytes_of new) s held);
 }
   where
-    of_last : StandsFor old.bytes s → ⊥
+    of_last : StandsFor (bytes_of old) s → ⊥
     of_last last = not_both last.snap last.stand.start replayed.stand.snapshot.version_1 last.stand.snapshot (subst (λ (x : List ℕ). SpellsState1 x replayed.stand.snapshot.version_1) (sym (same_snap _ _ _ _ _ last.holds opened.holds)) replayed.stand.snapshot.spells)
 
-pub fails_migrating : (old mid new : DiskState) (snap : List ℕ) (records : List (List ℕ)) (cycles : ℕ) (s : BenchState) → IsLawful new → Opens old mid snap records → IsReplayed true snap records cycles s
+pub fails_migrating : (old mid new : DiskState) (snap : List ℕ) (records : List (List ℕ)) (cycles : ℕ) (s : BenchState) → Opens old mid snap records → IsReplayed true snap records cycles s
     → LeavesOnly mid new (Either (λ c. Holds c snap records) (λ c. HoldsState c s)) → FailsMigrating old new
-fails_migrating old mid new snap records cycles s lawful opened replayed moments = record {
+fails_migrating old mid new snap records cycles s opened replayed moments = record {
   state = s;
-  stands = by_first old.bytes snap records s opened.holds replayed.stand;
-  moments = migrates old mid new snap records s lawful opened replayed.stand moments;
+  stands = by_first (bytes_of old) snap records s opened.holds replayed.stand;
+  moments = migrates old mid new snap records s opened replayed.stand moments;
 }
 
 -- ---- what `open` refuses
@@ -191,18 +191,18 @@ one_state file s t a (inl b) = same_pair_state false a.snap b.snap a.records b.r
 one_state file s t a (inr b) = absurd (not_both a.snap a.stand.start b.stand.start a.stand.snapshot (subst (λ (x : List ℕ). SpellsState1 x b.stand.start) (same_snap _ _ _ _ _ b.holds a.holds) b.stand.snapshot))
 
 -- a disk that holds a pair has the size and the name of a session file
-pub is_session : (disk : DiskState) (snap : List ℕ) (records : List (List ℕ)) → IsLawful disk → Holds disk.bytes snap records → IsNoSession disk → ⊥
-is_session disk snap records lawful holds other = elim other [
-  | inl wrong ↦ wrong (sym (lawful.sized disk.bytes lawful.current) ∙ holds.size)
+pub is_session : (disk : DiskState) (snap : List ℕ) (records : List (List ℕ)) → Holds (bytes_of disk) snap records → IsNoSession disk → ⊥
+is_session disk snap records holds other = elim other [
+  | inl wrong ↦ wrong (sym (size_of-bytes disk) ∙ holds.size)
   | inr unnamed ↦ unnamed holds.name
 ]
 
 -- no state after the pair that was opened
-pub refuses_pair : (old new : DiskState) (snap : List ℕ) (records : List (List ℕ)) → IsLawful old → Opens old new snap records → ((v : Bool) (s : BenchState) → RecordsStandFor v snap records s → ⊥) → RefusesSession Damaged old × AddsNoImage old new
-refuses_pair old new snap records lawful opened none = (
+pub refuses_pair : (old new : DiskState) (snap : List ℕ) (records : List (List ℕ)) → Opens old new snap records → ((v : Bool) (s : BenchState) → RecordsStandFor v snap records s → ⊥) → RefusesSession Damaged old × AddsNoImage old new
+refuses_pair old new snap records opened none = (
   (
-    is_session old snap records lawful opened.holds,
-    λ s. ⊎_elim (λ stands. none false s (pair_of old.bytes snap records s opened.holds stands)) (λ version_1. none true s (first_of old.bytes snap records s opened.holds version_1)),
+    is_session old snap records opened.holds,
+    λ s. ⊎_elim (λ stands. none false s (pair_of (bytes_of old) snap records s opened.holds stands)) (λ version_1. none true s (first_of (bytes_of old) snap records s opened.holds version_1)),
   ),
   opened.rests,
 )
@@ -220,16 +220,16 @@ left_store Device old new h = inl h
 left_store NoMemory old new h = h
 
 -- what `begin` did with a log that was opened
-pub opened_by : (v : Bool) (old mid new : DiskState) (snap : List ℕ) (records : List (List ℕ)) (cycles : ℕ) (s : BenchState) → IsLawful new → WritesNothing old mid → Opens old mid snap records → IsReplayed v snap records cycles s
+pub opened_by : (v : Bool) (old mid new : DiskState) (snap : List ℕ) (records : List (List ℕ)) (cycles : ℕ) (s : BenchState) → WritesNothing old mid → Opens old mid snap records → IsReplayed v snap records cycles s
     → (v ≡ false → OpensSession old mid s → OpensSession old new s) → (v ≡ true → ReplacedContents mid new snap records s) → OpensSession old new s
-opened_by false old mid new snap records cycles s lawful unwritten opened replayed same replaced = same refl (opened_session old mid snap records cycles s unwritten opened replayed)
-opened_by true old mid new snap records cycles s lawful unwritten opened replayed same replaced =
-    let now = replaced refl in migrated_session old mid new snap records cycles s lawful opened replayed now.moments now.held now.durable
+opened_by false old mid new snap records cycles s unwritten opened replayed same replaced = same refl (opened_session old mid snap records cycles s unwritten opened replayed)
+opened_by true old mid new snap records cycles s unwritten opened replayed same replaced =
+    let now = replaced refl in migrated_session old mid new snap records cycles s opened replayed now.moments now.held now.durable
 
-pub failed_by : (v : Bool) (old mid new : DiskState) (snap : List ℕ) (records : List (List ℕ)) (cycles : ℕ) (s : BenchState) → v ≡ true → IsLawful new → Opens old mid snap records → IsReplayed v snap records cycles s
+pub failed_by : (v : Bool) (old mid new : DiskState) (snap : List ℕ) (records : List (List ℕ)) (cycles : ℕ) (s : BenchState) → v ≡ true → Opens old mid snap records → IsReplayed v snap records cycles s
     → MayReplaceContents mid new snap records s → FailsMigrating old new
-failed_by false old mid new snap records cycles s e lawful opened replayed moments = absurd (cc)
-failed_by true old mid new snap records cycles s e lawful opened replayed moments = fails_migrating old mid new snap records cycles s lawful opened replayed moments
+failed_by false old mid new snap records cycles s e opened replayed moments = absurd (cc)
+failed_by true old mid new snap records cycles s e opened replayed moments = fails_migrating old mid new snap records cycles s opened replayed moments
 
 pub refused_by : (fault : OpenFault) (old new : DiskState) → fault ≡ Device → FailsMigrating old new → RefusesSession fault old × RefusalLeaves fault old new
 refused_by fault old new e fails = rw e (tt, inr fails)
@@ -249,28 +249,28 @@ one_either file s t (inr a) (inl b) = sym (one_state file t s b (inr a))
 one_either file s t (inr a) (inr b) = one_first file s t a b
 
 -- a disk whose every image stands for a state by version 1
-pub stays_first : (old new : DiskState) (s u : BenchState) → MayMigrate old new u → u ≡ s → DiskStandsForLifted old s → DiskStandsSince old.clock new s
+pub stays_first : (old new : DiskState) (s u : BenchState) → MayMigrate old new u → u ≡ s → DiskStandsForLifted old s → DiskStandsSince (time_of old) new s
 stays_first old new s u moments same each image left = ⊎_elim (λ before. inr (each image before)) (λ now. subst (λ (x : BenchState). StandsByEither image x) same now) (moments.each image left)
 
-pub opens_first : (old new : DiskState) (s u : BenchState) → IsLawful old → DiskStandsForLifted old s → OpensSession old new u
-    → (u ≡ s) × (HoldsState new.bytes s × DiskStandsSince old.clock new s)
-opens_first old new s u lawful each opens =
-    let here : StandsForLifted old.bytes s = each old.bytes (lawful.counts_now old.clock old.bytes (omega arith) lawful.current) in
-    let same : u ≡ s = one_either old.bytes u s opens.stands (inr here) in
-    (same, (subst (HoldsState new.bytes) same (opens.migrated (subst (StandsForLifted old.bytes) (sym same) here)), stays_first old new s u opens.moments same each))
+pub opens_first : (old new : DiskState) (s u : BenchState) → DiskStandsForLifted old s → OpensSession old new u
+    → (u ≡ s) × (HoldsState (bytes_of new) s × DiskStandsSince (time_of old) new s)
+opens_first old new s u each opens =
+    let here : StandsForLifted (bytes_of old) s = each (bytes_of old) ((lawful old).counts_now (time_of old) (bytes_of old) (lawful old).current) in
+    let same : u ≡ s = one_either (bytes_of old) u s opens.stands (inr here) in
+    (same, (subst (HoldsState (bytes_of new)) same (opens.migrated (subst (StandsForLifted (bytes_of old)) (sym same) here)), stays_first old new s u opens.moments same each))
 
-fails_first : (old new : DiskState) (s : BenchState) → IsLawful old → DiskStandsForLifted old s → FailsMigrating old new → DiskStandsSince old.clock new s
-fails_first old new s lawful each fails =
-    let here : StandsForLifted old.bytes s = each old.bytes (lawful.counts_now old.clock old.bytes (omega arith) lawful.current) in
-    stays_first old new s fails.state fails.moments (one_first old.bytes fails.state s fails.stands here) each
+fails_first : (old new : DiskState) (s : BenchState) → DiskStandsForLifted old s → FailsMigrating old new → DiskStandsSince (time_of old) new s
+fails_first old new s each fails =
+    let here : StandsForLifted (bytes_of old) s = each (bytes_of old) ((lawful old).counts_now (time_of old) (bytes_of old) (lawful old).current) in
+    stays_first old new s fails.state fails.moments (one_first (bytes_of old) fails.state s fails.stands here) each
 
 -- what a refusal left, for whatever reason, is what was there or what stands for the same state
-rests_first : (old new : DiskState) (s : BenchState) → DiskStandsForLifted old s → AddsNoImage old new → DiskStandsSince old.clock new s
-rests_first old new s each rests image left = inr (each image (rests.nothing_else old.clock image (omega arith) left))
+rests_first : (old new : DiskState) (s : BenchState) → DiskStandsForLifted old s → AddsNoImage old new → DiskStandsSince (time_of old) new s
+rests_first old new s each rests image left = inr (each image (rests_since old new rests (time_of old) image left))
 
-pub refused_first : (fault : OpenFault) (old new : DiskState) (s : BenchState) → IsLawful old → DiskStandsForLifted old s → RefusalLeaves fault old new → DiskStandsSince old.clock new s
-refused_first NotASession old new s lawful each rests = rests_first old new s each rests
-refused_first Damaged old new s lawful each rests = rests_first old new s each rests
-refused_first Device old new s lawful each (inl rests) = rests_first old new s each rests
-refused_first Device old new s lawful each (inr fails) = fails_first old new s lawful each fails
-refused_first NoMemory old new s lawful each rests = rests_first old new s each rests
+pub refused_first : (fault : OpenFault) (old new : DiskState) (s : BenchState) → DiskStandsForLifted old s → RefusalLeaves fault old new → DiskStandsSince (time_of old) new s
+refused_first NotASession old new s each rests = rests_first old new s each rests
+refused_first Damaged old new s each rests = rests_first old new s each rests
+refused_first Device old new s each (inl rests) = rests_first old new s each rests
+refused_first Device old new s each (inr fails) = fails_first old new s each fails
+refused_first NoMemory old new s each rests = rests_first old new s each rests

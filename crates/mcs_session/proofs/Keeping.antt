@@ -1,9 +1,11 @@
 -- What a power cut leaves of two runs, one after the other.
 use Rattle.std.proofs.Common.{◌≡◌, inl, inr, ◌≤◌, ⊎_elim, ℕ, IsTrue, List, [], ◌∷◌, ◌++◌, sym, ap, ◌∙◌, refl, subst, arith}
 use Rattle.std.proofs.lemmas.Bool.{cases_lt}
-use Rattle.mcs_disk.specs.Disk.{DiskState, IsLawful}
-use Rattle.mcs_disk.specs.Moments.{LeavesOnly, KeepsEarlierImages, IsUntouched}
-use Rattle.mcs_disk.proofs.Composing.{leaves_then}
+use Rattle.mcs_disk.proofs.CallLaws.{lawful}
+use Rattle.mcs_disk.specs.Disk.{DiskState, IsLater, bytes_of, time_of, images_since}
+use Rattle.mcs_disk.specs.Calls.{DiskCall, bytes_after, clock_of, since_after}
+use Rattle.mcs_disk.specs.Moments.{IsUntouched}
+use Rattle.mcs_disk.proofs.Composing.{later_then, later_time, later_before}
 use Rattle.mcs_model.specs.declared.command.Command.{Command}
 use Rattle.mcs_model.specs.BenchState.{BenchState}
 use Rattle.mcs_model.specs.Command.{after}
@@ -24,33 +26,33 @@ use Rattle.mcs_session.proofs.Prefixes.{acknowledged-append, acknowledged_all, a
 abbrev both : (d e f : DiskState) (s : BenchState) (cs ds : List Command) → KeepsAllCommands d e s cs → Acknowledgements e f ds → Acknowledgements d f (cs ++ ds)
 both d e f s cs ds a b =
     let first = a.kept.acknowledged in
-    let later : b.log ≡ use_after_all first.log cs = same_use e.bytes b.log (use_after_all first.log cs) b.uses a.used in
-    let whole : last_moment d.clock (first.moments ++ b.moments) ≡ last_moment e.clock b.moments = last_append d.clock first.moments b.moments ∙ ap (λ (c : ℕ). last_moment c b.moments) (sym a.now) in
+    let later : b.log ≡ use_after_all first.log cs = same_use (bytes_of e) b.log (use_after_all first.log cs) b.uses a.used in
+    let whole : last_moment (time_of d) (first.moments ++ b.moments) ≡ last_moment (time_of e) b.moments = last_append (time_of d) first.moments b.moments ∙ ap (λ (c : ℕ). last_moment c b.moments) (sym a.now) in
     record {
       log = first.log;
       uses = first.uses;
       moments = first.moments ++ b.moments;
-      timed = timed_more d.clock e.clock first.log cs ds first.moments b.moments first.timed a.now (b.timed ∙ ap (λ (log : LogUse). moments_of e.clock log ds) later);
+      timed = timed_more (time_of d) (time_of e) first.log cs ds first.moments b.moments first.timed a.now (b.timed ∙ ap (λ (log : LogUse). moments_of (time_of e) log ds) later);
       within = omega (arith, whole, b.within);
     }
 
 -- the images since a time of the first run, and those since a time of the second
 each_more : (d e f : DiskState) (s t : BenchState) (cs done ds : List Command) (a : KeepsAllCommands d e s cs) → t ≡ fold s cs → (b : KeepsCommands e f t done ds)
-    → (u : ℕ) (image : List ℕ) → d.clock ≤ u → f.since u image → StandsForPrefix s (cs ++ ds) (acknowledged_by u (a.kept.acknowledged.moments ++ b.acknowledged.moments)) image
+    → (u : ℕ) (image : List ℕ) → time_of d ≤ u → images_since u f image → StandsForPrefix s (cs ++ ds) (acknowledged_by u (a.kept.acknowledged.moments ++ b.acknowledged.moments)) image
 each_more d e f s t cs done ds a same b u image le now =
     let ms = a.kept.acknowledged.moments in
     let ns = b.acknowledged.moments in
     let sum = acknowledged-append u ms ns in
     let few = acknowledged_few u ms in
     let count = counted d e cs a.kept.acknowledged in
-    elim (cases_lt e.clock u) [
+    elim (cases_lt (time_of e) u) [
       | inl later ↦ prefix_past s t cs ds _ (acknowledged_by u ns) image same (omega (arith, sum, few, count)) (b.each u image (omega (arith, later)) now)
       | inr early ↦
-          let none = acknowledged_none u e.clock ns early (rising e f done b.acknowledged) in
+          let none = acknowledged_none u (time_of e) ns early (rising e f done b.acknowledged) in
           let first : acknowledged_by u (ms ++ ns) ≡ acknowledged_by u ms = omega (arith, sum, none) in
-          elim (b.stretch.before u image early now) [
+          elim (later_before e f b.stretch u image now) [
             | inl old ↦ rw first (prefix_more s cs ds (acknowledged_by u ms) image (a.kept.each u image le old))
-            | inr new ↦ prefix_past s t cs ds _ (acknowledged_by e.clock ns) image same (omega (arith, first, few, count)) (b.each e.clock image (omega arith) new)
+            | inr new ↦ prefix_past s t cs ds _ (acknowledged_by (time_of e) ns) image same (omega (arith, first, few, count)) (b.each (time_of e) image (omega arith) new)
           ]
     ]
 
@@ -58,8 +60,7 @@ pub kept_more : (d e f : DiskState) (s t : BenchState) (cs done ds : List Comman
 kept_more d e f s t cs done ds a same b = record {
   acknowledged = both d e f s cs done a b.acknowledged;
   each = each_more d e f s t cs done ds a same b;
-  stretch = leaves_then d e f (λ c. Unit {0}) b.lawful a.kept.stretch b.stretch;
-  lawful = b.lawful;
+  stretch = later_then d e f a.kept.stretch b.stretch;
 }
 
 pub whole_more : (d e f : DiskState) (s t : BenchState) (cs ds : List Command) → KeepsAllCommands d e s cs → t ≡ fold s cs → KeepsAllCommands e f t ds → KeepsAllCommands d f s (cs ++ ds)
@@ -67,11 +68,11 @@ unfolding kept_more
 whole_more d e f s t cs ds a same b =
     let first = a.kept.acknowledged in
     let then = b.kept.acknowledged in
-    let later : then.log ≡ use_after_all first.log cs = same_use e.bytes then.log (use_after_all first.log cs) then.uses a.used in
+    let later : then.log ≡ use_after_all first.log cs = same_use (bytes_of e) then.log (use_after_all first.log cs) then.uses a.used in
     record {
       kept = kept_more d e f s t cs ds ds a same b.kept;
-      now = b.now ∙ ap (λ (c : ℕ). last_moment c then.moments) a.now ∙ sym (last_append d.clock first.moments then.moments);
-      used = subst (UsesLog f.bytes) (ap (λ (log : LogUse). use_after_all log ds) later ∙ sym (use_append first.log cs ds)) b.used;
+      now = b.now ∙ ap (λ (c : ℕ). last_moment c then.moments) a.now ∙ sym (last_append (time_of d) first.moments then.moments);
+      used = subst (UsesLog (bytes_of f)) (ap (λ (log : LogUse). use_after_all log ds) later ∙ sym (use_append first.log cs ds)) b.used;
     }
 
 -- after a run in which no call failed
@@ -80,69 +81,60 @@ settled_after d e s t cs same a = record {
   at = λ image now.
       let ms = a.kept.acknowledged.moments in
       let rises = rising d e cs a.kept.acknowledged in
-      let behind = rising_le d.clock ms rises in
+      let behind = rising_le (time_of d) ms rises in
       let last = a.now in
-      let all = acknowledged_all e.clock d.clock ms (omega (arith, last)) rises in
+      let all = acknowledged_all (time_of e) (time_of d) ms (omega (arith, last)) rises in
       let count = counted d e cs a.kept.acknowledged in
-      rw same (prefix_all s cs (acknowledged_by e.clock ms) image (omega (arith, all, count)) (a.kept.each e.clock image (omega (arith, behind, last)) now));
-  lawful = a.kept.lawful;
+      rw same (prefix_all s cs (acknowledged_by (time_of e) ms) image (omega (arith, all, count)) (a.kept.each (time_of e) image (omega (arith, behind, last)) now));
 }
 
-pub settle : (d : DiskState) (s : BenchState) → IsLawful d → DiskStandsFor d s → IsIntactAt d s
-settle d s lawful at = record { at = at; lawful = lawful }
+pub settle : (d : DiskState) (s : BenchState) → DiskStandsFor d s → IsIntactAt d s
+settle d s at = record { at = at }
 
 -- ---- no command
 
-goes_nowhere : (d e : DiskState) → IsUntouched d e → KeepsEarlierImages d e
-goes_nowhere d e a = record {
-  later = record { clock = omega (arith, a.clock); keeps = λ u image early now. (a.since u image).1 now };
-  each = λ image now. tt;
-  before = λ u image early now. inl ((a.since u image).0 now);
-}
+goes_nowhere : (d e : DiskState) → IsUntouched d e → IsLater d e
+goes_nowhere d e a = record { start = a.start; added = []; all = a.calls }
 
 pub stays : (d : DiskState) → IsUntouched d d
-stays d = record { calls = refl; bytes = refl; clock = refl; images = λ image. (λ now. now, λ now. now); since = λ u image. (λ now. now, λ now. now) }
+stays d = record { start = refl; calls = refl }
 
 stays_more : (d e f : DiskState) → IsUntouched d e → IsUntouched e f → IsUntouched d f
 stays_more d e f x y = record {
   calls = y.calls ∙ x.calls;
-  bytes = y.bytes ∙ x.bytes;
-  clock = y.clock ∙ x.clock;
-  images = λ image. (λ now. (x.images image).0 ((y.images image).0 now), λ now. (y.images image).1 ((x.images image).1 now));
-  since = λ u image. (λ now. (x.since u image).0 ((y.since u image).0 now), λ now. (y.since u image).1 ((x.since u image).1 now));
+  start = y.start ∙ x.start;
 }
 
 -- what a read gives is left by a power cut, too
-pub stands_now : (d : DiskState) (s : BenchState) → IsIntactAt d s → StandsFor d.bytes s
-stands_now d s h = h.at d.bytes (h.lawful.counts_now d.clock d.bytes (omega arith) h.lawful.current)
+pub stands_now : (d : DiskState) (s : BenchState) → IsIntactAt d s → StandsFor (bytes_of d) s
+stands_now d s h = h.at (bytes_of d) ((lawful d).counts_now (time_of d) (bytes_of d) (lawful d).current)
 
 -- nothing was acknowledged
-none_acknowledged : (d e : DiskState) (s : BenchState) → StandsFor d.bytes s → d.clock ≤ e.clock → Acknowledgements d e []
+none_acknowledged : (d e : DiskState) (s : BenchState) → StandsFor (bytes_of d) s → time_of d ≤ time_of e → Acknowledgements d e []
 none_acknowledged d e s stands le = record {
-  log = log_in d.bytes s stands;
-  uses = stands_uses d.bytes s stands;
+  log = log_in (bytes_of d) s stands;
+  uses = stands_uses (bytes_of d) s stands;
   moments = [];
   timed = refl;
   within = le;
 }
 
-pub stays_keeps : (d e : DiskState) (s : BenchState) → IsUntouched d e → IsIntactAt d s → IsLawful e → KeepsAllCommands d e s []
+pub stays_keeps : (d e : DiskState) (s : BenchState) → IsUntouched d e → IsIntactAt d s → KeepsAllCommands d e s []
 unfolding none_acknowledged
-stays_keeps d e s a h lawful =
+stays_keeps d e s a h =
     let stands = stands_now d s h in
     record {
       kept = record {
-        acknowledged = none_acknowledged d e s stands (omega (arith, a.clock));
-        each = λ u image le now. prefix_none s [] image (h.at image (h.lawful.longer d.clock u image le ((a.since u image).0 now)));
+        acknowledged = none_acknowledged d e s stands (later_time d e (goes_nowhere d e a));
+        each = λ u image le now. prefix_none s [] image (h.at image ((lawful d).longer (time_of d) u image le (subst (λ (x : List DiskCall). since_after d.start x u image) a.calls (subst (λ (x : List ℕ). since_after x e.calls u image) a.start now))));
         stretch = goes_nowhere d e a;
-        lawful = lawful;
       };
-      now = a.clock;
-      used = subst (λ (file : List ℕ). UsesLog file (log_in d.bytes s stands)) (sym a.bytes) (stands_uses d.bytes s stands);
+      now = ap clock_of a.calls;
+      used = subst (λ (file : List ℕ). UsesLog file (log_in (bytes_of d) s stands)) (sym (λ k. bytes_after (a.start k) (a.calls k))) (stands_uses (bytes_of d) s stands);
     }
 
 pub whole_nothing : (d : DiskState) (s : BenchState) → IsIntactAt d s → KeepsAllCommands d d s []
-whole_nothing d s h = stays_keeps d d s (stays d) h h.lawful
+whole_nothing d s h = stays_keeps d d s (stays d) h
 
 -- ---- sessions
 
@@ -172,45 +164,39 @@ carries_more a b c cs ds x y = record {
 
 -- ---- one command
 
--- a stretch, whatever it leaves
-goes_on : (d e : DiskState) (P : List ℕ → Type 0) → LeavesOnly d e P → KeepsEarlierImages d e
-goes_on d e P a = record { later = a.later; each = λ image now. tt; before = a.before }
-
-pub acknowledged_keeps : (d e : DiskState) (s : BenchState) (c : Command) → AcknowledgesCommand d e s c → IsLawful e → KeepsAllCommands d e s (c ∷ [])
-acknowledged_keeps d e s c a lawful = record {
+pub acknowledged_keeps : (d e : DiskState) (s : BenchState) (c : Command) → AcknowledgesCommand d e s c → KeepsAllCommands d e s (c ∷ [])
+acknowledged_keeps d e s c a = record {
   kept = record {
     acknowledged = record {
       log = a.log;
       uses = a.uses;
-      moments = e.clock ∷ [];
+      moments = time_of e ∷ [];
       timed = ap (λ (m : ℕ). m ∷ []) a.ticks;
       within = omega arith;
     };
-    each = λ u image le now. elim (cases_lt u e.clock) [
+    each = λ u image le now. elim (cases_lt u (time_of e)) [
       | inl early ↦
-          let none : acknowledged_by u (e.clock ∷ []) ≡ 0 = acknowledged_before u e.clock early in
+          let none : acknowledged_by u (time_of e ∷ []) ≡ 0 = acknowledged_before u (time_of e) early in
           ⊎_elim
           (λ (old : StandsFor image s). rw none (prefix_none s (c ∷ []) image old))
-          (λ (new : StandsFor image (after s c)). prefix_one s (after s c) c _ image refl (acknowledged_few u (e.clock ∷ [])) new)
-          (a.moments.each image (lawful.longer d.clock u image le now))
-      | inr late ↦ prefix_one s (after s c) c _ image refl (acknowledged_few u (e.clock ∷ [])) (a.now image (lawful.longer e.clock u image late now))
+          (λ (new : StandsFor image (after s c)). prefix_one s (after s c) c _ image refl (acknowledged_few u (time_of e ∷ [])) new)
+          (a.moments.each image ((lawful e).longer (time_of d) u image le now))
+      | inr late ↦ prefix_one s (after s c) c _ image refl (acknowledged_few u (time_of e ∷ [])) (a.now image ((lawful e).longer (time_of e) u image late now))
     ];
-    stretch = goes_on d e _ a.moments;
-    lawful = lawful;
+    stretch = a.moments.later;
   };
   now = refl;
   used = a.used;
 }
 
-pub failed_keeps : (d e : DiskState) (s : BenchState) (c : Command) → IsIntactAt d s → LeavesEitherState d e s (after s c) → IsLawful e → KeepsCommands d e s [] (c ∷ [])
+pub failed_keeps : (d e : DiskState) (s : BenchState) (c : Command) → IsIntactAt d s → LeavesEitherState d e s (after s c) → KeepsCommands d e s [] (c ∷ [])
 unfolding none_acknowledged
-failed_keeps d e s c h a lawful = record {
-  acknowledged = none_acknowledged d e s (stands_now d s h) a.later.clock;
+failed_keeps d e s c h a = record {
+  acknowledged = none_acknowledged d e s (stands_now d s h) (later_time d e a.later);
   each = λ u image le now.
       ⊎_elim
       (λ (old : StandsFor image s). prefix_none s (c ∷ []) image old)
       (λ (new : StandsFor image (after s c)). prefix_one s (after s c) c 0 image refl (omega arith) new)
-      (a.each image (lawful.longer d.clock u image le now));
-  stretch = goes_on d e _ a;
-  lawful = lawful;
+      (a.each image ((lawful e).longer (time_of d) u image le now));
+  stretch = a.later;
 }

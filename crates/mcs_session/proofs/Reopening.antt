@@ -1,6 +1,7 @@
 -- What is found after a power cut, and what one at the end leaves.
 use Rattle.std.proofs.Common.{◌≡◌, ◌⊎◌, inl, inr, ◌+◌, ◌≤◌, ℕ, List, length, subst, refl, arith, slice_get, Some}
-use Rattle.mcs_disk.specs.Disk.{DiskState, IsLawful}
+use Rattle.mcs_disk.proofs.CallLaws.{lawful}
+use Rattle.mcs_disk.specs.Disk.{DiskState, bytes_of, time_of, images_of, images_since}
 use Rattle.mcs_disk.specs.PowerCut.{IsLeftByCut}
 use Rattle.mcs_journal.specs.declared.fault.OpenFault.{OpenFault}
 use Rattle.mcs_journal.specs.declared.fault.OpenFault.TheVariants.{NotASession, Damaged, Device, NoMemory}
@@ -15,38 +16,38 @@ use Rattle.mcs_session.proofs.Prefixes.{acknowledged_all, acknowledged_at, prefi
 use Rattle.mcs_session.proofs.Using.{counted, rising}
 use Rattle.mcs_session.proofs.Files.{is_session, one_state}
 
-pub reopened : (t : ℕ) (old new found opened : DiskState) (s u : BenchState) (done reached : List Command) (kept : KeepsCommands old new s done reached) → old.clock ≤ t
+pub reopened : (t : ℕ) (old new found opened : DiskState) (s u : BenchState) (done reached : List Command) (kept : KeepsCommands old new s done reached) → time_of old ≤ t
     → IsLeftByCut t new found → OpensSession found opened u → IsAfterPrefix s reached (acknowledged_by t kept.acknowledged.moments) u
 reopened t old new found opened s u done reached kept le cut opens =
-    let there = kept.each t found.bytes le cut.found in
-    subst (λ (v : BenchState). IsAfterPrefix s reached (acknowledged_by t kept.acknowledged.moments) v) (one_state found.bytes there.state u there.stands opens.stands) there.after
+    let there = kept.each t (bytes_of found) le cut.found in
+    subst (λ (v : BenchState). IsAfterPrefix s reached (acknowledged_by t kept.acknowledged.moments) v) (one_state (bytes_of found) there.state u there.stands opens.stands) there.after
 
-pub not_refused : (fault : OpenFault) (disk : DiskState) (s : BenchState) → IsLawful disk → StandsFor disk.bytes s → RefusesSession fault disk → (fault ≡ Device) ⊎ (fault ≡ NoMemory)
-not_refused NotASession disk s lawful stands h = absurd (is_session disk stands.snap stands.records lawful stands.holds h)
-not_refused Damaged disk s lawful stands h = absurd (h.1 s (inl stands))
-not_refused Device disk s lawful stands h = inl refl
-not_refused NoMemory disk s lawful stands h = inr refl
+pub not_refused : (fault : OpenFault) (disk : DiskState) (s : BenchState) → StandsFor (bytes_of disk) s → RefusesSession fault disk → (fault ≡ Device) ⊎ (fault ≡ NoMemory)
+not_refused NotASession disk s stands h = absurd (is_session disk stands.snap stands.records stands.holds h)
+not_refused Damaged disk s stands h = absurd (h.1 s (inl stands))
+not_refused Device disk s stands h = inl refl
+not_refused NoMemory disk s stands h = inr refl
 
-pub found_is_opened : (t : ℕ) (old new found : DiskState) (s : BenchState) (done reached : List Command) (fault : OpenFault) → KeepsCommands old new s done reached → old.clock ≤ t
-    → IsLeftByCut t new found → IsLawful found → RefusesSession fault found → (fault ≡ Device) ⊎ (fault ≡ NoMemory)
-found_is_opened t old new found s done reached fault kept le cut lawful h =
-    let there = kept.each t found.bytes le cut.found in not_refused fault found there.state lawful there.stands h
+pub found_is_opened : (t : ℕ) (old new found : DiskState) (s : BenchState) (done reached : List Command) (fault : OpenFault) → KeepsCommands old new s done reached → time_of old ≤ t
+    → IsLeftByCut t new found → RefusesSession fault found → (fault ≡ Device) ⊎ (fault ≡ NoMemory)
+found_is_opened t old new found s done reached fault kept le cut h =
+    let there = kept.each t (bytes_of found) le cut.found in not_refused fault found there.state there.stands h
 
 pub since_moment : (old new : DiskState) (s : BenchState) (done reached : List Command) (kept : KeepsCommands old new s done reached) (j moment : ℕ) (image : List ℕ)
-    → slice_get kept.acknowledged.moments j ≡ Some moment → new.since moment image → StandsForPrefix s reached (j + 1) image
+    → slice_get kept.acknowledged.moments j ≡ Some moment → images_since moment new image → StandsForPrefix s reached (j + 1) image
 since_moment old new s done reached kept j moment image e now =
-    let by = acknowledged_at old.clock kept.acknowledged.moments j moment e (rising old new done kept.acknowledged) in
+    let by = acknowledged_at (time_of old) kept.acknowledged.moments j moment e (rising old new done kept.acknowledged) in
     prefix_fewer s reached (j + 1) (acknowledged_by moment kept.acknowledged.moments) image by.1 (kept.each moment image by.0 now)
 
-pub at_end : (old new : DiskState) (s : BenchState) (done reached : List Command) (image : List ℕ) → KeepsCommands old new s done reached → new.images image → StandsForPrefix s reached (length done) image
+pub at_end : (old new : DiskState) (s : BenchState) (done reached : List Command) (image : List ℕ) → KeepsCommands old new s done reached → images_of new image → StandsForPrefix s reached (length done) image
 at_end old new s done reached image kept now =
     let rises = rising old new done kept.acknowledged in
-    let behind = rising_le old.clock kept.acknowledged.moments rises in
+    let behind = rising_le (time_of old) kept.acknowledged.moments rises in
     let within = kept.acknowledged.within in
     let count = counted old new done kept.acknowledged in
-    let all = acknowledged_all new.clock old.clock kept.acknowledged.moments within rises in
-    prefix_fewer s reached (length done) (acknowledged_by new.clock kept.acknowledged.moments) image (omega (arith, all, count))
-    (kept.each new.clock image (omega (arith, behind, within)) (kept.lawful.counts_now new.clock image (omega arith) now))
+    let all = acknowledged_all (time_of new) (time_of old) kept.acknowledged.moments within rises in
+    prefix_fewer s reached (length done) (acknowledged_by (time_of new) kept.acknowledged.moments) image (omega (arith, all, count))
+    (kept.each (time_of new) image (omega (arith, behind, within)) ((lawful new).counts_now (time_of new) image now))
 
-pub whole_at_end : (old new : DiskState) (s : BenchState) (cs : List Command) (image : List ℕ) → KeepsCommands old new s cs cs → new.images image → StandsFor image (fold s cs)
+pub whole_at_end : (old new : DiskState) (s : BenchState) (cs : List Command) (image : List ℕ) → KeepsCommands old new s cs cs → images_of new image → StandsFor image (fold s cs)
 whole_at_end old new s cs image kept now = prefix_all s cs (length cs) image (omega arith) (at_end old new s cs cs image kept now)

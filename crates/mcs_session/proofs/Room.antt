@@ -1,7 +1,7 @@
 -- Room for a record, a snapshot where there is none, and the record after it.
 use Rattle.std.proofs.Common.{◌≡◌, ◌+◌, ◌≤◌, inl, inr, ⊎_elim, IsTrue, Result, Ok, Err, OnOk, is_ok, List, [], ◌∷◌, ◌++◌, ℕ, Bool, true, false, if◌then◌else◌, None, sym, ap, ◌∙◌, subst, refl, arith, length}
 use Rattle.std.proofs.lemmas.Grind.{common_steps}
-use Rattle.mcs_disk.specs.Disk.{DiskState, IsLawful}
+use Rattle.mcs_disk.specs.Disk.{DiskState, bytes_of, time_of}
 use Rattle.mcs_disk.specs.Moments.{Changes, Either, IsDurable, LeavesOnly}
 use Rattle.mcs_disk.proofs.Composing.{leaves_map, leaves_then, no_later}
 use Rattle.mcs_journal.specs.File.{HasRoom, Holds, frames_of}
@@ -46,7 +46,6 @@ pub leaves_same : (disk : DiskState) (cycles : ℕ) (s : BenchState) → IsRecor
 leaves_same disk cycles s was = record {
   later = no_later disk;
   each = at_of disk s was.durable was.stands;
-  before = λ t c le left. inl left;
 }
 
 pub room_there : (disk : DiskState) (used bytes more cycles : ℕ) (s : BenchState) (c : Command) (was : IsRecorded disk cycles s) → used ≡ length (frames_of was.stands.records)
@@ -55,11 +54,11 @@ room_there disk used bytes more cycles s c was is room few is_long is_more =
     let log = log_on disk cycles s was in
     let uses = recorded_uses disk cycles s was in
     let yes : has_room_for log c ≡ true = has_room log c (omega (arith, is, room, is_long), omega (arith, few, is_more)) in
-    let P : Bool → Type 0 = λ b. UsesLog disk.bytes (if b then log else empty_log) in
+    let P : Bool → Type 0 = λ b. UsesLog (bytes_of disk) (if b then log else empty_log) in
     record {
       log = log;
       uses = uses;
-      ticks = ap (λ (b : Bool). disk.clock + (if b then 4 else 8)) (sym yes);
+      ticks = ap (λ (b : Bool). time_of disk + (if b then 4 else 8)) (sym yes);
       used = subst P (sym yes) uses;
       recorded = was;
     }
@@ -80,13 +79,13 @@ pub room_made : {T E : Type 0} (result : Result T E) (old new : DiskState) (used
 room_made (Ok x) old new used used' bytes more cycles cycles' s c was is none changes empty is_long is_more =
     let log = log_on old cycles s was in
     let no : has_room_for log c ≡ false = has_no_room log c (λ room. let fits = room.0 in let few = room.1 in none (omega (arith, fits, is, is_long)) (omega (arith, few, is_more))) in
-    let P : Bool → Type 0 = λ b. UsesLog new.bytes (if b then log else empty_log) in
+    let P : Bool → Type 0 = λ b. UsesLog (bytes_of new) (if b then log else empty_log) in
     let four = changes.ticks in
     record {
       log = log;
       uses = recorded_uses old cycles s was;
-      ticks = let eight : new.clock + 4 ≡ old.clock + 8 = omega (arith, four) in eight ∙ ap (λ (b : Bool). old.clock + (if b then 4 else 8)) (sym no);
-      used = subst P (sym no) (empty_uses new.bytes s changes.after);
+      ticks = let eight : time_of new + 4 ≡ time_of old + 8 = omega (arith, four) in eight ∙ ap (λ (b : Bool). time_of old + (if b then 4 else 8)) (sym no);
+      used = subst P (sym no) (empty_uses (bytes_of new) s changes.after);
       recorded = recorded_there (Ok x) old new used' cycles cycles' s was refl changes empty;
     }
 room_made (Err e) old new used used' bytes more cycles cycles' s c was is none changes empty is_long is_more = tt
@@ -100,13 +99,13 @@ leaves_state old new cycles s was moments =
 
 -- the snapshot is there, in the place of the records
 pub settles : (old new : DiskState) (cycles : ℕ) (s : BenchState) (was : IsRecorded old cycles s)
-    → LeavesOnly old new (Either (λ c. Holds c was.stands.snap was.stands.records) (λ c. HoldsState c s)) → HoldsState new.bytes s → IsDurable new → new.clock ≡ old.clock + 4 → SettlesSession old new s
+    → LeavesOnly old new (Either (λ c. Holds c was.stands.snap was.stands.records) (λ c. HoldsState c s)) → HoldsState (bytes_of new) s → IsDurable new → time_of new ≡ time_of old + 4 → SettlesSession old new s
 settles old new cycles s was moments held durable ticks = record {
   stood = was.stands;
   holds = held;
   moments = leaves_state old new cycles s was moments;
   ticks = ticks;
-  now = at_of new s durable (stands_new new.bytes held.snap s held.spells held.holds);
+  now = at_of new s durable (stands_new (bytes_of new) held.snap s held.spells held.holds);
 }
 
 -- ---- the record
@@ -117,26 +116,26 @@ leaves_before old new s t moments = leaves_map old new (λ file. StandsFor file 
 
 -- a record is written after those that are there
 pub appended : (old mid new : DiskState) (cycles : ℕ) (s : BenchState) (c : Command) (r : List ℕ) (was : IsRecorded mid cycles s) → Spells r c → refusal s c ≡ None
-    → cycles + replay_cycles c ≤ REPLAY_CYCLES → IsLawful new → LeavesOnly old mid (λ file. StandsFor file s)
+    → cycles + replay_cycles c ≤ REPLAY_CYCLES → LeavesOnly old mid (λ file. StandsFor file s)
     → LeavesOnly mid new (Either (λ f. Holds f was.stands.snap was.stands.records) (λ f. Holds f was.stands.snap (was.stands.records ++ r ∷ []))) → LeavesEitherState old new s (after s c)
-appended old mid new cycles s c r was spells accepted few lawful first moments =
+appended old mid new cycles s c r was spells accepted few first moments =
     let count = was.count in
     let more = pair_more false was.stands.snap r was.stands.records s c was.stands.stand spells accepted (omega (arith, count, few)) in
-    leaves_then old mid new (Either (λ file. StandsFor file s) (λ file. StandsFor file (after s c))) lawful (leaves_before old mid s (after s c) first)
+    leaves_then old mid new (Either (λ file. StandsFor file s) (λ file. StandsFor file (after s c))) (leaves_before old mid s (after s c) first)
     (leaves_map mid new (Either (λ f. Holds f was.stands.snap was.stands.records) (λ f. Holds f was.stands.snap (was.stands.records ++ r ∷ []))) (Either (λ file. StandsFor file s) (λ file. StandsFor file (after s c)))
     (λ f. ⊎_elim (λ there. inl (stands_by was.stands.snap was.stands.records s was.stands.stand f there)) (λ here. inr (stands_by was.stands.snap (was.stands.records ++ r ∷ []) (after s c) more f here))) moments)
 
 -- what is recorded then
 pub recorded_more : (old new : DiskState) (cycles more : ℕ) (s : BenchState) (c : Command) (r : List ℕ) (was : IsRecorded old cycles s) → Spells r c → refusal s c ≡ None → more ≡ replay_cycles c
-    → cycles + more ≤ REPLAY_CYCLES → IsDurable new → Holds new.bytes was.stands.snap (was.stands.records ++ r ∷ []) → IsRecorded new (cycles + more) (after s c)
+    → cycles + more ≤ REPLAY_CYCLES → IsDurable new → Holds (bytes_of new) was.stands.snap (was.stands.records ++ r ∷ []) → IsRecorded new (cycles + more) (after s c)
 recorded_more old new cycles more s c r was spells accepted is few durable held =
     let so_far : IsReplayed false was.stands.snap was.stands.records cycles s = record { stand = was.stands.stand; count = was.count } in
     let replayed = replayed_more false was.stands.snap r was.stands.records cycles more s c so_far spells accepted is few in
     record { durable = durable; stands = record { snap = was.stands.snap; records = was.stands.records ++ r ∷ []; holds = held; stand = replayed.stand }; count = replayed.count }
 
 -- the steps of both, and the log then
-pub acknowledged : (old mid new : DiskState) (cycles cycles' : ℕ) (s : BenchState) (c : Command) (r : List ℕ) → LeavesEitherState old new s (after s c) → (made : HasMadeRoom old mid c cycles s) → new.clock ≡ mid.clock + 4 → IsRecorded new cycles' (after s c)
-    → Spells r c → refusal s c ≡ None → cycles + replay_cycles c ≤ REPLAY_CYCLES → Holds new.bytes made.recorded.stands.snap (made.recorded.stands.records ++ r ∷ []) → AcknowledgesCommand old new s c
+pub acknowledged : (old mid new : DiskState) (cycles cycles' : ℕ) (s : BenchState) (c : Command) (r : List ℕ) → LeavesEitherState old new s (after s c) → (made : HasMadeRoom old mid c cycles s) → time_of new ≡ time_of mid + 4 → IsRecorded new cycles' (after s c)
+    → Spells r c → refusal s c ≡ None → cycles + replay_cycles c ≤ REPLAY_CYCLES → Holds (bytes_of new) made.recorded.stands.snap (made.recorded.stands.records ++ r ∷ []) → AcknowledgesCommand old new s c
 acknowledged old mid new cycles cycles' s c r moments made tick was spells accepted few held = record {
   moments = moments;
   log = made.log;

@@ -3,7 +3,7 @@ use Rattle.std.proofs.Common.{◌≡◌, ◌⊎◌, inl, inr, ◌+◌, ◌≤◌
 use Rattle.std.proofs.lemmas.Bool.{cases_lt, le-leb, lt-leb, lt-ltb, le-ltb}
 use Rattle.mcs_codec.specs.Codec.{Spells}
 use Rattle.mcs_codec.specs.CommandBytes.{command_bytes}
-use Rattle.mcs_disk.specs.Disk.{DiskState}
+use Rattle.mcs_disk.specs.Disk.{DiskState, bytes_of, time_of}
 use Rattle.mcs_journal.specs.File.{HasRoom, Holds, frame_of, frames_of}
 use Rattle.mcs_journal.specs.declared.format.TheConstants.{LOG_SIZE}
 use Rattle.mcs_journal.proofs.Logs.{length-framed, spelled-push}
@@ -43,7 +43,7 @@ stands_uses file s stands = record { state = s; stands = stands; bytes = refl; c
 abbrev pub log_on : (disk : DiskState) (cycles : ℕ) (s : BenchState) → IsRecorded disk cycles s → LogUse
 log_on disk cycles s was = record { bytes = length (frames_of was.stands.records); cycles = cycles }
 
-pub recorded_uses : (disk : DiskState) (cycles : ℕ) (s : BenchState) (was : IsRecorded disk cycles s) → UsesLog disk.bytes (log_on disk cycles s was)
+pub recorded_uses : (disk : DiskState) (cycles : ℕ) (s : BenchState) (was : IsRecorded disk cycles s) → UsesLog (bytes_of disk) (log_on disk cycles s was)
 recorded_uses disk cycles s was = record { state = s; stands = was.stands; bytes = refl; cycles = was.count }
 
 -- ---- room
@@ -76,11 +76,11 @@ has_no_room log c none = elim (decide log c) [ inl there ↦ absurd (none there.
 -- ---- one more record
 
 pub record_uses : (mid new : DiskState) (cycles : ℕ) (s : BenchState) (c : Command) (r : List ℕ) (was : IsRecorded mid cycles s) → Spells r c → refusal s c ≡ None → cycles + replay_cycles c ≤ REPLAY_CYCLES
-    → Holds new.bytes was.stands.snap (was.stands.records ++ r ∷ []) → (log : LogUse) → UsesLog mid.bytes log → UsesLog new.bytes (with_record log c)
+    → Holds (bytes_of new) was.stands.snap (was.stands.records ++ r ∷ []) → (log : LogUse) → UsesLog (bytes_of mid) log → UsesLog (bytes_of new) (with_record log c)
 record_uses mid new cycles s c r was spells accepted few held log uses =
     let so_far : IsReplayed false was.stands.snap was.stands.records cycles s = record { stand = was.stands.stand; count = was.count } in
     let replayed = replayed_more false was.stands.snap r was.stands.records cycles (replay_cycles c) s c so_far spells accepted refl few in
-    let same : log ≡ log_on mid cycles s was = same_use mid.bytes log (log_on mid cycles s was) uses (recorded_uses mid cycles s was) in
+    let same : log ≡ log_on mid cycles s was = same_use (bytes_of mid) log (log_on mid cycles s was) uses (recorded_uses mid cycles s was) in
     let bytes : log.bytes ≡ length (frames_of was.stands.records) = ap (λ (l : LogUse). l.bytes) same in
     let spent : log.cycles ≡ cycles = ap (λ (l : LogUse). l.cycles) same in
     let count = replayed.count in
@@ -109,8 +109,8 @@ moments_rise : (clock : ℕ) (log : LogUse) (cs : List Command) → AreRising cl
 moments_rise clock log [] = tt
 moments_rise clock log (c ∷ cs) = (some_steps clock (has_room_for log c), moments_rise (clock + steps_of log c) (use_after log c) cs)
 
-pub rising : (old new : DiskState) (cs : List Command) (a : Acknowledgements old new cs) → AreRising old.clock a.moments
-rising old new cs a = subst (AreRising old.clock) (sym a.timed) (moments_rise old.clock a.log cs)
+pub rising : (old new : DiskState) (cs : List Command) (a : Acknowledgements old new cs) → AreRising (time_of old) a.moments
+rising old new cs a = subst (AreRising (time_of old)) (sym a.timed) (moments_rise (time_of old) a.log cs)
 
 length-moments : (clock : ℕ) (log : LogUse) (cs : List Command) → length (moments_of clock log cs) ≡ length cs
 length-moments clock log [] = refl
@@ -118,7 +118,7 @@ length-moments clock log (c ∷ cs) = let rest = length-moments (clock + steps_o
 
 -- one for each command
 pub counted : (old new : DiskState) (cs : List Command) (a : Acknowledgements old new cs) → length a.moments ≡ length cs
-counted old new cs a = ap length a.timed ∙ length-moments old.clock a.log cs
+counted old new cs a = ap length a.timed ∙ length-moments (time_of old) a.log cs
 
 -- ---- runs
 

@@ -1,6 +1,6 @@
 -- What was acknowledged of a run of commands, and when: the one account of it.
 use Rattle.std.specs.Prelude.{◌≡◌, ◌+◌, ◌≤◌, ℕ, List, [], ◌∷◌, count_by, nat_le}
-use Rattle.mcs_disk.specs.Disk.{DiskState}
+use Rattle.mcs_disk.specs.Disk.{DiskState, bytes_of, time_of}
 use Rattle.mcs_model.specs.declared.command.Command.{Command}
 use Rattle.mcs_session.specs.LogUse.{LogUse, UsesLog, steps_of, use_after}
 
@@ -20,10 +20,10 @@ last_moment clock (m ∷ ms) = last_moment m ms
 -- it was in use at the start determines them all.
 pub record Acknowledgements (old new : DiskState) (commands : List Command) : Type 0 where
   pub log : LogUse
-  pub uses : UsesLog old.bytes log
+  pub uses : UsesLog (bytes_of old) log
   pub moments : List ℕ
-  pub timed : moments ≡ moments_of old.clock log commands
-  pub within : last_moment old.clock moments ≤ new.clock
+  pub timed : moments ≡ moments_of (time_of old) log commands
+  pub within : last_moment (time_of old) moments ≤ time_of new
 
 -- how many of them were acknowledged by the time t
 abbrev pub acknowledged_by : ℕ → List ℕ → ℕ

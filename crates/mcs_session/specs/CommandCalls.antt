@@ -1,6 +1,6 @@
 -- What the calls of an open session answer, and what they do to the disk.
 use Rattle.std.specs.Prelude.{◌≡◌, ◌+◌, min, Bool, true, false, ℕ, None, Some, Result, Ok, Err}
-use Rattle.mcs_disk.specs.Disk.{DiskState, most_faults}
+use Rattle.mcs_disk.specs.Disk.{DiskState, most_faults, bytes_of, time_of}
 use Rattle.mcs_disk.specs.Moments.{Either, IsUntouched, LeavesOnly}
 use Rattle.mcs_model.specs.declared.command.Command.{Command}
 use Rattle.mcs_model.specs.declared.command.Reply.{Reply}
@@ -41,9 +41,9 @@ LeavesEitherState old new s t =
 pub record AcknowledgesCommand (old new : DiskState) (s : BenchState) (c : Command) : Type 0 where
   pub moments : LeavesEitherState old new s (after s c)
   pub log : LogUse
-  pub uses : UsesLog old.bytes log
-  pub ticks : new.clock ≡ old.clock + steps_of log c
-  pub used : UsesLog new.bytes (use_after log c)
+  pub uses : UsesLog (bytes_of old) log
+  pub ticks : time_of new ≡ time_of old + steps_of log c
+  pub used : UsesLog (bytes_of new) (use_after log c)
   pub now : DiskStandsFor new (after s c)
 
 -- what the command does to an honest disk
@@ -69,15 +69,15 @@ KeepsState old new s = LeavesOnly old new (λ file. StandsFor file s)
 -- The bytes of the disk stood for this state, and now, four steps later, it holds a snapshot of it
 -- and no records. At every moment between, a power cut leaves this state.
 pub record SettlesSession (old new : DiskState) (s : BenchState) : Type 0 where
-  pub stood : StandsFor old.bytes s
-  pub holds : HoldsState new.bytes s
+  pub stood : StandsFor (bytes_of old) s
+  pub holds : HoldsState (bytes_of new) s
   pub moments : KeepsState old new s
-  pub ticks : new.clock ≡ old.clock + 4
+  pub ticks : time_of new ≡ time_of old + 4
   pub now : DiskStandsFor new s
 
 -- what settling does to an honest disk
 abbrev pub SettlesOrFails : {T : Type 0} → Result T SessionFault → DiskState → DiskState
     → BenchState → Type 0
 SettlesOrFails (Ok x) old new s = SettlesSession old new s
-SettlesOrFails (Err Device) old new s = StandsFor old.bytes s × KeepsState old new s
+SettlesOrFails (Err Device) old new s = StandsFor (bytes_of old) s × KeepsState old new s
 SettlesOrFails (Err fault) old new s = IsUntouched old new

@@ -1,6 +1,6 @@
 -- What the fields of a session keep, and what its steps do.
 use Rattle.std.specs.Prelude.{◌≡◌, ◌+◌, ◌≤◌, ℕ, List, Bool, IsTrue, Result, length, if◌then◌else◌}
-use Rattle.mcs_disk.specs.Disk.{DiskState}
+use Rattle.mcs_disk.specs.Disk.{DiskState, bytes_of, time_of}
 use Rattle.mcs_disk.specs.Moments.{Changes, Either, IsDurable, LeavesOnly}
 use Rattle.mcs_journal.specs.File.{Holds}
 use Rattle.mcs_journal.specs.declared.format.TheConstants.{MOST_RECORD, MOST_SNAPSHOT}
@@ -15,7 +15,7 @@ use Rattle.mcs_session.specs.StandsFor.{HoldsState, RecordsStandFor, StandsFor}
 -- by a log of that many cycles
 pub record IsRecorded (disk : DiskState) (cycles : ℕ) (s : BenchState) : Type 0 where
   pub durable : IsDurable disk
-  pub stands : StandsFor disk.bytes s
+  pub stands : StandsFor (bytes_of disk) s
   pub count : cycles ≡ log_cycles stands.stand.commands
 
 -- there is room for the bytes of a command and for a snapshot, and the cycles of the log are within
@@ -45,16 +45,16 @@ pub record IsReplayed
 -- a log of that many cycles.
 pub record HasMadeRoom (old new : DiskState) (c : Command) (cycles : ℕ) (s : BenchState) : Type 0 where
   pub log : LogUse
-  pub uses : UsesLog old.bytes log
-  pub ticks : new.clock + 4 ≡ old.clock + steps_of log c
-  pub used : UsesLog new.bytes (if has_room_for log c then log else empty_log)
+  pub uses : UsesLog (bytes_of old) log
+  pub ticks : time_of new + 4 ≡ time_of old + steps_of log c
+  pub used : UsesLog (bytes_of new) (if has_room_for log c then log else empty_log)
   pub recorded : IsRecorded new cycles s
 
 -- a pair stands on an honest disk, and it is all that is there
 pub record HasContents (disk : DiskState) : Type 0 where
   pub snap : List ℕ
   pub records : List (List ℕ)
-  pub holds : Holds disk.bytes snap records
+  pub holds : Holds (bytes_of disk) snap records
 
 -- whatever a power cut of this stretch leaves holds the pair of before, or a snapshot of this state
 -- and no records
@@ -66,23 +66,23 @@ MayReplaceContents old new snap records s =
 pub record ReplacedContents
     (old new : DiskState) (snap : List ℕ) (records : List (List ℕ)) (s : BenchState) : Type 0 where
   pub moments : MayReplaceContents old new snap records s
-  pub held : HoldsState new.bytes s
+  pub held : HoldsState (bytes_of new) s
   pub durable : IsDurable new
 
 -- a snapshot of this state takes the place of the pair that the disk holds, in four steps
 abbrev pub ReplacesAll : {T E : Type 0} → DiskState → DiskState → BenchState → Result T E → Type 0
 ReplacesAll old new s result =
-    (snap : List ℕ) (records : List (List ℕ)) → Holds old.bytes snap records
+    (snap : List ℕ) (records : List (List ℕ)) → Holds (bytes_of old) snap records
     → Changes 4 old new (λ c. Holds c snap records) (λ c. HoldsState c s) result
 
 -- `MayReplaceContents` for the pair that the disk held, whichever that is
 abbrev pub MayReplaceAll : DiskState → DiskState → BenchState → Type 0
 MayReplaceAll old new s =
-    (snap : List ℕ) (records : List (List ℕ)) → Holds old.bytes snap records
+    (snap : List ℕ) (records : List (List ℕ)) → Holds (bytes_of old) snap records
     → MayReplaceContents old new snap records s
 
 -- `ReplacedContents` for it
 abbrev pub ReplacedAll : DiskState → DiskState → BenchState → Type 0
 ReplacedAll old new s =
-    (snap : List ℕ) (records : List (List ℕ)) → Holds old.bytes snap records
+    (snap : List ℕ) (records : List (List ℕ)) → Holds (bytes_of old) snap records
     → ReplacedContents old new snap records s

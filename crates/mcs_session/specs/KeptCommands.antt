@@ -1,7 +1,7 @@
 -- What a disk keeps of a run of commands, wherever the power is cut.
 use Rattle.std.specs.Prelude.{◌≡◌, ◌≤◌, ◌↔◌, IsTrue, ℕ, List, [], length, take}
-use Rattle.mcs_disk.specs.Disk.{DiskState, IsLawful}
-use Rattle.mcs_disk.specs.Moments.{IsUntouched, KeepsEarlierImages}
+use Rattle.mcs_disk.specs.Disk.{DiskState, bytes_of, size_of, time_of, images_since, IsLater}
+use Rattle.mcs_disk.specs.Moments.{IsUntouched}
 use Rattle.mcs_model.specs.declared.command.Command.{Command}
 use Rattle.mcs_model.specs.BenchState.{BenchState}
 use Rattle.mcs_model.specs.Fold.{fold}
@@ -36,18 +36,17 @@ pub record KeepsCommands
   pub acknowledged : Acknowledgements old new done
   -- whatever a power cut at some moment since t left stands for a prefix that holds what was
   -- acknowledged by t
-  pub each : (t : ℕ) (image : List ℕ) → old.clock ≤ t → new.since t image
+  pub each : (t : ℕ) (image : List ℕ) → time_of old ≤ t → images_since t new image
       → StandsForPrefix s reached (acknowledged_by t acknowledged.moments) image
-  pub stretch : KeepsEarlierImages old new
-  pub lawful : IsLawful new
+  pub stretch : IsLater old new
 
 -- the same where no call failed: the disk's clock stands at the last of the moments, and its log is
 -- in use by the records of all commands
 pub record KeepsAllCommands
     (old new : DiskState) (s : BenchState) (cs : List Command) : Type 0 where
   pub kept : KeepsCommands old new s cs cs
-  pub now : new.clock ≡ last_moment old.clock kept.acknowledged.moments
-  pub used : UsesLog new.bytes (use_after_all kept.acknowledged.log cs)
+  pub now : time_of new ≡ last_moment (time_of old) kept.acknowledged.moments
+  pub used : UsesLog (bytes_of new) (use_after_all kept.acknowledged.log cs)
 
 -- the premise of what is kept: an open session on an honest disk
 abbrev pub IsOpenOnHonestDisk : Premise
@@ -56,7 +55,6 @@ IsOpenOnHonestDisk a = IsTrue a.bench.live × a.disk.honest
 -- whatever a power cut now leaves stands for this state
 pub record IsIntactAt (disk : DiskState) (s : BenchState) : Type 0 where
   pub at : DiskStandsFor disk s
-  pub lawful : IsLawful disk
 
 -- what each step of a run hands on to the next: the premise, and that the disk is intact
 pub record IsIntact (a : SessionState) : Type 0 where
@@ -68,7 +66,7 @@ pub record IsIntact (a : SessionState) : Type 0 where
 pub record RecordsCommands (Given : Premise) (a b : SessionState) (cs : List Command) : Type 0 where
   pub bench : b.bench ≡ bench_after a.bench cs
   pub same_faults : b.disk.faults ≡ a.disk.faults
-  pub size : b.disk.size ≡ a.disk.size
+  pub size : size_of b.disk ≡ size_of a.disk
   pub honest : b.disk.honest ↔ a.disk.honest
   -- where there were none, no write was asked of the disk, whatever disk it is
   pub untouched : cs ≡ [] → IsUntouched a.disk b.disk

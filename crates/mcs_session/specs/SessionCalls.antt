@@ -1,7 +1,7 @@
 -- What making and opening a session answer, and what they do to the disk.
 use Rattle.std.specs.Prelude.{◌≡◌, ◌⊎◌, ◌+◌}
-use Rattle.mcs_disk.specs.Disk.{DiskState}
-use Rattle.mcs_disk.specs.Moments.{Either, KeepsEarlierImages, LeavesOnly, AddsNoImage, WritesNothing}
+use Rattle.mcs_disk.specs.Disk.{DiskState, bytes_of, size_of, time_of, images_since, IsLater}
+use Rattle.mcs_disk.specs.Moments.{Either, LeavesOnly, AddsNoImage, WritesNothing}
 use Rattle.mcs_journal.specs.StoreCalls.{IsNoSession}
 use Rattle.mcs_journal.specs.File.{IsBlank}
 use Rattle.mcs_journal.specs.declared.fault.OpenFault.{OpenFault}
@@ -12,31 +12,31 @@ use Rattle.mcs_session.specs.Version1.{StandsForLifted}
 
 -- the disk was blank, and now, five steps later, every image stands for a new bench
 pub record CreatesSession (old new : DiskState) : Type 0 where
-  pub blank : IsBlank old.size old.bytes
-  pub stands : StandsFor new.bytes new_bench_state
+  pub blank : IsBlank (size_of old) (bytes_of old)
+  pub stands : StandsFor (bytes_of new) new_bench_state
   pub at : DiskStandsFor new new_bench_state
-  pub ticks : new.clock ≡ old.clock + 5
-  pub moments : KeepsEarlierImages old new
+  pub ticks : time_of new ≡ time_of old + 5
+  pub moments : IsLater old new
 
 -- whatever a power cut of this stretch leaves is an image that the disk had before, or stands for
 -- this state
 abbrev pub MayMigrate : DiskState → DiskState → BenchState → Type 0
 MayMigrate old new s =
-    LeavesOnly old new (Either (old.since old.clock) (λ file. StandsByEither file s))
+    LeavesOnly old new (Either (images_since (time_of old) old) (λ file. StandsByEither file s))
 
 -- The bytes of the disk stood for this state, and now every image stands for it. A file of version
 -- 2 is not written; one of version 1 is replaced by a snapshot of version 2.
 pub record OpensSession (old new : DiskState) (s : BenchState) : Type 0 where
-  pub stands : StandsByEither old.bytes s
+  pub stands : StandsByEither (bytes_of old) s
   pub moments : MayMigrate old new s
-  pub rests : StandsFor old.bytes s → AddsNoImage old new
-  pub unwritten : StandsFor old.bytes s → WritesNothing old new
-  pub migrated : StandsForLifted old.bytes s → HoldsState new.bytes s
+  pub rests : StandsFor (bytes_of old) s → AddsNoImage old new
+  pub unwritten : StandsFor (bytes_of old) s → WritesNothing old new
+  pub migrated : StandsForLifted (bytes_of old) s → HoldsState (bytes_of new) s
   pub at : DiskStandsFor new s
 
 -- the bytes stand for no state
 abbrev pub StandsForNone : DiskState → Type 0
-StandsForNone disk = (s : BenchState) → StandsByEither disk.bytes s → ⊥
+StandsForNone disk = (s : BenchState) → StandsByEither (bytes_of disk) s → ⊥
 
 -- what a refusal of `open` says of the disk: its bytes are no session, or they stand for no state;
 -- of lack of memory and a device fault, nothing
@@ -49,7 +49,7 @@ RefusesSession open_fault.NoMemory disk = Unit {0}
 -- a file of version 1 stood for a state, and the disk failed as it was replaced
 pub record FailsMigrating (old new : DiskState) : Type 0 where
   pub state : BenchState
-  pub stands : StandsForLifted old.bytes state
+  pub stands : StandsForLifted (bytes_of old) state
   pub moments : MayMigrate old new state
 
 -- what a refused `open` did to the disk: nothing, except for a device fault while a file of version

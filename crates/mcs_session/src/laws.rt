@@ -1,6 +1,7 @@
 //! Laws of session files and of what a disk keeps. The contract of each call is the law; the call
 //! does nothing.
 ghost use Rattle.std.specs.Prelude.{◌≡◌, ◌⊎◌, ◌+◌, ◌≤◌, ℕ, List, length, slice_get};
+ghost use Rattle.mcs_disk.specs.Disk.{bytes_of, time_of, images_of, images_since};
 ghost use Rattle.mcs_disk.specs.PowerCut.{IsLeftByCut};
 ghost use Rattle.mcs_journal.specs.declared.fault.OpenFault.{OpenFault};
 ghost use Rattle.mcs_model.specs.declared.command.Command.{Command};
@@ -27,7 +28,7 @@ pub fn reopened_bench_holds_what_was_acknowledged<D: Disk, E: Disk>()
     ensures { (t : ℕ) (old new : D) (found opened : E) (s u : BenchState)
         (done reached : List Command)
         (kept : KeepsCommands (D.state old) (D.state new) s done reached)
-        → (D.state old).clock ≤ t
+        → time_of (D.state old) ≤ t
         → IsLeftByCut t (D.state new) (E.state found)
         → OpensSession (E.state found) (E.state opened) u
         → IsAfterPrefix s reached (acknowledged_by t kept.acknowledged.moments) u }
@@ -37,7 +38,7 @@ pub fn reopened_bench_holds_what_was_acknowledged<D: Disk, E: Disk>()
 pub fn what_a_power_cut_left_is_opened<D: Disk, E: Disk>()
     ensures { (t : ℕ) (old new : D) (found : E) (s : BenchState) (done reached : List Command)
         (fault : OpenFault)
-        → KeepsCommands (D.state old) (D.state new) s done reached → (D.state old).clock ≤ t
+        → KeepsCommands (D.state old) (D.state new) s done reached → time_of (D.state old) ≤ t
         → IsLeftByCut t (D.state new) (E.state found) → RefusesSession fault (E.state found)
         → (fault ≡ OpenFault.Device) ⊎ (fault ≡ OpenFault.NoMemory) }
 {}
@@ -47,7 +48,7 @@ pub fn since_an_acknowledgement_its_commands_are_kept<D: Disk>()
     ensures { (old new : D) (s : BenchState) (done reached : List Command)
         (kept : KeepsCommands (D.state old) (D.state new) s done reached)
         (j moment : ℕ) (image : List ℕ)
-        → slice_get kept.acknowledged.moments j ≡ Some moment → (D.state new).since moment image
+        → slice_get kept.acknowledged.moments j ≡ Some moment → images_since moment (D.state new) image
         → StandsForPrefix s reached (j + 1) image }
 {}
 
@@ -56,9 +57,9 @@ pub fn since_an_acknowledgement_its_commands_are_kept<D: Disk>()
 pub fn at_the_end_all_is_kept<D: Disk>()
     ensures acknowledged { (old new : D) (s : BenchState) (done reached : List Command)
         (image : List ℕ) → KeepsCommands (D.state old) (D.state new) s done reached
-        → (D.state new).images image → StandsForPrefix s reached (length done) image }
+        → images_of (D.state new) image → StandsForPrefix s reached (length done) image }
     ensures whole { (old new : D) (s : BenchState) (commands : List Command) (image : List ℕ)
-        → KeepsCommands (D.state old) (D.state new) s commands commands → (D.state new).images image
+        → KeepsCommands (D.state old) (D.state new) s commands commands → images_of (D.state new) image
         → StandsFor image (fold s commands) }
 {}
 
@@ -69,9 +70,9 @@ pub fn at_the_end_all_is_kept<D: Disk>()
 pub fn a_file_of_version_1_keeps_its_state<D: Disk>()
     ensures opened { (old new : D) (s u : BenchState) → (D.state old).honest
         → DiskStandsForLifted (D.state old) s → OpensSession (D.state old) (D.state new) u
-        → (u ≡ s) × (HoldsState (D.state new).bytes s
-        × DiskStandsSince (D.state old).clock (D.state new) s) }
+        → (u ≡ s) × (HoldsState (bytes_of (D.state new)) s
+        × DiskStandsSince (time_of (D.state old)) (D.state new) s) }
     ensures refused { (old new : D) (s : BenchState) (fault : OpenFault) → (D.state old).honest
         → DiskStandsForLifted (D.state old) s → RefusalLeaves fault (D.state old) (D.state new)
-        → DiskStandsSince (D.state old).clock (D.state new) s }
+        → DiskStandsSince (time_of (D.state old)) (D.state new) s }
 {}

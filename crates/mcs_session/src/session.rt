@@ -1,5 +1,6 @@
 //! A bench whose commands are recorded on a disk.
 ghost use Rattle.std.specs.Prelude.{◌≡◌, ◌≢◌, ◌⊎◌, ◌↔◌, IsTrue, true, false, IsErrAnd, IfOk, IfErr};
+ghost use Rattle.mcs_disk.specs.Disk.{bytes_of, size_of};
 ghost use Rattle.mcs_disk.specs.CallList.{OneUnsynced, unsynced};
 ghost use Rattle.mcs_disk.specs.Moments.{CountsFault, WritesNothing};
 ghost use Rattle.mcs_journal.specs.StoreCalls.{RefusesCreate};
@@ -59,7 +60,7 @@ impl<D: Disk + Drop> Session<D> {
             refused.0 ≡ CreateFault.NoMemory → refused.1 ≡ disk) }
         ensures unwritten { IfErr result (λ refused. refused.0 ≢ CreateFault.Device
             → WritesNothing (D.state disk) (D.state refused.1)) }
-        ensures wrong_size { (D.state disk).size ≢ FILE_SIZE → IsErrAnd result (λ refused.
+        ensures wrong_size { size_of (D.state disk) ≢ FILE_SIZE → IsErrAnd result (λ refused.
             ((refused.0 ≡ CreateFault.NotBlank) ⊎ (refused.0 ≡ CreateFault.NoMemory))
             × (refused.1 ≡ disk)) }
         ensures one_unsynced { unsynced (D.state disk).calls ≡ 0
@@ -110,7 +111,7 @@ impl<D: Disk + Drop> Session<D> {
             CountsFault (D.state disk) (D.state refused.1) (refused.0 ≡ OpenFault.Device)) }
         ensures unwritten { IfErr result (λ refused. refused.0 ≢ OpenFault.Device
             → WritesNothing (D.state disk) (D.state refused.1)) }
-        ensures wrong_size { (D.state disk).size ≢ FILE_SIZE → IsErrAnd result (λ refused.
+        ensures wrong_size { size_of (D.state disk) ≢ FILE_SIZE → IsErrAnd result (λ refused.
             ((refused.0 ≡ OpenFault.NotASession) ⊎ (refused.0 ≡ OpenFault.NoMemory))
             × (refused.1 ≡ disk)) }
         ensures one_unsynced { IfOk result (λ s.
@@ -177,7 +178,7 @@ impl<D: Disk + Drop> Session<D> {
             self.new.state }
         ensures closes { ClosesAtDeviceFault self.old.live (D.state self.old.disk).faults result
             self.new.live (D.state self.new.disk).faults }
-        ensures size { (D.state self.new.disk).size ≡ (D.state self.old.disk).size }
+        ensures size { size_of (D.state self.new.disk) ≡ size_of (D.state self.old.disk) }
         ensures honest { (D.state self.new.disk).honest ↔ (D.state self.old.disk).honest }
         ensures untouched { IfErr result (λ fault.
             fault ≢ SessionFault.Device → self.new.disk ≡ self.old.disk) }
@@ -209,7 +210,7 @@ impl<D: Disk + Drop> Session<D> {
         ensures answers { MayAnswerSettle self.old.live result }
         ensures closes { ClosesAtDeviceFault self.old.live (D.state self.old.disk).faults result
             self.new.live (D.state self.new.disk).faults }
-        ensures size { (D.state self.new.disk).size ≡ (D.state self.old.disk).size }
+        ensures size { size_of (D.state self.new.disk) ≡ size_of (D.state self.old.disk) }
         ensures honest { (D.state self.new.disk).honest ↔ (D.state self.old.disk).honest }
         ensures untouched { IfErr result (λ fault.
             fault ≢ SessionFault.Device → self.new.disk ≡ self.old.disk) }
@@ -233,7 +234,7 @@ impl<D: Disk + Drop> Session<D> {
     pub fn into_disk(self) -> D
         ensures is { result ≡ self.disk }
         ensures stands { IsTrue self.live → (D.state result).honest
-            → StandsFor (D.state result).bytes self.state }
+            → StandsFor (bytes_of (D.state result)) self.state }
     {
         let Session { log, bench: _ } = self;
         let CommandLog {

@@ -1,6 +1,6 @@
 -- What an input leaves, by its answer.
 use Rattle.std.proofs.Common.{◌≡◌, ◌≢◌, ◌↔◌, ◌||◌, ◌++◌, ℕ, Bool, true, false, List, [], ◌∷◌, Option, Some, None, Result, Ok, Err, IfErr, OnErr, OnOk, inl, inr, sym, ap, append-nil, ◌∙◌, refl, subst}
-use Rattle.mcs_disk.specs.Disk.{DiskState, IsLawful}
+use Rattle.mcs_disk.specs.Disk.{DiskState, size_of}
 use Rattle.mcs_disk.specs.Moments.{IsUntouched}
 use Rattle.mcs_model.specs.declared.command.Command.{Command}
 use Rattle.mcs_model.specs.declared.command.Reply.{Reply}
@@ -38,11 +38,10 @@ at live s d = record { bench = record { live = live; state = s }; disk = d }
 pub record Tried (live : Bool) (s : BenchState) (d : DiskState) (c : Command) (result : Result Reply SessionFault) (b : SessionState) : Type 0 where
   pub applied : AppliesCommand live s c result b.bench.state
   pub closes : ClosesAtDeviceFault live d.faults result b.bench.live b.disk.faults
-  pub size : b.disk.size ≡ d.size
+  pub size : size_of b.disk ≡ size_of d
   pub honest : b.disk.honest ↔ d.honest
   pub untouched : IfErr result (λ f. f ≢ fault.Device → IsUntouched d b.disk)
   pub records : d.honest → RecordsOrFails result d b.disk s c
-  pub lawful : b.disk.honest → IsLawful b.disk
 
 -- the very disk is untouched
 pub untouched_state : {D : Type 0} (state_of : D → DiskState) (new old : D) (r : Result Reply SessionFault) → IfErr r (λ f. f ≢ fault.Device → new ≡ old) → IfErr r (λ f. f ≢ fault.Device → IsUntouched (state_of old) (state_of new))
@@ -82,7 +81,7 @@ ok_changed r true s d b c told h k =
         size = h.size;
         honest = h.honest;
         untouched = λ none. absurd (cc none);
-        kept = λ given. acknowledged_keeps d b.disk s c (h.records given.honest.1) (h.lawful (h.honest.1 given.honest.1));
+        kept = λ given. acknowledged_keeps d b.disk s c (h.records given.honest.1);
       });
     }
 
@@ -101,7 +100,7 @@ refused_changed f true s d b c told h k =
         size = h.size;
         honest = h.honest;
         untouched = λ none. h.untouched (λ e. absurd (cc e));
-        kept = λ given. stays_keeps d b.disk s (h.records given.honest.1) given.intact (h.lawful (h.honest.1 given.honest.1));
+        kept = λ given. stays_keeps d b.disk s (h.records given.honest.1) given.intact;
       });
     }
 
@@ -120,7 +119,7 @@ device_changed true s d b c told h k =
         faults = h.closes.1;
         size = h.size;
         honest = h.honest;
-        kept = λ given. failed_keeps d b.disk s c given.intact (h.records given.honest.1) (h.lawful (h.honest.1 given.honest.1));
+        kept = λ given. failed_keeps d b.disk s c given.intact (h.records given.honest.1);
       });
     }
 

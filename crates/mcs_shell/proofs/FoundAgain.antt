@@ -1,16 +1,12 @@
 -- What is found in a file of the host after a stop, as a disk.
-use Rattle.std.proofs.Common.{ℕ, List, length, ap, sym, ◌∙◌, subst}
+use Rattle.std.proofs.Common.{ℕ, List, sym, subst}
 use Rattle.mcs_disk.specs.Calls.{since_after}
-use Rattle.mcs_disk.specs.CallLaws.{lawful, length-bytes_after, sized}
-use Rattle.mcs_disk.specs.Disk.{IsLawful}
+use Rattle.mcs_disk.proofs.Composing.{fresh_durable}
 use Rattle.mcs_disk.specs.PowerCut.{IsLeftByCut}
 use Rattle.mcs_host.specs.Ending.{as_disk, found_in}
 use Rattle.mcs_host.specs.declared.file_disk.FileDisk.{FileDisk}
 use Rattle.mcs_host.proofs.Leaving.{found_since}
 use Rattle.mcs_shell.specs.InFile.{IsFoundAgain}
-
-pub are_lawful : (file : FileDisk) → (as_disk file).honest → IsLawful (as_disk file)
-are_lawful file honest = lawful _ file.on.faults file.on.bytes.items file.on.history.start file.on.history.calls file.on.kept
 
 -- what is found in the file after a stop
 pub left_by_cut : (t : ℕ) (file again : FileDisk) → (as_disk file).honest → IsFoundAgain t file again → IsLeftByCut t (as_disk file) (as_disk again)
@@ -19,7 +15,6 @@ left_by_cut t file again honest h =
     let found = found_since start file.on.history.calls h.left.never_made h.left.made file.on.end.calls_by_the_end t (found_in file) h.left.all h.left.by_the_end h.left.late honest in
     record {
       honest = h.honest;
-      size = ap length h.bytes ∙ sized start file.on.end.calls_by_the_end (found_in file) honest ∙ sym (length-bytes_after start file.on.history.calls) ∙ ap length (sym file.on.kept);
       found = subst (λ (bytes : List ℕ). since_after start file.on.history.calls t bytes) (sym h.bytes) found;
-      durable = h.opened.durable;
+      durable = fresh_durable (as_disk again) h.opened.calls;
     }

@@ -2,7 +2,9 @@
 use Rattle.std.proofs.Common.{◌≡◌, ◌⊎◌, inl, inr, ◌≤◌, ⊎_elim, ℕ, List, [], ◌∷◌, ◌++◌, length, take, drop, take-append-drop, sym, ap, ◌∙◌, refl, subst, arith}
 use Rattle.std.proofs.lemmas.Bool.{cases_lt}
 use Rattle.std.proofs.lemmas.Grind.{common_steps}
-use Rattle.mcs_disk.specs.Disk.{DiskState, IsLawful}
+use Rattle.mcs_disk.proofs.CallLaws.{lawful}
+use Rattle.mcs_disk.proofs.Composing.{rests_since, later_before}
+use Rattle.mcs_disk.specs.Disk.{DiskState, bytes_of, time_of, images_since}
 use Rattle.mcs_disk.specs.Moments.{AddsNoImage, IsDurable}
 use Rattle.mcs_disk.specs.PowerCut.{IsLeftByCut}
 use Rattle.mcs_journal.specs.declared.fault.OpenFault.{OpenFault}
@@ -32,13 +34,8 @@ use Rattle.mcs_shell.proofs.Surviving.{honest_of_run, kept_of_run}
 -- a disk that a stop left: what a read gives is all that it has, and stands for this state
 record Stands (disk : DiskState) (s : BenchState) : Type 0 where
   pub honest : disk.honest
-  pub lawful : IsLawful disk
   pub durable : IsDurable disk
-  pub stands : StandsByEither disk.bytes s
-
--- the law of the disk's type
-abbrev AreLawful : {D : Type 0} → (D → DiskState) → Type 0
-AreLawful {D = D} state_of = (disk : D) → (state_of disk).honest → IsLawful (state_of disk)
+  pub stands : StandsByEither (bytes_of disk) s
 
 -- a stop leaves what a power cut may leave
 abbrev AreCuts : {D : Type 0} → (D → DiskState) → (ℕ → D → D → Type 0) → Type 0
@@ -55,10 +52,10 @@ length_first cs n few = grind (arith, common_steps)
 -- a prefix of the commands is what is kept
 kept_prefix : {D : Type 0} (state_of : D → DiskState) (run : ShellRun state_of) (t u : ℕ) (s : BenchState) → run.before.state ≡ s → IsOpenOnHonestDisk (session_state state_of run.before)
     → (a : Acknowledgements (state_of run.before.disk) (state_of run.after.disk) (in_turn acknowledged_commands run.before.state run.ran.served.met))
-    → acknowledged_by t a.moments ≤ acknowledged_by u a.moments → (found : DiskState) → found.honest → IsLawful found → IsDurable found
-    → StandsForPrefix run.before.state (in_turn reached_commands run.before.state run.ran.served.met) (acknowledged_by u a.moments) found.bytes
+    → acknowledged_by t a.moments ≤ acknowledged_by u a.moments → (found : DiskState) → found.honest → IsDurable found
+    → StandsForPrefix run.before.state (in_turn reached_commands run.before.state run.ran.served.met) (acknowledged_by u a.moments) (bytes_of found)
     → (kept : List Command) × KeepsOfRun state_of run t s kept × Stands found (fold s kept)
-kept_prefix state_of run t u s same given a fewer found honest lawful durable h =
+kept_prefix state_of run t u s same given a fewer found honest durable h =
     let may : List Command = in_turn reached_commands run.before.state run.ran.served.met in
     let least = h.after.at_least in
     let most = h.after.at_most in
@@ -73,78 +70,78 @@ kept_prefix state_of run t u s same given a fewer found honest lawful durable h 
         parts = sym (take-append-drop h.after.count may);
         holds = omega (arith, fewer, least, long);
       },
-      record { honest = honest; lawful = lawful; durable = durable; stands = inl (subst (StandsFor found.bytes) is h.stands) },
+      record { honest = honest; durable = durable; stands = inl (subst (StandsFor (bytes_of found)) is h.stands) },
     )
 
 -- stopped since its start
-kept_late : {D : Type 0} (state_of : D → DiskState) → AreLawful state_of → (run : ShellRun state_of) (t : ℕ) (s : BenchState) (found : D) → run.before.state ≡ s → IsOpenOnHonestDisk (session_state state_of run.before)
-    → (state_of run.before.disk).clock ≤ t → IsLeftByCut t (state_of run.after.disk) (state_of found)
+kept_late : {D : Type 0} (state_of : D → DiskState) → (run : ShellRun state_of) (t : ℕ) (s : BenchState) (found : D) → run.before.state ≡ s → IsOpenOnHonestDisk (session_state state_of run.before)
+    → time_of (state_of run.before.disk) ≤ t → IsLeftByCut t (state_of run.after.disk) (state_of found)
     → (kept : List Command) × KeepsOfRun state_of run t s kept × Stands (state_of found) (fold s kept)
-kept_late state_of lawful run t s found same given late cut =
+kept_late state_of run t s found same given late cut =
     let kept = kept_of_run state_of run given in
-    kept_prefix state_of run t t s same given kept.acknowledged (omega arith) (state_of found) cut.honest (lawful found cut.honest) cut.durable (kept.each t (state_of found).bytes late cut.found)
+    kept_prefix state_of run t t s same given kept.acknowledged (omega arith) (state_of found) cut.honest cut.durable (kept.each t (bytes_of (state_of found)) late cut.found)
 
 -- stopped before that: in the opening, or at its end
-kept_early : {D : Type 0} (state_of : D → DiskState) → AreLawful state_of → (disk : D) (run : ShellRun state_of) (t : ℕ) (s : BenchState) (found : D) → Stands (state_of disk) s → run.before.state ≡ s → IsOpenOnHonestDisk (session_state state_of run.before)
-    → OpensSession (state_of disk) (state_of run.before.disk) run.before.state → (state_of disk).clock ≤ t → t ≤ (state_of run.before.disk).clock → IsLeftByCut t (state_of run.after.disk) (state_of found)
+kept_early : {D : Type 0} (state_of : D → DiskState) → (disk : D) (run : ShellRun state_of) (t : ℕ) (s : BenchState) (found : D) → Stands (state_of disk) s → run.before.state ≡ s → IsOpenOnHonestDisk (session_state state_of run.before)
+    → OpensSession (state_of disk) (state_of run.before.disk) run.before.state → time_of (state_of disk) ≤ t → t ≤ time_of (state_of run.before.disk) → IsLeftByCut t (state_of run.after.disk) (state_of found)
     → (kept : List Command) × KeepsOfRun state_of run t s kept × Stands (state_of found) (fold s kept)
-kept_early state_of lawful disk run t s found here same given opens late early cut =
+kept_early state_of disk run t s found here same given opens late early cut =
     let before : DiskState = state_of run.before.disk in
-    let image : List ℕ = (state_of found).bytes in
+    let image : List ℕ = bytes_of (state_of found) in
     let kept = kept_of_run state_of run given in
     let done : List Command = in_turn acknowledged_commands run.before.state run.ran.served.met in
-    let none : acknowledged_by t kept.acknowledged.moments ≡ 0 = acknowledged_none t before.clock kept.acknowledged.moments early (rising before (state_of run.after.disk) done kept.acknowledged) in
-    elim (kept.stretch.before t image early cut.found) [
+    let none : acknowledged_by t kept.acknowledged.moments ≡ 0 = acknowledged_none t (time_of before) kept.acknowledged.moments early (rising before (state_of run.after.disk) done kept.acknowledged) in
+    elim (later_before before (state_of run.after.disk) kept.stretch t image cut.found) [
       | inl left ↦
           let then : StandsByEither image s = ⊎_elim
-          (λ (old : (state_of disk).since (state_of disk).clock image). subst (λ (file : List ℕ). StandsByEither file s) (sym (here.durable.fresh image old)) here.stands)
+          (λ (old : images_since (time_of (state_of disk)) (state_of disk) image). subst (λ (file : List ℕ). StandsByEither file s) (sym (here.durable image old)) here.stands)
           (λ (new : StandsByEither image run.before.state). subst (StandsByEither image) same new)
-          (opens.moments.each image ((lawful run.before.disk given.1).longer (state_of disk).clock t image late left)) in (
+          (opens.moments.each image ((lawful before).longer (time_of (state_of disk)) t image late left)) in (
             [],
             record { began = same; answers = answers_of_session state_of run; acknowledged = kept.acknowledged; lost = in_turn reached_commands run.before.state run.ran.served.met; parts = refl; holds = omega (arith, none) },
-            record { honest = cut.honest; lawful = lawful found cut.honest; durable = cut.durable; stands = then },
+            record { honest = cut.honest; durable = cut.durable; stands = then },
           )
       | inr now ↦
-          kept_prefix state_of run t before.clock s same given kept.acknowledged (omega (arith, none)) (state_of found) cut.honest (lawful found cut.honest) cut.durable (kept.each before.clock image (omega arith) now)
+          kept_prefix state_of run t (time_of before) s same given kept.acknowledged (omega (arith, none)) (state_of found) cut.honest cut.durable (kept.each (time_of before) image (omega arith) now)
     ]
 
-kept_served : {D : Type 0} (state_of : D → DiskState) → AreLawful state_of → (disk : D) (run : ShellRun state_of) (t : ℕ) (s : BenchState) (found : D) → Stands (state_of disk) s
-    → OpenBegins (state_of disk) (state_of run.before.disk) run.before.live run.before.state → (state_of disk).clock ≤ t → ((state_of run.after.disk).honest → IsLeftByCut t (state_of run.after.disk) (state_of found))
+kept_served : {D : Type 0} (state_of : D → DiskState) → (disk : D) (run : ShellRun state_of) (t : ℕ) (s : BenchState) (found : D) → Stands (state_of disk) s
+    → OpenBegins (state_of disk) (state_of run.before.disk) run.before.live run.before.state → time_of (state_of disk) ≤ t → ((state_of run.after.disk).honest → IsLeftByCut t (state_of run.after.disk) (state_of found))
     → (kept : List Command) × KeepsOfRun state_of run t s kept × Stands (state_of found) (fold s kept)
-kept_served state_of lawful disk run t s found here began late cut =
+kept_served state_of disk run t s found here began late cut =
     let opens = began.opens here.honest in
-    let same : run.before.state ≡ s = one_either (state_of disk).bytes run.before.state s opens.stands here.stands in
+    let same : run.before.state ≡ s = one_either (bytes_of (state_of disk)) run.before.state s opens.stands here.stands in
     let given : IsOpenOnHonestDisk (session_state state_of run.before) = (began.is_open, began.counts.honest.1 here.honest) in
     let left = cut (honest_of_run state_of run given.1) in
-    elim (cases_lt t (state_of run.before.disk).clock) [
-      | inl early ↦ kept_early state_of lawful disk run t s found here same given opens late (omega (arith, early)) left
-      | inr since ↦ kept_late state_of lawful run t s found same given since left
+    elim (cases_lt t (time_of (state_of run.before.disk))) [
+      | inl early ↦ kept_early state_of disk run t s found here same given opens late (omega (arith, early)) left
+      | inr since ↦ kept_late state_of run t s found same given since left
     ]
 
 -- ---- a refused opening
 
-holds_session : (disk : DiskState) (s : BenchState) → IsLawful disk → StandsByEither disk.bytes s → RefusesSession NotASession disk → ⊥
-holds_session disk s lawful (inl stands) none = is_session disk stands.snap stands.records lawful stands.holds none
-holds_session disk s lawful (inr stands) none = is_session disk stands.snap stands.records lawful stands.holds none
+holds_session : (disk : DiskState) (s : BenchState) → StandsByEither (bytes_of disk) s → RefusesSession NotASession disk → ⊥
+holds_session disk s (inl stands) none = is_session disk stands.snap stands.records stands.holds none
+holds_session disk s (inr stands) none = is_session disk stands.snap stands.records stands.holds none
 
 refused_number : (fault : OpenFault) (disk : DiskState) (s : BenchState) → Stands disk s → RefusesSession fault disk → (open_fault_number fault ≡ 53) ⊎ (open_fault_number fault ≡ 90)
-refused_number NotASession disk s here h = absurd (holds_session disk s here.lawful here.stands h)
+refused_number NotASession disk s here h = absurd (holds_session disk s here.stands h)
 refused_number Damaged disk s here h = absurd (h.1 s here.stands)
 refused_number Device disk s here h = inl refl
 refused_number NoMemory disk s here h = inr refl
 
-rests_in : (disk left : DiskState) (image : List ℕ) (s : BenchState) → Stands disk s → AddsNoImage disk left → left.since disk.clock image → StandsByEither image s
-rests_in disk left image s here rests now = subst (λ (file : List ℕ). StandsByEither file s) (sym (here.durable.fresh image (rests.nothing_else disk.clock image (omega arith) now))) here.stands
+rests_in : (disk left : DiskState) (image : List ℕ) (s : BenchState) → Stands disk s → AddsNoImage disk left → images_since (time_of disk) left image → StandsByEither image s
+rests_in disk left image s here rests now = subst (λ (file : List ℕ). StandsByEither file s) (sym (here.durable image (rests_since disk left rests (time_of disk) image now))) here.stands
 
-fails_in : (disk left : DiskState) (image : List ℕ) (s : BenchState) → Stands disk s → FailsMigrating disk left → left.since disk.clock image → StandsByEither image s
+fails_in : (disk left : DiskState) (image : List ℕ) (s : BenchState) → Stands disk s → FailsMigrating disk left → images_since (time_of disk) left image → StandsByEither image s
 fails_in disk left image s here fails now =
-    let same : fails.state ≡ s = one_either disk.bytes fails.state s (inr fails.stands) here.stands in
+    let same : fails.state ≡ s = one_either (bytes_of disk) fails.state s (inr fails.stands) here.stands in
     ⊎_elim
-    (λ (old : disk.since disk.clock image). subst (λ (file : List ℕ). StandsByEither file s) (sym (here.durable.fresh image old)) here.stands)
+    (λ (old : images_since (time_of disk) disk image). subst (λ (file : List ℕ). StandsByEither file s) (sym (here.durable image old)) here.stands)
     (λ (new : StandsByEither image fails.state). subst (StandsByEither image) same new)
     (fails.moments.each image now)
 
-refused_in : (fault : OpenFault) (disk left : DiskState) (image : List ℕ) (s : BenchState) → Stands disk s → RefusalLeaves fault disk left → left.since disk.clock image → StandsByEither image s
+refused_in : (fault : OpenFault) (disk left : DiskState) (image : List ℕ) (s : BenchState) → Stands disk s → RefusalLeaves fault disk left → images_since (time_of disk) left image → StandsByEither image s
 refused_in NotASession disk left image s here rests now = rests_in disk left image s here rests now
 refused_in Damaged disk left image s here rests now = rests_in disk left image s here rests now
 refused_in NoMemory disk left image s here rests now = rests_in disk left image s here rests now
@@ -155,32 +152,31 @@ number_refused : {D : Type 0} (state_of : D → DiskState) (disk left : D) (numb
 number_refused state_of disk left number s here refused =
     elim (refused_number refused.fault (state_of disk) s here (refused.refuses here.honest).0) [ inl is ↦ inl (refused.told ∙ is) | inr is ↦ inr (refused.told ∙ is) ]
 
-stands_refused : {D : Type 0} (state_of : D → DiskState) → AreLawful state_of → (disk left found : D) (number t : ℕ) (s : BenchState) → Stands (state_of disk) s → OpenIsRefused (state_of disk) (state_of left) number
-    → (state_of disk).clock ≤ t → ((state_of left).honest → IsLeftByCut t (state_of left) (state_of found)) → Stands (state_of found) s
-stands_refused state_of lawful disk left found number t s here refused late stopped =
+stands_refused : {D : Type 0} (state_of : D → DiskState) → (disk left found : D) (number t : ℕ) (s : BenchState) → Stands (state_of disk) s → OpenIsRefused (state_of disk) (state_of left) number
+    → time_of (state_of disk) ≤ t → ((state_of left).honest → IsLeftByCut t (state_of left) (state_of found)) → Stands (state_of found) s
+stands_refused state_of disk left found number t s here refused late stopped =
     let honest = refused.counts.honest.1 here.honest in
     let cut = stopped honest in
-    let image : List ℕ = (state_of found).bytes in
+    let image : List ℕ = bytes_of (state_of found) in
     record {
       honest = cut.honest;
-      lawful = lawful found cut.honest;
       durable = cut.durable;
-      stands = refused_in refused.fault (state_of disk) (state_of left) image s here (refused.refuses here.honest).1 ((lawful left honest).longer (state_of disk).clock t image late cut.found);
+      stands = refused_in refused.fault (state_of disk) (state_of left) image s here (refused.refuses here.honest).1 ((lawful (state_of left)).longer (time_of (state_of disk)) t image late cut.found);
     }
 
 -- ---- all sittings
 
-kept_one : {D : Type 0} (state_of : D → DiskState) → AreLawful state_of → (disk found : D) (x : Sitting state_of) (t : ℕ) (s : BenchState) → Stands (state_of disk) s → CameOf disk x → (state_of disk).clock ≤ t
+kept_one : {D : Type 0} (state_of : D → DiskState) → (disk found : D) (x : Sitting state_of) (t : ℕ) (s : BenchState) → Stands (state_of disk) s → CameOf disk x → time_of (state_of disk) ≤ t
     → ((state_of (disk_left x)).honest → IsLeftByCut t (state_of (disk_left x)) (state_of found)) → (kept : List Command) × KeepsOf state_of x t s kept × Stands (state_of found) (fold s kept)
-kept_one state_of lawful disk found (Served run) t s here came late stopped = kept_served state_of lawful disk run t s found here came late stopped
-kept_one state_of lawful disk found (Refused number left) t s here came late stopped = ([], (refl, number_refused state_of disk left number s here came), stands_refused state_of lawful disk left found number t s here came late stopped)
+kept_one state_of disk found (Served run) t s here came late stopped = kept_served state_of disk run t s found here came late stopped
+kept_one state_of disk found (Refused number left) t s here came late stopped = ([], (refl, number_refused state_of disk left number s here came), stands_refused state_of disk left found number t s here came late stopped)
 
-kept_each : {D : Type 0} (state_of : D → DiskState) (IsFound : ℕ → D → D → Type 0) → AreLawful state_of → AreCuts state_of IsFound → (disk : D) (xs : List (Stop state_of)) (last : D) (s : BenchState) → Stands (state_of disk) s → IsHistory IsFound disk xs last
+kept_each : {D : Type 0} (state_of : D → DiskState) (IsFound : ℕ → D → D → Type 0) → AreCuts state_of IsFound → (disk : D) (xs : List (Stop state_of)) (last : D) (s : BenchState) → Stands (state_of disk) s → IsHistory IsFound disk xs last
     → (kept : List Command) × KeepsOfEach state_of xs s kept × Stands (state_of last) (fold s kept)
-kept_each {D = D} state_of IsFound lawful cuts disk [] last s here came = ([], refl, subst (λ (d : D). Stands (state_of d) s) (sym came) here)
-kept_each state_of IsFound lawful cuts disk (x ∷ xs) last s here came =
-    let one = kept_one state_of lawful disk x.found x.sitting x.time s here came.0 came.1 (λ honest. cuts x.time (disk_left x.sitting) x.found honest came.2) in
-    let others = kept_each state_of IsFound lawful cuts x.found xs last (fold s one.0) one.2 came.3 in (
+kept_each {D = D} state_of IsFound cuts disk [] last s here came = ([], refl, subst (λ (d : D). Stands (state_of d) s) (sym came) here)
+kept_each state_of IsFound cuts disk (x ∷ xs) last s here came =
+    let one = kept_one state_of disk x.found x.sitting x.time s here came.0 came.1 (λ honest. cuts x.time (disk_left x.sitting) x.found honest came.2) in
+    let others = kept_each state_of IsFound cuts x.found xs last (fold s one.0) one.2 came.3 in (
       one.0 ++ others.0,
       (one.0, others.0, refl, one.1, others.1),
       subst (Stands (state_of last)) (sym (fold-append s one.0 others.0)) others.2,
@@ -188,18 +184,18 @@ kept_each state_of IsFound lawful cuts disk (x ∷ xs) last s here came =
 
 -- ---- what is opened at the end
 
-pub survives_history : {D : Type 0} (state_of : D → DiskState) (IsFound : ℕ → D → D → Type 0) → AreLawful state_of → AreCuts state_of IsFound → (history : History state_of IsFound)
+pub survives_history : {D : Type 0} (state_of : D → DiskState) (IsFound : ℕ → D → D → Type 0) → AreCuts state_of IsFound → (history : History state_of IsFound)
     → IsOpenOnHonestDisk (session_state state_of history.first.before) → SurvivesHistory history
-survives_history state_of IsFound lawful cuts history given =
+survives_history state_of IsFound cuts history given =
     let s : BenchState = history.first.before.state in
-    let first = kept_late state_of lawful history.first history.time s history.found refl given history.since (cuts history.time history.first.after.disk history.found (honest_of_run state_of history.first given.1) history.stopped) in
-    let others = kept_each state_of IsFound lawful cuts history.found history.stops history.last (fold s first.0) first.2 history.came in
+    let first = kept_late state_of history.first history.time s history.found refl given history.since (cuts history.time history.first.after.disk history.found (honest_of_run state_of history.first given.1) history.stopped) in
+    let others = kept_each state_of IsFound cuts history.found history.stops history.last (fold s first.0) first.2 history.came in
     let here = others.2 in
     record {
       kept = first.0 ++ others.0;
       of_each = (first.0, others.0, refl, first.1, others.1);
       reopened = λ name session begun.
-          one_either (state_of history.last).bytes session.state (fold (fold s first.0) others.0) (begun.opens here.honest).stands here.stands ∙ sym (fold-append s first.0 others.0);
+          one_either (bytes_of (state_of history.last)) session.state (fold (fold s first.0) others.0) (begun.opens here.honest).stands here.stands ∙ sym (fold-append s first.0 others.0);
       not_refused = λ name number refused.
           number_refused state_of history.last refused.0 number (fold (fold s first.0) others.0) here refused.1;
     }

@@ -1,6 +1,6 @@
 -- What a run keeps of the inputs that it met.
 use Rattle.std.proofs.Common.{◌≡◌, List, Bool, true, false, refl, sym, subst}
-use Rattle.mcs_disk.specs.Disk.{DiskState, IsLawful}
+use Rattle.mcs_disk.specs.Disk.{DiskState}
 use Rattle.mcs_model.specs.declared.command.Command.{Command}
 use Rattle.mcs_session.specs.KeptCommands.{IsOpenOnHonestDisk, KeepsCommands}
 use Rattle.mcs_session.specs.SessionState.{SessionState, session_state}
@@ -17,9 +17,9 @@ kept_by : (failed : Bool) (a b : SessionState) (cs rs : List Command) → (faile
 kept_by false a b cs rs same given x = subst (λ (v : List Command). KeepsCommands a.disk b.disk a.bench.state cs v) (sym (same refl)) (x.kept given).kept
 kept_by true a b cs rs same given x = x.kept given
 
-pub survives : {E : Type 0} (state_of : E → DiskState) → ((e : E) → (state_of e).honest → IsLawful (state_of e)) → (end : ShellEnd) (r r' : KnownBytes) (a b : ShellState) (ran : RanShell end r r' a b)
+pub survives : {E : Type 0} (state_of : E → DiskState) → (end : ShellEnd) (r r' : KnownBytes) (a b : ShellState) (ran : RanShell end r r' a b)
     → IsOpenOnHonestDisk a.session → SurvivesPowerCuts state_of a.session b.session.disk ran.served.met
-survives state_of lawful end r r' a b ran given =
+survives state_of end r r' a b ran given =
     let s = a.session.bench.state in
     let met = ran.served.met in
     let done : List Command = in_turn acknowledged_commands s met in
@@ -28,7 +28,7 @@ survives state_of lawful end r r' a b ran given =
     record {
       acknowledged = kept.acknowledged;
       reopened = λ t found opened u le cut opens. reopened t a.session.disk b.session.disk (state_of found) (state_of opened) s u done may kept le cut opens;
-      not_refused = λ t found fault le cut h. found_is_opened t a.session.disk b.session.disk (state_of found) s done may fault kept le cut (lawful found cut.honest) h;
+      not_refused = λ t found fault le cut h. found_is_opened t a.session.disk b.session.disk (state_of found) s done may fault kept le cut h;
     }
 
 -- ---- what it leaves as it was

@@ -2,7 +2,7 @@
 use Rattle.std.specs.Prelude.{◌≡◌, ◌≢◌, ◌⊎◌, ◌≤◌, ℕ, List, [], ◌++◌}
 use Rattle.std.specs.Io.KnownBytes.{Appends}
 use Rattle.mcs_answers.specs.AnswerTexts.{session_text}
-use Rattle.mcs_disk.specs.Disk.{DiskState}
+use Rattle.mcs_disk.specs.Disk.{DiskState, time_of}
 use Rattle.mcs_disk.specs.PowerCut.{IsLeftByCut}
 use Rattle.mcs_journal.specs.declared.fault.OpenFault.{OpenFault}
 use Rattle.mcs_journal.specs.declared.fault.OpenFault.TheVariants as open_fault
@@ -28,11 +28,11 @@ pub record SurvivesPowerCuts
     (met : List Step) : Type 0 where
   pub acknowledged : Acknowledgements a.disk ran
       (in_turn acknowledged_commands a.bench.state met)
-  pub reopened : (t : ℕ) (found opened : E) (u : BenchState) → a.disk.clock ≤ t
+  pub reopened : (t : ℕ) (found opened : E) (u : BenchState) → time_of a.disk ≤ t
       → IsLeftByCut t ran (state_of found) → OpensSession (state_of found) (state_of opened) u
       → IsAfterPrefix a.bench.state (in_turn reached_commands a.bench.state met)
       (acknowledged_by t acknowledged.moments) u
-  pub not_refused : (t : ℕ) (found : E) (fault : OpenFault) → a.disk.clock ≤ t
+  pub not_refused : (t : ℕ) (found : E) (fault : OpenFault) → time_of a.disk ≤ t
       → IsLeftByCut t ran (state_of found) → RefusesSession fault (state_of found)
       → (fault ≡ open_fault.Device) ⊎ (fault ≡ open_fault.NoMemory)
 

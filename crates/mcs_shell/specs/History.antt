@@ -1,7 +1,7 @@
 -- The headline over any number of runs: sessions are opened on a disk and served by shells, stopped
 -- at any moment, and opened again.
 use Rattle.std.specs.Prelude.{◌≡◌, ◌⊎◌, ◌≤◌, ℕ, List, [], ◌∷◌, ◌++◌, length}
-use Rattle.mcs_disk.specs.Disk.{DiskState}
+use Rattle.mcs_disk.specs.Disk.{DiskState, time_of}
 use Rattle.mcs_disk.specs.PowerCut.{IsLeftByCut}
 use Rattle.mcs_host.specs.declared.arguments.Choice.TheVariants as choice
 use Rattle.mcs_model.specs.declared.command.Command.{Command}
@@ -47,7 +47,7 @@ abbrev pub IsHistory : {D : Type 0} {state_of : D → DiskState} → (ℕ → D 
     → List (Stop state_of) → D → Type 0
 IsHistory IsFound disk [] last = last ≡ disk
 IsHistory {state_of = state_of} IsFound disk (x ∷ xs) last =
-    CameOf disk x.sitting × ((state_of disk).clock ≤ x.time)
+    CameOf disk x.sitting × (time_of (state_of disk) ≤ x.time)
     × IsFound x.time (disk_left x.sitting) x.found × IsHistory IsFound x.found xs last
 
 -- what a power cut may leave of a disk that it cut off at some moment since the time t
@@ -60,7 +60,7 @@ pub record History
     {D : Type 0} (state_of : D → DiskState) (IsFound : ℕ → D → D → Type 0) : Type 0 where
   pub first : ShellRun state_of
   pub time : ℕ
-  pub since : (state_of first.before.disk).clock ≤ time
+  pub since : time_of (state_of first.before.disk) ≤ time
   pub found : D
   pub stopped : IsFound time first.after.disk found
   pub stops : List (Stop state_of)

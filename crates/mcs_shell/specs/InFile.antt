@@ -1,5 +1,6 @@
 -- The headline down to a file of the host: what the program finds in it after a stop.
 use Rattle.std.specs.Prelude.{◌≡◌, ◌⊎◌, ◌≤◌, ℕ, List}
+use Rattle.mcs_disk.specs.Disk.{bytes_of, time_of}
 use Rattle.mcs_host.specs.Ending.{IsLeftSince, as_disk, found_in}
 use Rattle.mcs_host.specs.FileDisk.{IsOpened}
 use Rattle.mcs_host.specs.declared.file_disk.FileDisk.{FileDisk}
@@ -18,7 +19,7 @@ use Rattle.mcs_shell.specs.Transcript.{acknowledged_commands, in_turn, reached_c
 pub record IsFoundAgain (t : ℕ) (file again : FileDisk) : Type 0 where
   pub left : IsLeftSince t file
   pub opened : IsOpened (as_disk again)
-  pub bytes : (as_disk again).bytes ≡ found_in file
+  pub bytes : bytes_of (as_disk again) ≡ found_in file
   pub honest : (as_disk again).honest
 
 -- The answers of a run over a file of the host are those of the inputs that it met. However and
@@ -33,12 +34,12 @@ pub record SurvivesInFile (run : ShellRun as_disk) : Type 0 where
   pub acknowledged : Acknowledgements (as_disk run.before.disk) (as_disk run.after.disk)
       (in_turn acknowledged_commands run.before.state run.ran.served.met)
   pub reopened : (t : ℕ) (again : FileDisk) (name : List ℕ) (session : SessionView FileDisk)
-      → (as_disk run.before.disk).clock ≤ t → IsFoundAgain t run.after.disk again
+      → time_of (as_disk run.before.disk) ≤ t → IsFoundAgain t run.after.disk again
       → IsBegunOn as_disk (choice.Open name) again session
       → IsAfterPrefix run.before.state
       (in_turn reached_commands run.before.state run.ran.served.met)
       (acknowledged_by t acknowledged.moments) session.state
   pub not_refused : (t : ℕ) (again : FileDisk) (name : List ℕ) (number : ℕ)
-      → (as_disk run.before.disk).clock ≤ t → IsFoundAgain t run.after.disk again
+      → time_of (as_disk run.before.disk) ≤ t → IsFoundAgain t run.after.disk again
       → IsRefusedWith as_disk (choice.Open name) again number
       → (number ≡ 53) ⊎ (number ≡ 90)

@@ -2,7 +2,7 @@
 use Rattle.std.specs.Prelude.{◌≡◌, ◌↔◌, ◌<◌, ◌+◌, min, Bool, true, false, ℕ, List, [], ◌∷◌, ◌++◌, length, take, Option, None}
 use Rattle.std.specs.Io.KnownBytes.{Appends}
 use Rattle.std.specs.List.{list_any}
-use Rattle.mcs_disk.specs.Disk.{most_faults}
+use Rattle.mcs_disk.specs.Disk.{most_faults, size_of}
 use Rattle.mcs_model.specs.declared.command.Command.{Command}
 use Rattle.mcs_model.specs.BenchState.{BenchState}
 use Rattle.mcs_model.specs.Fold.{fold}
@@ -54,7 +54,7 @@ pub record ClosesSession
   pub closed : b.bench.live ≡ false
   pub state : b.bench.state ≡ fold a.bench.state done
   pub faults : b.disk.faults ≡ min (a.disk.faults + 1) most_faults
-  pub size : b.disk.size ≡ a.disk.size
+  pub size : size_of b.disk ≡ size_of a.disk
   pub honest : b.disk.honest ↔ a.disk.honest
   pub kept : Given a → KeepsCommands a.disk b.disk a.bench.state done reached_too
 

@@ -1,7 +1,7 @@
-use Rattle.std.proofs.Common.{List, ℕ, length, sym, ◌∙◌, ap, subst}
-use Rattle.mcs_host.specs.Ending.{found_in}
+use Rattle.std.proofs.Common.{List, ℕ, sym, subst}
+use Rattle.mcs_disk.proofs.Composing.{fresh_durable}
+use Rattle.mcs_host.specs.Ending.{as_disk, found_in}
 use Rattle.mcs_disk.specs.Calls.{since_after}
-use Rattle.mcs_disk.specs.CallLaws.{length-bytes_after, sized}
 use Rattle.mcs_host.proofs.Leaving.{found_since}
 use Rattle.mcs_host.proofs.laws.opened_again_is_left_by_cut.Goals as goal
 
@@ -11,7 +11,6 @@ returns c = λ t file again honest left still opened same.
     let found = found_since start file.on.history.calls left.never_made left.made file.on.end.calls_by_the_end t (found_in file) left.all left.by_the_end left.late honest in
     record {
       honest = still;
-      size = ap length same ∙ sized start file.on.end.calls_by_the_end (found_in file) honest ∙ sym (length-bytes_after start file.on.history.calls) ∙ ap length (sym file.on.kept);
       found = subst (λ (bytes : List ℕ). since_after start file.on.history.calls t bytes) (sym same) found;
-      durable = opened.durable;
+      durable = fresh_durable (as_disk again) opened.calls;
     }

@@ -1,8 +1,11 @@
+use Rattle.mcs_disk.specs.Moments.{ReadsOnly}
+use Rattle.mcs_disk.proofs.CallLaws.{size_of-bytes}
+use Rattle.mcs_disk.proofs.Composing.{rests_bytes, sync_reads, rests_durable, rests_then, reads_then, reads_as, synced_durable}
 use Rattle.mcs_journal.proofs.Asked.{on_err, reads_more, reads_sum}
 use Rattle.mcs_disk.specs.CallList.{DiskCall, Synced}
 use Rattle.mcs_journal.specs.Calls.{OnlyRead, many_reads}
 use Rattle.std.proofs.Common.{rules, ◌≡◌, inr, ◌+◌, ◌*◌, List, [], ◌∷◌, ◌++◌, ℕ, length, append_assoc, sym, ◌∙◌, ap, subst, arith, IsErrOf}
-use Rattle.mcs_disk.specs.Disk.{part}
+use Rattle.mcs_disk.specs.Disk.{part, bytes_of, size_of}
 use Rattle.mcs_journal.specs.File.{Holds, IsLog, start_of}
 use Rattle.mcs_journal.specs.Writing.{IsHeader, IsSnapshot}
 use Rattle.mcs_journal.specs.declared.slot.Slot.{Slot}
@@ -23,31 +26,30 @@ contents f snap slot records long header is_snap log = record {
 
 pub returns-clause-holds : goal.returns-clause-holds
 returns-clause-holds g c = λ h.
-    let law = g.met.D.Disk.lawful c.args.disk.now h in
     let h1 = c.sync.ensures.call.honest.1 h in
     let h2 = c.read_header.ensures.reads.tells.honest.1 h1 in
     let h3 = c.read_snapshot.ensures.reads.tells.honest.1 h2 in
-    let same1 = (c.sync.ensures.honest h).bytes in
-    let same2 = (c.read_header.ensures.reads.rests h1).bytes ∙ same1 in
-    let same3 = (c.read_snapshot.ensures.reads.rests h2).bytes ∙ same2 in
+    let same1 = rests_bytes _ _ (sync_reads _ _ _ c.sync.ensures.call c.sync.ensures.noted).rests in
+    let same2 = rests_bytes _ _ c.read_header.ensures.reads.rests ∙ same1 in
+    let same3 = rests_bytes _ _ c.read_snapshot.ensures.reads.rests ∙ same2 in
     let found = c.in_ok-log.ensures.found h3 in
-    let size : (g.D.Disk.state c.args.disk.now).size ≡ 163856 = search rules in
-    contents _ _ c.in_ok-slot.slot _ (law.sized _ law.current ∙ size)
+    let size : size_of (g.D.Disk.state c.args.disk.now) ≡ 163856 = search rules in
+    contents _ _ c.in_ok-slot.slot _ (size_of-bytes (g.D.Disk.state c.args.disk.now) ∙ size)
     (subst (λ (f : List ℕ). IsHeader f c.in_ok-slot.slot) same1 (c.in_ok-slot.ensures.header h1))
-    (subst (λ (s : ℕ). IsSnapshot (g.D.Disk.state c.args.disk.now).bytes s c.in_ok-snap.snap) c.start-start.ensures (subst (λ (f : List ℕ). IsSnapshot f c.start-start.result c.in_ok-snap.snap) same2 (c.in_ok-snap.ensures.snap h2)))
-    (subst (λ (s : ℕ). IsLog c.in_ok-log.log.records.items (part (s + 16384) 65536 (g.D.Disk.state c.args.disk.now).bytes)) c.start-start.ensures (subst (λ (f : List ℕ). IsLog c.in_ok-log.log.records.items (part (c.start-start.result + 16384) 65536 f)) same3 found.0))
+    (subst (λ (s : ℕ). IsSnapshot (bytes_of (g.D.Disk.state c.args.disk.now)) s c.in_ok-snap.snap) c.start-start.ensures (subst (λ (f : List ℕ). IsSnapshot f c.start-start.result c.in_ok-snap.snap) same2 (c.in_ok-snap.ensures.snap h2)))
+    (subst (λ (s : ℕ). IsLog c.in_ok-log.log.records.items (part (s + 16384) 65536 (bytes_of (g.D.Disk.state c.args.disk.now)))) c.start-start.ensures (subst (λ (f : List ℕ). IsLog c.in_ok-log.log.records.items (part (c.start-start.result + 16384) 65536 f)) same3 found.0))
 
 pub returns-in_err-log-clause-damaged : goal.returns-in_err-log-clause-damaged
 returns-in_err-log-clause-damaged g c = λ h told snap records held.
     let h1 = c.sync.ensures.call.honest.1 h in
     let h2 = c.read_header.ensures.reads.tells.honest.1 h1 in
     let h3 = c.read_snapshot.ensures.reads.tells.honest.1 h2 in
-    let same1 = (c.sync.ensures.honest h).bytes in
-    let same2 = (c.read_header.ensures.reads.rests h1).bytes ∙ same1 in
-    let same3 = (c.read_snapshot.ensures.reads.rests h2).bytes ∙ same2 in
+    let same1 = rests_bytes _ _ (sync_reads _ _ _ c.sync.ensures.call c.sync.ensures.noted).rests in
+    let same2 = rests_bytes _ _ c.read_header.ensures.reads.rests ∙ same1 in
+    let same3 = rests_bytes _ _ c.read_snapshot.ensures.reads.rests ∙ same2 in
     let header = subst (λ (f : List ℕ). IsHeader f c.in_ok-slot.slot) same1 (c.in_ok-slot.ensures.header h1) in
     let damaged : IsErrOf c.read_log.result Damaged = search rules in
-    let log = subst (λ (s : ℕ). IsLog records (part (s + 16384) 65536 (g.D.Disk.state c.args.disk.now).bytes)) (ap start_of header.active ∙ sym c.start-start.ensures) held.log in
+    let log = subst (λ (s : ℕ). IsLog records (part (s + 16384) 65536 (bytes_of (g.D.Disk.state c.args.disk.now)))) (ap start_of header.active ∙ sym c.start-start.ensures) held.log in
     c.read_log.ensures.damaged h3 damaged records (subst (λ (f : List ℕ). IsLog records (part (c.start-start.result + 16384) 65536 f)) (sym same3) log)
 
 pub returns-in_err-snap-clause-refused_calls : goal.returns-in_err-snap-clause-refused_calls
@@ -71,3 +73,32 @@ returns-clause-calls g c =
   where
     four : (n : ℕ) → 1 + 3 * n + 3 ≡ 4 + 3 * n
     four n = omega arith
+
+pub returns-in_err-slot-clause-reads : goal.returns-in_err-slot-clause-reads
+returns-in_err-slot-clause-reads g c =
+    reads_then _ (g.D.Disk.state c.sync.new.self) _ _ _ (λ failed. cc) (sync_reads _ _ _ c.in_ok-sync.ensures.call c.in_ok-sync.ensures.noted) (search rules)
+
+pub returns-in_err-snap-clause-reads : goal.returns-in_err-snap-clause-reads
+returns-in_err-snap-clause-reads g c =
+    let first = sync_reads _ _ _ c.in_ok-sync.ensures.call c.in_ok-sync.ensures.noted in
+    let second : ReadsOnly (g.D.Disk.state c.sync.new.self) (g.D.Disk.state c.read_header.new.disk) ⊥ = reads_as _ _ _ _ (λ failed. cc) (λ no. absurd no) c.in_ok-slot.ensures.reads in
+    reads_then _ (g.D.Disk.state c.read_header.new.disk) _ ⊥ _ (λ no. no) (reads_then _ _ _ _ ⊥ (λ failed. cc) first second) (search rules)
+
+pub returns-in_err-log-clause-reads : goal.returns-in_err-log-clause-reads
+returns-in_err-log-clause-reads g c =
+    let first = sync_reads _ _ _ c.in_ok-sync.ensures.call c.in_ok-sync.ensures.noted in
+    let second : ReadsOnly (g.D.Disk.state c.sync.new.self) (g.D.Disk.state c.read_header.new.disk) ⊥ = reads_as _ _ _ _ (λ failed. cc) (λ no. absurd no) c.in_ok-slot.ensures.reads in
+    let third : ReadsOnly (g.D.Disk.state c.read_header.new.disk) (g.D.Disk.state c.read_snapshot.new.disk) ⊥ = reads_as _ _ _ _ (λ failed. cc) (λ no. absurd no) c.in_ok-snap.ensures.reads in
+    reads_then _ (g.D.Disk.state c.read_snapshot.new.disk) _ ⊥ _ (λ no. no) (reads_then _ _ _ ⊥ ⊥ (λ no. no) (reads_then _ _ _ _ ⊥ (λ failed. cc) first second) third) (search rules)
+
+pub returns-clause-reads : goal.returns-clause-reads
+returns-clause-reads g c =
+    let first = sync_reads _ _ _ c.in_ok-sync.ensures.call c.in_ok-sync.ensures.noted in
+    let second : ReadsOnly (g.D.Disk.state c.sync.new.self) (g.D.Disk.state c.read_header.new.disk) ⊥ = reads_as _ _ _ _ (λ failed. cc) (λ no. absurd no) c.in_ok-slot.ensures.reads in
+    let third : ReadsOnly (g.D.Disk.state c.read_header.new.disk) (g.D.Disk.state c.read_snapshot.new.disk) ⊥ = reads_as _ _ _ _ (λ failed. cc) (λ no. absurd no) c.in_ok-snap.ensures.reads in
+    reads_then _ (g.D.Disk.state c.read_snapshot.new.disk) _ ⊥ _ (λ no. no) (reads_then _ _ _ ⊥ ⊥ (λ no. no) (reads_then _ _ _ _ ⊥ (λ failed. cc) first second) third) (search rules)
+
+pub returns-clause-durable : goal.returns-clause-durable
+returns-clause-durable g c = λ h.
+    rests_durable _ _ (rests_then _ _ _ c.read_header.ensures.reads.rests (rests_then _ _ _ c.read_snapshot.ensures.reads.rests c.read_log.ensures.reads.rests))
+    (synced_durable (g.D.Disk.state c.sync.new.self) _ c.in_ok-sync.ensures.noted.all)

@@ -1,10 +1,11 @@
+use Rattle.mcs_disk.proofs.CallLaws.{size_of-bytes}
 use Rattle.mcs_journal.proofs.Asked.{on_err, reads_more, reads_sum}
 use Rattle.mcs_journal.specs.Calls.{OnlyRead, many_reads}
 use Rattle.std.proofs.Common.{rules, ◌≡◌, ◌≢◌, ◌≤◌, ◌+◌, ◌*◌, ◌-◌, List, [], ◌∷◌, ◌++◌, ℕ, length, length-append, sym, ◌∙◌, ap, subst, arith, IsErrOf, get_or}
 use Rattle.mcs_journal.specs.declared.fault.OpenFault.TheVariants.{Damaged}
-use Rattle.mcs_disk.specs.Disk.{part}
+use Rattle.mcs_disk.specs.Disk.{part, bytes_of}
 use Rattle.mcs_journal.specs.Writing.{IsNext, IsNoRecord}
-use Rattle.mcs_disk.proofs.Composing.{reads_as, reads_then}
+use Rattle.mcs_disk.proofs.Composing.{reads_as, reads_then, rests_bytes}
 use Rattle.mcs_journal.proofs.Walk.{IsPrefix, one_more, ends, no_log}
 use Rattle.mcs_journal.proofs.reading.read_log.Goals as goal
 
@@ -19,21 +20,19 @@ returns-clause-reads g c = reads_then _ _ _ ⊥ _ (λ no. no) c.loop-records.inv
 
 pub returns-clause-found : goal.returns-clause-found
 returns-clause-found g c = λ h.
-    let law = g.met.D.Disk.lawful c.args.disk.now h in
     let so_far = c.loop-records.invariant.walked h in
-    let same = (c.loop-records.invariant.reads.rests h).bytes in
+    let same = rests_bytes _ _ c.loop-records.invariant.reads.rests in
     let shut = c.in_ok-record.ensures.closed (c.loop-records.invariant.reads.tells.honest.1 h) in
-    let not_one : get_or (g.D.Disk.state c.loop-records.disk).bytes (c.args.at + c.loop-records.used) 0 ≢ 1 = search rules in
-    (ends (g.D.Disk.state c.args.disk.now).bytes c.args.at (omega (arith, law.sized _ law.current, c.requires.inside)) _ _ so_far (λ one. not_one (ap (λ (b : List ℕ). get_or b (c.args.at + c.loop-records.used) 0) same ∙ one)) (omega arith), so_far.count)
+    let not_one : get_or (bytes_of (g.D.Disk.state c.loop-records.disk)) (c.args.at + c.loop-records.used) 0 ≢ 1 = search rules in
+    (ends (bytes_of (g.D.Disk.state c.args.disk.now)) c.args.at (omega (arith, size_of-bytes (g.D.Disk.state c.args.disk.now), c.requires.inside)) _ _ so_far (λ one. not_one (ap (λ (b : List ℕ). get_or b (c.args.at + c.loop-records.used) 0) same ∙ one)) (omega arith), so_far.count)
 
 pub returns-in_err-record-clause-damaged : goal.returns-in_err-record-clause-damaged
 returns-in_err-record-clause-damaged g c = λ h damaged records is_log.
-    let law = g.met.D.Disk.lawful c.args.disk.now h in
     let so_far = c.loop-records.invariant.walked h in
-    let same = (c.loop-records.invariant.reads.rests h).bytes in
+    let same = rests_bytes _ _ c.loop-records.invariant.reads.rests in
     let told : IsErrOf c.read_record.result Damaged = search rules in
     let said = c.read_record.ensures.damaged (c.loop-records.invariant.reads.tells.honest.1 h) told in
-    no_log (g.D.Disk.state c.args.disk.now).bytes c.args.at (omega (arith, law.sized _ law.current, c.requires.inside)) _ _ so_far (omega arith) (subst (λ (b : List ℕ). IsNoRecord b (c.args.at + c.loop-records.used) (65536 - c.loop-records.used)) same said) records is_log
+    no_log (bytes_of (g.D.Disk.state c.args.disk.now)) c.args.at (omega (arith, size_of-bytes (g.D.Disk.state c.args.disk.now), c.requires.inside)) _ _ so_far (omega arith) (subst (λ (b : List ℕ). IsNoRecord b (c.args.at + c.loop-records.used) (65536 - c.loop-records.used)) same said) records is_log
 
 pub loop-records-preserved : goal.loop-records-preserved
 loop-records-preserved g c = record {
@@ -42,12 +41,11 @@ loop-records-preserved g c = record {
   calls = reads_sum (3 * length c.loop-records.records.items) 3 _ _ _ c.loop-records.invariant.calls (rw c.in-Some.is at c.in_ok-record.ensures.record_calls)
       ∙ ap (λ (n : ℕ). many_reads n ++ (g.D.Disk.state c.args.disk.now).calls) (omega (arith, length-append c.loop-records.records.items (c.in-Some.record ∷ []), ap length c.in_ok-push.ensures.items));
   walked = λ h.
-      let law = g.met.D.Disk.lawful c.args.disk.now h in
-      let same = (c.loop-records.invariant.reads.rests h).bytes in
+      let same = rests_bytes _ _ c.loop-records.invariant.reads.rests in
       let next = rw c.in-Some.is at c.in_ok-record.ensures.next (c.loop-records.invariant.reads.tells.honest.1 h) in
-      let more = one_more (g.D.Disk.state c.args.disk.now).bytes c.args.at (omega (arith, law.sized _ law.current, c.requires.inside)) c.loop-records.records.items c.loop-records.used c.in-Some.record (c.loop-records.invariant.walked h)
+      let more = one_more (bytes_of (g.D.Disk.state c.args.disk.now)) c.args.at (omega (arith, size_of-bytes (g.D.Disk.state c.args.disk.now), c.requires.inside)) c.loop-records.records.items c.loop-records.used c.in-Some.record (c.loop-records.invariant.walked h)
       (subst (λ (b : List ℕ). IsNext b (c.args.at + c.loop-records.used) c.in-Some.record) same next) room in
-      let log = part c.args.at 65536 (g.D.Disk.state c.args.disk.now).bytes in
+      let log = part c.args.at 65536 (bytes_of (g.D.Disk.state c.args.disk.now)) in
       let sized = subst (λ (n : ℕ). IsPrefix (c.loop-records.records.items ++ c.in-Some.record ∷ []) (c.loop-records.used + (n + 3)) log) (sym long) more in
       subst (λ (rs : List (List ℕ)). IsPrefix rs (c.loop-records.used + (length c.bytes.result.now + 3)) log) (sym c.in_ok-push.ensures.items) sized;
 }

@@ -1,6 +1,6 @@
 use Rattle.std.proofs.Common.{◌≡◌, ◌≤◌, ◌+◌, ◌*◌, ◌-◌, ◌++◌, length}
 use Rattle.mcs_journal.specs.Calls.{many_reads}
-use Rattle.mcs_disk.specs.Disk.{part}
+use Rattle.mcs_disk.specs.Disk.{part, bytes_of}
 use Rattle.mcs_disk.specs.Moments.{ReadsOnly}
 use Rattle.mcs_journal.proofs.Walk.{IsPrefix}
 use Rattle.mcs_journal.proofs.reading.read_log.Given as goal
@@ -10,7 +10,7 @@ invariant-loop-records g l = record {
   reads : ReadsOnly (g.D.Disk.state l.fn.disk) (g.D.Disk.state l.disk) ⊥;
   calls : (g.D.Disk.state l.disk).calls ≡ many_reads (3 * length l.records.items) ++ (g.D.Disk.state l.fn.disk).calls;
   within : l.used + 1 ≤ 65536;
-  walked : (g.D.Disk.state l.fn.disk).honest → IsPrefix l.records.items l.used (part l.at 65536 (g.D.Disk.state l.fn.disk).bytes);
+  walked : (g.D.Disk.state l.fn.disk).honest → IsPrefix l.records.items l.used (part l.at 65536 (bytes_of (g.D.Disk.state l.fn.disk)));
 }
 
 abbrev pub decreases-loop-records : goal.decreases-loop-records

@@ -1,6 +1,6 @@
 use Rattle.std.proofs.Common.{rules, ◌≡◌, List, [], ◌∷◌, ℕ, length, get_or, refl, sym, ◌∙◌, ap, subst, arith}
 use Rattle.std.proofs.lemmas.Result.{on_ok_weaker}
-use Rattle.mcs_disk.specs.Disk.{Torn, part}
+use Rattle.mcs_disk.specs.Disk.{Torn, part, bytes_of}
 use Rattle.mcs_journal.specs.File.{Holds, slot_of, slot_named, start_of}
 use Rattle.mcs_journal.specs.Writing.{IsArea, other_slot, selector_of}
 use Rattle.mcs_journal.specs.declared.slot.Slot.{Slot}
@@ -20,7 +20,7 @@ sized at snap area f c is_area torn = subst (λ (n : ℕ). Torn at n f c) is_are
 
 pub returns-in_err-commit-clause-changes : goal.returns-in_err-commit-clause-changes
 returns-in_err-commit-clause-changes g c = λ h durable old_snap records held other.
-    let f = (g.D.Disk.state c.args.disk.now).bytes in
+    let f = bytes_of (g.D.Disk.state c.args.disk.now) in
     let area = c.encode_snapshot.ensures in
     let moments = first_step _ _ (λ x. Holds x old_snap records) (λ x. Holds x c.args.snap.now []) c.start.result c.encode_snapshot.new.buffer durable
     (λ x torn. other_torn f old_snap c.args.snap.now _ records c.start.result held (c.start.ensures ∙ ap start_of other) area x (sized _ _ _ _ _ area torn)) _ (c.commit.ensures.commits h) in
@@ -30,22 +30,21 @@ pub returns-clause-named : goal.returns-clause-named
 returns-clause-named g c = λ h.
     let new = g.D.Disk.state c.commit-2.new.disk in
     let last = c.commit-2.ensures.commits (c.commit.ensures.call.honest.1 h) in
-    on_ok_weaker _ (λ (here : part 8 1 new.bytes ≡ c.selector.result ∷ []). ap slot_named (sym (part_at 8 1 new.bytes 0 (omega arith)) ∙ ap (λ (l : List ℕ). get_or l 0 0) here ∙ c.selector.ensures) ∙ selector_names c.args.other) last.written
+    on_ok_weaker _ (λ (here : part 8 1 (bytes_of new) ≡ c.selector.result ∷ []). ap slot_named (sym (part_at 8 1 (bytes_of new) 0 (omega arith)) ∙ ap (λ (l : List ℕ). get_or l 0 0) here ∙ c.selector.ensures) ∙ selector_names c.args.other) last.written
 
 pub returns-clause-changes : goal.returns-clause-changes
 returns-clause-changes g c = λ h durable old_snap records held other.
-    let f = (g.D.Disk.state c.args.disk.now).bytes in
+    let f = bytes_of (g.D.Disk.state c.args.disk.now) in
     let mid = g.D.Disk.state c.commit.new.disk in
     let h_mid = c.commit.ensures.call.honest.1 h in
-    let law = g.met.D.Disk.lawful c.commit-2.new.disk (c.commit-2.ensures.call.honest.1 h_mid) in
     let area = c.encode_snapshot.ensures in
     let step = c.in_ok-commit.ensures.commits h in
     let at : c.start.result ≡ start_of (other_slot (slot_of f)) = c.start.ensures ∙ ap start_of other in
     let first = sized _ _ _ _ _ area step.outside in
-    let there : part c.start.result 16385 mid.bytes ≡ c.encode_snapshot.new.buffer = ap (λ (n : ℕ). part c.start.result n mid.bytes) (sym area.long) ∙ step.written in
+    let there : part c.start.result 16385 (bytes_of mid) ≡ c.encode_snapshot.new.buffer = ap (λ (n : ℕ). part c.start.result n (bytes_of mid)) (sym area.long) ∙ step.written in
     let names : slot_named c.selector.result ≡ other_slot (slot_of f) = ap slot_named c.selector.ensures ∙ selector_names c.args.other ∙ other in
     both_steps _ mid (λ x. Holds x old_snap records) (λ x. Holds x c.args.snap.now []) c.start.result c.encode_snapshot.new.buffer durable
-    (λ x torn. other_torn f old_snap c.args.snap.now _ records c.start.result held at area x (sized _ _ _ _ _ area torn)) _ _ 8 (c.selector.result ∷ []) _ law
-    (λ x torn. selector_torn f old_snap c.args.snap.now _ records c.start.result held at area mid.bytes x first there torn)
-    (λ here torn. selector_done f old_snap c.args.snap.now _ records c.start.result held at area mid.bytes _ first there torn _ here names)
+    (λ x torn. other_torn f old_snap c.args.snap.now _ records c.start.result held at area x (sized _ _ _ _ _ area torn)) _ _ 8 (c.selector.result ∷ []) _
+    (λ x torn. selector_torn f old_snap c.args.snap.now _ records c.start.result held at area (bytes_of mid) x first there torn)
+    (λ here torn. selector_done f old_snap c.args.snap.now _ records c.start.result held at area (bytes_of mid) _ first there torn _ here names)
     step (c.commit-2.ensures.commits h_mid)

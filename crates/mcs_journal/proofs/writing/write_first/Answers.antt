@@ -1,6 +1,8 @@
 use Rattle.std.proofs.Common.{◌≡◌, inr, List, [], ℕ, length, get_or, sym, ◌∙◌, ap, arith}
 use Rattle.std.proofs.lemmas.Result.{on_ok_weaker}
-use Rattle.mcs_disk.specs.Disk.{Torn, part}
+use Rattle.mcs_disk.proofs.Composing.{later_then}
+use Rattle.mcs_disk.proofs.CallLaws.{size_of-bytes}
+use Rattle.mcs_disk.specs.Disk.{Torn, part, bytes_of}
 use Rattle.mcs_journal.specs.File.{Holds, slot_of, slot_named, start_of}
 use Rattle.mcs_journal.specs.Writing.{IsArea}
 use Rattle.mcs_journal.specs.declared.format.TheConstants.{FIRST_HEADER}
@@ -23,13 +25,15 @@ made g c snap area long is_area there torn header =
 pub returns-clause-made : goal.returns-clause-made
 returns-clause-made g c = λ h.
     let mid = c.commit.ensures.call.honest.1 h in
-    let law = g.met.D.Disk.lawful c.commit-2.new.disk (c.commit-2.ensures.call.honest.1 mid) in
     let area = c.encode_snapshot.ensures in
     let step = c.in_ok-commit.ensures.commits h in
     let last = c.commit-2.ensures.commits mid in
-    let there : part 16 16385 (g.D.Disk.state c.commit.new.disk).bytes ≡ c.encode_snapshot.new.buffer = (λ k. part (sym c.start.ensures k) (sym area.long k) (g.D.Disk.state c.commit.new.disk).bytes) ∙ step.written in
-    on_ok_weaker _ (λ (here : part 0 16 (g.D.Disk.state c.commit-2.new.disk).bytes ≡ FIRST_HEADER).
-    made _ _ _ _ (law.sized _ law.current ∙ c.commit-2.ensures.call.size ∙ c.commit.ensures.call.size ∙ c.requires.size) area there last.outside here) last.written
+    let there : part 16 16385 (bytes_of (g.D.Disk.state c.commit.new.disk)) ≡ c.encode_snapshot.new.buffer = (λ k. part (sym c.start.ensures k) (sym area.long k) (bytes_of (g.D.Disk.state c.commit.new.disk))) ∙ step.written in
+    on_ok_weaker _ (λ (here : part 0 16 (bytes_of (g.D.Disk.state c.commit-2.new.disk)) ≡ FIRST_HEADER).
+    made _ _ _ _ (size_of-bytes (g.D.Disk.state c.commit-2.new.disk) ∙ ap length (c.commit-2.ensures.call.start ∙ c.commit.ensures.call.start) ∙ c.requires.size) area there last.outside here) last.written
 
 pub returns-clause-named : goal.returns-clause-named
-returns-clause-named g c = λ h. on_ok_weaker _ (λ (here : part 0 16 (g.D.Disk.state c.commit-2.new.disk).bytes ≡ FIRST_HEADER). named _ here) (c.commit-2.ensures.commits (c.commit.ensures.call.honest.1 h)).written
+returns-clause-named g c = λ h. on_ok_weaker _ (λ (here : part 0 16 (bytes_of (g.D.Disk.state c.commit-2.new.disk)) ≡ FIRST_HEADER). named _ here) (c.commit-2.ensures.commits (c.commit.ensures.call.honest.1 h)).written
+
+pub returns-clause-goes_on : goal.returns-clause-goes_on
+returns-clause-goes_on g c = λ h. later_then _ _ _ (c.commit.ensures.commits h).later (c.commit-2.ensures.commits (c.commit.ensures.call.honest.1 h)).later

@@ -4,7 +4,7 @@ use Rattle.mcs_session.specs.SessionState.{session_state}
 use Rattle.mcs_shell.specs.Headline.{SurvivesPowerCuts}
 use Rattle.mcs_shell.specs.RefusalNumbers.{open_fault_number}
 use Rattle.mcs_shell.specs.ShellState.{shell_state}
-use Rattle.mcs_shell.proofs.FoundAgain.{are_lawful, left_by_cut}
+use Rattle.mcs_shell.proofs.FoundAgain.{left_by_cut}
 use Rattle.mcs_shell.proofs.Surviving.{honest_after, survives}
 use Rattle.mcs_shell.proofs.InTurn.{answers_of_run}
 use Rattle.mcs_shell.proofs.headline.a_file_survives_power_cuts.Goals as goal
@@ -15,7 +15,7 @@ returns c = λ run given.
     let b = shell_state as_disk run.after run.out' in
     let honest : (as_disk run.after.disk).honest = honest_after run.end run.reader run.reader' a b run.ran given.1 in
     let kept : SurvivesPowerCuts as_disk (session_state as_disk run.before) (as_disk run.after.disk) run.ran.served.met =
-    survives as_disk are_lawful run.end run.reader run.reader' a b run.ran given in
+    survives as_disk run.end run.reader run.reader' a b run.ran given in
     record {
       answers = answers_of_run run.end run.reader run.reader' a b run.ran;
       acknowledged = kept.acknowledged;

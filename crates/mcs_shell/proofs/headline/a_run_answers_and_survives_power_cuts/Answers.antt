@@ -9,5 +9,5 @@ returns g c = λ run given.
     let b = shell_state g.D.Disk.state run.after run.out' in
     record {
       answers = answers_of_run run.end run.reader run.reader' a b run.ran;
-      survives = survives g.E.Disk.state g.met.E.Disk.lawful run.end run.reader run.reader' a b run.ran given;
+      survives = survives g.E.Disk.state run.end run.reader run.reader' a b run.ran given;
     }

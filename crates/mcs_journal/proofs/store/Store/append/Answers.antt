@@ -1,7 +1,7 @@
 use Rattle.mcs_disk.specs.CallList.{unsynced}
 use Rattle.mcs_journal.proofs.Asking.{append_one}
 use Rattle.std.proofs.Common.{◌≡◌, ◌+◌, List, [], ◌∷◌, ◌++◌, ℕ, length, sym, ◌∙◌, ap, subst, arith, IsTrue, length-take, length-append, length-drop}
-use Rattle.mcs_disk.specs.Disk.{DiskState}
+use Rattle.mcs_disk.specs.Disk.{DiskState, bytes_of}
 use Rattle.mcs_journal.specs.Store.{StoreView, IsIntactStore}
 use Rattle.mcs_journal.specs.File.{Holds, HasRoom, slot_named, frames_of, frame_of, start_of}
 use Rattle.mcs_journal.specs.Writing.{IsCommitPlace}
@@ -12,7 +12,7 @@ use Rattle.mcs_journal.proofs.Logs.{spelled-push, length-framed}
 use Rattle.mcs_journal.proofs.store.Store.append.Goals as goal
 
 -- where the commit byte stands
-commit_of : (disk : DiskState) (slot : Slot) (start used n : ℕ) (snap : List ℕ) (records : List (List ℕ)) → start ≡ start_of slot → IsIntactStore disk slot used → HasRoom used n → Holds disk.bytes snap records → IsCommitPlace disk.bytes records (start + 16384 + used) n
+commit_of : (disk : DiskState) (slot : Slot) (start used n : ℕ) (snap : List ℕ) (records : List (List ℕ)) → start ≡ start_of slot → IsIntactStore disk slot used → HasRoom used n → Holds (bytes_of disk) snap records → IsCommitPlace (bytes_of disk) records (start + 16384 + used) n
 commit_of disk slot start used n snap records at intact room held =
     let same : length (frames_of intact.records) ≡ length (frames_of records) = ap (λ (l : List (List ℕ)). length (frames_of l)) (same_records _ _ _ _ _ intact.holds held) in
     let place = at ∙ sym (ap start_of intact.active) in
@@ -39,7 +39,7 @@ invariant_of-self g c =
     let live : IsTrue c.self.inside.live = subst (λ (v : StoreView g.row.D.Denot). IsTrue v.live) (sym c.self.view_is) c.requires.live in
     let room : HasRoom c.self.inside.used (length c.args.payload.now) = subst (λ (v : StoreView g.row.D.Denot). HasRoom v.used (length c.args.payload.now)) (sym c.self.view_is) c.requires.room in
     record {
-      disk_size = c.add_record.ensures.call.size ∙ c.self.invariant.disk_size;
+      disk_size = ap length c.add_record.ensures.call.start ∙ c.self.invariant.disk_size;
       within = omega (arith, room);
       room = simp (length-take, length-append, length-drop) (omega (arith, c.deref_mut.ensures.len, ap length c.deref_mut.ensures.value, c.add_record.auto.buffer, c.self.invariant.room));
       synced = λ alive. ap unsynced c.in-Ok.ensures.calls.all;

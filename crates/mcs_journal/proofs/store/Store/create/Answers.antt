@@ -2,7 +2,7 @@ use Rattle.mcs_disk.specs.CallList.{unsynced}
 use Rattle.mcs_disk.proofs.Calling.{none_added}
 use Rattle.mcs_journal.proofs.Asking.{area_ok, area_err, create_one, header_read, refused_by_header, refused_create_one}
 use Rattle.std.proofs.Common.{inr, [], length, refl, sym, ◌∙◌, ap, arith, Err, length-take, length-append, length-drop}
-use Rattle.mcs_disk.proofs.Composing.{counts_then, rests_still, rests_leave, leaves_then}
+use Rattle.mcs_disk.proofs.Composing.{counts_then, rests_still, later_then}
 use Rattle.mcs_journal.specs.declared.fault.CreateFault.TheVariants.{Device}
 use Rattle.mcs_journal.proofs.Refusing.{counts_err, call_counts_ok, call_counts_err, refuses_create}
 use Rattle.mcs_journal.proofs.store.Store.create.Goals as goal
@@ -14,7 +14,7 @@ pub returns-in-Err-check_blank-clause-refusal_counts : goal.returns-in-Err-check
 returns-in-Err-check_blank-clause-refusal_counts g c = counts_err _ _ _ Device _ c.in-Err-check_blank.is c.check_blank.ensures.reads.tells
 
 pub returns-in-Err-check_blank-clause-refused : goal.returns-in-Err-check_blank-clause-refused
-returns-in-Err-check_blank-clause-refused g c = λ h. refuses_create _ _ _ (c.check_blank.ensures.reads.rests h) (λ fault. c.check_blank.ensures.not_blank h (c.in-Err-check_blank.is ∙ ap Err fault))
+returns-in-Err-check_blank-clause-refused g c = λ h. refuses_create _ _ _ c.check_blank.ensures.reads.rests (λ fault. c.check_blank.ensures.not_blank h (c.in-Err-check_blank.is ∙ ap Err fault))
 
 pub returns-in-Ok-write_first-clause-counts : goal.returns-in-Ok-write_first-clause-counts
 returns-in-Ok-write_first-clause-counts g c =
@@ -23,13 +23,12 @@ returns-in-Ok-write_first-clause-counts g c =
 pub returns-in-Ok-write_first-clause-created : goal.returns-in-Ok-write_first-clause-created
 returns-in-Ok-write_first-clause-created g c = λ h.
     let mid = c.check_blank.ensures.reads.tells.honest.1 h in
-    let law = g.met.D.Disk.lawful c.write_first.new.disk (c.write_first.ensures.call.honest.1 mid) in
     record {
       blank = c.in-Ok-check_blank.ensures.blank h;
       holds = c.in-Ok-write_first.ensures.made mid;
       durable = c.in-Ok-write_first.ensures.durable mid;
       ticks = omega (arith, c.in-Ok-check_blank.ensures.ticks h, c.in-Ok-write_first.ensures.ticks mid);
-      moments = leaves_then _ _ _ _ law (rests_leave _ _ (c.check_blank.ensures.reads.rests h)) (c.write_first.ensures.goes_on mid);
+      moments = later_then _ _ _ c.check_blank.ensures.reads.rests.later (c.write_first.ensures.goes_on mid);
     }
 
 pub returns-in-Err-write_first-clause-refusal_counts : goal.returns-in-Err-write_first-clause-refusal_counts
@@ -39,12 +38,11 @@ returns-in-Err-write_first-clause-refusal_counts g c =
 pub returns-in-Err-write_first-clause-refused : goal.returns-in-Err-write_first-clause-refused
 returns-in-Err-write_first-clause-refused g c = λ h.
     let mid = c.check_blank.ensures.reads.tells.honest.1 h in
-    let law = g.met.D.Disk.lawful c.write_first.new.disk (c.write_first.ensures.call.honest.1 mid) in
-    leaves_then _ _ _ _ law (rests_leave _ _ (c.check_blank.ensures.reads.rests h)) (c.write_first.ensures.goes_on mid)
+    later_then _ _ _ c.check_blank.ensures.reads.rests.later (c.write_first.ensures.goes_on mid)
 
 pub invariant_of-result : goal.invariant_of-result
 invariant_of-result g c = record {
-  disk_size = c.write_first.ensures.call.size ∙ c.check_blank.ensures.reads.tells.size ∙ sym c.size.ensures ∙ c.if-size-ne-FILE_SIZE.false;
+  disk_size = ap length (c.write_first.ensures.call.start ∙ c.check_blank.ensures.reads.tells.start) ∙ sym c.size.ensures ∙ c.if-size-ne-FILE_SIZE.false;
   within = omega arith;
   room = simp (length-take, length-append, length-drop) (omega (arith, c.as_mut_slice.ensures.len, ap length c.as_mut_slice.ensures.value, c.write_first.ensures.room, c.in-Ok.ensures.len, c.write_first.auto.buffer));
   synced = λ alive. ap unsynced c.in-Ok-write_first.ensures.calls.made.all;

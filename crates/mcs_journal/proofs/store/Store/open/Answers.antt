@@ -1,8 +1,8 @@
 use Rattle.mcs_disk.proofs.Calling.{none_added}
 use Rattle.mcs_journal.proofs.Asked.{of_err}
 use Rattle.mcs_journal.proofs.Asking.{open_one, open_synced, refused_open_one}
-use Rattle.std.proofs.Common.{rules, List, ℕ, inl, sym, ◌∙◌, ap, subst, Err}
-use Rattle.mcs_disk.proofs.Composing.{rests_still}
+use Rattle.std.proofs.Common.{rules, length, List, ℕ, inl, sym, ◌∙◌, ap, subst, Err}
+use Rattle.mcs_disk.proofs.Composing.{rests_still, rests_bytes}
 use Rattle.mcs_journal.specs.File.{Holds, slot_of}
 use Rattle.mcs_journal.specs.declared.fault.OpenFault.TheVariants.{Device}
 use Rattle.mcs_journal.proofs.Refusing.{counts_ok, counts_err, refuses_open}
@@ -20,24 +20,24 @@ returns-in-Err-read_contents-clause-refused g c = λ h. (
       (λ fault. c.read_contents.ensures.no_session h (c.in-Err-read_contents.is ∙ ap Err fault))
       (λ fault. c.read_contents.ensures.session h (c.in-Err-read_contents.is ∙ ap Err fault))
       (λ fault. c.read_contents.ensures.damaged h (c.in-Err-read_contents.is ∙ ap Err fault)),
-  c.read_contents.ensures.reads.rests h,
+  c.read_contents.ensures.reads.rests,
 )
 
 pub returns-in-Ok-read_contents-clause-counts : goal.returns-in-Ok-read_contents-clause-counts
 returns-in-Ok-read_contents-clause-counts g c = counts_ok _ _ _ Device _ c.in-Ok-read_contents.is c.read_contents.ensures.reads.tells
 
 pub returns-in-Ok-read_contents-clause-opened : goal.returns-in-Ok-read_contents-clause-opened
-returns-in-Ok-read_contents-clause-opened g c = λ h. record { holds = c.in-Ok-read_contents.ensures.holds h; rests = c.read_contents.ensures.reads.rests h; durable = c.in-Ok-read_contents.ensures.durable h }
+returns-in-Ok-read_contents-clause-opened g c = λ h. record { holds = c.in-Ok-read_contents.ensures.holds h; rests = c.read_contents.ensures.reads.rests; durable = c.in-Ok-read_contents.ensures.durable h }
 
 pub invariant_of-store : goal.invariant_of-store
 invariant_of-store g c = record {
-  disk_size = c.read_contents.ensures.reads.tells.size ∙ sym c.size.ensures ∙ c.if-size-ne-FILE_SIZE.false;
+  disk_size = ap length c.read_contents.ensures.reads.tells.start ∙ sym c.size.ensures ∙ c.if-size-ne-FILE_SIZE.false;
   within = c.in-Ok-read_contents.ensures.within;
   room = search rules;
   synced = λ live. open_synced _ _ _ c.in-Ok-read_contents.ensures.calls;
   intact = λ live h.
       let was = c.read_contents.ensures.reads.tells.honest.0 h in
-      let same = (c.read_contents.ensures.reads.rests was).bytes in
+      let same = rests_bytes _ _ c.read_contents.ensures.reads.rests in
       record {
         durable = c.in-Ok-read_contents.ensures.durable was;
         active = ap slot_of same ∙ c.in-Ok-read_contents.ensures.active was;

@@ -21,7 +21,7 @@ returns-in-Err-clause-replaces g c = rw (← c.self.view_is) (λ h snap records 
 
 pub invariant_of-self : goal.invariant_of-self
 invariant_of-self g c = record {
-  disk_size = c.replace_contents.ensures.call.size ∙ c.self.invariant.disk_size;
+  disk_size = ap length c.replace_contents.ensures.call.start ∙ c.self.invariant.disk_size;
   within = omega arith;
   room = simp (length-take, length-append, length-drop) (omega (arith, c.deref_mut.ensures.len, ap length c.deref_mut.ensures.value, c.replace_contents.auto.buffer, c.self.invariant.room));
   synced = λ alive. ap unsynced c.in-Ok.ensures.calls.made.all;

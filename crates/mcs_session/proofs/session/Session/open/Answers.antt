@@ -22,7 +22,7 @@ returns-in-Ok-begin-clause-opened g c = λ honest.
     let now = c.in-Ok-open.ensures.counts.honest.1 honest in
     let replayed = rw (c.bytes.ensures, c.in-Ok-Some.field-0-is) at c.in-Ok-Some.ensures.some in
     rw c.in-Ok-begin.ensures.open.1 (
-    opened_by _ _ _ _ _ _ _ _ (g.met.D.Disk.lawful c.in-Ok-begin.session.disk (c.in-Ok-begin.ensures.counts.honest.1 now)) c.in-Ok-open.ensures.unwritten opened replayed
+    opened_by _ _ _ _ _ _ _ _ c.in-Ok-open.ensures.unwritten opened replayed
     (λ last o. rw (c.in-Ok-begin.ensures.same last) o)
     (λ version_1. c.in-Ok-begin.ensures.version_1 version_1 now _ _ (held_on _ _ _ _ opened)))
 
@@ -32,12 +32,12 @@ returns-in-Ok-Some-clause-refused g c = λ honest.
     let now = c.in-Ok-open.ensures.counts.honest.1 honest in
     let replayed = rw (c.bytes.ensures, c.in-Ok-Some.field-0-is) at c.in-Ok-Some.ensures.some in
     let why = c.in-Err-begin.ensures.refused in
-    refused_by _ _ _ why.0 (failed_by _ _ _ _ _ _ _ _ why.1.0 (g.met.D.Disk.lawful c.in-Err-begin.refused.1 (why.1.1.honest.1 now)) opened replayed
+    refused_by _ _ _ why.0 (failed_by _ _ _ _ _ _ _ _ why.1.0 opened replayed
     (c.in-Err-begin.ensures.failed now _ _ (held_on _ _ _ _ opened)))
 
 pub returns-in-Ok-None-clause-refusal_counts : goal.returns-in-Ok-None-clause-refusal_counts
 returns-in-Ok-None-clause-refusal_counts g c = rw c.into_disk.ensures (record {
-  size = c.in-Ok-open.ensures.counts.size;
+  start = c.in-Ok-open.ensures.counts.start;
   honest = c.in-Ok-open.ensures.counts.honest;
   fault = λ is. absurd (cc is);
   no_fault = λ no. c.in-Ok-open.ensures.counts.no_fault (λ none. none);
@@ -45,11 +45,11 @@ returns-in-Ok-None-clause-refusal_counts g c = rw c.into_disk.ensures (record {
 
 pub returns-in-Ok-None-clause-refused : goal.returns-in-Ok-None-clause-refused
 returns-in-Ok-None-clause-refused g c = λ honest. rw c.into_disk.ensures
-    (refuses_pair _ _ _ _ (g.met.D.Disk.lawful c.args.disk honest) (c.in-Ok-open.ensures.opened honest) (rw (c.bytes.ensures, c.in-Ok-None.field-0-is) at c.in-Ok-None.ensures.none))
+    (refuses_pair _ _ _ _ (c.in-Ok-open.ensures.opened honest) (rw (c.bytes.ensures, c.in-Ok-None.field-0-is) at c.in-Ok-None.ensures.none))
 
 pub returns-in-Ok-open-clause-refusal_counts : goal.returns-in-Ok-open-clause-refusal_counts
 returns-in-Ok-open-clause-refusal_counts g c = rw c.into_disk-in-Err-replay.ensures (record {
-  size = c.in-Ok-open.ensures.counts.size;
+  start = c.in-Ok-open.ensures.counts.start;
   honest = c.in-Ok-open.ensures.counts.honest;
   fault = λ is. absurd (cc is);
   no_fault = λ no. c.in-Ok-open.ensures.counts.no_fault (λ none. none);

@@ -1,0 +1,8 @@
+use Rattle.std.proofs.Common.{ap}
+use Rattle.std.proofs.lemmas.Result.{on_ok_weaker}
+use Rattle.mcs_disk.specs.Calls.{clock_of}
+use Rattle.mcs_disk.proofs.Composing.{read_reads}
+use Rattle.mcs_journal.proofs.reading.read_at.Goals as goal
+
+pub returns-clause-reads : goal.returns-clause-reads
+returns-clause-reads g c = read_reads _ _ _ c.read.ensures.call c.read.ensures.noted
