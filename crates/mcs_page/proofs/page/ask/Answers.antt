@@ -1,4 +1,6 @@
 use Rattle.std.proofs.Common.{◌∙◌, ℕ, List, length, ap, refl}
+use Rattle.mcs_disk.specs.Disk.{bytes_of}
+use Rattle.mcs_disk.specs.States.{mem_disk_state}
 use Rattle.mcs_page.proofs.FrontOfBuffer.{answers_of}
 use Rattle.mcs_page.proofs.page.ask.Goals as goal
 
@@ -7,6 +9,6 @@ returns-clause-served c =
     let told = c.deref.ensures.value in
     let count = c.tell-count.ensures.count ∙ ap (λ (bytes : List ℕ). length bytes) told in
     record {
-      after = c.in-Ok.answered.session.disk.bytes.items;
+      after = bytes_of (mem_disk_state c.in-Ok.answered.session.disk);
       answers = answers_of _ _ _ _ _ _ _ _ _ c.in-Ok.ensures.served c.in-Ok.ensures.room count (c.tell-count.ensures.told ∙ told) c.tell-count.ensures.rest refl;
     }

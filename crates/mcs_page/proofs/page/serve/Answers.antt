@@ -1,11 +1,13 @@
 use Rattle.std.proofs.Common.{◌∙◌, ℕ, List, length, ap}
+use Rattle.mcs_disk.specs.Disk.{bytes_of}
+use Rattle.mcs_disk.specs.States.{mem_disk_state}
 use Rattle.mcs_page.proofs.FrontOfBuffer.{answers_of}
 use Rattle.mcs_disk.specs.declared.memory.MemDisk.{MemDisk}
 use Rattle.mcs_page.proofs.page.serve.Goals as goal
 
 pub returns-clause-served : goal.returns-clause-served
 returns-clause-served c =
-    let is = c.write_back.ensures.written ∙ ap (λ (d : MemDisk). d.bytes.items) c.into_disk.ensures.is in
+    let is = c.write_back.ensures.written ∙ ap (λ (d : MemDisk). bytes_of (mem_disk_state d)) c.into_disk.ensures.is in
     let told = c.deref.ensures.value in
     let count = c.tell-count.ensures.count ∙ ap (λ (bytes : List ℕ). length bytes) told in
     answers_of _ _ _ _ _ _ _ _ _ c.in-Ok.ensures.served c.in-Ok.ensures.room count (c.tell-count.ensures.told ∙ told) c.tell-count.ensures.rest is
