@@ -73,7 +73,8 @@ export class CurrentSession {
   async remember() {
     const { bench, past } = this;
     const recalled = past.recalled();
-    if (recalled.length > 0 && await bench.call("recall", [recalled]).catch(() => false)) past.goOn(recalled);
+    const count = recalled.length > 0 ? await bench.call("recall", [recalled]).catch(() => -1) : -1;
+    if (count >= 0) past.goOn(recalled, count);
   }
 
   /** Keeps the session that is left. Whether its time runs stays in its record, so that it goes on when it is come back to. */

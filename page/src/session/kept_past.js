@@ -113,11 +113,12 @@ export class KeptPast {
   /**
    * It is remembered again: what was done since comes after it.
    * @param {Recalled[]} recalled
+   * @param {number} count of the last one's entries
    */
-  goOn(recalled) {
+  goOn(recalled, count) {
     const [{ entries }, ...more] = this.segments;
     const last = recalled[recalled.length - 1];
-    last.entries.push(...entries);
+    last.entries.splice(count, Infinity, ...entries);
     this.segments = [...recalled, ...more].slice(-SEGMENTS);
     if (more.length > 0) return;
     this.cycles = cyclesOf(last.entries);

@@ -235,7 +235,8 @@ export class BenchCalls {
   }
 
   /**
-   * What was done before the session was opened, as the page has kept it; gives whether it is remembered from here on.
+   * What was done before the session was opened, as the page has kept it, is remembered from here on; gives how many entries of its last
+   * segment are, -1 where it is none of the session's.
    * @param {import("./timeline.js").Recalled[]} segments
    */
   recall(segments) {
@@ -243,7 +244,7 @@ export class BenchCalls {
       return this.session.timeline.recall(this.engine, segments);
     } catch (fault) {
       // Bytes that hold no session.
-      if (fault instanceof BenchRefusal) return false;
+      if (fault instanceof BenchRefusal) return -1;
       throw fault;
     }
   }

@@ -34,6 +34,8 @@ const MARK_CYCLES = 250000;
 export const MOST_FORWARD = 64;
 /** A command whose text is longer is not done again: another segment begins after it. */
 const LONGEST_LINE = 20000;
+/** Commands without cycles may stand where the past is to end: so many places are tried. */
+const MOST_TRIES = 8;
 /** About so many cycles, and at most so many lines, are done again at once. */
 const PIECE_CYCLES = 1000000;
 const PIECE_LINES = 500;
@@ -59,20 +61,39 @@ export class Timeline {
   }
 
   /**
-   * The past before the first segment, as the page has it; gives whether it is taken, which it is where it ends at that segment.
+   * The past before the first segment, as the page has it. What was kept of the session may be older than the past: then the last of that
+   * is left out. Gives how many entries of the last segment are taken, -1 where the past does not come to the first segment.
    * @param {Engine} engine
    * @param {Recalled[]} recalled each follows the one before it
    */
   recall(engine, recalled) {
-    const before = recalled.map(segmentOf);
     const [first] = this.segments;
-    const last = before[before.length - 1];
-    if (!last || first.follows) return false;
-    const end = last.file.slice();
-    engine.serve(end, last.entries.map(({ line }) => `${line}\n`).join(""), end);
-    if (stateOf(engine, end) !== stateOf(engine, first.file)) return false;
-    this.segments = [...before, { ...first, follows: true }, ...this.segments.slice(1)];
-    return true;
+    if (recalled.length === 0 || first.follows) return -1;
+    const { total, entries, file } = recalled[recalled.length - 1];
+    const wanted = stateOf(engine, first.file);
+    let cycles = total + sumOf(entries.map((entry) => entry.cycles));
+    for (let count = entries.length, tries = 0; count >= 0 && cycles >= first.count.total && tries < MOST_TRIES; count--) {
+      if (cycles === first.count.total) {
+        tries += 1;
+        const end = file.slice();
+        engine.serve(end, entries.slice(0, count).map(({ line }) => `${line}\n`).join(""), end);
+        if (stateOf(engine, end) === wanted) return this.putBefore(recalled, count);
+      }
+      if (count > 0) cycles -= entries[count - 1].cycles;
+    }
+    return -1;
+  }
+
+  /**
+   * @param {Recalled[]} recalled
+   * @param {number} count of the last one's entries
+   */
+  putBefore(recalled, count) {
+    const [first, ...more] = this.segments;
+    const before = recalled.map((each, at) => segmentOf(
+      at === recalled.length - 1 ? { ...each, entries: each.entries.slice(0, count) } : each, at));
+    this.segments = [...before, { ...first, follows: true }, ...more];
+    return count;
   }
 
   get last() {
