@@ -116,6 +116,20 @@ onBench("a text that is read otherwise is not edited", () => {
   assert.match(actOn("[[rom\n", { kind: "add", part: "ram" }).refusal, /faults/);
 });
 
+onBench("a buzzer keeps its line, goes with it, and is found again where chains are numbered anew", () => {
+  const chain = '[[chain]]\nclock = "rom0.0"\ndata = "rom0.1"\nchips = 1\n';
+  const text = `# buzzer chain1.12: horn\n[[rom]]\nchip = 0\nport = "0000"\n${chain}${chain.replace("chips = 1", "chips = 2")}`;
+  const first = (done) => done.text.split("\n")[0];
+  assert.equal(first(check("horn", text, { kind: "delete", part: "chain 0" })), "# buzzer chain0.12: horn");
+  assert.equal(first(check("horn", text, { kind: "delete", part: "chain 1" })), "[[rom]]");
+  assert.match(actOn(text, { kind: "chips", chain: 1, chips: 1 }).refusal, /The buzzer is at chain1.12: give it another line first/);
+  const atPort = text.replace("chain1.12", "rom0.3");
+  assert.match(actOn(atPort, { kind: "port", line: "rom0.3", as: "i" }).refusal, /The buzzer is at rom0.3/);
+  check("horn", atPort, { kind: "port", line: "rom0.2", as: "i" });
+  const atRam = "# buzzer ram0.1.3: horn\n[[ram]]\nbank = 0\nchips = 2\n";
+  assert.equal(first(check("horn", atRam, { kind: "delete", part: "ram 0.1" })), "[[ram]]");
+});
+
 for (const { name, text } of BOARDS) {
   const read = () => readBoard(ask([text])[0].board);
 

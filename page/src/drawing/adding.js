@@ -1,6 +1,7 @@
 // Parts that come to a board, each at lines that nothing takes yet. Where these are too few, the chips come with it that have them.
 
 import { upTo } from "../bench/numbers.js";
+import { Face } from "../board/face.js";
 import { limit } from "../board/face_words.js";
 import { BITS, MOST } from "../text/board_parts.js";
 import { RANGES } from "../text/board_words.js";
@@ -296,6 +297,16 @@ function bitsOfSegments(sketch, count) {
 }
 
 /**
+ * The line of a buzzer stays an output line of the board.
+ * @param {Sketch} sketch
+ * @param {(line: string) => boolean} goes whether a line does not, after what is to be done
+ */
+export function keepBuzzer({ text }, goes) {
+  const { buzzer } = new Face(text);
+  if (buzzer && goes(buzzer.place)) throw new ActRefusal(`The buzzer is at ${buzzer.place}: give it another line first, in Board.`);
+}
+
+/**
  * A chain with another number of chips.
  * @param {Sketch} sketch
  * @param {number} chain
@@ -305,9 +316,11 @@ export function setChips(sketch, chain, chips) {
   const { from, to } = RANGES["chain.chips"];
   if (chips > to) throw new ActRefusal(`A chain has at most ${to} chips.`);
   if (chips < from) throw new ActRefusal("A chain has a chip at least; delete the chain.");
-  const beyond = [...wiringOf(sketch.board).values()].find((line) => (
-    line.startsWith(`chain${chain}.`) && bitOf(line).bit >= BITS * chips));
+  /** @type {(line: string) => boolean} */
+  const isBeyond = (line) => line.startsWith(`chain${chain}.`) && bitOf(line).bit >= BITS * chips;
+  const beyond = [...wiringOf(sketch.board).values()].find(isBeyond);
   if (beyond) throw new ActRefusal(`${beyond} is in use: wire what is there to another line first.`);
+  keepBuzzer(sketch, isBeyond);
   sketch.edit([setValue(sketch.draft, sketch.draft.entry("chain", chain), "chips", chips)]);
   return `chain ${chain}`;
 }

@@ -207,9 +207,12 @@ function renumberGrid(draft, line, gone, numberOf) {
  */
 export function renamePorts(draft, placeOf) {
   return faceLines(draft).flatMap((line) => {
-    if (line.kind !== "port" || !line.place) return [];
-    const place = placeOf(line.place.text.toLowerCase());
-    return place === "" ? [removeFaceLine(draft, line)] : setWord(line.place, place);
+    if (!line.place || (line.kind !== "port" && line.kind !== "buzzer")) return [];
+    const { text } = line.place;
+    // A buzzer is at one line of a port.
+    const end = line.kind === "buzzer" ? text.lastIndexOf(".") : text.length;
+    const place = placeOf(text.slice(0, end).toLowerCase());
+    return place === "" ? [removeFaceLine(draft, line)] : setWord(line.place, place + text.slice(end));
   });
 }
 
