@@ -4,7 +4,7 @@ running program; each act is an edit of the board's text, which is undone as any
 import re
 import time
 
-from page_in_browser import ENTER, ESCAPE, PUT_INTO_EDITOR, STATUS, TAB, TEXT_OF_EDITOR, choose_example, focused, show_text, until_ready
+from page_in_browser import ENTER, ESCAPE, NOTICE, PUT_INTO_EDITOR, STATUS, TAB, TEXT_OF_EDITOR, choose_example, focused, show_text, until_ready
 from verdicts import comes, verdict
 
 CONTROL, SHIFT, DELETE, LEFT, UP, RIGHT, DOWN = "\ue009", "\ue008", "\ue017", "\ue012", "\ue013", "\ue014", "\ue015"
@@ -249,6 +249,14 @@ def check_faults(browser):
           "Other")
 
 
+def check_other_boards(browser):
+    """While the picture is in front, sessions are opened whose boards have more chips, and fewer."""
+    for example, parts in (("calculator", "ROM 3 · 4001"), ("die", "ROM 0 · 4001"), ("calculator", "ROM 3 · 4001"), ("lock", "Keys · 4 × 3")):
+        choose_example(browser, example)
+        verdict(f"{example} is opened", "No session was made" in browser.script(NOTICE), False)
+        comes(browser, f"the picture is that of {example}", LINES, re.compile(parts))
+
+
 def check(browser, page, _folder, _mcs4):
     browser.go(page.as_uri())
     until_ready(browser)
@@ -258,3 +266,4 @@ def check(browser, page, _folder, _mcs4):
     if browser.has_fingers:
         check_by_fingers(browser)
     check_faults(browser)
+    check_other_boards(browser)

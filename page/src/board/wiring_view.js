@@ -71,7 +71,8 @@ export class WiringView {
 
   showLevels() {
     const { ports } = this;
-    if (ports) {
+    // While a session is opened, its first levels may come before its board is drawn.
+    if (ports && ports.roms.length === this.roms.length && ports.chains.length === this.chains.length) {
       this.roms.forEach(({ mask, levels }, at) => setAll(levels, (line) => isHighAtRom(mask, ports.roms[at], line)));
       this.chains.forEach((levels, at) => setAll(levels, (bit) => ports.chains[at][bit] === "1"));
     }
