@@ -189,7 +189,7 @@ def check_poor_browsers(browser, page, folder):
 
 def check_no_locks(browser, page, folder):
     """Two tabs on one session, where the browser has no locks: neither overwrites what the other has written."""
-    told_at_start(browser, poor(page, folder, "Object.defineProperty(Navigator.prototype, 'locks', { value: undefined })"), READY, True)
+    told_at_start(browser, altered(page, folder, "Object.defineProperty(Navigator.prototype, 'locks', { value: undefined })"), READY, True)
     address = browser.script("return location.href")
     first = browser.tab()
     browser.click("#run")
