@@ -71,14 +71,15 @@ make_remembered() {
 }
 
 # Puts the program that was found and what it looked like now into the place of what was remembered; not if a file has just changed: a
-# clock that ticks by seconds might not show its next change.
+# clock that ticks by seconds might not show its next change. What is put there last is taken away first: halves of two times are not used.
 remember() {
     {
         echo "${program#"$top/"}"
         names_of_start
     } > "$names.$$" && look "$names.$$" | sed 1d > "$seen.$$" && cmp -s "$seen.$$" "$seen.$$.before" &&
         awk -v now="$(date +%s)" '$4 >= now - 3 || $5 >= now - 3 { young = 1 } END { exit young || NR < 10 }' "$seen.$$" &&
-        halve && mv -f "$names.$$" "$names" && mv -f "$seen.$$" "$seen" && mv -f "$more.$$" "$more" && mv -f "$seen_more.$$" "$seen_more"
+        halve && rm -f -- "$seen" && mv -f "$more.$$" "$more" && mv -f "$seen_more.$$" "$seen_more" && mv -f "$names.$$" "$names" &&
+        mv -f "$seen.$$" "$seen"
 }
 
 # Every second one of the names stands in a file of its own from then on, and so does what it looked like.
