@@ -1,0 +1,116 @@
+# tools/cover: the counts are those of a step for each instruction; LCOV's format; a report by hand.
+# shellcheck shell=sh
+
+make_count
+page_too $three/board.toml "$folder/count.asm" "$folder/count.test"
+cat > "$folder/covered" <<'covered'
+                          two = 2
+         1                        FIM P0, 0xE0    ; R0: two turns
+         2                turn:   JMS part
+         2 1/1                    ISZ R0, turn
+         1 0/1                    JCN two, never
+         1                        JUN end
+     never                never:  NOP
+                                  DB 1, 2
+         2                part:   CLC
+         2                        BBL 0
+        10                end:    JUN end
+
+8 of 9 instructions were run (88.9 %), 3 of 4 ways of conditional jumps (75.0 %)
+never run: line 7
+one way alone: line 5 (never taken)
+status 0
+covered
+# FIM 2, twice JMS 2, CLC 1, BBL 1, ISZ 2, then JCN 2 and JUN 2: 18 cycles, and 11 times 2 up to 40.
+sed 's/^        10 /        11 /' < "$folder/covered" > "$folder/covered_by_hand"
+verdict "$(outcome tools/cover --lcov "$folder/count.info" $three/board.toml "$folder/count.asm" "$folder/count.test")" \
+    "$(cat "$folder/covered_by_hand")" "coverage by hand"
+verdict "$(cat "$folder/count.info")" "TN:
+SF:$folder/count.asm
+FN:9,part
+FNDA:2,part
+FNF:1
+FNH:1
+BRDA:4,0,0,1
+BRDA:4,0,1,1
+BRDA:5,0,0,0
+BRDA:5,0,1,1
+BRF:4
+BRH:3
+DA:2,1
+DA:3,2
+DA:4,2
+DA:5,1
+DA:6,1
+DA:7,0
+DA:9,2
+DA:10,2
+DA:11,11
+LF:9
+LH:8
+end_of_record" "LCOV's format by hand"
+
+# Counts of 6,000 cycles of the calculator with a key down, by \`cover\` and by \`step\` and \`regs\`.
+tools/script $calculator/board.toml $calculator/calculator.asm > "$folder/script"
+{
+    cat "$folder/script"
+    echo 'press 1 2'
+} | begins calc
+cp "$folder/calc.mcs" "$folder/copy.mcs"
+outcome tools/cover --lcov "$folder/calc.info" --session "$folder/calc.mcs" 6000 $calculator/calculator.asm > "$folder/report"
+verdict "$(tail -n 1 "$folder/report"; cmp "$folder/calc.mcs" "$folder/copy.mcs" && echo same)" "status 0
+same" "the coverage of a session"
+tools/listing $calculator/calculator.asm > "$folder/listing"
+awk 'BEGIN { for (i = 0; i < 6000; i++) print "regs\nstep" }' | goes_on calc
+verdict "$(sed -n 's/^DA://p' "$folder/calc.info")" "$(awk '
+    FNR == 1 { file++ }
+    file == 1 && $1 == "acc" { pc = $6; second = $8 }
+    file == 1 && $3 == "ran" { if (done < 6000 && second == 0) runs[pc]++; done += $4 }
+    file == 2 && /^[0-9A-F][0-9A-F][0-9A-F] [0-9A-F][0-9A-F]/ && substr($0, 18) !~ /DB / { at[++n] = $1 }
+    file == 3 {
+        text = $0
+        sub(/;.*/, "", text)
+        sub(/^[A-Za-z_0-9]*[ \t]*:/, "", text)
+        if (text ~ /^[ \t]*[A-Za-z]/ && text !~ /=|ORG|DB/) print FNR "," runs[at[++k]] + 0
+    }
+' "$folder/answers" "$folder/listing" $calculator/calculator.asm)" "counts by \`count\` and by steps"
+refuses 1 "cover: the session has another program than $lock/lock.asm: at 001 stands 24, and line 16 makes 2C" \
+    tools/cover --session "$folder/calc.mcs" 100 $lock/lock.asm
+refuses 1 "cover: cannot write $folder/none/x.info: its folder is not there, or cannot be written" tools/cover --lcov "$folder/none/x.info" --session "$folder/calc.mcs" 10 $calculator/calculator.asm
+refuses 1 "cover: CYCLES is a decimal number, 1 to 100000000" tools/cover --session "$folder/calc.mcs" 0 $calculator/calculator.asm
+refuses 2 "usage: cover [-C FOLDER] [--lcov FILE] [BOARD PROGRAM] [TEST ..], cover [--lcov FILE] --session SESSION CYCLES PROGRAM" \
+    tools/cover --session "$folder/calc.mcs" 100
+if command -v genhtml > /dev/null; then
+    genhtml -q --branch-coverage -o "$folder/html" "$folder/count.info" > "$folder/words" 2>&1 || cat "$folder/words" >&2
+    find "$folder/html" -name 'count.asm.gcov.html' -exec cat {} + > "$folder/page"
+    verdict "$(sed 's/<[^>]*>//g' < "$folder/page" | grep 'ISZ R0, turn\|JCN two\|NOP')" \
+        "       4         [ +  + ]:          2 :         ISZ R0, turn
+       5         [ -  + ]:          1 :         JCN two, never
+       7                 :          0 : never:  NOP" "genhtml reads the coverage"
+else
+    echo "not run: genhtml (Debian's package lcov)"
+fi
+
+# A file for LCOV's format is written last, and takes the place of such a file alone; what was there before is as it was else.
+stays() {
+    cp "$1" "$folder/stayed"
+    file=$1
+    shift
+    refuses "$@"
+    verdict "$(cmp "$file" "$folder/stayed" 2>&1; ls "$folder" | grep -F "${file##*/}.")" "" "$file, which is not written"
+}
+cp $three/board.toml "$folder/mine.toml"
+cp "$folder/count.asm" "$folder/mine.asm"
+cover_usage="usage: cover [-C FOLDER] [--lcov FILE] [BOARD PROGRAM] [TEST ..], cover [--lcov FILE] --session SESSION CYCLES PROGRAM"
+stays "$folder/mine.toml" 2 "$cover_usage" tools/cover --lcov "$folder/mine.toml" "$folder/count.asm" "$folder/count.test"
+stays "$folder/mine.toml" 1 "cover: $folder/mine.toml is there, and does not begin as a file of LCOV's format does (TN:); name another file, or move it away" \
+    tools/cover --lcov "$folder/mine.toml" $three/board.toml "$folder/count.asm" "$folder/count.test"
+stays "$folder/mine.asm" 1 "cover: $folder/mine.asm is read here, so it is not written; name another file" \
+    tools/cover --lcov "$folder/mine.asm" $three/board.toml "$folder/mine.asm" "$folder/count.test"
+printf ' LDX 5\n' > "$folder/wrong.asm"
+stays "$folder/count.info" 1 "cover: $folder/wrong.asm: line 1: no 30: the line has no form that the assembler knows
+cover:      LDX 5" tools/cover --lcov "$folder/count.info" $three/board.toml "$folder/wrong.asm" "$folder/count.test"
+stays "$folder/calc.mcs" 1 "cover: $folder/calc.mcs is read here, so it is not written; name another file" \
+    tools/cover --lcov "$folder/calc.mcs" --session "$folder/calc.mcs" 10 $calculator/calculator.asm
+verdict "$(outcome tools/cover --lcov /dev/stdout $three/board.toml "$folder/count.asm" "$folder/count.test" | sed -n '/^TN:/,$p' | tail -n 2)" "end_of_record
+status 0" "LCOV's format to a pipe"

@@ -1,0 +1,59 @@
+# The tests of the examples, by prove; and with a bug in some programs.
+# shellcheck shell=sh
+
+proves() {
+    page_too "$1" "$2" "$3"
+    verdict "$(outcome prove --exec "tools/test $1 $2" "$3" | sed -n '/^All tests/p; /^status/p')" "All tests successful.
+status 0" "the tests of $3"
+}
+proves $calculator/board.toml $calculator/calculator.asm $calculator/calculator.test
+proves $lock/board.toml $lock/lock.asm $lock/lock.test
+proves examples/traffic_light.txt examples/traffic_light.txt examples/traffic_light.test
+proves examples/stopwatch.txt examples/stopwatch.txt examples/stopwatch.test
+proves examples/counter.txt examples/counter.txt examples/counter.test
+proves examples/stacker/board.toml examples/stacker/stacker.asm examples/stacker/stacker.test
+proves examples/clock/board.toml examples/clock/clock.asm examples/clock/clock.test
+proves examples/music_box/board.toml examples/music_box/music_box.asm examples/music_box/music_box.test
+proves examples/pictures/board.toml examples/pictures/pictures.asm examples/pictures/pictures.test
+proves examples/printing_calculator/board.toml examples/printing_calculator/printing_calculator.asm examples/printing_calculator/printing_calculator.test
+
+verdict "$(tools/keys --down 9 --up 8 examples/traffic_light.txt WALK)" "test 0
+run 9
+test 1
+run 8
+lamps" "what is at TEST, by its name"
+
+# Puts a bug into a copy of a program: the n-th line with a text gets another text in its place.
+plant() {
+    awk -v n="$2" -v old="$3" -v new="$4" '{
+        at = index($0, old)
+        if (at && ++count == n) $0 = substr($0, 1, at - 1) new substr($0, at + length(old))
+        print
+    }' < "$1" > "$folder/planted"
+    verdict "$(cmp -s "$1" "$folder/planted" || echo another)" another "a bug planted in $1"
+}
+
+# The tests that fail with the bug: the board, the text of tests, the names.
+finds() {
+    page_too "$1" "$folder/planted" "$2"
+    verdict "$(outcome tools/test "$1" "$folder/planted" "$2" | sed -n 's/^not ok [0-9]* - //p; /^status/p')" "$3
+status 1" "a bug found by $2"
+}
+# A division by zero is told as an overflow.
+plant $calculator/calculator.asm 1 "LDM 2		; division by zero" "LDM 1		; division by zero"
+finds $calculator/board.toml $calculator/calculator.test "division by zero"
+# Behind several keys four scans are enough.
+plant $calculator/calculator.asm 1 "after_several = 11" "after_several = 12"
+finds $calculator/board.toml $calculator/calculator.test "nor is it around a press of two others"
+# The count of wrong codes is not made anew by a right one.
+plant $lock/lock.asm 2 "LDM 13" "LD R12"
+finds $lock/board.toml $lock/lock.test "a right code between wrong ones counts them anew"
+# Several keys in a row are no key, so a key that is held counts again.
+plant $lock/lock.asm 1 "several: LDM 14" "several: LDM 15"
+finds $lock/board.toml $lock/lock.test "it does, whatever its neighbour does"
+# Pedestrians have two seconds.
+plant examples/traffic_light.txt 1 "FIM P7, 0xD0" "FIM P7, 0xE0"
+finds "$folder/planted" examples/traffic_light.test "the phases after amber"
+# A hundredth takes one cycle more.
+plant examples/stopwatch.txt 1 "NOP             ; the last" "FIM P0, 0x00    ; the last"
+finds "$folder/planted" examples/stopwatch.test "a hundredth of a second takes 926 cycles"

@@ -1,0 +1,5 @@
+# What the manual shows of testing is what the tools print.
+# shellcheck shell=sh
+
+. "$top/checks/lib/manual.sh"
+as_shown "Testing a program" 8

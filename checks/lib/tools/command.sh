@@ -1,0 +1,60 @@
+# The tools as commands of mcs4, with their help and manual pages, and started through links.
+# shellcheck shell=sh
+
+cp $lock/lock.asm "$folder/program.asm"
+
+# What goes to standard output, standard error, and the status.
+apart() {
+    status=0
+    "$@" > "$folder/output" 2> "$folder/errors" || status=$?
+    echo "$(wc -l < "$folder/output") $(wc -l < "$folder/errors") $status" | tr -s ' '
+}
+
+# Each tool of users is a command, and each command that is there has its help, which names it and its exit status, and fits.
+for each in tools/[a-z]*; do
+    each=${each#tools/}
+    case $each in aarch64 | build | lib | package | ship | speed | texts) continue ;; esac
+    verdict "$(grep -c "^$each	" tools/lib/commands.txt)" 1 "$each in tools/lib/commands.txt"
+    verdict "$(apart ./mcs4 help "$each" | sed 's/^[0-9]*/some/')" "some 0 0" "mcs4 help $each"
+    verdict "$(head -n 1 "$folder/output" | cut -d ' ' -f 1-3); $(grep -c '^Status' "$folder/output")" "usage: mcs4 $each; 1" "what mcs4 help $each tells"
+    verdict "$(sed 's/mcs4 \([a-z]\)/\1/g; s/  */ /g' "$folder/output" | tr '\n' ' ')" "$(outcome "tools/$each" --help | sed '$d; s/tools\///g; s/\.\/mcs4/mcs4/g; s/mcs4 \([a-z]\)/\1/g; s/  */ /g' | tr '\n' ' ')" "tools/$each --help"
+    verdict "$(apart ./mcs4 "$each" --none --none --none --none --none --none --none | sed 's/^0 [0-9]* /0 some /'): $(cut -c 1-12 < "$folder/errors" | sed 1q)" "0 some 2: usage: mcs4 " "mcs4 $each with words that are none"
+    verdict "$(./mcs4 help | grep -c "^    $each ")" 1 "$each in mcs4 help"
+    if command -v man > /dev/null; then
+        awk -v by=mcs4 -v form=man -v commands=tools/lib/commands.txt -f tools/lib/help.awk < "tools/$each" > "$folder/page.1"
+        verdict "$(man --warnings -l "$folder/page.1" 2>&1 > "$folder/page.txt")" "" "the manual page of $each"
+        verdict "$(grep -c '^\(NAME\|SYNOPSIS\|DESCRIPTION\|EXIT STATUS\|SEE ALSO\)$' "$folder/page.txt")" 5 "what stands in the manual page of $each"
+    fi
+done
+for word in help --help -h "help new" "help version"; do
+    # shellcheck disable=SC2086
+    verdict "$(apart ./mcs4 $word)" "$(./mcs4 help | wc -l | tr -d ' ') 0 0" "mcs4 $word"
+done
+for word in version --version -V; do verdict "$(apart ./mcs4 $word | sed 's/^[34] /some /')" "some 0 0" "mcs4 $word"; done
+verdict "$(apart ./mcs4 2> /dev/null; cat "$folder/errors")" "0 5 2
+usage: mcs4 new FILE
+       mcs4 open FILE
+       mcs4 COMMAND ..
+       mcs4 help [COMMAND]
+       mcs4 version" "mcs4 without words"
+for word in frob build lib ../mcs4 "" Test speed; do
+    refuses 2 "mcs4: there is no command $word; mcs4 help tells which there are" ./mcs4 help "$word"
+    if [ -n "$word" ]; then refuses 2 "mcs4: there is no command $word; mcs4 help tells which there are" ./mcs4 "$word" x; fi
+done
+ln -s "$top/mcs4" "$folder/command"
+verdict "$(cd "$folder" && outcome ./command listing --names program.asm)" "$(outcome tools/listing --names "$folder/program.asm")" "a listing by mcs4, through a link"
+verdict "$(outcome ./mcs4 test $lock/board.toml $lock/lock.asm $lock/lock.test)" \
+    "$(outcome tools/test $lock/board.toml $lock/lock.asm $lock/lock.test)" "tests by mcs4"
+
+# Each tool by a symbolic link, and by a link to a link in a folder that is a link.
+mkdir "$folder/links" "$folder/more"
+ln -s "$folder/more" "$folder/linked"
+for each in back cover cycles display explain import keys listing names panel profile project resume rom script test trace wave; do
+    ln -s "$top/tools/$each" "$folder/more/$each"
+    ln -s "../linked/$each" "$folder/links/$each"
+    for name in "$folder/more/$each" "$folder/links/$each"; do
+        verdict "$(outcome "$name" --none | sed 's/^usage: [a-z]*.*/usage/')" "usage
+status 2" "$name"
+    done
+done
+verdict "$(cd "$folder" && outcome links/listing --names program.asm)" "$(outcome tools/listing --names "$folder/program.asm")" "a listing by a link"

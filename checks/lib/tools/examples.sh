@@ -1,0 +1,58 @@
+# The scripts of the examples have their answers; the calculator shows what is right. (checks/calculator presses seeded chains.)
+# shellcheck shell=sh
+
+# Keys, and what the calculator shows after them.
+calculates() {
+    verdict "$(outcome examples/calculator/run "$1")" "$2
+status 0" "keys $1"
+}
+
+for script in examples/*.txt examples/*/*.txt; do
+    answers=${script%.txt}.answers
+    if [ -f "$answers" ]; then
+        verdict "$("$mcs4" new "$folder/session.mcs" < "$script")" "$(cat "$answers")" "$script"
+        rm -f "$folder/session.mcs"
+    fi
+done
+for kind in txt answers; do
+    verdict "$(outcome cmp "examples/calculator/quotient.$kind" "crates/mcs_examples_tests/data/quotient.$kind")" "status 0" \
+        "the calculator whose keys mcs_examples_tests presses, which may hold no link (cp it)"
+done
+
+board=$calculator/board.toml
+
+# Keys of the calculator, and what it shows; a session that is left and taken up again.
+calculates "12*30=" 360
+calculates "22/7=" 3.1428571
+calculates "1 2 + 3 0 =" 42
+calculates "12-30=" -18
+calculates "2+3*4=" 20
+calculates "2+3===" 11
+calculates "5+3 CE 4=" 9
+calculates "3/12 S =" 4
+calculates "1.5.~*0=" 0
+calculates ".12345678" 0.1234567
+calculates "99999999 + 1 =" "0 overflow"
+calculates "99999999*99999999=5" "0 overflow"
+calculates "1/0=" "0 division by zero"
+calculates "1/0=C7" 7
+# The longest quotient, and a key after it.
+calculates "99/9.9099100=+1=" 10.989999
+calculates "" 0
+begins session < $calculator/quotient.txt
+verdict "$(tools/keys "$board" '*7=' | "$mcs4" open "$folder/session.mcs" | tools/display "$board")" 21.999999 "keys of a session that is taken up"
+
+refuses 1 "keys: $top/$board has no key x" examples/calculator/run "12x"
+refuses 2 "usage: run KEYS" examples/calculator/run
+
+# The calculator's `run` with a fault in its program, on a copy: it is told, and nothing is run.
+mkdir "$folder/copy" "$folder/copy/examples"
+ln -s "$top/tools" "$folder/copy/tools"
+cp -R examples/calculator "$folder/copy/examples"
+for program in "$folder"/copy/examples/calculator/*.asm; do
+    { echo " JUN nowhere" && cat "$program"; } > "$folder/faulty"
+    cp "$folder/faulty" "$program"
+done
+verdict "$(outcome "$folder/copy/examples/calculator/run" 1 | sed 's/.*calculator\.asm: //')" "line 1: no 32: a name that no line defines
+script:      JUN nowhere
+status 1" "the calculator with a fault in its program"

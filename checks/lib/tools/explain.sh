@@ -1,0 +1,179 @@
+# tools/explain.
+# shellcheck shell=sh
+
+# Where addresses of refused lines are, by the source.
+make_source
+cp "$folder/source.mcs" "$folder/ran.mcs"
+printf 'break 0x003\npoke pc 4097\nlist 1 257\npoke rom.5 256\nlist 0x300 0\npress 0 0\nbreak\n' > "$folder/wrong.txt"
+goes_on ran < "$folder/wrong.txt"
+verdict "$(outcome tools/explain --source "$folder/source.asm" "$folder/ran.mcs" "$folder/wrong.txt" < "$folder/answers")" \
+    "line 2: no 11: a word that must be a number is not one, or the number is out of its range
+    poke pc 4097
+line 3: no 11: a word that must be a number is not one, or the number is out of its range
+    list 1 257
+    001 (alone), line 3: JUN on
+line 4: no 11: a word that must be a number is not one, or the number is out of its range
+    poke rom.5 256
+    005 (data + 1), line 6: data: DB 0xF2, 0xF2
+line 5: no 11: a word that must be a number is not one, or the number is out of its range
+    list 0x300 0
+    300, which the source does not fill
+line 6: no 41: the board has no such key
+    press 0 0
+line 7: no 10: not a command: an unknown first word, a wrong number of words, or an unknown place
+    break
+status 1" "addresses of refused lines, by the source"
+refuses_sources "explain --source PROGRAM $folder/ran.mcs $folder/wrong.txt"
+refuses 2 "usage: explain [--source PROGRAM SESSION] SCRIPT < ANSWERS" tools/explain --source "$folder/source.asm" "$folder/ran.mcs"
+
+# What was refused: lines, lines of programs, and the part of a board at fault among others that depend on it or on which it does.
+cat > "$folder/explain.txt" <<'script'
+wire
+[keys]
+chain = 0
+first = 0
+rows = 2
+columns = ["rom1.0"]
+[[chain]]
+clock = "rom0.0"
+data = "rom0.1"
+chips = 1
+lamp = 3
+.
+wire
+lamp = [
+    { line = "rom0.1" }, { line = "rom0.2" },
+    { line = "rom0.3" }, { line = "ram3.0.0" },
+]
+[keys]
+chain = 0
+first = 9
+rows = 1
+columns = ["rom1.0"]
+[[chain]]
+clock = "rom0.0"
+data = "rom0.1"
+chips = 1
+[[rom]]
+chip = 1
+port = "iiii"
+[[rom]]
+chip = 0
+port = "0000"
+.
+wire
+[[rom]]
+chip = 1
+port = "iiii"
+
+[[ram]]
+bank = 1
+chips = 4
+# the second one
+[[rom]]
+chip = 1
+port = "0000"
+[[lamp]]
+line = "ram1.0.0"
+.
+wire
+[[ram]]
+bank = 1
+chips = = 4
+.
+list 0 2
+  asm
+ ; a program
+ LDM 16
+.
+board
+ 
+ram 0
+ports
+press 300 0
+asm now
+asm
+LDM 1
+script
+begins explain < "$folder/explain.txt" || true
+cat > "$folder/explained" <<'explained'
+line 1: no 21, line 10 of the text: a key that no board has, at the top or in a table in its place
+    lamp = 3
+line 13: no 25, line 3 of the text: a line, a chain or a row's bit that the board lacks
+        { line = "rom0.3" }, { line = "ram3.0.0" },
+line 34: no 24, lines 9 to 11 of the text: two ROMs of one chip number, or two entries for one bank
+    [[rom]]
+    chip = 1
+    port = "0000"
+line 49: no 20, line 3 of the text: the text is not TOML; a key that is there twice counts here
+    chips = = 4
+line 55: no 33, line 2 of the text: a value out of its range
+     LDM 16
+line 63: no 11: a word that must be a number is not one, or the number is out of its range
+    press 300 0
+line 64: no 10: not a command: an unknown first word, a wrong number of words, or an unknown place
+    asm now
+line 65: no 15: input ended inside a text: the line '.' after it is missing
+    asm
+status 1
+explained
+verdict "$(outcome tools/explain "$folder/explain.txt" < "$folder/answers")" "$(cat "$folder/explained")" \
+    "refusals explained"
+printf 'session 0\nok 1\nacc 0\n' > "$folder/answers"
+printf '\nreset\n\nregs\n' > "$folder/two.txt"
+verdict "$(outcome tools/explain "$folder/two.txt" < "$folder/answers")" "status 0" "nothing to explain"
+printf 'reset\nseq\n' > "$folder/two.txt"
+printf 'session 0\nok 1\nok 2\n' > "$folder/answers"
+refuses 1 "explain: these are not the answers to this script: line 3 of the answers, \`ok 2\`, is no answer to line 2 of the script, \`seq\`" \
+    tools/explain "$folder/two.txt" < "$folder/answers"
+printf 'session 0\nok 1\nseq 1\nok 2\n' > "$folder/answers"
+refuses 1 "explain: these are not the answers to this script: line 4 of the answers, \`ok 2\`, comes after the answer to the last line of the script" \
+    tools/explain "$folder/two.txt" < "$folder/answers"
+refuses 2 "usage: explain [--source PROGRAM SESSION] SCRIPT < ANSWERS" tools/explain
+
+# Answers that do not fit, or are none.
+explains() {
+    printf "$1" > "$folder/script"
+    printf "$2" > "$folder/answers"
+    verdict "$(outcome tools/explain "$folder/script" < "$folder/answers")" "$3" "explained: $1"
+}
+explains 'poke r1 1\nwatch 0 0\n' 'session 0\n' "line 1 and those after it were not answered
+    poke r1 1
+status 1"
+explains 'poke r1 1\nwatch 0 0\n' 'session 0\nok 1\nok' "line 2 was not answered
+    watch 0 0
+status 1"
+not_fitting="explain: these are not the answers to this script: line"
+explains 'press 0 0\n' 'session 0\nok 1 ran 10 end\n' "$not_fitting 2 of the answers, \`ok 1 ran 10 end\`, is no answer to line 1 of the script, \`press 0 0\`
+status 1"
+explains 'run 5\n' 'session 0\nok 1\n' "$not_fitting 2 of the answers, \`ok 1\`, is no answer to line 1 of the script, \`run 5\`
+status 1"
+explains 'reset\nreset\n' 'session 0\nok 9\nok 3\n' "$not_fitting 2 of the answers, \`ok 9\`, is no answer to line 1 of the script, \`reset\`: 0 commands were accepted before it
+status 1"
+explains 'watches\nreset\n' 'session 0\nwatches -\njunk\n' "$not_fitting 3 of the answers, \`junk\`, is no answer to line 2 of the script, \`reset\`
+status 1"
+{
+    printf 'wire\nrom = [{ chip = 0, port = "0000" }]\n.\nasm\n NOP\n NOP ; \303\244\n.\nasm\n NOP\n ORG 0x3FF\n FIM P0, 0\n.\nasm\n; '
+    awk 'BEGIN { for (i = 0; i < 300; i++) printf "x"; print "\n." }'
+} > "$folder/script"
+begins explain < "$folder/script"
+verdict "$(outcome tools/explain "$folder/script" < "$folder/answers" | sed 's/xxx*/x/')" "line 4: no 14, line 2 of the text: a byte that is neither a tab nor a printing character of ASCII: \`$(printf '\303\244')\`
+     NOP ; $(printf '\303\244')
+line 8: no 42, line 3 of the text: an address in a ROM that the board lacks; of a program, nothing is loaded then
+     FIM P0, 0
+line 13: no 12, line 1 of the text: a line of more than 255 bytes
+    ; x
+status 1" "lines of texts that no refusal tells"
+printf ' NOP\n NO\303\244P ; \303\244\n' > "$folder/faulty.asm"
+refuses 1 "script: $folder/faulty.asm: line 2: no 14: a byte that is neither a tab nor a printing character of ASCII: \`$(printf '\303\244')\`, which may stand in comments alone
+script:      NO$(printf '\303\244')P ; $(printf '\303\244')" tools/script $three/board.toml "$folder/faulty.asm"
+printf ' NOP\n ORG 0x100\n NOP\n' > "$folder/faulty.asm"
+refuses 1 "script: $folder/faulty.asm: line 3: no 42: an address in a ROM that the board lacks; of a program, nothing is loaded then
+script:      NOP" tools/script $three/board.toml "$folder/faulty.asm"
+
+# A listing ends after address FFF, whatever is asked for.
+printf 'wire\nrom = [{ chip = 15, port = "0000" }]\n.\npoke rom.0xFFE 0x40\nlist 0xFFE 4\nlist 0xFFF 1\npoke r1 1\npoke r99 1\n' > "$folder/script"
+begins other < "$folder/script"
+verdict "$(outcome tools/explain "$folder/script" < "$folder/answers")" "line 8: no 11: a word that must be a number is not one, or the number is out of its range
+    poke r99 1
+status 1" "listings up to the last address"

@@ -1,0 +1,187 @@
+# tools/import: programs in the spelling of Intel and of AS.
+# shellcheck shell=sh
+
+# The ROM that a program makes.
+rom_of() {
+    rm -f "$folder/import.mcs"
+    { roms 16 && echo asm && LC_ALL=C awk -v word=asm -f tools/lib/sent.awk "$1" && echo . && tools/rom ask 0 4096; } | "$mcs4" new "$folder/import.mcs" | sed 1,3d
+}
+cat > "$folder/intel.src" <<'source'
+/ Intel's spelling, and AS's
+       CPU 4004
+X      EQU 5
+Y      = X+2
+PORT   EQU 20H
+START, FIM 0P, PORT     / ROM chip 2
+       SRC 0P
+       LDM <X+1
+LOOP,  WRR
+       JCN TZ, LOOP
+       JCN AN START     ; without a comma
+       FIM 2< 254
+       ISZ 4, LOOP
+       XCH R10
+       inc x
+       JUN $+2
+       JMS TABLE+1-1
+       BBL
+       ORG 100H
+table: DATA 1, 'A', <TABLE, >TABLE, "OK", -1
+A.long_label_that_is_long: NOP
+ADD:   NOP
+* a remark
+       JUN add
+       JCN nz, (TABLE&0F00H)+(Y*2-6/2)
+       FIM R8R9, 101B*4
+       END
+anything
+source
+cat > "$folder/imported" <<'source'
+; Intel's spelling, and AS's
+; CPU 4004
+X = 5
+Y = 7                   ; X+2
+PORT = 0x20
+START:  FIM P0, PORT    ; ROM chip 2
+        SRC P0
+        LDM 6           ; <X+1
+LOOP:   WRR
+        JCN 1, LOOP
+        JCN 12, START   ; without a comma
+        FIM P1, 254
+        ISZ R4, LOOP
+        XCH R10
+        INC R5          ; x
+        JUN 0x011       ; $+2
+        JMS 0x100       ; TABLE+1-1
+        BBL 0
+        ORG 0x100
+table:  DB 1, 0x41, 0x00, 0x01, 0x4F, 0x4B, 0xFF ; 'A', <TABLE, >TABLE, -1
+A_long_label_tha: NOP
+ADD_:   NOP
+; a remark
+        JUN ADD_
+        JCN 12, 0x10B   ; (TABLE&0F00H)+(Y*2-6/2)
+        FIM P4, 0x14    ; 101B*4
+; END
+;anything
+source
+verdict "$(outcome tools/import "$folder/intel.src")" "$(cat "$folder/imported")
+status 0" "a program that is imported"
+verdict "$(tools/import - < "$folder/intel.src")" "$(cat "$folder/imported")" "a program that is imported from standard input"
+verdict "$(outcome tools/import "$folder/imported" | sed 's/ *;.*//' | tr -d ' ' | sed '/^$/d')" "$(sed 's/ *;.*//' "$folder/imported" | tr -d ' ' | sed '/^$/d; s/,12,/,12,/')
+status0" "what was imported, imported once more"
+# Bytes that were assembled by hand: a loop that clears a RAM register, one that adds two numbers of sixteen decimal digits, and the AND of
+# two registers, as they are written in the field since the first manuals.
+cat > "$folder/clear.src" <<'source'
+/ CLEAR RAM REGISTER 0 OF CHIP 0
+       FIM 0P, 0       / SRC ADDRESS
+       LDM 0
+CLEAR, SRC 0P
+       WRM
+       ISZ 1, CLEAR    / 16 CHARACTERS
+       NOP
+/ DECIMAL ADDITION: REGISTER 0 AND REGISTER 1 INTO REGISTER 1
+ADD16, FIM 0P, 0       / FIRST NUMBER
+       FIM 1P, 10H     / SECOND NUMBER
+       CLC
+DIGIT, SRC 0P
+       RDM
+       SRC 1P
+       ADM
+       DAA
+       WRM
+       INC 1
+       ISZ 3, DIGIT
+       BBL 0
+/ AND OF REGISTERS 0 AND 1 INTO 2
+AND,   FIM 2P, 0C0H
+BITS,  XCH 0
+       RAL
+       XCH 0
+       JCN CN, ONE
+       LDM 0
+       JUN SHIFT
+ONE,   LD 1
+SHIFT, XCH 6
+       ISZ 5, BITS
+       JUN AND-2
+source
+cat > "$folder/clear.bytes" <<'bytes'
+20 00 D0 21 E0 71 03 00
+20 00 22 10 F1 21 E9 23 EB FB E0 61 73 0D C0
+24 C0 B0 F5 B0 12 21 D0 40 22 A1 B6 75 19 40 15
+bytes
+tools/import "$folder/clear.src" > "$folder/clear.asm"
+verdict "$(rom_of "$folder/clear.asm" | awk '{ print $2; if (substr($0, 8, 1) != " ") print $3 }' | head -n 39 | tr '\n' ' ')" "$(tr '\n' ' ' < "$folder/clear.bytes")" "programs as Intel writes them, by hand"
+verdict "$(sed -n 's/.*; //p' "$folder/clear.asm" | grep -v '^AND-2')" "$(sed -n 's/.*\/ //p' "$folder/clear.src")" "their comments are kept"
+# The examples, in Intel's spelling, make the bytes that they make in ours.
+for example in examples/*/*.asm; do
+    sed 's/;/ \//; t spelled; :spelled
+        s/^\([A-Za-z_][A-Za-z0-9_]*\) *= *0x\([0-9A-Fa-f]*\)/\1 EQU 0\2H/; s/^\([A-Za-z_][A-Za-z0-9_]*\) *= */\1 EQU /; s/^\([A-Za-z_][A-Za-z0-9_]*\):/\1,/
+        h; s/ \/.*//; s/0x\([0-9A-Fa-f]*\)/0\1H/g; s/\([^A-Za-z0-9_]\)P\([0-7]\)/\1\2P/g; s/\([^A-Za-z0-9_]\)R\([0-9][0-9]*\)/\1\2/g
+        x; /\//!s/.*//; s/^[^\/]*//; x; G; s/\n/ /; s/ *$//' "$example" > "$folder/example.src"
+    verdict "$(outcome tools/import "$folder/example.src" > "$folder/example.asm"; tail -n 1 "$folder/example.asm")" "status 0" "$example in Intel's spelling"
+    sed -i '$d' "$folder/example.asm"
+    verdict "$(rom_of "$folder/example.asm" | cksum)" "$(rom_of "$example" | cksum)" "the bytes of $example in Intel's spelling"
+    verdict "$(grep -c , "$folder/example.src" | awk '{ print ($1 > 3) }')" 1 "$example is spelled otherwise there"
+done
+# The other tools tell of the spelling, where a line is in one of these.
+while IFS='|' read -r line hint; do
+    echo "$line" > "$folder/spelled.asm"
+    refuses 1 "listing: $folder/spelled.asm: line 1: no 30: the line has no form that the assembler knows$hint
+listing:     $line" tools/listing "$folder/spelled.asm" < /dev/null
+done <<'lines'
+zero EQU 4 ; none|; a name gets its number by =: zero = 4
+ FIM 0P, 0|; tools/import takes programs in Intel's and AS's spelling
+ LDM 0AH|; tools/import takes programs in Intel's and AS's spelling
+ LDM $A|; tools/import takes programs in Intel's and AS's spelling
+LOOP, NOP|; tools/import takes programs in Intel's and AS's spelling
+ NOP / none|; tools/import takes programs in Intel's and AS's spelling
+ JMP 4|
+lines
+# What it cannot take is told by line, and nothing is printed.
+cat > "$folder/bad.src" <<'source'
+       JMP START
+X      EQU Y
+Y      EQU X
+       LDM 16
+       FIM 3<, 0
+       FIM 2, 0
+       JCN NC, $
+       INCLUDE "other.inc"
+       HLT
+       WPM
+START, NOP
+START, NOP
+       LDM nowhere
+       LDM 1+
+       LDM (1
+       ADD
+       NOP 1
+       ISZ 4
+       DB
+source
+sed '12s/START, //' "$folder/bad.src" > "$folder/bad2.src"
+refuses 1 "import: $folder/bad.src:12: the name START is defined by line 11, too" tools/import "$folder/bad.src"
+refuses 1 "import: $folder/bad2.src:1: \`JMP\` is no instruction, and nothing else that is taken
+import: $folder/bad2.src:2: the value of \`Y\` hangs upon itself
+import: $folder/bad2.src:3: the value of \`X\` hangs upon itself
+import: $folder/bad2.src:4: \`16\` is 16, and has to be 0 to 15
+import: $folder/bad2.src:5: a pair begins at an even register, 0 to 14, and \`3<\` does not; where it is the number of a pair, write 3P
+import: $folder/bad2.src:6: \`2\` is no pair; pairs are 0P to 7P, or 0<, 2< to 14< by their first register
+import: $folder/bad2.src:7: NC is no condition (0) as Intel writes, and no carry (10) as AS does: write 0 or 10
+import: $folder/bad2.src:8: INCLUDE is not taken; write out what it stands for
+import: $folder/bad2.src:9: HLT is an instruction of the 4040
+import: $folder/bad2.src:10: WPM writes program RAM, which a board here does not have
+import: $folder/bad2.src:13: no line defines the name nowhere
+import: $folder/bad2.src:14: an operand is missing
+import: $folder/bad2.src:15: a bracket is missing
+import: $folder/bad2.src:16: ADD is written with one operand
+import: $folder/bad2.src:17: NOP has no operand
+import: $folder/bad2.src:18: ISZ is written with two operands
+import: $folder/bad2.src:19: DB has no values" tools/import "$folder/bad2.src"
+printf ' NOP\n JCN AZ, FAR / too far\n ORG 300H\nFAR, NOP\n' > "$folder/far.src"
+refuses 1 "import: $folder/far.src: line 2: no 34: an address on another page; JCN and ISZ reach the page of the address after their two words
+import:      JCN AZ, FAR / too far" tools/import "$folder/far.src"
+refuses 1 "import: cannot read none.src" tools/import none.src

@@ -1,0 +1,54 @@
+# tools/listing.
+# shellcheck shell=sh
+
+# Assembled by hand: CRLF, labels alone and at ORG, a name used before its line, DB over several lines.
+cat > "$folder/program.asm" <<'program'
+five = 5                ; a number
+start:  LDM five
+        JMS add_it
+        ; a comment
+alone:
+        ISZ R2, start
+        ORG 0x0FE
+table:  DB 1, 2, 3, 4, 0xAB
+add_it: ADD R1
+        BBL 7
+program
+sed 's/$/\r/' < "$folder/program.asm" > "$folder/crlf.asm"
+cat > "$folder/listing" <<'listing'
+  = 005          five = 5                ; a number
+000 D5           start:  LDM five
+001 51 03                JMS add_it
+                         ; a comment
+003              alone:
+003 72 00                ISZ R2, start
+                         ORG 0x0FE
+0FE 01 02 03 04  table:  DB 1, 2, 3, 4, 0xAB
+102 AB
+103 81           add_it: ADD R1
+104 C7                   BBL 7
+
+add_it           103
+alone            003
+five             005
+start            000
+table            0FE
+listing
+verdict "$(tools/listing "$folder/program.asm")" "$(cat "$folder/listing")" "a listing"
+verdict "$(tools/listing "$folder/crlf.asm")" "$(cat "$folder/listing")" "a listing of a source with CRLF"
+verdict "$(tools/listing --names "$folder/program.asm")" "add_it 103
+alone 003
+five 005
+start 000
+table 0FE" "names"
+verdict "$(tools/listing $calculator/calculator.asm | grep -c '^[0-9A-F][0-9A-F][0-9A-F] [0-9A-F][0-9A-F]')" \
+    "$(tools/listing $calculator/calculator.asm | sed -n 's/^[0-9A-F][0-9A-F][0-9A-F] [0-9A-F][0-9A-F]/&/p' | sort -u | wc -l | tr -d ' ')" \
+    "no address twice in the listing of the calculator"
+printf 'NOP\n\tJCN 4, far\n ORG 0x300\nfar: NOP\n' > "$folder/bad.asm"
+refuses 1 "listing: $folder/bad.asm: line 2: no 34: an address on another page; JCN and ISZ reach the page of the address after their two words
+listing:     	JCN 4, far" tools/listing "$folder/bad.asm"
+verdict "$(tools/listing --labels "$folder/program.asm")" "add_it 103
+alone 003
+start 000
+table 0FE" "labels"
+refuses 2 "usage: listing [-C FOLDER] [--names | --labels] [PROGRAM]" tools/listing --name "$folder/bad.asm"

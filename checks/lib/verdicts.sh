@@ -1,0 +1,133 @@
+# What the checks in shell share: verdicts are counted, and those that are wrong are told; parts of a check can be run alone. A check reads
+# this by `.`, after it has set `top`, the folder of the repository.
+# shellcheck shell=sh
+
+check=checks/${0##*/}
+passed=0
+failed=0
+
+# Goes to the top, names the program, `mcs4`, for the check and for the tools, and makes `folder`, in memory where the host has a place for
+# it, which is removed at the end. Nothing is read from standard input but what is redirected there.
+begin_check() {
+    cd "$top"
+    mcs4=$(checks/lib/program)
+    export MCS4="$mcs4"
+    place=${TMPDIR:-/tmp}
+    if [ -z "${TMPDIR:-}" ] && [ -d /dev/shm ] && [ -w /dev/shm ]; then place=/dev/shm; fi
+    folder=$(mktemp -d "$place/checks_${0##*/}.XXXXXX")
+    trap 'rm -rf -- "$folder"' EXIT
+    trap 'exit 1' HUP INT TERM
+    exec < /dev/null
+}
+
+fault() {
+    failed=$((failed + 1))
+    echo "$check: $1" >&2
+}
+
+# What is, what has to be, and of what.
+verdict() {
+    if [ "$1" = "$2" ]; then
+        passed=$((passed + 1))
+    else
+        fault "$3: < as it is, > as it has to be"
+        is=$(mktemp)
+        printf '%s\n' "$1" > "$is"
+        printf '%s\n' "$2" | diff "$is" - | sed 30q >&2
+        rm -f -- "$is"
+    fi
+}
+
+# The same of two files.
+verdict_of_files() {
+    if cmp -s -- "$1" "$2"; then
+        passed=$((passed + 1))
+    else
+        fault "$3: < as it is, > as it has to be"
+        diff -- "$1" "$2" | sed 30q >&2
+    fi
+}
+
+# Runs a client of the check's own, which writes lines `ok ..` and `fault: ..` into a file, and counts these: the file, the command.
+run_client() {
+    told=$1
+    shift
+    status=0
+    "$@" > "$told" || status=$?
+    sed -n '/^fault: /p' "$told" >&2
+    passed=$((passed + $(grep -c '^ok ' "$told" || :)))
+    failed=$((failed + $(grep -c '^fault: ' "$told" || :)))
+    if [ "$status" -ne 0 ]; then failed=$((failed + 1)); fi
+}
+
+# A command's output, standard error and all, and its status.
+outcome() {
+    status=0
+    "$@" 2>&1 || status=$?
+    echo "status $status"
+}
+
+# A command that is refused: its status and its words, then the command.
+refuses() {
+    wanted="$2
+status $1"
+    shift 2
+    verdict "$(outcome "$@")" "$wanted" "$*"
+}
+
+# A new session in the folder, by its name, and one that goes on: lines come from standard input, `answers` has what is answered.
+begins() {
+    rm -f -- "$folder/$1.mcs"
+    "$mcs4" new "$folder/$1.mcs" > "$folder/answers"
+}
+
+goes_on() {
+    "$mcs4" open "$folder/$1.mcs" > "$folder/answers"
+}
+
+# Runs the parts that are named, or all: the scripts in the folder of this check in checks/lib/, each with variables and a folder of its
+# own in the check's, `whole`.
+run_parts() {
+    parts=$(cd "checks/lib/${0##*/}" && echo *.sh | sed 's/\.sh//g')
+    for part in "$@"; do
+        case " $parts " in
+        *" $part "*) ;;
+        *)
+            echo "usage: $check [PART ..]; the parts are $parts" >&2
+            exit 2
+            ;;
+        esac
+    done
+    whole=$folder
+    for part in ${@:-$parts}; do run_part; done
+}
+
+run_part() {
+    set +e
+    (
+        set -e
+        trap 'exit 1' HUP INT TERM
+        folder=$whole/$part
+        mkdir -- "$folder"
+        passed=0
+        failed=0
+        . "./checks/lib/${0##*/}/$part.sh"
+        echo "$passed $failed" > "$folder.counted"
+    )
+    status=$?
+    set -e
+    if [ -e "$whole/$part.counted" ]; then
+        read -r right wrong < "$whole/$part.counted"
+        passed=$((passed + right))
+        failed=$((failed + wrong))
+    else
+        fault "the part $part ended with status $status"
+    fi
+    rm -rf -- "${whole:?}/$part"
+}
+
+# The last line, and the end.
+end_check() {
+    echo "$passed passed, $failed failed"
+    exit $((failed > 0))
+}
