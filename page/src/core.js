@@ -90,10 +90,7 @@ export function servingOf(page) {
       page.show(told);
     },
     checkSource: () => page.checkSource(),
-    keep: () => {
-      current.touch();
-      return current.keep();
-    },
+    keep: () => current.touchAndKeep(),
     log: (entries, fault) => page.log.show(entries, fault),
     counted: (tally) => page.breakpoints.count(tally),
     isRunning: () => running.clock.isRunning,

@@ -22,11 +22,13 @@ import { WiringView } from "./board/wiring_view.js";
  * @typedef {import("./bench/look.js").ChangedFront} ChangedFront
  * @typedef {import("./machine/source_map.js").SourceMap} SourceMap
  *
- * What it calls: a button presses its key; whether time runs, and so fast that no line of the program is followed; questions are asked; a
+ * What it calls: a button presses its key; whether time runs, and so fast that no line of the program is followed; whether the picture
+ * of the wiring is in front; questions are asked; a
  * line is served, which gives its answer, or null where it failed; a refusal is put into words; what a cell shows is told; the source
  * is told where the counter is, or that the listing went to an address; the bench tells its breakpoints; one is set or taken away; how long
  * lamps are lit is asked for, by a face and its number; how many milliseconds so many cycles take; a call failed.
  * @typedef {{ listen: (node: HTMLButtonElement, key: BoardKey) => void, isRunning: () => boolean, isFast: () => boolean,
+ *   isWiringShown: () => boolean,
  *   ask: (lines: string) => Promise<string[]>, act: (line: string) => Promise<string | null>, wordsOfRefusal: (number: number) => string,
  *   explain: (name: string) => string,
  *   isAt: (counter: number) => void, breakAt: (breakpoints: string[]) => void, toggleBreakpoint: (address: number) => void,
@@ -58,7 +60,7 @@ export class LookView {
     this.ram = new RamView(this.changes, this.editor, (bank, source, isSet, cell) => (
       this.toggleWatch(isSet, `${bank} 0x${hex(source, 2)}`, cell)));
     this.ports = new PortsView(this.changes, this.editor, calls.explain);
-    this.wiring = new WiringView();
+    this.wiring = new WiringView(calls.isWiringShown);
     /** @type {Watcher | null} is told of lamps and keys */
     this.watcher = null;
     this.listing = new ListingView(calls.ask, calls.toggleBreakpoint, () => this.showListing());

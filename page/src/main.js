@@ -3,11 +3,11 @@
 import { Bench } from "./bench/bench.js";
 import { startWorker } from "./bench/early_replies.js";
 import { block, button, byId, element, field, isDialogOpen, onClick } from "./ui/dom.js";
-import { Guide } from "./help/guide.js";
 import { fromBase64 } from "./session/base64.js";
 import { Locks } from "./session/locks.js";
 import { Notice } from "./ui/notice.js";
 import { Page } from "./page.js";
+import { guideOf } from "./session_ties.js";
 import { SPEEDS, speedOf } from "./time/speeds.js";
 import { Stepping } from "./time/stepping.js";
 import { inTime, MemoryStore, Store } from "./session/store.js";
@@ -138,7 +138,7 @@ async function start(words, notice, { examples, manual }) {
   const page = new Page({ bench, makeBench, store, locks, words, notice, examples, manual });
   bench.listener = page.listener();
   if (!store.keeps) notice.show(NO_STORE, "store");
-  new Guide(page, manual);
+  guideOf(page, manual);
   page.pressing.listenToKeyboard();
   listenToButtons(page);
   listenToLeaving(page);

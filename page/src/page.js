@@ -3,24 +3,17 @@
 import { AskView } from "./ui/ask_view.js";
 import { Face } from "./board/face.js";
 import { currentSessionOf, recoveryOf, runningOf, servingOf } from "./core.js";
-import { exploreOf } from "./explore/explore_of_page.js";
-import { DrawingOfPage } from "./drawing/drawing_of_page.js";
+import { drawSound, drawingOf, lookViewOf, pressingOf, scopeOf } from "./board_ties.js";
+import { breakpointsOf, heatOf, historyOf, travelOf, usualOf, valuesOf, watchedOf } from "./debug_ties.js";
 import { lampNames } from "./board/face_board.js";
 import { cellWords } from "./help/manual.js";
-import { BreakpointsOfPage } from "./machine/breakpoints_of_page.js";
 import { Layout } from "./layout.js";
 import { LogView } from "./lines/log_view.js";
-import { usualOf } from "./machine/usual_of_page.js";
-import { drawSound } from "./board/sound_of_page.js";
 import { KeptPast } from "./session/kept_past.js";
-import {
-  editorsOf, exportOf, heatOf, historyOf, lookViewOf, nameCharacters, pressingOf, romFilesOf, sessionsControllerOf, sharingOf, sourceOf,
-  textsOf, travelOf, valuesOf, watchedOf,
-} from "./ties.js";
+import { exportOf, romFilesOf, sessionsControllerOf, sharingOf } from "./session_ties.js";
+import { editorsOf, exploreOf, nameCharacters, sourceOf, testsOf, textsOf } from "./text_ties.js";
 import { CyclesView } from "./time/cycles_view.js";
-import { testsOf } from "./testing/tests_of_page.js";
 import { TextLooks } from "./text/text_looks.js";
-import { scopeOf } from "./waves/scope_of_page.js";
 import { WorkView } from "./ui/work_view.js";
 
 /**
@@ -59,7 +52,7 @@ export class Page {
     this.layout = new Layout(() => this.printed());
     this.work = new WorkView();
     this.editors = editorsOf(this, manual);
-    this.breakpoints = new BreakpointsOfPage(this);
+    this.breakpoints = breakpointsOf(this);
     this.source = sourceOf(this);
     this.values = valuesOf(this);
     this.watched = watchedOf(this);
@@ -77,7 +70,7 @@ export class Page {
     this.export = exportOf(this);
     this.sessionsController = sessionsControllerOf(this, parts);
     this.sharing = sharingOf(this);
-    this.drawing = new DrawingOfPage(this);
+    this.drawing = drawingOf(this);
     this.scope = scopeOf(this);
   }
 

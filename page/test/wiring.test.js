@@ -4,6 +4,7 @@ import { test } from "node:test";
 import { readBoard } from "../src/bench/answers.js";
 import { partAtLine, placesOfParts } from "../src/bench/board_places.js";
 import { drawBoard, isHigh, isHighAtRom } from "../src/board/wiring.js";
+import { linesOfParts } from "../src/drawing/part_lines.js";
 
 const BOARD = ["board", "[[rom]]", "chip = 0", 'port = "0000"', "[[rom]]", "chip = 1", 'port = "iiii"', "[[ram]]", "bank = 0", "chips = 1",
   "[[chain]]", 'clock = "rom0.0"', 'data = "rom0.1"', "chips = 1", "[keys]", "chain = 0", "first = 0", "rows = 2",
@@ -69,6 +70,13 @@ test("parts are found in a text, whatever way it is written", () => {
   });
   assert.deepEqual([1, 3, 8, 18, 99].map((line) => partAtLine(places, line)), ["", "lamp 0", "rom 10", "chain 0", ""]);
   assert.equal(placesOfParts("").size, 0);
+});
+
+test("what is at TEST stands in a comment", () => {
+  const rom = '[[rom]]\nchip = 0\nport = "0000"\n';
+  assert.deepEqual(Object.fromEntries(linesOfParts(`${rom}# test: button Start\n`)),
+    { "rom 0": { from: 1, to: 3 }, test: { from: 4, to: 4 } });
+  assert.deepEqual([...linesOfParts(rom).keys()], ["rom 0"]);
 });
 
 test("all parts of the calculator's board are found", () => {

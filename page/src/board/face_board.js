@@ -37,6 +37,15 @@ export function hasOutput(board, line) {
 }
 
 /**
+ * The buzzer of a face, null where it has none at a line of the board.
+ * @param {Board} board
+ * @param {Face} face
+ */
+export function buzzerOf(board, { buzzer }) {
+  return buzzer && hasOutput(board, buzzer.place) ? buzzer : null;
+}
+
+/**
  * The number behind that of the last lamp.
  * @param {Group} group
  */

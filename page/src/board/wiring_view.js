@@ -20,7 +20,9 @@ import { HEAD, drawBoard, isHigh, isHighAtRom } from "./wiring.js";
 const REACH = 9;
 
 export class WiringView {
-  constructor() {
+  /** @param {() => boolean} isShown whether the picture is in front */
+  constructor(isShown) {
+    this.isShown = isShown;
     this.root = block("wiring-picture");
     this.words = block("wiring-words");
     /** @type {Map<string, Switch>} whether a line is at 1, by its name; the pin TEST is "" */
@@ -42,8 +44,6 @@ export class WiringView {
     this.marked = "";
     /** The part or the pin that the Tab key comes to. */
     this.stop = "";
-    /** Levels are shown while the picture is in front; what was told last is shown when it comes there. */
-    this.isShown = false;
     /** @type {Ports | null} */
     this.ports = null;
     /** @type {Map<string, string>} */
@@ -57,18 +57,13 @@ export class WiringView {
     this.pencil = drawn("path", { class: "wire pencil" });
   }
 
-  /** @param {boolean} isShown whether the picture is in front */
-  setShown(isShown) {
-    this.isShown = isShown;
-    if (isShown) this.showLevels();
-  }
-
   /** Another board is wired: what was told of the one before is not of it. */
   forget() {
     this.ports = null;
     this.ramPorts.clear();
   }
 
+  /** Levels are shown while the picture is in front; what was told last, when it comes there. */
   showLevels() {
     const { ports } = this;
     // While a session is opened, its first levels may come before its board is drawn.
@@ -113,7 +108,7 @@ export class WiringView {
     this.setStop(this.items.has(focused) ? focused : this.stop);
     if (focused) this.focus(this.stop);
     this.showMark();
-    if (this.isShown) this.showLevels();
+    if (this.isShown()) this.showLevels();
   }
 
   /** @param {Board | null} board null where it is not wired */
@@ -289,19 +284,19 @@ export class WiringView {
   /** @param {Ports} ports */
   showPorts(ports) {
     this.ports = ports;
-    if (this.isShown) this.showLevels();
+    if (this.isShown()) this.showLevels();
   }
 
   /** @param {Ram} told */
   showRam({ ports }) {
     for (const [place, digit] of ports) this.ramPorts.set(place, digit);
-    if (this.isShown) this.showLevels();
+    if (this.isShown()) this.showLevels();
   }
 
   /** @param {boolean} isOn whether the TEST pin is at 1 */
   showTest(isOn) {
     this.isTestHigh = isOn;
-    if (this.isShown) this.showLevels();
+    if (this.isShown()) this.showLevels();
   }
 }
 

@@ -152,6 +152,12 @@ export class CurrentSession {
     this.keep();
   }
 
+  /** The same, and it is kept now; gives why it was not, "" where it was. */
+  touchAndKeep() {
+    this.touch();
+    return this.keep();
+  }
+
   /** Writes it to the store; what time has done is in the log once that is through. */
   async keep() {
     if (!this.session) return "";

@@ -14,8 +14,9 @@ import { SessionsView } from "./sessions_view.js";
  * @typedef {import("../worker/examples.js").Example} Example
  * @typedef {import("./kept_session.js").KeptSession} KeptSession
  * @typedef {import("./locks.js").Release} Release
- * @typedef {import("../page.js").Parts} Parts
  * @typedef {import("./store.js").SessionRecord} SessionRecord
+ * @typedef {{ bench: import("../bench/bench.js").Bench, store: import("./store.js").SessionStore, locks: import("./locks.js").Locks,
+ *   words: import("../bench/words.js").Words, notice: import("../ui/notice.js").Notice, examples: Example[] }} Parts
  *
  * What it calls: the session that is shown; it is kept; another one is shown in its place; it gets another name; a link is opened; texts of
  * a file come into the editors, and an image into ROM; time runs at another speed.

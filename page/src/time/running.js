@@ -211,6 +211,11 @@ export class Running {
     await current.keep();
   }
 
+  /** Stops time where it runs. */
+  async stand() {
+    if (this.clock.isRunning) await this.stop();
+  }
+
   /**
    * Time has done something.
    * @param {Frame} frame

@@ -1,4 +1,4 @@
-// The board that is drawn in the page: it is the text of the editor Board, and its picture stands in Wiring.
+// The board that is drawn: it is the text of the editor Board, and its picture stands in Wiring.
 
 import { wantsKey } from "../board/pressing.js";
 import { button, isDialogOpen, onClick } from "../ui/dom.js";
@@ -7,54 +7,49 @@ import { DrawingView } from "./drawing_view.js";
 import { PictureInput } from "./picture_input.js";
 
 /**
- * @typedef {import("../page.js").Page} Page
+ * @typedef {import("../board/wiring_view.js").WiringView} WiringView
+ * @typedef {import("../session/kept_session.js").KeptSession} KeptSession
+ * @typedef {import("./drawing.js").DrawingCalls} DrawingCalls
  * @typedef {import("./drawing.js").Shown} Shown
+ *
+ * What it calls, beside what the drawing does: whether the picture is in front, and it is put there; the text is wired, which gives what
+ * is told of that; the lines of a part are shown in the text; the session that is shown, in which something was done; a call failed.
+ * @typedef {DrawingCalls & { isInFront: () => boolean, putInFront: () => void, wire: () => Promise<string>, find: (part: string) => void,
+ *   session: () => KeptSession | null, touched: () => void, failed: (fault: unknown) => void }} PictureCalls
  */
 
 /** So many milliseconds after the last edit the picture follows the text. */
 const PAUSE = 300;
 
-export class DrawingOfPage {
-  /** @param {Page} page */
-  constructor(page) {
-    this.page = page;
+export class DrawingController {
+  /**
+   * @param {WiringView} picture
+   * @param {PictureCalls} calls
+   */
+  constructor(picture, calls) {
+    this.picture = picture;
+    this.calls = calls;
     this.editing = 0;
-    /** @type {(part: string) => void} shows the lines of a part in the board's text */
-    this.foundInText = () => {};
-    this.drawing = this.makeDrawing();
+    this.drawing = new Drawing(calls, (shown) => this.show(shown));
     this.view = this.makeView();
     this.input = this.makeInput();
-    page.layout.tabs.whenShown("wiring", () => this.look());
-    onClick(button("first-drawing"), () => page.layout.tabs.choose("wiring"));
+    onClick(button("first-drawing"), calls.putInFront);
     addEventListener("keydown", (event) => this.typed(event));
   }
 
-  makeDrawing() {
-    const { page } = this;
-    const { editor } = page.boardEditor;
-    return new Drawing({
-      text: () => editor.text,
-      ask: (lines) => page.bench.call("ask", [lines]),
-      edit: (edits) => editor.edit(edits),
-      undo: () => editor.step("undo"),
-      redo: () => editor.step("redo"),
-      wordsOfRefusal: (number) => page.words.ofRefusal(number),
-    }, (shown) => this.show(shown));
-  }
-
   makeView() {
-    return new DrawingView(this.page.lookView.wiring, {
+    return new DrawingView(this.picture, {
       act: (act) => this.tried(this.drawing.act(act)),
       step: (which) => this.tried(this.drawing.step(which)),
       wire: () => this.tried(this.wire()),
-      find: (part) => this.foundInText(part),
+      find: this.calls.find,
       tidy: () => this.tidy(),
     });
   }
 
   makeInput() {
     const { drawing } = this;
-    return new PictureInput(this.page.lookView.wiring, {
+    return new PictureInput(this.picture, {
       pressed: (name) => this.tried(drawing.pressed(name)),
       wired: (from, to) => {
         drawing.begun = from;
@@ -77,14 +72,14 @@ export class DrawingOfPage {
    * @param {KeyboardEvent} event
    */
   typed(event) {
-    const isOurs = this.page.layout.tabs.shown === "wiring" && !isDialogOpen() && !wantsKey(event.target, event.key);
+    const isOurs = this.calls.isInFront() && !isDialogOpen() && !wantsKey(event.target, event.key);
     if (!isOurs || event.defaultPrevented || !(event.ctrlKey || event.metaKey)) return;
     if (this.input.doesWithControl(event)) event.preventDefault();
   }
 
   /** @param {Promise<void>} work */
   tried(work) {
-    work.catch((fault) => this.page.recovery.failed(fault));
+    work.catch(this.calls.failed);
   }
 
   /** @param {Shown} shown */
@@ -95,13 +90,13 @@ export class DrawingOfPage {
 
   /** Follows the board's text, once the picture is in front. */
   look() {
-    if (this.page.layout.tabs.shown === "wiring") this.tried(this.drawing.look());
+    if (this.calls.isInFront()) this.tried(this.drawing.look());
   }
 
   /** A text was edited. */
   edited() {
     clearTimeout(this.editing);
-    this.editing = window.setTimeout(() => this.drawing.text !== this.page.boardEditor.text && this.look(), PAUSE);
+    this.editing = window.setTimeout(() => this.drawing.text !== this.calls.text() && this.look(), PAUSE);
   }
 
   /** The texts of another session are shown. */
@@ -120,14 +115,12 @@ export class DrawingOfPage {
   }
 
   async wire() {
-    const { editors, boardEditor } = this.page;
-    await editors.wire();
-    this.drawing.say(boardEditor.told.text);
+    this.drawing.say(await this.calls.wire());
   }
 
   /** Where parts stand that were dragged; it is kept with the session in the browser. */
   get kept() {
-    const { session } = this.page.current;
+    const session = this.calls.session();
     return (session && session.record.places) || [];
   }
 
@@ -148,10 +141,9 @@ export class DrawingOfPage {
   }
 
   keep() {
-    const { current } = this.page;
-    if (!current.session) return;
-    current.session.record.places = [...this.view.moved];
-    current.touch();
-    current.keep();
+    const session = this.calls.session();
+    if (!session) return;
+    session.record.places = [...this.view.moved];
+    this.calls.touched();
   }
 }

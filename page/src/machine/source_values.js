@@ -15,7 +15,7 @@ import { valuesAt } from "../debug/value_words.js";
  *   look: () => string[], isRunning: () => boolean, changed: () => void }} ValuesCalls
  */
 
-export class ValuesOfPage {
+export class SourceValues {
   /** @param {ValuesCalls} calls */
   constructor(calls) {
     this.calls = calls;

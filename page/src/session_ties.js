@@ -1,0 +1,101 @@
+// What sessions and their files, and what guides to them, call of the others: they get calls, and know no page.
+
+import { Guide } from "./help/guide.js";
+import { ExportView } from "./session/export_view.js";
+import { newRecord } from "./session/kept_session.js";
+import { RomFiles } from "./session/rom_files.js";
+import { SessionsController } from "./session/sessions_controller.js";
+import { Sharing } from "./session/sharing.js";
+import { byId } from "./ui/dom.js";
+
+/**
+ * @typedef {import("./help/manual.js").ManualSection} ManualSection
+ * @typedef {import("./page.js").Page} Page
+ * @typedef {import("./page.js").Parts} Parts
+ */
+
+/**
+ * @param {Page} page
+ * @param {Parts} parts
+ */
+export function sessionsControllerOf(page, parts) {
+  const { current } = page;
+  return new SessionsController(parts, {
+    session: () => current.session,
+    keep: () => current.keep(),
+    use: (record, release, example) => current.use(record, release, example),
+    rename: (name) => current.rename(name),
+    link: (link) => page.sharing.open(link),
+    texts: (name, texts) => page.texts.take(name, texts),
+    speed: (id) => {
+      const speeds = byId("speed", HTMLSelectElement);
+      speeds.value = id;
+      speeds.dispatchEvent(new Event("change"));
+    },
+    image: async (name, bytes) => {
+      const words = await page.rom.load(name, bytes);
+      if (words) page.notice.show(words, "file", { word: "Take it from ROM", act: () => page.texts.takeFromRom() });
+    },
+  });
+}
+
+/**
+ * @param {Page} page
+ * @returns {RomFiles}
+ */
+export function romFilesOf(page) {
+  const { running } = page;
+  return new RomFiles({
+    ask: async (lines) => page.bench.call("ask", [lines]),
+    act: (lines) => page.serving.act(lines),
+    stop: () => running.stand(),
+  });
+}
+
+/** @param {Page} page */
+export function exportOf(page) {
+  return new ExportView({
+    name: () => page.current.name,
+    board: () => page.boardEditor.text,
+    program: () => page.programEditor.text,
+    hex: () => page.rom.hex(),
+    image: () => page.rom.image(),
+    failed: (fault) => page.recovery.failed(fault),
+  });
+}
+
+/**
+ * @param {Page} page
+ * @returns {Sharing}
+ */
+export function sharingOf(page) {
+  const { current, sessionsController } = page;
+  return new Sharing(page.bench, page.ask, page.notice, page.words, {
+    shown: () => current.session && current.session.record,
+    address: () => current.showName(),
+    begin: (texts, file, runs) => sessionsController.manager.useNew(async () => newRecord(texts.name || "session", file, texts, runs)),
+    save: () => sessionsController.manager.save(),
+  });
+}
+
+/**
+ * What guides, which the page calls nothing of.
+ * @param {Page} page
+ * @param {ManualSection[]} manual
+ */
+export function guideOf(page, manual) {
+  const { layout, programEditor } = page;
+  const guide = new Guide(manual, {
+    send: (lines) => page.serving.send(lines),
+    wordsOf: (answer) => page.log.wordsOf(answer),
+    isCovered: () => page.sessions.isOpen,
+    begin: (example) => page.sessionsController.begin(example),
+    showSource: () => layout.tabs.choose("program"),
+    program: () => programEditor.text,
+    edit: (program) => programEditor.replaceText(program),
+    replace: (program, words) => page.texts.replace("program", program, words),
+  });
+  page.lookView.watcher = guide.tour;
+  page.running.ended = (why) => guide.tour.seeEnd(why);
+  return guide;
+}
