@@ -5,16 +5,16 @@
 //! Source: Intel MCS-4 Users Manual, the chips; what it leaves open is said beside the definitions in `mcs_model`.
 #![tactic(auto)]
 
+mod banks;
 mod bench_rig;
 mod bus;
-mod chips;
+mod chains;
 mod clocks;
-mod fields;
 mod keys;
 mod lamps;
 mod making;
-mod places;
 mod rig;
+mod roms;
 
 pub use bench_rig::{BenchRig, cycle, every_board_fits_the_bench, instruction, run_instruction};
 pub use rig::Rig;

@@ -6,12 +6,14 @@ ghost use Rattle.mcs_model.specs.Places.{after_reset, after_wire};
 ghost use Rattle.mcs_model.specs.Validity.{IsValidBus};
 ghost use Rattle.mcs_board.specs.Fitting.{FitsCounts};
 
-use crate::chips::{
-    banks_are_valid, banks_fit, chains_fit, clear_absent, clear_banks, clear_chains, clear_ports,
-    copied_banks, copied_chains, copied_roms, keys_of, no_banks, no_chains, no_program, no_roms,
-    rewire_banks, rewire_chains, rewire_roms, roms_are_valid, roms_fit,
-};
+use crate::banks::{banks_are_valid, banks_fit, clear_banks, copied_banks, no_banks, rewire_banks};
+use crate::chains::{chains_fit, clear_chains, copied_chains, no_chains, rewire_chains};
+use crate::keys::keys_of;
 use crate::rig::Rig;
+use crate::roms::{
+    clear_absent, clear_ports, copied_roms, no_program, no_roms, rewire_roms, roms_are_valid,
+    roms_fit,
+};
 use mcs_keypad::KeyPad;
 use mcs_model::board::Board;
 use mcs_nibble::Bit;

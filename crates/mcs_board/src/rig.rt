@@ -1,7 +1,6 @@
-//! What a rig holds.
-ghost use Rattle.std.specs.Prelude.{◌≡◌, ◌<◌, None};
-ghost use Rattle.mcs_model.specs.Boards.{board_fault_of, chain_count, IsSized};
-ghost use Rattle.mcs_model.specs.Levels.{chain_bit};
+//! What a rig holds: the chips, which have a module for each kind, the board and the level of TEST.
+ghost use Rattle.std.specs.Prelude.{◌≡◌, None};
+ghost use Rattle.mcs_model.specs.Boards.{board_fault_of, IsSized};
 
 use mcs_keypad::KeyPad;
 use mcs_model::board::{Board, BoardParts};
@@ -56,15 +55,24 @@ impl<const ROMS: usize, const BANKS: usize, const CHAINS: usize, const MAX: usiz
         self.board.parts()
     }
 
-    /// Bit `i` of chain `n`; 0 beyond its end.
-    pub(crate) fn bit_of_chain(&self, n: usize, i: usize) -> Bit
-        requires { n < chain_count self.now.board }
-        ensures { result ≡ chain_bit self.now n i }
+    /// The board.
+    pub fn board(&self) -> &Board
+        ensures { result.now ≡ self.now.board }
     {
-        let chains = self.chains.as_slice();
-        match chains[n].bit(i) {
-            Some(bit) => bit,
-            None => Bit::ZERO,
-        }
+        &self.board
+    }
+
+    /// The level of the TEST pin.
+    pub fn test_level(&self) -> Bit
+        ensures { result ≡ self.now.test }
+    {
+        self.test
+    }
+
+    /// Sets the level of the TEST pin.
+    pub fn set_test(&mut self, level: Bit)
+        ensures { self.new ≡ record self.old { test = level } }
+    {
+        self.test = level;
     }
 }

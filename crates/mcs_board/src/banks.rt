@@ -1,0 +1,205 @@
+//! The RAM banks of a rig: put on a board and cleared, and a reader and a setter of what each holds. A setter changes its
+//! place alone and clocks nothing.
+ghost use Rattle.std.specs.Prelude.{◌≡◌, ℕ, ◌+◌, ◌*◌, ◌<◌, ◌≤◌, ◌↔◌, IsTrue, length, replicate, IfOk, slice_index, slice_index_or};
+ghost use Rattle.mcs_ram4002.specs.RamBank.{IsInBank, IsValidBank, blank_bank};
+ghost use Rattle.mcs_model.specs.Bus.{status_place, with_ram, with_status};
+ghost use Rattle.mcs_model.specs.Places.{with_ram_latch, with_ram_src};
+ghost use Rattle.mcs_board.specs.RigState.{after_bank_write, no_bank};
+
+use crate::rig::Rig;
+use mcs_model::board::Board;
+use mcs_model::limits;
+use mcs_nibble::Nibble;
+use mcs_ram4002::{Bank, BankWrite};
+use std::alloc::{AllocError, Global};
+
+/// That many banks without chips.
+pub(crate) fn no_banks(alloc: Global, count: usize) -> Result<Vec<Bank<4>>, AllocError>
+    ensures { IfOk result (λ banks. banks.items ≡ replicate count (blank_bank 0)) }
+{
+    let mut banks = Vec::new(alloc);
+    for _ in 0..count {
+        banks.push(Bank::new(0))?;
+    }
+    Ok(banks)
+}
+
+/// How many chips bank `i` has; 0 of a bank that no board has.
+fn chips_of(board: &Board, i: usize) -> usize
+    ensures chips { result ≡ slice_index board.now.banks i }
+    ensures few { result ≤ 4 }
+{
+    let parts = board.parts();
+    if i < limits::BANKS {
+        usize::from(parts.banks[i])
+    } else {
+        0
+    }
+}
+
+/// Whether the board has no chips in banks beyond the first `places`.
+pub(crate) fn banks_fit(board: &Board, places: usize) -> bool
+    ensures { IsTrue result ↔ ((k : ℕ) → places ≤ k → slice_index board.now.banks k ≡ 0) }
+{
+    let _parts = board.parts();
+    for i in places..limits::BANKS {
+        if chips_of(board, i) > 0 {
+            return false;
+        }
+    }
+    true
+}
+
+/// Makes the banks those of a new board, with all 0.
+pub(crate) fn rewire_banks(banks: &mut Vec<Bank<4>>, board: &Board)
+    ensures count { length banks.new.items ≡ length banks.old.items }
+    ensures banks { (k : ℕ) → k < length banks.old.items → slice_index_or banks.new.items k no_bank
+        ≡ blank_bank (slice_index board.now.banks k) }
+{
+    for i in 0..banks.len() {
+        banks[i] = Bank::new(chips_of(board, i));
+    }
+}
+
+/// Makes all that the banks hold 0.
+pub(crate) fn clear_banks(banks: &mut Vec<Bank<4>>)
+    ensures count { length banks.new.items ≡ length banks.old.items }
+    ensures banks { (k : ℕ) → k < length banks.old.items → slice_index_or banks.new.items k no_bank
+        ≡ blank_bank (slice_index_or banks.old.items k no_bank).wired }
+{
+    for i in 0..banks.len() {
+        banks[i].clear();
+    }
+}
+
+/// Equal banks.
+pub(crate) fn copied_banks(alloc: Global, banks: &Vec<Bank<4>>) -> Result<Vec<Bank<4>>, AllocError>
+    ensures { IfOk result (λ copy. copy.items ≡ banks.now.items) }
+{
+    let mut copy = Vec::with_capacity(alloc, banks.len())?;
+    for bank in banks {
+        copy.push(bank.copy())?;
+    }
+    Ok(copy)
+}
+
+/// A law: each bank is valid.
+pub(crate) fn banks_are_valid(banks: &Vec<Bank<4>>)
+    ensures { (k : ℕ) → k < length banks.now.items →
+        IsValidBank (slice_index_or banks.now.items k no_bank) }
+{
+    for i in 0..banks.len() {
+        banks[i].show_state_is_valid();
+    }
+}
+
+impl<const ROMS: usize, const BANKS: usize, const CHAINS: usize, const MAX: usize> Rig<
+    ROMS,
+    BANKS,
+    CHAINS,
+    MAX,
+> {
+    /// Does a write to a bank, 0 to 7; lost where its chip is absent.
+    #[inline(always)]
+    fn store(&mut self, bank: u8, write: BankWrite)
+        requires bank { bank < 8 }
+        requires place { IsInBank write }
+        ensures { self.new ≡ after_bank_write self.old bank write }
+    {
+        let at = usize::from(bank);
+        if at < self.banks.len() {
+            self.banks[at].store(write);
+        }
+    }
+
+    /// The RAM character of a bank, 0 to 7, and an SRC byte; 0 where the chip is absent.
+    pub fn ram(&self, bank: u8, src: u8) -> Nibble
+        requires { bank < 8 }
+        ensures { result ≡ slice_index self.now.ram (bank * 256 + src) }
+    {
+        let at = usize::from(bank);
+        if at < self.banks.len() {
+            self.banks[at].at(src)
+        } else {
+            Nibble::ZERO
+        }
+    }
+
+    /// Sets the RAM character of a bank, 0 to 7, and an SRC byte; lost where the chip is absent.
+    pub fn set_ram(&mut self, bank: u8, src: u8, n: Nibble)
+        requires { bank < 8 }
+        ensures { self.new ≡ with_ram self.old bank src n }
+    {
+        self.store(bank, BankWrite::Character(src, n));
+    }
+
+    /// Status character `k`, 0 to 3, of the register that the high nibble of an SRC byte selects in a bank, 0 to 7;
+    /// 0 where the chip is absent.
+    pub fn status(&self, bank: u8, high: Nibble, k: u8) -> Nibble
+        requires bank { bank < 8 }
+        requires k { k < 4 }
+        ensures { result ≡ slice_index self.now.status (status_place bank high k) }
+    {
+        let at = usize::from(bank);
+        if at < self.banks.len() {
+            self.banks[at].status_at(high, k)
+        } else {
+            Nibble::ZERO
+        }
+    }
+
+    /// Sets status character `k`, 0 to 3, of the register that the high nibble of an SRC byte selects in a bank,
+    /// 0 to 7; lost where the chip is absent.
+    pub fn set_status(&mut self, bank: u8, high: Nibble, k: u8, n: Nibble)
+        requires bank { bank < 8 }
+        requires k { k < 4 }
+        ensures { self.new ≡ with_status self.old bank high k n }
+    {
+        self.store(bank, BankWrite::Status(high, k, n));
+    }
+
+    /// What the port latch of a RAM chip holds, of bank 0 to 7 and chip 0 to 3; 0 where the chip is absent.
+    pub fn ram_latch(&self, bank: u8, chip: u8) -> Nibble
+        requires bank { bank < 8 }
+        requires chip { chip < 4 }
+        ensures { result ≡ slice_index self.now.ram_ports (bank * 4 + chip) }
+    {
+        let at = usize::from(bank);
+        if at < self.banks.len() {
+            self.banks[at].port(chip)
+        } else {
+            Nibble::ZERO
+        }
+    }
+
+    /// Sets the port latch of a RAM chip, of bank 0 to 7 and chip 0 to 3; lost where the chip is absent. No chain is
+    /// clocked.
+    pub fn set_ram_latch(&mut self, bank: u8, chip: u8, n: Nibble)
+        requires bank { bank < 8 }
+        requires chip { chip < 4 }
+        ensures { self.new ≡ with_ram_latch self.old bank chip n }
+    {
+        self.store(bank, BankWrite::Port(chip, n));
+    }
+
+    /// The SRC byte that a bank, 0 to 7, keeps; 0 in a bank without chips.
+    pub fn ram_src(&self, bank: u8) -> u8
+        requires { bank < 8 }
+        ensures { result ≡ slice_index self.now.ram_src bank }
+    {
+        let at = usize::from(bank);
+        if at < self.banks.len() {
+            self.banks[at].last_src()
+        } else {
+            0
+        }
+    }
+
+    /// Sets the SRC byte that a bank, 0 to 7, keeps; a bank without chips stays at 0.
+    pub fn set_ram_src(&mut self, bank: u8, byte: u8)
+        requires { bank < 8 }
+        ensures { self.new ≡ with_ram_src self.old bank byte }
+    {
+        self.store(bank, BankWrite::Src(byte));
+    }
+}

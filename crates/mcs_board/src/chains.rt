@@ -1,0 +1,155 @@
+//! The shift chains of a rig: put on a board and cleared, and a reader and a setter of their bits, which shifts nothing.
+ghost use Rattle.std.specs.Prelude.{◌≡◌, ℕ, ◌<◌, ◌≤◌, ◌↔◌, All, IsTrue, length, replicate, [], IfOk, slice_index_or};
+ghost use Rattle.mcs_model.specs.Boards.{chain_bits, chain_count};
+ghost use Rattle.mcs_model.specs.Levels.{chain_bit};
+ghost use Rattle.mcs_model.specs.Places.{with_chain_bit};
+
+use crate::rig::Rig;
+use mcs_model::board::Board;
+use mcs_nibble::Bit;
+use mcs_shift4003::Chain;
+use std::alloc::{AllocError, Global};
+
+/// That many chains without bits.
+pub(crate) fn no_chains<const MAX: usize>(
+    alloc: Global,
+    count: usize,
+) -> Result<Vec<Chain<MAX>>, AllocError>
+    ensures { IfOk result (λ chains. chains.items ≡ replicate count []) }
+{
+    let mut chains = Vec::new(alloc);
+    for _ in 0..count {
+        chains.push(Chain::new(0))?;
+    }
+    Ok(chains)
+}
+
+/// How many bits chain `i` has; 0 where the board has no such chain.
+fn bits_of(board: &Board, i: usize) -> usize
+    ensures { result ≡ chain_bits board.now i }
+{
+    if i < board.chain_count() {
+        usize::from(board.chain(i).bits())
+    } else {
+        0
+    }
+}
+
+/// Whether each chain of the board has at most `size` bits.
+pub(crate) fn chains_fit(board: &Board, size: usize) -> bool
+    ensures { IsTrue result ↔ ((k : ℕ) → chain_bits board.now k ≤ size) }
+{
+    for i in 0..board.chain_count() {
+        if bits_of(board, i) > size {
+            return false;
+        }
+    }
+    true
+}
+
+/// Makes the chains those of a new board, with all bits 0.
+pub(crate) fn rewire_chains<const MAX: usize>(chains: &mut Vec<Chain<MAX>>, board: &Board)
+    requires { (k : ℕ) → chain_bits board.now k ≤ MAX }
+    ensures count { length chains.new.items ≡ length chains.old.items }
+    ensures rows { (k : ℕ) → k < length chains.old.items → slice_index_or chains.new.items k []
+        ≡ replicate (chain_bits board.now k) 0 }
+{
+    for i in 0..chains.len() {
+        chains[i] = Chain::new(bits_of(board, i));
+    }
+}
+
+/// Makes all bits of the chains 0.
+pub(crate) fn clear_chains<const MAX: usize>(chains: &mut Vec<Chain<MAX>>)
+    ensures count { length chains.new.items ≡ length chains.old.items }
+    ensures rows { (k : ℕ) → k < length chains.old.items → slice_index_or chains.new.items k []
+        ≡ replicate (length (slice_index_or chains.old.items k [])) 0 }
+{
+    for i in 0..chains.len() {
+        chains[i].clear();
+    }
+}
+
+/// Equal chains.
+pub(crate) fn copied_chains<const MAX: usize>(
+    alloc: Global,
+    chains: &Vec<Chain<MAX>>,
+) -> Result<Vec<Chain<MAX>>, AllocError>
+    ensures { IfOk result (λ copy. copy.items ≡ chains.now.items) }
+{
+    let mut copy = Vec::with_capacity(alloc, chains.len())?;
+    for chain in chains {
+        copy.push(chain.copy())?;
+    }
+    Ok(copy)
+}
+
+impl<const ROMS: usize, const BANKS: usize, const CHAINS: usize, const MAX: usize> Rig<
+    ROMS,
+    BANKS,
+    CHAINS,
+    MAX,
+> {
+    /// How many chains the board has.
+    pub(crate) fn chain_count(&self) -> usize
+        ensures count { result ≡ chain_count self.now.board }
+        ensures rows { length self.now.chains ≡ chain_count self.now.board }
+        ensures fits { result ≤ CHAINS }
+    {
+        let _chains = &self.chains;
+        self.parts().chains.len()
+    }
+
+    /// Bit `i` of chain `n`; 0 beyond its end.
+    pub(crate) fn bit_of_chain(&self, n: usize, i: usize) -> Bit
+        requires { n < chain_count self.now.board }
+        ensures { result ≡ chain_bit self.now n i }
+    {
+        let chains = self.chains.as_slice();
+        match chains[n].bit(i) {
+            Some(bit) => bit,
+            None => Bit::ZERO,
+        }
+    }
+
+    /// Bit `i` of a chain, both counted from 0; 0 where the board has no such bit.
+    pub fn chain_bit(&self, chain: u8, i: u8) -> Bit
+        ensures { result ≡ chain_bit self.now chain i }
+    {
+        let n = usize::from(chain);
+        if n >= self.board.chain_count() {
+            return Bit::ZERO;
+        }
+        self.bit_of_chain(n, usize::from(i))
+    }
+
+    /// Sets bit `i` of a chain, both counted from 0; lost where the board has no such bit. Nothing is shifted.
+    pub fn set_chain_bit(&mut self, chain: u8, i: u8, bit: Bit)
+        ensures { self.new ≡ with_chain_bit self.old chain i bit }
+    {
+        let n = usize::from(chain);
+        if n >= self.board.chain_count() {
+            return;
+        }
+        // That there is memory for all places bounds the size of one, which `set_bit` asks for.
+        let chains = self.chains.as_slice();
+        let _places = chains.len();
+        let place = usize::from(i);
+        if place >= usize::from(self.board.chain(n).bits()) {
+            return;
+        }
+        self.chains[n].set_bit(place, bit);
+    }
+
+    /// A law: each bit of the board's chains is 0 or 1.
+    pub(crate) fn chains_are_valid(&self)
+        ensures { (i : ℕ) → i < chain_count self.now.board →
+            All (λ bit. bit < 2) (slice_index_or self.now.chains i []) }
+    {
+        let _board = &self.board;
+        let chains = self.chains.as_slice();
+        for i in 0..chains.len() {
+            chains[i].show_state_is_valid();
+        }
+    }
+}

@@ -1,0 +1,245 @@
+//! The ROMs of a rig: put on a board and cleared, and a reader and a setter of what each holds. A setter changes its
+//! place alone and clocks nothing.
+ghost use Rattle.std.specs.Prelude.{◌≡◌, ℕ, ◌<◌, ◌≤◌, ◌↔◌, IsTrue, length, replicate, None, IfOk, IfSome, slice_index, slice_index_or};
+ghost use Rattle.mcs_rom4001.specs.Roms.{IsValidRom};
+ghost use Rattle.mcs_model.specs.Boards.{masks_on};
+ghost use Rattle.mcs_model.specs.Places.{kept_rom, with_rom_byte, with_rom_latch};
+ghost use Rattle.mcs_board.specs.Fitting.{rom_after_wire, rom_after_reset};
+ghost use Rattle.mcs_board.specs.RigState.{port_of_rom};
+
+use crate::rig::Rig;
+use mcs_model::board::Board;
+use mcs_model::limits;
+use mcs_nibble::{Addr, LineMask, Nibble};
+use mcs_rom4001::Rom;
+use std::alloc::{AllocError, Global};
+
+/// That many places for ROMs, none of them there.
+pub(crate) fn no_roms(alloc: Global, count: usize) -> Result<Vec<Option<Rom>>, AllocError>
+    ensures { IfOk result (λ roms. roms.items ≡ replicate count None) }
+{
+    let mut roms = Vec::new(alloc);
+    for _ in 0..count {
+        roms.push(None)?;
+    }
+    Ok(roms)
+}
+
+/// That many bytes, all 0.
+pub(crate) fn no_program(alloc: Global, count: usize) -> Result<Vec<u8>, AllocError>
+    ensures { IfOk result (λ program. program.items ≡ replicate count 0) }
+{
+    let mut program = Vec::new(alloc);
+    for _ in 0..count {
+        program.push(0)?;
+    }
+    Ok(program)
+}
+
+/// The masks of ROM `i`, if the board has it.
+fn mask_of(board: &Board, i: usize) -> Option<[LineMask; 4]>
+    ensures { result ≡ masks_on board.now i }
+{
+    let parts = board.parts();
+    if i < limits::ROMS {
+        parts.roms[i]
+    } else {
+        None
+    }
+}
+
+/// Whether the board has no ROM beyond the first `places`.
+pub(crate) fn roms_fit(board: &Board, places: usize) -> bool
+    ensures { IsTrue result ↔ ((k : ℕ) → places ≤ k → masks_on board.now k ≡ None) }
+{
+    let _parts = board.parts();
+    for i in places..limits::ROMS {
+        if mask_of(board, i).is_some() {
+            return false;
+        }
+    }
+    true
+}
+
+/// Puts a ROM's place on a new board, of which `mask` has the ROM's masks if it is there.
+fn rewire_rom(rom: &mut Option<Rom>, mask: Option<[LineMask; 4]>)
+    ensures { rom.new ≡ rom_after_wire mask rom.old }
+{
+    match mask {
+        None => *rom = None,
+        Some(mask) => match rom {
+            Some(rom) => rom.rewire(mask),
+            None => *rom = Some(Rom::new(mask)),
+        },
+    }
+}
+
+/// Puts the ROMs on a new board.
+pub(crate) fn rewire_roms(roms: &mut Vec<Option<Rom>>, board: &Board)
+    ensures count { length roms.new.items ≡ length roms.old.items }
+    ensures roms { (k : ℕ) → k < length roms.old.items → slice_index_or roms.new.items k None
+        ≡ rom_after_wire (masks_on board.now k) (slice_index_or roms.old.items k None) }
+{
+    for i in 0..roms.len() {
+        let mask = mask_of(board, i);
+        rewire_rom(&mut roms[i], mask);
+    }
+}
+
+/// Makes the bytes of the ROMs that a board lacks 0.
+pub(crate) fn clear_absent(program: &mut Vec<u8>, board: &Board)
+    requires { length program.old.items ≡ 4096 }
+    ensures { program.new.items ≡ kept_rom board.now program.old.items }
+{
+    for at in 0..program.len() {
+        if mask_of(board, at / 256).is_some() {
+            continue;
+        }
+        program[at] = 0;
+    }
+}
+
+/// Makes the latch of a ROM 0, if it is there.
+fn clear_port(rom: &mut Option<Rom>)
+    ensures { rom.new ≡ rom_after_reset rom.old }
+{
+    if let Some(rom) = rom {
+        rom.clear_port();
+    }
+}
+
+/// Makes the latches of the ROMs 0.
+pub(crate) fn clear_ports(roms: &mut Vec<Option<Rom>>)
+    ensures count { length roms.new.items ≡ length roms.old.items }
+    ensures roms { (k : ℕ) → k < length roms.old.items → slice_index_or roms.new.items k None
+        ≡ rom_after_reset (slice_index_or roms.old.items k None) }
+{
+    for i in 0..roms.len() {
+        clear_port(&mut roms[i]);
+    }
+}
+
+/// An equal place of a ROM.
+fn copied_rom(rom: &Option<Rom>) -> Option<Rom>
+    ensures { result ≡ rom.now }
+{
+    match rom {
+        Some(rom) => Some(rom.copy()),
+        None => None,
+    }
+}
+
+/// Equal places of the ROMs.
+pub(crate) fn copied_roms(
+    alloc: Global,
+    roms: &Vec<Option<Rom>>,
+) -> Result<Vec<Option<Rom>>, AllocError>
+    ensures { IfOk result (λ copy. copy.items ≡ roms.now.items) }
+{
+    let mut copy = Vec::with_capacity(alloc, roms.len())?;
+    for rom in roms {
+        copy.push(copied_rom(rom))?;
+    }
+    Ok(copy)
+}
+
+/// A law: a ROM's place is empty, or its ROM is valid.
+fn rom_is_valid(rom: &Option<Rom>)
+    ensures { IfSome rom.now IsValidRom }
+{
+    if let Some(rom) = rom {
+        rom.show_state_is_valid();
+    }
+}
+
+/// A law: each ROM that is there is valid.
+pub(crate) fn roms_are_valid(roms: &Vec<Option<Rom>>)
+    ensures { (k : ℕ) → k < length roms.now.items →
+        IfSome (slice_index_or roms.now.items k None) IsValidRom }
+{
+    for i in 0..roms.len() {
+        rom_is_valid(&roms[i]);
+    }
+}
+
+/// The latch of a ROM, if it is there.
+fn latch_in(rom: &Option<Rom>) -> Nibble
+    ensures { result ≡ port_of_rom rom.now }
+{
+    match rom {
+        Some(rom) => rom.port(),
+        None => Nibble::ZERO,
+    }
+}
+
+impl<const ROMS: usize, const BANKS: usize, const CHAINS: usize, const MAX: usize> Rig<
+    ROMS,
+    BANKS,
+    CHAINS,
+    MAX,
+> {
+    /// The byte at an address; 0 where the ROM is absent.
+    pub fn rom_byte(&self, at: Addr) -> u8
+        ensures { result ≡ slice_index self.now.rom at }
+    {
+        self.program[usize::from(at.get())]
+    }
+
+    /// Sets the byte at an address; lost where the ROM is absent.
+    pub fn set_rom_byte(&mut self, at: Addr, byte: u8)
+        ensures { self.new ≡ with_rom_byte self.old at byte }
+    {
+        let page = usize::from(at.page().get());
+        if page < self.roms.len() {
+            match &mut self.roms[page] {
+                Some(rom) => {
+                    rom.set_byte(at.low(), byte);
+                    self.program[usize::from(at.get())] = byte;
+                }
+                None => {}
+            }
+        }
+    }
+
+    /// What the port latch of a ROM, 0 to 15, holds; 0 on input lines, and where the ROM is absent.
+    pub fn rom_latch(&self, chip: u8) -> Nibble
+        requires { chip < 16 }
+        ensures { result ≡ slice_index self.now.rom_ports chip }
+    {
+        let at = usize::from(chip);
+        if at < self.roms.len() {
+            latch_in(&self.roms[at])
+        } else {
+            Nibble::ZERO
+        }
+    }
+
+    /// Sets the port latch of a ROM, 0 to 15, whose bits at input lines stay 0; lost where the ROM is absent. No chain
+    /// is clocked.
+    pub fn set_rom_latch(&mut self, chip: u8, n: Nibble)
+        requires { chip < 16 }
+        ensures { self.new ≡ with_rom_latch self.old chip n }
+    {
+        let at = usize::from(chip);
+        if at < self.roms.len() {
+            match &mut self.roms[at] {
+                Some(rom) => rom.set_port(n),
+                None => {}
+            }
+        }
+    }
+
+    /// The SRC byte that the ROMs keep.
+    pub fn rom_src(&self) -> u8
+        ensures { result ≡ self.now.rom_src }
+    {
+        self.rom_src
+    }
+
+    /// Sets the SRC byte that the ROMs keep.
+    pub fn set_rom_src(&mut self, byte: u8)
+        ensures { self.new ≡ record self.old { rom_src = byte } }
+    {
+        self.rom_src = byte;
+    }
+}
