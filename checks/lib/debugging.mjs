@@ -140,6 +140,9 @@ async function tryArrivals(name, label, register) {
   verdict(met, held.map(same), `${name}: back to ${held.length} arrivals where a condition holds`);
   const { reason } = await client.move("reverseContinue");
   verdict([reason, await seen(client)], ["entry", same(wanted[0])], `${name}: and to the beginning`);
+  await client.ask("setFunctionBreakpoints", { breakpoints: [{ name: label, condition: `r${register} = ${parseInt(value, 16)}` }] });
+  await client.ask("evaluate", { expression: "run 100000", context: "repl" });
+  verdict(await seen(client), same(held[held.length - 1]), `${name}: a run in the console ends where a condition holds`);
   await client.end();
 }
 

@@ -107,6 +107,24 @@ test("back to arrivals at breakpoints, to changes of what is watched, and to the
   assert.match((await ask("rc 3")).join(), /^refused: reverse-continue stands alone/);
 });
 
+test("a run among lines of the bench ends at breakpoints as time does that runs", async () => {
+  const { session, ask } = await prompted();
+  const total = () => session.debugger.session.count.total;
+  await ask("break next if r4 = 2", "continue");
+  const [cycles, before] = [total(), session.breakpoints.all[0].hits];
+  await ask("back");
+  assert.equal(total(), 0);
+  const told = (await ask("bench run 100000")).filter((line) => /^(ok|Stopped)/.test(line));
+  assert.equal(total(), cycles);
+  assert.match(told[0], new RegExp(`^ok \\d+ ran ${cycles} end$`));
+  assert.match(told[1], /^Stopped at 005 \(next, line \d+\), at a breakpoint, where r4 = 2\. The line run 100000 ended there\.$/);
+  assert.equal(session.breakpoints.all[0].hits, before + 1);
+  await ask("delete", 'break next if r4 = 4 log "R4 is {r4}"');
+  const logged = await ask("bench run 20000");
+  assert.deepEqual(logged.filter((line) => line.startsWith("R4")), Array(session.breakpoints.all[0].hits).fill("R4 is 4"));
+  assert.match(logged[logged.length - 1], /^ok \d+ ran 20000 end$/);
+});
+
 test("breakpoints with conditions, counts and notes; watches", async () => {
   const { ask, session } = await prompted();
   assert.match((await ask("break wait from 3"))[0], /^Breakpoint 1 at 014 \(wait, line \d+\)\.$/);

@@ -162,7 +162,7 @@ export class Console {
    * @returns {Promise<Done>}
    */
   async served(lines) {
-    const { entries, touchesRom } = await this.session.debugger.session.serve(lines, async () => true);
+    const { entries, touchesRom, tally, words: stopWords } = await this.session.serve(lines);
     if (touchesRom) this.calls.romChanged();
     const answers = entries.flatMap((entry) => entry.answers);
     const words = answers.map((answer) => {
@@ -171,8 +171,9 @@ export class Console {
     });
     const refused = answers.every((answer) => refusalOf(answer));
     if (refused && answers.length > 0) throw new AdapterError(words.join("\n"));
+    this.machine.tellTally(tally, tally.noted);
     if (answers.some((answer) => readRun(answer))) this.machine.tellShown();
-    return { words: words.join("\n"), changes: true, move: null };
+    return { words: [...words, ...(stopWords ? [stopWords] : [])].join("\n"), changes: true, move: null };
   }
 }
 

@@ -208,6 +208,18 @@ export class DebugSession {
     return { ...went, words: wordsOfGone({ kind: "forward" }, went, this.placeWords) };
   }
 
+  /**
+   * Serves lines that were typed; a run among them ends at each breakpoint that it comes to. `words` say so where one ended the last line.
+   * @param {string} lines
+   */
+  async serve(lines) {
+    const { told, typed: { id, cut, cycles, tally } } = await this.debugger.serveTyped(lines, always);
+    this.breakpoints.count(tally.hits);
+    if (id === 0) return { ...told, tally, words: "" };
+    const { words } = this.stopped(null, { why: "break", id, cycles, returns: false }, tally);
+    return { ...told, tally, words: `${words} The line ${cut} ended there.` };
+  }
+
   // --- where it stands ---
 
   get registers() {

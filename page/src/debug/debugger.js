@@ -319,6 +319,7 @@ export class Debugger {
     try {
       const { lines: served, runs, id, cut } = await planTyped(session.engine, session.file, arrivals, lines, goesOn);
       const told = await session.serve(served, goesOn);
+      this.usual.forget();
       const tallies = runs.map(({ seen, done }) => this.tallyOf(seen, null, before + done));
       return { told, typed: { id, cut, cycles: session.count.total - before, tally: tallies.reduce(bothTallies, NO_TALLY) } };
     } catch (fault) {

@@ -50,7 +50,8 @@ view layout tui | view [on|off] | source, registers and lamps above, drawn anew 
  scroll below it. It is for a terminal, of 40 columns and 12 rows at least; view once more, or view off, leaves it.
 load | load | the source is read anew, assembled and put into ROM | Breakpoints move with their lines.
 reset | reset | a power cycle |
-bench | bench LINE | a line of the bench, as it is | As bench state, bench count 20; @NAME in it is an address.
+bench | bench LINE | a line of the bench, as it is | As bench state, bench count 20; @NAME in it is an address. A run ends
+ at breakpoints.
 help h | help [COMMAND] | this, or more of a command |
 quit q exit | quit | ends |
 `;
