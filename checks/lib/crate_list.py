@@ -20,16 +20,23 @@ def first_sentence(crate):
     return re.split(r"(?<=[.])(?= |$)", said, maxsplit=1)[0]
 
 
-def crate_list():
-    """The whole text: for each heading of crates.txt a list of its crates."""
-    lines = [HEAD.rstrip("\n")]
+def crates_by_heading():
+    """The headings of crates.txt, each with its crates."""
+    headings = {}
     # The first two lines say how crates.txt is read.
     for line in (TOP / "crates.txt").read_text().splitlines()[2:]:
         if line.startswith("# "):
-            lines += ["", f"## {line[2:].capitalize()}", ""]
+            crates = headings.setdefault(line[2:], [])
         elif ":" in line:
-            crate = line.split()[0].rstrip(":")
-            lines.append(f"- [{crate}]({crate}/src): {first_sentence(crate)}")
+            crates.append(line.split()[0].rstrip(":"))
+    return headings
+
+
+def crate_list():
+    """The whole text: for each heading a list of its crates."""
+    lines = [HEAD.rstrip("\n")]
+    for heading, crates in crates_by_heading().items():
+        lines += ["", f"## {heading.capitalize()}", "", *(f"- [{crate}]({crate}/src): {first_sentence(crate)}" for crate in crates)]
     return "\n".join([*lines, ""])
 
 
