@@ -38,6 +38,13 @@ lines_of() {
     ' < "$top/crates.txt"
 }
 
+# The crates of this repository that a crate uses.
+uses_of() {
+    for name in $(lines_of "$1" | sed -n "s/^$1\( [^:]*\)\{0,1\}://p"); do
+        if [ -d "$top/crates/$name" ]; then echo "$name"; fi
+    done
+}
+
 sum_of_input() {
     sha256sum | cut -d ' ' -f 1
 }
