@@ -9,15 +9,8 @@ from verdicts import comes, verdict
 
 ROWS = "return [...document.querySelectorAll('#usual-list li .words')].map((each) => each.textContent)"
 SHOWN = "return isShown(document.getElementById('usual'))"
-BOARD = """[[rom]]
-chip = 0
-port = "0000"
-[[rom]]
-chip = 1
-port = "iiii"
-[[ram]]
-bank = 0
-chips = 1
+BOARD = """rom = [{ chip = 0, port = "0000" }, { chip = 1, port = "iiii" }]
+ram = [{ bank = 0, chips = 1 }]
 """
 # RDR reads the keys; WRR has no SRC of its own.
 PROGRAM = """keys:   FIM P0, 0x10

@@ -9,15 +9,8 @@ from page_names import MEANING, point_at
 from verdicts import comes, verdict
 
 ENTER, ESCAPE = "\ue007", "\ue00c"
-BOARD = """[[rom]]
-chip = 0
-port = "0000"
-[[rom]]
-chip = 1
-port = "iiii"
-[[ram]]
-bank = 0
-chips = 1
+BOARD = """rom = [{ chip = 0, port = "0000" }, { chip = 1, port = "iiii" }]
+ram = [{ bank = 0, chips = 1 }]
 """
 PROGRAM = """digit = 0x12
         FIM P2, 0x60

@@ -28,15 +28,8 @@ const BOARD = `# row 0: A B C D
 # lamp 0: on
 # test: button WALK
 lamp = [{ line = "ram0.0.0" }, { line = "ram0.0.1" }]
-[[rom]]
-chip = 0
-port = "0000"
-[[rom]]
-chip = 1
-port = "iiii"
-[[ram]]
-bank = 0
-chips = 1
+rom = [{ chip = 0, port = "0000" }, { chip = 1, port = "iiii" }]
+ram = [{ bank = 0, chips = 1 }]
 [[chain]]
 clock = "rom0.0"
 data = "rom0.1"
@@ -236,7 +229,7 @@ test("conditions in the words of a person are told in those of a test", () => {
 test("what stands at places is what trace tells of them", () => {
   const names = ["lamps", "acc", "cy", "pc", "dcl", "r0", "r7", "r15", "ram.0.0x1F", "ram.5.64", "ram.5.200", "st.0.3.2", "st.5.4.1",
     "ram0.0", "ram5.1", "ram5.2", "ram3.0", "rom1", "chain0", "src", "ret"];
-  const two = subjectOf(engine, `${BOARD.replace("[keys]", "[[ram]]\nbank = 5\nchips = 2\n[keys]")}`, PROGRAM);
+  const two = subjectOf(engine, BOARD.replace("chips = 1 }]", "chips = 1 }, { bank = 5, chips = 2 }]"), PROGRAM);
   const looks = new Looks(names, two.names.board);
   const places = new Places(looks.names);
   assert.deepEqual([...looks.names].sort(), [...names].sort());

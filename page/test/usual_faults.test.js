@@ -9,17 +9,9 @@ import { readProgram } from "../src/worker/program_check.js";
 import { Engine } from "../src/worker/engine.js";
 import { moduleOfPage } from "./page_session.js";
 
-const BOARD = `[[rom]]
-chip = 0
-port = "0000"
-[[rom]]
-chip = 1
-port = "iiii"
-[[ram]]
-bank = 0
-chips = 1
-[[lamp]]
-line = "rom0.0"
+const BOARD = `rom = [{ chip = 0, port = "0000" }, { chip = 1, port = "iiii" }]
+ram = [{ bank = 0, chips = 1 }]
+lamp = [{ line = "rom0.0" }]
 `;
 
 /** @type {Engine} */
@@ -62,7 +54,7 @@ test("each of them is told once, with its line", () => {
 });
 
 test("an SRC that still points elsewhere: RAM was used, and the same WRR used another ROM before", () => {
-  const wired = `${BOARD}[[rom]]\nchip = 2\nport = "0000"\n`;
+  const wired = BOARD.replace("}]", '}, { chip = 2, port = "0000" }]');
   const program = "again: FIM P0, 0\nSRC P0\nFIM P1, 0x20\nturn: WRR\nSRC P1\nWRM\nJUN turn\n";
   const session = new DebugSession(engine, { board: wired, program });
   const told = session.debugger.advance(1543).tally.usual;

@@ -9,18 +9,8 @@ import { readAllWatched, readWatched } from "../src/debug/watched.js";
 import { Engine } from "../src/worker/engine.js";
 import { moduleOfPage } from "./page_session.js";
 
-const BOARD = `[[rom]]
-chip = 0
-port = "0000"
-[[rom]]
-chip = 1
-port = "ii00"
-[[ram]]
-bank = 0
-chips = 1
-[[ram]]
-bank = 2
-chips = 2
+const BOARD = `rom = [{ chip = 0, port = "0000" }, { chip = 1, port = "ii00" }]
+ram = [{ bank = 0, chips = 1 }, { bank = 2, chips = 2 }]
 `;
 const POKES = "poke r4 6\npoke r5 0\npoke ram.0.0x12 7\npoke st.0.1.2 9\npoke acc 5\npoke cy 1\n";
 // By hand: FIM and SRC select chip 0, register 1, character 2, and ROM 1; WRR and WMP put 5 out.
