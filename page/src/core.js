@@ -57,6 +57,7 @@ export function runningOf(page) {
     took: (frame) => {
       page.log.collect(frame.ran);
       page.usual.show(frame.tally.usual);
+      page.heat.ran(frame);
       page.show(frame, true, frame.shone);
       page.breakpoints.count(frame.tally);
     },

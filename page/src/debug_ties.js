@@ -129,6 +129,9 @@ export function heatOf(page) {
       if (!(fault instanceof Cancelled) && !(fault instanceof WorkerDied)) recovery.failed(fault);
       return null;
     }),
+    watch: (isOn) => {
+      bench.call("watchRam", [isOn]).catch((fault) => recovery.failed(fault));
+    },
     show: (warm) => lookView.ram.showWarm(warm),
     nameOf: (place) => lookView.ram.nameOf(place),
     map: () => page.source.map,

@@ -156,6 +156,7 @@ export class Page {
       this.drawing.wired(board);
       this.history.draw(this.lookView.board, lampNames(new Face(this.boardEditor.text), this.lookView.board.lamps.length));
       this.editors.look(board.length === 1);
+      this.heat.wired();
       drawSound(this, this.boardEditor.text);
       nameCharacters(this);
     }

@@ -2,7 +2,7 @@
 import assert from "node:assert/strict";
 import { test } from "node:test";
 import { Cancelled } from "../src/bench/faults.js";
-import { warmthOf, wordsOfHeat, wordsOfHeated } from "../src/machine/heat.js";
+import { PassingHeat, warmthOf, wordsOfHeat, wordsOfHeated, wordsOfPassing } from "../src/machine/heat.js";
 import { bytesOfSource, namesOfCharacters } from "../src/machine/ram_names.js";
 import { SourceMap } from "../src/machine/source_map.js";
 import { readWatched } from "../src/debug/watched.js";
@@ -46,6 +46,40 @@ async function ran(cycles) {
   for (let done = 0; done < cycles; done += 30) await calls.serve(`run ${Math.min(30, cycles - done)}\n`);
   return calls;
 }
+
+const FRAME = 1543;
+
+test("while time runs the same is told of the cycles that pass, frame by frame", async () => {
+  const calls = await begin("three lamps");
+  await calls.serve(`wire\n${BOARD.split("[[ram]]\nbank = 2")[0]}.\nasm\n${PROGRAM}.\nreset\n`);
+  assert.equal(calls.advance(SETUP).warmed, null);
+  calls.watchRam(true);
+  const passing = new PassingHeat();
+  for (let frame = 0; frame < 20; frame++) {
+    if (frame === 5) calls.press("test 1");
+    const { warmed, cycles } = calls.advance(FRAME);
+    assert.deepEqual([warmed.cycles, warmed.chips], [cycles, 1]);
+    passing.add(warmed, cycles, 20 * FRAME);
+  }
+  assert.deepEqual(passing.heat, await calls.heat(20 * FRAME));
+  for (let frame = 0; frame < 20; frame++) passing.add({ cycles: FRAME, cells: [], chips: 1 }, FRAME, 20 * FRAME);
+  assert.deepEqual(passing.heat, { cycles: 20 * FRAME, cells: [] }, "what is long ago is forgotten");
+  calls.watchRam(false);
+  assert.equal(calls.advance(FRAME).warmed, null);
+});
+
+test("of several chips one is looked at in each frame, and of full speed a sample", async () => {
+  const calls = await ran(SETUP);
+  calls.watchRam(true);
+  const told = Array.from({ length: 6 }, () => calls.advance(80).warmed);
+  assert.deepEqual(told.map(({ cells }) => cells.map(({ place, count }) => `${place} ${count}`)), [
+    ["ram.0.0x12 10"], [], [], ["ram.0.0x12 10"], [], []]);
+  assert.equal(calls.advance(50000).warmed, null);
+  const { warmed } = calls.session.senseAhead();
+  assert.deepEqual([warmed.chips, warmed.cycles, warmed.cells.length], [3, 2778, 1]);
+  assert.equal(wordsOfPassing(warmed, false), "Counted while time runs, in one of 3 chips at a time, of full speed in samples.");
+  assert.equal(wordsOfPassing({ chips: 1 }, true), "Counted while time runs.");
+});
 
 test("what changed is counted over the past, to the cycle, and nothing is undone", async () => {
   const calls = await ran(SETUP + 20 * TURN);

@@ -13,9 +13,10 @@
  *   past: import("../worker/timeline.js").News, waves: import("../worker/live_recorder.js").LivePart | null }} Shown
  *
  * What time has done: the lines, the cycles, the answer that ended the run early ("" where none did), whether a key was changed; why time
- * stopped, if it did, and what breakpoints did; what was lit and heard, null where nobody asks.
+ * stopped, if it did, and what breakpoints did; what was lit and heard, and which characters changed, null where nobody asks.
  * @typedef {{ ran: RanEntry[], cycles: number, end: string, changesKeys: boolean, stop: Stop | null, tally: Tally,
- *   shone: import("../worker/shining.js").Shone | null, heard: import("../worker/sounding.js").Heard | null } & Shown} Frame
+ *   shone: import("../worker/shining.js").Shone | null, heard: import("../worker/sounding.js").Heard | null,
+ *   warmed: import("../worker/heating.js").PassedHeat | null } & Shown} Frame
  * @typedef {import("../debug/debugger.js").Stop} Stop
  * @typedef {import("../debug/debugger.js").Tally} Tally
  *

@@ -8,10 +8,13 @@ import { wordsOfCycles } from "../time/cycles.js";
  * @typedef {import("../worker/heat.js").Heat} Heat
  * @typedef {import("../worker/heat.js").Heated} Heated
  * @typedef {import("./source_map.js").SourceMap} SourceMap
+ * @typedef {import("../worker/heating.js").PassedHeat} PassedHeat
  * @typedef {"often" | "lately"} HeatKind
  */
 
 export const WARMEST = 5;
+/** The cycles that are kept of time that runs are so many stretches. */
+const MOST_PARTS = 50;
 
 /**
  * Where a number is between 1 and the most, by its logarithm: 1 to the warmest.
@@ -36,6 +39,52 @@ export function warmthOf({ cycles, cells }, kind) {
     [place, kind === "often" ? step(count, most) : WARMEST + 1 - step(1 + ago - last, cycles)])));
 }
 
+/** What changes while time runs, over the last so many cycles of it. */
+export class PassingHeat {
+  constructor() {
+    this.total = 0;
+    /** @type {{ from: number, cells: Map<string, Heated & { at: number }> }[]} stretches of time, each behind so many cycles */
+    this.parts = [];
+  }
+
+  clear() {
+    this.total = 0;
+    this.parts = [];
+  }
+
+  /**
+   * @param {PassedHeat} heat
+   * @param {number} cycles that have passed; not all of them were looked at where time runs at full speed
+   * @param {number} most so many cycles are kept
+   */
+  add({ cells }, cycles, most) {
+    const from = this.total;
+    this.total += cycles;
+    if (this.parts.length === 0 || this.total - this.parts[this.parts.length - 1].from > most / MOST_PARTS) {
+      this.parts.push({ from, cells: new Map() });
+    }
+    addTo(this.parts[this.parts.length - 1].cells, cells.map((cell) => ({ ...cell, at: this.total - cell.ago })));
+    while (this.parts.length > 1 && this.parts[1].from <= this.total - most) this.parts.shift();
+  }
+
+  /** @returns {Heat} */
+  get heat() {
+    /** @type {Map<string, Heated & { at: number }>} */
+    const all = new Map();
+    for (const { cells } of this.parts) addTo(all, [...cells.values()]);
+    const from = this.parts.length > 0 ? this.parts[0].from : this.total;
+    return { cycles: this.total - from, cells: [...all.values()].map(({ at, ...cell }) => ({ ...cell, ago: this.total - at })) };
+  }
+}
+
+/**
+ * @param {Map<string, Heated & { at: number }>} all by their places
+ * @param {(Heated & { at: number })[]} newer
+ */
+function addTo(all, newer) {
+  for (const cell of newer) all.set(cell.place, { ...cell, count: cell.count + (all.get(cell.place) || { count: 0 }).count });
+}
+
 /**
  * @param {Heated} cell
  * @param {SourceMap | null} map
@@ -57,6 +106,15 @@ function times(count) {
  */
 export function wordsOfHeated(cell, map) {
   return `${times(cell.count)}${cell.count === 1 ? "" : ", last"} ${lastOf(cell, map)}`;
+}
+
+/**
+ * What is told while time runs.
+ * @param {PassedHeat} heat
+ * @param {boolean} isAll whether all cycles are looked at
+ */
+export function wordsOfPassing({ chips }, isAll) {
+  return `Counted while time runs${chips > 1 ? `, in one of ${chips} chips at a time` : ""}${isAll ? "" : ", of full speed in samples"}.`;
 }
 
 /**

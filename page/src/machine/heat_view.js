@@ -1,25 +1,30 @@
-// Which characters of RAM change, while time stands still: by how often or how lately they did, the cells are warm. The past is looked
-// through for it, and nothing of it is undone.
+// Which characters of RAM change: by how often or how lately they did, the cells are warm. While time stands still the past is looked
+// through for it, and nothing of it is undone; while time runs it is told what changes.
 
 import { block, byId, field } from "../ui/dom.js";
 import { countOf } from "../bench/numbers.js";
-import { warmthOf, wordsOfHeat, wordsOfHeated } from "./heat.js";
+import { PassingHeat, warmthOf, wordsOfHeat, wordsOfHeated, wordsOfPassing } from "./heat.js";
 
 /**
  * @typedef {import("../worker/heat.js").Heat} Heat
+ * @typedef {import("../worker/heating.js").PassedHeat} PassedHeat
  * @typedef {import("./heat.js").HeatKind} HeatKind
  * @typedef {import("./source_map.js").SourceMap} SourceMap
  * @typedef {{ warmth: number, words: string }} Warm
  *
- * What it calls: whether time runs; the changes in so many cycles are counted, null where that was cancelled or failed, which is told; the
- * cells are shown as warm as they are, by their places; what a place is called; the program that stands in ROM.
+ * What it calls: whether time runs; the changes in so many cycles are counted, null where that was cancelled or failed, which is told;
+ * changes are told while time runs, or not any more; the cells are shown as warm as they are, by their places; what a place is called; the
+ * program that stands in ROM.
  * @typedef {{ isRunning: () => boolean, count: (cycles: number, signal: AbortSignal) => Promise<Heat | null>,
- *   show: (warm: Map<string, Warm>) => void, nameOf: (place: string) => string, map: () => SourceMap | null }} HeatCalls
+ *   watch: (isOn: boolean) => void, show: (warm: Map<string, Warm>) => void, nameOf: (place: string) => string,
+ *   map: () => SourceMap | null }} HeatCalls
  */
 
 /** Time has to stand still for so many milliseconds, and no hand to move, before it is counted. */
 const REST_TIME = 300;
 const MOST_CYCLES = 10000000;
+/** While time runs cells are drawn once in so many milliseconds. */
+const DRAWN_TIME = 200;
 
 export class HeatView {
   /**
@@ -38,6 +43,9 @@ export class HeatView {
     this.isOld = true;
     /** @type {Heat | null} what was counted last */
     this.heat = null;
+    this.passing = new PassingHeat();
+    /** When cells were drawn last while time runs. */
+    this.drawn = 0;
     this.kind.value = choices.get("heat");
     this.cycles.value = choices.get("heat-cycles") || this.cycles.value;
     this.kind.addEventListener("change", () => this.choose());
@@ -51,26 +59,67 @@ export class HeatView {
     this.choices.set("heat", this.kind.value);
     this.choices.set("heat-cycles", this.cycles.value);
     this.showReach();
-    this.looked();
+    this.clear();
+    this.wired();
+    if (this.kind.value !== "") this.wanted();
+    this.isOld = true;
+    this.wait();
+  }
+
+  /** How many cycles are wanted; 0 where that is no number, which is told. */
+  wanted() {
+    const cycles = countOf(this.cycles.value, MOST_CYCLES);
+    this.cycles.setAttribute("aria-invalid", String(cycles === 0));
+    if (cycles === 0) {
+      this.clear();
+      this.tell(`How many cycles? A number from 1 to ${MOST_CYCLES.toLocaleString("en")}.`);
+    }
+    return cycles;
+  }
+
+  /** Another board is wired, or others want to know. */
+  wired() {
+    this.calls.watch(this.kind.value !== "");
   }
 
   showReach() {
     block("heat-reach").hidden = this.kind.value === "";
   }
 
+  /**
+   * Time has done something.
+   * @param {{ warmed: PassedHeat | null, cycles: number }} frame
+   */
+  ran({ warmed, cycles }) {
+    const most = warmed ? countOf(this.cycles.value, MOST_CYCLES) : 0;
+    if (!warmed || most === 0 || this.kind.value === "") return;
+    this.passing.add(warmed, cycles, most);
+    if (performance.now() - this.drawn < DRAWN_TIME) return;
+    this.drawn = performance.now();
+    this.heat = null;
+    this.showCells(this.passing.heat);
+    this.tell(wordsOfPassing(warmed, warmed.cycles >= cycles));
+  }
+
   /** A look was shown. */
   looked() {
-    const isOn = this.kind.value !== "" && !this.calls.isRunning();
-    if (!isOn && this.isOld && !this.heat) return;
+    if (this.kind.value === "") return;
     this.isOld = true;
-    if (!isOn) this.clear();
+    if (!this.calls.isRunning()) this.passing.clear();
     this.wait();
   }
 
   clear() {
     this.heat = null;
-    this.told.textContent = "";
+    this.passing.clear();
+    this.drawn = 0;
+    this.tell("");
     this.calls.show(new Map());
+  }
+
+  /** @param {string} words */
+  tell(words) {
+    if (this.told.textContent !== words) this.told.textContent = words;
   }
 
   /** It is counted once nothing else is done. */
@@ -81,16 +130,11 @@ export class HeatView {
   }
 
   async count() {
-    const cycles = countOf(this.cycles.value, MOST_CYCLES);
-    this.cycles.setAttribute("aria-invalid", String(cycles === 0));
-    if (cycles === 0) {
-      this.clear();
-      this.told.textContent = `How many cycles? A number from 1 to ${MOST_CYCLES.toLocaleString("en")}.`;
-      return;
-    }
+    const cycles = this.wanted();
+    if (cycles === 0) return;
     const asked = new AbortController();
     this.asked = asked;
-    if (!this.heat) this.told.textContent = "The past is looked through.";
+    if (!this.heat) this.tell("The past is looked through.");
     const heat = await this.calls.count(cycles, asked.signal);
     if (!heat || asked.signal.aborted || this.calls.isRunning() || this.kind.value === "") return;
     this.heat = heat;
@@ -103,10 +147,14 @@ export class HeatView {
    * @param {number} wanted
    */
   show(heat, wanted) {
-    const { nameOf } = this.calls;
+    this.tell(wordsOfHeat(heat, wanted, this.calls.nameOf, this.calls.map()));
+    this.showCells(heat);
+  }
+
+  /** @param {Heat} heat */
+  showCells(heat) {
     const map = this.calls.map();
     const warmth = warmthOf(heat, /** @type {HeatKind} */ (this.kind.value));
-    this.told.textContent = wordsOfHeat(heat, wanted, nameOf, map);
     this.calls.show(new Map(heat.cells.map((cell) => (
       [cell.place, { warmth: warmth.get(cell.place) || 0, words: `changed ${wordsOfHeated(cell, map)}` }]))));
   }

@@ -13,6 +13,7 @@ import { Engine } from "./engine.js";
 import { linesOfExample } from "./examples.js";
 import { FullSpeed } from "./full_speed.js";
 import { heatOf } from "./heat.js";
+import { Heating } from "./heating.js";
 import { differenceOf, leftoversOf, readProgram } from "./program_check.js";
 import { sourceOfRom, textsOfFile } from "./sources.js";
 import { sentText } from "../text/text_fault.js";
@@ -511,6 +512,16 @@ export class BenchCalls {
   }
 
   /**
+   * From here on, while time runs, it is told which characters of RAM change; where the board has any.
+   * @param {boolean} isOn
+   */
+  watchRam(isOn) {
+    if (!this.opened) return;
+    const board = readBoard(this.session.lookQuestions.board);
+    this.session.heating = isOn && board.banks.length > 0 ? new Heating(board) : null;
+  }
+
+  /**
    * From here on, while time runs, the edges of a line are told.
    * @param {string} line "" for none
    */
@@ -578,6 +589,6 @@ export class BenchCalls {
     this.fullSpeed.batch(this.debugger);
     if (!this.fullSpeed.isToBeTold(this.spare.length > 0)) return null;
     const { look, ...told } = this.fullSpeed.take();
-    return { ...told, shone: this.session.shineAhead(), ...this.shown(look, false) };
+    return { ...told, ...this.session.senseAhead(), ...this.shown(look, false) };
   }
 }

@@ -17,11 +17,11 @@ const HIDDEN_TIME = 1000;
 
 /**
  * Nothing done yet: the cycles, the answer that ended the run early, why time stopped, what breakpoints did, whether a key was changed, the
- * answers of the last look, and what was lit and heard, which is not asked for here.
+ * answers of the last look, and what was lit, heard and warmed, which is not asked for here.
  * @returns {Omit<DebugFrame, "ran">}
  */
 function nothing() {
-  return { cycles: 0, end: "", stop: null, tally: NO_TALLY, changesKeys: false, look: [], shone: null, heard: null };
+  return { cycles: 0, end: "", stop: null, tally: NO_TALLY, changesKeys: false, look: [], shone: null, heard: null, warmed: null };
 }
 
 export class FullSpeed {
@@ -57,6 +57,7 @@ export class FullSpeed {
       cycles: cycles + frame.cycles, end, stop, look, tally: bothTallies(tally, frame.tally), changesKeys: changesKeys || frame.changesKeys,
       shone: null,
       heard: null,
+      warmed: null,
     };
     if (stop) this.isOn = false;
     const wanted = this.size * Math.min(2, Math.max(0.5, BATCH_TIME / Math.max(1, time)));

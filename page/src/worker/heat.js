@@ -27,6 +27,8 @@ import { cyclesOf, piecesOf, shortUnits, unitsBetween } from "./units.js";
 const MOST_PLACES = 16;
 const REGISTERS = 4;
 const STATUS = 4;
+/** The characters of a chip are as many groups, and its status characters are one. */
+export const GROUPS_OF_CHIP = REGISTERS + 1;
 
 /**
  * The places of `trace` for all characters of a board's RAM, as many together as it takes.
@@ -55,7 +57,7 @@ function beginOf(timeline, cycles) {
 }
 
 /** Gathers changes into what is told of each place. */
-class Counting {
+export class Counting {
   /** @param {string[][]} groups */
   constructor(groups) {
     this.groups = groups;
@@ -66,7 +68,7 @@ class Counting {
   }
 
   /**
-   * @param {PastChange} change
+   * @param {Omit<PastChange, "unit">} change
    * @param {number} begun the cycles that are done before its step
    */
   add({ group, before, after, cycles, address, line }, begun) {

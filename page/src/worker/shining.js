@@ -18,9 +18,6 @@ export const CYCLES_OF_EYE = 2778;
 /** Of steps that have more cycles nobody is asked: time at full speed is looked at in another way. */
 export const MOST_SHONE = 20000;
 
-/** @param {string} head of an answer to `trace` */
-const cyclesOf = (head) => Number(head.split(" ", 3)[2]);
-
 /** Adds up how long each pattern of a digit is shown. */
 class Digits {
   /** @param {Group} group a display */
@@ -134,7 +131,7 @@ export class Shining {
 
   /** @param {string[]} answers to one question; what an instruction changes is there once its first cycle is over */
   add(answers) {
-    const { row, lines } = new Answers(answers).takeTrace();
+    const { row, lines, cycles } = new Answers(answers).takeTrace();
     let marks = row.slice(1);
     let from = 0;
     for (const line of lines) {
@@ -144,7 +141,7 @@ export class Shining {
       from = traced.cycles + 1;
     }
     // Where nothing runs, what is lit at this instant.
-    this.addMarks(marks, cyclesOf(answers[0]) === 0 ? 1 : cyclesOf(answers[0]) - from);
+    this.addMarks(marks, cycles === 0 ? 1 : cycles - from);
   }
 
   /**

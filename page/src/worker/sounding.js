@@ -37,10 +37,10 @@ export class Sounding {
     const heard = { cycles: 0, level: 0, edges: /** @type {number[]} */ ([]) };
     for (const answers of told) {
       if (answers.length === 0) continue;
-      const { row, lines } = new Answers(answers).takeTrace();
+      const { row, lines, cycles } = new Answers(answers).takeTrace();
       if (heard.cycles === 0) heard.level = Number(row.slice(1));
       for (const line of lines) heard.edges.push(heard.cycles + readTraced(line).cycles + 1);
-      heard.cycles += Number(answers[0].split(" ", 3)[2]);
+      heard.cycles += cycles;
     }
     return heard;
   }

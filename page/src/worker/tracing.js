@@ -6,11 +6,11 @@ import { readRun } from "../bench/answers.js";
  * An instruction that is told: how many cycles are done before it, its address, and the row of what is looked at after it, each value
  * after a blank.
  * @typedef {{ cycles: number, address: number, row: string }} Traced
- * @typedef {{ row: string, lines: string[] }} Trace the row before the run, and the lines of the instructions
+ * @typedef {{ row: string, lines: string[], cycles: number }} Trace the row before the run, the lines of the instructions, its cycles
  * @typedef {{ cycles: number, end: string }} Ran how many cycles a run did, and what stopped it, "end" where nothing did
  */
 
-const HEAD = /^(?:trace|count) ran \d+ \w+ lines (\d+)(.*)$/;
+const HEAD = /^(?:trace|count) ran (\d+) \w+ lines (\d+)(.*)$/;
 
 /** @param {string} line */
 export function readTraced(line) {
@@ -54,8 +54,8 @@ export class Answers {
     const head = HEAD.exec(answer);
     if (!head) throw new Error(`the bench answered a question by: ${answer}`);
     const from = this.at;
-    this.at += Number(head[1]);
-    return { row: head[2], lines: this.answers.slice(from, this.at) };
+    this.at += Number(head[2]);
+    return { row: head[3], lines: this.answers.slice(from, this.at), cycles: Number(head[1]) };
   }
 
   /**

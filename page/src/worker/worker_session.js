@@ -20,6 +20,8 @@ import { SEGMENT_ENTRIES, Timeline } from "./timeline.js";
  * @typedef {import("../bench/inputs.js").Input} Input
  * @typedef {import("./key_queue.js").Step} Step
  * @typedef {import("./live_recorder.js").LiveRecorder} LiveRecorder
+ * @typedef {import("./heating.js").Heating} Heating
+ * @typedef {import("./heating.js").PassedHeat} PassedHeat
  * @typedef {import("./shining.js").Shining} Shining
  * @typedef {import("./shining.js").Shone} Shone
  * @typedef {import("./sounding.js").Heard} Heard
@@ -30,8 +32,8 @@ import { SEGMENT_ENTRIES, Timeline } from "./timeline.js";
  *   the last inputs, the first answer, the status of the shell's end, and whether bytes of ROM or the board may be others now
  * @typedef {Told & { look: string[] }} ToldAndSeen
  * @typedef {{ ran: RanEntry[], cycles: number, end: string, changesKeys: boolean, look: string[], shone: Shone | null,
- *   heard: Heard | null }} Frame what came of cycles; `end` is the answer that ended the run early, "" where none did; `shone` what was
- *   lit, and `heard` what a line did, null where that is not asked for
+ *   heard: Heard | null, warmed: PassedHeat | null }} Frame what came of cycles; `end` is the answer that ended the run early, "" where
+ *   none did; what was lit (`shone`), what a line did (`heard`), which characters changed (`warmed`), null where that is not asked for
  */
 
 /** So many of the inputs that were served are told. */
@@ -72,6 +74,15 @@ export class WorkerSession {
     this.sounding = null;
     /** @type {Shining | null} adds up what is lit while time runs, where somebody looks */
     this.shining = null;
+    /** @type {Heating | null} counts the changes of RAM while time runs, where somebody looks */
+    this.heating = null;
+  }
+
+  /** Another board is wired: whoever looks at it has to say so again. */
+  forgetSenses() {
+    this.shining = null;
+    this.sounding = null;
+    this.heating = null;
   }
 
   /** What records, where it goes on. */
@@ -116,7 +127,7 @@ export class WorkerSession {
    * @returns {Frame}
    */
   advanceBy(planned) {
-    const { steps, answers, look, shone, heard } = this.serveSteps(planned);
+    const { steps, answers, look, sensed } = this.serveSteps(planned);
     this.adopt();
     const runs = answers.map(readRun);
     /** @type {(at: number) => number} */
@@ -134,8 +145,7 @@ export class WorkerSession {
       end: isStop(last) ? last : "",
       changesKeys: steps.some((step) => step.change !== null),
       look,
-      shone,
-      heard,
+      ...sensed,
     };
   }
 
@@ -164,7 +174,7 @@ export class WorkerSession {
     this.unrecorded = [];
     this.readCodes = null;
     if (this.recorder) this.recorder.stop("back");
-    if (wires) this.shining = this.sounding = null;
+    if (wires) this.forgetSenses();
     return wires;
   }
 
@@ -205,38 +215,44 @@ export class WorkerSession {
     }
     const answers = served.answers.slice(0, done.length);
     const look = lookOf(this.lookQuestions.inputs, served.answers.slice(done.length));
-    const { shining, sounding, toldTo } = served;
-    return {
-      steps: done, answers, look, shone: shining && shining.take(toldTo(shining)), heard: sounding && sounding.take(toldTo(sounding)),
-    };
+    return { steps: done, answers, look, sensed: served.sense() };
   }
 
   /**
-   * What adds up what is lit in some steps, and what a line does; null where nobody asks, or they are too many for an eye.
+   * What adds up what is lit in some steps, what a line does, and what changes; null where nobody asks, or they are too many for an eye.
    * @param {Step[]} steps
    */
   sensesIn(steps) {
     const areFew = steps.reduce((sum, step) => sum + cyclesOfStep(step), 0) <= MOST_SHONE;
-    return { shining: areFew ? this.shining : null, sounding: areFew ? this.sounding : null };
+    const { shining, sounding, heating } = this;
+    return areFew ? { shining, sounding, heating } : { shining: null, sounding: null, heating: null };
   }
 
-  /** What will be lit in the time that an eye needs; null where nobody looks. */
-  shineAhead() {
-    const { shining } = this;
-    return shining && shining.take([this.ask(shining.questions(CYCLES_OF_EYE))]);
+  /** What will be lit, and change, in the time that an eye needs; null where nobody looks. */
+  senseAhead() {
+    const { shining, heating } = this;
+    return {
+      shone: shining && shining.take([this.ask(shining.questions(CYCLES_OF_EYE))]),
+      warmed: heating && heating.take([this.ask(heating.questions(CYCLES_OF_EYE))]),
+    };
   }
 
   /** @param {Step[]} steps */
   trySteps(steps) {
     const { recording } = this;
-    const { shining, sounding } = this.sensesIn(steps);
+    const { shining, sounding, heating } = this.sensesIn(steps);
     /** @type {import("./asking.js").Asker[]} */
-    const askers = [shining, sounding, recording].flatMap((asker) => asker || []);
+    const askers = [shining, sounding, heating, recording].flatMap((asker) => asker || []);
     const lines = askedLines(steps, askers) + this.lookQuestions.lines;
     const { answers, told } = partedAnswers(steps, askers, this.engine.serve(this.file, lines, this.next).answers);
     /** @type {(asker: import("./asking.js").Asker) => string[][]} */
     const toldTo = (asker) => told[askers.indexOf(asker)];
-    return { answers, shining, sounding, toldTo, traced: recording ? told[askers.length - 1] : [] };
+    const sense = () => ({
+      shone: shining && shining.take(toldTo(shining)),
+      heard: sounding && sounding.take(toldTo(sounding)),
+      warmed: heating && heating.take(toldTo(heating)),
+    });
+    return { answers, sense, traced: recording ? told[askers.length - 1] : [] };
   }
 
   /**
@@ -288,7 +304,7 @@ export class WorkerSession {
     this.timeline.stop();
     // What waits for its time was meant for the keys of the other board.
     if (told.wires) this.queue.clear();
-    if (told.wires) this.shining = this.sounding = null;
+    if (told.wires) this.forgetSenses();
     if (before) this.follow(before, told.accepted);
     return { ...told.told(), look };
   }
