@@ -1,5 +1,6 @@
 """How bright lamps are in a browser: while time runs, by the part of the time for which they are lit, as `trace` tells it; at a stop, the
-instant. A display that is written anew in each turn of the main loop shows its number all the time."""
+instant. A display that is written anew in each turn of the main loop shows its number all the time; one that is shifted in after a key, when
+it stands."""
 
 import re
 
@@ -121,6 +122,16 @@ def check_refreshed(browser):
             ["4 5", 2])
 
 
+def check_shifted(browser):
+    choose_example(browser, "calculator")
+    comes(browser, "a calculator shows 0", DIGITS, "0")
+    browser.script(WATCH, 2000)
+    browser.keys(["1", "2", "3"], 40, 60)
+    browser.until("return window.watched", True)
+    verdict("digits that are shifted in are shown when they stand, and nothing between",
+            browser.script("return [...new Set(window.numbers)].join(' ')"), "0 1 12 123")
+
+
 def check_clock(browser):
     choose_example(browser, "clock")
     comes(browser, "four digits that are lit by turns show a time", DIGITS, re.compile(r"^12\.?00$"))
@@ -160,5 +171,6 @@ def check(browser, page, _folder, _mcs4):
     browser.script(SPEED, "real")
     check_instant(browser)
     check_refreshed(browser)
+    check_shifted(browser)
     check_clock(browser)
     check_pictures(browser)

@@ -8,7 +8,7 @@ import { Face } from "../src/board/face.js";
 import { SoundPieces, samplesOf } from "../src/board/sound_samples.js";
 import { BenchCalls } from "../src/worker/bench_calls.js";
 import { SeenText } from "../src/worker/seen_text.js";
-import { moduleOfPage } from "./page_session.js";
+import { examplesOfPage, moduleOfPage } from "./page_session.js";
 
 /** A frame of a screen that shows 60 a second, in cycles and in milliseconds. */
 const FRAME = 1543;
@@ -80,19 +80,36 @@ async function begin({ board, program }) {
   return calls;
 }
 
+/** What is lit before each of so many cycles, and after the last one, by `lamps`. */
+function marksOf(calls, cycles) {
+  const answers = calls.ask(`lamps\n${"run 1\nlamps\n".repeat(cycles)}`).filter((line) => line.startsWith("lamps"));
+  return answers.map((line) => line.slice("lamps ".length));
+}
+
 /** How long each lamp is lit, by `lamps` after each cycle. */
 function lookedAt(calls, cycles) {
-  const answers = calls.ask(`lamps\n${"run 1\nlamps\n".repeat(cycles)}`).filter((line) => line.startsWith("lamps"));
-  const marks = answers.slice(0, cycles).map((line) => line.slice("lamps ".length));
+  const marks = marksOf(calls, cycles).slice(0, cycles);
   return [...marks[0]].map((_, lamp) => marks.filter((each) => each[lamp] === "*").length);
 }
 
-test("how long lamps are lit is told to the cycle", async () => {
+/** When each lamp changes, by the same. */
+function movedIn(calls, cycles) {
+  const marks = marksOf(calls, cycles);
+  return [...marks[0]].map((_, lamp) => {
+    const moments = marks.flatMap((each, at) => (at > 0 && each[lamp] !== marks[at - 1][lamp] ? [at] : []));
+    if (moments.length === 0) return null;
+    const longest = Math.max(0, ...moments.slice(1).map((moment, at) => moment - moments[at]));
+    return { first: moments[0], longest, rest: cycles - moments[moments.length - 1] };
+  });
+}
+
+test("how long lamps are lit, and when they change, is told to the cycle", async () => {
   const calls = await begin(PULSES);
   for (const cycles of [1, 7, FRAME, 2000, 11]) {
-    const wanted = lookedAt(calls, cycles);
+    const [wanted, moved] = [lookedAt(calls, cycles), movedIn(calls, cycles)];
+    const [last] = marksOf(calls, cycles).slice(-1);
     const { shone } = calls.advance(cycles);
-    assert.deepEqual([shone.face, shone.cycles, shone.lamps], [7, cycles, wanted]);
+    assert.deepEqual([shone.face, shone.cycles, shone.lamps, shone.moved, shone.marks], [7, cycles, wanted, moved, last]);
   }
 });
 
@@ -164,11 +181,18 @@ test("the edges of a line are told to the cycle, and its samples have its pitch"
   assert.equal(calls.advance(100).heard, null);
 });
 
-test("a lamp that is lit from now on is seen to 63 % after the persistence, and fades so", () => {
+/** A board of one lamp: what is seen of it, and what lets time pass, lit for a part of it, with when it changed. */
+function oneLamp() {
   const seen = new Brightness(new Face(""), 1);
-  const pass = (lit, time) => seen.add({ face: 0, cycles: 100, lamps: [lit * 100], digits: [], scanned: [] }, time);
-  for (let part = 0; part < 10; part++) pass(1, PERSISTENCE / 10);
-  assert.ok(Math.abs(seen.lamps[0] - (1 - Math.exp(-1))) < 1e-9);
+  const pass = (lit, time, moved = null, marks = lit > 0 ? "*" : ".") => (
+    seen.add({ face: 0, cycles: 100, marks, lamps: [lit * 100], moved: [moved], displays: [], scanned: [] }, time));
+  return { seen, pass };
+}
+
+test("a lamp that flickers from now on is seen to 63 % after the persistence, and fades so", () => {
+  const { seen, pass } = oneLamp();
+  for (let part = 0; part < 10; part++) pass(0.8, PERSISTENCE / 10, { first: 1, longest: 8, rest: 7 });
+  assert.ok(Math.abs(seen.lamps[0] - 0.8 * (1 - Math.exp(-1))) < 1e-9);
   pass(1, Infinity);
   assert.equal(seen.lamps[0], 1);
   pass(0, PERSISTENCE);
@@ -176,6 +200,58 @@ test("a lamp that is lit from now on is seen to 63 % after the persistence, and 
   seen.begin("*");
   assert.equal(seen.lamps[0], 1);
   assert.deepEqual([0, 0.25, 1, 2].map(shineOf), [0, 0.53, 1, 1]);
+});
+
+test("a lamp that stands still is full at once, and fades when it goes out; one that is lit for a moment is seen, and is not lit", () => {
+  const { seen, pass } = oneLamp();
+  pass(0.3, FRAME_TIME, { first: 70, longest: 0, rest: 30 });
+  assert.deepEqual([seen.lamps, seen.isOn], [[1], [true]]);
+  pass(0.4, FRAME_TIME, { first: 40, longest: 0, rest: 60 }, ".");
+  assert.deepEqual(seen.isOn, [true]);
+  pass(0, FRAME_TIME);
+  assert.deepEqual(seen.isOn, [false]);
+  assert.ok(seen.lamps[0] > 0.3 && seen.lamps[0] < 0.5, String(seen.lamps[0]));
+  for (let frame = 0; frame < 30; frame++) pass(0, FRAME_TIME);
+  assert.deepEqual(seen.lamps, [0]);
+  pass(0.06, FRAME_TIME, { first: 10, longest: 6, rest: 84 }, ".");
+  assert.ok(seen.lamps[0] > 0.02 && seen.lamps[0] < 0.03, String(seen.lamps[0]));
+  assert.deepEqual(seen.isOn, [false]);
+});
+
+test("what comes and goes more often than an eye follows never stands still", () => {
+  const { seen, pass } = oneLamp();
+  // 12 ms dark and 8 ms lit, looked at each 4 ms.
+  for (let turn = 0; turn < 50; turn++) {
+    pass(0, 4, { first: 0, longest: 0, rest: 100 });
+    pass(0, 4);
+    pass(0, 4);
+    pass(1, 4, { first: 0, longest: 0, rest: 100 });
+    pass(1, 4);
+    if (turn > 10) assert.ok(seen.lamps[0] > 0.4 && seen.lamps[0] < 0.6, String(seen.lamps[0]));
+  }
+});
+
+test("digits that are shifted in are shown at once when they stand, and nothing else before", async () => {
+  const example = examplesOfPage.find(({ name }) => name === "calculator");
+  const calls = await begin(example);
+  const seen = new Brightness(new Face(example.board), 43);
+  const pass = (cycles, key = "") => {
+    seen.add(calls.advance(cycles, key).shone, (FRAME_TIME * cycles) / FRAME);
+    return seen.patterns.map(numberOf).join(" ");
+  };
+  for (let frame = 0; frame < 60; frame++) pass(FRAME);
+  let isAtOnce = 0;
+  [["2 0", "1"], ["2 1", "12"], ["2 2", "123"], ["1 0", "1234"], ["1 1", "12345"], ["1 2", "123456"]].forEach(([key, number], at) => {
+    const before = pass(FRAME + 137 * at);
+    // What is lent for a key, and what was owed.
+    isAtOnce += Number(pass(2 * FRAME - 100 * at, key) === number);
+    calls.release(key);
+    const numbers = new Set();
+    for (let frame = 0; frame < 6; frame++) numbers.add(pass(FRAME));
+    numbers.delete(before);
+    assert.deepEqual([...numbers], [number]);
+  });
+  assert.equal(isAtOnce, 6);
 });
 
 test("a display that is refreshed in the main loop shows its number in each frame, though seldom at an instant", async () => {

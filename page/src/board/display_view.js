@@ -2,7 +2,7 @@
 
 import { Announcer } from "./announcer.js";
 import { Cell, Switch, block, element } from "../ui/dom.js";
-import { SEEN_PART, shineOf } from "./brightness.js";
+import { shineOf } from "./brightness.js";
 import { MINUS, NOT_LIT, POINT, hasPoints, isLit, patternsAt } from "./digit_patterns.js";
 import { DisplayText } from "./display_text.js";
 import { fittingGroups, isScanned } from "./face_board.js";
@@ -30,6 +30,8 @@ class Digit {
     /** How bright each segment is, and whether it counts as lit. */
     this.shines = SHAPES.map(() => 0);
     this.lit = 0;
+    /** The pattern that alone is shown; NOT_LIT where segments shine by their parts. */
+    this.whole = 0;
     this.node = document.createElementNS(SVG, "svg");
     this.node.setAttribute("viewBox", isSign ? "2 0 32 60" : "0 0 44 60");
     this.smeared = new Switch((isOn) => this.node.classList.toggle("smeared", isOn));
@@ -42,9 +44,11 @@ class Digit {
     });
   }
 
-  /** @param {number} pattern what is lit at this instant */
+  /** @param {number} pattern what is lit at this instant, or stands still */
   set(pattern) {
     const lit = pattern === NOT_LIT ? 0 : pattern;
+    if (lit === this.whole) return;
+    this.whole = lit;
     this.smeared.set(false);
     this.show(lit, this.segments.map((_, at) => (lit & (1 << at) ? 1 : 0)));
   }
@@ -54,8 +58,21 @@ class Digit {
    * @param {number} turns it is lit in one of so many turns
    */
   shine(seen, turns) {
+    if (seen.whole !== NOT_LIT) {
+      this.set(seen.whole);
+      return;
+    }
     this.smeared.set(seen.isSmeared);
-    this.show(seen.pattern, seen.segments.map((part) => part * turns));
+    this.shineBy(seen.pattern, seen.segments.map((part) => part * turns));
+  }
+
+  /**
+   * @param {number} lit the segments that count as lit
+   * @param {number[]} parts of the time for which each segment is lit
+   */
+  shineBy(lit, parts) {
+    this.whole = NOT_LIT;
+    this.show(lit, parts);
   }
 
   /**
@@ -131,7 +148,7 @@ export class DisplayView {
   show(marks) {
     if (this.displays.length === 0) return;
     for (const display of this.displays) display.show(marks);
-    this.showSign(this.minus >= 0 && isLit(marks, this.minus) ? 1 : 0);
+    this.sign.set(this.minus >= 0 && isLit(marks, this.minus) ? MINUS : 0);
     this.tell(this.text.read(marks));
   }
 
@@ -139,13 +156,19 @@ export class DisplayView {
   shine(brightness) {
     if (this.displays.length === 0) return;
     this.displays.forEach((display, at) => display.shine(brightness.digits[at]));
-    if (this.minus >= 0) this.showSign(brightness.lamps[this.minus]);
-    this.tell(this.text.words(brightness.patterns, (lamp) => brightness.lamps[lamp] >= SEEN_PART));
+    if (this.minus >= 0) this.shineSign(brightness, this.minus);
+    this.tell(this.text.words(brightness.patterns, (lamp) => brightness.isOn[lamp]));
   }
 
-  /** @param {number} part of the time for which the minus is lit */
-  showSign(part) {
-    this.sign.show(part >= SEEN_PART ? MINUS : 0, SHAPES.map((_, at) => (1 << at === MINUS ? part : 0)));
+  /**
+   * The minus is of the display: where it stands still, it does not fade as a lamp does.
+   * @param {import("./brightness.js").Brightness} brightness
+   * @param {number} lamp
+   */
+  shineSign({ lamps, isOn, stillness }, lamp) {
+    const lit = isOn[lamp] ? MINUS : 0;
+    if (stillness[lamp].isStill) this.sign.set(lit);
+    else this.sign.shineBy(lit, SHAPES.map((_, at) => (1 << at === MINUS ? lamps[lamp] : 0)));
   }
 
   /** @param {{ number: string, names: string }} words */

@@ -12,8 +12,12 @@ import { upTo } from "../bench/numbers.js";
  */
 
 /**
- * How a lamp is seen: whether it is lit at an instant, by the marks of all lamps, and for which part of the time it is.
- * @typedef {{ isLit: (marks: string) => boolean, part: (brightness: import("./brightness.js").Brightness) => number }} Seen
+ * @typedef {import("./brightness.js").Brightness} Brightness
+ *
+ * How a lamp is seen: whether it is lit at an instant, by the marks of all lamps, for which part of the time it is, and whether that
+ * counts as lit.
+ * @typedef {{ isLit: (marks: string) => boolean, part: (brightness: Brightness) => number,
+ *   isOn: (brightness: Brightness) => boolean }} Seen
  */
 
 /** A lamp that is drawn. It changes the page only where it is brighter or darker now than it was before. */
@@ -27,6 +31,7 @@ class Lamp {
   constructor(seen, name, line, colour) {
     this.seen = seen;
     this.isLit = false;
+    this.part = 0;
     this.shine = 0;
     this.words = { lit: `${name}, lit`, dark: `${name}, dark` };
     this.node = element("span", { className: `bulb ${colour}`, title: line });
@@ -34,18 +39,25 @@ class Lamp {
     this.node.setAttribute("aria-label", this.words.dark);
   }
 
-  /** @param {number} part of the time for which it is lit */
-  show(part) {
-    const shine = shineOf(part);
-    if (shine === this.shine) return;
-    this.shine = shine;
-    this.node.style.setProperty("--shine", String(shine));
-    this.node.classList.toggle("full", shine === 1);
-    const isOn = part >= SEEN_PART;
+  /**
+   * @param {number} part of the time for which it is lit
+   * @param {boolean} isOn whether it counts as lit
+   */
+  show(part, isOn) {
+    if (part !== this.part) this.showShine(shineOf(part));
+    this.part = part;
     if (this.isLit === isOn) return;
     this.isLit = isOn;
     this.node.classList.toggle("lit", isOn);
     this.node.setAttribute("aria-label", isOn ? this.words.lit : this.words.dark);
+  }
+
+  /** @param {number} shine */
+  showShine(shine) {
+    if (shine === this.shine) return;
+    this.shine = shine;
+    this.node.style.setProperty("--shine", String(shine));
+    this.node.classList.toggle("full", shine === 1);
   }
 }
 
@@ -112,7 +124,9 @@ export class LampsView {
    * @param {string} name what it is called where it has none
    */
   lamp(at, name) {
-    return this.add(at, { isLit: (marks) => isLit(marks, at), part: ({ lamps }) => lamps[at] }, this.nameOf(at) || name, this.lines[at]);
+    /** @type {Seen} */
+    const seen = { isLit: (marks) => isLit(marks, at), part: ({ lamps }) => lamps[at], isOn: ({ isOn }) => isOn[at] };
+    return this.add(at, seen, this.nameOf(at) || name, this.lines[at]);
   }
 
   /**
@@ -145,9 +159,11 @@ export class LampsView {
     const { first, rows, columns, by } = group;
     return listOf(group, (at, place) => {
       const [column, row] = [first + (at % columns), by + Math.floor(at / columns)];
+      /** @type {Seen["part"]} */
+      const part = ({ scanned }) => Math.min(1, scanned[number][at] * rows);
+      /** @type {Seen} */
       const seen = {
-        isLit: (/** @type {string} */ marks) => isLit(marks, column) && isLit(marks, row),
-        part: (/** @type {import("./brightness.js").Brightness} */ { scanned }) => Math.min(1, scanned[number][at] * rows),
+        isLit: (marks) => isLit(marks, column) && isLit(marks, row), part, isOn: (brightness) => part(brightness) >= SEEN_PART,
       };
       return this.add(column, seen, place, `${this.lines[column]} and ${this.lines[row]}`);
     });
@@ -193,12 +209,15 @@ export class LampsView {
 
   /** @param {string} marks a `*` for each lamp that is lit at this instant */
   show(marks) {
-    for (const lamp of this.lamps) lamp.show(lamp.seen.isLit(marks) ? 1 : 0);
+    for (const lamp of this.lamps) {
+      const isOn = lamp.seen.isLit(marks);
+      lamp.show(Number(isOn), isOn);
+    }
   }
 
-  /** @param {import("./brightness.js").Brightness} brightness */
+  /** @param {Brightness} brightness */
   shine(brightness) {
-    for (const lamp of this.lamps) lamp.show(lamp.seen.part(brightness));
+    for (const lamp of this.lamps) lamp.show(lamp.seen.part(brightness), lamp.seen.isOn(brightness));
   }
 }
 

@@ -1,6 +1,6 @@
 // What the displays of a board show to an eye, in words: by what is lit in the 30 ms that come next, if nothing is pressed.
 
-import { Brightness, SEEN_PART } from "../board/brightness.js";
+import { Brightness } from "../board/brightness.js";
 import { DisplayText } from "../board/display_text.js";
 import { isScanned } from "../board/face_board.js";
 import { CYCLES_OF_EYE, Shining } from "./shining.js";
@@ -36,6 +36,6 @@ export class SeenText {
   read(answers) {
     const brightness = new Brightness(this.face, this.count);
     brightness.add(new Shining(this.face, this.count, 0).take([answers]), Infinity);
-    return this.text.words(brightness.patterns, (lamp) => brightness.lamps[lamp] >= SEEN_PART);
+    return this.text.words(brightness.patterns, (lamp) => brightness.isOn[lamp]);
   }
 }

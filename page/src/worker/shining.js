@@ -1,4 +1,5 @@
-// How long each lamp of a board is lit while time runs, and each digit of a display shows what: by the answers to `trace`, before each run.
+// How long each lamp of a board is lit while time runs, each digit of a display shows what, and when they changed: by the answers to
+// `trace`, before each run.
 
 import { patternsAt, NOT_LIT, isLit } from "../board/digit_patterns.js";
 import { fittingGroups, isScanned } from "../board/face_board.js";
@@ -8,9 +9,17 @@ import { Answers, readTraced } from "./tracing.js";
  * @typedef {import("../board/face.js").Face} Face
  * @typedef {import("../board/face.js").Group} Group
  *
- * What was lit in so many cycles, in cycles: of each lamp; of each digit of each display the patterns that were shown, and how long; of
+ * When something changed in so many cycles: after how many for the first time, the longest time between two changes, and how long it
+ * rests since the last one; null where it never did.
+ * @typedef {{ first: number, longest: number, rest: number } | null} Moved
+ *
+ * What a display showed: its patterns at the end; and where they were others before, for each digit the patterns and how long.
+ * @typedef {{ patterns: number[], moved: Moved, shown: [number, number][][] }} ShownDisplay
+ *
+ * What was lit in so many cycles, in cycles: of each lamp, with those that are lit at the end, and when each changed; of each display; of
  * each other group that is scanned its lamps, row by row. `face`: by which face, as the page numbers them.
- * @typedef {{ face: number, cycles: number, lamps: number[], digits: [number, number][][][], scanned: number[][] }} Shone
+ * @typedef {{ face: number, cycles: number, marks: string, lamps: number[], moved: Moved[], displays: ShownDisplay[],
+ *   scanned: number[][] }} Shone
  */
 
 /** An eye needs 30 ms, which are so many cycles in real time. */
@@ -18,37 +27,102 @@ export const CYCLES_OF_EYE = 2778;
 /** Of steps that have more cycles nobody is asked: time at full speed is looked at in another way. */
 export const MOST_SHONE = 20000;
 
+/**
+ * Whether some of these lamps are others than before.
+ * @param {string} marks
+ * @param {string} before
+ * @param {number} first
+ * @param {number} count
+ */
+function differ(marks, before, first, count) {
+  for (let at = first; at < first + count; at++) if (marks.charCodeAt(at) !== before.charCodeAt(at)) return true;
+  return false;
+}
+
+/** Takes note of when something changes. */
+class Moves {
+  constructor() {
+    this.first = -1;
+    this.last = 0;
+    this.longest = 0;
+  }
+
+  /** @param {number} at after how many cycles */
+  add(at) {
+    if (this.first < 0) this.first = at;
+    else this.longest = Math.max(this.longest, at - this.last);
+    this.last = at;
+  }
+
+  /**
+   * @param {number} cycles in all
+   * @returns {Moved}
+   */
+  take(cycles) {
+    if (this.first < 0) return null;
+    const { first, longest, last } = this;
+    this.first = -1;
+    this.longest = 0;
+    return { first, longest, rest: cycles - last };
+  }
+}
+
 /** Adds up how long each pattern of a digit is shown. */
 class Digits {
   /** @param {Group} group a display */
   constructor(group) {
     this.group = group;
+    this.moves = new Moves();
+    /** @type {number[]} what is shown, and since when */
+    this.patterns = [];
+    this.since = 0;
     /** @type {Map<number, number>[]} */
-    this.shown = [];
-    this.begin();
+    this.shown = Array.from({ length: group.rows }, () => new Map());
   }
 
-  begin() {
-    this.shown = Array.from({ length: this.group.rows }, () => new Map());
+  /** @param {string} marks of the lamps as they are first */
+  begin(marks) {
+    this.patterns = patternsAt(this.group, marks);
   }
 
   /**
    * @param {string} marks
-   * @param {number} cycles
+   * @param {string} before
+   * @param {number} at after how many cycles
    */
-  add(marks, cycles) {
-    const patterns = patternsAt(this.group, marks);
-    for (let place = 0; place < patterns.length; place++) {
-      const pattern = patterns[place];
-      if (pattern !== NOT_LIT) this.shown[place].set(pattern, (this.shown[place].get(pattern) || 0) + cycles);
-    }
+  change(marks, before, at) {
+    const { first, rows, columns, by } = this.group;
+    const isOther = by < 0 ? differ(marks, before, first, rows * columns)
+      : differ(marks, before, first, columns) || differ(marks, before, by, rows);
+    if (!isOther) return;
+    this.addUpTo(at);
+    this.moves.add(at);
+    this.patterns = patternsAt(this.group, marks);
   }
 
-  /** @returns {[number, number][][]} */
-  take() {
-    const { shown } = this;
-    this.begin();
-    return shown.map((patterns) => [...patterns]);
+  /** @param {number} at after how many cycles */
+  addUpTo(at) {
+    const cycles = at - this.since;
+    this.since = at;
+    if (cycles === 0) return;
+    this.patterns.forEach((pattern, place) => {
+      if (pattern !== NOT_LIT) this.shown[place].set(pattern, (this.shown[place].get(pattern) || 0) + cycles);
+    });
+  }
+
+  /**
+   * @param {number} cycles in all
+   * @returns {ShownDisplay}
+   */
+  take(cycles) {
+    const { patterns } = this;
+    const moved = this.moves.take(cycles);
+    if (moved) this.addUpTo(cycles);
+    this.since = 0;
+    if (!moved) return { patterns, moved, shown: [] };
+    const shown = this.shown.map((times) => [...times]);
+    for (const times of this.shown) times.clear();
+    return { patterns, moved, shown };
   }
 }
 
@@ -57,20 +131,18 @@ class ScannedLamps {
   /** @param {Group} group */
   constructor(group) {
     this.group = group;
-    /** @type {number[]} */
-    this.lit = [];
-    this.begin();
-  }
-
-  begin() {
-    this.lit = new Array(this.group.rows * this.group.columns).fill(0);
+    this.since = 0;
+    this.lit = new Array(group.rows * group.columns).fill(0);
   }
 
   /**
-   * @param {string} marks
-   * @param {number} cycles
+   * @param {string} marks of the lamps up to then
+   * @param {number} at after how many cycles
    */
-  add(marks, cycles) {
+  addUpTo(marks, at) {
+    const cycles = at - this.since;
+    this.since = at;
+    if (cycles === 0) return;
     const { first, rows, columns, by } = this.group;
     for (let row = 0; row < rows; row++) {
       if (!isLit(marks, by + row)) continue;
@@ -78,9 +150,15 @@ class ScannedLamps {
     }
   }
 
-  take() {
-    const { lit } = this;
-    this.begin();
+  /**
+   * @param {string} marks
+   * @param {number} cycles in all
+   */
+  take(marks, cycles) {
+    this.addUpTo(marks, cycles);
+    const lit = this.lit.slice();
+    this.lit.fill(0);
+    this.since = 0;
     return lit;
   }
 }
@@ -97,8 +175,12 @@ export class Shining {
     this.displays = groups.filter(({ kind }) => kind === "display").map((group) => new Digits(group));
     this.scanned = groups.filter((group) => isScanned(group) && group.kind !== "display").map((group) => new ScannedLamps(group));
     this.cycles = 0;
-    /** @type {number[]} */
-    this.lamps = new Array(count).fill(0);
+    /** What is lit; "" where nothing was told yet. */
+    this.marks = "";
+    /** @type {number[]} how long each lamp was lit, and since when each one is that is lit now */
+    this.lit = new Array(count).fill(0);
+    this.since = new Array(count).fill(0);
+    this.moves = this.lit.map(() => new Moves());
   }
 
   // --- as an asker ---
@@ -123,36 +205,52 @@ export class Shining {
    */
   take(told) {
     for (const answers of told) if (answers.length > 0) this.add(answers);
-    const { number, cycles, lamps, displays, scanned } = this;
+    const { number: face, cycles, marks, lit, since, moves } = this;
+    for (let at = 0; at < lit.length; at++) {
+      if (isLit(marks, at)) lit[at] += cycles - since[at];
+      since[at] = 0;
+    }
+    const shone = {
+      face, cycles, marks, lamps: lit.slice(), moved: moves.map((each) => each.take(cycles)),
+      displays: this.displays.map((each) => each.take(cycles)), scanned: this.scanned.map((each) => each.take(marks, cycles)),
+    };
+    lit.fill(0);
     this.cycles = 0;
-    this.lamps = lamps.map(() => 0);
-    return { face: number, cycles, lamps, digits: displays.map((each) => each.take()), scanned: scanned.map((each) => each.take()) };
+    return shone;
   }
 
   /** @param {string[]} answers to one question; what an instruction changes is there once its first cycle is over */
   add(answers) {
     const { row, lines, cycles } = new Answers(answers).takeTrace();
-    let marks = row.slice(1);
-    let from = 0;
+    const begun = this.cycles;
+    this.change(row.slice(1), begun);
     for (const line of lines) {
       const traced = readTraced(line);
-      this.addMarks(marks, traced.cycles + 1 - from);
-      marks = traced.row.slice(1);
-      from = traced.cycles + 1;
+      this.change(traced.row.slice(1), begun + traced.cycles + 1);
     }
     // Where nothing runs, what is lit at this instant.
-    this.addMarks(marks, cycles === 0 ? 1 : cycles - from);
+    this.cycles = begun + Math.max(1, cycles);
   }
 
   /**
    * @param {string} marks
-   * @param {number} cycles for which they stood
+   * @param {number} cycles after so many these are lit
    */
-  addMarks(marks, cycles) {
-    if (cycles === 0) return;
-    this.cycles += cycles;
-    for (let at = 0; at < this.lamps.length; at++) if (isLit(marks, at)) this.lamps[at] += cycles;
-    for (const display of this.displays) display.add(marks, cycles);
-    for (const group of this.scanned) group.add(marks, cycles);
+  change(marks, cycles) {
+    const { marks: before, lit, since, moves } = this;
+    if (marks === before) return;
+    this.marks = marks;
+    if (before === "") {
+      for (const display of this.displays) display.begin(marks);
+      return;
+    }
+    for (let at = 0; at < lit.length; at++) {
+      if (marks.charCodeAt(at) === before.charCodeAt(at)) continue;
+      if (isLit(before, at)) lit[at] += cycles - since[at];
+      since[at] = cycles;
+      moves[at].add(cycles);
+    }
+    for (const display of this.displays) display.change(marks, before, cycles);
+    for (const group of this.scanned) group.addUpTo(before, cycles);
   }
 }
