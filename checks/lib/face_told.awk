@@ -15,6 +15,7 @@ BEGIN {
     for (i = 1; i <= group_count; i++) print group_kind[i] " " group_first[i] " " group_rows[i] " " group_columns[i] by_words(group_by[i])
     if (pin_kind != "") print "test " pin_kind " " pin_name " " pin_level
     if (buzzer_line) print "buzzer " buzzer_place " " buzzer_name
+    if (printer_strobe != "") print "printer " printer_strobe " " printer_port " " printer_words
     for (name in port_name) print "port " name " " port_name[name]
     for (i = 1; i <= face_fault_count; i++) print "fault " face_fault[i]
     for (i = 1; i <= face_note_count; i++) print "fault " face_note[i]

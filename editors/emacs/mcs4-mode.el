@@ -26,7 +26,7 @@
   (setq-local comment-start "; " comment-start-skip ";+[ \t]*" font-lock-defaults '(mcs4-program-words nil t)))
 
 (defconst mcs4-board-words
-  `(("#[ \t]*\\(bar\\|buzzer\\|colour\\|die\\|display\\|grid\\|lamp\\|matrix\\|port\\|row\\|test\\|title\\)\\_>[^:\n]*:" 1 font-lock-doc-face prepend)
+  `(("#[ \t]*\\(bar\\|buzzer\\|colour\\|die\\|display\\|grid\\|lamp\\|matrix\\|port\\|printer\\|row\\|test\\|title\\)\\_>[^:\n]*:" 1 font-lock-doc-face prepend)
     ("^[ \t]*\\[+[ \t]*\\(chain\\|keys\\|lamp\\|ram\\|rom\\)[ \t]*\\]" 1 font-lock-type-face)
     ("\\([A-Za-z0-9_-]+\\)[ \t]*=" 1 font-lock-variable-name-face)
     ("\\_<[+-]?[0-9][0-9A-Za-z_.]*" . font-lock-constant-face))

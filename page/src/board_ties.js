@@ -39,6 +39,13 @@ export function lookViewOf(page) {
     watchLamps: (face, number) => {
       page.bench.call("watchLamps", [face, number]).catch((fault) => page.recovery.failed(fault));
     },
+    printOn: (printer) => {
+      page.bench.call("printOn", [printer]).catch((fault) => page.recovery.failed(fault));
+    },
+    tear: () => {
+      page.current.touch();
+      page.bench.call("tearPaper", []).catch((fault) => page.recovery.failed(fault));
+    },
     timeOf: (cycles) => running.clock.timeOf(cycles),
     failed: (fault) => page.recovery.failed(fault),
   });

@@ -12,6 +12,7 @@ import { LookReader } from "./bench/look.js";
 import { PortsView, RegistersView } from "./machine/machine_view.js";
 import { hex } from "./bench/numbers.js";
 import { RamView } from "./machine/ram_view.js";
+import { StripView } from "./board/strip_view.js";
 import { StackView } from "./machine/stack_view.js";
 import { ToldAt } from "./ui/told_at.js";
 import { WiringView } from "./board/wiring_view.js";
@@ -26,14 +27,14 @@ import { WiringView } from "./board/wiring_view.js";
  * of the wiring is in front; questions are asked; a
  * line is served, which gives its answer, or null where it failed; a refusal is put into words; what a cell shows is told; the source
  * is told where the counter is, or that the listing went to an address; the bench tells its breakpoints; one is set or taken away; how long
- * lamps are lit is asked for, by a face and its number; how many milliseconds so many cycles take; a call failed.
+ * lamps are lit is asked for, by a face and its number; how many milliseconds so many cycles take; a call failed. And those of the strip.
  * @typedef {{ listen: (node: HTMLButtonElement, key: BoardKey) => void, isRunning: () => boolean, isFast: () => boolean,
  *   isWiringShown: () => boolean,
  *   ask: (lines: string) => Promise<string[]>, act: (line: string) => Promise<string | null>, wordsOfRefusal: (number: number) => string,
  *   explain: (name: string) => string,
  *   isAt: (counter: number) => void, breakAt: (breakpoints: string[]) => void, toggleBreakpoint: (address: number) => void,
  *   wentTo: (address: number) => void, watchLamps: (face: string, number: number) => void, timeOf: (cycles: number) => number,
- *   failed: (fault: unknown) => void }} LookCalls
+ *   failed: (fault: unknown) => void } & import("./board/strip_view.js").StripCalls} LookCalls
  */
 
 /** @typedef {{ seeLamps: (lamps: string) => void, seeKeys: (keysDown: number) => void }} Watcher */
@@ -51,6 +52,7 @@ export class LookView {
     this.drawn = 0;
     this.changes = new Changes();
     this.front = new FrontView(calls.listen, calls.watchLamps);
+    this.strip = new StripView(calls);
     this.told = new ToldAt();
     this.editor = new CellEditor({
       poke: async (place, value) => this.refusalOf(await calls.act(`poke ${place} ${value}\n`)),
@@ -113,6 +115,7 @@ export class LookView {
     this.editor.close(false);
     const face = new Face(boardText);
     this.front.draw(this.board, face);
+    this.strip.draw(this.board, face);
     this.ram.draw(this.board);
     this.ports.draw(this.board, face);
     this.wiring.forget();
@@ -127,7 +130,9 @@ export class LookView {
 
   /** @param {string} boardText may have another face */
   readFace(boardText) {
-    this.front.change(this.board, new Face(boardText));
+    const face = new Face(boardText);
+    this.front.change(this.board, face);
+    this.strip.change(this.board, face);
   }
 
   /**

@@ -143,7 +143,7 @@ export class Page {
    * @param {boolean} [isPassing] whether time has come here and goes on
    * @param {import("./worker/shining.js").Shone | null} [shone] what was lit in that time
    */
-  show({ look, file, board, total, reset, future, past, waves }, isPassing = false, shone = null) {
+  show({ look, file, board, total, reset, future, past, waves, printed }, isPassing = false, shone = null) {
     const { session } = this.current;
     if (!session) return;
     this.bench.giveBack(session.take(file));
@@ -161,6 +161,10 @@ export class Page {
       nameCharacters(this);
     }
     this.lookView.show(look, isPassing, shone);
+    if (printed) {
+      session.record.printed = printed;
+      this.lookView.strip.take(printed);
+    }
     this.values.looked(total);
     this.heat.looked();
     this.scope.take(waves);

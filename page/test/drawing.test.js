@@ -4,7 +4,7 @@ import { readFileSync } from "node:fs";
 import { test } from "node:test";
 import { readBoard } from "../src/bench/answers.js";
 import { Face, faceFaults } from "../src/board/face.js";
-import { missingOf } from "../src/board/face_board.js";
+import { linesOfPrinter, missingOf } from "../src/board/face_board.js";
 import { SHELF, actOn, isReadAlike } from "../src/drawing/acts.js";
 import { linesOf, mayWire, sourcesOf, targetsOf, wiringOf } from "../src/drawing/board_lines.js";
 import { fieldsOf } from "../src/drawing/fields.js";
@@ -130,6 +130,15 @@ onBench("a buzzer keeps its line, goes with it, and is found again where chains 
   assert.equal(first(check("horn", atRam, { kind: "delete", part: "ram 0.1" })), "[[ram]]");
 });
 
+onBench("so does a printer, with its strobe and with the port of its code", () => {
+  const first = ({ text }) => text.split("\n", 1)[0];
+  const chain = '[[chain]]\nclock = "rom0.0"\ndata = "rom0.1"\nchips = 1\n';
+  const ram = "[[ram]]\nbank = 0\nchips = 2\n";
+  const text = `# printer chain1.9: ram0.1 0 feed\n[[rom]]\nchip = 0\nport = "0000"\n${ram}${chain}${chain}`;
+  assert.equal(first(check("strobe", text, { kind: "delete", part: "chain 0" })), "# printer chain0.9: ram0.1 0 feed");
+  for (const part of ["chain 1", "ram 0.1"]) assert.equal(first(check("gone", text, { kind: "delete", part })), "[[rom]]");
+});
+
 for (const { name, text } of BOARDS) {
   const read = () => readBoard(ask([text])[0].board);
 
@@ -192,7 +201,9 @@ for (const { name, text } of BOARDS) {
       for (const line of [0, 1, 2, 3]) {
         const used = [...wiringOf(board).values()].includes(`rom${chip}.${line}`);
         const act = { kind: "port", line: `rom${chip}.${line}`, as: port[3 - line] === "i" ? "1" : "i" };
+        const { printer } = new Face(text);
         if (used) assert.match(actOn(text, act).refusal, /is wired to/);
+        else if (printer && linesOfPrinter(printer).includes(act.line)) assert.match(actOn(text, act).refusal, /The printer is at/);
         else assert.equal(check(name, text, act).board.roms.find((rom) => rom.chip === chip).port[3 - line], act.as);
       }
     }

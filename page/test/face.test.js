@@ -24,6 +24,7 @@ function told(face, faults, patterns) {
     ...list("colour", face.colours), ...face.grid.map(({ row, column, lamp }) => `grid ${row} ${column} ${lamp}`),
     ...face.groups.map(({ kind, first, rows, columns, by }) => `${kind} ${first} ${rows} ${columns}${by < 0 ? "" : ` by ${by}`}`),
     ...(face.buzzer ? [`buzzer ${face.buzzer.place} ${face.buzzer.name}`] : []),
+    ...(face.printer ? [`printer ${face.printer.strobe} ${face.printer.port} ${face.printer.words.join(" ")}`] : []),
     ...(pin ? [`test ${pin.kind} ${pin.name} ${pin.level}`] : []), ...list("port", face.ports),
     ...faults.map(({ line, words }) => `fault line ${line}: ${words}`),
     ...patterns.map((pattern) => {
@@ -33,7 +34,7 @@ function told(face, faults, patterns) {
   ].sort();
 }
 
-for (const name of ["all", "faults", "many", "none", "scanned", "shows"]) {
+for (const name of ["all", "faults", "many", "none", "printer", "scanned", "shows"]) {
   test(`a face as the tools read it: ${name}`, () => {
     const text = sample(`${name}.face`);
     const wanted = sample(`${name}.told`).split("\n").filter(Boolean);

@@ -41,9 +41,21 @@ function check_face(    i, name, d) {
     for (d = 1; d <= display_count; d++) check_group("display", display_line[d], display_end(d))
     for (i = 1; i <= group_count; i++) check_group(group_kind[i], group_line[i], group_end(group_first[i], group_rows[i], group_columns[i], group_by[i]))
     check_places_of_face()
-    if (buzzer_line && !has_output(buzzer_place)) face_says("buzzer", buzzer_line, "no line for buzzer", buzzer_place)
+    if (buzzer_line && !has_output(buzzer_place)) face_says("buzzer", buzzer_line, "no output line", buzzer_place)
+    check_printer()
     for (name in port_name) {
         if (!has_place(name)) face_says("port", port_line[name], "port not there", name)
+    }
+}
+
+# The first of a printer's lines that is no output is told.
+function check_printer(    k, line) {
+    if (printer_strobe == "") return
+    for (k = -1; k < 4; k++) {
+        line = k < 0 ? printer_strobe : printer_port "." k
+        if (has_output(line)) continue
+        face_says("printer", printer_line, "no output line", line)
+        return
     }
 }
 

@@ -3,7 +3,7 @@
 #
 # read_face(file) fills key_row[name], key_column[name], key_name[row, column], lamp_name[n], lamp_number[name]; the displays, whose count
 # is display_count; lamp_colour[n]; the places on the grid, whose count is grid_count; the groups, whose count is group_count; face_title,
-# pin_kind, pin_name, pin_level, buzzer_place, port_name[place]. face_fault[1] to face_fault[face_fault_count] tell what cannot be right with the names
+# pin_kind, pin_name, pin_level, buzzer_place, printer_strobe, printer_port, printer_words, port_name[place]. face_fault[1] to face_fault[face_fault_count] tell what cannot be right with the names
 # and the displays, and face_note[] what cannot be with the rest, which no number hangs on. The environment has `board_before`, where the
 # text is a part of a file: how many lines of it stand before the text.
 
@@ -86,6 +86,7 @@ function read_face_line(number, line,    head, words, count, kind) {
     else if (kind == "grid") read_grid(number, words[2] + 0, line)
     else if (kind == "test") read_test(number, line)
     else if (kind == "buzzer") read_buzzer(number, words[2], line)
+    else if (kind == "printer") read_printer(number, words[2], line)
     else if (kind == "port") read_port(number, words[2], line)
     else read_group(number, kind, words[2] + 0, line)
 }
@@ -246,6 +247,22 @@ function read_buzzer(number, place, text) {
         buzzer_line = number
         buzzer_place = place
         buzzer_name = text
+    }
+}
+
+function read_printer(number, strobe, text,    words, count) {
+    count = split(text, words) - 1
+    if (printer_line) {
+        face_says("printer", number, "second printer", printer_line)
+        return
+    }
+    printer_line = number
+    if (count > face_limit["codes"]) face_says("printer", number, "too many codes", count)
+    else if (index(strobe, words[1] ".") == 1) face_says("printer", number, "strobe in code", strobe)
+    else {
+        printer_strobe = strobe
+        printer_port = words[1]
+        printer_words = substr(text, length(words[1]) + 2)
     }
 }
 

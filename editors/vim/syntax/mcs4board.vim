@@ -7,7 +7,7 @@ syn match mcs4BoardKey /[A-Za-z0-9_-]\+\ze\s*=/
 syn match mcs4BoardTable /\%(^\s*\[\+\s*\)\@<=\%(chain\|keys\|lamp\|ram\|rom\)\ze\s*\]/
 syn region mcs4BoardString start=/"/ skip=/\\./ end=/"/ oneline
 syn region mcs4BoardString start=/'/ end=/'/ oneline
-syn match mcs4BoardFace /#\s*\%(bar\|buzzer\|colour\|die\|display\|grid\|lamp\|matrix\|port\|row\|test\|title\)\>[^:]*:/ contained
+syn match mcs4BoardFace /#\s*\%(bar\|buzzer\|colour\|die\|display\|grid\|lamp\|matrix\|port\|printer\|row\|test\|title\)\>[^:]*:/ contained
 syn match mcs4BoardComment /#.*$/ contains=mcs4BoardFace,@Spell
 hi def link mcs4BoardNumber Number
 hi def link mcs4BoardKey Identifier

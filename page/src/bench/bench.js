@@ -13,7 +13,7 @@ import { WorkerDied, unpackFault } from "./faults.js";
  *   | "record" | "advance" | "press" | "release" | "forget" | "run" | "pace" | "halt" | "checkProgram" | "leftovers"
  *   | "setBreakpoints" | "goOn" | "drop" | "goBack" | "lastChange" | "heat" | "goForward" | "tryTexts" | "testFaults" | "runTests"
  *   | "propertyFaults" | "explore" | "exploreOn" | "stopAtFaults"
- *   | "recordLive" | "endRecording" | "watchLamps" | "watchRam" | "listenTo"} CallName
+ *   | "recordLive" | "endRecording" | "watchLamps" | "watchRam" | "listenTo" | "printOn" | "tearPaper"} CallName
  * @typedef {{ done: (result: any) => void, fail: (fault: Error) => void, progress: (done: number, total: number) => void }} Waiting
  *
  * How long work is cancelled, and told how far it is.

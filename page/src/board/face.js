@@ -18,6 +18,11 @@ import { COLOURS, fitsHead, fitsWords, headOf, isNumber, limit, said, sizeOf, wo
  *   behind that
  */
 
+/**
+ * Where the strobe goes up, what the word of the code at the port says is printed.
+ * @typedef {{ strobe: string, port: string, words: string[], line: number }} Printer
+ */
+
 /** So many words all lists of names, colours and places have together: several times what a board has use for. */
 const MOST_WORDS = limit("words");
 
@@ -41,6 +46,8 @@ export class Face {
     this.test = null;
     /** @type {{ place: string, name: string, line: number } | null} what sounds by the edges of a line */
     this.buzzer = null;
+    /** @type {Printer | null} */
+    this.printer = null;
     /** @type {Map<string, Told>} the names of ports and chains, by `rom0`, `ram0.0`, `chain0` */
     this.ports = new Map();
     /** @type {Fault[]} */
@@ -253,6 +260,19 @@ export class Face {
   }
 
   /**
+   * @param {string} strobe
+   * @param {string} text
+   * @param {number} line
+   */
+  readPrinter(strobe, text, line) {
+    const [port, ...words] = wordsOf(text);
+    if (!this.isFirst("printer", line, "second printer")) return;
+    if (words.length > limit("codes")) this.fault(line, said("too many codes", words.length));
+    else if (strobe.startsWith(`${port}.`)) this.fault(line, said("strobe in code", strobe));
+    else this.printer = { strobe, port, words, line };
+  }
+
+  /**
    * @param {string} place
    * @param {string} text
    * @param {number} line
@@ -286,6 +306,7 @@ const READERS = {
   display: readGroup, die: readGroup, bar: readGroup, matrix: readGroup,
   test: (face, { words, line }) => face.readTest(words, line),
   buzzer: (face, { place, words, line }) => face.readBuzzer(place, words, line),
+  printer: (face, { place, words, line }) => face.readPrinter(place, words, line),
   port: (face, { place, words, line }) => face.readPort(place, words, line),
 };
 

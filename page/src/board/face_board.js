@@ -46,6 +46,15 @@ export function buzzerOf(board, { buzzer }) {
 }
 
 /**
+ * The printer of a face, null where it has none at lines of the board.
+ * @param {Board} board
+ * @param {Face} face
+ */
+export function printerOf(board, { printer }) {
+  return printer && linesOfPrinter(printer).every((line) => hasOutput(board, line)) ? printer : null;
+}
+
+/**
  * The number behind that of the last lamp.
  * @param {Group} group
  */
@@ -75,6 +84,14 @@ export function fittingGroups(face, count) {
 }
 
 /**
+ * Its strobe, and the four lines of its code.
+ * @param {import("./face.js").Printer} printer
+ */
+export function linesOfPrinter({ strobe, port }) {
+  return [strobe, ...upTo(4).map((bit) => `${port}.${bit}`)];
+}
+
+/**
  * What the comments name and the board has not.
  * @param {Face} face
  * @param {Board} board
@@ -100,7 +117,10 @@ export function missingOf(face, board) {
     if (endOf(group) > count) add(group.kind, group.line, "no lamps for group", group.kind, endOf(group) - 1, count);
   }
   const { buzzer } = face;
-  if (buzzer && !hasOutput(board, buzzer.place)) add("buzzer", buzzer.line, "no line for buzzer", buzzer.place);
+  if (buzzer && !hasOutput(board, buzzer.place)) add("buzzer", buzzer.line, "no output line", buzzer.place);
+  const { printer } = face;
+  const lacking = printer && linesOfPrinter(printer).find((line) => !hasOutput(board, line));
+  if (printer && lacking) add("printer", printer.line, "no output line", lacking);
   for (const [place, { line }] of face.ports) if (!hasPlace(board, place)) add("port", line, "port not there", place);
   return sorted(faults);
 }

@@ -5,7 +5,7 @@ import { readBoard } from "../bench/answers.js";
 import { Face } from "../board/face.js";
 import { bitOf, linesOf, mayWire, nameOfTarget, readTarget, wiringOf } from "./board_lines.js";
 import {
-  INPUTS, OUTPUTS, addChain, addColumn, addDisplay, addKeys, addLamp, addRam, addRom, addScanned, keepBuzzer, nameOfPart, needRom,
+  INPUTS, OUTPUTS, addChain, addColumn, addDisplay, addKeys, addLamp, addRam, addRom, addScanned, keepOutputs, nameOfPart, needRom,
   setChips, setRows,
 } from "./adding.js";
 import { deletePart, displayAt, lampsWith } from "./deleting.js";
@@ -121,7 +121,7 @@ function setPort(sketch, line, as) {
   const users = [...wiringOf(board)].filter(([, name]) => name === line).map(([target]) => nameOfTarget(target)).join(" and ");
   const isTurned = (port[3 - at] === "i") !== (as === "i");
   if (isTurned && users) throw new ActRefusal(`${line} is wired to ${users}: wire that to another line first.`);
-  keepBuzzer(sketch, (each) => isTurned && each === line);
+  keepOutputs(sketch, (each) => isTurned && each === line);
   sketch.edit([setValue(draft, entry, "port", port.slice(0, 3 - at) + as + port.slice(4 - at))]);
 }
 

@@ -2,6 +2,7 @@
 
 import { upTo } from "../bench/numbers.js";
 import { Face } from "../board/face.js";
+import { linesOfPrinter } from "../board/face_board.js";
 import { limit } from "../board/face_words.js";
 import { BITS, MOST } from "../text/board_parts.js";
 import { RANGES } from "../text/board_words.js";
@@ -297,13 +298,15 @@ function bitsOfSegments(sketch, count) {
 }
 
 /**
- * The line of a buzzer stays an output line of the board.
+ * The lines of a buzzer and of a printer stay output lines of the board.
  * @param {Sketch} sketch
  * @param {(line: string) => boolean} goes whether a line does not, after what is to be done
  */
-export function keepBuzzer({ text }, goes) {
-  const { buzzer } = new Face(text);
+export function keepOutputs({ text }, goes) {
+  const { buzzer, printer } = new Face(text);
   if (buzzer && goes(buzzer.place)) throw new ActRefusal(`The buzzer is at ${buzzer.place}: give it another line first, in Board.`);
+  const line = printer && linesOfPrinter(printer).find(goes);
+  if (line) throw new ActRefusal(`The printer is at ${line}: give it other lines first, in Board.`);
 }
 
 /**
@@ -320,7 +323,7 @@ export function setChips(sketch, chain, chips) {
   const isBeyond = (line) => line.startsWith(`chain${chain}.`) && bitOf(line).bit >= BITS * chips;
   const beyond = [...wiringOf(sketch.board).values()].find(isBeyond);
   if (beyond) throw new ActRefusal(`${beyond} is in use: wire what is there to another line first.`);
-  keepBuzzer(sketch, isBeyond);
+  keepOutputs(sketch, isBeyond);
   sketch.edit([setValue(sketch.draft, sketch.draft.entry("chain", chain), "chips", chips)]);
   return `chain ${chain}`;
 }

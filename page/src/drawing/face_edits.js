@@ -14,6 +14,8 @@ export { COLOURS };
 /** Kinds whose head has the number of a row, of keys or of a grid; other numbers there are those of lamps. */
 const OF_ROWS = ["row", "grid"];
 const OF_LAMPS = new Set([...KINDS].filter(([name, { head }]) => head.startsWith("N") && !OF_ROWS.includes(name)).map(([name]) => name));
+/** Those that name a port, or a line of one. */
+const OF_PORTS = ["port", "buzzer", "printer"];
 const NONE = "_";
 
 /**
@@ -207,13 +209,24 @@ function renumberGrid(draft, line, gone, numberOf) {
  */
 export function renamePorts(draft, placeOf) {
   return faceLines(draft).flatMap((line) => {
-    if (!line.place || (line.kind !== "port" && line.kind !== "buzzer")) return [];
-    const { text } = line.place;
-    // A buzzer is at one line of a port.
-    const end = line.kind === "buzzer" ? text.lastIndexOf(".") : text.length;
-    const place = placeOf(text.slice(0, end).toLowerCase());
-    return place === "" ? [removeFaceLine(draft, line)] : setWord(line.place, place + text.slice(end));
+    if (!line.place || !OF_PORTS.includes(line.kind)) return [];
+    // A printer has the port of its code behind its strobe.
+    const places = [line.place, ...(line.kind === "printer" ? line.words.slice(0, 1) : [])];
+    const renamed = places.map(({ text }, at) => renamedPlace(text, line.kind !== "port" && at === 0, placeOf));
+    if (renamed.includes("")) return [removeFaceLine(draft, line)];
+    return places.flatMap((place, at) => setWord(place, renamed[at]));
   });
+}
+
+/**
+ * @param {string} text
+ * @param {boolean} isLine whether it is one line of a port
+ * @param {(place: string) => string} placeOf
+ */
+function renamedPlace(text, isLine, placeOf) {
+  const end = isLine ? text.lastIndexOf(".") : text.length;
+  const place = placeOf(text.slice(0, end).toLowerCase());
+  return place && place + text.slice(end);
 }
 
 /**

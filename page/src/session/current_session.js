@@ -100,8 +100,8 @@ export class CurrentSession {
    * @param {SessionRecord} record
    * @returns {Promise<Shown>}
    */
-  callOpen({ file, cycles = NONE }) {
-    return this.bench.call("open", [file, cycles.total, cycles.reset]);
+  callOpen({ file, cycles = NONE, printed }) {
+    return this.bench.call("open", [file, cycles.total, cycles.reset, printed || null]);
   }
 
   get name() {

@@ -6,11 +6,12 @@
  * of tests, nor one of properties. `runs` tells whether time runs, so that a reload goes on as it was; `cycles` are those that were
  * counted, and `breakpoints` those of the source, which a file does not hold either; `watched`, the list of values; `isTitled`, whether
  * its name is the title that its texts tell, since it was given none; `goal`, what a move that is under way goes on to;
- * `places`, where parts of the picture were dragged to.
+ * `places`, where parts of the picture were dragged to; `printed`, what was sent to the board's printer.
  * @typedef {{ id: string, name: string, file: Uint8Array, boardText: string, programText: string, testText?: string,
  *   propertiesText?: string, runs: boolean, revision: number, changed: number, cycles?: import("../time/cycles.js").KeptCycles,
  *   isTitled?: boolean, breakpoints?: import("../debug/breakpoints.js").KeptBreakpoint[], watched?: string[],
- *   goal?: import("../debug/goals.js").Goal, places?: [string, import("../board/wiring.js").Place][] }} SessionRecord
+ *   goal?: import("../debug/goals.js").Goal, places?: [string, import("../board/wiring.js").Place][],
+ *   printed?: import("../worker/printing.js").Printed }} SessionRecord
  *
  * @typedef {{ keeps: boolean, isWhole: boolean, all: () => Promise<SessionRecord[]>,
  *   get: (id: string) => Promise<SessionRecord | undefined>, put: (record: SessionRecord) => Promise<void>,

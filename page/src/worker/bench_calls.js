@@ -21,6 +21,7 @@ import { readTested, runTests } from "../testing/testing.js";
 import { tryTexts } from "./trying.js";
 import { recordedProgram } from "../waves/wave_program.js";
 import { LiveRecorder } from "./live_recorder.js";
+import { Printing } from "./printing.js";
 import { Shining } from "./shining.js";
 import { Sounding } from "./sounding.js";
 import { readTrigger } from "../waves/trigger.js";
@@ -92,13 +93,14 @@ export class BenchCalls {
    * @returns {Shown}
    */
   shown(look, tellsBoard) {
-    const { file, lookQuestions, count, timeline } = this.session;
+    const { file, lookQuestions, count, timeline, printing } = this.session;
     const buffer = this.spare.pop() || new ArrayBuffer(file.length);
     new Uint8Array(buffer).set(file);
     const board = tellsBoard ? lookQuestions.board : null;
     const waves = this.recordedPart();
     const past = timeline.takeNews();
-    return { look, file: buffer, board, total: count.total, reset: count.reset, future: timeline.future.length, past, waves };
+    const printed = printing && printing.takeNews(count.total);
+    return { look, file: buffer, board, total: count.total, reset: count.reset, future: timeline.future.length, past, waves, printed };
   }
 
   /** What was recorded since it was told last; null where nothing is recorded. */
@@ -225,9 +227,11 @@ export class BenchCalls {
    * @param {Uint8Array} file
    * @param {number} [total] the cycles that were counted up to here
    * @param {number} [reset] and up to the last reset
+   * @param {import("./printing.js").Printed | null} [printed] what was sent to its printer
    */
-  open(file, total = 0, reset = 0) {
+  open(file, total = 0, reset = 0, printed = null) {
     const session = new WorkerSession(this.engine, file, new CycleCount(total, reset));
+    session.printing = printed && new Printing(printed);
     const look = session.look();
     this.opened = new Debugger(session);
     this.opened.usual.stops = new Set(this.stopKinds);
@@ -527,6 +531,22 @@ export class BenchCalls {
    */
   listenTo(line) {
     if (this.opened) this.session.sounding = line === "" ? null : new Sounding(line);
+  }
+
+  /**
+   * From here on it is told what is sent to a printer; where it is another one than before, its paper is new.
+   * @param {{ strobe: string, port: string } | null} printer
+   */
+  printOn(printer) {
+    if (!this.opened) return;
+    const { printing } = this.session;
+    if (!printer) this.session.printing = null;
+    else if (!printing || !printing.isOf(printer)) this.session.printing = new Printing({ ...printer, codes: [] });
+  }
+
+  /** What was printed is torn off. */
+  tearPaper() {
+    if (this.session.printing) this.session.printing.tear();
   }
 
   /** @param {string} place a key, which goes down while time runs */

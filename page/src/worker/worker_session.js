@@ -22,6 +22,7 @@ import { SEGMENT_ENTRIES, Timeline } from "./timeline.js";
  * @typedef {import("./live_recorder.js").LiveRecorder} LiveRecorder
  * @typedef {import("./heating.js").Heating} Heating
  * @typedef {import("./heating.js").PassedHeat} PassedHeat
+ * @typedef {import("./printing.js").Printing} Printing
  * @typedef {import("./shining.js").Shining} Shining
  * @typedef {import("./shining.js").Shone} Shone
  * @typedef {import("./sounding.js").Heard} Heard
@@ -70,6 +71,8 @@ export class WorkerSession {
     this.readCodes = null;
     /** @type {LiveRecorder | null} records what is done */
     this.recorder = null;
+    /** @type {Printing | null} what was sent to the board's printer */
+    this.printing = null;
     /** @type {Sounding | null} tells the edges of a line while time runs, where somebody listens */
     this.sounding = null;
     /** @type {Shining | null} adds up what is lit while time runs, where somebody looks */
@@ -239,19 +242,22 @@ export class WorkerSession {
 
   /** @param {Step[]} steps */
   trySteps(steps) {
-    const { recording } = this;
+    const { recording, printing } = this;
     const { shining, sounding, heating } = this.sensesIn(steps);
     /** @type {import("./asking.js").Asker[]} */
-    const askers = [shining, sounding, heating, recording].flatMap((asker) => asker || []);
+    const askers = [printing, shining, sounding, heating, recording].flatMap((asker) => asker || []);
     const lines = askedLines(steps, askers) + this.lookQuestions.lines;
     const { answers, told } = partedAnswers(steps, askers, this.engine.serve(this.file, lines, this.next).answers);
     /** @type {(asker: import("./asking.js").Asker) => string[][]} */
     const toldTo = (asker) => told[askers.indexOf(asker)];
-    const sense = () => ({
-      shone: shining && shining.take(toldTo(shining)),
-      heard: sounding && sounding.take(toldTo(sounding)),
-      warmed: heating && heating.take(toldTo(heating)),
-    });
+    const sense = () => {
+      if (printing) printing.take(toldTo(printing), this.count.total);
+      return {
+        shone: shining && shining.take(toldTo(shining)),
+        heard: sounding && sounding.take(toldTo(sounding)),
+        warmed: heating && heating.take(toldTo(heating)),
+      };
+    };
     return { answers, sense, traced: recording ? told[askers.length - 1] : [] };
   }
 
@@ -276,6 +282,7 @@ export class WorkerSession {
   async serve(lines, goesOn) {
     const told = new Telling(this.count.copy());
     const before = this.recording ? this.file.slice() : null;
+    const printing = this.printing && this.printing.copy();
     // `from` is the file that the next piece is served on; the session's own stays until all is done.
     let [from, to] = [this.file, this.next];
     const size = new PieceSize(FIRST_PIECE, LEAST_PIECE, LARGEST_PIECE);
@@ -284,7 +291,9 @@ export class WorkerSession {
       const piece = lines.slice(at, end);
       const served = size.measure(() => {
         const done = this.engine.serve(from, piece, to);
-        told.add(piece, done);
+        const { total } = told.count;
+        const accepted = told.add(piece, done);
+        if (printing) printing.follow(this.engine, from.slice(), accepted, total);
         return done;
       });
       [from, to] = [to, from === this.file ? new Uint8Array(from.length) : from];
@@ -300,6 +309,7 @@ export class WorkerSession {
     if (told.touchesRom) this.readCodes = null;
     this.timeline.stop();
     this.count = told.count;
+    this.printing = printing;
     if (told.accepted.length > 0) this.timeline.record([...this.unrecorded.splice(0), ...told.accepted], this);
     this.timeline.stop();
     // What waits for its time was meant for the keys of the other board.
@@ -351,6 +361,7 @@ class Telling {
   }
 
   /**
+   * Gives what was accepted.
    * @param {string} lines
    * @param {Served} served
    */
@@ -368,6 +379,7 @@ class Telling {
     const from = Math.max(0, inputs.length - MOST_ENTRIES);
     const entries = inputs.slice(from).map(({ line, text }, at) => ({ line, textLines: text.length, answers: matched[from + at] }));
     this.entries = [...this.entries, ...entries].slice(-MOST_ENTRIES);
+    return accepted;
   }
 
   /** @returns {Told} */

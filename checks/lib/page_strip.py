@@ -1,0 +1,97 @@
+"""The paper strip of a printer in a browser: what was keyed and what came, by pointer and keyboard, at any speed, over going back, a reload
+and tearing off; and printers that cannot be."""
+
+import re
+import time
+
+from page_in_browser import DIGITS, ENTER, SPEED, STATUS, choose_example, key, told_of, until_ready
+from verdicts import comes, verdict
+
+STRIP = """
+const lines = [...document.querySelectorAll("#paper div")].map((line) => line.textContent);
+return document.getElementById("strip").hidden ? "-" : lines.join(" ")"""
+FAULTS = "return [...document.querySelectorAll('#face-faults li')].map((each) => each.textContent).join(' ')"
+AT_END = "const paper = document.getElementById('paper'); return paper.scrollHeight - paper.scrollTop - paper.clientHeight < 4"
+BOARD = """# printer rom0.3: ram0.0 a CE b_c
+[[rom]]
+chip = 0
+port = "000i"
+[[ram]]
+bank = 0
+chips = 1
+"""
+# Sends 0, 1, 2, 3, .. once, the code first.
+SENDER = """
+        FIM P0, 0
+        SRC P0
+next:   LD R4
+        WMP
+        LDM 8
+        WRR
+        LDM 0
+        WRR
+        ISZ R4, next
+stop:   JUN stop
+"""
+
+
+def press(browser, legends):
+    for legend in legends:
+        browser.fingers([key(legend)], 60)
+        time.sleep(0.08)
+
+
+def check_calculator(browser):
+    choose_example(browser, "printing calculator")
+    comes(browser, "a board with a printer has a strip without a line", STRIP, "")
+    press(browser, "12+30=")
+    comes(browser, "what is keyed and what comes is printed", STRIP, "12+ 30= 42")
+    verdict("and shown", browser.script(DIGITS), "42")
+    browser.keys(["-", "5", "8", ENTER], 60, 120)
+    comes(browser, "by the keyboard, too", STRIP, "12+ 30= 42 42- 58= -16")
+    browser.reload()
+    until_ready(browser)
+    comes(browser, "a reload keeps it", STRIP, "12+ 30= 42 42- 58= -16")
+    browser.script(SPEED, "full")
+    press(browser, "*3=")
+    comes(browser, "at full speed it prints", STRIP, "12+ 30= 42 42- 58= -16 -16* 3= -48")
+    verdict("the end of the paper is in view", browser.script(AT_END), True)
+    browser.script(SPEED, "real")
+
+
+def check_back(browser):
+    browser.click("#run")
+    comes(browser, "time stands still", STATUS, re.compile("^Stopped"))
+    browser.click("#run")
+    press(browser, "C7=")
+    comes(browser, "more is printed", STRIP, re.compile("-48 C 7= 7$"))
+    browser.click("#run")
+    comes(browser, "time stands still again", STATUS, re.compile("^Stopped"))
+    browser.click("#back-stop")
+    comes(browser, "going back takes it back", STRIP, re.compile("-48$"))
+    browser.click("#forward")
+    comes(browser, "forward brings it again", STRIP, re.compile("-48 C 7= 7$"))
+    browser.click("#tear-paper")
+    comes(browser, "the paper is torn off", STRIP, "")
+    browser.click("#run")
+    press(browser, "9=")
+    comes(browser, "and the next line begins a new one", STRIP, "9= 9")
+
+
+def check_lines(browser):
+    told_of(browser, "#board-editor", BOARD)
+    comes(browser, "a printer of another board has a strip of its own", STRIP, "")
+    told_of(browser, "#program-editor", SENDER)
+    comes(browser, "codes without words are ?", STRIP, f"aCEb c{'?' * 13}")
+    told_of(browser, "#board-editor", BOARD.replace("rom0.3", "rom0.0"))
+    comes(browser, "a strobe at an input line is told", FAULTS, "line 1 of the board's text: the board has no output line rom0.0")
+    verdict("and prints nothing", browser.script(STRIP), "-")
+
+
+def check(browser, page, _folder, _mcs4):
+    browser.go(page.as_uri() + "#example=empty%20bench")
+    until_ready(browser)
+    verdict("a board without a printer has no strip", browser.script(STRIP), "-")
+    check_calculator(browser)
+    check_back(browser)
+    check_lines(browser)

@@ -1,0 +1,133 @@
+// What a program sends to the board's printer, by the answers to `trace` before each run. Each code is kept with the cycle at which it
+// came: so what is printed is a function of the run, and after going back only what had come by then is there.
+
+import { askedLines, partedAnswers } from "./asking.js";
+import { RECORDED_CYCLES, RECORDED_UNITS } from "./pieces.js";
+import { Answers, readTraced, valuesOf } from "./tracing.js";
+
+/**
+ * @typedef {import("./accepted.js").Accepted} Accepted
+ * @typedef {import("./engine.js").Engine} Engine
+ * @typedef {import("./key_queue.js").Step} Step
+ *
+ * The lines of a printer, its strobe and the port of its code, and what was sent: each code with the cycles that were counted when it came.
+ * @typedef {{ strobe: string, port: string, codes: [number, number][] }} Printed
+ */
+
+/** So many codes are kept: some hundred lines. */
+const MOST_CODES = 4000;
+
+/** @param {string} head of an answer to `trace` */
+const cyclesOf = (head) => Number(head.split(" ", 3)[2]);
+
+export class Printing {
+  /** @param {Printed} printed */
+  constructor({ strobe, port, codes }) {
+    this.strobe = strobe;
+    this.port = port;
+    this.codes = [...codes];
+    /** What was told last: how many codes, and when the last one came. */
+    this.told = "";
+  }
+
+  copy() {
+    return new Printing(this);
+  }
+
+  /** @param {{ strobe: string, port: string }} printer */
+  isOf({ strobe, port }) {
+    return this.strobe === strobe && this.port === port;
+  }
+
+  /** The paper is torn off. */
+  tear() {
+    this.codes = [];
+  }
+
+  /**
+   * What has come up to here, where that is another than was told last; else null.
+   * @param {number} total the cycles that were counted up to here
+   * @returns {Printed | null}
+   */
+  takeNews(total) {
+    const count = this.countAt(total);
+    const told = `${count} ${count > 0 ? this.codes[count - 1][0] : ""}`;
+    if (told === this.told) return null;
+    this.told = told;
+    return { strobe: this.strobe, port: this.port, codes: this.codes.slice(0, count) };
+  }
+
+  /** @param {number} total */
+  countAt(total) {
+    let count = this.codes.length;
+    while (count > 0 && this.codes[count - 1][0] > total) count -= 1;
+    return count;
+  }
+
+  // --- as an asker ---
+
+  get count() {
+    return 1;
+  }
+
+  get seesChanges() {
+    return false;
+  }
+
+  /** @param {number} cycles */
+  questions(cycles) {
+    return `trace ${cycles} ${this.strobe} ${this.port}\n`;
+  }
+
+  /**
+   * Takes what was sent, by the answers to the questions before runs; what an instruction changes is there once its first cycle is over.
+   * @param {string[][]} told step by step
+   * @param {number} total the cycles that were counted before them
+   */
+  take(told, total) {
+    this.codes.length = this.countAt(total);
+    let before = total;
+    for (const answers of told) {
+      if (answers.length === 0) continue;
+      const { row, lines } = new Answers(answers).takeTrace();
+      let [level] = valuesOf(row);
+      for (const line of lines) {
+        const traced = readTraced(line);
+        const [strobe, code] = valuesOf(traced.row);
+        if (level === "0" && strobe === "1") this.codes.push([before + traced.cycles + 1, parseInt(code, 16)]);
+        level = strobe;
+      }
+      before += cyclesOf(answers[0]);
+    }
+    this.codes.splice(0, this.codes.length - MOST_CODES);
+  }
+
+  /**
+   * Follows what was done by lines: it is done again on a copy.
+   * @param {Engine} engine
+   * @param {Uint8Array} file as it was before; it is changed
+   * @param {Accepted[]} accepted
+   * @param {number} total the cycles that were counted before them
+   */
+  follow(engine, file, accepted, total) {
+    let before = total;
+    for (let at = 0; at < accepted.length;) {
+      const begun = at;
+      const end = Math.min(accepted.length, begun + RECORDED_UNITS);
+      let cycles = 0;
+      for (; at < end && cycles < RECORDED_CYCLES; at++) cycles += accepted[at].cycles;
+      const steps = accepted.slice(begun, at).map(stepOf);
+      const { told: [told] } = partedAnswers(steps, [this], engine.serve(file, askedLines(steps, [this]), file).answers);
+      this.take(told, before);
+      before += cycles;
+    }
+  }
+}
+
+/**
+ * @param {Accepted} accepted
+ * @returns {Step}
+ */
+function stepOf({ line, cycles }) {
+  return { line: cycles > 0 ? `run ${cycles}` : line, change: cycles > 0 ? null : { place: "", word: "press" } };
+}
