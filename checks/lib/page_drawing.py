@@ -225,6 +225,51 @@ def check_by_keyboard(browser):
     verdict("nothing is lost", text_of(browser), before)
 
 
+WIDTH = "return Math.round(document.querySelector('#wiring-picture svg').getBoundingClientRect().width)"
+TURN = """
+const picture = document.getElementById("wiring-picture");
+const { left, top } = picture.getBoundingClientRect();
+const turn = { ctrlKey: arguments[1], deltaY: arguments[0], clientX: left + 50, clientY: top + 40, bubbles: true, cancelable: true };
+return picture.dispatchEvent(new WheelEvent("wheel", turn))"""
+# The part that stands at a place of the panel.
+AT_PLACE = """
+const { left, top } = document.getElementById("wiring-picture").getBoundingClientRect();
+const found = document.elementFromPoint(left + arguments[0], top + arguments[1]).closest(".part");
+return found && found.getAttribute("class")"""
+
+
+def check_zoom(browser):
+    """The picture is larger and smaller by buttons, keys and the wheel; what is at the pointer stays there, and wires are drawn all the
+    same."""
+    choose_example(browser, "lock")
+    browser.script("document.getElementById('wiring-tab').click()")
+    browser.show("#wiring-picture")
+    before = browser.script(WIDTH)
+    browser.click("#picture-larger")
+    verdict("a button makes it larger", abs(browser.script(WIDTH) - before * 1.25) <= 1, True)
+    for _ in range(30):
+        browser.click("#picture-larger")
+    largest = browser.script(WIDTH)
+    browser.click("#picture-larger")
+    verdict("up to a size", (browser.script(WIDTH), largest > before * 2), (largest, True))
+    browser.click("#picture-fit")
+    verdict("and as it was", browser.script(WIDTH), before)
+    browser.script("document.querySelector('#wiring-picture .of-rom').focus()")
+    browser.keys("--")
+    verdict("keys make it smaller", abs(browser.script(WIDTH) - before / 1.25 ** 2) <= 1, True)
+    drag(browser, f"{pin('RAM 0.0 · 4002, out 3')} circle", f"{pin('Lamps · 3, alarm')} circle")
+    comes(browser, "a wire is drawn all the same", SAID, "Line ram0.0.3 is wired to lamp 2.")
+    browser.click("#drawing-undo")
+    comes(browser, "and undone", SAID, "Undone.")
+    browser.keys("0")
+    browser.script("document.getElementById('picture-fit').click()")
+    seen = browser.script(AT_PLACE, 50, 40)
+    verdict("the wheel alone scrolls", browser.script(TURN, -100, False), True)
+    verdict("with Ctrl it zooms, and the page does not", browser.script(TURN, -100, True), False)
+    verdict("where the pointer is", (browser.script(WIDTH) > before, browser.script(AT_PLACE, 50, 40)), (True, seen))
+    browser.click("#picture-fit")
+
+
 def check_by_fingers(browser):
     """One pin after the other is touched."""
     browser.fingers([f"{pin('RAM 0.0 · 4002, out 3')} circle"], 60)
@@ -263,6 +308,7 @@ def check(browser, page, _folder, _mcs4):
     check_by_mouse(browser)
     check_wires(browser)
     check_by_keyboard(browser)
+    check_zoom(browser)
     if browser.has_fingers:
         check_by_fingers(browser)
     check_faults(browser)

@@ -5,6 +5,7 @@ import { button, isDialogOpen, onClick } from "../ui/dom.js";
 import { Drawing } from "./drawing.js";
 import { DrawingView } from "./drawing_view.js";
 import { PictureInput } from "./picture_input.js";
+import { PictureZoom } from "./picture_zoom.js";
 
 /**
  * @typedef {import("../board/wiring_view.js").WiringView} WiringView
@@ -33,6 +34,7 @@ export class DrawingController {
     this.drawing = new Drawing(calls, (shown) => this.show(shown));
     this.view = this.makeView();
     this.input = this.makeInput();
+    this.zoom = new PictureZoom(picture.root);
     onClick(button("first-drawing"), calls.putInFront);
     addEventListener("keydown", (event) => this.typed(event));
   }
