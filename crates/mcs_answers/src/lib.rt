@@ -7,6 +7,7 @@ mod digits;
 pub mod laws;
 mod lists;
 mod numbers;
+mod port_levels;
 mod ports;
 mod queries;
 mod ram;

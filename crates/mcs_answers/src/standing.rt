@@ -7,6 +7,7 @@ ghost use Rattle.mcs_ahead.specs.Probes.{probe_text, row};
 
 use crate::digits::hex_digit;
 use crate::lists::lamp_mark;
+use crate::port_levels::{ram_levels, rom_levels};
 use mcs_ahead::Probe;
 use mcs_bench::Bench;
 use mcs_nibble::{Addr, Bit};
@@ -114,6 +115,8 @@ fn after_probe<'a>(text: &'a [u8], probe: Probe, bench: &Bench) -> Option<&'a [u
 {
     match probe {
         Probe::Level(line) => after_digit(text, bench.level(line).get()),
+        Probe::RomPort(chip) => after_digit(text, rom_levels(bench, chip)),
+        Probe::RamPort(bank, chip) => after_digit(text, ram_levels(bench, bank, chip)),
         Probe::Lamps => after_lamps(text, bench),
         Probe::Returns => after_returns(text, bench.regs().ret),
         _ => None,

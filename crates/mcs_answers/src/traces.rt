@@ -4,9 +4,8 @@ ghost use Rattle.std.specs.Fmt.{decimal};
 ghost use Rattle.arrayvec.specs.ArrayVec.{array_vec_len};
 ghost use Rattle.mcs_model.specs.Command.{machine_of};
 ghost use Rattle.mcs_model.specs.QueryText.{address_text, as_line, one_word};
-ghost use Rattle.mcs_model.specs.declared.board.Line.TheVariants as line;
 ghost use Rattle.mcs_bench.specs.Runs.{stop_by};
-ghost use Rattle.mcs_ahead.specs.Probes.{levels_on, probe_text, row};
+ghost use Rattle.mcs_ahead.specs.Probes.{probe_text, row};
 ghost use Rattle.mcs_answers.specs.AheadTexts.{is_told, trace_answer};
 ghost use Rattle.mcs_answers.specs.Resting.{Rests, RowKeeps, RowRests, SeesAll, SeesToo, WritesPort, WritesStatus, touches};
 ghost use Rattle.mcs_answers.specs.Traced.{IsTraced, cycle_lines, line_when};
@@ -18,40 +17,18 @@ use crate::ahead::put_head;
 use crate::digits::{put, put_address, put_byte, put_digit};
 use crate::lists::put_lamp_marks;
 use crate::numbers::put_counted;
+use crate::port_levels::{ram_levels, rom_levels};
 use crate::size::{ANSWER_BYTES, PROBE_BYTES};
 use crate::standing::stands;
 use crate::state_lists::put_chain_bits;
 use arrayvec::ArrayVec;
 use mcs_ahead::{PROBES, Probe};
 use mcs_bench::Bench;
-use mcs_model::board::Line;
 use mcs_model::op::Op;
 use mcs_model::regs::Regs;
 use mcs_model::stop::Stop;
 use mcs_nibble::Addr;
 use std::alloc::{AllocError, Global};
-
-/// The levels of the four lines of a ROM's port, as one number.
-fn rom_levels(bench: &Bench, chip: u8) -> u8
-    ensures value { result ≡ levels_on bench.now.bus (line.Rom chip) }
-    ensures digit { result < 16 }
-{
-    bench.level(Line::Rom(chip, 0)).get()
-        + 2 * bench.level(Line::Rom(chip, 1)).get()
-        + 4 * bench.level(Line::Rom(chip, 2)).get()
-        + 8 * bench.level(Line::Rom(chip, 3)).get()
-}
-
-/// The levels of the four lines of a RAM chip's port, as one number.
-fn ram_levels(bench: &Bench, bank: u8, chip: u8) -> u8
-    ensures value { result ≡ levels_on bench.now.bus (line.Ram bank chip) }
-    ensures digit { result < 16 }
-{
-    bench.level(Line::Ram(bank, chip, 0)).get()
-        + 2 * bench.level(Line::Ram(bank, chip, 1)).get()
-        + 4 * bench.level(Line::Ram(bank, chip, 2)).get()
-        + 8 * bench.level(Line::Ram(bank, chip, 3)).get()
-}
 
 /// Adds the return addresses, after a space.
 fn put_returns(answer: &mut ArrayVec<u8, ANSWER_BYTES>, ret: [Addr; 3])
