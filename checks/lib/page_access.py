@@ -3,8 +3,8 @@ reader (its accessibility tree), the way of the Tab key, and the contrast of all
 
 import re
 
-from page_in_browser import (AT_COUNTER, ESCAPE, PUT_INTO_EDITOR, STATUS, TAB, TEXT_OF_EDITOR, choose_example, lines_answered, show_text,
-                             until_ready)
+from page_in_browser import (AT_COUNTER, ESCAPE, PUT_INTO_EDITOR, TAB, TEXT_OF_EDITOR, choose_example, lines_answered, open_anew, show_text,
+                             stop_time)
 from verdicts import comes, verdict
 from web_driver import Chromium
 
@@ -18,9 +18,7 @@ SIGNS = re.compile("[\u25b2-\u25cf\u2713]")
 
 
 def check(browser, page, _folder, _mcs4):
-    browser.go("about:blank")
-    browser.go(page.as_uri())
-    until_ready(browser)
+    open_anew(browser, page)
     check_answers_told(browser)
     check_tab_key(browser)
     if isinstance(browser, Chromium):
@@ -30,8 +28,7 @@ def check(browser, page, _folder, _mcs4):
 def check_answers_told(browser):
     """The answer to a line that was sent is said, and a refusal with its words; what time does is not."""
     choose_example(browser, "three lamps")
-    browser.click("#run")
-    browser.until(STATUS, re.compile("^Stopped"))
+    stop_time(browser)
     told = "return document.getElementById('answer-told').textContent"
     lines_answered(browser, "poke acc 5")
     comes(browser, "an answer is said", told, re.compile(r"^ok \d+$"))
@@ -129,8 +126,7 @@ def check_views(browser):
 def check_board(browser):
     choose_example(browser, "traffic light")
     comes(browser, "a lamp is lit", "return document.querySelectorAll('.bulb.lit').length > 0", True)
-    browser.click("#run")
-    browser.until(STATUS, re.compile("^Stopped"))
+    stop_time(browser)
     browser.click("#step")
     comes(browser, "a step leaves marks", "return document.querySelectorAll('.changed').length > 0", True)
     comes(browser, "the listing is at the counter", AT_COUNTER, True)
@@ -152,8 +148,7 @@ def check_board(browser):
 
 def check_other_views(browser):
     choose_example(browser, "calculator")
-    browser.click("#run")
-    browser.until(STATUS, re.compile("^Stopped"))
+    stop_time(browser)
     for name in ("board", "wiring"):
         show_text(browser, name)
         browser.script(OPEN_ALL, "#wiring")

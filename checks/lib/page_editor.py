@@ -3,7 +3,7 @@
 import re
 import time
 
-from page_in_browser import NOTICE, PUT_INTO_EDITOR, STATUS, TEXT_OF_EDITOR, choose_example, show_text, until_ready
+from page_in_browser import NOTICE, PUT_INTO_EDITOR, STATUS, TEXT_OF_EDITOR, choose_example, open_anew, show_text, stop_time
 from verdicts import comes, verdict
 
 CONTROL, SHIFT, ENTER, ESCAPE, TAB = "\ue009", "\ue008", "\ue007", "\ue00c", "\ue004"
@@ -189,8 +189,7 @@ def check_folding(browser):
     comes(browser, "all of it folds", FOLDED, "\u2026 1 line,\u2026 2 lines,\u2026 1 line")
     browser.click(f"{PROGRAM} .send")
     comes(browser, "it is assembled as it is", STATUS, re.compile("^Time runs"))
-    browser.click("#run")
-    browser.until(STATUS, re.compile("^Stopped"))
+    stop_time(browser)
     # It stands at the loop's label, below which a line stays folded away, or at the line after it.
     comes(browser, "and the line at which time stands still is unfolded", FOLDED, re.compile("^\u2026 1 line(,\u2026 1 line){1,2}$"))
 
@@ -245,8 +244,7 @@ def check_running(browser):
     comes(browser, "Control and Enter assemble and run", TOLD.format(PROGRAM), "3 bytes assembled, the rest of ROM is 0. It runs from 000 on.")
     comes(browser, "time runs", STATUS, re.compile("^Time runs"))
     browser.until("return document.querySelector('#registers').textContent", re.compile("^acc7"))
-    browser.click("#run")
-    browser.until(STATUS, re.compile("^Stopped"))
+    stop_time(browser)
     comes(browser, "the machine is at the program's end", "return document.querySelector('#registers').textContent", re.compile("^acc7.*pc00[12]"))
     browser.script("document.getElementById('lines').value = 'list 3 40'")
     browser.click("#send")
@@ -305,9 +303,7 @@ def check_board(browser):
 
 
 def check_editor(browser, page, _folder, _mcs4):
-    browser.go("about:blank")
-    browser.go(page.as_uri())
-    until_ready(browser)
+    open_anew(browser, page)
     browser.script("for (const each of document.querySelectorAll('#notice .dismiss')) each.click()")
     choose_example(browser, "calculator")
     show_text(browser, "program")

@@ -80,6 +80,19 @@ def until_ready(browser):
     comes(browser, "the page is ready", READY, True, 90)
 
 
+def open_anew(browser, page):
+    """Opens the page where no page was."""
+    browser.go("about:blank")
+    browser.go(page.as_uri())
+    until_ready(browser)
+
+
+def stop_time(browser):
+    """Stops time, which runs."""
+    browser.click("#run")
+    browser.until(STATUS, re.compile("^Stopped"))
+
+
 def key(legend):
     """The selector of a key of the board."""
     return f"#keys button[aria-label^='key {legend},']"
@@ -139,8 +152,7 @@ def check_files(browser, folder, mcs4):
     browser.until(DIGITS, "42")
     # A key that was typed stays down for a moment; one that is down as time stops is down in the file.
     browser.until(KEYS_DOWN, 0)
-    browser.click("#run")
-    browser.until(STATUS, re.compile("^Stopped"))
+    stop_time(browser)
     browser.click("#save-session-button")
     saved = folder / "downloads/calculator.mcs"
     end = time.monotonic() + 20
@@ -366,9 +378,7 @@ def check_policy(browser, page):
 
 def figures(browser, page):
     """What the page takes, for the documents."""
-    browser.go("about:blank")
-    browser.go(page.as_uri())
-    until_ready(browser)
+    open_anew(browser, page)
     start = browser.script("return Number(document.body.dataset.ready)")
     return f"the page has {page.stat().st_size} bytes, its module {len(module_of_page(page))}; it starts in {start} ms in {browser.name}"
 

@@ -3,7 +3,7 @@
 import re
 
 from page_altered import FAULT, FAULTS, SHOW_WORKER, altered
-from page_in_browser import DIGITS, ENTER, ESCAPE, NOTICE, READY, STATUS, choose_example, lines_answered, until_ready
+from page_in_browser import DIGITS, ENTER, ESCAPE, NOTICE, READY, STATUS, choose_example, lines_answered, open_anew, stop_time, until_ready
 from verdicts import comes, verdict
 from web_driver import Chromium
 
@@ -82,8 +82,7 @@ def check_worker(browser):
     browser.click("#run")
     browser.keys(["4"])
     comes(browser, "and goes on in another worker", DIGITS, "1234")
-    browser.click("#run")
-    browser.until(STATUS, re.compile("^Stopped"))
+    stop_time(browser)
     before = lines_answered(browser, "seq")
     fail(browser, "hang")
     browser.script("document.getElementById('lines').value = 'poke r5 9'")
@@ -129,12 +128,9 @@ LONGEST = "clearInterval(window.ticking); return window.longest"
 
 def check_long_work(browser, page):
     """Long work shows how far it is, leaves the page alive, and can be cancelled: then nothing of it is done."""
-    browser.go("about:blank")
-    browser.go(page.as_uri())
-    until_ready(browser)
+    open_anew(browser, page)
     choose_example(browser, "calculator")
-    browser.click("#run")
-    browser.until(STATUS, re.compile("^Stopped"))
+    stop_time(browser)
     # The line of what ran comes into the log before the first of them.
     lines_answered(browser, "seq")
     before = lines_answered(browser, "seq")
@@ -192,8 +188,7 @@ def check_no_locks(browser, page, folder):
     told_at_start(browser, altered(page, folder, "Object.defineProperty(Navigator.prototype, 'locks', { value: undefined })"), READY, True)
     address = browser.script("return location.href")
     first = browser.tab()
-    browser.click("#run")
-    browser.until(STATUS, re.compile("^Stopped"))
+    stop_time(browser)
     browser.new_tab()
     browser.go(address)
     until_ready(browser)
@@ -222,8 +217,7 @@ def check_little_memory(page, folder):
     try:
         browser.go(page.as_uri())
         until_ready(browser)
-        browser.click("#run")
-        browser.until(STATUS, re.compile("^Stopped"))
+        stop_time(browser)
         before = lines_answered(browser, "seq")
         browser.script("document.getElementById('lines').value = 'poke r5 9\\nasm\\n' + '; a comment of so many letters\\n'.repeat(150000)")
         browser.click("#send")

@@ -3,7 +3,8 @@
 import re
 import time
 
-from page_in_browser import AT_COUNTER, ENTER, ESCAPE, STATUS, STEPPED, choose_example, key, lines_answered, show_text, until_ready
+from page_in_browser import (AT_COUNTER, ENTER, ESCAPE, STATUS, STEPPED, choose_example, key, lines_answered, open_anew, show_text,
+                             stop_time, until_ready)
 from verdicts import comes, verdict
 from web_driver import Chromium
 
@@ -12,9 +13,7 @@ F2 = "\ue032"
 
 
 def check(browser, page, _folder, _mcs4):
-    browser.go("about:blank")
-    browser.go(page.as_uri())
-    until_ready(browser)
+    open_anew(browser, page)
     choose_example(browser, "calculator")
     check_tabs(browser)
     check_folds(browser)
@@ -84,8 +83,7 @@ def focus_row(browser, at):
 
 def check_listing(browser):
     """All 4,096 bytes can be gone through, by keys, wheel and scroll bar."""
-    browser.click("#run")
-    browser.until(STATUS, re.compile("^Stopped"))
+    stop_time(browser)
     focus_row(browser, 3)
     browser.keys([HOME])
     comes(browser, "Home goes to 000", FOCUSED, "000")
@@ -150,8 +148,7 @@ def check_follow(browser):
         comes(browser, "a line begins at the counter at each step", AT_COUNTER, True)
     browser.click("#run")
     comes(browser, "while time runs it follows, too", NEXT, re.compile("."))
-    browser.click("#run")
-    browser.until(STATUS, re.compile("^Stopped"))
+    stop_time(browser)
 
 
 def text_of(browser, name):
@@ -172,8 +169,7 @@ SLOW = "FIM P0, 0x00\\nLDM 7\\nXCH R5\\nwait: ISZ R0, wait\\nISZ R1, wait\\nISZ 
 def check_marks(browser):
     """What is marked at a stop is what differs from the stop before, however long ago it changed."""
     choose_example(browser, "three lamps")
-    browser.click("#run")
-    browser.until(STATUS, re.compile("^Stopped"))
+    stop_time(browser)
     lines_answered(browser, f"asm\n{SLOW}.\nreset\nbreak 12".replace("\\n", "\n"))
     comes(browser, "after a reset the status is true", STATUS, "The board was reset; it stands at 000.")
     browser.script(COUNT_MARKS)
@@ -297,8 +293,7 @@ def check_swipe(browser):
         browser.script(SWIPE, key("7"), wait)
         time.sleep(0.5)
         verdict(f"after a {what} swipe no key is down", browser.script(DOWN_KEYS), 0)
-    browser.click("#run")
-    browser.until(STATUS, re.compile("^Stopped"))
+    stop_time(browser)
     for what, wait in (("quick", 20), ("slow", 200)):
         browser.script(SWIPE, key("7"), wait)
         time.sleep(0.5)
@@ -420,8 +415,7 @@ def check_phone(browser):
     for what in (".bulb", ".key", "#run"):
         verdict(f"{what} is in view beside the text on a phone", browser.script(SEEN, what), True)
     browser.script("scrollTo(0, 0)")
-    browser.click("#run")
-    browser.until(STATUS, re.compile("^Stopped"))
+    stop_time(browser)
     browser.script("scrollTo(0, 0)")
     box = browser.script("const box = document.querySelector('.key').getBoundingClientRect(); return [box.x + 20, box.y + 15]")
     swipe_up(browser, *box)
@@ -446,8 +440,7 @@ return lit !== dark && !lit.startsWith("rgba(0, 0, 0, 0)")"""
 def check_forced_colours(browser):
     choose_example(browser, "traffic light")
     comes(browser, "a lamp is lit", "return document.querySelectorAll('.bulb.lit').length > 0", True)
-    browser.click("#run")
-    browser.until(STATUS, re.compile("^Stopped"))
+    stop_time(browser)
     browser.click("#step")
     comes(browser, "a step leaves marks", "return document.querySelectorAll('.changed').length > 0", True)
     emulate(browser, forced_colors="active")

@@ -5,7 +5,7 @@ import pathlib
 import re
 import subprocess
 
-from page_in_browser import ENTER, NOTICE, PUT_INTO_EDITOR, STATUS, choose_example, lines_answered, show_text, until_ready
+from page_in_browser import ENTER, NOTICE, PUT_INTO_EDITOR, STATUS, choose_example, lines_answered, show_text, stop_time, until_ready
 from verdicts import comes, verdict
 
 TOP = pathlib.Path(__file__).resolve().parent.parent.parent
@@ -112,8 +112,7 @@ def go_to(browser, text):
 
 
 def check_steps(browser, source):
-    browser.click("#run")
-    browser.until(STATUS, re.compile("^Stopped"))
+    stop_time(browser)
     lines_answered(browser, "reset")
     told = []
     for chunk in range(STEPS // STEPS_AT_ONCE):

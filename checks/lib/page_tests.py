@@ -5,7 +5,7 @@ kept, and goes with a project."""
 import re
 import time
 
-from page_in_browser import PUT_INTO_EDITOR, STATUS, TEXT_OF_EDITOR, choose_example, lines_answered, show_text, until_ready
+from page_in_browser import PUT_INTO_EDITOR, STATUS, TEXT_OF_EDITOR, choose_example, lines_answered, open_anew, show_text, until_ready
 from page_texts import NAME, kept_download, rename
 from verdicts import comes, verdict
 
@@ -103,9 +103,7 @@ def check_kept(browser, folder):
 
 
 def check(browser, page, folder, _mcs4):
-    browser.go("about:blank")
-    browser.go(page.as_uri())
-    until_ready(browser)
+    open_anew(browser, page)
     check_passing(browser)
     check_failing(browser)
     check_faults(browser)

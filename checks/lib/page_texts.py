@@ -7,7 +7,7 @@ import subprocess
 import time
 import zlib
 
-from page_in_browser import NOTICE, STATUS, choose_example, lines_answered, show_text, told_of, until_ready
+from page_in_browser import NOTICE, STATUS, choose_example, lines_answered, open_anew, show_text, stop_time, told_of, until_ready
 from verdicts import comes, verdict
 
 TOP = pathlib.Path(__file__).resolve().parent.parent.parent
@@ -160,8 +160,7 @@ def check_deleting(browser, kept):
 def check_notices(browser, folder):
     """Each kind of notice stays by itself; the status is true after a reset."""
     choose_example(browser, "calculator")
-    browser.click("#run")
-    browser.until(STATUS, re.compile("^Stopped"))
+    stop_time(browser)
     browser.type_into("#file", str(folder / "cut.mcsp"))
     browser.until(NOTICE, re.compile("cut off"))
     told_of(browser, "#program-editor", "\tNOP\n")
@@ -356,11 +355,8 @@ def check_tool(folder, project):
 
 
 def check_texts(browser, page, folder, mcs4):
-    browser.go("about:blank")
-    browser.go(page.as_uri())
-    until_ready(browser)
-    browser.click("#run")
-    browser.until(STATUS, re.compile("^Stopped"))
+    open_anew(browser, page)
+    stop_time(browser)
     project = check_project(browser, folder)
     check_damaged(browser, folder, project.read_bytes())
     check_tool(folder, project)

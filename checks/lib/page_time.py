@@ -6,7 +6,7 @@ import pathlib
 import re
 import subprocess
 
-from page_in_browser import DIGITS, NOTICE, RATE, SPEED, STATUS, STEPPED, choose_example, key, lines_answered, until_ready
+from page_in_browser import DIGITS, RATE, SPEED, STATUS, STEPPED, choose_example, key, lines_answered, stop_time, until_ready
 from verdicts import comes, verdict
 
 TOP = pathlib.Path(__file__).resolve().parent.parent.parent
@@ -81,8 +81,7 @@ def counted(cycles):
 def stand(browser):
     """Stops the time that runs."""
     if browser.script("return document.getElementById('run').textContent") == "Stop":
-        browser.click("#run")
-        browser.until(STATUS, re.compile("^Stopped"))
+        stop_time(browser)
 
 
 def at_rest(browser, name):

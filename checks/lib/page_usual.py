@@ -4,7 +4,7 @@ switch time stops before it, and goes on with it; a program without them has non
 import re
 import time
 
-from page_in_browser import STATUS, choose_example, told_of, until_ready
+from page_in_browser import STATUS, choose_example, open_anew, stop_time, told_of, until_ready
 from verdicts import comes, verdict
 
 ROWS = "return [...document.querySelectorAll('#usual-list li .words')].map((each) => each.textContent)"
@@ -23,9 +23,7 @@ WRITE = "WRR writes to ROM 1, whose port has no output line; the last SRC is at 
 
 
 def check(browser, page, _folder, _mcs4):
-    browser.go("about:blank")
-    browser.go(page.as_uri())
-    until_ready(browser)
+    open_anew(browser, page)
     choose_example(browser, "calculator")
     time.sleep(1)
     verdict("nothing is told of a program that is right", browser.script(SHOWN), False)
@@ -35,8 +33,7 @@ def check(browser, page, _folder, _mcs4):
     comes(browser, "a fault is told with its line", ROWS, [f"004 (keys + 4, line 4) {WRITE}"])
     verdict("while time goes on", browser.script(STATUS), re.compile("^Time runs"))
     browser.click("#usual-list input")
-    browser.click("#run")
-    browser.until(STATUS, re.compile("^Stopped"))
+    stop_time(browser)
     browser.click("#run")
     comes(browser, "with its switch time stops before it", STATUS, "Stopped at 004, before what is told as a fault.")
     verdict("and it is told again", browser.script(ROWS), [f"004 (keys + 4, line 4) {WRITE}"])

@@ -4,7 +4,7 @@ time stands still, and are edited there. What they have to be was counted by han
 import re
 
 from driven import fits
-from page_in_browser import STATUS, WHOLE_STATUS, choose_example, lines_answered, told_of, until_ready
+from page_in_browser import STATUS, WHOLE_STATUS, choose_example, lines_answered, open_anew, stop_time, told_of
 from page_names import MEANING, point_at
 from verdicts import comes, verdict
 
@@ -60,8 +60,7 @@ def begin(browser):
     browser.until(STATUS, re.compile("^Time runs"))
     pointed(browser, line_of("INC R5"), "R5", MEANING, "R5: the lower half of P2.")
     comes(browser, "while time runs a register has no value", MEANING, "R5: the lower half of P2.")
-    browser.click("#run")
-    browser.until(STATUS, re.compile("^Stopped"))
+    stop_time(browser)
     lines_answered(browser, "reset")
     lines_answered(browser, "poke ram.0.0x12 0")
     lines_answered(browser, "run 11")
@@ -128,8 +127,7 @@ FOCUS = "document.activeElement.blur(); document.querySelector(arguments[0]).foc
 def check_last_change(browser):
     """A cell tells when it changed last, and by what: where going back to its change leads."""
     if browser.script("return document.getElementById('run').textContent") == "Stop":
-        browser.click("#run")
-    browser.until(STATUS, re.compile("^Stopped"))
+        stop_time(browser)
     lines_answered(browser, "run 100\npoke ram.0.0x13 5\nrun 7")
     browser.script(FOCUS, ".ram button[title$='SRC byte 13']")
     comes(browser, "a cell tells the line that changed it last", CHANGE_TIP,
@@ -188,9 +186,7 @@ def check_heat(browser):
 
 
 def check(browser, page, _folder, _mcs4):
-    browser.go("about:blank")
-    browser.go(page.as_uri())
-    until_ready(browser)
+    open_anew(browser, page)
     begin(browser)
     check_pointer(browser)
     check_edit(browser)

@@ -8,7 +8,7 @@ import re
 import subprocess
 import time
 
-from page_in_browser import NOTICE, STATUS, choose_example, lines_answered, show_text, until_ready
+from page_in_browser import NOTICE, STATUS, choose_example, lines_answered, show_text, stop_time, until_ready
 from picture import write_picture
 from verdicts import comes, verdict
 
@@ -126,8 +126,7 @@ def check_click(browser):
 def check_file(browser, folder, mcs4):
     """The saved recording is, to the byte, what tools/wave writes of the saved session."""
     choose_example(browser, "calculator")
-    browser.click("#run")
-    browser.until(STATUS, re.compile("^Stopped"))
+    stop_time(browser)
     session = folder / "waves.mcs"
     session.write_bytes(saved(browser, folder, "#save-session-button", "calculator.mcs"))
     board, program = TOP / "examples/calculator/board.toml", TOP / "examples/calculator/calculator.asm"
@@ -158,8 +157,7 @@ def check_file(browser, folder, mcs4):
 def check_before(browser):
     """The last cycles before a stop: they are done again, with the keys that were pressed."""
     choose_example(browser, "calculator")
-    browser.click("#run")
-    browser.until(STATUS, re.compile("^Stopped"))
+    stop_time(browser)
     lines_answered(browser, "run 300\npress 0 0\nrun 5000\nrelease 0 0\nrun 3000")
     verdict("what was before this stop", record(browser, 8200, "before"), "8,200 cycles recorded, 88,560.0 microseconds.")
     browser.script(CHOOSE, ["key.7", "pc"])
@@ -179,8 +177,7 @@ COUNT = "return document.getElementById('scope-count').textContent"
 def check_live(browser, folder, mcs4):
     """While time runs it is recorded, keys work, and what was recorded is what tools/wave writes of the session from where it began."""
     choose_example(browser, "calculator")
-    browser.click("#run")
-    browser.until(STATUS, re.compile("^Stopped"))
+    stop_time(browser)
     session = folder / "live.mcs"
     session.write_bytes(saved(browser, folder, "#save-session-button", "calculator.mcs"))
     browser.script(FILL, {"trigger": "", "behind": "500"})
@@ -247,8 +244,7 @@ def check_triggers(browser):
     """A trigger ends a recording with cycles before and behind it, and stops time if that is wanted."""
     choose_example(browser, "stopwatch")
     lines_answered(browser, "test 0")
-    browser.click("#run")
-    browser.until(STATUS, re.compile("^Stopped"))
+    stop_time(browser)
     browser.script(FILL, {"trigger": "lamp15 rises", "behind": "1000"})
     browser.script("document.getElementById('stops-time').checked = true")
     verdict("it waits for its trigger", record(browser, 3000, "live"), "It records as soon as time runs. It waits for lamp15 rises.")
@@ -319,8 +315,7 @@ def check_refusals(browser):
     browser.script("document.getElementById('cancel').click()")
     verdict("a recording is cancelled", browser.until(TOLD, re.compile(".")), re.compile("cancelled, and nothing was recorded|10,000,000 cycles recorded"))
     choose_example(browser, "empty bench")
-    browser.click("#run")
-    browser.until(STATUS, re.compile("^Stopped"))
+    stop_time(browser)
     verdict("another session has no recording", browser.script("return document.getElementById('waves').hidden"), True)
     verdict("a bench without a program", record(browser, 10), re.compile("^10 cycles recorded"))
     verdict("no notice", browser.script(NOTICE), "")
