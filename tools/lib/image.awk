@@ -49,7 +49,7 @@ function pair_at(from) {
     return hex_number(substr(record, from, 2))
 }
 
-function end_of_line(    length_told, at, type, sum, i) {
+function end_of_line() {
     lines++
     sub(/\r$/, "", record)
     gsub(/^[ \t]+|[ \t]+$/, "", record)
@@ -58,6 +58,11 @@ function end_of_line(    length_told, at, type, sum, i) {
     if (form == "srec") return end_of_srecord()
     if (ended) return tell_line("a record after the last one (type 01)")
     record = toupper(record)
+    end_of_hex_record()
+}
+
+# A record of Intel HEX: how many bytes, an address, a type, the bytes, a checksum.
+function end_of_hex_record(    length_told, sum, i) {
     if (substr(record, 1, 1) != ":") return tell_line("a record of Intel HEX begins with `:`" hint())
     if (record !~ /^:[0-9A-F]+$/) return tell_line("a character that is no hexadecimal digit" hint())
     if (length(record) < 11 || length(record) % 2 == 0) return tell_line("cut off: a record has `:`, ten digits and two for each byte" hint())
@@ -71,26 +76,25 @@ function end_of_line(    length_told, at, type, sum, i) {
     if (sum != pair_at(length(record) - 1)) {
         return tell_line(sprintf("the checksum is %s, and %02X would be right", substr(record, length(record) - 1), sum))
     }
-    at = hex_number(substr(record, 4, 4)) + ENVIRON["address"]
-    type = substr(record, 8, 2)
-    # Where a program begins, as linkers tell it: the 4004 begins at 000.
+    take_hex_record(length_told, hex_number(substr(record, 4, 4)) + ENVIRON["address"], substr(record, 8, 2))
+}
+
+function take_hex_record(size, at, type,    i) {
     if (type == "03" || type == "05") {
-        if (length_told != 4) return tell_line("a record of type " type " has four bytes")
-        record = ""
-        return
-    }
-    if (type == "00") {
-        if (at + length_told > 4096) return tell_line("past the last address, FFF")
-        for (i = 0; i < length_told; i++) {
+        # Where a program begins, as linkers tell it: the 4004 begins at 000.
+        if (size != 4) return tell_line("a record of type " type " has four bytes")
+    } else if (type == "00") {
+        if (at + size > 4096) return tell_line("past the last address, FFF")
+        for (i = 0; i < size; i++) {
             if ((at + i) in byte) return tell_line(sprintf("the address %03X, which an earlier line has", at + i))
             put(at + i, pair_at(10 + 2 * i))
             count++
         }
     } else if (type == "01") {
-        if (length_told != 0) return tell_line("a last record (type 01) has no bytes")
+        if (size != 0) return tell_line("a last record (type 01) has no bytes")
         ended = 1
     } else if (type == "02" || type == "04") {
-        if (length_told != 2) return tell_line("a record of type " type " has two bytes")
+        if (size != 2) return tell_line("a record of type " type " has two bytes")
         if (pair_at(10) + pair_at(12) != 0) return tell_line("type " type " with another value than 0: an address past FFF")
     } else {
         return tell_line("type " type ", which has no meaning for a 4004; only 00, 01, 03, 05, and 02 and 04 with 0 are taken")

@@ -52,12 +52,19 @@ function fault(what) {
 
 # --- a line in its parts: label[n], word[n] (in capitals), operand[n], comment[n] ---
 
-function take_apart(n,    rest, at, quote, i, c, first, second) {
+function take_apart(n,    rest) {
+    rest = take_label(n, cut_comment(n))
+    if (rest != "") take_statement(n, rest)
+    define(n)
+}
+
+# Keeps the comment of a line, and gives what stands before it.
+function cut_comment(n,    rest, quote, i, c) {
     rest = text[n]
     comment[n] = ""
     if (ended || rest ~ /^[*]/ || rest ~ /^\//) {
         comment[n] = ended ? rest : substr(rest, 2)
-        rest = ""
+        return ""
     }
     quote = ""
     for (i = 1; i <= length(rest); i++) {
@@ -71,6 +78,11 @@ function take_apart(n,    rest, at, quote, i, c, first, second) {
         }
     }
     sub(/[ \t]+$/, "", rest)
+    return rest
+}
+
+# Keeps the label of a line, and gives what stands behind it.
+function take_label(n, rest,    first) {
     label[n] = word[n] = operand[n] = ""
     if (match(rest, /^[ \t]*[A-Za-z_.?@][A-Za-z0-9_.?@$]*[ \t]*[:,]/)) {
         label[n] = trim(substr(rest, 1, RLENGTH - 1))
@@ -83,17 +95,16 @@ function take_apart(n,    rest, at, quote, i, c, first, second) {
             rest = substr(rest, RLENGTH + 1)
         }
     }
-    rest = trim(rest)
-    if (rest == "") {
-        define(n)
-        return
-    }
+    return trim(rest)
+}
+
+# Keeps what a line says behind its label: a word and its operands.
+function take_statement(n, rest,    at) {
     # `X = 5`, `X EQU 5`, with or without a colon.
     if (label[n] != "" && match(rest, /^(=|[Ee][Qq][Uu]|[Ss][Ee][Tt]|:=)([ \t]|$|[^A-Za-z0-9_=])/)) {
-        second = rest
-        sub(/^(=|:=|[A-Za-z]+)[ \t]*/, "", second)
         word[n] = "EQU"
-        operand[n] = second
+        sub(/^(=|:=|[A-Za-z]+)[ \t]*/, "", rest)
+        operand[n] = rest
     } else if (match(rest, /^[A-Za-z_.?@][A-Za-z0-9_.?@$]*[ \t]*(=|[ \t][Ee][Qq][Uu][ \t]|[ \t][Ss][Ee][Tt][ \t])/) && label[n] == "") {
         at = RLENGTH
         match(rest, /^[A-Za-z_.?@][A-Za-z0-9_.?@$]*/)
@@ -106,7 +117,6 @@ function take_apart(n,    rest, at, quote, i, c, first, second) {
         operand[n] = trim(substr(rest, RLENGTH + 1))
     }
     if (word[n] == "END") ended = 1
-    define(n)
 }
 
 function trim(text) {
@@ -267,14 +277,7 @@ function both(a, b,    is, bit) {
 function factor(    c, is, name) {
     skip()
     c = substr(source, place, 1)
-    if (c == "(") {
-        place++
-        is = sum()
-        skip()
-        if (substr(source, place, 1) != ")") wrong = "a bracket is missing"
-        place++
-        return is
-    }
+    if (c == "(") return bracketed()
     if (c == "-" || c == "+" || c == "<" || c == ">") {
         place++
         # `<` and `>` are of all that stands behind them.
@@ -286,11 +289,8 @@ function factor(    c, is, name) {
     rest_of = substr(source, place)
     if (match(rest_of, /^(LOW|HIGH|LO|HI|low|high|lo|hi)[ \t]*\(/)) {
         name = toupper(substr(rest_of, 1, 1))
-        place += RLENGTH
-        is = sum()
-        skip()
-        if (substr(source, place, 1) != ")") wrong = "a bracket is missing"
-        place++
+        place += RLENGTH - 1
+        is = bracketed()
         return name == "L" ? is % 256 : int(is / 256)
     }
     if (match(rest_of, /^'[^']'/) || match(rest_of, /^"[^"]"/)) {
@@ -307,17 +307,29 @@ function factor(    c, is, name) {
         place++
         return here_at
     }
-    if (match(rest_of, /^[A-Za-z_.?@][A-Za-z0-9_.?@$]*/)) {
-        place += RLENGTH
-        name = toupper(substr(rest_of, 1, RLENGTH))
-        if (!(name in defined_at)) {
-            if (wrong == "") wrong = "no line defines the name " substr(rest_of, 1, RLENGTH)
-        } else if (!(name in value)) known = 0
-        return name in value ? value[name] : 0
-    }
+    if (match(rest_of, /^[A-Za-z_.?@][A-Za-z0-9_.?@$]*/)) return named(substr(rest_of, 1, RLENGTH))
     if (wrong == "") wrong = c == "" ? "an operand is missing" : "`" substr(source, place) "` is not understood"
     place++
     return 0
+}
+
+function bracketed(    is) {
+    place++
+    is = sum()
+    skip()
+    if (substr(source, place, 1) != ")") wrong = "a bracket is missing"
+    place++
+    return is
+}
+
+# The value of a name; 0 where it is not known so far, or not defined.
+function named(spelled,    name) {
+    place += length(spelled)
+    name = toupper(spelled)
+    if (!(name in defined_at)) {
+        if (wrong == "") wrong = "no line defines the name " spelled
+    } else if (!(name in value)) known = 0
+    return name in value ? value[name] : 0
 }
 
 function number(word,    base, i, is) {

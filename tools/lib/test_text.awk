@@ -127,7 +127,7 @@ function add_steps(more) {
     if (reading_shared) shared_steps[shared_now] = steps_read
 }
 
-function read_step(words, count, line,    kind, i, name) {
+function read_step(words, count, line,    kind, i) {
     kind = words[1]
     i = ++step_count
     step_kind[i] = kind
@@ -140,21 +140,8 @@ function read_step(words, count, line,    kind, i, name) {
     if (kind == "end") return read_end(i, count)
     if (kind == "do") return read_do(i, words, count)
     add_steps(times_here())
-    if (kind == "from" || kind == "save") {
-        if (count != 2) return test_fault("it is written as `" kind " STATE`, a word")
-        if (kind == "save" && open_count > 0) return test_fault("a state is saved once: `save` stands in no `repeat`")
-        if (reading_shared) return test_fault("shared steps have no states: `" kind "` stands in a test")
-        name = step_name[i] = reading_count ":" words[2]
-        if (kind == "save") {
-            if (name in saved_by) return test_fault("the state " words[2] " is saved by the test before, `" test_name[saved_by[name]] "`")
-            saved_by[name] = test_count
-        } else {
-            if (i != first_step[test_count]) return test_fault("`from` stands right below `test`")
-            if (!(name in saved_by)) return test_fault("no test before it saves a state " words[2] states())
-            if (saved_by[name] == test_count) return test_fault("a test cannot begin with a state of its own")
-            from_state[test_count] = name
-        }
-    } else if (kind == "press" || kind == "release") {
+    if (kind == "from" || kind == "save") read_state(i, words, count)
+    else if (kind == "press" || kind == "release") {
         if (count < 2) return test_fault("it is written as `" kind " KEY ..`")
         step_keys[i] = keys_of(words, 2, count, 0)
     } else if (kind == "keys") {
@@ -174,6 +161,24 @@ function read_step(words, count, line,    kind, i, name) {
         if (count != 1) return test_fault("`" kind "` stands alone")
     } else if (kind == "set") read_set(i, words, count)
     else test_fault("no line of a test begins with `" substr(kind, 1, 30) "`; they begin with test, steps, from, save, press, release, keys, pace, run, until, expect, mark, set, reset, do, repeat or end")
+}
+
+# A state that a test begins with, or saves.
+function read_state(i, words, count,    kind, name) {
+    kind = step_kind[i]
+    if (count != 2) return test_fault("it is written as `" kind " STATE`, a word")
+    if (kind == "save" && open_count > 0) return test_fault("a state is saved once: `save` stands in no `repeat`")
+    if (reading_shared) return test_fault("shared steps have no states: `" kind "` stands in a test")
+    name = step_name[i] = reading_count ":" words[2]
+    if (kind == "save") {
+        if (name in saved_by) return test_fault("the state " words[2] " is saved by the test before, `" test_name[saved_by[name]] "`")
+        saved_by[name] = test_count
+        return
+    }
+    if (i != first_step[test_count]) return test_fault("`from` stands right below `test`")
+    if (!(name in saved_by)) return test_fault("no test before it saves a state " words[2] states())
+    if (saved_by[name] == test_count) return test_fault("a test cannot begin with a state of its own")
+    from_state[test_count] = name
 }
 
 function read_repeat(i, words, count,    is_count) {
@@ -367,7 +372,7 @@ function has_ram(place, bank, at, most, each_chip) {
 }
 
 # A condition, words[from] to words[to]; its number, or 0 with a fault.
-function condition_of(words, from, to,    c, word, i, text) {
+function condition_of(words, from, to,    c, word) {
     c = ++condition_count
     condition_not[c] = 0
     while (from <= to && words[from] == "not") {
@@ -376,28 +381,10 @@ function condition_of(words, from, to,    c, word, i, text) {
     }
     if (from > to) return bad_condition("a condition is missing")
     word = words[from]
-    text = word
-    for (i = from + 1; i <= to; i++) text = text " " words[i]
     condition_what[c] = word
     if (word == "lamps") return lamps_condition(c, words, from + 1, to)
-    if (word == "lamp") {
-        if (to != from + 2 || words[to] !~ /^(on|off)$/) return bad_condition("it is written as `lamp NAME on` or `lamp NAME off`")
-        if (!lamp_at(words[from + 1])) return 0
-        condition_kind[c] = "lamp"
-        condition_class[c] = "lamps"
-        condition_what[c] = "lamp " words[from + 1]
-        condition_place[c] = found_lamp
-        condition_want[c] = words[to]
-        return c
-    }
-    if (word == "display") {
-        if (!display_count) return bad_condition("the board's text names no display (`# display 0: 4 digits`)")
-        if (to == from) return bad_condition("it is written as `display TEXT`, as in: display -18")
-        condition_kind[c] = "display"
-        condition_class[c] = "lamps"
-        condition_want[c] = substr(text, 9)
-        return c
-    }
+    if (word == "lamp") return lamp_condition(c, words, from, to)
+    if (word == "display") return display_condition(c, words, from, to)
     if (word == "cycles") return cycles_condition(c, words, from + 1, to)
     if (word ~ /^@/) {
         if (to != from) return bad_condition("a label stands alone: @LABEL")
@@ -410,6 +397,27 @@ function condition_of(words, from, to,    c, word, i, text) {
     }
     if (word ~ /^rom[0-9]+$|^ram[0-9]+\.[0-9]+$|^chain[0-9]+$|^rom[0-9]+\.[0-9]+$|^ram[0-9]+\.[0-9]+\.[0-9]+$|^chain[0-9]+\.[0-9]+$/) return port_condition(c, words, from, to)
     return place_condition(c, words, from, to)
+}
+
+function lamp_condition(c, words, from, to) {
+    if (to != from + 2 || words[to] !~ /^(on|off)$/) return bad_condition("it is written as `lamp NAME on` or `lamp NAME off`")
+    if (!lamp_at(words[from + 1])) return 0
+    condition_kind[c] = "lamp"
+    condition_class[c] = "lamps"
+    condition_what[c] = "lamp " words[from + 1]
+    condition_place[c] = found_lamp
+    condition_want[c] = words[to]
+    return c
+}
+
+function display_condition(c, words, from, to,    i) {
+    if (!display_count) return bad_condition("the board's text names no display (`# display 0: 4 digits`)")
+    if (to == from) return bad_condition("it is written as `display TEXT`, as in: display -18")
+    condition_kind[c] = "display"
+    condition_class[c] = "lamps"
+    condition_want[c] = words[from + 1]
+    for (i = from + 2; i <= to; i++) condition_want[c] = condition_want[c] " " words[i]
+    return c
 }
 
 function bad_condition(what) {
@@ -478,55 +486,63 @@ function cycles_condition(c, words, from, to,    cycles) {
 }
 
 # `rom1 in 6`, `rom0 out 3`, `ram0.1 out 4`, `chain0 1100??????`, and single lines: `rom0.3 1`, `ram0.1.2 0`, `chain0.5 1`.
-function port_condition(c, words, from, to,    name, parts, count, value, way) {
-    name = words[from]
-    count = split(name, parts, ".")
-    sub(/^[a-z]+/, "", parts[1])
+function port_condition(c, words, from, to,    parts, count, value) {
+    count = split(words[from], parts, ".")
     value = number_of(words[to])
     condition_kind[c] = "port"
     condition_class[c] = "ports"
     condition_number[c] = value
     condition_want[c] = words[to]
-    if (name ~ /^rom/) {
-        if (!(parts[1] in rom_port)) return bad_condition("the board has no ROM " parts[1])
-        if (count == 1) {
-            way = words[from + 1]
-            if (to != from + 2 || way !~ /^(in|out)$/ || value < 0 || value > 15) return bad_condition("it is written as `" name " in VALUE` or `" name " out VALUE`, 0 to 15")
-            condition_place[c] = name " " way
-            condition_what[c] = name " " way
-            return c
-        }
-        if (parts[2] > 3 || to != from + 1 || value < 0 || value > 1) return bad_condition("it is written as `romC.K 0` or `romC.K 1`, K 0 to 3")
-        condition_kind[c] = "line"
-        condition_place[c] = "rom" parts[1] (substr(rom_port[parts[1]], 4 - parts[2], 1) == "i" ? " in" : " out")
-        condition_bit[c] = parts[2]
+    sub(/^[a-z]+/, "", parts[1])
+    if (words[from] ~ /^rom/) return rom_condition(c, words, from, to, parts, count, value)
+    if (words[from] ~ /^ram/) return ram_condition(c, words, from, to, parts, count, value)
+    return chain_condition(c, words, from, to, parts, count, value)
+}
+
+function rom_condition(c, words, from, to, parts, count, value,    way) {
+    if (!(parts[1] in rom_port)) return bad_condition("the board has no ROM " parts[1])
+    if (count == 1) {
+        way = words[from + 1]
+        if (to != from + 2 || way !~ /^(in|out)$/ || value < 0 || value > 15) return bad_condition("it is written as `" words[from] " in VALUE` or `" words[from] " out VALUE`, 0 to 15")
+        condition_place[c] = words[from] " " way
+        condition_what[c] = words[from] " " way
         return c
     }
-    if (name ~ /^ram/) {
-        if (!(parts[1] in ram_chips) || parts[2] >= ram_chips[parts[1]]) return bad_condition("the board has no RAM chip " parts[1] "." parts[2])
-        condition_bank[c] = parts[1]
-        condition_place[c] = parts[2]
-        if (count == 2) {
-            if (to != from + 2 || words[from + 1] != "out" || value < 0 || value > 15) return bad_condition("it is written as `" name " out VALUE`, 0 to 15")
-            condition_kind[c] = "ram port"
-            condition_what[c] = name " out"
-            return c
-        }
-        if (parts[3] > 3 || to != from + 1 || value < 0 || value > 1) return bad_condition("it is written as `ramB.C.K 0` or `ramB.C.K 1`, K 0 to 3")
-        condition_kind[c] = "ram line"
-        condition_bit[c] = parts[3]
+    if (parts[2] > 3 || to != from + 1 || value < 0 || value > 1) return bad_condition("it is written as `romC.K 0` or `romC.K 1`, K 0 to 3")
+    condition_kind[c] = "line"
+    condition_place[c] = "rom" parts[1] (substr(rom_port[parts[1]], 4 - parts[2], 1) == "i" ? " in" : " out")
+    condition_bit[c] = parts[2]
+    return c
+}
+
+function ram_condition(c, words, from, to, parts, count, value) {
+    if (!(parts[1] in ram_chips) || parts[2] >= ram_chips[parts[1]]) return bad_condition("the board has no RAM chip " parts[1] "." parts[2])
+    condition_bank[c] = parts[1]
+    condition_place[c] = parts[2]
+    if (count == 2) {
+        if (to != from + 2 || words[from + 1] != "out" || value < 0 || value > 15) return bad_condition("it is written as `" words[from] " out VALUE`, 0 to 15")
+        condition_kind[c] = "ram port"
+        condition_what[c] = words[from] " out"
         return c
     }
+    if (parts[3] > 3 || to != from + 1 || value < 0 || value > 1) return bad_condition("it is written as `ramB.C.K 0` or `ramB.C.K 1`, K 0 to 3")
+    condition_kind[c] = "ram line"
+    condition_bit[c] = parts[3]
+    return c
+}
+
+function chain_condition(c, words, from, to, parts, count, value,    bits, i) {
     if (!(parts[1] in chain_bits)) return bad_condition("the board has no chain " parts[1])
+    bits = chain_bits[parts[1]]
     condition_place[c] = "chain" parts[1]
     if (count == 1) {
         condition_kind[c] = "chain"
         condition_want[c] = ""
-        for (value = from + 1; value <= to; value++) condition_want[c] = condition_want[c] words[value]
-        if (condition_want[c] !~ /^[01?]+$/ || length(condition_want[c]) != chain_bits[parts[1]]) return bad_condition("chain " parts[1] " has " chain_bits[parts[1]] " bits, each 0, 1, or ? for any")
+        for (i = from + 1; i <= to; i++) condition_want[c] = condition_want[c] words[i]
+        if (condition_want[c] !~ /^[01?]+$/ || length(condition_want[c]) != bits) return bad_condition("chain " parts[1] " has " bits " bits, each 0, 1, or ? for any")
         return c
     }
-    if (parts[2] >= chain_bits[parts[1]] || to != from + 1 || value < 0 || value > 1) return bad_condition("it is written as `chainN.I 0` or `chainN.I 1`, and chain " parts[1] " has " chain_bits[parts[1]] " bits")
+    if (parts[2] >= bits || to != from + 1 || value < 0 || value > 1) return bad_condition("it is written as `chainN.I 0` or `chainN.I 1`, and chain " parts[1] " has " bits " bits")
     condition_kind[c] = "chain line"
     condition_bit[c] = parts[2]
     return c

@@ -528,20 +528,12 @@ function tell_failure(t, i, wrong,    n, lines, k) {
 
 # The last instructions of what was done, on a session that does it once more; the last cycles are done by steps. Keys and settings among
 # them have lines of their own.
-function last_instructions(lines,    left, k, from, n, count, begun) {
+function last_instructions(lines,    k, from, n, count, begun) {
     close_bench()
     count = done_count
-    left = 2 * traced + 2
-    begun = 0
-    from = 0
-    for (k = count; k > 0 && left > 0; k--) {
-        if (done_line[k] == "run") {
-            from = done_cycles[k] > left ? done_cycles[k] - left : 0
-            left -= done_cycles[k] - from
-        }
-        begun = k
-    }
+    begun = last_begun()
     if (!begun) return 0
+    from = last_from
     for (k = 1; k <= count; k++) {
         past_line[k] = done_line[k]
         past_cycles[k] = done_cycles[k]
@@ -572,4 +564,19 @@ function last_instructions(lines,    left, k, from, n, count, begun) {
     from = traced_count > traced + 1 ? traced_count - traced - 1 : 0
     for (k = 1; k <= traced_count - from; k++) lines[k] = traced_line[k + from]
     return traced_count - from
+}
+
+# Of what was done the number of that with which the last instructions begin, 0 where nothing was; of its cycles `last_from` stand before.
+function last_begun(    left, k, begun) {
+    left = 2 * traced + 2
+    begun = 0
+    last_from = 0
+    for (k = done_count; k > 0 && left > 0; k--) {
+        if (done_line[k] == "run") {
+            last_from = done_cycles[k] > left ? done_cycles[k] - left : 0
+            left -= done_cycles[k] - last_from
+        }
+        begun = k
+    }
+    return begun
 }
