@@ -98,7 +98,7 @@ function with_bit(digit, at, bit,    value) {
 }
 
 # Makes known (`now` and so on, in bench.awk) that a place has a value.
-function take_place(name, value,    parts, port) {
+function take_place(name, value,    parts) {
     split(name, parts, ".")
     if (name ~ /^r[0-9]/) now["r"] = with_character(now["r"], substr(name, 2), value)
     else if (name == "lamps") now[name] = value == "-" ? "" : value
@@ -107,10 +107,16 @@ function take_place(name, value,    parts, port) {
         now[name] = value
     } else if (parts[1] == "ram") ram[parts[2], parts[3]] = value
     else if (parts[1] == "st") status[parts[2], parts[3], parts[4]] = value
-    else if (name ~ /^chain/) now[parts[1]] = with_character(now[parts[1]], parts[2], value)
-    else if (name ~ /^rom/) {
-        port = parts[1] (substr(rom_port[substr(parts[1], 4)], 4 - parts[2], 1) == "i" ? " in" : " out")
-        now[port] = with_bit(now[port], parts[2], value)
-    } else if (name ~ /^ram/) ram_out[substr(parts[1], 4), parts[2]] = with_bit(ram_out[substr(parts[1], 4), parts[2]], parts[3], value)
+    else if (name ~ /^rom/) take_levels(name, hex_number(value), rom_port[substr(name, 4)])
+    else if (name ~ /^ram/) ram_out[substr(parts[1], 4), parts[2]] = value
     else now[name] = value
+}
+
+# Of a ROM's lines those that are outputs have what is put out, the others what comes in.
+function take_levels(rom, levels, directions,    k, way) {
+    for (k = 0; k < 4; k++) {
+        way = rom (substr(directions, 4 - k, 1) == "i" ? " in" : " out")
+        now[way] = with_bit(now[way], k, levels % 2)
+        levels = int(levels / 2)
+    }
 }

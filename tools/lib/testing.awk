@@ -398,17 +398,13 @@ function add_places_of(c,    kind, place, bank, bit, k) {
     else if (kind == "at") add_place("pc")
     else if (kind == "ram") for (k = 0; k < bit; k++) add_place("ram." bank "." place + k)
     else if (kind == "status") add_place("st." bank "." place "." bit)
-    else if (kind == "ram port") for (k = 0; k < 4; k++) add_place("ram" bank "." place "." k)
-    else if (kind == "ram line") add_place("ram" bank "." place "." bit)
-    else if (kind == "chain") {
-        for (k = 0; k < length(condition_want[c]); k++) if (substr(condition_want[c], k + 1, 1) != "?") add_place(place "." k)
-    } else if (kind == "register") {
+    else if (kind ~ /^ram (port|line)$/) add_place("ram" bank "." place)
+    else if (kind == "register") {
         if (place !~ /^(test|owed)$/) add_place(place)
     } else {
-        # A ROM's port, `rom0 in` or `rom0 out`, or a line of it, or a bit of a chain.
+        # A ROM's port, `rom0 in` or `rom0 out`, a chain, or a line of them.
         sub(/ .*/, "", place)
-        if (kind == "port") for (k = 0; k < 4; k++) add_place(place "." k)
-        else add_place(place "." bit)
+        add_place(place)
     }
 }
 

@@ -137,13 +137,9 @@ function choose_places(    writes, i, b, c, k) {
     for (b = 0; b < 8; b++) {
         for (c = 0; c < ram_chips[b]; c++) choose_places_of_chip(b, c, writes)
     }
-    for (c = 0; ("E2" in writes) && c < 16; c++) {
-        for (k = 0; (c in rom_port) && k < 4; k++) if (substr(rom_port[c], 4 - k, 1) != "i") add_place("rom" c "." k)
-    }
+    for (c = 0; ("E2" in writes) && c < 16; c++) if ((c in rom_port) && rom_port[c] != "iiii") add_place("rom" c)
     # Any port may clock a chain.
-    for (c = 0; (("E1" in writes) || ("E2" in writes)) && c < chain_count; c++) {
-        for (k = 0; k < chain_bits[c]; k++) add_place("chain" c "." k)
-    }
+    for (c = 0; (("E1" in writes) || ("E2" in writes)) && c < chain_count; c++) add_place("chain" c)
     add_place("lamps")
 }
 
@@ -152,29 +148,25 @@ function choose_places_of_chip(b, c, writes,    i, k) {
     for (k = 0; k < 4; k++) {
         if (("E" (4 + k)) in writes) for (i = 0; i < 4; i++) add_place("st." b "." c * 4 + i "." k)
     }
-    if ("E1" in writes) for (k = 0; k < 4; k++) add_place("ram" b "." c "." k)
+    if ("E1" in writes) add_place("ram" b "." c)
 }
 
-# What an instruction changes of them; of a port or a chain the whole, once.
-function changed_places(cycle,    i, text, change) {
+# What an instruction changes of them.
+function changed_places(cycle,    i, change) {
     take_event(cycle)
-    change = told_place = ""
-    for (i = 1; i <= changed_count; i++) take_place(place_name[changed_place[i]], place_value[changed_place[i]])
-    for (i = 1; i <= changed_count; i++) change = change told_change(place_name[changed_place[i]])
+    change = ""
+    for (i = 1; i <= changed_count; i++) change = change told_change(place_name[changed_place[i]], place_value[changed_place[i]])
     return change
 }
 
-function told_change(name,    parts) {
-    split(name, parts, ".")
-    if (parts[1] == "ram") return sprintf(" ram.%d.0x%02X %s", parts[2], parts[3], ram[parts[2], parts[3]])
-    if (parts[1] == "st") return " " name " " status[parts[2], parts[3], parts[4]]
-    if (name ~ /^r[0-9]/) return " " name " " substr(now["r"], substr(name, 2) + 1, 1)
-    if (name !~ /^(rom|ram|chain)/) return " " name " " now[name]
-    name = name ~ /^ram/ ? substr(parts[1], 4) "." parts[2] : parts[1]
-    if (name == told_place) return ""
-    told_place = name
-    if (parts[1] ~ /^ram/) return " out " name " " ram_out[substr(parts[1], 4), parts[2]]
-    return " " name (parts[1] ~ /^rom/ ? " out " now[name " out"] : " " now[name])
+# Of a ROM what is put out, if that has changed, and not only what comes in.
+function told_change(name, value,    before, parts) {
+    before = now[name " out"]
+    take_place(name, value)
+    if (name ~ /^rom/) return now[name " out"] == before ? "" : " " name " out " now[name " out"]
+    if (name ~ /^ram[0-9]/) return " out " substr(name, 4) " " value
+    if (split(name, parts, ".") == 3) return sprintf(" ram.%d.0x%02X %s", parts[2], parts[3], value)
+    return " " name " " (name ~ /^(ret|lamps)$/ ? now[name] : value)
 }
 
 function last_line(rest,    digits) {
