@@ -2,10 +2,13 @@
 import assert from "node:assert/strict";
 import { readFileSync } from "node:fs";
 import { test } from "node:test";
+import { refusalOf } from "../src/bench/answers.js";
+import { LINE_NAMES, MOST, MOST_COLUMNS, RANGES, linesOf } from "../src/bench/board_form.js";
 import { readBoardText } from "../src/text/board_reader.js";
 import { faultsOfBoard } from "../src/text/board_words.js";
 import { completeBoard } from "../src/text/board_completion.js";
 import { commentAt } from "../src/text/text_fault.js";
+import { begin } from "./page_session.js";
 import { boardTables, helpForBoard, tableAt } from "../src/text/text_help.js";
 
 const told = (text) => faultsOfBoard(text).map(({ number, line, words }) => `${line}: ${number} ${words}`);
@@ -17,6 +20,51 @@ test("the boards of the examples are right", () => {
   for (const name of ["calculator", "three_lamps"]) {
     assert.deepEqual(told(readFileSync(new URL(`../../examples/${name}/board.toml`, import.meta.url), "utf8")), []);
   }
+});
+
+test("what a board can have is what the bench takes, to each edge", async () => {
+  const calls = await begin("three lamps");
+  const numberOf = async (text) => (refusalOf((await calls.serve(`wire\n${text}.\n`)).first) || { number: 0 }).number;
+  const rom = (chip, port = "0000") => `[[rom]]\nchip = ${chip}\nport = "${port}"\n`;
+  const chain = (chips) => `[[chain]]\nclock = "rom8.0"\ndata = "rom8.1"\nchips = ${chips}\n`;
+  const keys = (columns, values = {}) => {
+    const all = { chain: 0, first: 0, rows: 1, ...values };
+    return `[keys]\n${Object.keys(all).map((key) => `${key} = ${all[key]}\n`).join("")}columns = [${columns.join(", ")}]\n`;
+  };
+  const column = '"rom7.0"';
+  const roms = rom(7, "iiii") + rom(8);
+  const boards = {
+    "rom.chip": (value) => rom(value), "ram.bank": (value) => `[[ram]]\nbank = ${value}\nchips = 1\n`,
+    "ram.chips": (value) => `[[ram]]\nbank = 0\nchips = ${value}\n`, "chain.chips": (value) => roms + chain(value),
+    "keys.chain": (value) => roms + chain(1).repeat(4) + keys([column], { chain: value }),
+    "keys.first": (value) => roms + chain(8) + keys([column], { first: value }),
+    "keys.rows": (value) => roms + chain(1) + keys([column], { rows: value }),
+  };
+  assert.deepEqual(Object.keys(boards), Object.keys(RANGES));
+  for (const [key, { from, to }] of Object.entries(RANGES)) {
+    const numbers = [];
+    for (const value of [from - 1, from, to, to + 1]) numbers.push(await numberOf(boards[key](value)));
+    assert.deepEqual(numbers, [23, 0, 0, 23], key);
+  }
+  const counted = {
+    rom: (count) => Array.from({ length: count }, (_, chip) => rom(Math.min(15, chip))).join(""),
+    ram: (count) => Array.from({ length: count }, (_, bank) => boards["ram.bank"](Math.min(7, bank))).join(""),
+    chain: (count) => roms + chain(1).repeat(count), lamp: (count) => roms + '[[lamp]]\nline = "rom8.0"\n'.repeat(count),
+  };
+  for (const [kind, most] of Object.entries(MOST)) {
+    assert.deepEqual([await numberOf(counted[kind](most)), await numberOf(counted[kind](most + 1))], [0, 27], kind);
+  }
+  const columns = (count) => roms + chain(1) + keys(Array(count).fill(column));
+  assert.deepEqual([await numberOf(columns(MOST_COLUMNS)), await numberOf(columns(MOST_COLUMNS + 1))], [0, 27]);
+  const largest = counted.rom(16) + counted.ram(8).replace(/chips = 1/g, "chips = 4") + chain(8).repeat(4);
+  const lamp = (line) => `${largest}[[lamp]]\nline = "${line}"\n`;
+  for (const line of LINE_NAMES) assert.equal(await numberOf(lamp(line)), 0, line);
+  const others = ["rom16.0", "rom0.4", "rom01.0", "ram8.0.0", "ram0.4.0", "ram0.0.4", "chain4.0", "chain0.80", "chain0.00", "rom0", ""];
+  for (const line of others) {
+    assert.deepEqual([LINE_NAMES.has(line), await numberOf(lamp(line))], [false, 23], line);
+  }
+  const lines = linesOf({ roms: [{ chip: 3, port: "i001" }], banks: [], chains: [] });
+  assert.deepEqual(lines.map(({ name, isInput }) => `${name} ${isInput}`), ["rom3.0 false", "rom3.1 false", "rom3.2 false", "rom3.3 true"]);
 });
 
 test("what is not TOML", () => {

@@ -1,9 +1,10 @@
 // What is done to a board that is drawn, as edits of its text: (text, act) -> edits, or a refusal in words. Nothing here touches a
 // document, and whether the text that comes of it is right the bench alone says.
 
+import { linesOf } from "../bench/board_form.js";
 import { readBoard } from "../bench/answers.js";
 import { Face } from "../board/face.js";
-import { bitOf, linesOf, mayWire, nameOfTarget, readTarget, wiringOf } from "./board_lines.js";
+import { bitOf, mayWire, nameOfTarget, readTarget, wiringOf } from "./board_lines.js";
 import {
   INPUTS, OUTPUTS, addChain, addColumn, addDisplay, addKeys, addLamp, addRam, addRom, addScanned, keepOutputs, nameOfPart, needRom,
   setChips, setRows,
@@ -97,7 +98,7 @@ function wire(sketch, name, target) {
 
 /**
  * Why a line cannot be wired to what takes one.
- * @param {import("./board_lines.js").BoardLine} line
+ * @param {import("../bench/board_form.js").BoardLine} line
  * @param {string} target
  */
 function whyNot({ name, kind, isInput }, target) {

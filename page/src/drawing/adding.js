@@ -4,8 +4,7 @@ import { upTo } from "../bench/numbers.js";
 import { Face } from "../board/face.js";
 import { linesOfPrinter } from "../board/face_board.js";
 import { limit } from "../board/face_words.js";
-import { BITS, MOST } from "../text/board_parts.js";
-import { RANGES } from "../text/board_words.js";
+import { BITS, MOST, MOST_COLUMNS, RANGES } from "../bench/board_form.js";
 import { addGroup, colourLamp } from "./face_edits.js";
 import { bitOf, freeLines, wiringOf } from "./board_lines.js";
 import { addPart, appendElement, setValue, written } from "./part_edits.js";
@@ -18,8 +17,6 @@ import { ActRefusal } from "./sketch.js";
 
 export const OUTPUTS = "0000";
 export const INPUTS = "iiii";
-/** A key matrix has so many columns at most. */
-export const MOST_COLUMNS = 8;
 const LINES_OF_DIGIT = { digit: 4, segments: 7 };
 
 /**

@@ -2,6 +2,7 @@
 // alone says whether that is right: what it answers to `board` is compared with `told`, and a text that is read otherwise is not edited.
 
 import { readBoard } from "../bench/answers.js";
+import { KEYS, KINDS } from "../bench/board_form.js";
 import { readBoardText } from "../text/board_reader.js";
 
 /**
@@ -10,19 +11,8 @@ import { readBoardText } from "../text/board_reader.js";
  * @typedef {import("../text/board_reader.js").Entry} Entry
  * @typedef {import("../text/board_reader.js").Key} Key
  * @typedef {import("../text/board_reader.js").Value} Value
- * @typedef {"rom" | "ram" | "chain" | "keys" | "lamp"} Kind
+ * @typedef {import("../bench/board_form.js").Kind} Kind
  */
-
-/**
- * The keys of each kind of part, in the order in which the bench writes them.
- * @type {Record<Kind, string[]>}
- */
-export const KEYS = {
-  rom: ["chip", "port"], ram: ["bank", "chips"], chain: ["clock", "data", "chips"], keys: ["chain", "first", "rows", "columns"],
-  lamp: ["line"],
-};
-/** @type {Kind[]} */
-export const KINDS = ["rom", "ram", "chain", "keys", "lamp"];
 
 /**
  * What a value says, as the bench writes it.

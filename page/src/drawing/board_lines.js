@@ -1,42 +1,16 @@
 // The lines of a board, what is at each of them, and which may be wired to what. What may be is what the bench takes: the unit test asks it
 // about each pair.
 
+import { BITS, linesOf } from "../bench/board_form.js";
 import { upTo } from "../bench/numbers.js";
-import { BITS } from "../text/board_parts.js";
 
 /**
  * @typedef {import("../bench/answers.js").Board} Board
- *
- * A line by its name: of a ROM's or a RAM chip's port, or a bit of a chain.
- * @typedef {{ name: string, kind: "rom" | "ram" | "bit", isInput: boolean }} BoardLine
+ * @typedef {import("../bench/board_form.js").BoardLine} BoardLine
  *
  * What takes a line: `clock 0` and `data 0` of a chain, `row 1` and `column 2` of the keys, `lamp 3`.
  * @typedef {string} Target
  */
-
-const LINES_OF_PORT = upTo(4);
-
-/**
- * All lines of a board, ROMs first, then RAM, then chains.
- * @param {Board} board
- * @returns {BoardLine[]}
- */
-export function linesOf({ roms, banks, chains }) {
-  /** @type {BoardLine[]} */
-  const lines = [];
-  for (const { chip, port } of roms) {
-    for (const at of LINES_OF_PORT) lines.push({ name: `rom${chip}.${at}`, kind: "rom", isInput: port[3 - at] === "i" });
-  }
-  for (const { bank, chips } of banks) {
-    for (const chip of upTo(chips)) {
-      for (const at of LINES_OF_PORT) lines.push({ name: `ram${bank}.${chip}.${at}`, kind: "ram", isInput: false });
-    }
-  }
-  chains.forEach(({ chips }, chain) => {
-    for (const bit of upTo(BITS * chips)) lines.push({ name: `chain${chain}.${bit}`, kind: "bit", isInput: false });
-  });
-  return lines;
-}
 
 /**
  * All that takes a line, with the line that it takes.

@@ -2,10 +2,11 @@
 // before it is an edit of the board's text; the picture is of what the bench answers.
 
 import { readBoard, refusalOf } from "../bench/answers.js";
+import { linesOf } from "../bench/board_form.js";
 import { Face } from "../board/face.js";
 import { sentText } from "../text/text_fault.js";
 import { SHELF, actOn, isReadAlike, whyNotAdded } from "./acts.js";
-import { linesOf, nameOfTarget, sourcesOf, targetsOf, wiringOf } from "./board_lines.js";
+import { nameOfTarget, sourcesOf, targetsOf, wiringOf } from "./board_lines.js";
 import { fieldsOf } from "./fields.js";
 
 /**

@@ -3,9 +3,9 @@
 
 import { upTo } from "../bench/numbers.js";
 import { COLOURS } from "../board/face_words.js";
-import { RANGES } from "../text/board_words.js";
+import { RANGES, linesOf } from "../bench/board_form.js";
 import { displayAt, lampsWith } from "./deleting.js";
-import { linesOf, nameOfTarget, readTarget, sourcesOf, wiringOf } from "./board_lines.js";
+import { nameOfTarget, readTarget, sourcesOf, wiringOf } from "./board_lines.js";
 
 /**
  * @typedef {import("../bench/answers.js").Board} Board

@@ -1,11 +1,11 @@
 // How a part comes into a board's text, and goes from it: comments stay, and what is added is written as what stands there is.
 
 import { tomlWords } from "../text/toml_words.js";
-import { KEYS } from "./board_draft.js";
+import { KEYS } from "../bench/board_form.js";
 
 /**
  * @typedef {import("./board_draft.js").BoardDraft} BoardDraft
- * @typedef {import("./board_draft.js").Kind} Kind
+ * @typedef {import("../bench/board_form.js").Kind} Kind
  * @typedef {import("./text_edits.js").TextEdit} TextEdit
  * @typedef {import("../text/board_reader.js").Entry} Entry
  * @typedef {import("../text/board_reader.js").Value} Value

@@ -1,83 +1,44 @@
 // What a word of a board's text that is being typed can become: a part with all its keys, a key, or a value, of the lines that the board
 // has so far.
 
-import { readBoardText } from "./board_reader.js";
+import { MOST, linesOf } from "../bench/board_form.js";
+import { upTo } from "../bench/numbers.js";
+import { partsWithLines, readBoardText } from "./board_reader.js";
 import { alone, fitting } from "./completion.js";
 import { tableAt } from "./text_help.js";
 import { commentAt } from "./text_fault.js";
 
 /**
- * @typedef {import("./board_reader.js").Entry} Entry
  * @typedef {import("./completion.js").Completion} Completion
  * @typedef {import("./completion.js").Fitting} Fitting
- * @typedef {{ text: string, what: string, isInput: boolean }} BoardLine a line that may be wired, by its name
+ * @typedef {import("../bench/board_form.js").BoardLine} BoardLine
  */
 
-const BITS_OF_PORT = [0, 1, 2, 3];
-const BITS_OF_CHIP = 10;
-const MOST_OF = { chip: 16, bank: 8 };
 /** What stands before the caret where a value is typed: its key, an array that is open, a quote that is open, and the value so far. */
 const VALUE = /(\w+)\s*=\s*(?:\[(?:[^\][\]"]|"[^"\n]*")*)?("?)([\w.]*)$/;
 
 /**
- * @param {number} most
- * @returns {number[]}
+ * What a line is, in words.
+ * @param {BoardLine} line
  */
-function upTo(most) {
-  return [...Array(most).keys()];
+function wordsOfLine({ name, kind, isInput }) {
+  const [first, second, third] = name.match(/\d+/g) || [];
+  if (kind === "rom") return `${isInput ? "input" : "output"} line ${second} of ROM ${first}`;
+  return kind === "ram" ? `line ${third} of RAM chip ${second} in bank ${first}` : `bit ${second} of chain ${first}`;
 }
 
 /** The parts of a board's text, as far as it can be read. */
 class Parts {
   /** @param {string} text */
   constructor(text) {
-    this.entries = readBoardText(text).entries;
-  }
-
-  /**
-   * The values of a key, in the order of their tables.
-   * @param {string} table
-   * @param {string} key
-   */
-  valuesOf(table, key) {
-    return this.entries.filter((entry) => entry.table === table).map(({ keys }) => {
-      const found = keys.find(({ name }) => name === key);
-      return found ? found.value.inner : "";
-    });
-  }
-
-  /**
-   * The numbers that no part has yet.
-   * @param {string} table
-   * @param {"chip" | "bank"} key
-   */
-  free(table, key) {
-    const taken = this.valuesOf(table, key);
-    return upTo(MOST_OF[key]).filter((number) => !taken.includes(number));
-  }
-
-  /** @returns {BoardLine[]} the lines of the ports of ROMs */
-  romLines() {
-    const ports = this.valuesOf("rom", "port");
-    return this.valuesOf("rom", "chip").flatMap((chip, at) => BITS_OF_PORT.map((bit) => {
-      const isInput = String(ports[at])[3 - bit] === "i";
-      return { text: `rom${chip}.${bit}`, what: `${isInput ? "input" : "output"} line ${bit} of ROM ${chip}`, isInput };
-    }));
-  }
-
-  /** @returns {BoardLine[]} the lines of the ports of RAM chips */
-  ramLines() {
-    const chips = this.valuesOf("ram", "chips");
-    const linesOf = (/** @type {unknown} */ bank, /** @type {number} */ chip) => BITS_OF_PORT.map((bit) => (
-      { text: `ram${bank}.${chip}.${bit}`, what: `line ${bit} of RAM chip ${chip} in bank ${bank}`, isInput: false }));
-    return this.valuesOf("ram", "bank").flatMap((bank, at) => (
-      upTo(Math.min(4, Number(chips[at]) || 0)).flatMap((chip) => linesOf(bank, chip))));
-  }
-
-  /** @returns {BoardLine[]} the bits of chains */
-  chainBits() {
-    return this.valuesOf("chain", "chips").flatMap((chips, chain) => upTo(BITS_OF_CHIP * Math.min(8, Number(chips) || 0)).map((bit) => (
-      { text: `chain${chain}.${bit}`, what: `bit ${bit} of chain ${chain}`, isInput: false })));
+    const { roms, banks, chains } = partsWithLines(readBoardText(text).entries);
+    this.chips = upTo(MOST.rom).filter((number) => !roms.some(({ chip }) => chip === number));
+    this.banks = upTo(MOST.ram).filter((number) => !banks.some(({ bank }) => bank === number));
+    this.chains = upTo(chains.length);
+    const lines = linesOf({ roms, banks, chains });
+    this.inputs = lines.filter(({ isInput }) => isInput);
+    this.bits = lines.filter(({ kind }) => kind === "bit");
+    this.outputs = lines.filter(({ kind, isInput }) => kind !== "bit" && !isInput);
   }
 
   /**
@@ -87,17 +48,17 @@ class Parts {
    * @returns {{ list: Fitting[], isQuoted: boolean }}
    */
   values(table, key) {
-    const lines = (/** @type {BoardLine[]} */ all, isInput = false) => (
-      { list: all.filter((line) => line.isInput === isInput), isQuoted: true });
+    const lines = (/** @type {BoardLine[]} */ all) => (
+      { list: all.map((line) => ({ text: line.name, what: wordsOfLine(line) })), isQuoted: true });
     const numbers = (/** @type {number[]} */ list) => ({ list: alone(list.map(String)), isQuoted: false });
     switch (`${table}.${key}`) {
-      case "rom.chip": return numbers(this.free("rom", "chip"));
-      case "ram.bank": return numbers(this.free("ram", "bank"));
+      case "rom.chip": return numbers(this.chips);
+      case "ram.bank": return numbers(this.banks);
       case "rom.port": return { list: [{ text: "iiii", what: "input lines" }, { text: "0000", what: "output lines" }], isQuoted: true };
-      case "chain.clock": case "chain.data": return lines([...this.romLines(), ...this.ramLines()]);
-      case "lamp.line": return lines([...this.romLines(), ...this.ramLines(), ...this.chainBits()]);
-      case "keys.columns": return lines(this.romLines(), true);
-      case "keys.chain": return numbers(upTo(this.valuesOf("chain", "chips").length));
+      case "chain.clock": case "chain.data": return lines(this.outputs);
+      case "lamp.line": return lines([...this.outputs, ...this.bits]);
+      case "keys.columns": return lines(this.inputs);
+      case "keys.chain": return numbers(this.chains);
       default: return numbers([]);
     }
   }
@@ -107,14 +68,13 @@ class Parts {
    * @returns {Fitting[]}
    */
   templates() {
-    const outputs = this.romLines().filter(({ isInput }) => !isInput).concat(this.ramLines()).map(({ text }) => text);
-    const [input] = this.romLines().filter(({ isInput }) => isInput);
-    const [clock = "", data = ""] = outputs;
+    const [input] = this.inputs;
+    const [clock = "", data = ""] = this.outputs.map(({ name }) => name);
     return [
-      { text: `[[rom]]\nchip = ${this.free("rom", "chip")[0]}\nport = "0000"`, what: "a ROM with its port" },
-      { text: `[[ram]]\nbank = ${this.free("ram", "bank")[0]}\nchips = 1`, what: "a bank of RAM chips" },
+      { text: `[[rom]]\nchip = ${this.chips[0]}\nport = "0000"`, what: "a ROM with its port" },
+      { text: `[[ram]]\nbank = ${this.banks[0]}\nchips = 1`, what: "a bank of RAM chips" },
       { text: `[[chain]]\nclock = "${clock}"\ndata = "${data}"\nchips = 1`, what: "a chain of shift registers" },
-      { text: `[keys]\nchain = 0\nfirst = 0\nrows = 4\ncolumns = ["${input ? input.text : ""}"]`, what: "the key matrix" },
+      { text: `[keys]\nchain = 0\nfirst = 0\nrows = 4\ncolumns = ["${input ? input.name : ""}"]`, what: "the key matrix" },
       { text: `[[lamp]]\nline = "${clock}"`, what: "a lamp" },
     ].filter(({ text }) => !text.includes("undefined"));
   }

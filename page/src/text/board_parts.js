@@ -1,6 +1,9 @@
 // What is wrong between the parts of a board: parts that are there twice or too often, lines that it lacks, and lines of the wrong
 // direction. The text itself is right so far.
 
+import { BITS, MOST } from "../bench/board_form.js";
+import { partsWithLines } from "./board_reader.js";
+
 /**
  * @typedef {import("./board_reader.js").Entry} Entry
  * @typedef {import("./board_reader.js").Value} Value
@@ -8,15 +11,8 @@
  * @typedef {{ line: number, from: number, to: number }} Place
  */
 
-/**
- * How many of each kind a board has at most.
- * @type {Record<string, number>}
- */
-export const MOST = { rom: 16, ram: 8, chain: 4, lamp: 64 };
 /** @type {Record<string, string>} */
 const NUMBERS = { rom: "chip", ram: "bank" };
-/** So many bits a chain has for each chip. */
-export const BITS = 10;
 
 /**
  * @param {number} number
@@ -32,19 +28,11 @@ function fault(number, { line, from, to }, words) {
 class Parts {
   /** @param {Entry[]} entries */
   constructor(entries) {
-    this.entries = entries;
-    /** @type {Map<number, string>} the ports of the ROMs */
-    this.ports = new Map();
-    /** @type {Map<number, number>} how many chips each bank has */
-    this.banks = new Map();
-    /** @type {number[]} how many chips each chain has */
-    this.chains = [];
-    for (const { table, keys } of entries) {
-      const values = new Map(keys.map(({ name, value }) => [name, value.inner]));
-      if (table === "rom") this.ports.set(Number(values.get("chip")), String(values.get("port")));
-      if (table === "ram") this.banks.set(Number(values.get("bank")), Number(values.get("chips")));
-      if (table === "chain") this.chains.push(Number(values.get("chips")));
-    }
+    const { roms, banks, chains } = partsWithLines(entries);
+    /** The ports of the ROMs, and how many chips each bank has, and each chain. */
+    this.ports = new Map(roms.map(({ chip, port }) => [chip, port]));
+    this.banks = new Map(banks.map(({ bank, chips }) => [bank, chips]));
+    this.chains = chains.map(({ chips }) => chips);
   }
 
   /**

@@ -1,6 +1,7 @@
 // A board's text, read as far as it is TOML of the form that boards have, with the place of each key and value; what is not is told. The
 // bench alone says whether a text is right: this finds the words for what it refuses.
 
+import { RANGES } from "../bench/board_form.js";
 import { tomlWords } from "./toml_words.js";
 
 /**
@@ -233,4 +234,21 @@ export function readBoardText(text) {
   reader.read();
   const { entries, others, keys, faults } = reader;
   return { entries, others, keys, faults };
+}
+
+/**
+ * The parts that have lines, as far as the text tells them; of chips no more than there can be.
+ * @param {Entry[]} entries
+ */
+export function partsWithLines(entries) {
+  /** @type {(table: string) => Map<string, Inner>[]} */
+  const of = (table) => entries.filter((entry) => entry.table === table).map(({ keys }) => (
+    new Map(keys.map(({ name, value }) => [name, value.inner]))));
+  /** @type {(table: string, values: Map<string, Inner>) => number} */
+  const chipsOf = (table, values) => Math.min(RANGES[`${table}.chips`].to, Number(values.get("chips")) || 0);
+  return {
+    roms: of("rom").map((values) => ({ chip: Number(values.get("chip")), port: String(values.get("port")) })),
+    banks: of("ram").map((values) => ({ bank: Number(values.get("bank")), chips: chipsOf("ram", values) })),
+    chains: of("chain").map((values) => ({ chips: chipsOf("chain", values) })),
+  };
 }

@@ -1,5 +1,6 @@
 // What is wrong in a board's text that the bench has refused: all of it, each with its place and what was expected.
 
+import { KEYS, LINE_NAMES, MOST_COLUMNS, RANGES } from "../bench/board_form.js";
 import { meant, mostAlike } from "./alike.js";
 import { faultsOfParts } from "./board_parts.js";
 import { readBoardText } from "./board_reader.js";
@@ -12,17 +13,6 @@ import { readBoardText } from "./board_reader.js";
  * @typedef {import("./text_fault.js").Fault} Fault
  */
 
-/** @type {Record<string, { from: number, to: number }>} whole numbers, by table and key */
-export const RANGES = {
-  "rom.chip": { from: 0, to: 15 }, "ram.bank": { from: 0, to: 7 }, "ram.chips": { from: 1, to: 4 }, "chain.chips": { from: 1, to: 8 },
-  "keys.chain": { from: 0, to: 3 }, "keys.first": { from: 0, to: 79 }, "keys.rows": { from: 1, to: 10 },
-};
-/** @type {Record<string, string[]>} the keys of each table */
-export const TOML_KEYS = {
-  rom: ["chip", "port"], ram: ["bank", "chips"], chain: ["clock", "data", "chips"], lamp: ["line"],
-  keys: ["chain", "first", "rows", "columns"],
-};
-const LINE = /^(rom(\d|1[0-5])\.[0-3]|ram[0-7]\.[0-3]\.[0-3]|chain[0-3]\.(\d|[1-7]\d))$/;
 const LINE_FORMS = "rom1.0, ram0.0.3 or chain0.5";
 
 /**
@@ -78,7 +68,7 @@ function wordsOfValue(table, { name, value }) {
  * @param {Value} value
  */
 function wordsOfLine(name, { inner }) {
-  return typeof inner === "string" && LINE.test(inner) ? "" : `${name} is the name of a line, in quotes: ${LINE_FORMS}`;
+  return typeof inner === "string" && LINE_NAMES.has(inner) ? "" : `${name} is the name of a line, in quotes: ${LINE_FORMS}`;
 }
 
 /**
@@ -88,18 +78,18 @@ function wordsOfLine(name, { inner }) {
  */
 function faultsOfKey({ table }, key) {
   const kind = table.replace(/[[\]]/g, "");
-  if (!TOML_KEYS[kind].includes(key.name)) {
-    const likes = mostAlike(key.name, TOML_KEYS[kind]);
-    const words = `${key.name} is no key of ${kind}${meant(likes) || `, which has ${TOML_KEYS[kind].join(", ")}`}`;
+  if (!KEYS[kind].includes(key.name)) {
+    const likes = mostAlike(key.name, KEYS[kind]);
+    const words = `${key.name} is no key of ${kind}${meant(likes) || `, which has ${KEYS[kind].join(", ")}`}`;
     return [curable(faultAt(21, key, words), likes)];
   }
   const words = wordsOfValue(kind, key);
   if (words) return [faultAt(23, key.value, words)];
   if (key.name !== "columns" || !Array.isArray(key.value.inner)) return [];
-  const [ninth] = key.value.inner.slice(8);
+  const [ninth] = key.value.inner.slice(MOST_COLUMNS);
   const bad = key.value.inner.map((value) => ({ value, words: wordsOfLine("a column", value) })).filter((each) => each.words);
   const faults = bad.map((each) => faultAt(23, each.value, each.words));
-  return ninth ? [...faults, faultAt(27, ninth, "a matrix has at most 8 columns")] : faults;
+  return ninth ? [...faults, faultAt(27, ninth, `a matrix has at most ${MOST_COLUMNS} columns`)] : faults;
 }
 
 /**
@@ -108,9 +98,9 @@ function faultsOfKey({ table }, key) {
  */
 function faultsOfEntry(entry) {
   const kind = entry.table.replace(/[[\]]/g, "");
-  if (!TOML_KEYS[kind]) {
-    const likes = mostAlike(kind, Object.keys(TOML_KEYS));
-    const words = `${kind} is no part of a board${meant(likes) || `, which has ${Object.keys(TOML_KEYS).join(", ")}`}`;
+  if (!KEYS[kind]) {
+    const likes = mostAlike(kind, Object.keys(KEYS));
+    const words = `${kind} is no part of a board${meant(likes) || `, which has ${Object.keys(KEYS).join(", ")}`}`;
     return [curable(faultAt(21, entry, words), likes.map(header))];
   }
   const isSingle = entry.table.startsWith("[");
@@ -124,7 +114,7 @@ function faultsOfEntry(entry) {
     seen.set(key.name, key.line);
     return before ? [faultAt(20, key, `${key.name} is there already, in line ${before}`)] : faultsOfKey(entry, key);
   });
-  const lacks = TOML_KEYS[kind].filter((name) => !seen.has(name));
+  const lacks = KEYS[kind].filter((name) => !seen.has(name));
   return [...faults, ...(lacks.length > 0 ? [faultAt(22, entry, `this ${kind} lacks ${lacks.join(" and ")}`)] : [])];
 }
 
@@ -145,7 +135,7 @@ function surest(faults) {
  */
 export function faultsOfBoard(sent) {
   const { entries, others, faults } = readBoardText(sent);
-  const unknown = others.map((key) => (TOML_KEYS[key.name] ? faultAt(23, key.value, `${key.name} is a table, or an array of tables`)
+  const unknown = others.map((key) => (KEYS[key.name] ? faultAt(23, key.value, `${key.name} is a table, or an array of tables`)
     : faultAt(21, key, `${key.name} is no key at the top of a board`)));
   const all = [...faults, ...unknown, ...entries.flatMap(faultsOfEntry)];
   if (all.length === 0) all.push(...faultsOfParts(entries));

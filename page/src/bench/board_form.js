@@ -1,0 +1,67 @@
+// What a board's text can say, once for the page: the keys of each part, the numbers that they can be, how many parts there can be, and the
+// lines that parts have. The bench alone says whether a board is right; the unit test asks it at each edge.
+
+import { upTo } from "./numbers.js";
+
+/**
+ * @typedef {import("./answers.js").Board} Board
+ * @typedef {"rom" | "ram" | "chain" | "keys" | "lamp"} Kind
+ *
+ * A line by its name: of a ROM's or a RAM chip's port, or a bit of a chain.
+ * @typedef {{ name: string, kind: "rom" | "ram" | "bit", isInput: boolean }} BoardLine
+ */
+
+/**
+ * The keys of each kind of part, in the order in which the bench writes them.
+ * @type {Record<string, string[]>}
+ */
+export const KEYS = {
+  rom: ["chip", "port"], ram: ["bank", "chips"], chain: ["clock", "data", "chips"], keys: ["chain", "first", "rows", "columns"],
+  lamp: ["line"],
+};
+/** The kinds, in the order in which the bench writes them. */
+export const KINDS = /** @type {Kind[]} */ (Object.keys(KEYS));
+
+/** @type {Record<string, { from: number, to: number }>} whole numbers, by part and key */
+export const RANGES = {
+  "rom.chip": { from: 0, to: 15 }, "ram.bank": { from: 0, to: 7 }, "ram.chips": { from: 1, to: 4 }, "chain.chips": { from: 1, to: 8 },
+  "keys.chain": { from: 0, to: 3 }, "keys.first": { from: 0, to: 79 }, "keys.rows": { from: 1, to: 10 },
+};
+/**
+ * How many of each kind a board has at most.
+ * @type {Record<string, number>}
+ */
+export const MOST = { rom: 16, ram: 8, chain: 4, lamp: 64 };
+export const MOST_COLUMNS = 8;
+/** So many bits a chain has for each chip. */
+export const BITS = 10;
+const LINES_OF_PORT = upTo(4);
+
+/**
+ * All lines of a board, ROMs first, then RAM, then chains.
+ * @param {Pick<Board, "roms" | "banks"> & { chains: { chips: number }[] }} board
+ * @returns {BoardLine[]}
+ */
+export function linesOf({ roms, banks, chains }) {
+  /** @type {BoardLine[]} */
+  const lines = [];
+  for (const { chip, port } of roms) {
+    for (const at of LINES_OF_PORT) lines.push({ name: `rom${chip}.${at}`, kind: "rom", isInput: port[3 - at] === "i" });
+  }
+  for (const { bank, chips } of banks) {
+    for (const chip of upTo(chips)) {
+      for (const at of LINES_OF_PORT) lines.push({ name: `ram${bank}.${chip}.${at}`, kind: "ram", isInput: false });
+    }
+  }
+  chains.forEach(({ chips }, chain) => {
+    for (const bit of upTo(BITS * chips)) lines.push({ name: `chain${chain}.${bit}`, kind: "bit", isInput: false });
+  });
+  return lines;
+}
+
+/** The names of lines, of whatever board. */
+export const LINE_NAMES = new Set(linesOf({
+  roms: upTo(MOST.rom).map((chip) => ({ chip, port: "0000" })),
+  banks: upTo(MOST.ram).map((bank) => ({ bank, chips: RANGES["ram.chips"].to })),
+  chains: upTo(MOST.chain).map(() => ({ chips: RANGES["chain.chips"].to })),
+}).map(({ name }) => name));
