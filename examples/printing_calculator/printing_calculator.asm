@@ -69,7 +69,7 @@ digit:  XCH R6
         WMP             ; and e to g: this digit is lit
         FIM P1, 0x10
         SRC P1
-        RDR             ; the columns, where this line drives a row of keys
+look:   RDR             ; the columns, where this line drives a row of keys
         KBP
         JCN zero, next
         INC R8          ; a row with a key

@@ -7,6 +7,7 @@ import { fromBase64 } from "./session/base64.js";
 import { Locks } from "./session/locks.js";
 import { Notice } from "./ui/notice.js";
 import { Page } from "./page.js";
+import { storyOf } from "./session/address.js";
 import { guideOf } from "./session_ties.js";
 import { SPEEDS, speedOf } from "./time/speeds.js";
 import { Stepping } from "./time/stepping.js";
@@ -138,11 +139,13 @@ async function start(words, notice, { examples, manual }) {
   const page = new Page({ bench, makeBench, store, locks, words, notice, examples, manual });
   bench.listener = page.listener();
   if (!store.keeps) notice.show(NO_STORE, "store");
-  guideOf(page, manual);
+  const guide = guideOf(page, manual);
+  const story = storyOf(location.search);
   page.pressing.listenToKeyboard();
   listenToButtons(page);
   listenToLeaving(page);
-  await page.sessionsController.openFirst();
+  await page.sessionsController.openFirst(story);
+  if (story) guide.tell(story, examples);
   // How many milliseconds it took.
   document.body.dataset.ready = String(Math.round(performance.now()));
 }

@@ -1,12 +1,13 @@
 // What sessions and their files, and what guides to them, call of the others: they get calls, and know no page.
 
 import { Guide } from "./help/guide.js";
+import { forgetStory } from "./session/address.js";
 import { ExportView } from "./session/export_view.js";
 import { newRecord } from "./session/kept_session.js";
 import { RomFiles } from "./session/rom_files.js";
 import { SessionsController } from "./session/sessions_controller.js";
 import { Sharing } from "./session/sharing.js";
-import { byId } from "./ui/dom.js";
+import { block, byId } from "./ui/dom.js";
 
 /**
  * @typedef {import("./help/manual.js").ManualSection} ManualSection
@@ -79,6 +80,36 @@ export function sharingOf(page) {
 }
 
 /**
+ * What the places of a story call.
+ * @param {Page} page
+ * @returns {import("./help/story_acts.js").ActCalls}
+ */
+function actsOf({ layout, lookView, pressing, running, source, travel }) {
+  return {
+    addressOf: (label) => {
+      const name = source.map && source.map.names.get(label);
+      return name && name.isLabel ? name.value : undefined;
+    },
+    keys: () => lookView.front.keys,
+    run: () => running.run(),
+    stand: () => running.stand(),
+    goOn: (goal) => travel.goOn(goal),
+    goBack: (goal) => travel.goBack(goal),
+    goForward: () => travel.goForward(),
+    goTo: (address) => {
+      layout.tabs.choose("program");
+      lookView.goTo.show(address);
+    },
+    press: (key) => {
+      pressing.down(key, false);
+      pressing.up(key.place);
+    },
+    showText: (name) => layout.tabs.choose(name),
+    showPanel: (name) => block(name).scrollIntoView({ block: "nearest" }),
+  };
+}
+
+/**
  * What guides, which the page calls nothing of.
  * @param {Page} page
  * @param {ManualSection[]} manual
@@ -94,7 +125,11 @@ export function guideOf(page, manual) {
     program: () => programEditor.text,
     edit: (program) => programEditor.replaceText(program),
     replace: (program, words) => page.texts.replace("program", program, words),
+    acts: actsOf(page),
+    left: forgetStory,
+    refuse: (words) => page.notice.show(words, "session"),
   });
+  page.sessionsController.tell = (example) => guide.tell(example.name, [example]);
   page.lookView.watcher = guide.tour;
   page.running.ended = (why) => guide.tour.seeEnd(why);
   return guide;

@@ -1,8 +1,11 @@
-// What guides: the help, the first program, and the box for lines.
+// What guides: the help, the first program, stories of examples, and the box for lines.
 
 import { HelpView } from "./help_view.js";
 import { LinesView } from "../lines/lines_view.js";
 import { linesOfBench } from "./manual.js";
+import { shortName } from "../session/names.js";
+import { doAct } from "./story_acts.js";
+import { stepsOfStory } from "./story.js";
 import { isOfTour } from "./tour.js";
 import { TourView } from "./tour_view.js";
 
@@ -12,9 +15,11 @@ import { TourView } from "./tour_view.js";
  * @typedef {import("./manual.js").ManualSection} ManualSection
  *
  * What it calls, beside what the box for lines does: whether something stands above the bench; a session of an example begins, and whether
- * it did; the source is shown; its text, which is edited, or replaced with words about that.
+ * it did; the source is shown; its text, which is edited, or replaced with words about that; what the places of a story call; the first
+ * program, or a story, was left; a story is not there.
  * @typedef {Omit<LinesCalls, "help"> & { isCovered: () => boolean, begin: (example: Example) => Promise<boolean>, showSource: () => void,
- *   program: () => string, edit: (program: string) => void, replace: (program: string, words: string) => void }} GuideCalls
+ *   program: () => string, edit: (program: string) => void, replace: (program: string, words: string) => void,
+ *   acts: import("./story_acts.js").ActCalls, left: () => void, refuse: (words: string) => void }} GuideCalls
  */
 
 export class Guide {
@@ -30,7 +35,12 @@ export class Guide {
       wordsOf: calls.wordsOf,
       help: (wanted) => this.help.open(wanted),
     });
-    this.tour = new TourView({ begin: (example) => this.beginTour(example), put: (program) => this.put(program) });
+    this.tour = new TourView({
+      begin: (example) => this.beginTour(example),
+      put: (program) => this.put(program),
+      act: (act) => doAct(act, calls.acts),
+      left: calls.left,
+    });
     addEventListener("keydown", (event) => this.typed(event));
   }
 
@@ -50,6 +60,18 @@ export class Guide {
       this.calls.showSource();
     }
     return isBegun;
+  }
+
+  /**
+   * Opens the story of an example beside the session that is shown.
+   * @param {string} name of the example
+   * @param {Example[]} examples
+   */
+  tell(name, examples) {
+    const { story = "" } = examples.find((each) => each.name === name) || {};
+    const steps = stepsOfStory(story);
+    if (steps.length > 0) this.tour.open(steps);
+    else this.calls.refuse(`The address names a story, "${shortName(name)}", that this page does not have.`);
   }
 
   /** @param {string} program */

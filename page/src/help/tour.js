@@ -6,8 +6,10 @@
  * down, and why a run ended last in this step (`break`, `watch`, "" for no end).
  * @typedef {{ lamps: string, patterns: number, keysDown: number, end: string }} Seen
  *
- * A step: its title, what is to be done, the program that is typed ("" where it stays), and when it is done.
- * @typedef {{ title: string, words: string[], program: string, isDone: (seen: Seen) => boolean }} TourStep
+ * A step: its title, what is to be done, the program that is typed ("" where it stays), and when it is done. A paragraph of a story has
+ * places that do something.
+ * @typedef {string | { words: string, act: import("./story.js").Act }} Part
+ * @typedef {{ title: string, words: (string | Part[])[], program: string, isDone: (seen: Seen) => boolean }} TourStep
  */
 
 /** The board of the five steps. */
@@ -161,7 +163,9 @@ export function isOfTour(text) {
 
 /** Watches over a step. */
 export class TourWatch {
-  constructor() {
+  /** @param {TourStep[]} steps */
+  constructor(steps = TOUR) {
+    this.steps = steps;
     this.at = 0;
     /** @type {Seen} */
     this.seen = { lamps: "", patterns: 0, keysDown: 0, end: "" };
@@ -179,7 +183,7 @@ export class TourWatch {
   }
 
   get step() {
-    return TOUR[this.at];
+    return this.steps[this.at];
   }
 
   /**

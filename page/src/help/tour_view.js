@@ -1,14 +1,20 @@
-// The first program in five steps, beside the bench.
+// What is gone through step by step beside the bench: the first program, or the story of an example.
 
 import { Cell, block, button, element, onClick } from "../ui/dom.js";
 import { FIRST_PROGRAM, TOUR, TourWatch } from "./tour.js";
 
 /**
  * @typedef {import("../worker/examples.js").Example} Example
+ * @typedef {import("./tour.js").Part} Part
+ * @typedef {import("./tour.js").TourStep} TourStep
  *
- * What it calls: a new session with the tour's board, which gives whether it was made; a program is put into the source.
- * @typedef {{ begin: (example: Example) => Promise<boolean>, put: (program: string) => void }} TourCalls
+ * What it calls: a new session with the tour's board, which gives whether it was made; a program is put into the source; a place of a story
+ * does what it says, which gives why it did not; the panel was left.
+ * @typedef {{ begin: (example: Example) => Promise<boolean>, put: (program: string) => void,
+ *   act: (act: import("./story.js").Act) => Promise<string>, left: () => void }} TourCalls
  */
+
+const LAST_DONE = "Done: that was the last step. Help has all instructions and lines.";
 
 export class TourView {
   /** @param {TourCalls} calls */
@@ -26,12 +32,17 @@ export class TourView {
     for (const name of ["tour-begin", "first-program", "hello-program"]) onClick(button(name), () => this.begin());
     onClick(button("tour-close"), () => this.close());
     onClick(this.put, () => calls.put(this.watch.step.program));
-    onClick(this.next, () => (this.watch.at === TOUR.length - 1 ? this.close() : this.show(this.watch.at + 1)));
+    onClick(this.next, () => (this.isLast ? this.close() : this.show(this.watch.at + 1)));
     onClick(button("tour-back"), () => this.show(Math.max(0, this.watch.at - 1)));
   }
 
   async begin() {
-    if (!(await this.calls.begin(FIRST_PROGRAM))) return;
+    if (await this.calls.begin(FIRST_PROGRAM)) this.open(TOUR);
+  }
+
+  /** @param {TourStep[]} steps */
+  open(steps) {
+    this.watch = new TourWatch(steps);
     this.isOn = true;
     this.root.hidden = false;
     this.show(0);
@@ -41,25 +52,37 @@ export class TourView {
   close() {
     this.isOn = false;
     this.root.hidden = true;
+    this.calls.left();
+  }
+
+  get isLast() {
+    return this.watch.at === this.watch.steps.length - 1;
   }
 
   /** @param {number} at the step */
   show(at) {
     this.watch.begin(at);
     const { title, words, program } = this.watch.step;
-    this.title.set(`${at + 1} of ${TOUR.length}: ${title}`);
-    this.words.replaceChildren(...words.map((sentence) => element("p", {}, sentence)));
+    this.title.set(`${at + 1} of ${this.watch.steps.length}: ${title}`);
+    this.words.replaceChildren(...words.map((paragraph) => element("p", {}, ...[paragraph].flat().map((part) => this.nodeOf(part)))));
     this.program.set(program);
     this.program.node.hidden = program === "";
     this.put.hidden = program === "";
-    this.next.textContent = at === TOUR.length - 1 ? "End" : "Next step";
+    this.next.textContent = this.isLast ? "End" : "Next step";
     this.showDone();
   }
 
+  /** @param {Part} part */
+  nodeOf(part) {
+    if (typeof part === "string") return part;
+    const made = element("button", { type: "button", className: "place" }, part.words);
+    onClick(made, async () => this.told.set(await this.calls.act(part.act)));
+    return made;
+  }
+
   showDone() {
-    const { isDone, at } = this.watch;
-    const words = at === TOUR.length - 1 ? "Done: that was the last step. Help has all instructions and lines." : "Done.";
-    this.told.set(isDone ? words : "");
+    const { isDone } = this.watch;
+    this.told.set(isDone ? (this.isLast ? LAST_DONE : "Done.") : "");
     this.root.classList.toggle("done", isDone);
   }
 

@@ -1,4 +1,5 @@
-// What the address of the page names behind its `#`: a session that is kept, an example, or the texts of a link.
+// What the address of the page names behind its `#`: a session that is kept, an example, or the texts of a link; and behind its `?` the
+// story of an example.
 
 /** @typedef {"session" | "example" | "link"} AddressKind */
 
@@ -8,6 +9,25 @@ function decoded(text) {
     return decodeURIComponent(text);
   } catch {
     return text;
+  }
+}
+
+/**
+ * The example whose story is to be told, "" for none.
+ * @param {string} search
+ */
+export function storyOf(search) {
+  return new URLSearchParams(search).get("story") || "";
+}
+
+/** The address of this page, without the story. */
+export function forgetStory() {
+  const address = new URL(location.href);
+  address.search = "";
+  try {
+    history.replaceState(null, "", address);
+  } catch {
+    // Some browsers let a file's address stay as it is: then a reload tells the story again.
   }
 }
 

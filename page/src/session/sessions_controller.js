@@ -42,6 +42,8 @@ export class SessionsController {
     this.locks = locks;
     this.notice = notice;
     this.examples = examples;
+    /** @type {(example: Example) => void} an example's story is told */
+    this.tell = () => {};
     this.persistence = new Persistence();
     this.openings = new Openings();
     addEventListener("pagehide", () => this.openings.leave());
@@ -73,6 +75,11 @@ export class SessionsController {
       deleted: () => bin.deleted,
       bringBack: (records) => bin.bringBack(records),
       begin: (example) => this.begin(example),
+      beginStory: async (example) => {
+        const isDone = await this.begin(example);
+        if (isDone) this.tell(example);
+        return isDone;
+      },
       openFile: (file) => manager.openFile(file),
       openFolder: (read) => manager.openFolder(read),
       save: () => manager.save(),
@@ -143,9 +150,15 @@ export class SessionsController {
     if (this.view.isOpen) await this.view.draw();
   }
 
-  /** What the address names, else the session that was used last and is not open in another tab, else the first example. */
-  async openFirst() {
-    const { kind, value } = readAddress(location.hash);
+  /**
+   * What the address names, else the example whose story is told, else the session that was used last and is not open in another tab, else
+   * the first example.
+   * @param {string} story the example of it, "" for none
+   */
+  async openFirst(story) {
+    const named = readAddress(location.hash);
+    const isStory = named.kind === "" && this.examples.some((each) => each.name === story && each.story);
+    const { kind, value } = isStory ? { kind: "example", value: story } : named;
     const isQuiet = kind === "" || kind === "link" || (kind === "session" && this.openings.isUnended(value));
     if (isQuiet || !(await this.openNamed(kind, value))) await this.openLast(isQuiet);
     if (kind === "link") await this.calls.link(value);

@@ -14,7 +14,7 @@ import { KeptList } from "./kept_list.js";
  * @typedef {{ kept: () => Promise<SessionRecord[]>, isShown: (id: string) => boolean, open: (id: string) => Promise<boolean>,
  *   copy: (id: string) => Promise<boolean>, remove: (records: SessionRecord[]) => Promise<void>, deleted: () => SessionRecord[],
  *   bringBack: (records: SessionRecord[]) => Promise<void>, begin: (example: Example) => Promise<boolean>,
- *   openFile: (file: File) => Promise<boolean>,
+ *   beginStory: (example: Example) => Promise<boolean>, openFile: (file: File) => Promise<boolean>,
  *   openFolder: (read: () => Promise<import("./folder_files.js").Folder>) => Promise<boolean>,
  *   save: () => void, saveSession: () => void, rename: (name: string) => void,
  *   keptWhere: () => string }} SessionsCalls
@@ -100,7 +100,10 @@ export class SessionsView {
   exampleLine(example) {
     const open = this.button(example.name, `new session: ${example.name}`, () => this.choose(() => this.calls.begin(example)));
     open.prepend(pictureOf(example.board));
-    return element("li", {}, open, element("span", { className: "grow" }, example.title));
+    const title = element("span", { className: "grow" }, example.title);
+    if (!example.story) return element("li", {}, open, title);
+    const words = `new session with its story: ${example.name}`;
+    return element("li", {}, open, title, this.button("with its story", words, () => this.choose(() => this.calls.beginStory(example))));
   }
 
   /**

@@ -4,9 +4,10 @@ import { sentText } from "../text/text_fault.js";
 
 /**
  * `lines` are for the user to send; where there are none, time runs at once. `tests` and `properties` are those of the program. An
- * example that is a project has its text in `project` ("" in any other): its session is the one in there, and stands still.
+ * example that is a project has its text in `project` ("" in any other): its session is the one in there, and stands still. Some have a
+ * story, which help/story.js reads.
  * @typedef {{ name: string, title: string, board: string, program: string, tests: string, properties: string, lines: string,
- *   project: string }} Example
+ *   project: string, story?: string }} Example
  */
 
 /**

@@ -1,0 +1,72 @@
+// The story of an example: a text in steps, with places in it that do something on the page. `# TITLE` is its first line; each step begins
+// with `## TITLE`; blank lines part its paragraphs. `[WORDS](ACT)` is a place:
+//
+//     run, stop, back, forward                time runs, stands still, goes back a stop or forward again
+//     go to LABEL, run to LABEL               shows a line of the program; time passes up to it
+//     back to PLACE                           goes back to before a place changed last: r11, ram.0.0x12, rom0.2
+//     press KEY                               as a click on it: while time stands still it stays down, or goes up
+//     show VIEW                               brings a text or a panel into view
+
+/**
+ * @typedef {import("./tour.js").Part} Part
+ * @typedef {import("./tour.js").TourStep} TourStep
+ *
+ * What a place does, and with what, "" where it needs nothing.
+ * @typedef {"run" | "stop" | "back" | "forward" | "go to" | "run to" | "back to" | "press" | "show"} ActName
+ * @typedef {{ name: ActName, of: string }} Act
+ */
+
+/** What can be shown: texts, which have tabs, and panels. */
+export const TEXTS = ["program", "board", "tests", "properties", "wiring", "waves"];
+export const PANELS = ["front", "processor", "listing", "memory", "ports"];
+
+const ACT = /^(?:(run|stop|back|forward)|(go to|run to|back to|press|show) ([^ ]+))$/;
+const PLACE = /\[([^\]]+)\]\(([^()]+)\)/g;
+
+/**
+ * @param {string} words
+ * @returns {Act | null}
+ */
+function readAct(words) {
+  const found = ACT.exec(words);
+  if (!found) return null;
+  const [, alone, name, of = ""] = found;
+  if (name === "show" && !TEXTS.includes(of) && !PANELS.includes(of)) return null;
+  return { name: /** @type {ActName} */ (alone || name), of };
+}
+
+/**
+ * The parts of a paragraph. A place whose act is none is told by its words alone.
+ * @param {string} text
+ * @returns {Part[]}
+ */
+function partsOf(text) {
+  /** @type {Part[]} */
+  const parts = [];
+  let end = 0;
+  for (const found of text.matchAll(PLACE)) {
+    const [whole, words, told] = found;
+    const act = readAct(told);
+    parts.push(text.slice(end, found.index), act ? { words, act } : words);
+    end = (found.index || 0) + whole.length;
+  }
+  return [...parts, text.slice(end)].filter((part) => part !== "");
+}
+
+/**
+ * @param {string} text
+ * @returns {TourStep}
+ */
+function stepOf(text) {
+  const [title, ...paragraphs] = text.trim().split(/\n[ \t]*\n/).map((each) => each.replace(/\s+/g, " ").trim());
+  return { title, words: paragraphs.map(partsOf), program: "", isDone: () => false };
+}
+
+/**
+ * The steps of a story; none where the text is empty.
+ * @param {string} text
+ * @returns {TourStep[]}
+ */
+export function stepsOfStory(text) {
+  return text.split(/^## /m).slice(1).map(stepOf);
+}

@@ -1,0 +1,65 @@
+// What the places of a story do: each is one act of the page, by the page's own calls.
+
+import { TEXTS } from "./story.js";
+
+/**
+ * @typedef {import("../board/board_keys.js").BoardKey} BoardKey
+ * @typedef {import("../debug/goals.js").Goal} Goal
+ * @typedef {import("../worker/going_back.js").BackGoal} BackGoal
+ * @typedef {import("./story.js").Act} Act
+ *
+ * What is called: the address of a label of the program in ROM, undefined without one; the keys of the board; time runs, or stands still;
+ * it goes on to a goal, back, or forward again; a line of the program is shown; a key is pressed and let go; a text or a panel is shown.
+ * @typedef {{ addressOf: (label: string) => number | undefined, keys: () => BoardKey[], run: () => void, stand: () => Promise<void>,
+ *   goOn: (goal: Goal) => Promise<void>, goBack: (goal: BackGoal) => Promise<void>, goForward: () => Promise<void>,
+ *   goTo: (address: number) => void, press: (key: BoardKey) => void, showText: (name: string) => void,
+ *   showPanel: (name: string) => void }} ActCalls
+ */
+
+/**
+ * @param {string} label
+ * @param {ActCalls} calls
+ * @param {(address: number) => unknown} act
+ */
+async function atLabel(label, calls, act) {
+  const address = calls.addressOf(label);
+  if (address === undefined) return `Nothing was done: the source is not what stands in ROM, or it has no label ${label}.`;
+  await act(address);
+  return "";
+}
+
+/**
+ * Who does an act; gives why it was not done, "" where it was.
+ * @type {Record<import("./story.js").ActName, (of: string, calls: ActCalls) => Promise<string>>}
+ */
+const ACTS = {
+  run: (_, calls) => done(() => calls.run()),
+  stop: (_, calls) => done(() => calls.stand()),
+  back: (_, calls) => done(() => calls.goBack({ kind: "stop" })),
+  forward: (_, calls) => done(() => calls.goForward()),
+  "go to": (of, calls) => atLabel(of, calls, (address) => calls.goTo(address)),
+  "run to": (of, calls) => atLabel(of, calls, (address) => calls.goOn({ kind: "here", address })),
+  "back to": (of, calls) => done(() => calls.goBack({ kind: "change", place: of })),
+  press: async (of, calls) => {
+    const key = calls.keys().find(({ legend }) => legend === of);
+    if (!key) return `Nothing was done: the board has no key ${of}.`;
+    calls.press(key);
+    return "";
+  },
+  show: (of, calls) => done(() => (TEXTS.includes(of) ? calls.showText(of) : calls.showPanel(of))),
+};
+
+/** @param {() => unknown} act */
+async function done(act) {
+  await act();
+  return "";
+}
+
+/**
+ * Gives why it was not done, "" where it was.
+ * @param {Act} act
+ * @param {ActCalls} calls
+ */
+export function doAct({ name, of }, calls) {
+  return ACTS[name](of, calls);
+}
