@@ -4,52 +4,15 @@ it stands."""
 
 import re
 
-from page_in_browser import DIGITS, SPEED, STATUS, choose_example, lines_answered, told_of, until_ready
+from page_in_browser import DIGITS, SPEED, STATUS, TOP, choose_example, lines_answered, told_of, until_ready
 from verdicts import comes, verdict
 
 ROM = '[[rom]]\nchip = 0\nport = "0000"\n'
 PULSES_BOARD = ROM + "".join(f'[[lamp]]\nline = "rom0.{line}"\n' for line in range(4))
 # Lamp 0 is lit for 3 cycles in a turn, lamp 1 for the rest of them, lamp 2 always, lamp 3 never.
 PULSES = "FIM P0, 0\nSRC P0\nloop: LDM 5\nWRR\nNOP\nLDM 6\nWRR\nFIM P1, 0\nwait: ISZ R2, wait\nJUN loop\n"
-REFRESHED_BOARD = f"""# display 0: 2 digits of 7 segments
-{ROM}[[chain]]
-clock = "rom0.0"
-data = "rom0.1"
-chips = 2
-""" + "".join(f'[[lamp]]\nline = "chain0.{13 - at}"\n' for at in range(14))
 # Shifts 42 out all the time, segment by segment.
-REFRESHED = """
-        FIM P4, 0x42
-        FIM P0, 0xF0
-        FIM P7, 0
-        SRC P7
-loop:   LD R8
-        JMS digit
-        LD R9
-        JMS digit
-        JUN loop
-digit:  XCH R1
-        FIN P2
-        LDM 12
-        XCH R7
-        LD R5
-        JMS bits
-        LDM 13
-        XCH R7
-        LD R4
-bits:   RAR
-        XCH R6
-        TCC
-        RAL
-        WRR
-        IAC
-        WRR
-        XCH R6
-        ISZ R7, bits
-        BBL 0
-        ORG 0xF0
-        DB 0x3F, 0x06, 0x5B, 0x4F, 0x66, 0x6D, 0x7D, 0x07, 0x7F, 0x6F
-"""
+REFRESHED_BOARD, REFRESHED = ((TOP / f"page/test/two_digits.{kind}").read_text() for kind in ("toml", "asm"))
 TOLD = "return document.getElementById('shine-told').textContent"
 # From here on: in each frame, how bright each lamp is, and what the display shows.
 WATCH = """

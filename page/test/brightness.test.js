@@ -1,5 +1,6 @@
 // How long lamps are lit, and what an eye sees of it, beside the very module: by `trace`, and by looking after each cycle.
 import assert from "node:assert/strict";
+import { readFileSync } from "node:fs";
 import { test } from "node:test";
 import { Brightness, PERSISTENCE, shineOf } from "../src/board/brightness.js";
 import { numberOf } from "../src/board/digit_patterns.js";
@@ -32,45 +33,10 @@ loop:   LDM 5\nSRC P0\nWMP\nLDM 1\nSRC P1\nWMP
         JUN loop\n`,
 };
 
-/** A display of two digits behind two 4003; in each turn of the main loop all of it is written anew, lamp by lamp. */
-const REFRESHED = {
-  board: `# display 0: 2 digits of 7 segments
-[[rom]]\nchip = 0\nport = "0000"
-[[chain]]\nclock = "rom0.0"\ndata = "rom0.1"\nchips = 2
-${Array.from({ length: 14 }, (_, at) => `[[lamp]]\nline = "chain0.${13 - at}"\n`).join("")}`,
-  program: `
-        FIM P4, 0x42    ; the number
-        FIM P0, 0xF0    ; the table
-        FIM P7, 0
-        SRC P7
-loop:   LD R8
-        JMS digit
-        LD R9
-        JMS digit
-        JUN loop
-digit:  XCH R1
-        FIN P2
-        LDM 12
-        XCH R7
-        LD R5
-        JMS bits
-        LDM 13
-        XCH R7
-        LD R4
-bits:   RAR             ; the next segment, as the data line; then the clock
-        XCH R6
-        TCC
-        RAL
-        WRR
-        IAC
-        WRR
-        XCH R6
-        ISZ R7, bits
-        BBL 0
-        ORG 0xF0
-        DB 0x3F, 0x06, 0x5B, 0x4F, 0x66, 0x6D, 0x7D, 0x07, 0x7F, 0x6F
-`,
-};
+const textOf = (name) => readFileSync(new URL(name, import.meta.url), "utf8");
+
+/** A display of two digits that is written anew in each turn of the main loop, lamp by lamp. */
+const REFRESHED = { board: textOf("two_digits.toml"), program: textOf("two_digits.asm") };
 
 async function begin({ board, program }) {
   const calls = new BenchCalls(async () => true);
