@@ -409,32 +409,37 @@ need_count() {
     if [ "$2" -gt "$3" ]; then fail "$1 is a decimal number, 1 to $3"; fi
 }
 
+# A board with all ROMs, and what asks for all of their bytes, in lines.
+wire_all_roms() {
+    awk 'BEGIN { print "wire"; for (i = 0; i < 16; i++) printf "[[rom]]\nchip = %d\nport = \"0000\"\n", i; print "." }'
+}
+
+list_all_roms() {
+    awk 'BEGIN { for (at = 0; at < 4096; at += 256) print "list " at " 256" }'
+}
+
+# Serves the script, which begins with that board and a program, on a new session; the board's answer is not kept, and a program that is
+# refused is told.
+serve_on_all_roms() {
+    serve new "$1" answers < "$folder/script"
+    sed -i 2d "$folder/answers"
+    accepted 2 "$2" "$program_before"
+}
+
 # What the bench tells of a program alone: `known_map`, and its bytes, `known_bytes`, on a board with all ROMs.
 map_program() {
     take_program_text "$1"
     send_text asm program_text > "$folder/begin"
     show_text asm program_text > "$folder/shown"
     {
-        awk 'BEGIN { print "wire"; for (i = 0; i < 16; i++) printf "[[rom]]\nchip = %d\nport = \"0000\"\n", i; print "." }'
+        wire_all_roms
         cat "$folder/begin"
         send_text map program_text
         echo seq
-        awk 'BEGIN { for (at = 0; at < 4096; at += 256) print "list " at " 256" }'
+        list_all_roms
     } > "$folder/script"
-    serve new "$folder/mapping.mcs" answers < "$folder/script"
-    case $(sed -n 3p "$folder/answers") in
-    ok\ *) ;;
-    *)
-        {
-            echo "session 0"
-            sed -n 3p "$folder/answers"
-        } > "$folder/first_answers"
-        text_before=$program_before explain_script "$folder/begin" "$folder/first_answers" "$1" "$folder/shown" > "$folder/told" || true
-        sed "s/^/$tool: /" "$folder/told" >&2
-        exit 1
-        ;;
-    esac
-    awk 'NR > 3 && $1 == "seq" { exit } NR > 3 { print }' < "$folder/answers" > "$folder/known_map"
+    serve_on_all_roms "$folder/mapping.mcs" "$1"
+    awk 'NR > 2 && $1 == "seq" { exit } NR > 2 { print }' < "$folder/answers" > "$folder/known_map"
     awk -f "$lib/numbers.awk" -f - "$folder/answers" > "$folder/known_bytes" <<'bytes'
 is_listed($0) {
     print $1, $2
@@ -448,7 +453,7 @@ know_source() {
     copy_session "$2" start.mcs
     need_session "$2"
     map_program "$1"
-    awk 'BEGIN { for (at = 0; at < 4096; at += 256) print "list " at " 256" }' | serve open "$folder/start.mcs" rom "$2"
+    list_all_roms | serve open "$folder/start.mcs" rom "$2"
     tool_name=$tool
     export folder tool_name
     awk -f "$lib/numbers.awk" -f "$lib/names.awk" -f "$lib/check_program.awk" -f - "$folder/rom" <<'same' || exit 1
