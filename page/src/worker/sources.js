@@ -4,7 +4,8 @@
 import { readListing } from "../bench/answers.js";
 import { linesOfExample } from "./examples.js";
 import { BenchRefusal, NO_MEMORY } from "../bench/faults.js";
-import { LAST_ADDRESS, hex, upTo } from "../bench/numbers.js";
+import { LAST_ADDRESS, hex } from "../bench/numbers.js";
+import { PAGES, listsOf } from "../bench/rom_bytes.js";
 
 /**
  * @typedef {import("./examples.js").Example} Example
@@ -16,7 +17,7 @@ import { LAST_ADDRESS, hex, upTo } from "../bench/numbers.js";
 const LONGEST_LISTING = 256;
 /** No tests and no properties. */
 const NONE_BESIDE = { testText: "", propertiesText: "" };
-const ALL_ROM = upTo(16).map((page) => `list ${page * 256} ${LONGEST_LISTING}\n`).join("");
+const ALL_ROM = listsOf(PAGES);
 
 /**
  * @param {Engine} engine
