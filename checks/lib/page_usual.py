@@ -35,7 +35,7 @@ def check(browser, page, _folder, _mcs4):
     browser.click("#usual-list input")
     stop_time(browser)
     browser.click("#run")
-    comes(browser, "with its switch time stops before it", STATUS, "Stopped at 004, before what is told as a fault.")
+    comes(browser, "with its switch time stops before it", STATUS, "Stopped at 004, before a fault that is reported.")
     verdict("and it is told again", browser.script(ROWS), [f"004 (keys + 4, line 4) {WRITE}"])
     browser.click("#run")
     comes(browser, "it goes on with it, up to the next time", STATUS, re.compile("^Stopped at 004"))

@@ -220,7 +220,7 @@ test("over, into, out, back and back again; goto; values are set", async () => {
   assert.equal(await evaluate("enter"), "0x053, line 57");
   assert.deepEqual([await evaluate("open"), await evaluate("lamp open"), await evaluate("alarm")], ["0x02, 2", "off", "0x05, 5"]);
   assert.match(await evaluate("NOP", "hover"), /./);
-  assert.match((await answer("evaluate", { expression: "quit", context: "repl" })).message, /help tells what a line can be$/);
+  assert.match((await answer("evaluate", { expression: "quit", context: "repl" })).message, /help shows what a line can be$/);
   assert.match(await evaluate("asm\nORG 0x0F0\nNOP\n.", "repl"), /^ok \d+ bytes 1$/);
   const before = (await move("evaluate", { expression: "until @show", context: "repl" })).reason;
   assert.deepEqual([before, await lines()], ["step", [80, 29, 29]]);

@@ -105,8 +105,8 @@ test("what cannot be read is told, with what the board has", () => {
     ["ram.0.127 1 2", "the board has no RAM chip for the last of these characters"],
     ["ram.8.0 1", "there is no place ram.8.0; a place of RAM is ram.BANK.SRC or st.BANK.REGISTER.NUMBER"],
     ["foo 1", "there is no place foo; places are acc, cy, pc, dcl, test, r0 to r15, ram.B.S, st.B.H.K"],
-    ["test 1", "no run changes test, and no trace tells it: it is for the lines of a test"],
-    ["cycles at most 3", "no run changes cycles, and no trace tells it: it is for the lines of a test"],
+    ["test 1", "no run changes test, and no trace shows it: it is for the lines of a test"],
+    ["cycles at most 3", "no run changes cycles, and no trace shows it: it is for the lines of a test"],
     ["r2 < 4 5", "< stands between a place that holds one number, and a number"],
     ["ram.0.0 4 < 5", "< stands between a place that holds one number, and a number"], ["= 3", "there is no place 3"],
   ];

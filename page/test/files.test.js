@@ -60,7 +60,7 @@ test("a bad record is told by its line", () => {
   const refused = (text, words) => assert.throws(() => readHex(text), words, text);
   refused(":03000000D1E2F05B\n", /^Error: line 1: the checksum is 5B, and 5A would be right$/);
   refused("\n:0300", /^Error: line 2: a record has `:`, ten hexadecimal digits/);
-  refused(":02000000D1E2F05A\n", /^Error: line 1: it tells of 2 bytes and has 3$/);
+  refused(":02000000D1E2F05A\n", /^Error: line 1: it announces 2 bytes and has 3$/);
   refused(":03000000D1E2F05A\n", /no last record/);
   refused(":00000001FF\n", /it has no byte/);
   refused(":00000001FF\n:00000001FF\n", /line 2: a record after the last one/);

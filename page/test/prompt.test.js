@@ -53,7 +53,7 @@ test("the table of commands: each is there, is found by its words, and has help"
   }
   assert.equal(commandOf("und").command.name, "undisplay");
   assert.equal(commandOf("re").words, "re is not clear: reverse-step, reverse-next, reverse-continue, release, reset");
-  assert.equal(commandOf("bogus").words, "there is no command bogus; help tells which there are");
+  assert.equal(commandOf("bogus").words, "there is no command bogus; help shows them all");
 });
 
 test("places, counts and times", async () => {
@@ -157,7 +157,7 @@ test("what is shown, printed and set", async () => {
   assert.match((await ask("list wait")).join("\n"), /wait: {3}FIM P1, time/);
   assert.match((await ask("info registers"))[0], /^acc 0 {2}cy 0 {2}pc 002/);
   assert.match((await ask("info names")).join("\n"), /^time {12} 0C$/m);
-  assert.match((await ask("info"))[0], /^refused: info tells of registers, ram, ports, keys, breakpoints, .*, session$/);
+  assert.match((await ask("info"))[0], /^refused: info shows registers, ram, ports, keys, breakpoints, .*, session$/);
   assert.match((await ask("bench lamps"))[0], /^lamps \.\.\.$/);
   assert.match((await ask("bench poke r16 1"))[0], /^refused: no 11/);
   assert.match((await ask("load"))[0], /The source is in ROM/);

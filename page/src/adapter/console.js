@@ -76,7 +76,7 @@ export class Console {
     try {
       return told(valueOfExpression(line, this.known));
     } catch (thrown) {
-      return fail(`${wordsOf(thrown)}; help tells what a line can be`);
+      return fail(`${wordsOf(thrown)}; help shows what a line can be`);
     }
   }
 

@@ -39,7 +39,7 @@ function readRecord(text) {
   if (!/^:([0-9A-F]{2}){5,}$/i.test(text)) throw new NotAnImage("a record has `:`, ten hexadecimal digits and two for each byte");
   const bytes = (text.slice(1).match(/../g) || []).map((digits) => parseInt(digits, 16));
   const [count, high, low, type] = bytes;
-  if (bytes.length !== count + 5) throw new NotAnImage(`it tells of ${count} bytes and has ${bytes.length - 5}`);
+  if (bytes.length !== count + 5) throw new NotAnImage(`it announces ${count} bytes and has ${bytes.length - 5}`);
   const right = -bytes.slice(0, -1).reduce((sum, byte) => sum + byte, 0) & 0xff;
   if (bytes[count + 4] !== right) {
     throw new NotAnImage(`the checksum is ${hex(bytes[count + 4], 2)}, and ${hex(right, 2)} would be right`);

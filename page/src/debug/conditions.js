@@ -182,7 +182,7 @@ function freePartOf(text, names) {
   const rest = alone.filter((_, at) => at !== sign);
   const { term, isNot } = partOf(rest, (each) => freeTermOf(each, names));
   if (term.beside === "seen") fail("the digits are lit by turns, so no instant shows a number: `display` is for the lines of a test");
-  if (term.beside) fail(`no run changes ${term.what}, and no trace tells it: it is for the lines of a test`);
+  if (term.beside) fail(`no run changes ${term.what}, and no trace shows it: it is for the lines of a test`);
   return { term, isNot: isNot !== (alone[sign] === "!=") };
 }
 

@@ -16,7 +16,7 @@ export const REASONS = {
   code: "before a code that is not an instruction",
   break: "at a breakpoint",
   watch: "after a watched character changed",
-  usual: "before what is told as a fault",
+  usual: "before a fault that is reported",
   recorded: "where the waves behind the trigger are recorded",
 };
 

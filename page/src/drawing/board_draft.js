@@ -133,7 +133,7 @@ export class BoardDraft {
   /** @returns {Board} */
   get board() {
     const { told } = this;
-    if (!told) throw new Error("the text tells no board");
+    if (!told) throw new Error("the text is no board");
     return readBoard(told);
   }
 

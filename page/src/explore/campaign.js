@@ -194,7 +194,7 @@ function placeOfNote(reader, word) {
   const value = /^chain\d+$/.test(word) ? "?".repeat(10 * (reader.names.board.chains[Number(word.slice(5))] || { chips: 1 }).chips) : "0";
   const way = /^rom\d+$/.test(word) ? "in " : /^ram\d+\.\d+$/.test(word) ? "out " : "";
   const { places } = reader.condition(`${word} ${way}${value}`);
-  return places[0] || fail(`no trace tells ${word}`);
+  return places[0] || fail(`no trace shows ${word}`);
 }
 
 /** `lamp open on for 1.1 s`: the condition, and how long it holds. */

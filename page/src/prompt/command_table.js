@@ -44,7 +44,7 @@ undisplay | undisplay [N ..] | no more |
 x | x[/N] PLACE | N instructions of ROM, or characters of RAM | As x/8 show, x/16 ram.0.0x10.
 list l | list [PLACE] | the source round a line | Without a place the lines after those that were shown last, from where time
  stands.
-info i | info WHAT | tells of registers, ram, ports, keys, breakpoints, watches, display, names, source, session |
+info i | info WHAT | shows registers, ram, ports, keys, breakpoints, watches, display, names, source, session |
 backtrace bt where | backtrace | the calls that wait for their return |
 view layout tui | view [on|off] | source, registers and lamps above, drawn anew after each command | Commands and their answers
  scroll below it. It is for a terminal, of 40 columns and 12 rows at least; view once more, or view off, leaves it.
@@ -73,7 +73,7 @@ export function commandOf(word) {
   if (own) return { command: own, words: "" };
   const alike = COMMANDS.filter(({ name }) => name.startsWith(word));
   if (alike.length === 1) return { command: alike[0], words: "" };
-  if (alike.length === 0) return { command: null, words: `there is no command ${word}; help tells which there are` };
+  if (alike.length === 0) return { command: null, words: `there is no command ${word}; help shows them all` };
   return { command: null, words: `${word} is not clear: ${alike.map(({ name }) => name).join(", ")}` };
 }
 

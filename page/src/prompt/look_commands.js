@@ -138,6 +138,6 @@ export class LookCommands {
       session: () => (launched.kept ? "a session file, which has at each stop what was done" : "in memory: nothing is kept"),
     };
     const found = INFOS.filter((kind) => rest !== "" && kind.startsWith(rest));
-    return kinds[found.length === 1 ? found[0] : refuse(`info tells of ${INFOS.join(", ")}`)]();
+    return kinds[found.length === 1 ? found[0] : refuse(`info shows ${INFOS.join(", ")}`)]();
   }
 }

@@ -23,7 +23,7 @@ export class Clock {
     /** Whether a call is under way. */
     this.isBusy = false;
     /** Whether a key was pressed since that call began. */
-    this.isHurried = false;
+    this.followsAtOnce = false;
     /** The frame that is asked for. */
     this.next = 0;
     this.time = new RealTime(0, 0);
@@ -104,9 +104,9 @@ export class Clock {
    * where a call is under way, cycles follow at its end.
    * @param {string} key
    */
-  hurry(key) {
+  pressNow(key) {
     if (!this.isRunning || this.isFull || this.speed.byInstruction) return false;
-    this.isHurried = this.isBusy;
+    this.followsAtOnce = this.isBusy;
     return this.frame(performance.now(), this.ahead, key);
   }
 
@@ -137,7 +137,7 @@ export class Clock {
    */
   async pass(due, key) {
     this.isBusy = true;
-    this.isHurried = false;
+    this.followsAtOnce = false;
     try {
       if (this.speed.byInstruction) await this.calls.instruct();
       else await this.calls.advance(due, key);
@@ -146,6 +146,6 @@ export class Clock {
     } finally {
       this.isBusy = false;
     }
-    if (this.isHurried && this.isRunning && !this.isFull) this.frame(performance.now(), this.ahead);
+    if (this.followsAtOnce && this.isRunning && !this.isFull) this.frame(performance.now(), this.ahead);
   }
 }

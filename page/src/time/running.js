@@ -270,7 +270,7 @@ export class Running {
   queue(word, place) {
     const { bench, current, calls } = this;
     current.touch();
-    if (word === "press" && this.clock.hurry(place)) return;
+    if (word === "press" && this.clock.pressNow(place)) return;
     bench.call(word, [place]).catch(calls.failed);
   }
 }
