@@ -1,6 +1,7 @@
 // What can be waited for, or gone back to: registers, RAM characters, lines, lamps and ports, by the names that lines have for them. Of
 // each one, by which places `trace` tells it on a board, and its value, by what is told of these.
 
+import { BITS } from "./board_form.js";
 import { hex, numberOf, upTo } from "./numbers.js";
 
 /**
@@ -88,7 +89,7 @@ function lampPlace(name) {
   const chain = /^chain([0-3])\.(\d+)$/.exec(name);
   if (!chain) return null;
   /** @type {(board: Board) => boolean} */
-  const isOn = ({ chains }) => Number(chain[1]) < chains.length && Number(chain[2]) < chains[Number(chain[1])].chips * 10;
+  const isOn = ({ chains }) => Number(chain[1]) < chains.length && Number(chain[2]) < chains[Number(chain[1])].chips * BITS;
   return { name, probesOn: (board) => (isOn(board) ? [name] : []), value: first };
 }
 

@@ -1,5 +1,7 @@
 // The wiring of a board as a drawing: its parts with their pins, and the wires between them, each at its place. Nothing here draws.
 
+import { BITS } from "../bench/board_form.js";
+
 /**
  * @typedef {import("../bench/answers.js").Board} Board
  * @typedef {import("./face.js").TestPin} TestPin
@@ -196,7 +198,7 @@ function drawRam(column, bank, chip, uses) {
  * @param {Uses} uses
  */
 function drawChain(column, { clock, data, chips }, at, uses) {
-  const bits = Array.from({ length: chips * 10 }, (_, bit) => (
+  const bits = Array.from({ length: BITS * chips }, (_, bit) => (
     { id: `chain${at}.${bit}`, line: `chain${at}.${bit}`, label: `bit ${bit}` }));
   const used = bits.filter(({ line }) => uses.of(line).length > 0).sort((one, other) => uses.placeOf(one.line) - uses.placeOf(other.line));
   const free = bits.filter(({ line }) => uses.of(line).length === 0).slice(0, FREE_BITS);

@@ -1,6 +1,7 @@
 // The lines of a board that are recorded, and what else a recording can have: their names, and where the bench tells each of them. The
 // same names, in the same order, as those of tools/wave.
 
+import { BITS } from "../bench/board_form.js";
 import { numberOf, upTo } from "../bench/numbers.js";
 import { placeOf } from "../bench/places.js";
 import { Face } from "../board/face.js";
@@ -68,7 +69,7 @@ function linesOfChips({ roms, banks, chains }, face) {
   return [
     ...chips.flatMap((chip) => levels(`rom${chip}`, 4, face)),
     ...sorted.flatMap(({ bank, chips: count }) => upTo(count).flatMap((chip) => levels(`ram${bank}.${chip}`, 4, face))),
-    ...chains.flatMap(({ chips: count }, chain) => levels(`chain${chain}`, count * 10, face)),
+    ...chains.flatMap(({ chips: count }, chain) => levels(`chain${chain}`, BITS * count, face)),
   ];
 }
 
