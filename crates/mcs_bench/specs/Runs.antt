@@ -1,5 +1,5 @@
 -- What a run and a step of a bench answer.
-use Rattle.std.specs.Prelude.{◌≡◌, ◌≢◌, ◌⊎◌, ℕ, ◌+◌, ◌-◌, slice_index, ◌&&◌, ◌==◌, not, ◌<◌, ◌≤◌, false, Bool, Option, None, Some, List, [], if◌then◌else◌, unwrap_or}
+use Rattle.std.specs.Prelude.{◌≡◌, ◌≢◌, ◌⊎◌, ℕ, ◌+◌, ◌-◌, slice_index, ◌&&◌, ◌==◌, not, ◌<◌, ◌≤◌, false, Bool, Option, None, Some, List, [], if◌then◌else◌, unwrap_or, MatchOption}
 use Rattle.mcs_model.specs.declared.command.Command.TheVariants.{Run}
 use Rattle.mcs_model.specs.declared.op.Op.TheVariants.{Wrm}
 use Rattle.mcs_model.specs.declared.stop.Stop.{Stop}
@@ -28,6 +28,18 @@ pub record RanOn (stops : Stops) (n : ℕ) (s t : Machine) (k : ℕ) (mark : Opt
   pub passed : (j : ℕ) → j < k → stop_after stops n s j ≡ None
   pub found : mark_at stops k (after_cycles (k - 1) s) t ≡ mark
   pub unmarked : mark ≡ None → is_outside t ≡ false → k ≡ n
+
+-- a run of at most n cycles from s, which did k of them and came to t: no reason to stop was passed, and neither a breakpoint
+-- nor a change of a watched character stops it
+pub record GoesOn (stops : Stops) (n k : ℕ) (s t : Machine) : Type 0 where
+  pub at : t ≡ after_cycles k s
+  pub within : k ≤ n
+  pub before : (j : ℕ) → j < k → stop_after stops n s j ≡ None
+  pub unmarked : mark_at stops k (after_cycles (k - 1) s) t ≡ None
+
+-- what a run of at most n cycles from s has come to, which did k of them and came to t: it goes on there, or is stopped
+abbrev pub CameTo : Stops → ℕ → Machine → Machine → ℕ → Option Stop → Type 0
+CameTo stops n s t k mark = MatchOption mark (GoesOn stops n k s t) (λ why. RanOn stops n s t k (Some why))
 
 -- the place of the selected character
 abbrev pub selected_place : Machine → ℕ

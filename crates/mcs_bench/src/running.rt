@@ -5,7 +5,7 @@ ghost use Rattle.mcs_model.specs.Effect.{cycle_of, instruction_at};
 ghost use Rattle.mcs_model.specs.Running.{InstructionRan, is_outside};
 ghost use Rattle.mcs_model.specs.declared.op.Op.TheVariants.{Wrm};
 ghost use Rattle.mcs_model.specs.Listed.{is_listed};
-ghost use Rattle.mcs_bench.specs.Runs.{RanOn, RanTo, SteppedTo, WentTo, WillChange, mark_of, stop_by};
+ghost use Rattle.mcs_bench.specs.Runs.{CameTo, RanTo, SteppedTo, WentTo, WillChange, mark_of, stop_by};
 
 use crate::breaks::Breaks;
 use crate::watches::Watches;
@@ -99,129 +99,6 @@ fn foresees(cpu: &Cpu, rig: &BenchRig, watches: &Watches, op: &Op, at: Addr) -> 
     will_change(cpu, rig, watches, op, at)
 }
 
-/// The instruction that is at an address, for at most `left` cycles, where a run may end with it: how many cycles it did,
-/// the address where the processor goes on, and why the run stops there. It is told whether a watched character changes.
-/// A call, since one copy serves both loops.
-#[inline(never)]
-fn run_last(
-    cpu: &mut Cpu,
-    rig: &mut BenchRig,
-    breaks: &Breaks,
-    op: Op,
-    at: Addr,
-    left: u32,
-    changes: bool,
-) -> (u32, Addr, Option<Stop>)
-    requires free { cpu.old.owed ≢ 1 }
-    requires some { 0 < left }
-    requires decoded { instruction_at (record cpu.old { pc = at }) rig.old ≡ Some op }
-    ensures ran { InstructionRan left (record cpu.old { pc = at }, rig.old)
-        (record cpu.new { pc = result.1 }, rig.new) result.0 }
-    ensures goes { 0 < result.0 }
-    ensures mark { result.2
-        ≡ mark_of (cpu.new.owed == 0 && is_listed breaks.now result.1) changes }
-{
-    let (next, cycles) = mcs_board::run_instruction(cpu, rig, op, at, left);
-    (cycles, next, mark_at(cpu, next, breaks, changes))
-}
-
-/// Runs for at most `n` cycles, up to the first breakpoint or change of a watched character: how many cycles it did, the
-/// address that it came to, and which of these stopped it. The counter itself stays as it is.
-#[inline(always)]
-fn run_loop<const WATCHED: bool>(
-    cpu: &mut Cpu,
-    rig: &mut BenchRig,
-    breaks: &Breaks,
-    watches: &Watches,
-    n: u32,
-) -> (u32, Addr, Option<Stop>)
-    requires { WATCHED ≡ false → watches.now ≡ [] }
-    ensures { RanOn (record { breaks = breaks.now; watches = watches.now }) n (cpu.old, rig.old)
-        (record cpu.new { pc = result.1 }, rig.new) result.0 result.2 }
-{
-    let mut at = cpu.regs().pc;
-    let mut left = n;
-    // The second cycle of an instruction that was begun touches nothing but what is owed. From then on, none is owed
-    // before the last cycle.
-    if n > 0 && cpu.regs().owed == 1 {
-        cpu.set_owed(0);
-        left = n - 1;
-        if let Some(why) = mark_at(cpu, at, breaks, false) {
-            return (1, at, Some(why));
-        }
-    }
-    // The last cycle, and a change of a watched character, are left to `run_last`: the loop asks neither whether a cycle
-    // is owed nor what has changed.
-    while left > 1 {
-        match mcs_board::instruction(cpu, rig, at) {
-            None => return (n - left, at, None),
-            Some(op) => {
-                if foresees_change::<WATCHED>(cpu, rig, watches, &op, at) {
-                    let (cycles, next, mark) = run_last(cpu, rig, breaks, op, at, left, true);
-                    return (n - (left - cycles), next, mark);
-                }
-                let (next, cycles) = mcs_board::run_instruction(cpu, rig, op, at, left);
-                at = next;
-                left -= cycles;
-            }
-        }
-        if breaks.contains(at) {
-            return (n - left, at, mark_at(cpu, at, breaks, false));
-        }
-    }
-    if left == 0 {
-        return (n, at, None);
-    }
-    match mcs_board::instruction(cpu, rig, at) {
-        None => (n - left, at, None),
-        Some(op) => {
-            let changes = foresees_change::<WATCHED>(cpu, rig, watches, &op, at);
-            let (cycles, next, mark) = run_last(cpu, rig, breaks, op, at, left, changes);
-            (n - (left - cycles), next, mark)
-        }
-    }
-}
-
-/// Runs for at most `n` cycles, up to the first breakpoint or change of a watched character: how many cycles it did, and
-/// which of these stopped it.
-#[inline(always)]
-fn run_on<const WATCHED: bool>(
-    cpu: &mut Cpu,
-    rig: &mut BenchRig,
-    breaks: &Breaks,
-    watches: &Watches,
-    n: u32,
-) -> (u32, Option<Stop>)
-    requires { WATCHED ≡ false → watches.now ≡ [] }
-    ensures { RanOn (record { breaks = breaks.now; watches = watches.now }) n (cpu.old, rig.old)
-        (cpu.new, rig.new) result.0 result.1 }
-{
-    // A copy that nothing else can reach: its registers need not go through memory at each cycle.
-    let mut running = *cpu;
-    let (cycles, at, mark) = run_loop::<WATCHED>(&mut running, rig, breaks, watches, n);
-    running.set_pc(at);
-    *cpu = running;
-    (cycles, mark)
-}
-
-/// The same, by the loop that looks at no character where none is watched.
-fn run_by(
-    cpu: &mut Cpu,
-    rig: &mut BenchRig,
-    breaks: &Breaks,
-    watches: &Watches,
-    n: u32,
-) -> (u32, Option<Stop>)
-    ensures { RanOn (record { breaks = breaks.now; watches = watches.now }) n (cpu.old, rig.old)
-        (cpu.new, rig.new) result.0 result.1 }
-{
-    if watches.is_empty() {
-        run_on::<false>(cpu, rig, breaks, watches, n)
-    } else {
-        run_on::<true>(cpu, rig, breaks, watches, n)
-    }
-}
-
 /// Why a run stops, by what stopped it but for a code outside and its end.
 pub(crate) fn stop_by(cpu: &Cpu, rig: &BenchRig, mark: Option<Stop>) -> Stop
     ensures { result ≡ stop_by (cpu.now, rig.now) mark }
@@ -233,21 +110,6 @@ pub(crate) fn stop_by(cpu: &Cpu, rig: &BenchRig, mark: Option<Stop>) -> Stop
         Some(why) => why,
         None => Stop::Ended,
     }
-}
-
-/// A run of at most `n` cycles: how many it did, and why it stopped.
-pub(crate) fn run(
-    cpu: &mut Cpu,
-    rig: &mut BenchRig,
-    breaks: &Breaks,
-    watches: &Watches,
-    n: u32,
-) -> (u32, Stop)
-    ensures { RanTo (record { breaks = breaks.now; watches = watches.now }) n (cpu.old, rig.old)
-        (cpu.new, rig.new) result.0 result.1 }
-{
-    let (cycles, mark) = run_by(cpu, rig, breaks, watches, n);
-    (cycles, stop_by(cpu, rig, mark))
 }
 
 /// What an instruction of a run did, or the second cycle of one.
@@ -312,6 +174,97 @@ pub(crate) fn go_on(
             })
         }
     }
+}
+
+/// Begins a run of at most `n` cycles, and goes on up to a breakpoint, or to an instruction that may end it otherwise:
+/// how many cycles it did, the address that it came to, and whether the breakpoint stops it. The counter itself stays
+/// as it is.
+#[inline(always)]
+fn fast_loop<const WATCHED: bool>(
+    cpu: &mut Cpu,
+    rig: &mut BenchRig,
+    breaks: &Breaks,
+    watches: &Watches,
+    n: u32,
+) -> (u32, Addr, Option<Stop>)
+    requires { WATCHED ≡ false → watches.now ≡ [] }
+    ensures { CameTo (record { breaks = breaks.now; watches = watches.now }) n (cpu.old, rig.old)
+        (record cpu.new { pc = result.1 }, rig.new) result.0 result.2 }
+{
+    let mut at = cpu.regs().pc;
+    let mut left = n;
+    // From here on, no cycle is owed before the last one.
+    if n > 0 && cpu.regs().owed == 1 {
+        left = n - 1;
+        if let Some(why) = finish(cpu, breaks).mark {
+            return (1, at, Some(why));
+        }
+    }
+    while left > 1 {
+        match mcs_board::instruction(cpu, rig, at) {
+            None => return (n - left, at, None),
+            Some(op) => {
+                if foresees_change::<WATCHED>(cpu, rig, watches, &op, at) {
+                    return (n - left, at, None);
+                }
+                let (next, cycles) = mcs_board::run_instruction(cpu, rig, op, at, left);
+                at = next;
+                left -= cycles;
+            }
+        }
+        if breaks.contains(at) {
+            return (n - left, at, mark_at(cpu, at, breaks, false));
+        }
+    }
+    (n - left, at, None)
+}
+
+/// The same, which sets the counter, by the loop that looks at no character where none is watched.
+fn run_fast(
+    cpu: &mut Cpu,
+    rig: &mut BenchRig,
+    breaks: &Breaks,
+    watches: &Watches,
+    n: u32,
+) -> (u32, Option<Stop>)
+    ensures { CameTo (record { breaks = breaks.now; watches = watches.now }) n (cpu.old, rig.old)
+        (cpu.new, rig.new) result.0 result.1 }
+{
+    // A copy that nothing else can reach: its registers need not go through memory at each cycle.
+    let mut copy = *cpu;
+    let (done, at, mark) = if watches.is_empty() {
+        fast_loop::<false>(&mut copy, rig, breaks, watches, n)
+    } else {
+        fast_loop::<true>(&mut copy, rig, breaks, watches, n)
+    };
+    copy.set_pc(at);
+    *cpu = copy;
+    (done, mark)
+}
+
+/// A run of at most `n` cycles: how many it did, and why it stopped.
+pub(crate) fn run(
+    cpu: &mut Cpu,
+    rig: &mut BenchRig,
+    breaks: &Breaks,
+    watches: &Watches,
+    n: u32,
+) -> (u32, Stop)
+    ensures { RanTo (record { breaks = breaks.now; watches = watches.now }) n (cpu.old, rig.old)
+        (cpu.new, rig.new) result.0 result.1 }
+{
+    let (mut done, mut mark) = run_fast(cpu, rig, breaks, watches, n);
+    // An instruction that may end it is left: the last one, one that changes a watched character, or a code outside.
+    while done < n && mark.is_none() {
+        match go_on(cpu, rig, breaks, watches, n - done) {
+            None => return (done, Stop::Outside),
+            Some(went) => {
+                done += went.cycles;
+                mark = went.mark;
+            }
+        }
+    }
+    (done, stop_by(cpu, rig, mark))
 }
 
 /// One cycle, if one can follow, and whether one could.

@@ -3,8 +3,8 @@ use Rattle.mcs_model.specs.BenchState.{BenchState}
 use Rattle.mcs_model.specs.Command.{machine_of, stops_of}
 use Rattle.mcs_model.specs.Running.{Machine, Stops}
 use Rattle.mcs_bench.specs.declared.running.Went.{Went}
-use Rattle.mcs_bench.specs.Runs.{WentTo, stop_by}
-use Rattle.mcs_bench.proofs.Runs.{GoesOn, begins, ends, goes-full, goes-out, went-goes, went-stops}
+use Rattle.mcs_bench.specs.Runs.{GoesOn, WentTo, stop_by}
+use Rattle.mcs_bench.proofs.Runs.{begins, ends, goes-full, goes-out, went-goes, went-stops}
 use Rattle.mcs_ahead.specs.Probes.{row}
 use Rattle.mcs_answers.proofs.AheadLines.{lines_text, told-by, told-more, within-none}
 use Rattle.mcs_answers.proofs.Resting.{row-stays}

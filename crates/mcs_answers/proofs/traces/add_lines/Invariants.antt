@@ -1,6 +1,6 @@
 use Rattle.std.proofs.Common.{◌≡◌, ◌-◌}
 use Rattle.mcs_model.specs.Command.{machine_of, stops_of}
-use Rattle.mcs_bench.proofs.Runs.{GoesOn}
+use Rattle.mcs_bench.specs.Runs.{GoesOn}
 use Rattle.mcs_answers.proofs.AheadLines.{Told}
 use Rattle.mcs_answers.proofs.traces.add_lines.Given as goal
 

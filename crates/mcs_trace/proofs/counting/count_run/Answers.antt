@@ -3,8 +3,8 @@ use Rattle.mcs_model.specs.BenchState.{BenchState}
 use Rattle.mcs_model.specs.Command.{machine_of, stops_of}
 use Rattle.mcs_model.specs.Running.{Machine, Stops}
 use Rattle.mcs_bench.specs.declared.running.Went.{Went}
-use Rattle.mcs_bench.specs.Runs.{WentTo, stop_by}
-use Rattle.mcs_bench.proofs.Runs.{GoesOn, begins, ends, goes-full, goes-out, went-goes, went-stops}
+use Rattle.mcs_bench.specs.Runs.{GoesOn, WentTo, stop_by}
+use Rattle.mcs_bench.proofs.Runs.{begins, ends, goes-full, goes-out, went-goes, went-stops}
 use Rattle.mcs_ahead.specs.Ahead.{is_at, jumps}
 use Rattle.mcs_trace.proofs.CountLemmas.{counted-by, tally-few, tally-none, runs-next, jumps-next}
 use Rattle.mcs_trace.proofs.counting.count_run.Goals as goal
