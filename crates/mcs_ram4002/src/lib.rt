@@ -1,4 +1,8 @@
 //! The 4002: RAM chips, and the banks that they form. A chip keeps two characters a byte.
+//!
+//! A bank by itself is what a processor sees: `src`, `read`, `write`, `read_status`, `write_status` and `write_port` go to
+//! what the last SRC selects. A rig asks and writes by place instead (`at`, `status_at`, `port`, `store`), as whoever looks
+//! at a board does: so what SRC selects is said once there, of the state of all banks.
 #![tactic(auto)]
 
 ghost use Rattle.std.specs.Prelude.{◌≡◌, ℕ, ◌+◌, ◌-◌, ◌*◌, ◌/◌, ◌%◌, ◌<◌, ◌≤◌, All, replicate, slice_index};

@@ -1,4 +1,7 @@
 //! The 4001: 256 bytes of program memory and a port of four lines.
+//!
+//! A ROM by itself answers for all that it holds: `byte`, `line`, `read_port`. A rig has the bytes by address as well, so
+//! that a fetch asks no chip, and the masks from its board (`read_port_of`).
 #![tactic(auto)]
 
 ghost use Rattle.std.specs.Prelude.{◌≡◌, ℕ, ◌<◌, All, slice_index, slice_set, replicate, length};
