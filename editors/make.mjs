@@ -1,21 +1,22 @@
 // Makes the grammars of editors out of the words that the page knows: `node editors/make.mjs [FOLDER]`. Into the folder (this one where none
-// is named) go those of Visual Studio Code (TextMate, which GitHub reads too), Vim, Emacs and Kate, for programs and for boards.
+// is named) go those of Visual Studio Code (TextMate, which GitHub reads too), Vim, Emacs and Kate, for programs and for boards. Of Emacs'
+// modes the words alone are made.
 //
 // Programs: a label or a name that is defined, the instruction of the statement or a directive, registers, numbers, names. Boards: tables,
 // keys, texts, numbers, and comments, in which the lines of the face are told apart. checks/grammars compares them with the page.
-import { mkdirSync, writeFileSync } from "node:fs";
+import { mkdirSync, readFileSync, writeFileSync } from "node:fs";
 import { dirname } from "node:path";
 import { fileURLToPath } from "node:url";
+import { KEYS } from "../page/src/bench/board_form.js";
 import { KINDS } from "../page/src/board/face_words.js";
 import { instructionsOf } from "../page/src/help/manual.js";
 import { DIRECTIVES } from "../page/src/text/assembly.js";
-import { TOML_KEYS } from "../page/src/text/board_words.js";
 import { dataOfPage } from "../tools/lib/page_parts.mjs";
 
 const OWN = dirname(fileURLToPath(import.meta.url));
 const INSTRUCTIONS = [...instructionsOf(dataOfPage().manual).keys()].sort();
 const FACE = [...KINDS.keys()].sort();
-const TABLES = Object.keys(TOML_KEYS).sort();
+const TABLES = Object.keys(KEYS).sort();
 
 const NAME = "[A-Za-z_][A-Za-z0-9_]*";
 const NUMBER = "(?:0x[0-9A-Fa-f]+|[0-9]+)";
@@ -145,58 +146,13 @@ autocmd BufRead,BufNewFile board.toml setlocal syntax=mcs4board
 
 // --- Emacs
 
+/** The modes as they stand, with these words in the place of theirs. */
 function modesOfEmacs() {
-  const words = (list) => `(regexp-opt '(${list.map((word) => `"${word}"`).join(" ")}))`;
-  return `;;; mcs4-mode.el --- programs and boards of the MCS-4 bench  -*- lexical-binding: t -*-
-;; ${WARNING}
-;;; Code:
-
-(defconst mcs4-program-words
-  \`((,(concat "^[ \\t]*\\\\(?:${NAME}[ \\t]*:\\\\)?[ \\t]*\\\\(" ${words(INSTRUCTIONS)} "\\\\)\\\\(?:[ \\t,;]\\\\|$\\\\)")
-     1 font-lock-keyword-face)
-    (,(concat "^[ \\t]*\\\\(?:${NAME}[ \\t]*:\\\\)?[ \\t]*\\\\(" ${words(DIRECTIVES)} "\\\\)\\\\(?:[ \\t,;]\\\\|$\\\\)")
-     1 font-lock-preprocessor-face)
-    ("^[ \\t]*\\\\(${NAME}\\\\)[ \\t]*:" 1 font-lock-function-name-face)
-    ("^[ \\t]*\\\\(${NAME}\\\\)[ \\t]*=" 1 font-lock-type-face)
-    ("^[ \\t]*\\\\(?:${NAME}[ \\t]*:\\\\)?[ \\t]*\\\\([^ \\t\\n,;:=]+\\\\)\\\\(?:[ \\t,;]\\\\|$\\\\)" 1 font-lock-warning-face)
-    ("\\\\_<\\\\(?:R\\\\(?:1[0-5]\\\\|[0-9]\\\\)\\\\|P[0-7]\\\\)\\\\_>" . font-lock-builtin-face)
-    ("\\\\_<\\\\(?:0x[0-9A-F]+\\\\|[0-9]+\\\\)\\\\_>" . font-lock-constant-face)
-    ("\\\\_<${NAME}\\\\_>" . font-lock-variable-name-face))
-  "What stands in a program.")
-
-;;;###autoload
-(define-derived-mode mcs4-mode prog-mode "MCS-4"
-  "Programs for the MCS-4 bench."
-  (modify-syntax-entry ?\\; "<" mcs4-mode-syntax-table)
-  (modify-syntax-entry ?\\n ">" mcs4-mode-syntax-table)
-  (modify-syntax-entry ?_ "_" mcs4-mode-syntax-table)
-  (modify-syntax-entry ?= "." mcs4-mode-syntax-table)
-  (modify-syntax-entry ?\\" "." mcs4-mode-syntax-table)
-  (setq-local comment-start "; " comment-start-skip ";+[ \\t]*" font-lock-defaults '(mcs4-program-words nil t)))
-
-(defconst mcs4-board-words
-  \`(("#[ \\t]*\\\\(${FACE.join("\\\\|")}\\\\)\\\\_>[^:\\n]*:" 1 font-lock-doc-face prepend)
-    ("^[ \\t]*\\\\[+[ \\t]*\\\\(${TABLES.join("\\\\|")}\\\\)[ \\t]*\\\\]" 1 font-lock-type-face)
-    ("\\\\([A-Za-z0-9_-]+\\\\)[ \\t]*=" 1 font-lock-variable-name-face)
-    ("\\\\_<[+-]?[0-9][0-9A-Za-z_.]*" . font-lock-constant-face))
-  "What stands in the text of a board.")
-
-;;;###autoload
-(define-derived-mode mcs4-board-mode prog-mode "MCS-4 board"
-  "Boards of the MCS-4 bench."
-  (modify-syntax-entry ?# "<" mcs4-board-mode-syntax-table)
-  (modify-syntax-entry ?\\n ">" mcs4-board-mode-syntax-table)
-  (modify-syntax-entry ?' "\\"" mcs4-board-mode-syntax-table)
-  (setq-local comment-start "# " comment-start-skip "#+[ \\t]*" font-lock-defaults '(mcs4-board-words)))
-
-;;;###autoload
-(add-to-list 'auto-mode-alist '("\\\\.asm\\\\'" . mcs4-mode))
-;;;###autoload
-(add-to-list 'auto-mode-alist '("/board\\\\.toml\\\\'" . mcs4-board-mode))
-
-(provide 'mcs4-mode)
-;;; mcs4-mode.el ends here
-`;
+  const lists = { instructions: INSTRUCTIONS, directives: DIRECTIVES, face: FACE, tables: TABLES };
+  return Object.entries(lists).reduce(
+    (text, [name, words]) => text.replace(new RegExp(`(?<=^\\(defconst mcs4-${name} '\\().*(?=\\)\\)$)`, "m"), words.map((word) => `"${word}"`).join(" ")),
+    readFileSync(`${OWN}/emacs/mcs4-mode.el`, "utf8"),
+  );
 }
 
 // --- Kate

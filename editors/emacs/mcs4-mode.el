@@ -1,18 +1,25 @@
 ;;; mcs4-mode.el --- programs and boards of the MCS-4 bench  -*- lexical-binding: t -*-
-;; Made by editors/make.mjs out of the words that the page knows; edits here are lost.
 ;;; Code:
 
+;; Words, made by editors/make.mjs out of those that the page knows; edits of them are lost.
+(defconst mcs4-instructions '("ADD" "ADM" "BBL" "CLB" "CLC" "CMA" "CMC" "DAA" "DAC" "DCL" "FIM" "FIN" "IAC" "INC" "ISZ" "JCN" "JIN" "JMS" "JUN" "KBP" "LD" "LDM" "NOP" "RAL" "RAR" "RD0" "RD1" "RD2" "RD3" "RDM" "RDR" "SBM" "SRC" "STC" "SUB" "TCC" "TCS" "WMP" "WR0" "WR1" "WR2" "WR3" "WRM" "WRR" "XCH"))
+(defconst mcs4-directives '("ORG" "DB"))
+(defconst mcs4-face '("bar" "buzzer" "colour" "die" "display" "grid" "lamp" "matrix" "port" "printer" "row" "test" "title"))
+(defconst mcs4-tables '("chain" "keys" "lamp" "ram" "rom"))
+
+(defconst mcs4-name "[A-Za-z_][A-Za-z0-9_]*")
+
 (defconst mcs4-program-words
-  `((,(concat "^[ \t]*\\(?:[A-Za-z_][A-Za-z0-9_]*[ \t]*:\\)?[ \t]*\\(" (regexp-opt '("ADD" "ADM" "BBL" "CLB" "CLC" "CMA" "CMC" "DAA" "DAC" "DCL" "FIM" "FIN" "IAC" "INC" "ISZ" "JCN" "JIN" "JMS" "JUN" "KBP" "LD" "LDM" "NOP" "RAL" "RAR" "RD0" "RD1" "RD2" "RD3" "RDM" "RDR" "SBM" "SRC" "STC" "SUB" "TCC" "TCS" "WMP" "WR0" "WR1" "WR2" "WR3" "WRM" "WRR" "XCH")) "\\)\\(?:[ \t,;]\\|$\\)")
-     1 font-lock-keyword-face)
-    (,(concat "^[ \t]*\\(?:[A-Za-z_][A-Za-z0-9_]*[ \t]*:\\)?[ \t]*\\(" (regexp-opt '("ORG" "DB")) "\\)\\(?:[ \t,;]\\|$\\)")
-     1 font-lock-preprocessor-face)
-    ("^[ \t]*\\([A-Za-z_][A-Za-z0-9_]*\\)[ \t]*:" 1 font-lock-function-name-face)
-    ("^[ \t]*\\([A-Za-z_][A-Za-z0-9_]*\\)[ \t]*=" 1 font-lock-type-face)
-    ("^[ \t]*\\(?:[A-Za-z_][A-Za-z0-9_]*[ \t]*:\\)?[ \t]*\\([^ \t\n,;:=]+\\)\\(?:[ \t,;]\\|$\\)" 1 font-lock-warning-face)
-    ("\\_<\\(?:R\\(?:1[0-5]\\|[0-9]\\)\\|P[0-7]\\)\\_>" . font-lock-builtin-face)
-    ("\\_<\\(?:0x[0-9A-F]+\\|[0-9]+\\)\\_>" . font-lock-constant-face)
-    ("\\_<[A-Za-z_][A-Za-z0-9_]*\\_>" . font-lock-variable-name-face))
+  (let ((statement (concat "^[ \t]*\\(?:" mcs4-name "[ \t]*:\\)?[ \t]*\\("))
+        (ends "\\)\\(?:[ \t,;]\\|$\\)"))
+    `((,(concat statement (regexp-opt mcs4-instructions) ends) 1 font-lock-keyword-face)
+      (,(concat statement (regexp-opt mcs4-directives) ends) 1 font-lock-preprocessor-face)
+      (,(concat "^[ \t]*\\(" mcs4-name "\\)[ \t]*:") 1 font-lock-function-name-face)
+      (,(concat "^[ \t]*\\(" mcs4-name "\\)[ \t]*=") 1 font-lock-type-face)
+      (,(concat statement "[^ \t\n,;:=]+" ends) 1 font-lock-warning-face)
+      ("\\_<\\(?:R\\(?:1[0-5]\\|[0-9]\\)\\|P[0-7]\\)\\_>" . font-lock-builtin-face)
+      ("\\_<\\(?:0x[0-9A-F]+\\|[0-9]+\\)\\_>" . font-lock-constant-face)
+      (,(concat "\\_<" mcs4-name "\\_>") . font-lock-variable-name-face)))
   "What stands in a program.")
 
 ;;;###autoload
@@ -26,8 +33,8 @@
   (setq-local comment-start "; " comment-start-skip ";+[ \t]*" font-lock-defaults '(mcs4-program-words nil t)))
 
 (defconst mcs4-board-words
-  `(("#[ \t]*\\(bar\\|buzzer\\|colour\\|die\\|display\\|grid\\|lamp\\|matrix\\|port\\|printer\\|row\\|test\\|title\\)\\_>[^:\n]*:" 1 font-lock-doc-face prepend)
-    ("^[ \t]*\\[+[ \t]*\\(chain\\|keys\\|lamp\\|ram\\|rom\\)[ \t]*\\]" 1 font-lock-type-face)
+  `((,(concat "#[ \t]*" (regexp-opt mcs4-face t) "\\_>[^:\n]*:") 1 font-lock-doc-face prepend)
+    (,(concat "^[ \t]*\\[+[ \t]*" (regexp-opt mcs4-tables t) "[ \t]*\\]") 1 font-lock-type-face)
     ("\\([A-Za-z0-9_-]+\\)[ \t]*=" 1 font-lock-variable-name-face)
     ("\\_<[+-]?[0-9][0-9A-Za-z_.]*" . font-lock-constant-face))
   "What stands in the text of a board.")
