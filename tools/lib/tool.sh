@@ -556,6 +556,15 @@ need_named() {
     if [ -z "$2" ]; then fail "$project_file names no $1; name some there, or behind the command"; fi
 }
 
+# The same of a tool that runs tests, which has so many words: with none of them `project_texts` has the tests of the project, too.
+tests_from_project() {
+    from_project 3 "$1" || return 1
+    if [ "$1" -eq 0 ]; then
+        need_named tests "$project_tests"
+        project_texts="$project_texts $project_tests"
+    fi
+}
+
 # The folder of the project that is named.
 project=
 case $usage in
