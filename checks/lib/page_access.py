@@ -4,7 +4,7 @@ reader (its accessibility tree), the way of the Tab key, and the contrast of all
 import re
 
 from page_in_browser import (AT_COUNTER, ESCAPE, PUT_INTO_EDITOR, TAB, TEXT_OF_EDITOR, choose_example, lines_answered, open_anew, show_text,
-                             stop_time)
+                             step_with_marks, stop_time)
 from verdicts import comes, verdict
 from web_driver import Chromium
 
@@ -124,11 +124,7 @@ def check_views(browser):
 
 
 def check_board(browser):
-    choose_example(browser, "traffic light")
-    comes(browser, "a lamp is lit", "return document.querySelectorAll('.bulb.lit').length > 0", True)
-    stop_time(browser)
-    browser.click("#step")
-    comes(browser, "a step leaves marks", "return document.querySelectorAll('.changed').length > 0", True)
+    step_with_marks(browser)
     comes(browser, "the listing is at the counter", AT_COUNTER, True)
     browser.click_at_rest("#lines-of-program button.next")
     comes(browser, "a breakpoint is said as pressed", "return document.querySelector('#lines-of-program .next').getAttribute('aria-pressed')", "true")

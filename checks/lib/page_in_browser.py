@@ -105,6 +105,15 @@ def choose_example(browser, name):
     browser.until("return document.getElementById('sessions').open", False)
 
 
+def step_with_marks(browser):
+    """Lamps that are lit, time that stands, and the marks of what a step has changed: the traffic light."""
+    choose_example(browser, "traffic light")
+    comes(browser, "a lamp is lit", "return document.querySelectorAll('.bulb.lit').length > 0", True)
+    stop_time(browser)
+    browser.click("#step")
+    comes(browser, "a step leaves marks", "return document.querySelectorAll('.changed').length > 0", True)
+
+
 def check_calculator(browser):
     choose_example(browser, "calculator")
     for legend in "12+30=":

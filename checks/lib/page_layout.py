@@ -4,7 +4,7 @@ import re
 import time
 
 from page_in_browser import (AT_COUNTER, ENTER, ESCAPE, STATUS, STEPPED, choose_example, key, lines_answered, open_anew, show_text,
-                             stop_time, until_ready)
+                             step_with_marks, stop_time, until_ready)
 from verdicts import comes, verdict
 from web_driver import Chromium
 
@@ -438,11 +438,7 @@ return lit !== dark && !lit.startsWith("rgba(0, 0, 0, 0)")"""
 
 
 def check_forced_colours(browser):
-    choose_example(browser, "traffic light")
-    comes(browser, "a lamp is lit", "return document.querySelectorAll('.bulb.lit').length > 0", True)
-    stop_time(browser)
-    browser.click("#step")
-    comes(browser, "a step leaves marks", "return document.querySelectorAll('.changed').length > 0", True)
+    step_with_marks(browser)
     emulate(browser, forced_colors="active")
     verdict("where the system forces colours a lit lamp is full", browser.script(LAMP_LOOKS), True)
     outlined = "return getComputedStyle(document.querySelector('.changed')).outlineStyle"
