@@ -14,6 +14,8 @@ STATE = "return document.getElementById('drawing-state').textContent"
 BULBS = "return [...document.querySelectorAll('#front .bulb')].map((bulb) => (bulb.classList.contains('lit') ? '*' : '.')).join('')"
 KEYS = "return document.querySelectorAll('#keys .key').length"
 HIGH = "return document.querySelectorAll('#wiring-picture .high').length"
+# What is written on the button for the sound of a buzzer, where there is one.
+SOUND = "return document.getElementById('sound').hidden ? '' : document.getElementById('sound-button').textContent"
 FOCUS = "return document.activeElement.getAttribute('aria-label')"
 TITLE = "return document.querySelector('#chosen > b').textContent"
 OFFERED = "return [...document.querySelectorAll('#wiring-picture .can-end')].map((each) => each.getAttribute('aria-label'))"
@@ -168,6 +170,40 @@ def check_wires(browser):
     check_part_is_dragged(browser)
 
 
+def check_buzzer(browser):
+    """A buzzer comes by mouse, is wired, named, deleted and undone, by keys and by fingers, too."""
+    choose_example(browser, "empty bench")
+    show_text(browser, "wiring")
+    verdict("a board without a buzzer has no sound", browser.script(SOUND), "")
+    browser.click("#shelf-buzzer")
+    comes(browser, "a buzzer comes with what it needs", SAID, "The buzzer was added, with ROM 0.")
+    verdict("as a line of the face", text_of(browser).split("\n")[0], "# buzzer rom0.0: buzzer")
+    verdict("a second one is not offered, and says why", browser.script(DISABLED), ["Buzzer: A board has one buzzer: delete that one first."])
+    drag(browser, f"{pin('ROM 0 · 4001, out 3')} circle", f"{pin('Buzzer, buzzer')} circle")
+    comes(browser, "a wire is dragged to it", SAID, "Line rom0.3 is wired to the buzzer.")
+    comes(browser, "the picture has it", LINES, re.compile("buzzer sounds the edges of rom0.3"))
+    browser.script("const name = document.querySelector('#chosen [aria-label=name]'); name.focus(); name.select()")
+    browser.keys([*"the horn", ENTER], 10, 10)
+    comes(browser, "it is named", SAID, "The buzzer is called the horn.")
+    verdict("in the same line", text_of(browser).split("\n")[0], "# buzzer rom0.3: the horn")
+    browser.click("#drawing-wire")
+    comes(browser, "it is wired, and can be heard", SOUND, "Sound of the horn")
+    browser.script("document.querySelector('#wiring-picture .of-buzzer').focus()")
+    browser.keys([DELETE])
+    comes(browser, "the Delete key deletes it", SAID, "The buzzer was deleted.")
+    browser.chord(CONTROL, "z")
+    comes(browser, "Ctrl Z brings it back", LINES, re.compile("the horn sounds the edges of rom0.3"))
+    browser.script("document.querySelector(arguments[0]).focus()", pin("Buzzer, the horn"))
+    browser.keys([ENTER])
+    comes(browser, "Enter begins a wire at it", SAID, "A wire begins at the buzzer: it can end at 3 pins.")
+    browser.keys([UP, ENTER])
+    comes(browser, "and ends it at another line", SAID, "Line rom0.2 is wired to the buzzer.")
+    if browser.has_fingers:
+        browser.fingers([f"{pin('ROM 0 · 4001, out 1')} circle"], 60)
+        browser.fingers([f"{pin('Buzzer, the horn')} circle"], 60)
+        comes(browser, "fingers wire it, too", SAID, "Line rom0.1 is wired to the buzzer.")
+
+
 def check_part_is_dragged(browser):
     before = browser.script(PLACE_OF_KEYS)
     drag(browser, "#wiring-picture .of-keys .title", (-30, 90))
@@ -285,7 +321,7 @@ def check_faults(browser):
     text = text_of(browser)
     browser.script(PUT_INTO_EDITOR, BOARD, f"{text}\n[[lamp]]\n")
     comes(browser, "a text with faults says so", STATE, re.compile("^The bench refuses the board's text"))
-    verdict("and nothing can be added", len(browser.script(DISABLED)), 11)
+    verdict("and nothing can be added", len(browser.script(DISABLED)), 12)
     browser.script(PUT_INTO_EDITOR, BOARD, text.replace("# title: Lock", "# title: Other"))
     comes(browser, "without them it goes on", STATE, "")
     browser.script("document.querySelector('#wiring-picture [tabindex=\"0\"]').focus()")
@@ -306,6 +342,7 @@ def check(browser, page, _folder, _mcs4):
     browser.go(page.as_uri())
     until_ready(browser)
     check_by_mouse(browser)
+    check_buzzer(browser)
     check_wires(browser)
     check_by_keyboard(browser)
     check_zoom(browser)

@@ -7,7 +7,7 @@ import { Face, faceFaults } from "../src/board/face.js";
 import { linesOfPrinter, missingOf } from "../src/board/face_board.js";
 import { SHELF, actOn, isReadAlike } from "../src/drawing/acts.js";
 import { linesOf } from "../src/bench/board_form.js";
-import { mayWire, sourcesOf, targetsOf, wiringOf } from "../src/drawing/board_lines.js";
+import { mayWire, sourcesOf, targetsOf, wiringOf, withBuzzer } from "../src/drawing/board_lines.js";
 import { fieldsOf } from "../src/drawing/fields.js";
 import { edited, inverseOf } from "../src/drawing/text_edits.js";
 import { headOf } from "../src/board/face_words.js";
@@ -131,6 +131,30 @@ onBench("a buzzer keeps its line, goes with it, and is found again where chains 
   assert.equal(first(check("horn", atRam, { kind: "delete", part: "ram 0.1" })), "[[ram]]");
 });
 
+onBench("a buzzer comes from the shelf, is wired, named and deleted, and goes with its chip", () => {
+  const first = ({ text }) => text.split("\n", 1)[0];
+  const added = check("nothing", "", { kind: "add", part: "buzzer" });
+  assert.equal(added.text, '# buzzer rom0.0: buzzer\n\n[[rom]]\nchip = 0\nport = "0000"\n');
+  assert.equal(added.words, "The buzzer was added, with ROM 0.");
+  assert.match(actOn(added.text, { kind: "add", part: "buzzer" }).refusal, /^A board has one buzzer/);
+  // Its line is taken.
+  assert.match(check("buzzer", added.text, { kind: "add", part: "chain" }).text, /clock = "rom0.1"/);
+  const moved = check("buzzer", added.text, { kind: "wire", line: "rom0.2", target: "buzzer 0" });
+  assert.deepEqual([first(moved), moved.words], ["# buzzer rom0.2: buzzer", "Line rom0.2 is wired to the buzzer."]);
+  const named = check("buzzer", moved.text, { kind: "name", part: "buzzer", name: "the horn" });
+  assert.deepEqual([first(named), named.words], ["# buzzer rom0.2: the horn", "The buzzer is called the horn."]);
+  assert.equal(actOn(named.text, { kind: "name", part: "buzzer", name: " " }).refusal, "A buzzer has a name.");
+  const inputs = actOn(named.text, { kind: "add", part: "inputs" }).text;
+  assert.match(actOn(inputs, { kind: "wire", line: "rom1.0", target: "buzzer 0" }).refusal, /rom1.0 is an input line: the buzzer takes/);
+  assert.equal(check("buzzer", named.text, { kind: "delete", part: "buzzer" }).text, '[[rom]]\nchip = 0\nport = "0000"\n');
+  assert.equal(check("buzzer", named.text, { kind: "delete", part: "rom 0" }).words, "ROM 0 was deleted, and with it the buzzer.");
+  const board = { ...named.board, buzzer: "rom0.2" };
+  assert.deepEqual(targetsOf(board, "rom0.3"), ["buzzer 0"]);
+  const { title, fields, buttons } = fieldsOf(board, new Face(named.text), "buzzer 0");
+  assert.deepEqual([title, ...fields.map(({ value }) => value), ...buttons.map(({ word }) => word)],
+    ["The buzzer", "the horn", "rom0.2", "Delete"]);
+});
+
 onBench("so does a printer, with its strobe and with the port of its code", () => {
   const first = ({ text }) => text.split("\n", 1)[0];
   const chain = '[[chain]]\nclock = "rom0.0"\ndata = "rom0.1"\nchips = 1\n';
@@ -149,7 +173,7 @@ for (const { name, text } of BOARDS) {
       if (actOn(text, { kind: "add", part }).refusal) continue;
       const done = check(name, text, { kind: "add", part });
       assert.deepEqual(comments(done.text), comments(text), `${name}: ${part}`);
-      const isMore = textOf(board).length < textOf(done.board).length || ["button", "switch", "ram"].includes(part);
+      const isMore = textOf(board).length < textOf(done.board).length || ["button", "switch", "buzzer", "ram"].includes(part);
       assert.ok(isMore, part);
       const gone = check(name, done.text, { kind: "delete", part: done.part });
       if (!done.words.includes(", with ")) {
@@ -330,8 +354,8 @@ onBench("whatever is done one after the other, the bench takes the text, comment
     let text = begun;
     const back = [];
     for (let step = 0; step < 25; step++) {
-      const board = readBoard(ask([text])[0].board);
-      const act = anyAct(pick, board, new Face(text));
+      const face = new Face(text);
+      const act = anyAct(pick, withBuzzer(readBoard(ask([text])[0].board), face), face);
       if (actOn(text, act).refusal) refused += 1;
       else {
         const next = check(`seed ${seed}`, text, act);

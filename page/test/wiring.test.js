@@ -30,7 +30,7 @@ test("a wire goes from what drives a line, or is read at it, to what uses it", (
 });
 
 test("the words of a part say what its lines do", () => {
-  const { parts } = drawBoard(readBoard(BOARD), { names: ["red"], colours: ["green"], test: null });
+  const { parts } = drawBoard(readBoard(BOARD), { names: ["red"], colours: ["green"], test: null, buzzer: null });
   const says = (id) => parts.find((part) => part.id === id).says;
   assert.deepEqual(says("rom 0").slice(0, 2), ["line rom0.0, an output, clocks chain 0", "line rom0.1, an output, is the data of chain 0"]);
   assert.equal(says("rom 1")[2], "line rom1.2, an input, is not used");
@@ -45,6 +45,15 @@ test("what is at TEST is a part with a wire to the processor, and has its words"
   assert.deepEqual(wires.map(({ from, to }) => `${from.label} ${to.label}`), ["button TEST"]);
   assert.equal(parts[0].says[1], "its input TEST is at the button CROSS THE ROAD");
   assert.deepEqual(parts[1].says, ["the button CROSS THE ROAD puts TEST to 0 while it is pressed"]);
+});
+
+test("a buzzer is a part with a wire from its line", () => {
+  const board = readBoard(["board", "[[rom]]", "chip = 0", 'port = "0000"']);
+  const { parts, wires } = drawBoard(board, { names: [], colours: [], test: null, buzzer: { place: "rom0.3", name: "the horn" } });
+  assert.deepEqual(parts.map(({ title }) => title), ["4004", "ROM 0 · 4001", "Buzzer"]);
+  assert.deepEqual(wires.map(({ from, to }) => `${from.label} ${to.label}`), ["out 3 the horn"]);
+  assert.equal(parts[1].says[3], "line rom0.3, an output, sounds the buzzer");
+  assert.deepEqual(parts[2].says, ["the horn sounds the edges of rom0.3"]);
 });
 
 test("an empty board has a processor", () => {

@@ -5,14 +5,16 @@ import { BITS } from "../bench/board_form.js";
 /**
  * @typedef {import("../bench/answers.js").Board} Board
  * @typedef {import("./face.js").TestPin} TestPin
+ * @typedef {{ place: string, name: string }} Buzzer
  *
  * A pin of a part. `line` is the line of the board that it is at, as the board's text names it ("" for the TEST pin); a lamp has a colour.
- * Its own name is that line where the part drives it or reads it, else what it is: `clock 0`, `data 0`, `row 1`, `column 2`, `lamp 3`.
+ * Its own name is that line where the part drives it or reads it, else what it is: `clock 0`, `data 0`, `row 1`, `column 2`, `lamp 3`,
+ * `buzzer 0`.
  * @typedef {{ id: string, line: string, label: string, colour?: string, x: number, y: number }} Pin
  * @typedef {Omit<Pin, "x" | "y">} PinToPut
  *
- * A part: its name in the text (`rom 1`, `ram 0.2`, `chain 0`, `keys`, `lamps`, `test`, `processor`), what it is called, and where it
- * stands.
+ * A part: its name in the text (`rom 1`, `ram 0.2`, `chain 0`, `keys`, `lamps`, `test`, `buzzer`, `processor`), what it is called, and
+ * where it stands.
  * @typedef {{ id: string, kind: string, title: string, x: number, y: number, width: number, height: number, pins: Pin[],
  *   says: string[] }} Part
  *
@@ -20,9 +22,9 @@ import { BITS } from "../bench/board_form.js";
  * @typedef {{ line: string, from: Pin, to: Pin }} Wire
  * @typedef {{ parts: Part[], wires: Wire[], width: number, height: number }} Picture
  *
- * What a face tells: what the lamps are called, "" for one without a name, their colours, "" for one that has none of its own, and what
- * is at the TEST pin.
- * @typedef {{ names: string[], colours: string[], test: TestPin | null }} Appearance
+ * What a face tells: what the lamps are called, "" for one without a name, their colours, "" for one that has none of its own, what is at
+ * the TEST pin, and the buzzer at a line of the board.
+ * @typedef {{ names: string[], colours: string[], test: TestPin | null, buzzer: Buzzer | null }} Appearance
  *
  * @typedef {{ x: number, y: number }} Place
  *
@@ -79,8 +81,11 @@ class Column {
 
 /** Which line each pin of the board takes, with the words for it. */
 class Uses {
-  /** @param {Board} board */
-  constructor(board) {
+  /**
+   * @param {Board} board
+   * @param {Buzzer | null} buzzer
+   */
+  constructor(board, buzzer) {
     /** @type {Map<string, string[]>} */
     this.words = new Map();
     /** @type {Map<string, number>} at which of all uses a line is used first */
@@ -91,6 +96,7 @@ class Uses {
     });
     if (board.matrix) this.addMatrix(board.matrix);
     board.lamps.forEach((line, at) => this.add(line, `lights lamp ${at}`));
+    if (buzzer) this.add(buzzer.place, "sounds the buzzer");
   }
 
   /** @param {NonNullable<Board["matrix"]>} matrix */
@@ -232,6 +238,15 @@ function drawLamps(column, lamps, { names, colours }) {
 }
 
 /**
+ * @param {Column} column
+ * @param {Buzzer} buzzer
+ */
+function drawBuzzer(column, { place, name }) {
+  const says = [`${name} sounds the edges of ${place}`];
+  return column.add({ id: "buzzer", kind: "buzzer", title: "Buzzer", says }, [{ id: "buzzer 0", line: place, label: name }], []);
+}
+
+/**
  * The wires: a line goes from the pin of the chip or chain that has it to each other pin with its name.
  * @param {Part[]} parts
  */
@@ -289,10 +304,10 @@ function moveParts(parts, moved) {
  * @param {Moved} [moved]
  * @returns {Picture}
  */
-export function drawBoard(board, look = { names: [], colours: [], test: null }, moved = new Map()) {
-  const uses = new Uses(board);
+export function drawBoard(board, look = { names: [], colours: [], test: null, buzzer: null }, moved = new Map()) {
+  const uses = new Uses(board, look.buzzer);
   const hasChips = board.roms.length + board.banks.length > 0;
-  const hasFront = board.matrix !== null || board.lamps.length > 0;
+  const hasFront = board.matrix !== null || board.lamps.length > 0 || Boolean(look.buzzer);
   const columns = columnsOf([true, hasChips, board.chains.length > 0, hasFront]);
   const [first, second, third, fourth] = columns;
   const parts = [drawProcessor(first, look.test)];
@@ -304,6 +319,7 @@ export function drawBoard(board, look = { names: [], colours: [], test: null }, 
   board.chains.forEach((chain, at) => parts.push(drawChain(third, chain, at, uses)));
   if (board.matrix) parts.push(drawKeys(fourth, board.matrix));
   if (board.lamps.length > 0) parts.push(drawLamps(fourth, board.lamps, look));
+  if (look.buzzer) parts.push(drawBuzzer(fourth, look.buzzer));
   moveParts(parts, moved);
   const width = Math.max(...parts.map((part) => part.x + part.width)) + EDGE;
   const height = Math.max(...parts.map((part) => part.y + part.height)) + GAP;

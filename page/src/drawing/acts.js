@@ -4,13 +4,13 @@
 import { linesOf } from "../bench/board_form.js";
 import { readBoard } from "../bench/answers.js";
 import { Face } from "../board/face.js";
-import { bitOf, mayWire, nameOfTarget, readTarget, wiringOf } from "./board_lines.js";
+import { BUZZER, bitOf, mayWire, nameOfTarget, readTarget, wiringOf } from "./board_lines.js";
 import {
-  INPUTS, OUTPUTS, addChain, addColumn, addDisplay, addKeys, addLamp, addRam, addRom, addScanned, keepOutputs, nameOfPart, needRom,
-  setChips, setRows,
+  INPUTS, OUTPUTS, addBuzzer, addChain, addColumn, addDisplay, addKeys, addLamp, addRam, addRom, addScanned, keepOutputs, nameOfPart,
+  needRom, setChips, setRows,
 } from "./adding.js";
 import { deletePart, displayAt, lampsWith } from "./deleting.js";
-import { COLOURS, colourLamp, nameKey, nameLamp, setWhole, wordOf } from "./face_edits.js";
+import { COLOURS, colourLamp, moveBuzzer, nameKey, nameLamp, setWhole, wordOf } from "./face_edits.js";
 import { setValue, setWritten } from "./part_edits.js";
 import { ActRefusal, Sketch } from "./sketch.js";
 
@@ -18,7 +18,7 @@ import { ActRefusal, Sketch } from "./sketch.js";
  * @typedef {import("./text_edits.js").TextEdit} TextEdit
  *
  * What is done:
- * - `add`: a part of the shelf comes, a lamp at a line that may be told, a display of so many digits
+ * - `add`: a part of the shelf comes, a lamp or a buzzer at a line that may be told, a display of so many digits
  * - `wire`: a line is wired to what takes one
  * - `port`: a line of a ROM is an input (`i`), or an output that reads as `0` or `1`
  * - `chips`, `rows`: a chain has so many chips, the keys so many rows
@@ -30,7 +30,8 @@ import { ActRefusal, Sketch } from "./sketch.js";
  *   | { kind: "port", line: string, as: string } | { kind: "chips", chain: number, chips: number } | { kind: "rows", rows: number }
  *   | { kind: "column" } | { kind: "delete", part: string } | { kind: "copy", part: string }
  *   | { kind: "name", part: string, name: string } | { kind: "colour", lamp: number, colour: string }} Act
- * @typedef {"rom" | "inputs" | "ram" | "chain" | "keys" | "lamp" | "digit" | "segments" | "scanned" | "button" | "switch"} Shelved
+ * @typedef {"rom" | "inputs" | "ram" | "chain" | "keys" | "lamp" | "digit" | "segments" | "scanned" | "button" | "switch"
+ *   | "buzzer"} Shelved
  *
  * What came of it: the edits, one after the other, the part that it is about, and in words what was done; or why nothing was.
  * @typedef {{ edits: TextEdit[], text: string, part: string, words: string, refusal: "" }} Done
@@ -38,7 +39,7 @@ import { ActRefusal, Sketch } from "./sketch.js";
  */
 
 /** @type {Shelved[]} */
-export const SHELF = ["rom", "inputs", "ram", "chain", "keys", "lamp", "button", "switch", "digit", "segments", "scanned"];
+export const SHELF = ["rom", "inputs", "ram", "chain", "keys", "lamp", "button", "switch", "buzzer", "digit", "segments", "scanned"];
 
 /**
  * @param {Sketch} sketch
@@ -56,6 +57,7 @@ function addFromShelf(sketch, { part, line, digits = 1 }) {
     case "chain": return addChain(sketch);
     case "keys": return addKeys(sketch);
     case "lamp": return addLamp(sketch, line);
+    case "buzzer": return addBuzzer(sketch, line);
     case "digit": case "segments": return addDisplay(sketch, part, digits);
     default: return addTest(sketch, part);
   }
@@ -85,6 +87,7 @@ function wire(sketch, name, target) {
   const [kind, number] = readTarget(target);
   if (kind === "clock" || kind === "data") sketch.edit([setValue(draft, draft.entry("chain", number), kind, name)]);
   if (kind === "lamp") sketch.edit([setValue(draft, draft.entry("lamp", number), "line", name)]);
+  if (kind === "buzzer") sketch.edit(moveBuzzer(draft, name));
   if (kind === "column") {
     const columns = draft.keyOf(draft.entry("keys", 0), "columns").value;
     sketch.edit([setWritten(draft, /** @type {import("../text/board_reader.js").Value[]} */ (columns.inner)[number], name)]);
@@ -119,9 +122,11 @@ function setPort(sketch, line, as) {
   const { draft, board } = sketch;
   const entry = draft.numbered("rom", chip);
   const port = String(draft.keyOf(entry, "port").value.inner);
-  const users = [...wiringOf(board)].filter(([, name]) => name === line).map(([target]) => nameOfTarget(target)).join(" and ");
+  const takers = [...wiringOf(board)].filter(([target, name]) => name === line && target !== BUZZER).map(([target]) => target);
   const isTurned = (port[3 - at] === "i") !== (as === "i");
-  if (isTurned && users) throw new ActRefusal(`${line} is wired to ${users}: wire that to another line first.`);
+  if (isTurned && takers.length > 0) {
+    throw new ActRefusal(`${line} is wired to ${takers.map(nameOfTarget).join(" and ")}: wire that to another line first.`);
+  }
   keepOutputs(sketch, (each) => isTurned && each === line);
   sketch.edit([setValue(draft, entry, "port", port.slice(0, 3 - at) + as + port.slice(4 - at))]);
 }
@@ -167,7 +172,7 @@ function renameLamp(sketch, lamp, name) {
  * @param {string} name
  */
 function rename(sketch, part, name) {
-  const { draft, text } = sketch;
+  const { draft, text, board } = sketch;
   const [kind, number] = readTarget(part);
   if (kind === "lamp") renameLamp(sketch, number, name);
   else if (kind === "key") sketch.edit(nameKey(draft, { row: number, column: Number(part.split(" ")[2]) }, name));
@@ -176,6 +181,9 @@ function rename(sketch, part, name) {
     const { test } = new Face(text);
     if (!test || wordOf(name) === "") throw new ActRefusal("What is at TEST has a name.");
     sketch.edit(setWhole(draft, "test", "", `${test.kind} ${wordOf(name)}${test.level ? " to 1" : ""}`));
+  } else if (kind === "buzzer") {
+    if (!board.buzzer || name.trim() === "") throw new ActRefusal("A buzzer has a name.");
+    sketch.edit(setWhole(draft, "buzzer", board.buzzer, name));
   } else if (["rom", "ram", "chain"].includes(kind)) sketch.edit(setWhole(draft, "port", part.replace(" ", ""), name));
   else throw new ActRefusal("This has no name of its own.");
 }

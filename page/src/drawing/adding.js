@@ -5,14 +5,14 @@ import { Face } from "../board/face.js";
 import { linesOfPrinter } from "../board/face_board.js";
 import { limit } from "../board/face_words.js";
 import { BITS, MOST, MOST_COLUMNS, RANGES } from "../bench/board_form.js";
-import { addGroup, colourLamp } from "./face_edits.js";
-import { bitOf, freeLines, wiringOf } from "./board_lines.js";
+import { addGroup, colourLamp, setWhole } from "./face_edits.js";
+import { BUZZER, bitOf, freeLines, wiringOf } from "./board_lines.js";
 import { addPart, appendElement, setValue, written } from "./part_edits.js";
 import { ActRefusal } from "./sketch.js";
 
 /**
  * @typedef {import("./sketch.js").Sketch} Sketch
- * @typedef {import("../bench/answers.js").Board} Board
+ * @typedef {import("./board_lines.js").Board} Board
  */
 
 export const OUTPUTS = "0000";
@@ -73,6 +73,7 @@ export function nameOfPart(part) {
   if (part === "test") return "what is at TEST";
   if (part === "title") return "the board";
   if (part === "keys" || part === "lamps") return `the ${part}`;
+  if (part === BUZZER || part === "buzzer") return "the buzzer";
   return part.replace(/^(rom|ram) /, (kind) => kind.toUpperCase());
 }
 
@@ -232,6 +233,19 @@ export function addLamp(sketch, line = "", colour = "") {
 }
 
 /**
+ * A buzzer at a line, else at the next one of a port that is free.
+ * @param {Sketch} sketch
+ * @param {string} [line]
+ */
+export function addBuzzer(sketch, line = "") {
+  if (new Face(sketch.text).buzzer) throw new ActRefusal("A board has one buzzer: delete that one first.");
+  needRom(sketch);
+  const place = line || need(sketch, 1, freeOutputs, () => addRam(sketch))[0];
+  sketch.edit(setWhole(sketch.draft, "buzzer", place, "buzzer"));
+  return BUZZER;
+}
+
+/**
  * A display: each digit at the port of a RAM chip, or of seven segments at bits of a chain.
  * @param {Sketch} sketch
  * @param {"digit" | "segments"} kind
@@ -301,7 +315,7 @@ function bitsOfSegments(sketch, count) {
  */
 export function keepOutputs({ text }, goes) {
   const { buzzer, printer } = new Face(text);
-  if (buzzer && goes(buzzer.place)) throw new ActRefusal(`The buzzer is at ${buzzer.place}: give it another line first, in Board.`);
+  if (buzzer && goes(buzzer.place)) throw new ActRefusal(`The buzzer is at ${buzzer.place}: give it another line first.`);
   const line = printer && linesOfPrinter(printer).find(goes);
   if (line) throw new ActRefusal(`The printer is at ${line}: give it other lines first, in Board.`);
 }
@@ -318,9 +332,9 @@ export function setChips(sketch, chain, chips) {
   if (chips < from) throw new ActRefusal("A chain has a chip at least; delete the chain.");
   /** @type {(line: string) => boolean} */
   const isBeyond = (line) => line.startsWith(`chain${chain}.`) && bitOf(line).bit >= BITS * chips;
+  keepOutputs(sketch, isBeyond);
   const beyond = [...wiringOf(sketch.board).values()].find(isBeyond);
   if (beyond) throw new ActRefusal(`${beyond} is in use: wire what is there to another line first.`);
-  keepOutputs(sketch, isBeyond);
   sketch.edit([setValue(sketch.draft, sketch.draft.entry("chain", chain), "chips", chips)]);
   return `chain ${chain}`;
 }

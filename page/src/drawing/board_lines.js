@@ -1,23 +1,37 @@
 // The lines of a board, what is at each of them, and which may be wired to what. What may be is what the bench takes: the unit test asks it
-// about each pair.
+// about each pair. A buzzer is of the face alone; it takes a line as a lamp does.
 
 import { BITS, linesOf } from "../bench/board_form.js";
 import { upTo } from "../bench/numbers.js";
+import { buzzerOf } from "../board/face_board.js";
 
 /**
- * @typedef {import("../bench/answers.js").Board} Board
+ * @typedef {import("../bench/answers.js").Board & { buzzer?: string }} Board with the line of its buzzer, "" for none
  * @typedef {import("../bench/board_form.js").BoardLine} BoardLine
  *
- * What takes a line: `clock 0` and `data 0` of a chain, `row 1` and `column 2` of the keys, `lamp 3`.
+ * What takes a line: `clock 0` and `data 0` of a chain, `row 1` and `column 2` of the keys, `lamp 3`, `buzzer 0`.
  * @typedef {string} Target
  */
+
+export const BUZZER = "buzzer 0";
+
+/**
+ * A board with the buzzer of its face.
+ * @param {import("../bench/answers.js").Board} board
+ * @param {import("../board/face.js").Face} face
+ * @returns {Board}
+ */
+export function withBuzzer(board, face) {
+  const buzzer = buzzerOf(board, face);
+  return { ...board, buzzer: buzzer ? buzzer.place : "" };
+}
 
 /**
  * All that takes a line, with the line that it takes.
  * @param {Board} board
  * @returns {Map<Target, string>}
  */
-export function wiringOf({ chains, matrix, lamps }) {
+export function wiringOf({ chains, matrix, lamps, buzzer }) {
   /** @type {Map<Target, string>} */
   const wired = new Map();
   chains.forEach(({ clock, data }, at) => wired.set(`clock ${at}`, clock).set(`data ${at}`, data));
@@ -26,6 +40,7 @@ export function wiringOf({ chains, matrix, lamps }) {
     matrix.columns.forEach((line, at) => wired.set(`column ${at}`, line));
   }
   lamps.forEach((line, at) => wired.set(`lamp ${at}`, line));
+  if (buzzer) wired.set(BUZZER, buzzer);
   return wired;
 }
 
@@ -46,6 +61,7 @@ export function readTarget(target) {
 export function nameOfTarget(target) {
   const [kind, number] = readTarget(target);
   if (kind === "lamp") return target;
+  if (target === BUZZER) return "the buzzer";
   return kind === "clock" || kind === "data" ? `the ${kind} of chain ${number}` : `${target} of the keys`;
 }
 
@@ -67,7 +83,7 @@ export function bitOf(line) {
 export function mayWire({ chains, matrix }, { name, kind, isInput }, target) {
   const [what, number] = readTarget(target);
   if (what === "column") return isInput;
-  if (what === "lamp") return !isInput;
+  if (what === "lamp" || target === BUZZER) return !isInput;
   if (what !== "row") return kind !== "bit" && !isInput;
   if (kind !== "bit" || !matrix) return false;
   const { chain, bit } = bitOf(name);

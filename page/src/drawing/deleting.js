@@ -3,13 +3,13 @@
 import { Face } from "../board/face.js";
 import { isScanned, lampsOf } from "../board/face_board.js";
 import { removeColumns, removeRows, renamePorts, renumberLamps, setWhole } from "./face_edits.js";
-import { readTarget } from "./board_lines.js";
+import { BUZZER, readTarget } from "./board_lines.js";
 import { nameOfPart, setRows } from "./adding.js";
 import { removeElement, removePart, setValue, setWritten } from "./part_edits.js";
 import { ActRefusal } from "./sketch.js";
 
 /**
- * @typedef {import("../bench/answers.js").Board} Board
+ * @typedef {import("./board_lines.js").Board} Board
  * @typedef {import("./sketch.js").Sketch} Sketch
  * @typedef {import("../text/board_reader.js").Value} Value
  *
@@ -205,8 +205,8 @@ function markRam({ banks }, gone, ram) {
 }
 
 /**
- * Takes a part away: `rom 1`, `ram 0.1`, `chain 0`, `keys`, `row 1` (the last one), `column 2`, `lamp 3`, `lamps`, `test`; gives in words
- * what went with it.
+ * Takes a part away: `rom 1`, `ram 0.1`, `chain 0`, `keys`, `row 1` (the last one), `column 2`, `lamp 3`, `lamps`, `test`, `buzzer`;
+ * gives in words what went with it.
  * @param {Sketch} sketch
  * @param {string} part
  */
@@ -216,13 +216,17 @@ export function deletePart(sketch, part) {
     sketch.edit(setWhole(sketch.draft, "test", "", ""));
     return "";
   }
+  if (part === "buzzer" || part === BUZZER) {
+    sketch.edit(setWhole(sketch.draft, "buzzer", board.buzzer || "", ""));
+    return "";
+  }
   if (part.startsWith("row ")) return deleteRow(sketch, Number(part.slice(4)));
   const gone = nothing();
   mark(board, gone, part);
   // Chains hang on ROMs, keys and lamps on chains: the second time nothing new comes.
   const face = new Face(sketch.text);
   for (let times = 0; times < 2; times++) spread(board, face, gone);
-  const words = wordsOfGone(gone, part);
+  const words = wordsOfGone(board, gone, part);
   removeAll(sketch, gone);
   return words;
 }
@@ -249,14 +253,17 @@ function counted(count, what) {
 
 /**
  * What goes with a part that is deleted.
+ * @param {Board} board
  * @param {Gone} gone
  * @param {string} part
  */
-function wordsOfGone({ chains, keys, columns, lamps }, part) {
+function wordsOfGone({ buzzer }, gone, part) {
+  const { chains, keys, columns, lamps } = gone;
   const others = [...chains].map((chain) => `chain ${chain}`).filter((name) => name !== part);
   const further = part === "lamps" || (part.startsWith("lamp ") && lamps.size === 1) ? 0 : lamps.size;
   if (keys && part !== "keys") others.push(nameOfPart("keys"));
   else if (!keys && columns.size > 0 && !part.startsWith("column")) others.push(`${counted(columns.size, "column")} of the keys`);
   if (further > 0) others.push(part.startsWith("lamp ") ? `all ${further} lamps of its display` : counted(further, "lamp"));
+  if (buzzer && isLineGone(gone, buzzer)) others.push("the buzzer");
   return others.join(", ").replace(/, ([^,]*)$/, " and $1");
 }

@@ -6,11 +6,11 @@ import { linesOf } from "../bench/board_form.js";
 import { Face } from "../board/face.js";
 import { sentText } from "../text/text_fault.js";
 import { SHELF, actOn, isReadAlike, whyNotAdded } from "./acts.js";
-import { nameOfTarget, sourcesOf, targetsOf, wiringOf } from "./board_lines.js";
+import { nameOfTarget, sourcesOf, targetsOf, wiringOf, withBuzzer } from "./board_lines.js";
 import { fieldsOf } from "./fields.js";
 
 /**
- * @typedef {import("../bench/answers.js").Board} Board
+ * @typedef {import("./board_lines.js").Board} Board
  * @typedef {import("./acts.js").Act} Act
  * @typedef {import("./acts.js").Shelved} Shelved
  * @typedef {import("./text_edits.js").TextEdit} TextEdit
@@ -40,6 +40,7 @@ export class Drawing {
     /** What the bench answers to `board`: of the session, and of the text. */
     this.wired = "";
     this.answers = ["board"];
+    /** @type {Board} */
     this.board = readBoard(this.answers);
     this.face = new Face("");
     this.fault = "";
@@ -103,8 +104,8 @@ export class Drawing {
   take(text, answers, fault) {
     this.text = text;
     this.answers = answers;
-    this.board = readBoard(answers);
     this.face = new Face(text);
+    this.board = withBuzzer(readBoard(answers), this.face);
     this.fault = fault;
     this.begun = "";
     if (fault === "") this.shelf = new Map(SHELF.map((part) => [part, whyNotAdded(text, part)]));
@@ -132,6 +133,7 @@ export class Drawing {
     if (kind === "keys") return board.matrix !== null;
     if (kind === "lamps") return board.lamps.length > 0;
     if (kind === "test") return face.test !== null;
+    if (kind === "buzzer") return Boolean(board.buzzer);
     if (kind === "rom") return board.roms.some(({ chip }) => String(chip) === place);
     if (kind === "chain") return Number(place) < board.chains.length;
     if (kind === "ram") return linesOf(board).some((line) => line.name.startsWith(`ram${place}.`));

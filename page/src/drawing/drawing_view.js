@@ -1,7 +1,7 @@
 // What stands around the picture of a board: the shelf of parts, what can be set of the part that is chosen, and what was done.
 
 import { Cell, block, button, element, field, onClick } from "../ui/dom.js";
-import { lampColours } from "../board/face_board.js";
+import { buzzerOf, lampColours } from "../board/face_board.js";
 import { lampLabels } from "./lamp_labels.js";
 
 /**
@@ -30,6 +30,7 @@ const SHELF = {
   scanned: ["Scanned", "digits that are lit by turns: seven lines for all of them, and a line for each"],
   button: ["Button", "at the processor's TEST pin; it springs back"],
   switch: ["Switch", "at the processor's TEST pin; it stays"],
+  buzzer: ["Buzzer", "at the chosen output line, else at the next free one; the edges of its line are sound"],
 };
 const WITH_DIGITS = new Set(["digit", "segments", "scanned"]);
 
@@ -81,7 +82,7 @@ export class DrawingView {
   /** @param {Shelved} part */
   add(part) {
     const { shown } = this;
-    const line = shown && part === "lamp" && shown.fields.buttons.find(({ act }) => act.kind === "add");
+    const line = shown && shown.fields.buttons.find(({ act }) => act.kind === "add" && act.part === part);
     if (line) this.calls.act(line.act);
     else this.calls.act({ kind: "add", part, ...(WITH_DIGITS.has(part) ? { digits: Number(field("shelf-digits").value) } : {}) });
   }
@@ -108,7 +109,7 @@ export class DrawingView {
     if (!shown) return;
     const { board, face, isWired, chosen, begun, ends } = shown;
     const count = board.lamps.length;
-    const look = { names: lampLabels(face, count), colours: lampColours(face, count), test: face.test };
+    const look = { names: lampLabels(face, count), colours: lampColours(face, count), test: face.test, buzzer: buzzerOf(board, face) };
     const drawn = JSON.stringify([board, look, isWired, [...moved]]);
     if (drawn !== this.drawn) this.picture.draw(board, look, { moved, isWired });
     this.drawn = drawn;

@@ -103,7 +103,7 @@ export function nameKey(draft, { row, column }, name) {
 /**
  * A line that tells its words whole, as `# port rom0: keys` and `# title: Lock`.
  * @param {BoardDraft} draft
- * @param {"title" | "test" | "port"} kind
+ * @param {"title" | "test" | "port" | "buzzer"} kind
  * @param {string} place "" for none
  * @param {string} words "" for no such line
  * @returns {TextEdit[]}
@@ -115,6 +115,16 @@ export function setWhole(draft, kind, place, words) {
   if (text === "") return [removeFaceLine(draft, line)];
   const [first] = line.words;
   return [{ from: first ? first.from : line.end, to: line.end, insert: first ? text : ` ${text}` }];
+}
+
+/**
+ * The buzzer is at another line.
+ * @param {BoardDraft} draft
+ * @param {string} line
+ */
+export function moveBuzzer(draft, line) {
+  const told = faceLines(draft).find(({ kind }) => kind === "buzzer");
+  return told && told.place ? setWord(told.place, line) : [];
 }
 
 /**

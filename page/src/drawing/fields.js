@@ -5,10 +5,10 @@ import { upTo } from "../bench/numbers.js";
 import { COLOURS } from "../board/face_words.js";
 import { RANGES, linesOf } from "../bench/board_form.js";
 import { displayAt, lampsWith } from "./deleting.js";
-import { nameOfTarget, readTarget, sourcesOf, wiringOf } from "./board_lines.js";
+import { BUZZER, nameOfTarget, readTarget, sourcesOf, wiringOf } from "./board_lines.js";
 
 /**
- * @typedef {import("../bench/answers.js").Board} Board
+ * @typedef {import("./board_lines.js").Board} Board
  * @typedef {import("../board/face.js").Face} Face
  * @typedef {import("./acts.js").Act} Act
  *
@@ -159,6 +159,16 @@ function ofLamp(board, face, lamp) {
 }
 
 /**
+ * @param {Board} board
+ * @param {Face} face
+ * @returns {Fields}
+ */
+function ofBuzzer(board, { buzzer }) {
+  const name = text("name", buzzer ? buzzer.name : "", (value) => ({ kind: "name", part: "buzzer", name: value }));
+  return { title: "The buzzer", part: "buzzer", fields: [name, lineField(board, BUZZER, "buzzer")], buttons: [deletionOf("buzzer")] };
+}
+
+/**
  * @param {Face} face
  * @param {string} part
  * @returns {Fields}
@@ -179,6 +189,7 @@ function ofLine(board, name) {
   const isInput = line !== undefined && line.isInput;
   /** @type {Button[]} */
   const buttons = line && !isInput ? [{ word: "A lamp here", act: { kind: "add", part: "lamp", line: name } }] : [];
+  if (line && !isInput && !board.buzzer) buttons.push({ word: "A buzzer here", act: { kind: "add", part: "buzzer", line: name } });
   const [, kind, number] = /^([a-z]+)(\d+)/.exec(name) || ["", "", ""];
   const fields = rom ? [directionField(name, rom.port)] : [];
   return { title: `Line ${name}, an ${isInput ? "input" : "output"}`, part: `${kind} ${number}`, fields, buttons };
@@ -212,6 +223,7 @@ export function fieldsOf(board, face, chosen) {
   if (kind === "keys") return ofKeys(board, face);
   if (kind === "lamp") return ofLamp(board, face, number);
   if (kind === "ram") return ofRam(face, chosen);
+  if (kind === "buzzer" && board.buzzer) return ofBuzzer(board, face);
   if (kind === "lamps") return { title: "All lamps", part: "lamp 0", fields: [], buttons: [deletionOf("lamps", "Delete all lamps")] };
   if (kind === "test" && face.test) {
     const name = text("name", face.test.name, (value) => ({ kind: "name", part: "test", name: value }));

@@ -4,11 +4,13 @@ import { placesOfParts } from "../bench/board_places.js";
 import { Face } from "../board/face.js";
 
 /**
- * The lines of each part; of what is at TEST, the comment that says so.
+ * The lines of each part; of what is at TEST, and of a buzzer, the comment that says so.
  * @param {string} text
  */
 export function linesOfParts(text) {
   const lines = placesOfParts(text);
-  const { test } = new Face(text);
-  return test ? lines.set("test", { from: test.line, to: test.line }) : lines;
+  const { test, buzzer } = new Face(text);
+  if (test) lines.set("test", { from: test.line, to: test.line });
+  if (buzzer) lines.set("buzzer", { from: buzzer.line, to: buzzer.line });
+  return lines;
 }

@@ -1,6 +1,8 @@
 // A board's text while something is done to it: the edits so far, and the board that the text tells by now.
 
+import { Face } from "../board/face.js";
 import { BoardDraft } from "./board_draft.js";
+import { withBuzzer } from "./board_lines.js";
 import { edited, fromLast } from "./text_edits.js";
 
 /**
@@ -35,6 +37,6 @@ export class Sketch {
   }
 
   get board() {
-    return this.draft.board;
+    return withBuzzer(this.draft.board, new Face(this.text));
   }
 }
